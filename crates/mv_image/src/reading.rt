@@ -1,0 +1,223 @@
+//! The image that bytes spell.
+
+ghost use Rattle.std.specs.Prelude.{◌≡◌, ◌≤◌, ◌<◌, ◌+◌, ◌-◌, ◌*◌, ◌/◌, ◌^◌, ◌++◌, ℕ, All, length, take, drop, map, slice_range, IfOk, IfErr, OnOk, MatchResult};
+ghost use Rattle.std.specs.List.{flat_map};
+ghost use Rattle.mv_num.specs.Bytes.{words_of};
+ghost use Rattle.mv_image.specs.Places.{words_end, name_length, sum_below, first_of, switches_at, functions_at, variants_at, guards_at, sites_at, switch_rows, function_rows, variant_rows, guard_rows, site_rows};
+ghost use Rattle.mv_descriptors.specs.Widths.{switch_words, function_words, variant_words, guard_words, site_words, SwitchWhole, FunctionWhole, VariantWhole, GuardWhole, SwitchClean, FunctionClean, VariantClean};
+ghost use Rattle.mv_image.specs.Faults.{AllFit, Spelled, Spells, FirstFault, IsMemory};
+ghost use Rattle.mv_image.specs.Tables.{AreTables};
+ghost use Rattle.mv_image.specs.Spelling.{Fields, joined};
+
+use crate::fault::ImageError;
+use crate::image::Image;
+use crate::judging::first_fault;
+use crate::places::{
+    data_at, functions_at, guards_at, name_length, sites_at, switches_at, variants_at, word,
+    words_end,
+};
+use mv_descriptors::{FunctionRow, GuardRow, Row, SiteRow, SwitchRow, VariantRow};
+use mv_num::bytes::words_of_bytes;
+use mv_num::list::List;
+use mv_num::text::Text;
+use std::alloc::{AllocError, Global};
+
+/// A number of words from a place on.
+fn words_part(
+    alloc: Global,
+    words: &List<u32>,
+    at: usize,
+    count: usize,
+) -> Result<List<u32>, AllocError>
+    requires { at + count ≤ length words.now }
+    ensures { IfOk result (λ part. part ≡ slice_range words.now at (at + count)) }
+{
+    let part = &words.as_slice()[at..at + count];
+    Ok(List::from_vec(Vec::from_slice(alloc, part)?))
+}
+
+/// A number of rows from a place on.
+fn rows_part<R: Row + Drop>(
+    alloc: Global,
+    words: &List<u32>,
+    at: usize,
+    count: usize,
+) -> Result<List<R>, AllocError>
+    requires room { at + R.WIDTH * count ≤ length words.now }
+    requires rows { (k : ℕ) → k < count → R.is_row (slice_range words.now (at + R.WIDTH * k) (at + R.WIDTH * k + R.WIDTH)) }
+    ensures words { IfOk result (λ rows. flat_map R.row_words rows ≡ slice_range words.now at (at + R.WIDTH * count)) }
+    ensures count { IfOk result (λ rows. length rows ≡ count) }
+    ensures clean { IfOk result (λ rows. All R.is_clean rows) }
+    ensures whole { IfOk result (λ rows. All R.is_whole rows) }
+{
+    let _length = words.len();
+    let mut rows = List::new(alloc);
+    for k in 0..count {
+        match R::read(words, at + R::WIDTH * k) {
+            Some(row) => rows.push(row)?,
+            None => unreachable!(),
+        }
+    }
+    Ok(rows)
+}
+
+/// The names, of which there are so many.
+fn names_part(
+    alloc: Global,
+    words: &[u32],
+    bytes: &[u8],
+    count: usize,
+) -> Result<List<Text>, AllocError>
+    requires count { count < 2 ^ 49 }
+    requires room { 4 * words_end words.now + sum_below (name_length words.now) count ≤ length bytes.now }
+    ensures bytes { IfOk result (λ names. joined names ≡ slice_range bytes.now (4 * words_end words.now) (4 * words_end words.now + sum_below (name_length words.now) count)) }
+    ensures lengths { IfOk result (λ names. map length names ≡ first_of (name_length words.now) count) }
+{
+    let mut names = List::new(alloc);
+    let mut at = 4 * words_end(words);
+    for name in 0..count {
+        let next = at + name_length(words, name) as usize;
+        names.push(Text::new(alloc, &bytes[at..next])?)?;
+        at = next;
+    }
+    Ok(names)
+}
+
+/// The tables of an image.
+#[derive(Drop)]
+struct Tables {
+    switches: List<SwitchRow>,
+    functions: List<FunctionRow>,
+    variants: List<VariantRow>,
+    guards: List<GuardRow>,
+    sites: List<SiteRow>,
+}
+
+fn switches_part(alloc: Global, words: &List<u32>) -> Result<List<SwitchRow>, AllocError>
+    requires fit { AllFit words.now }
+    requires room { words_end words.now ≤ length words.now }
+    ensures words { IfOk result (λ rows. flat_map switch_words rows ≡ slice_range words.now (switches_at words.now) (functions_at words.now)) }
+    ensures count { IfOk result (λ rows. length rows ≡ switch_rows words.now) }
+    ensures clean { IfOk result (λ rows. All SwitchClean rows) }
+    ensures whole { IfOk result (λ rows. All SwitchWhole rows) }
+{
+    let slice = words.as_slice();
+    let at = switches_at(slice);
+    rows_part(alloc, words, at, word(slice, 5) as usize)
+}
+
+fn functions_part(alloc: Global, words: &List<u32>) -> Result<List<FunctionRow>, AllocError>
+    requires fit { AllFit words.now }
+    requires room { words_end words.now ≤ length words.now }
+    ensures words { IfOk result (λ rows. flat_map function_words rows ≡ slice_range words.now (functions_at words.now) (variants_at words.now)) }
+    ensures count { IfOk result (λ rows. length rows ≡ function_rows words.now) }
+    ensures clean { IfOk result (λ rows. All FunctionClean rows) }
+    ensures whole { IfOk result (λ rows. All FunctionWhole rows) }
+{
+    let slice = words.as_slice();
+    let at = functions_at(slice);
+    rows_part(alloc, words, at, word(slice, 6) as usize)
+}
+
+fn variants_part(alloc: Global, words: &List<u32>) -> Result<List<VariantRow>, AllocError>
+    requires fit { AllFit words.now }
+    requires room { words_end words.now ≤ length words.now }
+    ensures words { IfOk result (λ rows. flat_map variant_words rows ≡ slice_range words.now (variants_at words.now) (guards_at words.now)) }
+    ensures count { IfOk result (λ rows. length rows ≡ variant_rows words.now) }
+    ensures clean { IfOk result (λ rows. All VariantClean rows) }
+    ensures whole { IfOk result (λ rows. All VariantWhole rows) }
+{
+    let slice = words.as_slice();
+    let at = variants_at(slice);
+    rows_part(alloc, words, at, word(slice, 7) as usize)
+}
+
+fn guards_part(alloc: Global, words: &List<u32>) -> Result<List<GuardRow>, AllocError>
+    requires { words_end words.now ≤ length words.now }
+    ensures words { IfOk result (λ rows. flat_map guard_words rows ≡ slice_range words.now (guards_at words.now) (sites_at words.now)) }
+    ensures count { IfOk result (λ rows. length rows ≡ guard_rows words.now) }
+    ensures whole { IfOk result (λ rows. All GuardWhole rows) }
+{
+    let slice = words.as_slice();
+    let at = guards_at(slice);
+    rows_part(alloc, words, at, word(slice, 8) as usize)
+}
+
+fn sites_part(alloc: Global, words: &List<u32>) -> Result<List<SiteRow>, AllocError>
+    requires { words_end words.now ≤ length words.now }
+    ensures words { IfOk result (λ rows. flat_map site_words rows ≡ slice_range words.now (sites_at words.now) (words_end words.now)) }
+    ensures count { IfOk result (λ rows. length rows ≡ site_rows words.now) }
+{
+    let slice = words.as_slice();
+    let at = sites_at(slice);
+    rows_part(alloc, words, at, word(slice, 9) as usize)
+}
+
+fn tables_part(alloc: Global, words: &List<u32>) -> Result<Tables, AllocError>
+    requires fit { AllFit words.now }
+    requires room { words_end words.now ≤ length words.now }
+    ensures { IfOk result (λ tables. AreTables words.now tables) }
+{
+    let switches = switches_part(alloc, words)?;
+    let functions = functions_part(alloc, words)?;
+    let variants = variants_part(alloc, words)?;
+    let guards = guards_part(alloc, words)?;
+    let sites = sites_part(alloc, words)?;
+    Ok(Tables {
+        switches,
+        functions,
+        variants,
+        guards,
+        sites,
+    })
+}
+
+/// The image that bytes spell, whose words are given.
+fn image_part(alloc: Global, words: &List<u32>, bytes: &[u8]) -> Result<Image, AllocError>
+    requires words { words.now ≡ words_of bytes.now }
+    requires spelled { Spelled bytes.now }
+    ensures { IfOk result (λ image. Spells bytes.now image) }
+{
+    let slice = words.as_slice();
+    let text = words_part(alloc, words, 12, word(slice, 3) as usize)?;
+    let globals = words_part(alloc, words, data_at(slice), word(slice, 4) as usize)?;
+    let tables = tables_part(alloc, words)?;
+    let count = word(slice, 5) as usize + word(slice, 6) as usize;
+    let names = names_part(alloc, slice, bytes, count)?;
+    let entry = word(slice, 2);
+    let Tables {
+        switches,
+        functions,
+        variants,
+        guards,
+        sites,
+    } = tables;
+    Ok(Image::new(
+        entry, text, globals, switches, functions, variants, guards, sites, names,
+    ))
+}
+
+fn read_once(alloc: Global, bytes: &[u8]) -> Result<Image, ImageError>
+    // What is read is spelled so.
+    ensures found { IfOk result (λ image. Spells bytes.now image) }
+    // Else it is the first fault, or there was no memory.
+    ensures fault { IfErr result (λ fault. FirstFault bytes.now fault) }
+{
+    let words = words_of_bytes(alloc, &bytes[..bytes.len() / 4 * 4])?;
+    if let Some(fault) = first_fault(words.as_slice(), bytes) {
+        return Err(fault);
+    }
+    Ok(image_part(alloc, &words, bytes)?)
+}
+
+/// The image that the bytes spell, or the first place at which they spell none.
+pub fn read(alloc: Global, bytes: &[u8]) -> Result<Image, ImageError>
+    // What is read is spelled so.
+    ensures found { IfOk result (λ image. Spells bytes.now image) }
+    // What is spelled so is read, unless there is no memory.
+    ensures only { (image : Fields) → Spells bytes.now image → MatchResult result (λ read. read ≡ image) IsMemory }
+    // Else it is the first fault, or there was no memory.
+    ensures fault { IfErr result (λ fault. FirstFault bytes.now fault) }
+{
+    read_once(alloc, bytes)
+}
