@@ -8,6 +8,10 @@ use Rattle.mv_io.specs.declared.outside.ShelfError.TheVariants.{Failed, Memory}
 abbrev pub Files : Type 0
 Files = List ℕ → Option (List ℕ)
 
+-- a shelf that doesn't tell its files
+abbrev pub untold : Option Files
+untold = None
+
 -- the files are told, and none has this name
 abbrev pub Lacks : Option Files → List ℕ → Type 0
 Lacks None name = ⊥

@@ -5,8 +5,8 @@ ghost use Rattle.mv_io.specs.Shelves.{Lacks, Loads, Saves, KeepsOthers};
 ghost use Rattle.mv_io.specs.Schedules.{unused, fails_next, called};
 ghost use Rattle.mv_io.specs.Memory.{file_of};
 
+use crate::faults::FaultSchedule;
 use crate::outside::{Shelf, ShelfError};
-use crate::schedule::FaultSchedule;
 use std::alloc::{AllocError, Global};
 use std::collections::BTreeMap;
 use std::marker::Model;

@@ -1,9 +1,19 @@
+//! Counting faults, and the calls that are to fail.
 ghost use Rattle.std.specs.Prelude.{◌≡◌, ◌≤◌, ◌==◌, ◌||◌, is_err};
 ghost use Rattle.std.specs.List.{list_any};
-ghost use Rattle.mv_io.specs.Schedules.{unused, fails_next, called};
+ghost use Rattle.mv_io.specs.Schedules.{unused, fails_next, called, counted};
 
 use crate::outside::Failed;
 use std::marker::Model;
+
+/// Counts a fault. The count stops at the last value of a `u64`.
+pub fn count_fault(faults: &mut u64) -> Failed
+    ensures counts { faults.new ≡ counted faults.old }
+    ensures later { faults.old ≤ faults.new }
+{
+    *faults = faults.saturating_add(1);
+    Failed
+}
 
 /// The calls that are to fail, by their numbers from 1, with the counts of calls and of faults.
 /// A call beyond the last value of a `u32` can't be listed.
@@ -41,8 +51,7 @@ impl FaultSchedule {
     {
         self.calls = self.calls.saturating_add(1);
         if broken || is_listed(&self.failing, self.calls) {
-            self.faults = self.faults.saturating_add(1);
-            return Err(Failed);
+            return Err(count_fault(&mut self.faults));
         }
         Ok(())
     }
