@@ -128,9 +128,9 @@ fn write_flushed<W: Write>(writer: &mut W, bytes: &[u8]) -> io::Result<usize>
     Ok(count)
 }
 
-/// A shelf over the files of the machine, by their paths. Each error is a fault, as that of an absent file is,
-/// but for refused memory. A file of more than 268,435,456 bytes can't be loaded.
-/// A `save` that fails may leave the file empty or with a front of the bytes.
+/// A shelf over the files of the machine, by their paths. Each error is a fault, that of an absent file too;
+/// only memory that a `load` is refused is answered as such. To load a file of more than 268,435,456 bytes is an error.
+/// A `save` that fails may leave its file absent, empty or with a front of the bytes.
 #[derive(Drop)]
 pub struct FileShelf<R: Files + Drop> {
     files: R,
@@ -152,18 +152,6 @@ impl<R: Files + Drop> FileShelf<R> {
     {
         FileShelf { files, faults: 0 }
     }
-
-    // What an error of the machine is answered with: a fault, but for refused memory.
-    fn refused(&mut self, error: io::Error) -> ShelfError
-        ensures later { self.old ≤ self.new }
-        ensures fault { result ≡ ShelfError.Failed → Rose self.old self.new }
-    {
-        if error.kind() == ErrorKind::OutOfMemory {
-            return ShelfError::Memory(AllocError);
-        }
-        let Failed = count_fault(&mut self.faults);
-        ShelfError::Failed
-    }
 }
 
 impl<R: Files + Drop> Shelf for FileShelf<R> {
@@ -181,15 +169,22 @@ impl<R: Files + Drop> Shelf for FileShelf<R> {
     {
         match read_file(alloc, &self.files, name) {
             Ok(bytes) => Ok(bytes),
-            Err(error) => Err(self.refused(error)),
+            Err(error) if error.kind() == ErrorKind::OutOfMemory => {
+                Err(ShelfError::Memory(AllocError))
+            }
+            Err(_) => {
+                count_fault(&mut self.faults);
+                Err(ShelfError::Failed)
+            }
         }
     }
 
     fn save(&mut self, _: Global, name: &str, bytes: &[u8]) -> Result<(), ShelfError> {
-        match fs::write(&self.files, name, bytes) {
-            Ok(()) => Ok(()),
-            Err(error) => Err(self.refused(error)),
+        if fs::write(&self.files, name, bytes).is_err() {
+            count_fault(&mut self.faults);
+            return Err(ShelfError::Failed);
         }
+        Ok(())
     }
 }
 

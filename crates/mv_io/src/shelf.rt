@@ -71,7 +71,7 @@ impl Shelf for MemShelf {
         ensures same { Some (file_of self.new) ≡ Some (file_of self.old) }
         ensures later { self.old.schedule.faults ≤ self.new.schedule.faults }
         ensures failed { IsErrOf result ShelfError.Failed → Rose self.old.schedule.faults self.new.schedule.faults ⊎ Lacks (Some (file_of self.old)) name.now }
-        ensures listed { IsTrue (fails_next self.old.schedule) → IsErrOf result ShelfError.Failed }
+        ensures exactly { IsErrOf result ShelfError.Failed ↔ (IsTrue (fails_next self.old.schedule) ⊎ Lacks (Some (file_of self.old)) name.now) }
         ensures counts { self.new.schedule ≡ called self.old.schedule (fails_next self.old.schedule) }
         ensures files { self.new.files ≡ self.old.files }
     {
@@ -88,7 +88,7 @@ impl Shelf for MemShelf {
         ensures bytes { Saves (Some (file_of self.old)) (Some (file_of self.new)) name.now bytes.now result }
         ensures later { self.old.schedule.faults ≤ self.new.schedule.faults }
         ensures failed { IsErrOf result ShelfError.Failed → Rose self.old.schedule.faults self.new.schedule.faults }
-        ensures listed { IsErrOf result ShelfError.Failed ↔ IsTrue (fails_next self.old.schedule) }
+        ensures exactly { IsErrOf result ShelfError.Failed ↔ IsTrue (fails_next self.old.schedule) }
         ensures counts { self.new.schedule ≡ called self.old.schedule (fails_next self.old.schedule) }
         ensures err { OnErr result (self.new.files ≡ self.old.files) }
     {
