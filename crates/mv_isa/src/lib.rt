@@ -1,4 +1,4 @@
-//! The instructions of RV32IM with FENCE.I: their words, and what each does.
+//! The instructions of RV32IM with Zifencei: their words in `encode` and `decode`, and in the specs what each does.
 #![tactic(auto)]
 
 mod decoding;

@@ -1,5 +1,5 @@
 ghost use Rattle.std.specs.Prelude.{◌≡◌, ◌<◌, ◌⊎◌, length};
-ghost use Rattle.mv_isa.specs.Encoding.{HasRegisters};
+ghost use Rattle.mv_isa.specs.Encoding.{Fits};
 ghost use Rattle.mv_isa.specs.Execution.{execute};
 ghost use Rattle.mv_fetch.specs.Held.{choices};
 ghost use Rattle.mv_rv32.specs.Stepping.{access, picked_step, Gives, Stays, Wants};
@@ -14,7 +14,7 @@ use mv_num::word;
 // What an instruction does.
 #[tactic(auto, unfolding(mv_isa::specs::Execution::execute, crate::specs::Stepping::access))]
 fn execute(hart: &mut Hart, memory: &mut Memory, instr: Instr) -> Stepped
-    requires { HasRegisters instr }
+    requires { Fits instr }
     ensures gives { Gives (execute access instr hart.old.regs hart.old.pc memory.old) result hart.new memory.new }
     ensures stays { Stays result hart.old hart.new memory.old memory.new }
     ensures wants { Wants result memory.old }
