@@ -10,3 +10,6 @@ pub mod labelled;
 pub use decoding::decode;
 pub use encoding::{encode, encoding_law};
 pub use instr::{Cause, Instr};
+
+#[cfg(test)]
+mod tests;
