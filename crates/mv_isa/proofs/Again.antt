@@ -77,8 +77,8 @@ unfolding low_in
 low_signed half x h = ⊎_elim
     (λ (l : x < half). rw (signed_low half x l) (mod-eq_of_lt h))
     (λ (l : half ≤ x).
-        let e : (2 * half - 1 - x) % (2 * half) ≡ 2 * half - 1 - x = mod-eq_of_lt (omega arith) in
-        rw (signed_high half x l, minus half x h, e) (omega arith))
+    let e : (2 * half - 1 - x) % (2 * half) ≡ 2 * half - 1 - x = mod-eq_of_lt (omega arith) in
+    rw (signed_high half x l, minus half x h, e) (omega arith))
     (cases_lt x half)
 
 signed_fits : (half x : ℕ) → x < 2 * half → IsSigned half (signed_in half x)
@@ -187,26 +187,61 @@ register_said : (w : ℕ) → w < 2 ^ 32 → opcode_of w ≡ 0x33 → IsSaid w (
 unfolding register_at encode
 register_said w h o =
     let d = rd_small w in let a = rs1_small w in let b = rs2_small w in
-    choose_each (IsSaid w) (functs_of w) (λ k. Some (k (rd_of w) (rs1_of w) (rs2_of w))) None register_rows
-    ((λ e. ((d, a, b), r_again w 0x33 0x000 o e)),
-    ((λ e. ((d, a, b), r_again w 0x33 0x100 o e)),
-    ((λ e. ((d, a, b), r_again w 0x33 0x001 o e)),
-    ((λ e. ((d, a, b), r_again w 0x33 0x002 o e)),
-    ((λ e. ((d, a, b), r_again w 0x33 0x003 o e)),
-    ((λ e. ((d, a, b), r_again w 0x33 0x004 o e)),
-    ((λ e. ((d, a, b), r_again w 0x33 0x005 o e)),
-    ((λ e. ((d, a, b), r_again w 0x33 0x105 o e)),
-    ((λ e. ((d, a, b), r_again w 0x33 0x006 o e)),
-    ((λ e. ((d, a, b), r_again w 0x33 0x007 o e)),
-    ((λ e. ((d, a, b), r_again w 0x33 0x008 o e)),
-    ((λ e. ((d, a, b), r_again w 0x33 0x009 o e)),
-    ((λ e. ((d, a, b), r_again w 0x33 0x00a o e)),
-    ((λ e. ((d, a, b), r_again w 0x33 0x00b o e)),
-    ((λ e. ((d, a, b), r_again w 0x33 0x00c o e)),
-    ((λ e. ((d, a, b), r_again w 0x33 0x00d o e)),
-    ((λ e. ((d, a, b), r_again w 0x33 0x00e o e)),
-    ((λ e. ((d, a, b), r_again w 0x33 0x00f o e)),
-    tt))))))))))))))))))
+    choose_each (IsSaid w) (functs_of w) (λ k. Some (k (rd_of w) (rs1_of w) (rs2_of w))) None register_rows (
+      (λ e. ((d, a, b), r_again w 0x33 0x000 o e)),
+      (
+        (λ e. ((d, a, b), r_again w 0x33 0x100 o e)),
+        (
+          (λ e. ((d, a, b), r_again w 0x33 0x001 o e)),
+          (
+            (λ e. ((d, a, b), r_again w 0x33 0x002 o e)),
+            (
+              (λ e. ((d, a, b), r_again w 0x33 0x003 o e)),
+              (
+                (λ e. ((d, a, b), r_again w 0x33 0x004 o e)),
+                (
+                  (λ e. ((d, a, b), r_again w 0x33 0x005 o e)),
+                  (
+                    (λ e. ((d, a, b), r_again w 0x33 0x105 o e)),
+                    (
+                      (λ e. ((d, a, b), r_again w 0x33 0x006 o e)),
+                      (
+                        (λ e. ((d, a, b), r_again w 0x33 0x007 o e)),
+                        (
+                          (λ e. ((d, a, b), r_again w 0x33 0x008 o e)),
+                          (
+                            (λ e. ((d, a, b), r_again w 0x33 0x009 o e)),
+                            (
+                              (λ e. ((d, a, b), r_again w 0x33 0x00a o e)),
+                              (
+                                (λ e. ((d, a, b), r_again w 0x33 0x00b o e)),
+                                (
+                                  (λ e. ((d, a, b), r_again w 0x33 0x00c o e)),
+                                  (
+                                    (λ e. ((d, a, b), r_again w 0x33 0x00d o e)),
+                                    (
+                                      (λ e. ((d, a, b), r_again w 0x33 0x00e o e)),
+                                      (
+                                        (λ e. ((d, a, b), r_again w 0x33 0x00f o e)),
+                                        tt,
+                                      ),
+                                    ),
+                                  ),
+                                ),
+                              ),
+                            ),
+                          ),
+                        ),
+                      ),
+                    ),
+                  ),
+                ),
+              ),
+            ),
+          ),
+        ),
+      ),
+    )
     tt
 
 count_fits : (n : ℕ) → n < 32 → IsUnsigned 32 (pos n)
@@ -216,72 +251,116 @@ shift_said : (w : ℕ) → w < 2 ^ 32 → opcode_of w ≡ 0x13 → IsSaid w (shi
 unfolding shift_at encode
 shift_said w h o =
     let d = rd_small w in let a = rs1_small w in let b = rs2_small w in
-    choose_each (IsSaid w) (functs_of w) (λ k. Some (k (rd_of w) (rs1_of w) (pos (rs2_of w)))) None shift_rows
-    ((λ e. ((d, a, count_fits (rs2_of w) b), r_again w 0x13 0x001 o e)),
-    ((λ e. ((d, a, count_fits (rs2_of w) b), r_again w 0x13 0x005 o e)),
-    ((λ e. ((d, a, count_fits (rs2_of w) b), r_again w 0x13 0x105 o e)),
-    tt)))
+    choose_each (IsSaid w) (functs_of w) (λ k. Some (k (rd_of w) (rs1_of w) (pos (rs2_of w)))) None shift_rows (
+      (λ e. ((d, a, count_fits (rs2_of w) b), r_again w 0x13 0x001 o e)),
+      (
+        (λ e. ((d, a, count_fits (rs2_of w) b), r_again w 0x13 0x005 o e)),
+        (
+          (λ e. ((d, a, count_fits (rs2_of w) b), r_again w 0x13 0x105 o e)),
+          tt,
+        ),
+      ),
+    )
     tt
 
 immediate_said : (w : ℕ) → w < 2 ^ 32 → opcode_of w ≡ 0x13 → IsSaid w (immediate_at w)
 unfolding immediate_at encode
 immediate_said w h o =
     let d = rd_small w in let a = rs1_small w in let z = i_fits w h in
-    choose_each (IsSaid w) (funct3_of w) (λ k. Some (k (rd_of w) (rs1_of w) (i_imm w))) (shift_at w) immediate_rows
-    ((λ e. ((d, a, z), i_again w 0x13 0 h o e)),
-    ((λ e. ((d, a, z), i_again w 0x13 2 h o e)),
-    ((λ e. ((d, a, z), i_again w 0x13 3 h o e)),
-    ((λ e. ((d, a, z), i_again w 0x13 4 h o e)),
-    ((λ e. ((d, a, z), i_again w 0x13 6 h o e)),
-    ((λ e. ((d, a, z), i_again w 0x13 7 h o e)),
-    tt))))))
+    choose_each (IsSaid w) (funct3_of w) (λ k. Some (k (rd_of w) (rs1_of w) (i_imm w))) (shift_at w) immediate_rows (
+      (λ e. ((d, a, z), i_again w 0x13 0 h o e)),
+      (
+        (λ e. ((d, a, z), i_again w 0x13 2 h o e)),
+        (
+          (λ e. ((d, a, z), i_again w 0x13 3 h o e)),
+          (
+            (λ e. ((d, a, z), i_again w 0x13 4 h o e)),
+            (
+              (λ e. ((d, a, z), i_again w 0x13 6 h o e)),
+              (
+                (λ e. ((d, a, z), i_again w 0x13 7 h o e)),
+                tt,
+              ),
+            ),
+          ),
+        ),
+      ),
+    )
     (shift_said w h o)
 
 load_said : (w : ℕ) → w < 2 ^ 32 → opcode_of w ≡ 0x03 → IsSaid w (load_at w)
 unfolding load_at encode
 load_said w h o =
     let d = rd_small w in let a = rs1_small w in let z = i_fits w h in
-    choose_each (IsSaid w) (funct3_of w) (λ k. Some (k (rd_of w) (rs1_of w) (i_imm w))) None load_rows
-    ((λ e. ((d, a, z), i_again w 0x03 0 h o e)),
-    ((λ e. ((d, a, z), i_again w 0x03 1 h o e)),
-    ((λ e. ((d, a, z), i_again w 0x03 2 h o e)),
-    ((λ e. ((d, a, z), i_again w 0x03 4 h o e)),
-    ((λ e. ((d, a, z), i_again w 0x03 5 h o e)),
-    tt)))))
+    choose_each (IsSaid w) (funct3_of w) (λ k. Some (k (rd_of w) (rs1_of w) (i_imm w))) None load_rows (
+      (λ e. ((d, a, z), i_again w 0x03 0 h o e)),
+      (
+        (λ e. ((d, a, z), i_again w 0x03 1 h o e)),
+        (
+          (λ e. ((d, a, z), i_again w 0x03 2 h o e)),
+          (
+            (λ e. ((d, a, z), i_again w 0x03 4 h o e)),
+            (
+              (λ e. ((d, a, z), i_again w 0x03 5 h o e)),
+              tt,
+            ),
+          ),
+        ),
+      ),
+    )
     tt
 
 store_said : (w : ℕ) → w < 2 ^ 32 → opcode_of w ≡ 0x23 → IsSaid w (store_at w)
 unfolding store_at encode
 store_said w h o =
     let a = rs1_small w in let b = rs2_small w in let z = s_fits w h in
-    choose_each (IsSaid w) (funct3_of w) (λ k. Some (k (rs1_of w) (rs2_of w) (s_imm w))) None store_rows
-    ((λ e. ((a, b, z), s_again w 0x23 0 h o e)),
-    ((λ e. ((a, b, z), s_again w 0x23 1 h o e)),
-    ((λ e. ((a, b, z), s_again w 0x23 2 h o e)),
-    tt)))
+    choose_each (IsSaid w) (funct3_of w) (λ k. Some (k (rs1_of w) (rs2_of w) (s_imm w))) None store_rows (
+      (λ e. ((a, b, z), s_again w 0x23 0 h o e)),
+      (
+        (λ e. ((a, b, z), s_again w 0x23 1 h o e)),
+        (
+          (λ e. ((a, b, z), s_again w 0x23 2 h o e)),
+          tt,
+        ),
+      ),
+    )
     tt
 
 branch_said : (w : ℕ) → w < 2 ^ 32 → opcode_of w ≡ 0x63 → IsSaid w (branch_at w)
 unfolding branch_at encode
 branch_said w h o =
     let a = rs1_small w in let b = rs2_small w in let z = b_fits w h in
-    choose_each (IsSaid w) (funct3_of w) (λ k. Some (k (rs1_of w) (rs2_of w) (b_imm w))) None branch_rows
-    ((λ e. ((a, b, z), b_again w 0x63 0 h o e)),
-    ((λ e. ((a, b, z), b_again w 0x63 1 h o e)),
-    ((λ e. ((a, b, z), b_again w 0x63 4 h o e)),
-    ((λ e. ((a, b, z), b_again w 0x63 5 h o e)),
-    ((λ e. ((a, b, z), b_again w 0x63 6 h o e)),
-    ((λ e. ((a, b, z), b_again w 0x63 7 h o e)),
-    tt))))))
+    choose_each (IsSaid w) (funct3_of w) (λ k. Some (k (rs1_of w) (rs2_of w) (b_imm w))) None branch_rows (
+      (λ e. ((a, b, z), b_again w 0x63 0 h o e)),
+      (
+        (λ e. ((a, b, z), b_again w 0x63 1 h o e)),
+        (
+          (λ e. ((a, b, z), b_again w 0x63 4 h o e)),
+          (
+            (λ e. ((a, b, z), b_again w 0x63 5 h o e)),
+            (
+              (λ e. ((a, b, z), b_again w 0x63 6 h o e)),
+              (
+                (λ e. ((a, b, z), b_again w 0x63 7 h o e)),
+                tt,
+              ),
+            ),
+          ),
+        ),
+      ),
+    )
     tt
 
 fence_said : (w : ℕ) → w < 2 ^ 32 → opcode_of w ≡ 0x0f → IsSaid w (fence_at w)
 unfolding fence_at encode
 fence_said w h o =
-    choose_each (IsSaid w) (funct3_of w) (λ i. Some i) None fence_rows
-    ((λ e. (tt, (o, e))),
-    ((λ e. (tt, (o, e))),
-    tt))
+    choose_each (IsSaid w) (funct3_of w) (λ i. Some i) None fence_rows (
+      (λ e. (tt, (o, e))),
+      (
+        (λ e. (tt, (o, e))),
+        tt,
+      ),
+    )
     tt
 
 system_said : (w : ℕ) → IsSaid w (system_at w)
@@ -298,19 +377,40 @@ jalr_said w h o = cond_both (eqb (funct3_of w) 0) (Some (Jalr (rd_of w) (rs1_of 
 pub decode_said : (w : ℕ) → w < 2 ^ 32 → IfSome (decode w) (IsEncodingOf w)
 unfolding decode encode
 decode_said w h =
-    choose_each (IsSaid w) (opcode_of w) (λ read. read w) None opcode_rows
-    ((λ o. ((rd_small w, u_fits w h), u_again w 0x37 o)),
-    ((λ o. ((rd_small w, u_fits w h), u_again w 0x17 o)),
-    ((λ o. ((rd_small w, j_fits w h), j_again w 0x6f h o)),
-    (jalr_said w h,
-    (branch_said w h,
-    (load_said w h,
-    (store_said w h,
-    (immediate_said w h,
-    (register_said w h,
-    (fence_said w h,
-    ((λ o. system_said w),
-    tt)))))))))))
+    choose_each (IsSaid w) (opcode_of w) (λ read. read w) None opcode_rows (
+      (λ o. ((rd_small w, u_fits w h), u_again w 0x37 o)),
+      (
+        (λ o. ((rd_small w, u_fits w h), u_again w 0x17 o)),
+        (
+          (λ o. ((rd_small w, j_fits w h), j_again w 0x6f h o)),
+          (
+            jalr_said w h,
+            (
+              branch_said w h,
+              (
+                load_said w h,
+                (
+                  store_said w h,
+                  (
+                    immediate_said w h,
+                    (
+                      register_said w h,
+                      (
+                        fence_said w h,
+                        (
+                          (λ o. system_said w),
+                          tt,
+                        ),
+                      ),
+                    ),
+                  ),
+                ),
+              ),
+            ),
+          ),
+        ),
+      ),
+    )
     tt
 
 -- a word of an instruction that fits says that instruction
