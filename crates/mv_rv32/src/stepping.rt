@@ -2,7 +2,7 @@ ghost use Rattle.std.specs.Prelude.{◌≡◌, ◌<◌, ◌⊎◌, length};
 ghost use Rattle.mv_isa.specs.Encoding.{Fits};
 ghost use Rattle.mv_isa.specs.Execution.{execute};
 ghost use Rattle.mv_fetch.specs.Held.{choices};
-ghost use Rattle.mv_rv32.specs.Stepping.{access, picked_step, Gives, Stays, Wants};
+ghost use Rattle.mv_rv32.specs.Stepping.{access, picked_step, picked_target, target, Gives, Stays, Wants};
 
 use crate::arith::{quotient_s, quotient_u, remainder_s, remainder_u, truth, upper};
 use crate::hart::{Hart, Stepped};
@@ -17,7 +17,7 @@ fn execute(hart: &mut Hart, memory: &mut Memory, instr: Instr) -> Stepped
     requires { Fits instr }
     ensures gives { Gives (execute access instr hart.old.regs hart.old.pc memory.old) result hart.new memory.new }
     ensures stays { Stays result hart.old hart.new memory.old memory.new }
-    ensures wants { Wants result memory.old }
+    ensures wants { Wants result (target instr hart.old.regs) memory.old }
 {
     match instr {
         Instr::Lui { rd, imm } => hart.sets(rd, upper(imm)),
@@ -210,13 +210,17 @@ fn execute(hart: &mut Hart, memory: &mut Memory, instr: Instr) -> Stepped
     }
 }
 
-/// One step by the picked choice of a word at pc.
-#[tactic(auto, unfolding(crate::specs::Stepping::picked_step))]
+/// One step: the instruction that stands at pc in the picked choice is carried out, as the definition in `mv_isa` says. `pick` is
+/// any number where pc has no choice.
+///
+/// `Call` stops before an ECALL, `Fault` and `Memory` change nothing, and `Memory` comes only at a store into text with `spare`
+/// 0, so that all other steps take no memory.
+#[tactic(auto, unfolding(crate::specs::Stepping::picked_step, crate::specs::Stepping::picked_target))]
 pub fn step(hart: &mut Hart, memory: &mut Memory, pick: u64) -> Stepped
     requires { (length (choices memory.old.held hart.old.pc) ≡ 0) ⊎ (pick < length (choices memory.old.held hart.old.pc)) }
     ensures gives { Gives (picked_step memory.old pick hart.old.regs hart.old.pc) result hart.new memory.new }
     ensures stays { Stays result hart.old hart.new memory.old memory.new }
-    ensures wants { Wants result memory.old }
+    ensures wants { Wants result (picked_target memory.old pick hart.old.regs hart.old.pc) memory.old }
 {
     if memory.choices(hart.pc) == 0 {
         return Stepped::Fault(Cause::Fetch);
