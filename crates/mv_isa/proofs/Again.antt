@@ -1,16 +1,15 @@
 -- What a word says spells that word again: one lemma for each format, on its fields, and one line for each row of a table.
-use Rattle.std.proofs.Common.{ℕ, ◌≡◌, ◌+◌, ◌-◌, ◌*◌, ◌/◌, ◌%◌, ◌^◌, ◌<◌, ◌≤◌, Bool, true, false, cond, eqb, List, [], ◌∷◌, ℤ, pos, negsuc, unsigned_abs, ◌-ℤ◌, Option, Some, None, refl, sym, ap, ◌∙◌, subst, arith, lit<, ⊎_elim}
+use Rattle.std.proofs.Common.{ℕ, ◌≡◌, ◌+◌, ◌-◌, ◌*◌, ◌/◌, ◌%◌, ◌^◌, ◌<◌, ◌≤◌, eqb, List, [], ◌∷◌, pos, negsuc, unsigned_abs, ◌-ℤ◌, Option, Some, None, refl, sym, ap, ◌∙◌, arith, ⊎_elim}
 use Rattle.std.specs.Option.{IfSome, IfNone}
 use Rattle.std.proofs.lemmas.Bool.{cases_lt, eqb-true, cond_both}
 use Rattle.std.proofs.lemmas.Int.{ints}
-use Rattle.std.proofs.lemmas.Nat.{mod_below}
 use Rattle.std.proofs.Math.Nat.{mod-eq_of_lt}
 use Rattle.mv_isa.proofs.RoundTrip.{decode-encode}
 use Rattle.mv_isa.proofs.Immediates.{signed_low, signed_high}
 use Rattle.mv_isa.specs.declared.instr.Instr.{Instr}
-use Rattle.mv_isa.specs.declared.instr.Instr.TheVariants.{Lui, Auipc, Jal, Jalr, Fence, FenceI, Ecall, Ebreak}
+use Rattle.mv_isa.specs.declared.instr.Instr.TheVariants.{Jalr, Fence, FenceI}
 use Rattle.mv_isa.specs.Formats.{opcode_of, rd_of, funct3_of, funct7_of, rs1_of, rs2_of, functs_of, i_imm, s_imm, b_imm, u_imm, j_imm, low_in, signed_in, r_word, i_word, s_word, b_word, u_word, j_word}
-use Rattle.mv_isa.specs.Encoding.{encode, decode, choose, opcode_rows, register_rows, register_at, shift_rows, shift_at, immediate_at, immediate_rows, load_at, load_rows, store_at, store_rows, branch_at, branch_rows, jalr_at, fence_at, fence_rows, system_at, system_rows, IsSigned, IsOffset, IsUnsigned, Fits, Spells, IsEncodingOf}
+use Rattle.mv_isa.specs.Encoding.{encode, decode, choose, opcode_rows, register_rows, register_at, shift_rows, shift_at, immediate_at, immediate_rows, load_at, load_rows, store_at, store_rows, branch_at, branch_rows, jalr_at, fence_at, fence_rows, system_at, system_rows, IsSigned, IsOffset, IsUnsigned, IsEncodingOf}
 
 -- ---- a look-up gives one of its rows, or the rest
 

@@ -1,7 +1,7 @@
 -- What one instruction does to registers, pc and memory, over any memory and for any word that was fetched (RISC-V unprivileged ISA
 -- 20191213: chapter 2 for RV32I, chapter 3 for FENCE.I, chapter 7 for M). An instruction that faults changes nothing: a fault carries
 -- neither registers nor memory.
-use Rattle.std.specs.Prelude.{ℕ, ◌+◌, ◌-◌, ◌%◌, ◌^◌, Bool, cond, not, eqb, List, slice_index, slice_set, Option, Some, None, bit_and, bit_or, bit_xor, ℤ, unsigned_abs}
+use Rattle.std.specs.Prelude.{ℕ, ◌-◌, ◌%◌, ◌^◌, Bool, cond, not, eqb, List, slice_index, slice_set, Option, Some, None, bit_and, bit_or, bit_xor, ℤ}
 use Rattle.mv_num.specs.declared.kind.Kind.{Kind}
 use Rattle.mv_num.specs.declared.kind.Kind.TheVariants as kind
 use Rattle.mv_num.specs.Words.{word_of, add, sub, mul, mul_high_ss, mul_high_su, mul_high_uu, div_s, div_u, rem_s, rem_u, shl, shr_s, shr_u, lt_s, lt_u, narrow}

@@ -86,10 +86,10 @@ impl Hart {
         ensures keeps { Keeps result self.old self.new }
         ensures wants { (address : Option ℕ) (room : Room) → Wants result address room }
     {
+        let next = word::add(self.pc, 4);
         if target % 4 != 0 {
             return Stepped::Fault(Cause::Jump);
         }
-        let next = word::add(self.pc, 4);
         self.put(rd, next);
         self.pc = target;
         Stepped::Next

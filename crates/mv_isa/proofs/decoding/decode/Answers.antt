@@ -1,4 +1,4 @@
-use Rattle.std.proofs.Common.{◌≡◌, Option, sym, subst, IfSome, IfNone, arith}
+use Rattle.std.proofs.Common.{Option, sym, subst, IfSome, IfNone, arith}
 use Rattle.mv_isa.specs.declared.instr.Instr.{Instr}
 use Rattle.mv_isa.specs.Encoding.{IsEncodingOf}
 use Rattle.mv_isa.proofs.Again.{decode_said, decode_none}
