@@ -115,7 +115,15 @@ impl Hart {
 
     // A load into a register.
     #[tactic(auto, unfolding(mv_isa::specs::Execution::loads, crate::specs::Stepping::access))]
-    pub(crate) fn loads(&mut self, memory: &Memory, rd: u8, rs1: u8, imm: i32, width: u32, kind: Kind) -> Stepped
+    pub(crate) fn loads(
+        &mut self,
+        memory: &Memory,
+        rd: u8,
+        rs1: u8,
+        imm: i32,
+        width: u32,
+        kind: Kind,
+    ) -> Stepped
         requires rd { rd < 32 }
         requires rs1 { rs1 < 32 }
         requires width { IsWidth width }
@@ -132,7 +140,14 @@ impl Hart {
 
     // A store of a register.
     #[tactic(auto, unfolding(mv_isa::specs::Execution::stores, crate::specs::Stepping::access))]
-    pub(crate) fn stores(&mut self, memory: &mut Memory, rs1: u8, rs2: u8, imm: i32, width: u32) -> Stepped
+    pub(crate) fn stores(
+        &mut self,
+        memory: &mut Memory,
+        rs1: u8,
+        rs2: u8,
+        imm: i32,
+        width: u32,
+    ) -> Stepped
         requires rs1 { rs1 < 32 }
         requires rs2 { rs2 < 32 }
         requires width { IsWidth width }

@@ -44,7 +44,10 @@ fn is_step(bench: &mut Bench, word: u32, vector: &Vector) -> bool {
 // A word of the instruction with this mnemonic.
 fn word_named(words: &[(&str, u32)], name: &str) -> Option<u32> {
     for (text, word) in words {
-        if text.split_once(' ').is_some_and(|(mnemonic, _)| mnemonic == name) {
+        if text
+            .split_once(' ')
+            .is_some_and(|(mnemonic, _)| mnemonic == name)
+        {
             return Some(*word);
         }
     }
@@ -75,6 +78,9 @@ fn main(rt: HostRuntime) -> io::Result<()> {
     for line in wrong.iter() {
         println!(rt; "wrong: {line}")?;
     }
-    let (read, ran) = (encodings.as_str().lines().count(), steps.as_str().lines().count());
+    let (read, ran) = (
+        encodings.as_str().lines().count(),
+        steps.as_str().lines().count(),
+    );
     println!(rt; "encodings {read} steps {ran} wrong {}", wrong.len())
 }

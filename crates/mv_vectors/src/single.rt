@@ -4,11 +4,14 @@ use mv_rv32::{Hart, Stepped, step};
 use std::alloc::{AllocError, Global};
 
 const TEXT: u32 = 0x0000_1000;
+
 const CELL: u32 = 0x0010_0000;
 
 // The registers of the operands and of the result.
 const FIRST: u32 = 5;
+
 const SECOND: u32 = 6;
+
 const RESULT: u32 = 7;
 
 /// A line `NAME A B RESULT` in hexadecimal. For an instruction on two registers, or on a register and the immediate B, the
@@ -43,7 +46,10 @@ fn with_operands(word: u32, b: u32) -> u32 {
     let registers = FIRST << 15 | SECOND << 20;
     match word & 0x7F {
         0x33 => functs | RESULT << 7 | registers,
-        0x13 if operation & 0x3000 == 0x1000 => functs | RESULT << 7 | FIRST << 15 | (b & 0x1F) << 20,
+        0x13 if operation & 0x3000 == 0x1000 => functs
+            | RESULT << 7
+            | FIRST << 15
+            | (b & 0x1F) << 20,
         0x63 => operation | 1 << 10 | registers,
         0x23 => operation | (b & 0x1F) << 7 | registers,
         _ => operation | RESULT << 7 | FIRST << 15 | (b & 0xFFF) << 20,
@@ -72,9 +78,14 @@ impl Bench {
             _ => (0, vector.a, vector.b),
         };
         self.memory.store(CELL, 4, cell).ok()?;
-        self.memory.store(TEXT, 4, with_operands(word, vector.b)).ok()?;
+        self.memory
+            .store(TEXT, 4, with_operands(word, vector.b))
+            .ok()?;
         self.memory.fence_i();
-        let mut hart = Hart { regs: [0; 32], pc: TEXT };
+        let mut hart = Hart {
+            regs: [0; 32],
+            pc: TEXT,
+        };
         hart.regs[FIRST as usize] = first;
         hart.regs[SECOND as usize] = second;
         if self.memory.choices(TEXT) == 0 || step(&mut hart, &mut self.memory, 0) != Stepped::Next {
