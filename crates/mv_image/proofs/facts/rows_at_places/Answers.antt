@@ -5,7 +5,7 @@ use Rattle.mv_image.specs.Places.{switch_field, function_field, variant_field, g
 use Rattle.mv_image.specs.Spelling.{names_in}
 use Rattle.mv_image.specs.Faults.{Counts}
 use Rattle.mv_image.proofs.RowsStand.{counts_are, switch_stands, function_stands, variant_stands, guard_stands, site_stands, text_stands, globals_stand, image_fits, image_words_are}
-use Rattle.mv_image.proofs.places_of_rows.rows_at_places.Goals as goal
+use Rattle.mv_image.proofs.facts.rows_at_places.Goals as goal
 
 pub returns-clause-fit : goal.returns-clause-fit
 returns-clause-fit c = image_fits c.args.image.now c.entry-entry.ensures.rules
