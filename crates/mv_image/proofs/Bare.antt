@@ -99,7 +99,7 @@ unfolding header_of
 header_words e t g b i =
     elim (cases_lt i 12) [
       | inl low ↦ of_twelve (λ (k : ℕ). slice_index (header_of (bare e t g)) k < 2 ^ 32)
-        (omega arith) (omega arith) (omega (arith, b.within, b.text)) (omega (arith, b.text)) (omega (arith, b.globals)) (omega arith) (omega arith) (omega arith) (omega arith) (omega arith) (omega arith) (omega arith) i low
+          (omega arith) (omega arith) (omega (arith, b.within, b.text)) (omega (arith, b.text)) (omega (arith, b.globals)) (omega arith) (omega arith) (omega arith) (omega arith) (omega arith) (omega arith) (omega arith) i low
       | inr high ↦ rw (get_or_past (header_of (bare e t g)) i 0 high) (omega arith)
     ]
 

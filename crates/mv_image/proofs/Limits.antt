@@ -1,17 +1,13 @@
 -- The limits of an image.
 use Rattle.std.proofs.Common.{◌≡◌, ℕ, ◌+◌, ◌*◌, ◌%◌, ◌<◌, ◌≤◌, Bool, true, false, ltb, leb, eqb, ◌&&◌, List, length, slice_index, refl, sym, ap, subst, ◌∙◌, arith}
 use Rattle.std.proofs.lemmas.Bool.{eqb-true, leb-true, ltb-true}
-use Rattle.mv_num.specs.Bytes.{words_of}
 use Rattle.mv_image.specs.Places.{text_words, data_words, switch_rows, function_rows, variant_rows, guard_rows, site_rows}
 use Rattle.mv_image.specs.Rules.{header_fits, is_text_address}
-use Rattle.mv_image.specs.Spelling.{Fields, names_in}
+use Rattle.mv_image.specs.Spelling.{Fields}
 use Rattle.mv_image.specs.Faults.{AllFit, Rules, Counts, image_words}
 use Rattle.mv_image.proofs.PlaceLaws.{first_true, second_true}
 use Rattle.mv_image.proofs.WhatIsRead.{header_rule}
-use Rattle.mv_image.proofs.RowsStand.{counts_are, image_fits, image_words_are}
-
-pub counts_of : (a : Fields) → Rules a → Counts (image_words a) a
-counts_of a r = subst (λ (ws : List ℕ). Counts ws a) (sym (image_words_are a r)) (counts_are a (words_of (names_in a)))
+use Rattle.mv_image.proofs.RowsStand.{counts_of, image_fits}
 
 pub record InText (t : List ℕ) (a : ℕ) : Type 0 where
   pub aligned : a % 4 ≡ 0

@@ -178,3 +178,27 @@ image_words_are a r = words_in_front (words_in a) (names_in a) r.words
 
 pub image_fits : (a : Fields) → Rules a → AllFit (image_words a)
 image_fits a r = all_fit (spelling a) r.spelled
+
+pub counts_of : (a : Fields) → Rules a → Counts (image_words a) a
+counts_of a r = subst (λ (ws : List ℕ). Counts ws a) (sym (image_words_are a r)) (counts_are a (words_of (names_in a)))
+
+pub text_is : (a : Fields) → Rules a → slice_range (image_words a) 12 (data_at (image_words a)) ≡ a.text
+text_is a r = subst (λ (ws : List ℕ). slice_range ws 12 (data_at ws) ≡ a.text) (sym (image_words_are a r)) (text_stands a (words_of (names_in a)))
+
+pub globals_are : (a : Fields) → Rules a → slice_range (image_words a) (data_at (image_words a)) (switches_at (image_words a)) ≡ a.globals
+globals_are a r = subst (λ (ws : List ℕ). slice_range ws (data_at ws) (switches_at ws) ≡ a.globals) (sym (image_words_are a r)) (globals_stand a (words_of (names_in a)))
+
+pub switch_is : (a : Fields) → Rules a → (k j : ℕ) (d : SwitchRow) → k < length a.switches → j < 20 → switch_field (image_words a) k j ≡ slice_index (switch_words (get_or a.switches k d)) j
+switch_is a r k j d hk hj = ap (λ (ws : List ℕ). switch_field ws k j) (image_words_are a r) ∙ switch_stands a (words_of (names_in a)) r k j d hk hj
+
+pub function_is : (a : Fields) → Rules a → (k j : ℕ) (d : FunctionRow) → k < length a.functions → j < 10 → function_field (image_words a) k j ≡ slice_index (function_words (get_or a.functions k d)) j
+function_is a r k j d hk hj = ap (λ (ws : List ℕ). function_field ws k j) (image_words_are a r) ∙ function_stands a (words_of (names_in a)) r k j d hk hj
+
+pub variant_is : (a : Fields) → Rules a → (k j : ℕ) (d : VariantRow) → k < length a.variants → j < 5 → variant_field (image_words a) k j ≡ slice_index (variant_words (get_or a.variants k d)) j
+variant_is a r k j d hk hj = ap (λ (ws : List ℕ). variant_field ws k j) (image_words_are a r) ∙ variant_stands a (words_of (names_in a)) r k j d hk hj
+
+pub guard_is : (a : Fields) → Rules a → (k j : ℕ) (d : GuardRow) → k < length a.guards → j < 12 → guard_field (image_words a) k j ≡ slice_index (guard_words (get_or a.guards k d)) j
+guard_is a r k j d hk hj = ap (λ (ws : List ℕ). guard_field ws k j) (image_words_are a r) ∙ guard_stands a (words_of (names_in a)) r k j d hk hj
+
+pub site_is : (a : Fields) → Rules a → (k j : ℕ) (d : SiteRow) → k < length a.sites → j < 2 → site_field (image_words a) k j ≡ slice_index (site_words (get_or a.sites k d)) j
+site_is a r k j d hk hj = ap (λ (ws : List ℕ). site_field ws k j) (image_words_are a r) ∙ site_stands a (words_of (names_in a)) r k j d hk hj
