@@ -2,23 +2,26 @@
 use Rattle.std.proofs.Common.{◌≡◌, ℕ, ◌+◌, ◌*◌, ◌%◌, ◌<◌, ◌≤◌, Bool, true, false, ltb, leb, eqb, ◌&&◌, List, length, slice_index, refl, sym, ap, subst, ◌∙◌, arith}
 use Rattle.std.proofs.lemmas.Bool.{eqb-true, leb-true, ltb-true}
 use Rattle.mv_image.specs.Places.{text_words, data_words, switch_rows, function_rows, variant_rows, guard_rows, site_rows}
-use Rattle.mv_image.specs.Rules.{header_fits, is_text_address}
+use Rattle.mv_image.specs.Rules.{header_fits, is_text_address, is_data_address}
+use Rattle.mv_image.specs.WellFormed.{IsInText, IsInData}
 use Rattle.mv_image.specs.Spelling.{Fields}
 use Rattle.mv_image.specs.Faults.{AllFit, Rules, Counts, image_words}
 use Rattle.mv_image.proofs.PlaceLaws.{first_true, second_true}
 use Rattle.mv_image.proofs.WhatIsRead.{header_rule}
 use Rattle.mv_image.proofs.RowsStand.{counts_of, image_fits}
 
-pub record InText (t : List ℕ) (a : ℕ) : Type 0 where
-  pub aligned : a % 4 ≡ 0
-  pub not_before : 4096 ≤ a
-  pub within : a < 4096 + 4 * length t
-
-pub in_text : (ws t : List ℕ) (a : ℕ) → text_words ws ≡ length t → is_text_address ws a ≡ true → InText t a
-in_text ws t a n h = record {
+pub in_text : (image : Fields) (ws : List ℕ) (a : ℕ) → text_words ws ≡ length image.text → is_text_address ws a ≡ true → IsInText image a
+in_text image ws a n h = record {
   aligned = eqb-true _ _ (first_true _ _ (first_true _ _ h));
   not_before = leb-true _ _ (second_true _ _ (first_true _ _ h));
   within = omega (arith, n, ltb-true a (4096 + 4 * text_words ws) (second_true _ _ h));
+}
+
+pub in_data : (image : Fields) (ws : List ℕ) (a : ℕ) → data_words ws ≡ length image.globals → is_data_address ws a ≡ true → IsInData image a
+in_data image ws a n h = record {
+  aligned = eqb-true _ _ (first_true _ _ (first_true _ _ h));
+  not_before = leb-true _ _ (second_true _ _ (first_true _ _ h));
+  within = omega (arith, n, ltb-true a (1048576 + 4 * data_words ws) (second_true _ _ h));
 }
 
 from_one : (ws : List ℕ) → header_fits ws 3 ≡ true → 1 ≤ text_words ws
@@ -66,7 +69,7 @@ pub record IsWithin (a : Fields) : Type 0 where
   pub variants : length a.variants ≤ 64000
   pub guards : length a.guards ≤ 64000
   pub sites : length a.sites ≤ 16384
-  pub entry : InText a.text a.entry
+  pub entry : IsInText a a.entry
 
 pub is_within : (a : Fields) → Rules a → IsWithin a
 is_within a r =
@@ -83,5 +86,5 @@ is_within a r =
       variants = omega (arith, n.variants, variants_most ws (header_rule ws 7 fit (omega arith)));
       guards = omega (arith, n.guards, guards_most ws (header_rule ws 8 fit (omega arith)));
       sites = omega (arith, n.sites, sites_most ws (header_rule ws 9 fit (omega arith)));
-      entry = subst (λ (e : ℕ). InText a.text e) n.entry (in_text ws a.text (slice_index ws 2) n.text (entry_in ws third));
+      entry = subst (λ (e : ℕ). IsInText a e) n.entry (in_text a ws (slice_index ws 2) n.text (entry_in ws third));
     }

@@ -24,13 +24,13 @@ unfolding words_in header_of
 counts_are image x = record { entry = refl; text = refl; globals = refl; switches = refl; functions = refl; variants = refl; guards = refl; sites = refl; names = refl }
 
 -- a word of a list behind another
-behind : (front back : List ℕ) (i j : ℕ) → i ≡ length front + j → slice_index (front ++ back) i ≡ slice_index back j
+pub behind : (front back : List ℕ) (i j : ℕ) → i ≡ length front + j → slice_index (front ++ back) i ≡ slice_index back j
 behind [] back i j e = ap (slice_index back) (omega (arith, e))
 behind (x ∷ front) back i j e =
     let m : i ≡ suc (length front + j) = omega (arith, e) in
     ap (slice_index (x ∷ (front ++ back))) m ∙ behind front back (length front + j) j refl
 
-before : (front back : List ℕ) (i : ℕ) → i < length front → slice_index (front ++ back) i ≡ slice_index front i
+pub before : (front back : List ℕ) (i : ℕ) → i < length front → slice_index (front ++ back) i ≡ slice_index front i
 before [] back i lt = absurd (omega arith)
 before (x ∷ front) back zero lt = refl
 before (x ∷ front) back (suc i) lt = before front back i (omega (arith, lt))
