@@ -1,5 +1,5 @@
 -- When a guard row holds of values, and which variant fits them.
-use Rattle.std.specs.Prelude.{ℕ, zero, suc, Bool, true, ◌&&◌, List, [], ◌∷◌, length, map, take, drop, slice_index, Option, Some, None, if◌then◌else◌}
+use Rattle.std.specs.Prelude.{ℕ, zero, suc, Bool, true, ◌&&◌, List, [], ◌∷◌, length, take, drop, slice_index, Option, Some, None, if◌then◌else◌}
 use Rattle.std.specs.List.{list_any}
 use Rattle.mv_num.specs.Kinds.{is_at_most}
 use Rattle.mv_descriptors.specs.declared.rows.VariantRow.{VariantRow}

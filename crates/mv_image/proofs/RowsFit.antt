@@ -16,7 +16,7 @@ use Rattle.mv_image.specs.WellFormed.{IsInText, IsInData, FitsSwitch, FitsFuncti
 use Rattle.mv_image.proofs.PlaceLaws.{first_true, second_true}
 use Rattle.mv_image.proofs.WhatIsRead.{data_from}
 use Rattle.mv_image.proofs.RowReads.{index_range, switch_rule, function_rule, variant_rule, site_rule}
-use Rattle.mv_image.proofs.RowsStand.{counts_of, image_fits, behind, before, text_is, switch_is, function_is, variant_is, site_is}
+use Rattle.mv_image.proofs.RowsStand.{counts_of, image_fits, behind, text_is, switch_is, function_is, variant_is, site_is, function_variants, variant_guards, function_switch_is}
 use Rattle.mv_image.proofs.Limits.{in_text, in_data}
 
 -- ---- switches
@@ -120,13 +120,11 @@ functions_fit a r k d lt =
     let fit = image_fits a r in
     let says = function_says ws k (function_rule ws k 0 fit here (omega arith)) (function_rule ws k 1 fit here (omega arith)) (function_rule ws k 2 fit here (omega arith)) (function_rule ws k 9 fit here (omega arith)) in
     let row : FunctionRow = get_or a.functions k d in
-    let whole : length row.switches ≡ 6 = (r.functions k d lt).0 in
     let f0 : function_field ws k 0 ≡ row.length = function_is a r k 0 d lt (omega arith) in
     let f1 : function_field ws k 1 ≡ row.entry = function_is a r k 1 d lt (omega arith) in
     let f2 : function_field ws k 2 ≡ row.count = function_is a r k 2 d lt (omega arith) in
-    let f9 : function_field ws k 9 ≡ row.variants = function_is a r k 9 d lt (omega arith) ∙ behind row.switches (row.variants ∷ []) 6 0 (omega (arith, whole)) in
-    let f3 : (i : ℕ) → i < 6 → function_field ws k (3 + i) ≡ slice_index row.switches i =
-    λ i hi. function_is a r k (3 + i) d lt (omega (arith, hi)) ∙ behind (row.length ∷ row.entry ∷ row.count ∷ []) (row.switches ++ row.variants ∷ []) (3 + i) i refl ∙ before row.switches (row.variants ∷ []) i (omega (arith, whole, hi)) in
+    let f9 : function_field ws k 9 ≡ row.variants = function_variants a r k d lt in
+    let f3 : (i : ℕ) → i < 6 → function_field ws k (3 + i) ≡ slice_index row.switches i = λ i hi. function_switch_is a r k i d lt hi in
     record {
       named = omega (arith, says.named, f0);
       name = omega (arith, says.name, f0);
@@ -169,10 +167,9 @@ variants_fit a r k d lt =
     let fit = image_fits a r in
     let says = variant_says ws k (variant_rule ws k 0 fit here (omega arith)) (variant_rule ws k 1 fit here (omega arith)) (variant_rule ws k 4 fit here (omega arith)) in
     let row : VariantRow = get_or a.variants k d in
-    let whole : length row.words ≡ 2 = (r.variants k d lt).0 in
     let f0 : variant_field ws k 0 ≡ row.address = variant_is a r k 0 d lt (omega arith) in
     let f1 : variant_field ws k 1 ≡ row.inlined = variant_is a r k 1 d lt (omega arith) in
-    let f4 : variant_field ws k 4 ≡ row.guards = variant_is a r k 4 d lt (omega arith) ∙ behind row.words (row.guards ∷ []) 2 0 (omega (arith, whole)) in
+    let f4 : variant_field ws k 4 ≡ row.guards = variant_guards a r k d lt in
     record {
       address = subst (λ (x : ℕ). IsInText a x) f0 (in_text a ws (variant_field ws k 0) n.text says.address);
       inlined = omega (arith, says.inlined, f1);

@@ -11,7 +11,7 @@ use Rattle.mv_descriptors.specs.declared.rows.FunctionRow.{FunctionRow}
 use Rattle.mv_descriptors.specs.declared.rows.VariantRow.{VariantRow}
 use Rattle.mv_descriptors.specs.declared.rows.GuardRow.{GuardRow}
 use Rattle.mv_descriptors.specs.declared.rows.SiteRow.{SiteRow}
-use Rattle.mv_image.specs.Places.{text_words, data_words, switch_rows, function_rows, variant_rows, guard_rows, site_rows, data_at, switches_at, functions_at, variants_at, guards_at, sites_at, words_end, switch_field, function_field, variant_field, guard_field, site_field}
+use Rattle.mv_image.specs.Places.{text_words, data_words, switch_rows, function_rows, variant_rows, guard_rows, site_rows, data_at, switches_at, functions_at, variants_at, guards_at, sites_at, words_end, switch_field, function_field, variant_field, guard_field, site_field, variants_of, guards_of}
 use Rattle.mv_image.specs.Rules.{word_fits}
 use Rattle.mv_image.specs.Spelling.{Fields, joined, header_of, words_in, names_in, spelling}
 use Rattle.mv_image.specs.Faults.{AllFit, Rules, Counts, image_words}
@@ -202,3 +202,21 @@ guard_is a r k j d hk hj = ap (λ (ws : List ℕ). guard_field ws k j) (image_wo
 
 pub site_is : (a : Fields) → Rules a → (k j : ℕ) (d : SiteRow) → k < length a.sites → j < 2 → site_field (image_words a) k j ≡ slice_index (site_words (get_or a.sites k d)) j
 site_is a r k j d hk hj = ap (λ (ws : List ℕ). site_field ws k j) (image_words_are a r) ∙ site_stands a (words_of (names_in a)) r k j d hk hj
+
+pub function_variants : (a : Fields) → Rules a → (k : ℕ) (d : FunctionRow) → k < length a.functions → variants_of (image_words a) k ≡ (get_or a.functions k d).variants
+function_variants a r k d lt =
+    let row : FunctionRow = get_or a.functions k d in
+    let whole : length row.switches ≡ 6 = (r.functions k d lt).0 in
+    function_is a r k 9 d lt (omega arith) ∙ behind row.switches (row.variants ∷ []) 6 0 (omega (arith, whole))
+
+pub variant_guards : (a : Fields) → Rules a → (k : ℕ) (d : VariantRow) → k < length a.variants → guards_of (image_words a) k ≡ (get_or a.variants k d).guards
+variant_guards a r k d lt =
+    let row : VariantRow = get_or a.variants k d in
+    let whole : length row.words ≡ 2 = (r.variants k d lt).0 in
+    variant_is a r k 4 d lt (omega arith) ∙ behind row.words (row.guards ∷ []) 2 0 (omega (arith, whole))
+
+pub function_switch_is : (a : Fields) → Rules a → (k i : ℕ) (d : FunctionRow) → k < length a.functions → i < 6 → function_field (image_words a) k (3 + i) ≡ slice_index (get_or a.functions k d).switches i
+function_switch_is a r k i d lt hi =
+    let row : FunctionRow = get_or a.functions k d in
+    let whole : length row.switches ≡ 6 = (r.functions k d lt).0 in
+    function_is a r k (3 + i) d lt (omega (arith, hi)) ∙ behind (row.length ∷ row.entry ∷ row.count ∷ []) (row.switches ++ row.variants ∷ []) (3 + i) i refl ∙ before row.switches (row.variants ∷ []) i (omega (arith, whole, hi))

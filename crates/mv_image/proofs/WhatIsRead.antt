@@ -108,7 +108,7 @@ last_is ws h = eqb-true _ _ h
 
 -- ---- sums of the lengths of names
 
-not_last : (a b : ℕ) (x : Bool) → a ≡ b → (not (eqb a b) || x) ≡ true → x ≡ true
+pub not_last : (a b : ℕ) (x : Bool) → a ≡ b → (not (eqb a b) || x) ≡ true → x ≡ true
 not_last a b x e h = let t : eqb a b ≡ true = eq-eqb a b e in rw t at h
 
 function_sum : (ws : List ℕ) (k : ℕ) → function_fits ws k 0 ≡ true → switch_rows ws + k + 1 ≡ names ws → sum_below (name_length ws) (names ws) ≡ name_bytes ws

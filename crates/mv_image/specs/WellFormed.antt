@@ -1,12 +1,14 @@
 -- What the rows of an image keep, each by its own fields.
-use Rattle.std.specs.Prelude.{ℕ, ◌≡◌, ◌+◌, ◌-◌, ◌*◌, ◌/◌, ◌%◌, ◌<◌, ◌≤◌, ◌⊎◌, true, List, length, slice_index, slice_index_or, All, sum_by}
-use Rattle.mv_num.specs.Kinds.{kind_number, is_value}
+use Rattle.std.specs.Prelude.{ℕ, ◌≡◌, ◌+◌, ◌-◌, ◌*◌, ◌/◌, ◌%◌, ◌<◌, ◌≤◌, true, List, length, slice_index, slice_index_or}
+use Rattle.mv_num.specs.Kinds.{kind_number, is_value, is_at_most}
 use Rattle.mv_descriptors.specs.declared.rows.SwitchRow.{SwitchRow}
 use Rattle.mv_descriptors.specs.declared.rows.FunctionRow.{FunctionRow}
 use Rattle.mv_descriptors.specs.declared.rows.VariantRow.{VariantRow}
+use Rattle.mv_descriptors.specs.declared.rows.GuardRow.{GuardRow}
 use Rattle.mv_descriptors.specs.declared.rows.SiteRow.{SiteRow}
 use Rattle.mv_image.specs.Spelling.{Fields}
 use Rattle.mv_image.specs.Jumps.{nop, jump}
+use Rattle.mv_image.specs.Patched.{kind_of}
 
 -- an address of a word of text, which stands from 0x1000 on
 pub record IsInText (image : Fields) (a : ℕ) : Type 0 where
@@ -51,3 +53,11 @@ pub record FitsSite (image : Fields) (row : SiteRow) : Type 0 where
   pub function : row.function < length image.functions
   pub call : (d : FunctionRow) → slice_index image.text ((row.address - 4096) / 4) ≡ jump 1 row.address (slice_index_or image.functions row.function d).entry
   pub pad : slice_index image.text ((row.address + 4 - 4096) / 4) ≡ nop
+
+-- A guard row of a function gives a range of values for each of the function's switches, and zeros for no switch.
+pub record FitsGuard (image : Fields) (function : FunctionRow) (row : GuardRow) : Type 0 where
+  pub low : (i : ℕ) → i < function.count → is_value (kind_of image (slice_index function.switches i)) (slice_index row.low i) ≡ true
+  pub high : (i : ℕ) → i < function.count → is_value (kind_of image (slice_index function.switches i)) (slice_index row.high i) ≡ true
+  pub ordered : (i : ℕ) → i < function.count → is_at_most (kind_of image (slice_index function.switches i)) (slice_index row.low i) (slice_index row.high i) ≡ true
+  pub low_unused : (i : ℕ) → function.count ≤ i → i < 6 → slice_index row.low i ≡ 0
+  pub high_unused : (i : ℕ) → function.count ≤ i → i < 6 → slice_index row.high i ≡ 0

@@ -1,4 +1,4 @@
-use Rattle.std.proofs.Common.{◌≡◌, ◌∙◌, sym}
+use Rattle.std.proofs.Common.{◌∙◌, sym}
 use Rattle.mv_descriptors.specs.Guards.{holds, value_fits}
 use Rattle.mv_descriptors.proofs.Below.{each_below-none, each_below-more, each_below-fails}
 use Rattle.mv_descriptors.proofs.guards.holds.Goals as goal
