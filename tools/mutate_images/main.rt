@@ -27,9 +27,9 @@ fn next(state: u64) -> u64 {
         .wrapping_add(1442695040888963407)
 }
 
-/// Changes up to four bytes.
+/// Changes one to four bytes.
 fn change(bytes: &mut [u8], mut state: u64) -> u64 {
-    for _ in 0..state >> 33 & 3 {
+    for _ in 0..(state >> 33 & 3) + 1 {
         state = next(state);
         let at = (state >> 33) as usize;
         if !bytes.is_empty() {

@@ -1,5 +1,5 @@
 -- Entries and sites don't overlap.
-use Rattle.std.proofs.Common.{◌≡◌, ℕ, zero, suc, ◌+◌, ◌-◌, ◌<◌, ◌≤◌, ◌⊎◌, Bool, true, false, ◌&&◌, ◌||◌, eqb, ltb, leb, List, length, get_or, refl, sym, subst, ◌∙◌, arith, inl, inr}
+use Rattle.std.proofs.Common.{◌≡◌, ℕ, zero, suc, ◌+◌, ◌-◌, ◌<◌, ◌≤◌, ◌⊎◌, Bool, true, false, ◌||◌, eqb, ltb, leb, List, length, get_or, refl, subst, arith, inl, inr}
 use Rattle.std.proofs.lemmas.Bool.{cases_lt, leb-true, ltb-true, ne_eqb}
 use Rattle.mv_descriptors.specs.Guards.{each_below}
 use Rattle.mv_descriptors.proofs.Below.{each_of}
@@ -8,7 +8,7 @@ use Rattle.mv_descriptors.specs.declared.rows.SiteRow.{SiteRow}
 use Rattle.mv_image.specs.Places.{function_rows, site_rows, site_field, entry_of}
 use Rattle.mv_image.specs.Rules.{function_fits, site_fits, is_outside}
 use Rattle.mv_image.specs.Spelling.{Fields}
-use Rattle.mv_image.specs.Faults.{AllFit, Rules, image_words}
+use Rattle.mv_image.specs.Faults.{Rules, image_words}
 use Rattle.mv_image.proofs.RowReads.{function_rule, site_rule}
 use Rattle.mv_image.proofs.RowsStand.{counts_of, function_is, site_is, image_fits}
 use Rattle.mv_image.proofs.PlaceLaws.{first_true, second_true}

@@ -1,5 +1,5 @@
 -- A program without tables is an image.
-use Rattle.std.proofs.Common.{◌≡◌, ℕ, zero, suc, ◌+◌, ◌-◌, ◌*◌, ◌/◌, ◌%◌, ◌^◌, ◌<◌, ◌≤◌, Bool, true, false, ltb, leb, eqb, ◌&&◌, List, [], ◌∷◌, ◌++◌, length, slice_index, refl, sym, ap, subst, ◌∙◌, arith, inl, inr, eq-eqb}
+use Rattle.std.proofs.Common.{◌≡◌, ℕ, zero, suc, ◌+◌, ◌*◌, ◌%◌, ◌^◌, ◌<◌, ◌≤◌, Bool, true, ◌&&◌, List, [], ◌∷◌, ◌++◌, length, slice_index, refl, sym, ap, subst, ◌∙◌, arith, inl, inr, eq-eqb}
 use Rattle.std.proofs.lemmas.Bool.{lt-ltb, le-ltb, le-leb, cases_lt}
 use Rattle.std.proofs.lemmas.List.{length-append, append-nil, get_or_past}
 use Rattle.mv_num.specs.Bytes.{words_of, bytes_of, AreWords}
@@ -9,10 +9,10 @@ use Rattle.mv_descriptors.specs.declared.rows.FunctionRow.{FunctionRow}
 use Rattle.mv_descriptors.specs.declared.rows.VariantRow.{VariantRow}
 use Rattle.mv_descriptors.specs.declared.rows.GuardRow.{GuardRow}
 use Rattle.mv_descriptors.specs.declared.rows.SiteRow.{SiteRow}
-use Rattle.mv_image.specs.Places.{text_words, data_words, data_at, switches_at, words_end, name_bytes}
-use Rattle.mv_image.specs.Rules.{word_fits, header_fits, is_text_address}
-use Rattle.mv_image.specs.Spelling.{Fields, bare, header_of, words_in, names_in, spelling}
-use Rattle.mv_image.specs.Faults.{Spelled, Rules, AllFit}
+use Rattle.mv_image.specs.Places.{switches_at, words_end, name_bytes}
+use Rattle.mv_image.specs.Rules.{word_fits, header_fits}
+use Rattle.mv_image.specs.Spelling.{Fields, bare, header_of, words_in, spelling}
+use Rattle.mv_image.specs.Faults.{Rules, AllFit}
 use Rattle.mv_image.proofs.Judged.{end_of, spelled}
 use Rattle.mv_image.proofs.RowRules.{functions_from, variants_from, guards_from, sites_from, end_from, header_word}
 use Rattle.mv_image.proofs.WhatIsRead.{data_from, switches_after}

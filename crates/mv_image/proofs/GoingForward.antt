@@ -1,8 +1,8 @@
 -- Cursors go forward.
-use Rattle.std.proofs.Common.{◌≡◌, ℕ, ◌+◌, ◌-◌, ◌≤◌, ◌<◌, List, arith, sym, ap, ◌∙◌}
+use Rattle.std.proofs.Common.{◌≡◌, ℕ, ◌≤◌, List, arith, sym, ap, ◌∙◌}
 use Rattle.mv_image.specs.declared.places.Cursor.{Cursor}
 use Rattle.mv_image.specs.declared.places.Owners.{Owners}
-use Rattle.mv_image.specs.Places.{sum_below, variants_of, guards_of, function_rows, variant_rows}
+use Rattle.mv_image.specs.Places.{sum_below}
 use Rattle.mv_image.specs.Cursors.{HasReached, HaveReached}
 use Rattle.mv_image.proofs.PlaceLaws.{sum_below-none}
 

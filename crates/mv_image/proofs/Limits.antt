@@ -1,11 +1,11 @@
 -- The limits of an image.
-use Rattle.std.proofs.Common.{◌≡◌, ℕ, ◌+◌, ◌*◌, ◌%◌, ◌<◌, ◌≤◌, Bool, true, false, ltb, leb, eqb, ◌&&◌, List, length, slice_index, refl, sym, ap, subst, ◌∙◌, arith}
+use Rattle.std.proofs.Common.{◌≡◌, ℕ, ◌+◌, ◌*◌, ◌≤◌, true, List, length, slice_index, subst, arith}
 use Rattle.std.proofs.lemmas.Bool.{eqb-true, leb-true, ltb-true}
 use Rattle.mv_image.specs.Places.{text_words, data_words, switch_rows, function_rows, variant_rows, guard_rows, site_rows}
 use Rattle.mv_image.specs.Rules.{header_fits, is_text_address, is_data_address}
 use Rattle.mv_image.specs.WellFormed.{IsInText, IsInData}
 use Rattle.mv_image.specs.Spelling.{Fields}
-use Rattle.mv_image.specs.Faults.{AllFit, Rules, Counts, image_words}
+use Rattle.mv_image.specs.Faults.{Rules, image_words}
 use Rattle.mv_image.proofs.PlaceLaws.{first_true, second_true}
 use Rattle.mv_image.proofs.WhatIsRead.{header_rule}
 use Rattle.mv_image.proofs.RowsStand.{counts_of, image_fits}

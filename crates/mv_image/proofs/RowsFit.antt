@@ -1,17 +1,16 @@
 -- What rows keep by their own fields.
-use Rattle.std.proofs.Common.{◌≡◌, ◌≢◌, ℕ, zero, suc, ◌+◌, ◌-◌, ◌*◌, ◌/◌, ◌%◌, ◌<◌, ◌≤◌, Bool, true, false, cond, ltb, leb, eqb, ◌||◌, ◌&&◌, List, [], ◌∷◌, ◌++◌, length, slice_index, slice_range, get_or, All, refl, sym, ap, subst, ◌∙◌, arith, inl, inr}
-use Rattle.std.proofs.lemmas.Bool.{lt-ltb, le-ltb, ne_eqb, eqb-true, leb-true, ltb-true}
+use Rattle.std.proofs.Common.{◌≡◌, ℕ, ◌+◌, ◌-◌, ◌/◌, ◌<◌, ◌≤◌, true, false, ltb, eqb, ◌||◌, ◌&&◌, List, [], ◌∷◌, length, slice_index, get_or, All, refl, sym, ap, subst, ◌∙◌, arith}
+use Rattle.std.proofs.lemmas.Bool.{lt-ltb, ne_eqb, eqb-true, leb-true, ltb-true}
 use Rattle.mv_num.specs.Kinds.{kind_number, is_value}
-use Rattle.mv_descriptors.specs.Widths.{switch_words, function_words, variant_words, site_words}
 use Rattle.mv_descriptors.specs.declared.rows.SwitchRow.{SwitchRow}
 use Rattle.mv_descriptors.specs.declared.rows.FunctionRow.{FunctionRow}
 use Rattle.mv_descriptors.specs.declared.rows.VariantRow.{VariantRow}
 use Rattle.mv_descriptors.specs.declared.rows.SiteRow.{SiteRow}
-use Rattle.mv_image.specs.Places.{text_words, switch_rows, function_rows, variant_rows, data_at, switch_field, function_field, variant_field, site_field, entry_of, text_word}
-use Rattle.mv_image.specs.Rules.{between, is_text_address, is_data_address, switch_fits, function_fits, variant_fits, site_fits}
+use Rattle.mv_image.specs.Places.{switch_rows, function_rows, variant_rows, data_at, switch_field, function_field, variant_field, site_field, entry_of, text_word}
+use Rattle.mv_image.specs.Rules.{is_text_address, is_data_address, switch_fits, function_fits, variant_fits, site_fits}
 use Rattle.mv_image.specs.Jumps.{nop, jump}
 use Rattle.mv_image.specs.Spelling.{Fields}
-use Rattle.mv_image.specs.Faults.{AllFit, Rules, image_words}
+use Rattle.mv_image.specs.Faults.{Rules, image_words}
 use Rattle.mv_image.specs.WellFormed.{IsInText, IsInData, FitsSwitch, FitsFunction, FitsVariant, FitsSite}
 use Rattle.mv_image.proofs.PlaceLaws.{first_true, second_true}
 use Rattle.mv_image.proofs.WhatIsRead.{data_from}

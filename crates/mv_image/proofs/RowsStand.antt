@@ -1,9 +1,9 @@
 -- Where the rows of an image stand among its words.
-use Rattle.std.proofs.Common.{◌≡◌, ℕ, zero, suc, ◌+◌, ◌-◌, ◌*◌, ◌<◌, ◌≤◌, Bool, true, false, List, [], ◌∷◌, ◌++◌, length, take, drop, map, slice_index, slice_index_or, get_or, slice_range, refl, sym, ap, subst, ◌∙◌, arith, inl, inr, All, append_assoc}
+use Rattle.std.proofs.Common.{◌≡◌, ℕ, zero, suc, ◌+◌, ◌-◌, ◌*◌, ◌<◌, List, [], ◌∷◌, ◌++◌, length, take, drop, slice_index, get_or, slice_range, refl, sym, ap, subst, ◌∙◌, arith, All, append_assoc}
 use Rattle.std.specs.List.{flat_map}
 use Rattle.std.proofs.lemmas.List.{take_at, drop_at, length-append}
 use Rattle.std.proofs.lemmas.List.Concat.{flat_map-cons}
-use Rattle.mv_num.specs.Bytes.{words_of, AreWords}
+use Rattle.mv_num.specs.Bytes.{words_of}
 use Rattle.mv_descriptors.specs.Widths.{switch_words, function_words, variant_words, guard_words, site_words, SwitchWhole, FunctionWhole, VariantWhole, GuardWhole, SiteWhole}
 use Rattle.mv_descriptors.specs.WidthLaws.{switch_width, function_width, variant_width, guard_width, site_width}
 use Rattle.mv_descriptors.specs.declared.rows.SwitchRow.{SwitchRow}
@@ -11,11 +11,10 @@ use Rattle.mv_descriptors.specs.declared.rows.FunctionRow.{FunctionRow}
 use Rattle.mv_descriptors.specs.declared.rows.VariantRow.{VariantRow}
 use Rattle.mv_descriptors.specs.declared.rows.GuardRow.{GuardRow}
 use Rattle.mv_descriptors.specs.declared.rows.SiteRow.{SiteRow}
-use Rattle.mv_image.specs.Places.{text_words, data_words, switch_rows, function_rows, variant_rows, guard_rows, site_rows, data_at, switches_at, functions_at, variants_at, guards_at, sites_at, words_end, switch_field, function_field, variant_field, guard_field, site_field, variants_of, guards_of}
-use Rattle.mv_image.specs.Rules.{word_fits}
-use Rattle.mv_image.specs.Spelling.{Fields, joined, header_of, words_in, names_in, spelling}
+use Rattle.mv_image.specs.Places.{data_at, switches_at, functions_at, variants_at, guards_at, sites_at, switch_field, function_field, variant_field, guard_field, site_field, variants_of, guards_of}
+use Rattle.mv_image.specs.Spelling.{Fields, header_of, words_in, names_in, spelling}
 use Rattle.mv_image.specs.Faults.{AllFit, Rules, Counts, image_words}
-use Rattle.mv_image.proofs.RowRules.{functions_from, variants_from, guards_from, sites_from, end_from}
+use Rattle.mv_image.proofs.RowRules.{functions_from, variants_from, guards_from, sites_from}
 use Rattle.mv_image.proofs.WhatIsRead.{data_from, switches_after, all_fit}
 use Rattle.mv_image.proofs.OneVerdict.{words_in_front, flat_length, all_tail, all_head, whole_switches, whole_functions, whole_variants}
 

@@ -1,16 +1,16 @@
 -- The counts of rows add up, and what guard rows keep.
-use Rattle.std.proofs.Common.{◌≡◌, ℕ, zero, suc, ◌+◌, ◌-◌, ◌*◌, ◌<◌, ◌≤◌, Bool, true, false, cond, ltb, leb, eqb, ◌||◌, ◌&&◌, List, [], ◌∷◌, ◌++◌, length, take, slice_index, get_or, refl, sym, ap, subst, ◌∙◌, arith, inl, inr, Option, Some, None}
+use Rattle.std.proofs.Common.{◌≡◌, ℕ, zero, suc, ◌+◌, ◌-◌, ◌<◌, ◌≤◌, true, false, ltb, eqb, ◌||◌, ◌&&◌, List, [], ◌∷◌, length, take, slice_index, get_or, refl, sym, ap, ◌∙◌, arith, inl, inr, Some}
 use Rattle.std.specs.Prelude.{sum_by, slice_get}
 use Rattle.std.proofs.Math.Seq.{take-length}
 use Rattle.std.proofs.lemmas.Bool.{lt-ltb, le-ltb, cases_lt, eqb-true}
 use Rattle.std.proofs.lemmas.List.Sums.{sum_by_more}
-use Rattle.mv_num.specs.Kinds.{kind_number, is_value, is_at_most}
+use Rattle.mv_num.specs.Kinds.{is_value, is_at_most}
 use Rattle.mv_num.specs.declared.kind.Kind.TheVariants as kinds
 use Rattle.mv_descriptors.specs.declared.rows.SwitchRow.{SwitchRow}
 use Rattle.mv_descriptors.specs.declared.rows.FunctionRow.{FunctionRow}
 use Rattle.mv_descriptors.specs.declared.rows.VariantRow.{VariantRow}
 use Rattle.mv_descriptors.specs.declared.rows.GuardRow.{GuardRow}
-use Rattle.mv_image.specs.Places.{switch_rows, function_rows, variant_rows, guard_rows, switch_field, function_field, guard_field, variants_of, guards_of, sum_below, owner, guard_function}
+use Rattle.mv_image.specs.Places.{function_rows, variant_rows, guard_rows, switch_field, function_field, guard_field, variants_of, guards_of, sum_below, owner, guard_function}
 use Rattle.mv_image.specs.Rules.{header_fits, function_fits, variant_fits, guard_fits, kind_at}
 use Rattle.mv_image.specs.Spelling.{Fields}
 use Rattle.mv_image.specs.Faults.{AllFit, Rules, image_words}

@@ -1,5 +1,5 @@
 -- What an image is, and its one spelling.
-use Rattle.std.specs.Prelude.{ℕ, ◌≡◌, ◌+◌, ◌-◌, ◌*◌, ◌/◌, ◌<◌, ◌^◌, List, [], ◌∷◌, ◌++◌, length, map, sum, sum_by, replicate}
+use Rattle.std.specs.Prelude.{ℕ, ◌+◌, ◌-◌, ◌*◌, ◌/◌, List, [], ◌∷◌, ◌++◌, length, replicate}
 use Rattle.std.specs.List.{flat_map}
 use Rattle.mv_num.specs.Bytes.{bytes_of}
 use Rattle.mv_descriptors.specs.Widths.{switch_words, function_words, variant_words, guard_words, site_words}

@@ -1,5 +1,5 @@
 -- What the rows of an image keep, each by its own fields.
-use Rattle.std.specs.Prelude.{ℕ, ◌≡◌, ◌+◌, ◌-◌, ◌*◌, ◌/◌, ◌%◌, ◌<◌, ◌≤◌, true, List, length, slice_index, slice_index_or}
+use Rattle.std.specs.Prelude.{ℕ, ◌≡◌, ◌+◌, ◌-◌, ◌*◌, ◌/◌, ◌%◌, ◌<◌, ◌≤◌, true, length, slice_index, slice_index_or}
 use Rattle.mv_num.specs.Kinds.{kind_number, is_value, is_at_most}
 use Rattle.mv_descriptors.specs.declared.rows.SwitchRow.{SwitchRow}
 use Rattle.mv_descriptors.specs.declared.rows.FunctionRow.{FunctionRow}

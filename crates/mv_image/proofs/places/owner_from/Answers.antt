@@ -1,5 +1,4 @@
-use Rattle.std.proofs.Common.{◌≡◌, ◌+◌, ◌<◌, ◌≤◌, ◌∙◌, sym, arith}
-use Rattle.mv_image.specs.Places.{sum_below, owner}
+use Rattle.std.proofs.Common.{sym, arith}
 use Rattle.mv_image.specs.Counts.{count_of}
 use Rattle.mv_image.proofs.PlaceLaws.{sum_below-more, owner-is}
 use Rattle.mv_image.proofs.places.owner_from.Goals as goal

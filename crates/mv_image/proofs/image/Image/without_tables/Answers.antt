@@ -1,11 +1,5 @@
-use Rattle.std.proofs.Common.{◌≡◌, ◌∙◌, List, ℕ, ap, sym, subst}
-use Rattle.mv_descriptors.specs.declared.rows.SwitchRow.{SwitchRow}
-use Rattle.mv_descriptors.specs.declared.rows.FunctionRow.{FunctionRow}
-use Rattle.mv_descriptors.specs.declared.rows.VariantRow.{VariantRow}
-use Rattle.mv_descriptors.specs.declared.rows.GuardRow.{GuardRow}
-use Rattle.mv_descriptors.specs.declared.rows.SiteRow.{SiteRow}
+use Rattle.std.proofs.Common.{◌∙◌, sym, subst}
 use Rattle.mv_num.specs.Bytes.{AreWords}
-use Rattle.mv_image.specs.Spelling.{Fields, bare}
 use Rattle.mv_image.specs.Faults.{Rules}
 use Rattle.mv_image.proofs.Bare.{IsBare, bare_rules, bare_is}
 use Rattle.mv_image.proofs.image.Image.without_tables.Goals as goal
