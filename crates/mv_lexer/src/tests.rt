@@ -470,23 +470,13 @@ fn a_long_source_is_refused_with_its_length(rt: HostRuntime) -> Result<(), Fail>
     Ok(())
 }
 
-/// A token's line, column, start and stop, the number of its form, and its own number.
-fn summary(token: &Token) -> [u32; 6] {
-    let (form, number) = match &token.what {
-        Piece::Keyword(number) => (1, *number as u32),
-        Piece::Name => (2, 0),
-        Piece::Number(value, Kind::Int) => (3, *value),
-        Piece::Number(value, _) => (4, *value),
-        Piece::Chars(values) => (5, values.len() as u32),
-        Piece::Mark(number) => (6, *number as u32),
-    };
+/// A token's line, column, start and stop.
+fn span_of(token: &Token) -> [u32; 4] {
     [
         token.place.line,
         token.place.column,
         token.start,
         token.stop,
-        form,
-        number,
     ]
 }
 
@@ -494,28 +484,28 @@ const TEXT: &str =
     "int a0 = 0x1Fu;\n\ta0 >>= 017 + '\\x41' + 2147483648u;\n/* two\n lines */ \"a\\n\\101\" // end\n\x0b__attribute__((x))\x0cwhile";
 
 /// The places are those of `clang -fsyntax-only -Xclang -dump-tokens`.
-const TOKENS: [[u32; 6]; 21] = [
-    [1, 1, 0, 3, 1, 12],
-    [1, 5, 4, 6, 2, 0],
-    [1, 8, 7, 8, 6, 22],
-    [1, 10, 9, 14, 4, 31],
-    [1, 15, 14, 15, 6, 6],
-    [2, 2, 17, 19, 2, 0],
-    [2, 5, 20, 23, 6, 42],
-    [2, 9, 24, 27, 3, 15],
-    [2, 13, 28, 29, 6, 12],
-    [2, 15, 30, 36, 3, 65],
-    [2, 22, 37, 38, 6, 12],
-    [2, 24, 39, 50, 4, 2147483648],
-    [2, 35, 50, 51, 6, 6],
-    [4, 11, 69, 78, 5, 3],
-    [5, 2, 87, 100, 1, 21],
-    [5, 15, 100, 101, 6, 0],
-    [5, 16, 101, 102, 6, 0],
-    [5, 17, 102, 103, 2, 0],
-    [5, 18, 103, 104, 6, 1],
-    [5, 19, 104, 105, 6, 1],
-    [5, 21, 106, 111, 1, 20],
+const TOKENS: [([u32; 4], Outcome); 21] = [
+    ([1, 1, 0, 3], Outcome::Keyword(12)),
+    ([1, 5, 4, 6], Outcome::Name),
+    ([1, 8, 7, 8], Outcome::Mark(22)),
+    ([1, 10, 9, 14], Outcome::UInt(31)),
+    ([1, 15, 14, 15], Outcome::Mark(6)),
+    ([2, 2, 17, 19], Outcome::Name),
+    ([2, 5, 20, 23], Outcome::Mark(42)),
+    ([2, 9, 24, 27], Outcome::Int(15)),
+    ([2, 13, 28, 29], Outcome::Mark(12)),
+    ([2, 15, 30, 36], Outcome::Int(65)),
+    ([2, 22, 37, 38], Outcome::Mark(12)),
+    ([2, 24, 39, 50], Outcome::UInt(2147483648)),
+    ([2, 35, 50, 51], Outcome::Mark(6)),
+    ([4, 11, 69, 78], Outcome::String),
+    ([5, 2, 87, 100], Outcome::Keyword(21)),
+    ([5, 15, 100, 101], Outcome::Mark(0)),
+    ([5, 16, 101, 102], Outcome::Mark(0)),
+    ([5, 17, 102, 103], Outcome::Name),
+    ([5, 18, 103, 104], Outcome::Mark(1)),
+    ([5, 19, 104, 105], Outcome::Mark(1)),
+    ([5, 21, 106, 111], Outcome::Keyword(20)),
 ];
 
 #[test]
@@ -523,7 +513,7 @@ fn tokens_have_places_and_slices(rt: HostRuntime) -> Result<(), Fail> {
     let read = lex(rt.alloc(), TEXT.as_bytes())?;
     assert_eq!(rt; read.items.len(), TOKENS.len());
     for (token, want) in read.items.as_slice().iter().zip(TOKENS.iter()) {
-        assert_eq!(rt; summary(token), *want);
+        assert_eq!(rt; (span_of(token), outcome_of_one(token)), *want);
     }
     assert_eq!(rt;
         read.end,
