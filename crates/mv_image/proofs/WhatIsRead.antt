@@ -24,7 +24,7 @@ use Rattle.mv_image.proofs.Judged.{end_of, fits-word, fits-name, end_is}
 use Rattle.mv_image.proofs.RowRules.{switches_from, functions_from, variants_from, guards_from, sites_from, end_from, header_word}
 use Rattle.mv_image.proofs.RowReads.{index_range, switch_rule, function_rule}
 use Rattle.mv_image.proofs.Parts.{range_join, front_join, range_none, range_length}
-use Rattle.mv_image.proofs.PlaceLaws.{sum_below-none, first_of-none, first_of-more}
+use Rattle.mv_image.proofs.PlaceLaws.{sum_below-none, first_of-none, first_of-more, second_true}
 
 -- ---- bytes and words
 
@@ -90,7 +90,7 @@ pub switches_after : (ws : List ℕ) → switches_at ws ≡ data_at ws + data_wo
 unfolding switches_at
 switches_after ws = refl
 
-header_rule : (ws : List ℕ) (i : ℕ) → AllFit ws → i < 12 → header_fits ws i ≡ true
+pub header_rule : (ws : List ℕ) (i : ℕ) → AllFit ws → i < 12 → header_fits ws i ≡ true
 header_rule ws i fit lt =
     sym (header_word ws i lt) ∙ fit i (omega (arith, switches_from ws, functions_from ws, variants_from ws, guards_from ws, sites_from ws, end_from ws))
 
@@ -108,11 +108,7 @@ last_is ws h = eqb-true _ _ h
 
 -- ---- sums of the lengths of names
 
-second_true : (a b : Bool) → (a && b) ≡ true → b ≡ true
-second_true true b e = e
-second_true false b e = absurd cc
-
-not_last : (a b : ℕ) (x : Bool) → a ≡ b → (not (eqb a b) || x) ≡ true → x ≡ true
+pub not_last : (a b : ℕ) (x : Bool) → a ≡ b → (not (eqb a b) || x) ≡ true → x ≡ true
 not_last a b x e h = let t : eqb a b ≡ true = eq-eqb a b e in rw t at h
 
 function_sum : (ws : List ℕ) (k : ℕ) → function_fits ws k 0 ≡ true → switch_rows ws + k + 1 ≡ names ws → sum_below (name_length ws) (names ws) ≡ name_bytes ws

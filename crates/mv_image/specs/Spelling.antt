@@ -20,6 +20,20 @@ pub record Fields : Type 0 where
   pub sites : List SiteRow
   pub names : List (List ℕ)
 
+-- a program without tables
+abbrev pub bare : ℕ → List ℕ → List ℕ → Fields
+bare entry text globals = record {
+  entry = entry;
+  text = text;
+  globals = globals;
+  switches = [];
+  functions = [];
+  variants = [];
+  guards = [];
+  sites = [];
+  names = [];
+}
+
 abbrev pub joined : List (List ℕ) → List ℕ
 joined names = flat_map (λ name. name) names
 
