@@ -1,8 +1,8 @@
 ghost use Rattle.std.specs.Prelude.{◌≡◌, ◌-◌, ◌≤◌, [], Some, IfOk, vec_len, vec_capacity};
 ghost use Rattle.mv_probe.specs.Hearing.{hearing};
 
-use mv_ast::world::Event;
 use crate::probe::{Probe, Verdict};
+use mv_ast::world::Event;
 use std::alloc::{AllocError, Global};
 
 /// Keeps the events in memory that it takes at the start, and leaves once this is full.

@@ -2,8 +2,8 @@ ghost use Rattle.std.specs.Prelude.{◌≡◌, [], ◌∷◌, All};
 ghost use Rattle.mv_probe.specs.Hearing.{hearing, Hears, Answers, IsPatient, object_at, Becomes};
 ghost use Rattle.mv_probe.specs.Fates.{Fates};
 
-use mv_ast::world::Event;
 use crate::probe::{Probe, Verdict};
+use mv_ast::world::Event;
 
 // Tells one probe an event.
 fn tell_one(probe: &mut Box<dyn Probe>, event: &Event) -> Verdict

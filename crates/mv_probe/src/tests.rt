@@ -1,9 +1,9 @@
 ghost use Rattle.std.specs.Prelude.{None};
 
-use mv_ast::world::{Binding, Event};
 use crate::probe::{Probe, Verdict};
 use crate::recorder::Recorder;
 use crate::telling::tell_each;
+use mv_ast::world::{Binding, Event};
 use std::test::Fail;
 
 // Tells nothing of itself, and leaves after so many events.
