@@ -1,18 +1,18 @@
 -- From a walk over what is seen to a call of `run`.
-use Rattle.std.proofs.Common.{ℕ, ◌≡◌, ◌<◌, ◌≤◌, ◌+◌, ◌-◌, ◌%◌, mod-eq_of_lt, ◌⊎◌, inl, inr, List, [], ◌∷◌, ◌++◌, length, slice_index, slice_get, Option, Some, None, option_map, unwrap_or, IfSome, refl, sym, ap, ap₂, ◌∙◌, subst, arith}
+use Rattle.std.proofs.Common.{ℕ, ◌≡◌, ◌<◌, ◌≤◌, ◌+◌, ◌-◌, ◌%◌, mod-eq_of_lt, ◌⊎◌, inl, inr, List, [], ◌∷◌, ◌++◌, length, slice_index, slice_get, Option, Some, None, option_map, unwrap_or, IfSome, IsSomeAnd, refl, sym, ap, ap₂, ◌∙◌, subst, arith}
 use Rattle.std.proofs.lemmas.List.{length-append, get_or_at, nil_from_length}
 use Rattle.mv_ast.specs.declared.world.Binding.{Binding}
 use Rattle.mv_isa.specs.Execution.{Calls, Faults, reg, step}
 use Rattle.mv_isa.specs.declared.instr.Cause.{Cause}
 use Rattle.mv_isa.specs.declared.instr.Cause.TheVariants as cause
-use Rattle.mv_fetch.specs.Held.{Room, choices}
-use Rattle.mv_rv32.specs.Stepping.{access, picked_step}
+use Rattle.mv_fetch.specs.Held.{Room, IsInText, choices}
+use Rattle.mv_rv32.specs.Stepping.{access, picked_step, picked_target}
 use Rattle.mv_probe.specs.Ways.{Way, Follows, way_after}
 use Rattle.mv_machine.specs.declared.machine.Stopped.{Stopped}
 use Rattle.mv_machine.specs.declared.machine.Stopped.TheVariants as answer
 use Rattle.mv_machine.specs.Runs.{Stop, Going, Exit, Trap, Fault, State, Request, Reads, Writes, request_of, choices_at, fetched_step, turn, runs_from, executed}
-use Rattle.mv_machine.specs.Snapshots.{Snapshot, resumed, Tells, Under, Asks, Reached, Whole, Broken, Answered, Ran, Unless, last_of}
-use Rattle.mv_machine.specs.Moves.{Seen, shown, Meets, Moves, Outcomes, Called, Turns, Goes, Walked, FaultAt}
+use Rattle.mv_machine.specs.Snapshots.{Snapshot, resumed, Tells, Under, Asks, Reached, Whole, Broken, Answered, WantsMemory, Ran, Unless, last_of}
+use Rattle.mv_machine.specs.Moves.{Seen, shown, Meets, Moves, Outcomes, Called, Wanting, Turns, Goes, Walked, FaultAt}
 use Rattle.mv_machine.proofs.Turns.{turn_by, runs_more, runs_over, executed_over, runs_append, executed_append, IsOver}
 use Rattle.mv_machine.proofs.Moved.{SoFar, fetched, way_more, under_more, meets_more, count_is}
 
@@ -50,6 +50,14 @@ fetches e z pick regs pc room lt =
 
 asks : (e : State) (z : Seen) (pick : ℕ) (request : Request) → e.regs ≡ z.regs → e.pc ≡ z.pc → e.room ≡ z.room → pick < length (choices z.room.held z.pc) → Called z pick request → Asks e pick request
 asks e z pick request regs pc room lt c = (fetches e z pick regs pc room lt ∙ c.0, ap (λ (g : List ℕ). request_of (reg g 17)) regs ∙ c.1)
+
+wants : (e : State) (z : Seen) (pick : ℕ) → e.regs ≡ z.regs → e.pc ≡ z.pc → e.room ≡ z.room → pick < length (choices z.room.held z.pc) → Wanting z pick → WantsMemory e pick
+wants e z pick regs pc room lt w =
+    let target : picked_target e.room (pick % choices_at e) e.regs e.pc ≡ picked_target z.room pick z.regs z.pc =
+      ap₂ (λ (c : ℕ) (r : Room). picked_target r (pick % c) e.regs e.pc) (choices_same e z pc room) room
+      ∙ ap₂ (λ (g : List ℕ) (a : ℕ). picked_target z.room (pick % length (choices z.room.held z.pc)) g a) regs pc
+      ∙ ap (λ (p : ℕ). picked_target z.room p z.regs z.pc) (mod-eq_of_lt lt) in
+    (subst (λ (a : Option ℕ). IsSomeAnd a IsInText) (sym target) w.0, ap (λ (r : Room). r.spare) room ∙ w.1)
 
 -- no word is fetched where there is no choice
 unfetched : (room : Room) (pick : ℕ) (regs : List ℕ) (pc : ℕ) → length (choices room.held pc) ≡ 0 → picked_step room pick regs pc ≡ Faults cause.Fetch
@@ -154,8 +162,8 @@ module _ (was is : Snapshot) (x y : Seen) (a : IsSeen was x) (b : IsSeen is y) (
     pub output_fault_at : y ≡ mid → Called mid pick Writes → B → Ran steps answer.OutputFault was is x.left y.left x.written y.written way way' A B
     output_fault_at still c rose = broken answer.OutputFault (λ e p. Asks e p Writes × B) still (λ e regs pc room. (asks e mid pick Writes regs pc room below c, rose)) (λ later s w. w)
 
-    pub memory_at : y ≡ mid → mid.room.spare ≡ 0 → Ran steps answer.Memory was is x.left y.left x.written y.written way way' A B
-    memory_at still none = broken answer.Memory (λ e p. e.room.spare ≡ 0) still (λ e regs pc room. ap (λ (r : Room). r.spare) room ∙ none) (λ later s w. w)
+    pub memory_at : y ≡ mid → Wanting mid pick → Ran steps answer.Memory was is x.left y.left x.written y.written way way' A B
+    memory_at still w = broken answer.Memory WantsMemory still (λ e regs pc room. wants e mid pick regs pc room below w) (λ later s h. h)
 
   -- there was no word to fetch
   module _ (n : ℕ) (mid : Seen) (v : Option Way) (lt : n < steps) (g : Goes n x mid way v) (none : length (choices mid.room.held mid.pc) ≡ 0) (still : y ≡ mid) (stays : way' ≡ v) where

@@ -1,11 +1,11 @@
 -- What the code holds of a state, and that what it does to it is what a definition does to the state.
-use Rattle.std.specs.Prelude.{ℕ, ◌≡◌, ◌≤◌, ◌+◌, ◌%◌, ◌^◌, ◌<◌, ◌⊎◌, ◌∷◌, List, [], ◌++◌, length, Option, Some, None, option_map, Ok, Result}
+use Rattle.std.specs.Prelude.{ℕ, ◌≡◌, ◌≤◌, ◌+◌, ◌%◌, ◌^◌, ◌<◌, ◌⊎◌, ◌∷◌, List, [], ◌++◌, length, Option, Some, None, option_map, IsSomeAnd, Ok, Result}
 use Rattle.mv_num.specs.Words.{add}
 use Rattle.mv_ast.specs.declared.world.Binding.{Binding}
 use Rattle.mv_isa.specs.declared.instr.Cause.TheVariants as cause
 use Rattle.mv_isa.specs.Execution.{put, reg, Calls}
-use Rattle.mv_fetch.specs.Held.{Room, choices}
-use Rattle.mv_rv32.specs.Stepping.{picked_step}
+use Rattle.mv_fetch.specs.Held.{Room, IsInText, choices}
+use Rattle.mv_rv32.specs.Stepping.{picked_step, picked_target}
 use Rattle.mv_rv32.specs.declared.hart.Hart.{Hart}
 use Rattle.mv_io.specs.Outside.{Takes}
 use Rattle.mv_io.specs.declared.outside.Failed.{Failed}
@@ -76,13 +76,17 @@ IsStop answer.Memory stop = ⊥
 abbrev pub Called : Seen → (pick : ℕ) → Request → Type 0
 Called x pick request = (picked_step x.room pick x.regs x.pc ≡ Calls) × (request_of (reg x.regs 17) ≡ request)
 
+-- the instruction stores into text, and nothing is spare
+abbrev pub Wanting : Seen → (pick : ℕ) → Type 0
+Wanting x pick = IsSomeAnd (picked_target x.room pick x.regs x.pc) IsInText × (x.room.spare ≡ 0)
+
 -- one instruction: no fetch there, or the one that the oracle picks
 abbrev pub Turns : Option Stopped → Seen → Seen → Option Way → Option Way → (input_rose output_rose : Type 0) → Type 0
 Turns result x y way way' input_rose output_rose =
     let count = length (choices x.room.held x.pc) in
     ((count ≡ 0) × (result ≡ Some (answer.Fault x.pc cause.Fetch)) × (y ≡ x) × (way' ≡ way))
     ⊎ ((pick : ℕ) × (pick < count) × Follows way way' count pick
-      × Outcomes result (Moves (λ s. turn s pick) x y) ((y ≡ x) × Called x pick Reads × input_rose) ((y ≡ x) × Called x pick Writes × output_rose) ((y ≡ x) × (x.room.spare ≡ 0)))
+      × Outcomes result (Moves (λ s. turn s pick) x y) ((y ≡ x) × Called x pick Reads × input_rose) ((y ≡ x) × Called x pick Writes × output_rose) ((y ≡ x) × Wanting x pick))
 
 -- so many instructions, none of which ended the run
 abbrev pub Goes : (n : ℕ) → Seen → Seen → Option Way → Option Way → Type 0

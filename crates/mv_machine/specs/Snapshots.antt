@@ -1,13 +1,14 @@
 -- What contracts see of a machine between two calls of `run`, and what such a call has done.
-use Rattle.std.specs.Prelude.{ℕ, ◌≡◌, ◌≤◌, ◌+◌, ◌<◌, List, [], ◌++◌, length, replicate, slice_index, Option, Some, None, option_map, IfSome}
+use Rattle.std.specs.Prelude.{ℕ, ◌≡◌, ◌≤◌, ◌+◌, ◌<◌, List, [], ◌++◌, length, slice_index, Option, Some, None, option_map, IfSome, IsSomeAnd, ◌%◌}
 use Rattle.mv_ast.specs.declared.world.Binding.{Binding}
 use Rattle.mv_isa.specs.Execution.{Calls, reg}
-use Rattle.mv_fetch.specs.Held.{Room, first as first_memory}
+use Rattle.mv_fetch.specs.Held.{Room, IsInText}
+use Rattle.mv_rv32.specs.Stepping.{picked_target}
 use Rattle.mv_image.specs.Spelling.{Fields}
 use Rattle.mv_probe.specs.Ways.{Way, pick_of, way_after}
 use Rattle.mv_machine.specs.declared.machine.Stopped.{Stopped}
 use Rattle.mv_machine.specs.declared.machine.Stopped.TheVariants as answer
-use Rattle.mv_machine.specs.Runs.{State, Stop, Going, Exit, Trap, Fault, Request, Reads, Writes, request_of, bytes_to_come, choices_at, fetched_step, runs_from, executed, first}
+use Rattle.mv_machine.specs.Runs.{State, Stop, Going, Exit, Trap, Fault, Request, Reads, Writes, request_of, bytes_to_come, choices_at, fetched_step, runs_from, executed}
 
 -- registers, pc, memory, bindings, and the answer of the run where it has ended
 pub record Snapshot : Type 0 where
@@ -37,6 +38,10 @@ Under way s picks =
 -- the environment call that a pick fetches
 abbrev pub Asks : State → (pick : ℕ) → Request → Type 0
 Asks s pick request = (fetched_step s pick ≡ Calls) × (request_of (reg s.regs 17) ≡ request)
+
+-- the instruction that a pick fetches stores into text, and as many words as were reserved have been stored there since the last FENCE.I
+abbrev pub WantsMemory : State → (pick : ℕ) → Type 0
+WantsMemory s pick = IsSomeAnd (picked_target s.room (pick % choices_at s) s.regs s.pc) IsInText × (s.room.spare ≡ 0)
 
 -- the state that a call of `run` reached, and what is left in the machine, the source and the sink
 pub record Reached (s : State) (stop : Stop) (is : Snapshot) (later : List (Option ℕ)) (written written' : Option (List ℕ)) : Type 0 where
@@ -70,7 +75,7 @@ Answered (answer.Fault pc why) steps s picks at input_rose output_rose =
     at (runs_from s picks steps) (Fault why) × ((runs_from s picks steps).pc ≡ pc)
 Answered answer.InputFault steps s picks at input_rose output_rose = Broken s picks steps at (λ e pick. Asks e pick Reads × input_rose)
 Answered answer.OutputFault steps s picks at input_rose output_rose = Broken s picks steps at (λ e pick. Asks e pick Writes × output_rose)
-Answered answer.Memory steps s picks at input_rose output_rose = Broken s picks steps at (λ e pick. e.room.spare ≡ 0)
+Answered answer.Memory steps s picks at input_rose output_rose = Broken s picks steps at WantsMemory
 
 -- What a call of `run` does on a machine that has not ended: there are picks, those of the oracle's way where it tells one, and an input, that of
 -- the source where it tells what is left, with which the run is the defined one. Whatever a source that tells nothing gives later, the input
