@@ -1,11 +1,11 @@
 // The checked program: conversions written out, constants evaluated, names numbered.
 
 use mv_num::boxed::Boxed;
+use mv_num::kind::Kind;
 use mv_num::list::List;
 use mv_num::text::Text;
-use mv_num::kind::Kind;
 
-/// A type of a value: none, an integer, or a pointer to a function of the signature with this number.
+/// A type of a value (C11 6.2.5): none, an integer, or a pointer to a function of the signature with this number.
 #[derive(Clone, Copy, PartialEq, Eq, Debug)]
 pub enum CType {
     Void,
@@ -20,7 +20,8 @@ pub struct Signature {
     pub params: List<CType>,
 }
 
-/// A whole program. `main` is the number of its first function to run.
+/// A whole program: its defined functions and its globals in order of their first declaration, its switches, each signature
+/// once, and the number of the function `main`.
 #[derive(Drop)]
 pub struct Program {
     pub signatures: List<Signature>,
@@ -30,7 +31,8 @@ pub struct Program {
     pub main: u32,
 }
 
-/// A global scalar, or an array where it has a size. `first` holds its given values.
+/// A global scalar, or an array where it has a size. `first` holds the given values alone; every further element starts at 0.
+/// A function pointer's value is 0 for null and else one more than the function's number.
 #[derive(Drop)]
 pub struct Global {
     pub name: Text,
@@ -39,14 +41,14 @@ pub struct Global {
     pub first: List<u32>,
 }
 
-/// A marked global, with its domain.
+/// A marked global, with its domain in the written order.
 #[derive(Drop)]
 pub struct Switch {
     pub global: u32,
     pub values: List<u32>,
 }
 
-/// A defined function. Its parameters are its first locals.
+/// A defined function. Its parameters are its first locals. An attributed one has the numbers of its switches in order of declaration.
 #[derive(Drop)]
 pub struct Function {
     pub name: Text,
@@ -65,7 +67,7 @@ pub struct Local {
     pub size: Option<u32>,
 }
 
-/// A place that a value can be read from or stored in.
+/// An lvalue (C11 6.3.2.1): a scalar, or an element of an array with its index.
 #[cycle(expr)]
 #[derive(Drop)]
 pub enum Target {
@@ -75,7 +77,8 @@ pub enum Target {
     LocalAt(u32, Boxed<Expr>),
 }
 
-/// A function that is known without declaration. A plan has its order's code and its index.
+/// A function that is known without declaration. A plan is a commit or a revert: the codes 0 and 1 commit and revert all functions,
+/// 2 and 3 the attributed function with this index among the attributed ones, 4 and 5 those that have the switch with this index.
 #[derive(Clone, Copy, PartialEq, Eq, Debug)]
 pub enum Known {
     Getchar,
@@ -84,7 +87,7 @@ pub enum Known {
     Plan(u8, u32),
 }
 
-/// An expression with its type.
+/// An expression with its type, all conversions written out (C11 6.5).
 #[cycle(expr)]
 #[derive(Drop)]
 pub struct Expr {
@@ -92,7 +95,9 @@ pub struct Expr {
     pub what: Form,
 }
 
-/// What an expression is.
+/// What an expression is. An operator is the number of its mark, for `+=` and `++` that of `+`.
+/// `Change` is a compound assignment, with the type in which it computes, or a `++` or `--` in front; `After` is one behind,
+/// `++` where the flag says so. A call through a pointer evaluates its arguments before its callee.
 #[cycle(expr)]
 #[derive(Drop)]
 pub enum Form {
@@ -113,7 +118,7 @@ pub enum Form {
     Known(Known, List<Expr>),
 }
 
-/// A statement. `Clear` declares a local and gives it its first values.
+/// A statement (C11 6.8). `Clear` declares a local: its words become 0, and then it gets its given values in order.
 #[cycle(stmt)]
 #[derive(Drop)]
 pub enum Stmt {

@@ -1,11 +1,28 @@
 // What the meaning of a program and the machine that runs it share.
 
-/// What an attributed function is bound to: a value for each of its switches, or nothing.
+ghost use Rattle.std.specs.Prelude.{◌≡◌};
+ghost use Rattle.mv_ast.specs.Plans.{free};
+
+/// What an attributed function is bound to: a value for each of its switches in their order, or nothing.
+/// `count` is the number of its switches, and the values behind them are 0. A free one has `count` 0 and zeros alone.
 #[derive(Clone, Copy, PartialEq, Eq, Debug)]
 pub struct Binding {
     pub bound: bool,
     pub count: u32,
     pub values: [u32; 6],
+}
+
+impl Binding {
+    /// The binding of a function that is bound to nothing, as all are at the start.
+    pub fn free() -> Binding
+        ensures { result ≡ free }
+    {
+        Binding {
+            bound: false,
+            count: 0,
+            values: [0; 6],
+        }
+    }
 }
 
 /// A changed binding, of the attributed function with this number among the attributed ones.
@@ -15,7 +32,7 @@ pub struct Event {
     pub binding: Binding,
 }
 
-/// What the operator does at a poll.
+/// What the operator does at a poll: nothing, or a store of a value in a switch, by its number, with a commit of all functions.
 #[derive(Clone, Copy, PartialEq, Eq, Debug)]
 pub enum Action {
     Skip,
@@ -23,6 +40,7 @@ pub enum Action {
 }
 
 /// Why an evaluation stops before its end: a trap with its code, or a bound that is used up.
+/// Trap 1 is a division by zero, 2 an index outside the array, 3 a call of a null pointer, 4 a call at depth 512.
 #[derive(Clone, Copy, PartialEq, Eq, Debug)]
 pub enum Stop {
     Trapped(u8),

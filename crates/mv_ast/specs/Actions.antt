@@ -1,0 +1,29 @@
+-- Which actions of the operator fit a program.
+use Rattle.std.specs.Prelude.{ℕ, Bool, true, false, Option, Some, None, slice_get}
+use Rattle.mv_num.specs.Kinds.{kind_number, is_value}
+use Rattle.mv_ast.specs.declared.program.CType.{CType}
+use Rattle.mv_ast.specs.declared.program.CType.TheVariants.{Void, Scalar, Pointer}
+use Rattle.mv_ast.specs.declared.program.Program.{Program}
+use Rattle.mv_ast.specs.declared.program.Global.{Global}
+use Rattle.mv_ast.specs.declared.program.Switch.{Switch}
+use Rattle.mv_ast.specs.declared.world.Action.{Action}
+use Rattle.mv_ast.specs.declared.world.Action.TheVariants.{Skip, Flip}
+
+-- whether a word is a value of an integer type
+abbrev pub is_value_of : CType → ℕ → Bool
+is_value_of Void v = false
+is_value_of (Scalar kind) v = is_value (kind_number kind) v
+is_value_of (Pointer signature) v = false
+
+abbrev pub is_global_value : Option Global → ℕ → Bool
+is_global_value None v = false
+is_global_value (Some g) v = is_value_of g.ctype v
+
+abbrev pub is_switch_value : Program → Option Switch → ℕ → Bool
+is_switch_value p None v = false
+is_switch_value p (Some s) v = is_global_value (slice_get p.globals s.global) v
+
+-- An action fits where its switch is one of the program's and its value is one of that switch's type.
+abbrev pub fits : Program → Action → Bool
+fits p Skip = true
+fits p (Flip s v) = is_switch_value p (slice_get p.switches s) v
