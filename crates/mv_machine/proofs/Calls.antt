@@ -57,14 +57,14 @@ module _ (hart : Hart) (room : Room) (left written : Option (List ℕ)) where
   reads hart' left' e g =
       let y : Seen = seen hart' room left' written in
       called y Going Reads e (moves_reading (environment_call Reads) x y g.0 g.1 refl (λ b i o n.
-        ap₂ (λ r p. shown (record { regs = r; pc = p; room = room; left = left'; written = written }) b Going (later_reads i) o) (ap (λ a. put hart.regs 10 (word_read a)) n ∙ sym g.2) (sym g.3)))
+      ap₂ (λ r p. shown (record { regs = r; pc = p; room = room; left = left'; written = written }) b Going (later_reads i) o) (ap (λ a. put hart.regs 10 (word_read a)) n ∙ sym g.2) (sym g.3)))
 
   pub writes : (hart' : Hart) (written' : Option (List ℕ)) → request_of number ≡ Writes → Puts hart hart' written written' → Moves (environment_call (request_of number)) x (seen hart' room left written') Going
   unfolding answered
   writes hart' written' e g =
       let y : Seen = seen hart' room left written' in
       called y Going Writes e (moves_writing (environment_call Writes) x y (reg hart.regs 10 % 2 ^ 8) refl g.0 (λ b i o.
-        ap₂ (λ r p. shown (record { regs = r; pc = p; room = room; left = left; written = written' }) b Going i (o ++ reg hart.regs 10 % 2 ^ 8 ∷ [])) (sym g.1) (sym g.2)))
+      ap₂ (λ r p. shown (record { regs = r; pc = p; room = room; left = left; written = written' }) b Going i (o ++ reg hart.regs 10 % 2 ^ 8 ∷ [])) (sym g.1) (sym g.2)))
 
   pub same : (hart' : Hart) (left' written' : Option (List ℕ)) → hart' ≡ hart → left' ≡ left → written' ≡ written → seen hart' room left' written' ≡ x
   same hart' left' written' h l w = ap (λ (g : Hart). seen g room left' written') h ∙ ap₂ (λ a b. seen hart room a b) l w

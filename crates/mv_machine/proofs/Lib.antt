@@ -4,3 +4,4 @@ pub mod Calls
 pub mod Walks
 pub mod Resumed
 pub mod Starts
+pub mod Plain

@@ -101,16 +101,25 @@ SoFar way picks n s = Under way s picks × (executed s picks n ≡ n)
 pub meets_more : (x y z : Seen) (stop : Stop) (way v way' : Option Way) (picks : List ℕ) (pick n : ℕ) → length picks ≡ n → v ≡ option_map (λ w. way_after w n) way → Follows v way' (length (choices y.room.held y.pc)) pick → Meets (SoFar way picks n) (λ s. runs_from s picks n) x y Going → Moves (λ s. turn s pick) y z stop → Meets (SoFar way (picks ++ pick ∷ []) (n + 1)) (λ s. runs_from s (picks ++ pick ∷ []) (n + 1)) x z stop
 meets_more x y z stop way v way' picks pick n len is follows m t =
     let all : List ℕ = picks ++ pick ∷ [] in
-    let le : n ≤ length picks = omega (arith, len) in
-    (m.0 ++ t.0, written_then x.written y.written z.written m.0 t.0 m.1 t.1, λ later tells.
-      let mid = t.2 later tells in
-      let start = m.2 mid.0 mid.1 in
-      (start.0, start.1, λ b o.
-        let s = shown x b Going start.0 o in
-        let here = start.2 b o in
-        let at : runs_from s all n ≡ shown y b Going mid.0 (o ++ m.0) = runs_append s picks (pick ∷ []) n le ∙ here.1 in
-        let count : choices_at (runs_from s picks n) ≡ length (choices y.room.held y.pc) = ap choices_at here.1 ∙ count_is y b Going mid.0 (o ++ m.0) in
-        let one : counts_as (runs_from s all n).stop ≡ 1 = ap (λ (e : State). counts_as e.stop) at in
-        ((under_more way v way' s picks pick (length (choices y.room.held y.pc)) n len is follows count here.0.0,
-          omega (arith, executed_more s all n, executed_append s picks (pick ∷ []) n le, here.0.1, one)),
-         runs_more s all n ∙ ap₂ turn at (get_or_at picks pick [] 0 n len) ∙ (mid.2 b (o ++ m.0)).1 ∙ ap (λ (out : List ℕ). shown z b stop later out) (append_assoc o m.0 t.0))))
+    let le : n ≤ length picks = omega (arith, len) in (
+      m.0 ++ t.0,
+      written_then x.written y.written z.written m.0 t.0 m.1 t.1,
+      λ later tells.
+          let mid = t.2 later tells in
+          let start = m.2 mid.0 mid.1 in (
+            start.0,
+            start.1,
+            λ b o.
+                let s = shown x b Going start.0 o in
+                let here = start.2 b o in
+                let at : runs_from s all n ≡ shown y b Going mid.0 (o ++ m.0) = runs_append s picks (pick ∷ []) n le ∙ here.1 in
+                let count : choices_at (runs_from s picks n) ≡ length (choices y.room.held y.pc) = ap choices_at here.1 ∙ count_is y b Going mid.0 (o ++ m.0) in
+                let one : counts_as (runs_from s all n).stop ≡ 1 = ap (λ (e : State). counts_as e.stop) at in (
+                  (
+                    under_more way v way' s picks pick (length (choices y.room.held y.pc)) n len is follows count here.0.0,
+                    omega (arith, executed_more s all n, executed_append s picks (pick ∷ []) n le, here.0.1, one),
+                  ),
+                  runs_more s all n ∙ ap₂ turn at (get_or_at picks pick [] 0 n len) ∙ (mid.2 b (o ++ m.0)).1 ∙ ap (λ (out : List ℕ). shown z b stop later out) (append_assoc o m.0 t.0),
+                ),
+          ),
+    )

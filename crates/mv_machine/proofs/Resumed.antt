@@ -34,7 +34,7 @@ reached e y bindings stop is later more written i b w at = record {
   bindings = b ∙ sym (ap (λ (s : State). s.bindings) at);
   input = ap (λ (s : State). s.input) at;
   output = w ∙ ap (λ (out : List ℕ). option_map (λ before. before ++ out) written) (sym (ap (λ (s : State). s.output) at));
-  stopped = ap (λ (s : State). s.stop) at
+  stopped = ap (λ (s : State). s.stop) at;
 }
 
 choices_same : (e : State) (z : Seen) → e.pc ≡ z.pc → e.room ≡ z.room → choices_at e ≡ length (choices z.room.held z.pc)
@@ -54,9 +54,9 @@ asks e z pick request regs pc room lt c = (fetches e z pick regs pc room lt ∙ 
 wants : (e : State) (z : Seen) (pick : ℕ) → e.regs ≡ z.regs → e.pc ≡ z.pc → e.room ≡ z.room → pick < length (choices z.room.held z.pc) → Wanting z pick → WantsMemory e pick
 wants e z pick regs pc room lt w =
     let target : picked_target e.room (pick % choices_at e) e.regs e.pc ≡ picked_target z.room pick z.regs z.pc =
-      ap₂ (λ (c : ℕ) (r : Room). picked_target r (pick % c) e.regs e.pc) (choices_same e z pc room) room
-      ∙ ap₂ (λ (g : List ℕ) (a : ℕ). picked_target z.room (pick % length (choices z.room.held z.pc)) g a) regs pc
-      ∙ ap (λ (p : ℕ). picked_target z.room p z.regs z.pc) (mod-eq_of_lt lt) in
+    ap₂ (λ (c : ℕ) (r : Room). picked_target r (pick % c) e.regs e.pc) (choices_same e z pc room) room
+    ∙ ap₂ (λ (g : List ℕ) (a : ℕ). picked_target z.room (pick % length (choices z.room.held z.pc)) g a) regs pc
+    ∙ ap (λ (p : ℕ). picked_target z.room p z.regs z.pc) (mod-eq_of_lt lt) in
     (subst (λ (a : Option ℕ). IsSomeAnd a IsInText) (sym target) w.0, ap (λ (r : Room). r.spare) room ∙ w.1)
 
 -- no word is fetched where there is no choice
@@ -85,7 +85,7 @@ module _ (was is : Snapshot) (x y : Seen) (a : IsSeen was x) (b : IsSeen is y) (
     picks = g.0;
     way_is = g.2 ∙ ap (λ (n : ℕ). option_map (λ w. way_after w n) way) (sym g.1);
     run = from_meets (λ s. runs_from s g.0 steps) (SoFar way g.0 steps) Going (λ later s. Under way s g.0 × Answered answer.Steps steps s g.0 (At later) A B) g.3
-      (λ later s p r. (p.0, record { reached = r; picked = p.1 ∙ sym g.1 }))
+        (λ later s p r. (p.0, record { reached = r; picked = p.1 ∙ sym g.1 }));
   }
 
   -- an instruction ended the run
@@ -112,7 +112,7 @@ module _ (was is : Snapshot) (x y : Seen) (a : IsSeen was x) (b : IsSeen is y) (
     whole : (stop : Stop) → IsOver stop → (later : List (Option ℕ)) (s : State) → SoFar way all (n + 1) s → Reached (runs_from s all (n + 1)) stop is later x.written y.written → Whole s all steps (At later) stop
     whole stop over later s p r = record {
       reached = subst (λ (e : State). At later e stop) (sym (to_end s stop over r.stopped)) r;
-      picked = executed_to_end s stop over r.stopped ∙ p.1 ∙ sym len
+      picked = executed_to_end s stop over r.stopped ∙ p.1 ∙ sym len;
     }
 
     ended : (stop : Stop) (r : Stopped) → IsOver stop → Moves (λ s. turn s pick) mid y stop → ((later : List (Option ℕ)) (s : State) → Whole s all steps (At later) stop → Answered r steps s all (At later) A B) → Ran steps r was is x.left y.left x.written y.written way way' A B
@@ -120,8 +120,8 @@ module _ (was is : Snapshot) (x y : Seen) (a : IsSeen was x) (b : IsSeen is y) (
       picks = all;
       way_is = way_all;
       run = from_meets (λ s. runs_from s all (n + 1)) (SoFar way all (n + 1)) stop (λ later s. Under way s all × Answered r steps s all (At later) A B)
-        (meets_more x mid y stop way v way' g.0 pick n g.1 g.2 follows g.3 t)
-        (λ later s p e. (p.0, answers later s (whole stop over later s p e)))
+          (meets_more x mid y stop way v way' g.0 pick n g.1 g.2 follows g.3 t)
+          (λ later s p e. (p.0, answers later s (whole stop over later s p e)));
     }
 
     pub ended_at : (status : ℕ) → Moves (λ s. turn s pick) mid y (Exit status) → Ran steps (answer.Ended status) was is x.left y.left x.written y.written way way' A B
@@ -139,21 +139,22 @@ module _ (was is : Snapshot) (x y : Seen) (a : IsSeen was x) (b : IsSeen is y) (
       picks = all;
       way_is = way_all;
       run = from_meets (λ s. runs_from s g.0 n) (SoFar way g.0 n) Going (λ later s. Under way s all × Answered r steps s all (At later) A B)
-        (subst (λ (z : Seen). Meets (SoFar way g.0 n) (λ s. runs_from s g.0 n) x z Going) (sym still) g.3)
-        (λ later s p e.
+          (subst (λ (z : Seen). Meets (SoFar way g.0 n) (λ s. runs_from s g.0 n) x z Going) (sym still) g.3)
+          (λ later s p e.
           let same_state : runs_from s all n ≡ runs_from s g.0 n = runs_append s g.0 (pick ∷ []) n (omega (arith, g.1)) in
           let regs : (runs_from s g.0 n).regs ≡ mid.regs = sym e.regs ∙ b.regs ∙ ap (λ (z : Seen). z.regs) still in
           let pc : (runs_from s g.0 n).pc ≡ mid.pc = sym e.pc ∙ b.pc ∙ ap (λ (z : Seen). z.pc) still in
           let room : (runs_from s g.0 n).room ≡ mid.room = sym e.memory ∙ b.room ∙ ap (λ (z : Seen). z.room) still in
-          let count : choices_at (runs_from s g.0 n) ≡ length (choices mid.room.held mid.pc) = choices_same (runs_from s g.0 n) mid pc room in
-          (under_more way v way' s g.0 pick (length (choices mid.room.held mid.pc)) n g.1 g.2 follows count p.0,
-           answers later s (record {
-             count = n;
-             within = lt;
-             reached = subst (λ (t : State). At later t Going) (sym same_state) e;
-             picked = sym len;
-             cause = subst (λ (t : State). Why t (slice_index all n)) (sym same_state) (subst (λ (k : ℕ). Why (runs_from s g.0 n) k) (sym (get_or_at g.0 pick [] 0 n g.1)) (why (runs_from s g.0 n) regs pc room))
-           })))
+          let count : choices_at (runs_from s g.0 n) ≡ length (choices mid.room.held mid.pc) = choices_same (runs_from s g.0 n) mid pc room in (
+            under_more way v way' s g.0 pick (length (choices mid.room.held mid.pc)) n g.1 g.2 follows count p.0,
+            answers later s (record {
+              count = n;
+              within = lt;
+              reached = subst (λ (t : State). At later t Going) (sym same_state) e;
+              picked = sym len;
+              cause = subst (λ (t : State). Why t (slice_index all n)) (sym same_state) (subst (λ (k : ℕ). Why (runs_from s g.0 n) k) (sym (get_or_at g.0 pick [] 0 n g.1)) (why (runs_from s g.0 n) regs pc room));
+            }),
+          ));
     }
 
     pub input_fault_at : y ≡ mid → Called mid pick Reads → A → Ran steps answer.InputFault was is x.left y.left x.written y.written way way' A B
@@ -176,9 +177,16 @@ module _ (was is : Snapshot) (x y : Seen) (a : IsSeen was x) (b : IsSeen is y) (
 
     to_fault : Meets (SoFar way g.0 n) (λ s. runs_from s g.0 (n + 1)) x mid (Fault cause.Fetch)
     to_fault =
-        let m = g.3 in
-        (m.0, m.1, λ later tells. let t = m.2 later tells in (t.0, t.1, λ b o.
-          ((t.2 b o).0, runs_more (shown x b Going t.0 o) g.0 n ∙ ap (λ (e : State). turn e (slice_index g.0 n)) (t.2 b o).1 ∙ one_more b later (o ++ m.0) (slice_index g.0 n))))
+        let m = g.3 in (
+          m.0,
+          m.1,
+          λ later tells. let t = m.2 later tells in (
+            t.0,
+            t.1,
+            λ b o.
+                ((t.2 b o).0, runs_more (shown x b Going t.0 o) g.0 n ∙ ap (λ (e : State). turn e (slice_index g.0 n)) (t.2 b o).1 ∙ one_more b later (o ++ m.0) (slice_index g.0 n)),
+          ),
+        )
 
     to_last : (s : State) → (runs_from s g.0 (n + 1)).stop ≡ Fault cause.Fetch → runs_from s g.0 steps ≡ runs_from s g.0 (n + 1)
     to_last s e =
@@ -190,10 +198,10 @@ module _ (was is : Snapshot) (x y : Seen) (a : IsSeen was x) (b : IsSeen is y) (
       picks = g.0;
       way_is = stays ∙ g.2 ∙ ap (λ (k : ℕ). option_map (λ w. way_after w k) way) (sym g.1);
       run = from_meets (λ s. runs_from s g.0 (n + 1)) (SoFar way g.0 n) (Fault cause.Fetch) (λ later s. Under way s g.0 × Answered (answer.Fault mid.pc cause.Fetch) steps s g.0 (At later) A B)
-        (subst (λ (z : Seen). Meets (SoFar way g.0 n) (λ s. runs_from s g.0 (n + 1)) x z (Fault cause.Fetch)) (sym still) to_fault)
-        (λ later s p e.
+          (subst (λ (z : Seen). Meets (SoFar way g.0 n) (λ s. runs_from s g.0 (n + 1)) x z (Fault cause.Fetch)) (sym still) to_fault)
+          (λ later s p e.
           let last = to_last s e.stopped in
-          (p.0, (subst (λ (t : State). At later t (Fault cause.Fetch)) (sym last) e, ap (λ (t : State). t.pc) last ∙ sym e.pc ∙ b.pc ∙ ap (λ (z : Seen). z.pc) still)))
+          (p.0, (subst (λ (t : State). At later t (Fault cause.Fetch)) (sym last) e, ap (λ (t : State). t.pc) last ∙ sym e.pc ∙ b.pc ∙ ap (λ (z : Seen). z.pc) still)));
     }
 
   from_turn : (n : ℕ) (mid : Seen) (v : Option Way) (r : Stopped) → n < steps → Goes n x mid way v → FaultAt r y.pc → Turns (Some r) mid y v way' A B → Ran steps r was is x.left y.left x.written y.written way way' A B
@@ -232,4 +240,3 @@ last_is steps x y way way' A B (Some answer.InputFault) w = refl
 last_is steps x y way way' A B (Some answer.OutputFault) w = refl
 last_is steps x y way way' A B (Some (answer.Fault pc why)) w = refl
 last_is steps x y way way' A B (Some answer.Memory) w = refl
-

@@ -69,9 +69,21 @@ way_none None = refl
 way_none (Some w) = refl
 
 pub goes_none : (x : Seen) (way : Option Way) → Goes 0 x x way way
-goes_none x way =
-    ([], refl, way_none way, ([], nothing_written x.written, λ later tells. (later, tells, λ b o.
-      ((under_none way (shown x b Going later o), executed_none (shown x b Going later o) []), runs_none (shown x b Going later o) [] ∙ ap (λ (out : List ℕ). shown x b Going later out) (sym (append-nil o))))))
+goes_none x way = (
+  [],
+  refl,
+  way_none way,
+  (
+    [],
+    nothing_written x.written,
+    λ later tells. (
+      later,
+      tells,
+      λ b o.
+          ((under_none way (shown x b Going later o), executed_none (shown x b Going later o) []), runs_none (shown x b Going later o) [] ∙ ap (λ (out : List ℕ). shown x b Going later out) (sym (append-nil o))),
+    ),
+  ),
+)
 
 pub goes_more : (n : ℕ) (x y z : Seen) (way v way' : Option Way) (A B : Type 0) → Goes n x y way v → Turns None y z v way' A B → Goes (n + 1) x z way way'
 goes_more n x y z way v way' A B g (inl t) = absurd (none-some _ t.1)

@@ -36,7 +36,7 @@ abbrev pub Meets : (State → Type 0) → (State → State) → Seen → Seen �
 Meets P f x y stop =
     (more : List ℕ) × (y.written ≡ option_map (λ before. before ++ more) x.written)
     × ((later : List (Option ℕ)) → Tells y.left later → (input : List (Option ℕ)) × Tells x.left input
-      × ((bindings : List Binding) (output : List ℕ) → P (shown x bindings Going input output) × (f (shown x bindings Going input output) ≡ shown y bindings stop later (output ++ more))))
+    × ((bindings : List Binding) (output : List ℕ) → P (shown x bindings Going input output) × (f (shown x bindings Going input output) ≡ shown y bindings stop later (output ++ more))))
 
 abbrev pub Moves : (State → State) → Seen → Seen → Stop → Type 0
 Moves f x y stop = Meets (λ s. Unit {0}) f x y stop
@@ -86,7 +86,7 @@ Turns result x y way way' input_rose output_rose =
     let count = length (choices x.room.held x.pc) in
     ((count ≡ 0) × (result ≡ Some (answer.Fault x.pc cause.Fetch)) × (y ≡ x) × (way' ≡ way))
     ⊎ ((pick : ℕ) × (pick < count) × Follows way way' count pick
-      × Outcomes result (Moves (λ s. turn s pick) x y) ((y ≡ x) × Called x pick Reads × input_rose) ((y ≡ x) × Called x pick Writes × output_rose) ((y ≡ x) × Wanting x pick))
+    × Outcomes result (Moves (λ s. turn s pick) x y) ((y ≡ x) × Called x pick Reads × input_rose) ((y ≡ x) × Called x pick Writes × output_rose) ((y ≡ x) × Wanting x pick))
 
 -- so many instructions, none of which ended the run
 abbrev pub Goes : (n : ℕ) → Seen → Seen → Option Way → Option Way → Type 0

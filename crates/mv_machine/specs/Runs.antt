@@ -146,7 +146,7 @@ first image input = record {
   input = input;
   output = [];
   log = [];
-  stop = Going
+  stop = Going;
 }
 
 abbrev pub runs : Fields → (input : List (Option ℕ)) → (picks : List ℕ) → (n : ℕ) → State

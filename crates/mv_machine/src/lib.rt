@@ -6,3 +6,6 @@ mod machine;
 mod turning;
 
 pub use machine::{Machine, Stopped};
+
+#[cfg(test)]
+mod tests;

@@ -106,7 +106,14 @@ impl Machine {
         if let Some(last) = self.last {
             return last;
         }
-        self.last = walk(&mut self.hart, &mut self.memory, steps, source, sink, oracle);
+        self.last = walk(
+            &mut self.hart,
+            &mut self.memory,
+            steps,
+            source,
+            sink,
+            oracle,
+        );
         self.last.unwrap_or(Stopped::Steps)
     }
 

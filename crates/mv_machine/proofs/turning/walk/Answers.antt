@@ -16,7 +16,7 @@ loop-count-preserved g c =
     record {
       goes = goes_more c.loop-count.count x y z _ _ _ (Rose (g.I.Source.faults c.loop-count.source) (g.I.Source.faults c.turn.new.source)) (Rose (g.O.Sink.faults c.loop-count.sink) (g.O.Sink.faults c.turn.new.sink)) i.goes c.in_default.ensures.moves;
       input = omega (arith, i.input, c.turn.ensures.input);
-      output = omega (arith, i.output, c.turn.ensures.output)
+      output = omega (arith, i.output, c.turn.ensures.output);
     }
 
 pub returns-in-Some-clause-walked : goal.returns-in-Some-clause-walked
