@@ -1,19 +1,19 @@
 -- Walks of one instruction after the other.
-use Rattle.std.proofs.Common.{ℕ, ◌≡◌, ◌<◌, ◌≤◌, ◌+◌, ◌⊎◌, inl, inr, List, [], ◌∷◌, ◌++◌, length, Option, Some, None, option_map, refl, sym, ap, ap₂, ◌∙◌, subst, arith, append-nil}
+use Rattle.std.proofs.Common.{ℕ, ◌≡◌, ◌<◌, ◌≤◌, ◌+◌, ◌⊎◌, inl, inr, List, [], ◌∷◌, ◌++◌, length, Option, Some, None, option_map, unwrap_or, slice_get, option_and_then, IsSomeAnd, refl, sym, ap, ap₂, ◌∙◌, subst, arith, append-nil}
 use Rattle.std.proofs.lemmas.List.{length-append}
 use Rattle.std.proofs.lemmas.Option.{none-some}
 use Rattle.mv_isa.specs.declared.instr.Cause.{Cause}
-use Rattle.mv_isa.specs.Execution.{Outcome, Goes as GoesTo, Calls, Faults, reg}
-use Rattle.mv_fetch.specs.Held.{Room, choices}
-use Rattle.mv_rv32.specs.Stepping.{picked_step}
+use Rattle.mv_isa.specs.Execution.{Outcome, Goes as GoesTo, Calls, Faults, reg, step}
+use Rattle.mv_fetch.specs.Held.{Room, IsInText, choices, only}
+use Rattle.mv_rv32.specs.Stepping.{access, picked_step, picked_target, word_target}
 use Rattle.mv_rv32.specs.declared.hart.Hart.{Hart}
 use Rattle.mv_io.specs.Outside.{Rose}
-use Rattle.mv_probe.specs.Ways.{Way, way_after}
+use Rattle.mv_probe.specs.Ways.{Way, Follows, way_after}
 use Rattle.mv_machine.specs.declared.machine.Stopped.{Stopped}
 use Rattle.mv_machine.specs.declared.machine.Stopped.TheVariants as answer
 use Rattle.mv_machine.specs.Runs.{Stop, Going, Exit, Trap, Fault, State, Reads, Writes, request_of, environment_call, turn, runs_from, executed}
 use Rattle.mv_machine.specs.Snapshots.{Under}
-use Rattle.mv_machine.specs.Moves.{Seen, seen, shown, Meets, Moves, Outcomes, Called, Turns, Goes}
+use Rattle.mv_machine.specs.Moves.{Seen, seen, shown, Meets, Moves, Outcomes, Called, Wanting, Fetched, Turns, Goes}
 use Rattle.mv_machine.proofs.Turns.{turn_by, runs_none}
 use Rattle.mv_machine.proofs.Moved.{nothing_written, moves_quietly, moves_as, fetched, way_more, meets_more}
 
@@ -100,3 +100,24 @@ turns_since r x y way way' A B A' B' f k (inr t) = inr (t.0, t.1, t.2, outcomes_
 
 pub goes_at : (x y : Seen) (way way' : Option Way) (n m : ℕ) → n ≡ m → Goes n x y way way' → Goes m x y way way'
 goes_at x y way way' n m e g = subst (λ k. Goes k x y way way') e g
+
+-- ---- a step with the word that was fetched
+
+pub only_word : (words : List ℕ) (word : ℕ) → Some word ≡ only words → words ≡ word ∷ []
+only_word [] word e = absurd (none-some word (sym e))
+only_word (w ∷ []) word e = ap (λ (o : Option ℕ). unwrap_or o word ∷ []) (sym e)
+only_word (w ∷ v ∷ words) word e = absurd (none-some word (sym e))
+
+pub fetched_only : (words : List ℕ) (word pick : ℕ) (way way' : Option Way) → Some word ≡ only words → pick < 1 → Follows way way' 1 pick → Fetched (Some word) words way way'
+fetched_only words word pick way way' e lt follows =
+    let one : words ≡ word ∷ [] = only_word words word e in
+    let first : pick ≡ 0 = omega (arith, lt) in
+    subst (λ (ws : List ℕ). Fetched (Some word) ws way way') (sym one) (pick, lt, follows, ap (λ (p : ℕ). slice_get (word ∷ []) p) first)
+
+pub step_is : (room : Room) (pick word : ℕ) (regs : List ℕ) (pc : ℕ) → slice_get (choices room.held pc) pick ≡ Some word → picked_step room pick regs pc ≡ step access (Some word) regs pc room
+unfolding picked_step
+step_is room pick word regs pc e = ap (λ (o : Option ℕ). step access o regs pc room) e
+
+pub wanting : (x : Seen) (pick word : ℕ) → slice_get (choices x.room.held x.pc) pick ≡ Some word → IsSomeAnd (word_target word x.regs) IsInText → x.room.spare ≡ 0 → Wanting x pick
+unfolding picked_target
+wanting x pick word e w none = (subst (λ (o : Option ℕ). IsSomeAnd (option_and_then (λ i. word_target i x.regs) o) IsInText) (sym e) w, none)

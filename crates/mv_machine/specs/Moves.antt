@@ -1,5 +1,5 @@
 -- What the code holds of a state, and that what it does to it is what a definition does to the state.
-use Rattle.std.specs.Prelude.{ℕ, ◌≡◌, ◌≤◌, ◌+◌, ◌%◌, ◌^◌, ◌<◌, ◌⊎◌, ◌∷◌, List, [], ◌++◌, length, Option, Some, None, option_map, IsSomeAnd, Ok, Result}
+use Rattle.std.specs.Prelude.{ℕ, ◌≡◌, ◌≤◌, ◌+◌, ◌%◌, ◌^◌, ◌<◌, ◌⊎◌, ◌∷◌, List, [], ◌++◌, length, slice_get, Option, Some, None, option_map, IsSomeAnd, Ok, Result}
 use Rattle.mv_num.specs.Words.{add}
 use Rattle.mv_ast.specs.declared.world.Binding.{Binding}
 use Rattle.mv_isa.specs.declared.instr.Cause.TheVariants as cause
@@ -71,6 +71,12 @@ IsStop answer.InputFault stop = ⊥
 IsStop answer.OutputFault stop = ⊥
 IsStop (answer.Fault pc why) stop = Fault why ≡ stop
 IsStop answer.Memory stop = ⊥
+
+-- the word that an oracle picks of these, none where there are none
+abbrev pub Fetched : Option ℕ → (words : List ℕ) → Option Way → Option Way → Type 0
+Fetched None words way way' = (length words ≡ 0) × (way' ≡ way)
+Fetched (Some word) words way way' =
+    (pick : ℕ) × (pick < length words) × Follows way way' (length words) pick × (slice_get words pick ≡ Some word)
 
 -- the call that stands at pc is that one
 abbrev pub Called : Seen → (pick : ℕ) → Request → Type 0

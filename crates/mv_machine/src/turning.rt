@@ -1,16 +1,17 @@
 //! One instruction after the other.
 
 ghost use Rattle.std.specs.Prelude.{◌≤◌, ◌<◌, IfSome};
+ghost use Rattle.mv_fetch.specs.Held.{choices};
 ghost use Rattle.mv_io.specs.Outside.{Rose};
 ghost use Rattle.mv_probe.specs.Ways.{Follows};
-ghost use Rattle.mv_machine.specs.Moves.{Turns, Walked, seen, FaultAt};
+ghost use Rattle.mv_machine.specs.Moves.{Fetched, Turns, Walked, seen, FaultAt};
 
 use crate::call::call;
 use crate::machine::Stopped;
 use mv_fetch::Memory;
 use mv_io::{Sink, Source};
 use mv_probe::FetchOracle;
-use mv_rv32::{Cause, Hart, Stepped, step};
+use mv_rv32::{Cause, Hart, Stepped, step_word};
 
 // What the oracle picks for a fetch.
 fn picked(oracle: &mut Box<dyn FetchOracle>, address: u32, choices: u64) -> u64
@@ -19,6 +20,22 @@ fn picked(oracle: &mut Box<dyn FetchOracle>, address: u32, choices: u64) -> u64
     ensures follows { Follows (way oracle.old) (way oracle.new) choices result }
 {
     oracle.pick(address, choices)
+}
+
+// The word that is fetched at an address, by the oracle's pick; none where there is no choice.
+fn fetched(memory: &Memory, address: u32, oracle: &mut Box<dyn FetchOracle>) -> Option<u32>
+    ensures { Fetched result (choices memory.now.held address) (way oracle.old) (way oracle.new) }
+{
+    if let Some(word) = memory.only_choice(address) {
+        let _pick = picked(oracle, address, 1);
+        return Some(word);
+    }
+    let choices = memory.choices(address);
+    if choices == 0 {
+        return None;
+    }
+    let pick = picked(oracle, address, choices);
+    Some(memory.fetch(address, pick))
 }
 
 // One instruction, and the answer of the run where it doesn't go on.
@@ -35,12 +52,10 @@ fn turn<I: Source, O: Sink>(
     ensures input { I.faults source.old ≤ I.faults source.new }
     ensures output { O.faults sink.old ≤ O.faults sink.new }
 {
-    let choices = memory.choices(hart.pc);
-    if choices == 0 {
+    let Some(word) = fetched(memory, hart.pc, oracle) else {
         return Some(Stopped::Fault(hart.pc, Cause::Fetch));
-    }
-    let pick = picked(oracle, hart.pc, choices);
-    match step(hart, memory, pick) {
+    };
+    match step_word(hart, memory, word) {
         Stepped::Next => None,
         Stepped::Call => call(hart, source, sink),
         Stepped::Fault(cause) => Some(Stopped::Fault(hart.pc, cause)),
