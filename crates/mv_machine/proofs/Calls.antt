@@ -1,14 +1,13 @@
 -- Environment calls, by what a7 asks for.
-use Rattle.std.proofs.Common.{ℕ, ◌≡◌, ◌≢◌, ◌<◌, ◌≤◌, ◌+◌, ◌%◌, ◌^◌, List, [], ◌∷◌, ◌++◌, length, Option, Some, None, option_map, Ok, refl, sym, ap, ap₂, ◌∙◌, subst, arith, eqb, cond}
+use Rattle.std.proofs.Common.{ℕ, ◌≡◌, ◌≢◌, ◌%◌, ◌^◌, List, [], ◌∷◌, ◌++◌, Option, Some, refl, sym, ap, ap₂, ◌∙◌, subst}
 use Rattle.std.proofs.lemmas.Bool.{ne_eqb}
-use Rattle.mv_num.specs.Words.{add}
 use Rattle.mv_isa.specs.Execution.{reg, put}
 use Rattle.mv_isa.specs.declared.instr.Cause.TheVariants as cause
 use Rattle.mv_fetch.specs.Held.{Room}
 use Rattle.mv_rv32.specs.declared.hart.Hart.{Hart}
 use Rattle.mv_machine.specs.declared.machine.Stopped.{Stopped}
 use Rattle.mv_machine.specs.declared.machine.Stopped.TheVariants as answer
-use Rattle.mv_machine.specs.Runs.{Stop, Going, Exit, Trap, Fault, State, Request, Exits, Reads, Writes, Traps, Unknown, request_of, environment_call, answered, argument, word_read, next_read, later_reads, stopped, trap_of}
+use Rattle.mv_machine.specs.Runs.{Stop, Going, Exit, Fault, Request, Exits, Reads, Writes, Traps, Unknown, request_of, environment_call, answered, word_read, later_reads, trap_of}
 use Rattle.mv_machine.specs.Moves.{Seen, seen, shown, Moves, Gets, Puts, Outcomes, IsStop}
 use Rattle.mv_machine.proofs.Moved.{moves_quietly, moves_reading, moves_writing, moves_as}
 

@@ -1,15 +1,14 @@
 -- Moves of what is seen, one after the other.
-use Rattle.std.proofs.Common.{ℕ, zero, suc, ◌≡◌, ◌<◌, ◌≤◌, ◌+◌, ◌%◌, ◌^◌, add-one, ◌⊎◌, inl, inr, List, [], ◌∷◌, ◌++◌, length, slice_index, Option, Some, None, option_map, Ok, refl, sym, ap, ap₂, ◌∙◌, subst, arith, append_assoc, append-nil, mod-eq_of_lt, slice_get}
+use Rattle.std.proofs.Common.{ℕ, ◌≡◌, ◌<◌, ◌≤◌, ◌+◌, add-one, ◌⊎◌, inl, inr, List, [], ◌∷◌, ◌++◌, length, slice_index, Option, Some, None, option_map, Ok, refl, sym, ap, ap₂, ◌∙◌, subst, arith, append_assoc, append-nil, mod-eq_of_lt}
 use Rattle.std.proofs.lemmas.List.{get_or_append_left, get_or_at, length-append}
 use Rattle.std.proofs.lemmas.Bool.{cases_lt}
 use Rattle.mv_ast.specs.declared.world.Binding.{Binding}
-use Rattle.mv_isa.specs.Execution.{Outcome, Goes, Calls, Faults, reg, put}
-use Rattle.mv_fetch.specs.Held.{Room, choices}
+use Rattle.mv_fetch.specs.Held.{choices}
 use Rattle.mv_rv32.specs.Stepping.{picked_step}
 use Rattle.mv_io.specs.Outside.{Takes}
 use Rattle.mv_io.specs.declared.outside.Failed.{Failed}
-use Rattle.mv_probe.specs.Ways.{Way, Follows, pick_of, next_way, way_after}
-use Rattle.mv_machine.specs.Runs.{Stop, Going, Exit, Trap, Fault, State, Request, next_read, later_reads, bytes_to_come, choices_at, fetched_step, turn, runs_from, executed, counts_as}
+use Rattle.mv_probe.specs.Ways.{Way, Follows, pick_of, way_after}
+use Rattle.mv_machine.specs.Runs.{Stop, Going, State, next_read, later_reads, bytes_to_come, choices_at, fetched_step, turn, runs_from, executed, counts_as}
 use Rattle.mv_machine.specs.Snapshots.{Tells, Under}
 use Rattle.mv_machine.specs.Moves.{Seen, shown, Meets, Moves}
 use Rattle.mv_machine.proofs.Turns.{runs_more, executed_more, runs_append, executed_append}

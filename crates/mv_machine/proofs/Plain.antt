@@ -1,10 +1,9 @@
 -- Runs that never store into their text, and how to go on with a run instruction by instruction.
-use Rattle.std.proofs.Common.{ℕ, zero, suc, ◌≡◌, ◌<◌, ◌≤◌, ◌+◌, ◌-◌, ◌*◌, ◌/◌, ◌%◌, List, [], ◌∷◌, ◌++◌, length, replicate, slice_get, slice_index, slice_index_or, Option, Some, None, cond, eqb, true, refl, sym, ap, ap₂, ◌∙◌, subst, arith, get_or}
-use Rattle.std.proofs.lemmas.List.{get_or-replicate, get_or_past}
-use Rattle.mv_isa.specs.Execution.{Outcome, Goes, Calls, Faults, reg, put, step}
+use Rattle.std.proofs.Common.{ℕ, zero, suc, ◌≡◌, ◌+◌, ◌%◌, List, [], ◌∷◌, length, replicate, slice_get, slice_index, Option, Some, cond, eqb, refl, ap, ap₂, ◌∙◌, arith}
+use Rattle.mv_isa.specs.Execution.{Outcome, step}
 use Rattle.mv_fetch.specs.Held.{Held, Room, choices, choices_in, choices_of, older_at, IsInText, index_of}
 use Rattle.mv_rv32.specs.Stepping.{access, picked_step}
-use Rattle.mv_machine.specs.Runs.{Stop, Going, State, Request, request_of, environment_call, after, choices_at, fetched_step, turn, runs_from}
+use Rattle.mv_machine.specs.Runs.{Going, State, after, choices_at, fetched_step, turn, runs_from}
 use Rattle.mv_machine.proofs.Turns.{turn_by, runs_more}
 
 -- no word of text was stored since the last FENCE.I

@@ -1,8 +1,8 @@
 -- From a walk over what is seen to a call of `run`.
-use Rattle.std.proofs.Common.{ℕ, ◌≡◌, ◌<◌, ◌≤◌, ◌+◌, ◌-◌, ◌%◌, mod-eq_of_lt, ◌⊎◌, inl, inr, List, [], ◌∷◌, ◌++◌, length, slice_index, slice_get, Option, Some, None, option_map, unwrap_or, IfSome, IsSomeAnd, refl, sym, ap, ap₂, ◌∙◌, subst, arith}
+use Rattle.std.proofs.Common.{ℕ, ◌≡◌, ◌<◌, ◌+◌, ◌-◌, ◌%◌, mod-eq_of_lt, inl, inr, List, [], ◌∷◌, ◌++◌, length, slice_index, slice_get, Option, Some, None, option_map, unwrap_or, IfSome, IsSomeAnd, refl, sym, ap, ap₂, ◌∙◌, subst, arith}
 use Rattle.std.proofs.lemmas.List.{length-append, get_or_at, nil_from_length}
 use Rattle.mv_ast.specs.declared.world.Binding.{Binding}
-use Rattle.mv_isa.specs.Execution.{Calls, Faults, reg, step}
+use Rattle.mv_isa.specs.Execution.{Faults, reg, step}
 use Rattle.mv_isa.specs.declared.instr.Cause.{Cause}
 use Rattle.mv_isa.specs.declared.instr.Cause.TheVariants as cause
 use Rattle.mv_fetch.specs.Held.{Room, IsInText, choices}
@@ -12,9 +12,9 @@ use Rattle.mv_machine.specs.declared.machine.Stopped.{Stopped}
 use Rattle.mv_machine.specs.declared.machine.Stopped.TheVariants as answer
 use Rattle.mv_machine.specs.Runs.{Stop, Going, Exit, Trap, Fault, State, Request, Reads, Writes, request_of, choices_at, fetched_step, turn, runs_from, executed}
 use Rattle.mv_machine.specs.Snapshots.{Snapshot, resumed, Tells, Under, Asks, Reached, Whole, Broken, Answered, WantsMemory, Ran, Unless, last_of}
-use Rattle.mv_machine.specs.Moves.{Seen, shown, Meets, Moves, Outcomes, Called, Wanting, Turns, Goes, Walked, FaultAt}
-use Rattle.mv_machine.proofs.Turns.{turn_by, runs_more, runs_over, executed_over, runs_append, executed_append, IsOver}
-use Rattle.mv_machine.proofs.Moved.{SoFar, fetched, way_more, under_more, meets_more, count_is}
+use Rattle.mv_machine.specs.Moves.{Seen, shown, Meets, Moves, Called, Wanting, Turns, Goes, Walked, FaultAt}
+use Rattle.mv_machine.proofs.Turns.{turn_by, runs_more, runs_over, executed_over, runs_append, IsOver}
+use Rattle.mv_machine.proofs.Moved.{SoFar, way_more, under_more, meets_more}
 
 -- what is seen of a machine
 pub record IsSeen (m : Snapshot) (x : Seen) : Type 0 where

@@ -1,9 +1,9 @@
 -- How a run grows by one instruction, and that nothing follows its end.
-use Rattle.std.proofs.Common.{ℕ, zero, suc, ◌≡◌, ◌<◌, ◌≤◌, ◌+◌, ◌%◌, add-one, ◌⊎◌, inl, inr, List, [], ◌∷◌, ◌++◌, length, slice_index, Option, Some, None, refl, sym, ap, ap₂, ◌∙◌, subst, arith}
+use Rattle.std.proofs.Common.{ℕ, zero, suc, ◌≡◌, ◌≤◌, ◌+◌, add-one, List, ◌++◌, length, slice_index, refl, sym, ap, ap₂, ◌∙◌, subst, arith}
 use Rattle.std.proofs.lemmas.List.{get_or_append_left}
-use Rattle.mv_isa.specs.Execution.{Outcome, Goes, Calls, Faults, reg}
+use Rattle.mv_isa.specs.Execution.{Outcome}
 use Rattle.mv_fetch.specs.Held.{Room}
-use Rattle.mv_machine.specs.Runs.{Stop, Going, Exit, Trap, Fault, State, Request, request_of, environment_call, where_going, after, fetched_step, turn, runs_from, executed, counts_as}
+use Rattle.mv_machine.specs.Runs.{Stop, Going, Exit, Trap, Fault, State, where_going, after, fetched_step, turn, runs_from, executed, counts_as}
 
 -- after no instruction
 pub runs_none : (s : State) (picks : List ℕ) → runs_from s picks 0 ≡ s

@@ -1,9 +1,9 @@
 -- Walks of one instruction after the other.
-use Rattle.std.proofs.Common.{ℕ, ◌≡◌, ◌<◌, ◌≤◌, ◌+◌, ◌⊎◌, inl, inr, List, [], ◌∷◌, ◌++◌, length, Option, Some, None, option_map, unwrap_or, slice_get, option_and_then, IsSomeAnd, refl, sym, ap, ap₂, ◌∙◌, subst, arith, append-nil}
+use Rattle.std.proofs.Common.{ℕ, ◌≡◌, ◌<◌, ◌≤◌, ◌+◌, inl, inr, List, [], ◌∷◌, ◌++◌, length, Option, Some, None, option_map, unwrap_or, slice_get, option_and_then, IsSomeAnd, refl, sym, ap, ap₂, ◌∙◌, subst, arith, append-nil}
 use Rattle.std.proofs.lemmas.List.{length-append}
 use Rattle.std.proofs.lemmas.Option.{none-some}
 use Rattle.mv_isa.specs.declared.instr.Cause.{Cause}
-use Rattle.mv_isa.specs.Execution.{Outcome, Goes as GoesTo, Calls, Faults, reg, step}
+use Rattle.mv_isa.specs.Execution.{Goes as GoesTo, Calls, Faults, reg, step}
 use Rattle.mv_fetch.specs.Held.{Room, IsInText, choices, only}
 use Rattle.mv_rv32.specs.Stepping.{access, picked_step, picked_target, word_target}
 use Rattle.mv_rv32.specs.declared.hart.Hart.{Hart}
@@ -11,9 +11,9 @@ use Rattle.mv_io.specs.Outside.{Rose}
 use Rattle.mv_probe.specs.Ways.{Way, Follows, way_after}
 use Rattle.mv_machine.specs.declared.machine.Stopped.{Stopped}
 use Rattle.mv_machine.specs.declared.machine.Stopped.TheVariants as answer
-use Rattle.mv_machine.specs.Runs.{Stop, Going, Exit, Trap, Fault, State, Reads, Writes, request_of, environment_call, turn, runs_from, executed}
+use Rattle.mv_machine.specs.Runs.{Stop, Going, Fault, State, Reads, Writes, request_of, environment_call, turn, executed}
 use Rattle.mv_machine.specs.Snapshots.{Under}
-use Rattle.mv_machine.specs.Moves.{Seen, seen, shown, Meets, Moves, Outcomes, Called, Wanting, Fetched, Turns, Goes}
+use Rattle.mv_machine.specs.Moves.{Seen, seen, shown, Moves, Outcomes, Called, Wanting, Fetched, Turns, Goes}
 use Rattle.mv_machine.proofs.Turns.{turn_by, runs_none}
 use Rattle.mv_machine.proofs.Moved.{nothing_written, moves_quietly, moves_as, fetched, way_more, meets_more}
 

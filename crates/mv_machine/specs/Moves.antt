@@ -1,5 +1,5 @@
 -- What the code holds of a state, and that what it does to it is what a definition does to the state.
-use Rattle.std.specs.Prelude.{ℕ, ◌≡◌, ◌≤◌, ◌+◌, ◌%◌, ◌^◌, ◌<◌, ◌⊎◌, ◌∷◌, List, [], ◌++◌, length, slice_get, Option, Some, None, option_map, IsSomeAnd, Ok, Result}
+use Rattle.std.specs.Prelude.{ℕ, ◌≡◌, ◌%◌, ◌^◌, ◌<◌, ◌⊎◌, ◌∷◌, List, [], ◌++◌, length, slice_get, Option, Some, None, option_map, IsSomeAnd, Ok}
 use Rattle.mv_num.specs.Words.{add}
 use Rattle.mv_ast.specs.declared.world.Binding.{Binding}
 use Rattle.mv_isa.specs.declared.instr.Cause.TheVariants as cause

@@ -1,10 +1,9 @@
 -- What contracts see of a machine between two calls of `run`, and what such a call has done.
-use Rattle.std.specs.Prelude.{ℕ, ◌≡◌, ◌≤◌, ◌+◌, ◌<◌, List, [], ◌++◌, length, slice_index, Option, Some, None, option_map, IfSome, IsSomeAnd, ◌%◌}
+use Rattle.std.specs.Prelude.{ℕ, ◌≡◌, ◌+◌, ◌<◌, List, [], ◌++◌, length, slice_index, Option, Some, None, option_map, IfSome, IsSomeAnd, ◌%◌}
 use Rattle.mv_ast.specs.declared.world.Binding.{Binding}
 use Rattle.mv_isa.specs.Execution.{Calls, reg}
 use Rattle.mv_fetch.specs.Held.{Room, IsInText}
 use Rattle.mv_rv32.specs.Stepping.{picked_target}
-use Rattle.mv_image.specs.Spelling.{Fields}
 use Rattle.mv_probe.specs.Ways.{Way, pick_of, way_after}
 use Rattle.mv_machine.specs.declared.machine.Stopped.{Stopped}
 use Rattle.mv_machine.specs.declared.machine.Stopped.TheVariants as answer

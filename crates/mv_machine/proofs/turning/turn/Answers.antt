@@ -1,6 +1,4 @@
-use Rattle.std.proofs.Common.{inr, subst, sym, ap, ◌∙◌}
-use Rattle.std.specs.Prelude.{IsSomeAnd}
-use Rattle.mv_fetch.specs.Held.{IsInText}
+use Rattle.std.proofs.Common.{inr, ◌∙◌}
 use Rattle.mv_machine.specs.Moves.{seen}
 use Rattle.mv_machine.proofs.Walks.{steps_on, faults, calls, same_seen, step_is, wanting}
 use Rattle.mv_machine.proofs.turning.turn.Goals as goal

@@ -1,4 +1,4 @@
-use Rattle.std.proofs.Common.{◌≡◌, refl, arith, rules}
+use Rattle.std.proofs.Common.{◌≡◌, arith}
 use Rattle.mv_io.specs.Outside.{Rose}
 use Rattle.mv_machine.specs.Moves.{seen}
 use Rattle.mv_machine.proofs.Walks.{goes_none, goes_more, goes_at, turns_since, rose_later}

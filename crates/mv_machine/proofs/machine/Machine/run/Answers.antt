@@ -1,5 +1,5 @@
 use Rattle.std.proofs.Common.{refl, sym, ap}
-use Rattle.mv_machine.specs.Snapshots.{Snapshot, last_of}
+use Rattle.mv_machine.specs.Snapshots.{Snapshot}
 use Rattle.mv_machine.specs.Moves.{seen}
 use Rattle.mv_machine.proofs.Resumed.{ran}
 use Rattle.mv_machine.proofs.machine.Machine.run.Goals as goal

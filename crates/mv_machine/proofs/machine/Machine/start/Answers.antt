@@ -1,4 +1,4 @@
-use Rattle.std.proofs.Common.{ap, ap₂, ◌∙◌, ◌+◌, ◌*◌, length, arith}
+use Rattle.std.proofs.Common.{ap, ap₂, ◌∙◌, ◌+◌, ◌*◌, length}
 use Rattle.mv_fetch.specs.Held.{first as first_memory}
 use Rattle.mv_machine.proofs.Starts.{started}
 use Rattle.mv_machine.proofs.machine.Machine.start.Goals as goal
