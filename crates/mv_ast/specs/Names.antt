@@ -3,7 +3,7 @@ use Rattle.std.specs.Prelude.{ℕ, Bool, false, ◌||◌, List, [], ◌∷◌, n
 use Rattle.mv_ast.specs.declared.program.Expr.{Expr, Expr-F, fold-Expr}
 use Rattle.mv_ast.specs.declared.program.Form.{Form-F}
 use Rattle.mv_ast.specs.declared.program.Form.TheOpen as form
-use Rattle.mv_ast.specs.declared.program.Target.{Target-F}
+use Rattle.mv_ast.specs.declared.program.Target.{Target, Target-F, fold-Target}
 use Rattle.mv_ast.specs.Layers.{form_parts, target_parts}
 
 -- whether one of them holds
@@ -30,3 +30,7 @@ inner_names e = e.what
 -- whether the name of this local stands in an expression
 abbrev pub names_local : ℕ → Expr → Bool
 names_local l = fold-Expr Bool Bool Bool form_names (target_names l) inner_names
+
+-- whether the name of this local stands in an lvalue
+abbrev pub target_names_local : ℕ → Target → Bool
+target_names_local l = fold-Target Bool Bool Bool form_names (target_names l) inner_names

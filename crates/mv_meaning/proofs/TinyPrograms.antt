@@ -13,7 +13,7 @@ use Rattle.mv_ast.specs.declared.world.Stop.TheVariants.{Unfinished}
 use Rattle.mv_ast.specs.Worlds.{World, Came, Stopped}
 use Rattle.mv_meaning.specs.declared.state.Frame.{Frame}
 use Rattle.mv_meaning.specs.declared.state.Flow.TheVariants.{Returns}
-use Rattle.mv_meaning.specs.Meaning.{Below, below_bound, value_of, flow_of, flow_of_all}
+use Rattle.mv_meaning.specs.Meaning.{Context, own_context, value_of, flow_of, flow_of_all}
 use Rattle.mv_meaning.proofs.Equations.{value_of-Number, value_of-Known, flow_of-Express, flow_of-Return_value, flow_of-While}
 
 abbrev expression : Form → Expr
@@ -23,11 +23,11 @@ abbrev number : ℕ → Expr
 number n = expression (form.Number n)
 
 -- return 3;
-pub return_three : (p : Program) (below : Below) (f : Frame) (w : World) →
-    flow_of_all p below (stmt.Return (Some (number 3)) ∷ []) f w ≡ Came (Returns 3) f w 2
-return_three p below f w =
-    rw (flow_of-Return_value p below (stmt.Return (Some (number 3))) (number 3) (stmt.outs-Return (Some (number 3))),
-      value_of-Number p below (number 3) 3 (form.outs-Number 3)) refl
+pub return_three : (p : Program) (context : Context) (f : Frame) (w : World) →
+    flow_of_all p context (stmt.Return (Some (number 3)) ∷ []) f w ≡ Came (Returns 3) f w 2
+return_three p context f w =
+    rw (flow_of-Return_value p context (stmt.Return (Some (number 3))) (number 3) (stmt.outs-Return (Some (number 3))),
+      value_of-Number p context (number 3) 3 (form.outs-Number 3)) refl
 
 -- putchar('x')
 abbrev put_x : Expr
@@ -35,10 +35,10 @@ put_x = expression (form.Known Putchar (number 120 ∷ []))
 
 -- while (1) putchar('x'); at bound 0: one turn, and no more
 pub one_turn : (p : Program) (f : Frame) (w : World) →
-    flow_of p (below_bound p 0) (stmt.While (number 1) (stmt.Express put_x ∷ [])) f w ≡
+    flow_of p (own_context p 0) (stmt.While (number 1) (stmt.Express put_x ∷ [])) f w ≡
     Stopped Unfinished (record w { output = w.output ++ 120 ∷ [] }) 5
 one_turn p f w =
-    let b = below_bound p 0 in
+    let b = own_context p 0 in
     rw (flow_of-While p b (stmt.While (number 1) (stmt.Express put_x ∷ [])) (number 1) (stmt.Express put_x ∷ []) (stmt.outs-While (number 1) (stmt.Express put_x ∷ [])),
       value_of-Number p b (number 1) 1 (form.outs-Number 1),
       flow_of-Express p b (stmt.Express put_x) put_x (stmt.outs-Express put_x),
