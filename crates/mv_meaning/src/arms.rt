@@ -1,6 +1,6 @@
 // The labels of a `switch` (C11 6.8.4.2).
 
-ghost use Rattle.std.specs.Prelude.{◌≡◌, ◌≤◌, ◌+◌, length};
+ghost use Rattle.std.specs.Prelude.{◌≡◌, ◌≤◌, ◌+◌, length, drop};
 ghost use Rattle.mv_meaning.specs.Meaning.{tried_labels};
 ghost use Rattle.mv_meaning.specs.Runs.{capped};
 ghost use Rattle.mv_meaning.specs.Arms.{all_labels, index_of, has_default, first_arm};
@@ -50,4 +50,12 @@ pub fn first_arm(arms: &List<Arm>, value: u32, state: &mut State) -> usize
         }
     }
     default_arm(arms.as_slice())
+}
+
+/// The arms from one on.
+pub fn arms_from(arms: &List<Arm>, first: usize) -> &[Arm]
+    requires { first ≤ length arms.now }
+    ensures { result.now ≡ drop first arms.now }
+{
+    &arms.as_slice()[first..]
 }

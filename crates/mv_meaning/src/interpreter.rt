@@ -1,11 +1,11 @@
 // The evaluation of expressions and statements. Each function of this cycle lowers the bound or goes down the tree.
 
-ghost use Rattle.std.specs.Prelude.{◌≡◌, ◌≤◌, if◌then◌else◌, length, drop};
+ghost use Rattle.std.specs.Prelude.{◌≡◌, if◌then◌else◌};
 ghost use Rattle.mv_num.specs.Words.{add, sub};
 ghost use Rattle.mv_meaning.specs.Runs.{IsReady, IsOutcome, expr_outcome, exprs_outcome, target_outcome, optional_outcome, call_outcome, stmt_outcome, stmts_outcome, while_outcome, do_outcome, for_outcome, arms_outcome, stores_outcome, world_of, goes_back, behind_loop, behind_switch};
 ghost use Rattle.mv_meaning.specs.Meaning.{value_in, returned_value};
 
-use crate::arms::first_arm;
+use crate::arms::{arms_from, first_arm};
 use crate::known::known_value;
 use crate::numbers::{function_of_number, number_of};
 use crate::objects::{clear_local, frame_of};
@@ -334,7 +334,7 @@ fn flow_of(
         Stmt::Switch(e, arms) => {
             let v = value_of(program, here, e, frame, state)?;
             let first = first_arm(arms, v, state);
-            arms_flow(program, here, arms, first, frame, state)
+            arms_flow(program, here, arms_from(arms, first), frame, state)
         }
         Stmt::Break => Ok(Flow::Breaks),
         Stmt::Continue => Ok(Flow::Continues),
@@ -492,22 +492,20 @@ fn behind_switch(flow: Flow) -> Flow
     }
 }
 
-// What the arms of a `switch` do, from the first one on that is picked.
+// What some arms of a `switch` do one after the other.
 #[cycle(evaluation)]
 fn arms_flow(
     program: &Program,
     here: Here,
-    arms: &List<Arm>,
-    first: usize,
+    arms: &[Arm],
     frame: &mut Frame,
     state: &mut State,
 ) -> Result<Flow, Halt>
-    requires ready { IsReady program.now here.depth here.live here.plan_work }
-    requires first { first ≤ length arms.now }
-    ensures { IsOutcome state.old.work (arms_outcome program.now here (drop first arms.now) frame.old state.old) here result frame.new state.new }
+    requires { IsReady program.now here.depth here.live here.plan_work }
+    ensures { IsOutcome state.old.work (arms_outcome program.now here arms.now frame.old state.old) here result frame.new state.new }
 {
     let _work = state.work;
-    for arm in &arms.as_slice()[first..] {
+    for arm in arms {
         let flow = flow_of_all(program, here, &arm.body, frame, state)?;
         if flow != Flow::Goes {
             return Ok(behind_switch(flow));

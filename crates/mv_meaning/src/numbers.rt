@@ -21,7 +21,10 @@ pub fn number_of(program: &Program, function: u32) -> u32
 pub fn function_of_number(program: &Program, number: u32) -> Option<u32>
     ensures { result ≡ function_of_number (own_numbers program.now) number }
 {
-    if number > 0 && (number as usize) <= program.functions.len() {
+    if number == 0 {
+        return None;
+    }
+    if number as usize <= program.functions.len() {
         Some(number - 1)
     } else {
         None
