@@ -68,6 +68,13 @@ fn both(a: u64, b: u64) -> u64
     a.saturating_add(b)
 }
 
+// Their product, likewise.
+fn times(a: u64, b: u64) -> u64
+    ensures { result ≡ capped (a * b) }
+{
+    a.saturating_mul(b)
+}
+
 // 1 for the number of an attributed function.
 fn own_call(program: &Program, f: u32) -> u64
     ensures { result ≡ (if is_attributed (slice_get program.now.functions f) then 1 else 0) }
@@ -210,7 +217,7 @@ fn combinations(program: &Program, switches: &[u32]) -> u64
 {
     let mut all: u64 = 1;
     for s in switches {
-        all = all.saturating_mul(domain_size(program, *s));
+        all = times(all, domain_size(program, *s));
     }
     all
 }
@@ -230,7 +237,7 @@ fn assignments(program: &Program, g: &Function) -> u64
 fn patchable_in(program: &Program, g: &Function) -> u64
     ensures { result ≡ capped (calls program.now g.now * (1 + assignments program.now g.now)) }
 {
-    stmts_calls(program, &g.body).saturating_mul(both(1, assignments(program, g)))
+    times(stmts_calls(program, &g.body), both(1, assignments(program, g)))
 }
 
 // The number of attributed functions.
@@ -254,5 +261,5 @@ pub fn plan_work(program: &Program) -> u64
     for g in program.functions.as_slice() {
         all = both(all, patchable_in(program, g));
     }
-    both(1, both(count_attributed(program), all.saturating_mul(2)))
+    both(1, both(count_attributed(program), both(all, all)))
 }
