@@ -64,7 +64,7 @@ module _ (p : Program) (here : Here) (f : ℕ) (vs : List ℕ) (caller : Frame) 
   too_deep le ge =
       let e : nat_lt here.depth 512 ≡ false = grind arith in
       let P : Bool → Type 0 = λ b.
-          IsOutcome s.work ((if b then (own_context p here.bound).call f vs else stop (Trapped 4)) caller (world_of here s)) here (Err (halt.Stopped (Trapped 4))) caller s in
+      IsOutcome s.work ((if b then (own_context p here.bound).call f vs else stop (Trapped 4)) caller (world_of here s)) here (Err (halt.Stopped (Trapped 4))) caller s in
       subst P (sym e) (halted le)
 
   -- the bound is used up

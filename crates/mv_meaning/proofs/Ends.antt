@@ -28,7 +28,7 @@ module _ (p : Program) (here : Here) (before s : State) where
   ran_none le e =
       let first : Frame = record { function = p.main; locals = [] } in
       let P : Option Function → Type 0 = λ g.
-          IsOutcome before.work (run_of_main p (own_context p here.bound) g first (world_of here before)) here (Ok Goes) first before in
+      IsOutcome before.work (run_of_main p (own_context p here.bound) g first (world_of here before)) here (Ok Goes) first before in
       record { frame = first; outcome = subst P (sym e) (gave le) }
 
   -- through its body
@@ -83,7 +83,7 @@ module _ (p : Program) (input : List ℕ) (actions : List Action) (bound plan_wo
       meant_by ending (world_of at_start s) s.work ≡ with_capped_work (mean p input actions bound)
   is_meaning s0 s r ending begins runs ends =
       let run : World → Outcome Frame Flow = λ w.
-          run_of_main p (own_context p bound) (slice_get p.functions p.main) (record { function = p.main; locals = [] }) w in
+      run_of_main p (own_context p bound) (slice_get p.functions p.main) (record { function = p.main; locals = [] }) w in
       sym (ap (λ w. with_capped_work (meaning_of (run w))) (sym (begins.world bound plan_work)) ∙
       ends_as s0.work (run (world_of at_start s0)) at_start r runs.frame s ending begins.work runs.outcome.shown ends)
 

@@ -20,8 +20,8 @@ found-append : (v : ℕ) (xs ys : List ℕ) → (tried_labels v xs).found ≡ tr
 found-append v [] ys h = absurd (false_is_not h)
 found-append v (x ∷ xs) ys h =
     let P : Bool → Type 0 = λ b.
-        (next_tried b (tried_labels v xs)).found ≡ true →
-        next_tried b (tried_labels v (xs ++ ys)) ≡ record { labels = (next_tried b (tried_labels v xs)).labels; found = true } in
+    (next_tried b (tried_labels v xs)).found ≡ true →
+    next_tried b (tried_labels v (xs ++ ys)) ≡ record { labels = (next_tried b (tried_labels v xs)).labels; found = true } in
     let go : P (nat_eq v x) =
     elim (nat_eq v x) as P [ true ↦ λ k. refl | false ↦ λ k. ap (next_tried false) (found-append v xs ys k) ] in
     go h
@@ -36,11 +36,11 @@ passed-append v [] ys h =
 passed-append v (x ∷ xs) ys h =
     let t : Tried = tried_labels v ys in
     let P : Bool → Type 0 = λ b.
-        (next_tried b (tried_labels v xs)).found ≡ false →
-        next_tried b (tried_labels v (xs ++ ys)) ≡ record { labels = (next_tried b (tried_labels v xs)).labels + t.labels; found = t.found } in
+    (next_tried b (tried_labels v xs)).found ≡ false →
+    next_tried b (tried_labels v (xs ++ ys)) ≡ record { labels = (next_tried b (tried_labels v xs)).labels + t.labels; found = t.found } in
     let go : P (nat_eq v x) =
     elim (nat_eq v x) as P [
-      true ↦ λ k. absurd (false_is_not (sym k))
+      | true ↦ λ k. absurd (false_is_not (sym k))
       | false ↦ λ k.
           let n : ℕ = (tried_labels v xs).labels in
           let e : 1 + (n + t.labels) ≡ 1 + n + t.labels = omega arith in

@@ -32,7 +32,7 @@ capped_above a (suc k) le = grind (arith, le)
 pub capped_left : (a b : ℕ) → capped (capped a * b) ≡ capped (a * b)
 capped_left a b =
     elim (cases_lt a (2 ^ 64 - 1)) [
-      inl lt ↦ let e : capped a ≡ a = omega arith in ap (λ n. capped (n * b)) e
+      | inl lt ↦ let e : capped a ≡ a = omega arith in ap (λ n. capped (n * b)) e
       | inr ge ↦ let e : capped a ≡ 2 ^ 64 - 1 = omega arith in ap (λ n. capped (n * b)) e ∙ capped_above a b ge
     ]
 

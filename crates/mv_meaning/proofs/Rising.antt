@@ -247,9 +247,9 @@ module _ (p : Program) (lesser greater : Context) (rises : ContextRises lesser g
   form_case x y q =
       subst (λ z. FormRises (roll-Form z)) q
       (λ t.
-          let z = map-Form F T E Form Target Expr (λ a. a.0) (λ a. a.0) (λ a. a.0) y in
-          subst (λ (d : CType → Evaluation ℕ). Rises (d t) (form_of p greater (roll-Form z) t)) (sym (form_of_roll lesser z))
-          (subst (λ (d : CType → Evaluation ℕ). Rises (form_there lesser y t) (d t)) (sym (form_of_roll greater z)) (form_rises y t)))
+      let z = map-Form F T E Form Target Expr (λ a. a.0) (λ a. a.0) (λ a. a.0) y in
+      subst (λ (d : CType → Evaluation ℕ). Rises (d t) (form_of p greater (roll-Form z) t)) (sym (form_of_roll lesser z))
+      (subst (λ (d : CType → Evaluation ℕ). Rises (form_there lesser y t) (d t)) (sym (form_of_roll greater z)) (form_rises y t)))
 
   target_case : (x : Target-F Form Target Expr) (y : Target-F F T E) → map-Target F T E Form Target Expr (λ a. a.0) (λ a. a.0) (λ a. a.0) y ≡ x → TargetRises (roll-Target x)
   target_case x y q =

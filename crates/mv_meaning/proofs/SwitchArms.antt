@@ -156,8 +156,8 @@ module _ (p : Program) (context : Context) where
     picked (a ∷ arms) =
         let all : List (Evaluation Flow) = bodies_of (map (arm_of p context) (a ∷ arms)) in
         let P : Bool → Type 0 = λ b.
-            (if b then all else bodies_from is_picked (map (arm_of p context) arms)) ≡
-            bodies_of (map (arm_of p context) (drop (if b then 0 else suc (index_of is_same arms)) (a ∷ arms))) in
+        (if b then all else bodies_from is_picked (map (arm_of p context) arms)) ≡
+        bodies_of (map (arm_of p context) (drop (if b then 0 else suc (index_of is_same arms)) (a ∷ arms))) in
         ap (λ b. if b then all else bodies_from is_picked (map (arm_of p context) arms)) (same a) ∙
         (elim (is_same a) as P [ true ↦ refl | false ↦ picked arms ])
 
@@ -169,11 +169,11 @@ module _ (p : Program) (context : Context) where
       let by_label : List (Evaluation Flow) = bodies_from (λ a. (tried_labels v a.labels).found) ds in
       let by_default : List (Evaluation Flow) = bodies_from (λ a. a.other) ds in
       let flow_for : Tried → Outcome Frame Flow = λ t.
-          counted t.labels (bind (in_order (if t.found then by_label else by_default)) after_switch) f w in
+      counted t.labels (bind (in_order (if t.found then by_label else by_default)) after_switch) f w in
       let t : Tried = tried_labels v (all_labels arms) in
       let P : Bool → Type 0 = λ b.
-          counted t.labels (bind (in_order (if b then by_label else by_default)) after_switch) f w ≡
-          counted t.labels (arms_from p context (drop (if b then index_of (has_label v) arms else index_of has_default arms) arms)) f w in
+      counted t.labels (bind (in_order (if b then by_label else by_default)) after_switch) f w ≡
+      counted t.labels (arms_from p context (drop (if b then index_of (has_label v) arms else index_of has_default arms) arms)) f w in
       let label_case : P true =
       ap (λ bs. counted t.labels (bind (in_order bs) after_switch) f w)
       (picked (λ a. (tried_labels v a.labels).found) (has_label v) (λ a. ap (λ (d : ArmDenotation). (tried_labels v d.labels).found) (arm_of_lem p context a)) arms) in

@@ -22,8 +22,8 @@ pub record HasAnswered (a : Answered) (here : Here) (old new : State) (answer : 
 pub record CarriedOut (p : Program) (code index : ℕ) (old new : State) (answer : ℕ) : Type 0 where
   pub answered : (if is_commit code then bound_from (is_addressed code index) 0 (attributed_functions p) new.bindings else 0) ≡ answer
   pub changed :
-    new ≡
-    record old {
-      bindings = bindings_after p code index old.globals old.bindings;
-      log = old.log ++ events_from 0 old.bindings (bindings_after p code index old.globals old.bindings);
-    }
+      new ≡
+      record old {
+        bindings = bindings_after p code index old.globals old.bindings;
+        log = old.log ++ events_from 0 old.bindings (bindings_after p code index old.globals old.bindings);
+      }

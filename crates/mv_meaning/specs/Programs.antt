@@ -22,9 +22,9 @@ pub record IsStart (p : Program) (input : List ℕ) (actions : List Action) (s :
 pub record HasRun (p : Program) (here : Here) (before : State) (r : Result Flow Halt) (s : State) : Type 0 where
   pub frame : Frame
   pub outcome :
-    IsOutcome before.work
-    (run_of_main p (own_context p here.bound) (slice_get p.functions p.main) (record { function = p.main; locals = [] }) (world_of here before))
-    here r frame s
+      IsOutcome before.work
+      (run_of_main p (own_context p here.bound) (slice_get p.functions p.main) (record { function = p.main; locals = [] }) (world_of here before))
+      here r frame s
 
 -- the end of a program whose `main` came to a result; there is none for want of memory
 abbrev pub HasEnd : Result Flow Halt → End → Type 0

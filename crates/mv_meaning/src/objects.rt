@@ -47,7 +47,11 @@ fn push_arguments(
 }
 
 // The words of further locals, which are 0.
-fn push_zeros(alloc: Global, declared: &[Local], locals: &mut List<List<u32>>) -> Result<(), AllocError>
+fn push_zeros(
+    alloc: Global,
+    declared: &[Local],
+    locals: &mut List<List<u32>>,
+) -> Result<(), AllocError>
     ensures { OnOk result (locals.new ≡ locals.old ++ map (λ l. replicate (words_of_size l.size) 0) declared.now) }
 {
     for local in declared {
@@ -63,11 +67,20 @@ fn declared_locals(g: &Function) -> &[Local]
 {
     let all = g.locals.as_slice();
     let params = g.params as usize;
-    if params < all.len() { &all[params..] } else { &[] }
+    if params < all.len() {
+        &all[params..]
+    } else {
+        &[]
+    }
 }
 
 /// The frame of a function that is called with some arguments.
-pub fn frame_of(alloc: Global, g: &Function, f: u32, arguments: &List<u32>) -> Result<Frame, AllocError>
+pub fn frame_of(
+    alloc: Global,
+    g: &Function,
+    f: u32,
+    arguments: &List<u32>,
+) -> Result<Frame, AllocError>
     ensures { IfOk result (λ frame. frame ≡ frame_of f g.now arguments.now) }
 {
     let mut locals = List::new(alloc);
@@ -103,8 +116,10 @@ fn clear_words(alloc: Global, objects: &mut List<List<u32>>, which: u32)
 /// and else those that have no value of their own.
 pub fn clear_local(l: u32, values: &List<Expr>, frame: &mut Frame, state: &mut State)
     ensures locals { frame.new ≡ record frame.old { locals = slice_set frame.old.locals l (replicate (size_of frame.old.locals l) 0) } }
-    ensures counted { state.new ≡ record state.old { work = capped (state.old.work +
-        (if any_of (map (names_local l) values.now) then size_of frame.old.locals l else size_of frame.old.locals l - length values.now)) } }
+    ensures counted { state.new ≡ record state.old {
+      work = capped (state.old.work +
+          (if any_of (map (names_local l) values.now) then size_of frame.old.locals l else size_of frame.old.locals l - length values.now));
+    } }
 {
     let size = size_at(&frame.locals, l);
     clear_words(state.alloc, &mut frame.locals, l);

@@ -110,7 +110,10 @@ fn expr_calls(program: &Program, e: &Expr) -> u64
         Form::After(_, target) => target_calls(program, target),
         Form::Direct(f, args) => both(own_call(program, *f), exprs_calls(program, args)),
         Form::Through(args, callee) => {
-            both(exprs_calls(program, args), expr_calls(program, callee.get()))
+            both(
+                exprs_calls(program, args),
+                expr_calls(program, callee.get()),
+            )
         }
         Form::Known(_, args) => exprs_calls(program, args),
     }
@@ -162,7 +165,10 @@ fn stmt_calls(program: &Program, s: &Stmt) -> u64
         Stmt::Express(e) => expr_calls(program, e),
         Stmt::If(e, yes_part, no_part) => both(
             expr_calls(program, e),
-            both(stmts_calls(program, yes_part), stmts_calls(program, no_part)),
+            both(
+                stmts_calls(program, yes_part),
+                stmts_calls(program, no_part),
+            ),
         ),
         Stmt::While(e, body) => both(expr_calls(program, e), stmts_calls(program, body)),
         Stmt::Do(body, e) => both(expr_calls(program, e), stmts_calls(program, body)),
@@ -237,7 +243,10 @@ fn assignments(program: &Program, g: &Function) -> u64
 fn patchable_in(program: &Program, g: &Function) -> u64
     ensures { result ≡ capped (calls program.now g.now * (1 + assignments program.now g.now)) }
 {
-    times(stmts_calls(program, &g.body), both(1, assignments(program, g)))
+    times(
+        stmts_calls(program, &g.body),
+        both(1, assignments(program, g)),
+    )
 }
 
 // The number of attributed functions.

@@ -495,14 +495,14 @@ pub optional_value-returns-in-None : goal.optional_value-returns-in-None
 optional_value-returns-in-None t c =
     let a = c.args in
     let P : Option Expr → Type 0 = λ e.
-        IsOutcome a.state.now.work (optional_outcome a.program.now a.here a.otherwise e a.frame.now a.state.now) a.here (Ok a.otherwise) a.frame.now a.state.now in
+    IsOutcome a.state.now.work (optional_outcome a.program.now a.here a.otherwise e a.frame.now a.state.now) a.here (Ok a.otherwise) a.frame.now a.state.now in
     subst P (sym c.in-None.is) (gave (omega arith))
 
 pub optional_value-returns-in-Some : goal.optional_value-returns-in-Some
 optional_value-returns-in-Some t c =
     let a = c.args in
     let P : Option Expr → Type 0 = λ e.
-        IsOutcome a.state.now.work (optional_outcome a.program.now a.here a.otherwise e a.frame.now a.state.now) a.here c.value_of.result c.value_of.new.frame c.value_of.new.state in
+    IsOutcome a.state.now.work (optional_outcome a.program.now a.here a.otherwise e a.frame.now a.state.now) a.here c.value_of.result c.value_of.new.frame c.value_of.new.state in
     subst P (sym c.in-Some.is) c.value_of.ensures
 
 pub call-returns-in_err-flow-in-Some : goal.call-returns-in_err-flow-in-Some
@@ -529,9 +529,10 @@ call-flow_of_all-requires t c =
     let a = c.args in
     let g = c.in-Some.g.now in
     let found = sym c.get.ensures ∙ ap option_copied c.in-Some.is in
-    let one : c.from.result ≤ 1 = search rules in
-    (omega (arith, less_spent a.program.now a.here.bound a.f g c.if-here-eq0.false found, c.decreases),
-    record { functions = c.requires.functions; deep = omega arith; lively = omega (arith, one); plans = c.requires.plans })
+    let one : c.from.result ≤ 1 = search rules in (
+      omega (arith, less_spent a.program.now a.here.bound a.f g c.if-here-eq0.false found, c.decreases),
+      record { functions = c.requires.functions; deep = omega arith; lively = omega (arith, one); plans = c.requires.plans },
+    )
 
 pub call-returns-in-None : goal.call-returns-in-None
 call-returns-in-None t c =
