@@ -1,9 +1,9 @@
 -- What follows from the rules of an image.
-use Rattle.std.proofs.Common.{◌≡◌, ℕ, zero, suc, ◌+◌, ◌-◌, ◌*◌, ◌/◌, ◌%◌, ◌^◌, ◌<◌, ◌≤◌, List, [], ◌∷◌, ◌++◌, length, slice_index, refl, sym, ap, ◌∙◌, arith, append_assoc, All}
+use Rattle.std.proofs.Common.{◌≡◌, ℕ, ◌-◌, ◌%◌, List, [], ◌++◌, length, ap, ◌∙◌, arith, append_assoc}
 use Rattle.std.specs.Prelude.{replicate}
 use Rattle.mv_num.specs.Bytes.{AreWords, bytes_of}
-use Rattle.mv_image.specs.Spelling.{Fields, joined, filled, header_of, words_in, names_in, spelling}
-use Rattle.mv_image.specs.Faults.{Rules, Spells, CountsFit}
+use Rattle.mv_image.specs.Spelling.{Fields, joined, filled, header_of, words_in, spelling}
+use Rattle.mv_image.specs.Faults.{CountsFit}
 
 pub counts_fit : (image : Fields) → AreWords (words_in image) → CountsFit image
 unfolding words_in header_of

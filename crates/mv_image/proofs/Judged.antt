@@ -1,12 +1,12 @@
 -- The places of bytes, and the first that is wrong.
-use Rattle.std.proofs.Common.{◌≡◌, ℕ, zero, suc, ◌+◌, ◌-◌, ◌*◌, ◌/◌, ◌<◌, ◌≤◌, Bool, true, false, cond, ltb, List, length, refl, sym, ap, subst, ◌∙◌, arith, inl, inr}
+use Rattle.std.proofs.Common.{◌≡◌, ℕ, ◌+◌, ◌-◌, ◌*◌, ◌/◌, ◌<◌, ◌≤◌, true, false, ltb, List, length, refl, sym, ap, subst, ◌∙◌, arith, inl, inr}
 use Rattle.std.proofs.lemmas.Bool.{lt-ltb, le-ltb, cases_lt}
 use Rattle.mv_num.specs.Bytes.{words_of}
 use Rattle.mv_num.proofs.ByteLaws.{length-words_of}
 use Rattle.mv_image.specs.Places.{words_end, name_bytes}
 use Rattle.mv_image.specs.Rules.{word_fits, name_fits}
 use Rattle.mv_image.specs.Spelling.{filled}
-use Rattle.mv_image.specs.Faults.{places, offset, place_fits, IsThere, AllBefore, Spelled, IsTruncated, IsBad, IsTrailing, FirstFault}
+use Rattle.mv_image.specs.Faults.{places, offset, place_fits, AllBefore, Spelled, IsTruncated, IsBad, IsTrailing}
 
 abbrev pub end_of : List ℕ → ℕ
 end_of bytes = words_end (words_of bytes)

@@ -1,12 +1,12 @@
 -- Bytes have one verdict: they spell one image, or have one first fault.
-use Rattle.std.proofs.Common.{◌≡◌, ℕ, zero, suc, ◌+◌, ◌-◌, ◌*◌, ◌<◌, ◌≤◌, Bool, true, false, List, [], ◌∷◌, ◌++◌, length, take, drop, map, refl, sym, ap, subst, ◌∙◌, arith, inl, inr, All, append_assoc, Result, Ok, Err}
+use Rattle.std.proofs.Common.{◌≡◌, ℕ, suc, ◌+◌, ◌*◌, ◌<◌, true, false, List, [], ◌∷◌, ◌++◌, length, take, drop, map, refl, sym, ap, subst, ◌∙◌, arith, inl, inr, All, append_assoc, Result, Ok, Err}
 use Rattle.std.specs.Prelude.{IfOk, IfErr, MatchResult}
 use Rattle.std.specs.List.{flat_map}
 use Rattle.std.proofs.lemmas.Bool.{cases_lt}
 use Rattle.std.proofs.lemmas.List.{take_at, drop_at, length-append}
 use Rattle.std.proofs.lemmas.List.Concat.{flat_map-cons}
 use Rattle.mv_num.specs.Bytes.{words_of, bytes_of, AreWords}
-use Rattle.mv_num.proofs.ByteLaws.{bytes_of-append, length-bytes_of, words_of-bytes_of, bytes-number}
+use Rattle.mv_num.proofs.ByteLaws.{bytes-number}
 use Rattle.mv_descriptors.specs.Widths.{switch_words, function_words, variant_words, guard_words, site_words, SwitchWhole, FunctionWhole, VariantWhole, GuardWhole, SiteWhole}
 use Rattle.mv_descriptors.specs.WidthLaws.{one_switch, one_function, one_variant, one_guard, one_site, switch_width, function_width, variant_width, guard_width, site_width}
 use Rattle.mv_descriptors.specs.declared.rows.SwitchRow.{SwitchRow}
@@ -17,7 +17,7 @@ use Rattle.mv_descriptors.specs.declared.rows.SiteRow.{SiteRow}
 use Rattle.mv_image.specs.declared.fault.ImageError.{ImageError}
 use Rattle.mv_image.specs.declared.fault.ImageError.TheVariants.{Memory, Truncated, BadField, Trailing}
 use Rattle.mv_image.specs.Spelling.{Fields, joined, header_of, words_in, names_in, spelling}
-use Rattle.mv_image.specs.Faults.{places, offset, place_fits, IsThere, AllBefore, Spelled, IsTruncated, IsBad, IsTrailing, FirstFault, IsMemory, Rules, Spells, lengths_in}
+use Rattle.mv_image.specs.Faults.{places, offset, place_fits, IsThere, AllBefore, Spelled, IsTruncated, IsBad, FirstFault, IsMemory, Rules, Spells, lengths_in}
 
 -- ---- one fault
 

@@ -1,9 +1,9 @@
 -- Where the rows of an image stand among its words.
-use Rattle.std.proofs.Common.{◌≡◌, ℕ, zero, suc, ◌+◌, ◌-◌, ◌*◌, ◌<◌, ◌≤◌, Bool, true, false, List, [], ◌∷◌, ◌++◌, length, take, drop, map, slice_index, slice_index_or, get_or, slice_range, refl, sym, ap, subst, ◌∙◌, arith, inl, inr, All, append_assoc}
+use Rattle.std.proofs.Common.{◌≡◌, ℕ, zero, suc, ◌+◌, ◌-◌, ◌*◌, ◌<◌, List, [], ◌∷◌, ◌++◌, length, take, drop, slice_index, get_or, slice_range, refl, sym, ap, subst, ◌∙◌, arith, All, append_assoc}
 use Rattle.std.specs.List.{flat_map}
 use Rattle.std.proofs.lemmas.List.{take_at, drop_at, length-append}
 use Rattle.std.proofs.lemmas.List.Concat.{flat_map-cons}
-use Rattle.mv_num.specs.Bytes.{words_of, AreWords}
+use Rattle.mv_num.specs.Bytes.{words_of}
 use Rattle.mv_descriptors.specs.Widths.{switch_words, function_words, variant_words, guard_words, site_words, SwitchWhole, FunctionWhole, VariantWhole, GuardWhole, SiteWhole}
 use Rattle.mv_descriptors.specs.WidthLaws.{switch_width, function_width, variant_width, guard_width, site_width}
 use Rattle.mv_descriptors.specs.declared.rows.SwitchRow.{SwitchRow}
@@ -11,11 +11,10 @@ use Rattle.mv_descriptors.specs.declared.rows.FunctionRow.{FunctionRow}
 use Rattle.mv_descriptors.specs.declared.rows.VariantRow.{VariantRow}
 use Rattle.mv_descriptors.specs.declared.rows.GuardRow.{GuardRow}
 use Rattle.mv_descriptors.specs.declared.rows.SiteRow.{SiteRow}
-use Rattle.mv_image.specs.Places.{text_words, data_words, switch_rows, function_rows, variant_rows, guard_rows, site_rows, data_at, switches_at, functions_at, variants_at, guards_at, sites_at, words_end, switch_field, function_field, variant_field, guard_field, site_field}
-use Rattle.mv_image.specs.Rules.{word_fits}
-use Rattle.mv_image.specs.Spelling.{Fields, joined, header_of, words_in, names_in, spelling}
+use Rattle.mv_image.specs.Places.{data_at, switches_at, functions_at, variants_at, guards_at, sites_at, switch_field, function_field, variant_field, guard_field, site_field, variants_of, guards_of}
+use Rattle.mv_image.specs.Spelling.{Fields, header_of, words_in, names_in, spelling}
 use Rattle.mv_image.specs.Faults.{AllFit, Rules, Counts, image_words}
-use Rattle.mv_image.proofs.RowRules.{functions_from, variants_from, guards_from, sites_from, end_from}
+use Rattle.mv_image.proofs.RowRules.{functions_from, variants_from, guards_from, sites_from}
 use Rattle.mv_image.proofs.WhatIsRead.{data_from, switches_after, all_fit}
 use Rattle.mv_image.proofs.OneVerdict.{words_in_front, flat_length, all_tail, all_head, whole_switches, whole_functions, whole_variants}
 
@@ -24,13 +23,13 @@ unfolding words_in header_of
 counts_are image x = record { entry = refl; text = refl; globals = refl; switches = refl; functions = refl; variants = refl; guards = refl; sites = refl; names = refl }
 
 -- a word of a list behind another
-behind : (front back : List ℕ) (i j : ℕ) → i ≡ length front + j → slice_index (front ++ back) i ≡ slice_index back j
+pub behind : (front back : List ℕ) (i j : ℕ) → i ≡ length front + j → slice_index (front ++ back) i ≡ slice_index back j
 behind [] back i j e = ap (slice_index back) (omega (arith, e))
 behind (x ∷ front) back i j e =
     let m : i ≡ suc (length front + j) = omega (arith, e) in
     ap (slice_index (x ∷ (front ++ back))) m ∙ behind front back (length front + j) j refl
 
-before : (front back : List ℕ) (i : ℕ) → i < length front → slice_index (front ++ back) i ≡ slice_index front i
+pub before : (front back : List ℕ) (i : ℕ) → i < length front → slice_index (front ++ back) i ≡ slice_index front i
 before [] back i lt = absurd (omega arith)
 before (x ∷ front) back zero lt = refl
 before (x ∷ front) back (suc i) lt = before front back i (omega (arith, lt))
@@ -178,3 +177,45 @@ image_words_are a r = words_in_front (words_in a) (names_in a) r.words
 
 pub image_fits : (a : Fields) → Rules a → AllFit (image_words a)
 image_fits a r = all_fit (spelling a) r.spelled
+
+pub counts_of : (a : Fields) → Rules a → Counts (image_words a) a
+counts_of a r = subst (λ (ws : List ℕ). Counts ws a) (sym (image_words_are a r)) (counts_are a (words_of (names_in a)))
+
+pub text_is : (a : Fields) → Rules a → slice_range (image_words a) 12 (data_at (image_words a)) ≡ a.text
+text_is a r = subst (λ (ws : List ℕ). slice_range ws 12 (data_at ws) ≡ a.text) (sym (image_words_are a r)) (text_stands a (words_of (names_in a)))
+
+pub globals_are : (a : Fields) → Rules a → slice_range (image_words a) (data_at (image_words a)) (switches_at (image_words a)) ≡ a.globals
+globals_are a r = subst (λ (ws : List ℕ). slice_range ws (data_at ws) (switches_at ws) ≡ a.globals) (sym (image_words_are a r)) (globals_stand a (words_of (names_in a)))
+
+pub switch_is : (a : Fields) → Rules a → (k j : ℕ) (d : SwitchRow) → k < length a.switches → j < 20 → switch_field (image_words a) k j ≡ slice_index (switch_words (get_or a.switches k d)) j
+switch_is a r k j d hk hj = ap (λ (ws : List ℕ). switch_field ws k j) (image_words_are a r) ∙ switch_stands a (words_of (names_in a)) r k j d hk hj
+
+pub function_is : (a : Fields) → Rules a → (k j : ℕ) (d : FunctionRow) → k < length a.functions → j < 10 → function_field (image_words a) k j ≡ slice_index (function_words (get_or a.functions k d)) j
+function_is a r k j d hk hj = ap (λ (ws : List ℕ). function_field ws k j) (image_words_are a r) ∙ function_stands a (words_of (names_in a)) r k j d hk hj
+
+pub variant_is : (a : Fields) → Rules a → (k j : ℕ) (d : VariantRow) → k < length a.variants → j < 5 → variant_field (image_words a) k j ≡ slice_index (variant_words (get_or a.variants k d)) j
+variant_is a r k j d hk hj = ap (λ (ws : List ℕ). variant_field ws k j) (image_words_are a r) ∙ variant_stands a (words_of (names_in a)) r k j d hk hj
+
+pub guard_is : (a : Fields) → Rules a → (k j : ℕ) (d : GuardRow) → k < length a.guards → j < 12 → guard_field (image_words a) k j ≡ slice_index (guard_words (get_or a.guards k d)) j
+guard_is a r k j d hk hj = ap (λ (ws : List ℕ). guard_field ws k j) (image_words_are a r) ∙ guard_stands a (words_of (names_in a)) r k j d hk hj
+
+pub site_is : (a : Fields) → Rules a → (k j : ℕ) (d : SiteRow) → k < length a.sites → j < 2 → site_field (image_words a) k j ≡ slice_index (site_words (get_or a.sites k d)) j
+site_is a r k j d hk hj = ap (λ (ws : List ℕ). site_field ws k j) (image_words_are a r) ∙ site_stands a (words_of (names_in a)) r k j d hk hj
+
+pub function_variants : (a : Fields) → Rules a → (k : ℕ) (d : FunctionRow) → k < length a.functions → variants_of (image_words a) k ≡ (get_or a.functions k d).variants
+function_variants a r k d lt =
+    let row : FunctionRow = get_or a.functions k d in
+    let whole : length row.switches ≡ 6 = (r.functions k d lt).0 in
+    function_is a r k 9 d lt (omega arith) ∙ behind row.switches (row.variants ∷ []) 6 0 (omega (arith, whole))
+
+pub variant_guards : (a : Fields) → Rules a → (k : ℕ) (d : VariantRow) → k < length a.variants → guards_of (image_words a) k ≡ (get_or a.variants k d).guards
+variant_guards a r k d lt =
+    let row : VariantRow = get_or a.variants k d in
+    let whole : length row.words ≡ 2 = (r.variants k d lt).0 in
+    variant_is a r k 4 d lt (omega arith) ∙ behind row.words (row.guards ∷ []) 2 0 (omega (arith, whole))
+
+pub function_switch_is : (a : Fields) → Rules a → (k i : ℕ) (d : FunctionRow) → k < length a.functions → i < 6 → function_field (image_words a) k (3 + i) ≡ slice_index (get_or a.functions k d).switches i
+function_switch_is a r k i d lt hi =
+    let row : FunctionRow = get_or a.functions k d in
+    let whole : length row.switches ≡ 6 = (r.functions k d lt).0 in
+    function_is a r k (3 + i) d lt (omega (arith, hi)) ∙ behind (row.length ∷ row.entry ∷ row.count ∷ []) (row.switches ++ row.variants ∷ []) (3 + i) i refl ∙ before row.switches (row.variants ∷ []) i (omega (arith, whole, hi))

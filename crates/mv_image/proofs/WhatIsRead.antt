@@ -1,12 +1,12 @@
 -- What the reader makes of bytes that spell an image is that image.
-use Rattle.std.proofs.Common.{◌≡◌, ℕ, zero, suc, ◌+◌, ◌-◌, ◌*◌, ◌/◌, ◌%◌, ◌^◌, ◌<◌, ◌≤◌, Bool, true, false, cond, ltb, leb, eqb, ◌||◌, ◌&&◌, not, List, [], ◌∷◌, ◌++◌, length, take, drop, map, slice_index, slice_range, refl, sym, ap, subst, ◌∙◌, arith, inl, inr, append_assoc, All, get_or}
+use Rattle.std.proofs.Common.{◌≡◌, ℕ, zero, suc, ◌+◌, ◌-◌, ◌*◌, ◌/◌, ◌<◌, ◌≤◌, Bool, true, false, ltb, eqb, ◌||◌, not, List, [], ◌∷◌, ◌++◌, length, take, drop, map, slice_index, slice_range, refl, sym, ap, subst, ◌∙◌, arith, inl, inr, All, get_or}
 use Rattle.std.specs.Prelude.{replicate}
 use Rattle.std.specs.List.{flat_map}
 use Rattle.std.proofs.Math.Seq.{take-length}
 use Rattle.std.proofs.Common.{eq-eqb}
-use Rattle.std.proofs.lemmas.Bool.{lt-ltb, le-ltb, cases_lt, ne_eqb, eqb-true, leb-true}
-use Rattle.std.proofs.lemmas.List.{get_or-take, get_or-drop, get_or_past, length-take, length-drop, take-append-drop, take_at, drop_at, length-append, drop-drop}
-use Rattle.byteorder.specs.Endian.{little_number, little_bytes}
+use Rattle.std.proofs.lemmas.Bool.{lt-ltb, le-ltb, cases_lt, eqb-true}
+use Rattle.std.proofs.lemmas.List.{get_or-take, get_or_past, length-take, length-drop, take-append-drop, take_at, drop_at}
+use Rattle.byteorder.specs.Endian.{little_number}
 use Rattle.mv_num.specs.Bytes.{words_of, bytes_of, AreBytes, AreWords}
 use Rattle.mv_num.proofs.ByteLaws.{number-bytes, length-words_of}
 use Rattle.mv_descriptors.specs.Widths.{switch_words, function_words, variant_words, guard_words, site_words, SwitchWhole, FunctionWhole, VariantWhole, GuardWhole, SwitchClean, FunctionClean, VariantClean}
@@ -15,16 +15,16 @@ use Rattle.std.proofs.lemmas.List.Concat.{flat_map-cons}
 use Rattle.mv_descriptors.specs.declared.rows.SwitchRow.{SwitchRow}
 use Rattle.mv_descriptors.specs.declared.rows.FunctionRow.{FunctionRow}
 use Rattle.mv_image.specs.Places.{text_words, data_words, switch_rows, function_rows, variant_rows, guard_rows, site_rows, name_bytes, data_at, switches_at, functions_at, variants_at, guards_at, sites_at, words_end, switch_field, function_field, name_length, names, sum_below, first_of}
-use Rattle.mv_image.specs.Rules.{word_fits, header_fits, switch_fits, function_fits, name_fits}
+use Rattle.mv_image.specs.Rules.{header_fits, switch_fits, function_fits, name_fits}
 use Rattle.mv_image.specs.Spelling.{Fields, joined, filled, header_of, words_in, names_in, spelling}
-use Rattle.mv_image.specs.Faults.{places, place_fits, offset, AllFit, AllBefore, Spelled, Rules, Spells, IsSwitch, IsFunction, IsVariant, lengths_in}
+use Rattle.mv_image.specs.Faults.{AllFit, Spelled, Spells, lengths_in}
 use Rattle.mv_image.specs.Tables.{AreTables}
 use Rattle.mv_image.specs.declared.reading.Tables.{Tables}
 use Rattle.mv_image.proofs.Judged.{end_of, fits-word, fits-name, end_is}
 use Rattle.mv_image.proofs.RowRules.{switches_from, functions_from, variants_from, guards_from, sites_from, end_from, header_word}
 use Rattle.mv_image.proofs.RowReads.{index_range, switch_rule, function_rule}
-use Rattle.mv_image.proofs.Parts.{range_join, front_join, range_none, range_length}
-use Rattle.mv_image.proofs.PlaceLaws.{sum_below-none, first_of-none, first_of-more}
+use Rattle.mv_image.proofs.Parts.{range_join, front_join, range_length}
+use Rattle.mv_image.proofs.PlaceLaws.{sum_below-none, second_true}
 
 -- ---- bytes and words
 
@@ -90,7 +90,7 @@ pub switches_after : (ws : List ℕ) → switches_at ws ≡ data_at ws + data_wo
 unfolding switches_at
 switches_after ws = refl
 
-header_rule : (ws : List ℕ) (i : ℕ) → AllFit ws → i < 12 → header_fits ws i ≡ true
+pub header_rule : (ws : List ℕ) (i : ℕ) → AllFit ws → i < 12 → header_fits ws i ≡ true
 header_rule ws i fit lt =
     sym (header_word ws i lt) ∙ fit i (omega (arith, switches_from ws, functions_from ws, variants_from ws, guards_from ws, sites_from ws, end_from ws))
 
@@ -108,11 +108,7 @@ last_is ws h = eqb-true _ _ h
 
 -- ---- sums of the lengths of names
 
-second_true : (a b : Bool) → (a && b) ≡ true → b ≡ true
-second_true true b e = e
-second_true false b e = absurd cc
-
-not_last : (a b : ℕ) (x : Bool) → a ≡ b → (not (eqb a b) || x) ≡ true → x ≡ true
+pub not_last : (a b : ℕ) (x : Bool) → a ≡ b → (not (eqb a b) || x) ≡ true → x ≡ true
 not_last a b x e h = let t : eqb a b ≡ true = eq-eqb a b e in rw t at h
 
 function_sum : (ws : List ℕ) (k : ℕ) → function_fits ws k 0 ≡ true → switch_rows ws + k + 1 ≡ names ws → sum_below (name_length ws) (names ws) ≡ name_bytes ws

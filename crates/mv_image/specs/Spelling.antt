@@ -1,5 +1,5 @@
 -- What an image is, and its one spelling.
-use Rattle.std.specs.Prelude.{ℕ, ◌≡◌, ◌+◌, ◌-◌, ◌*◌, ◌/◌, ◌<◌, ◌^◌, List, [], ◌∷◌, ◌++◌, length, map, sum, sum_by, replicate}
+use Rattle.std.specs.Prelude.{ℕ, ◌+◌, ◌-◌, ◌*◌, ◌/◌, List, [], ◌∷◌, ◌++◌, length, replicate}
 use Rattle.std.specs.List.{flat_map}
 use Rattle.mv_num.specs.Bytes.{bytes_of}
 use Rattle.mv_descriptors.specs.Widths.{switch_words, function_words, variant_words, guard_words, site_words}
@@ -19,6 +19,20 @@ pub record Fields : Type 0 where
   pub guards : List GuardRow
   pub sites : List SiteRow
   pub names : List (List ℕ)
+
+-- a program without tables
+abbrev pub bare : ℕ → List ℕ → List ℕ → Fields
+bare entry text globals = record {
+  entry = entry;
+  text = text;
+  globals = globals;
+  switches = [];
+  functions = [];
+  variants = [];
+  guards = [];
+  sites = [];
+  names = [];
+}
 
 abbrev pub joined : List (List ℕ) → List ℕ
 joined names = flat_map (λ name. name) names

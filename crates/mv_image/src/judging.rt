@@ -8,7 +8,7 @@ ghost use Rattle.mv_image.specs.Spelling.{filled};
 ghost use Rattle.mv_image.specs.Faults.{FirstFault, Spelled};
 
 use crate::fault::ImageError;
-use crate::places::{word, words_end};
+use crate::places::{first_cursor, first_owners, word, words_end};
 use crate::rules::{name_fits, word_fits};
 
 /// The first of some words that breaks its rule.
@@ -19,8 +19,9 @@ fn first_bad_word(words: &[u32], count: usize) -> Option<usize>
     ensures breaks { IfSome result (λ i. word_fits words.now i ≡ false) }
     ensures before { IfSome result (λ i. (k : ℕ) → k < i → word_fits words.now k ≡ true) }
 {
+    let mut owners = first_owners(words);
     for i in 0..count {
-        if !word_fits(words, i) {
+        if !word_fits(words, &mut owners, i) {
             return Some(i);
         }
     }
@@ -35,8 +36,9 @@ fn first_bad_name(words: &[u32], bytes: &[u8], count: usize) -> Option<usize>
     ensures breaks { IfSome result (λ j. name_fits words.now bytes.now j ≡ false) }
     ensures before { IfSome result (λ j. (k : ℕ) → k < j → name_fits words.now bytes.now k ≡ true) }
 {
+    let mut name = first_cursor();
     for j in 0..count {
-        if !name_fits(words, bytes, j) {
+        if !name_fits(words, bytes, &mut name, j) {
             return Some(j);
         }
     }

@@ -1,5 +1,7 @@
--- What one instruction does, over any memory.
-use Rattle.std.specs.Prelude.{ℕ, ◌+◌, ◌-◌, ◌%◌, ◌^◌, Bool, cond, not, eqb, List, slice_index, slice_set, Option, Some, None, bit_and, bit_or, bit_xor, ℤ, unsigned_abs}
+-- What one instruction does to registers, pc and memory, over any memory and for any word that was fetched (RISC-V unprivileged ISA
+-- 20191213: chapter 2 for RV32I, chapter 3 for FENCE.I, chapter 7 for M). An instruction that faults changes nothing: a fault carries
+-- neither registers nor memory.
+use Rattle.std.specs.Prelude.{ℕ, ◌-◌, ◌%◌, ◌^◌, Bool, cond, not, eqb, List, slice_index, slice_set, Option, Some, None, bit_and, bit_or, bit_xor, ℤ}
 use Rattle.mv_num.specs.declared.kind.Kind.{Kind}
 use Rattle.mv_num.specs.declared.kind.Kind.TheVariants as kind
 use Rattle.mv_num.specs.Words.{word_of, add, sub, mul, mul_high_ss, mul_high_su, mul_high_uu, div_s, div_u, rem_s, rem_u, shl, shr_s, shr_u, lt_s, lt_u, narrow}
@@ -22,7 +24,7 @@ pub data Outcome (M : Type 0) : Type 0 where
   Calls : Outcome M
   Faults : (why : Cause) → Outcome M
 
--- register 0 reads 0, and a write to it does nothing
+-- register 0 reads 0, and a write to it does nothing (2.1)
 unfoldable pub reg : List ℕ → ℕ → ℕ
 reg regs r = cond (eqb r 0) 0 (slice_index regs r)
 
@@ -33,11 +35,12 @@ put regs rd value = cond (eqb rd 0) regs (slice_set regs rd value)
 unfoldable pub truth : Bool → ℕ
 truth b = cond b 1 0
 
--- the word of 20 upper bits
+-- the word of 20 upper bits, its lower 12 are 0 (2.4)
 unfoldable pub upper : ℤ → ℕ
 upper imm = shl (word_of imm) 12
 
--- quotients and remainders, also by zero
+-- quotients and remainders: by 0 a quotient is all ones and a remainder the dividend; -2 ^ 31 by -1 wraps to -2 ^ 31, with
+-- remainder 0 (7.2)
 unfoldable pub quotient_s : ℕ → ℕ → ℕ
 quotient_s a b = cond (eqb b 0) (2 ^ 32 - 1) (div_s a b)
 
@@ -55,15 +58,15 @@ module _ {M : Type 0} where
   unfoldable pub sets : List ℕ → ℕ → M → (rd value : ℕ) → Outcome M
   sets regs pc m rd value = Goes (put regs rd value) (add pc 4) m
 
-  -- a jump to an address
+  -- a jump to an address. It faults where that is no multiple of 4 (2.2, 2.5)
   unfoldable pub jumps : List ℕ → M → (target : ℕ) → Outcome M
   jumps regs m target = cond (eqb (target % 4) 0) (Goes regs target m) (Faults cause.Jump)
 
-  -- a branch, taken where the test holds
+  -- a branch, taken where the test holds (2.5). One that isn't taken never faults
   unfoldable pub branches : List ℕ → ℕ → M → ℤ → Bool → Outcome M
   branches regs pc m imm test = cond test (jumps regs m (add pc (word_of imm))) (Goes regs (add pc 4) m)
 
-  -- what was loaded goes into a register
+  -- what was loaded goes into a register, with the sign of a signed type or with zeros above (2.6)
   abbrev pub loaded : List ℕ → ℕ → M → (rd : ℕ) → Kind → Option ℕ → Outcome M
   loaded regs pc m rd k None = Faults cause.Load
   loaded regs pc m rd k (Some value) = sets regs pc m rd (narrow k value)
@@ -80,6 +83,8 @@ module _ {M : Type 0} where
   stores access regs pc m rs1 rs2 imm width =
       stored regs pc (access.store m (add (reg regs rs1) (word_of imm)) width (reg regs rs2))
 
+  -- JALR clears the lowest bit of its target (2.5); a shift takes the low five bits of its count (2.4); FENCE orders memory between
+  -- harts, so that it does nothing here (2.7)
   unfoldable pub execute : Access M → Instr → List ℕ → ℕ → M → Outcome M
   execute access (Lui rd imm) regs pc m = sets regs pc m rd (upper imm)
   execute access (Auipc rd imm) regs pc m = sets regs pc m rd (add pc (upper imm))
@@ -136,7 +141,7 @@ module _ {M : Type 0} where
   decoded access None regs pc m = Faults cause.Undefined
   decoded access (Some i) regs pc m = execute access i regs pc m
 
-  -- one step with the word that was fetched, none where the fetch faulted
+  -- one step with the word that was fetched at pc, none where there is no fetch
   abbrev pub step : Access M → Option ℕ → List ℕ → ℕ → M → Outcome M
   step access None regs pc m = Faults cause.Fetch
   step access (Some word) regs pc m = decoded access (decode word) regs pc m

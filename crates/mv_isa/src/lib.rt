@@ -1,4 +1,4 @@
-//! The instructions of RV32IM with FENCE.I: their words, and what each does.
+//! The instructions of RV32IM with Zifencei: their words in `encode` and `decode`, and in the specs what each does.
 #![tactic(auto)]
 
 mod decoding;
@@ -10,3 +10,6 @@ pub mod labelled;
 pub use decoding::decode;
 pub use encoding::{encode, encoding_law};
 pub use instr::{Cause, Instr};
+
+#[cfg(test)]
+mod tests;

@@ -1,45 +1,56 @@
-//! The lexer: the tokens of a source, the longest piece first.
+//! The lexer: reads a source into the tokens of C11 6.4, each the longest lexeme at its place.
+//!
+//! A reading is the list of lexemes from the start of a source up to its end, or up to the first
+//! that is refused; what stands behind a refused lexeme is not read.
 #![tactic(auto)]
 
 ghost use Rattle.std.specs.Prelude.{◌≡◌, ◌<◌, ◌≤◌, ◌+◌, ℕ, List, length, drop, IfOk, IfErr, IsErrOf, OnOk, IsTrue, ◌↔◌};
 ghost use Rattle.mv_ast.specs.declared.place.Place.{Place};
 ghost use Rattle.mv_ast.specs.declared.token.Token.{Token};
-ghost use Rattle.mv_lexer.specs.Pieces.{IsLongest};
+ghost use Rattle.mv_lexer.specs.Lexemes.{IsLongestLexeme};
 ghost use Rattle.mv_lexer.specs.Reading as spec;
-ghost use Rattle.mv_lexer.specs.declared.piece.Sort.{Sort};
+ghost use Rattle.mv_lexer.specs.declared.class.TokenClass.{TokenClass};
 
 mod bytes;
 pub mod character;
+pub mod class;
 mod comment;
 pub mod error;
+mod evaluation;
+mod identifier;
 mod include;
 pub mod lexer;
-mod name;
 mod number;
-pub mod piece;
 pub mod position;
 mod quoted;
 mod scan;
 mod table;
 #[cfg(test)]
 mod tests;
-mod worth;
 
 use crate::error::LexError;
 use crate::lexer::Lexer;
 use mv_ast::token::Tokens;
 use std::alloc::Global;
 
-/// The greatest length of a source.
+/// The greatest length of a source, in bytes.
 const SOURCE_LIMIT: usize = 1_048_576;
 
-/// The tokens of a source, the longest piece first, or why it is refused.
+/// The tokens of a source, or why it is refused.
+///
+/// Places count lines and columns from 1, columns in bytes. A source above 1,048,576 bytes is
+/// `TooLong` with its length, before all else. Else the first lexeme that is refused decides:
+/// `BadToken` where it is no token of C, `Unsupported` where the profile leaves it out, both with
+/// its place, and `TooLong` with the length of an identifier above 63 bytes.
 pub fn lex(alloc: Global, text: &[u8]) -> Result<Tokens, LexError>
     ensures ok { IfOk result (λ tokens. spec.AreTokens text.now tokens.items tokens.end) }
     ensures err { IfErr result (λ e. spec.IsCause text.now e) }
     // A text with tokens is given them, and a refused one its refusal, unless memory is wanting.
     ensures all_tokens { (items : List Token) (end : Place) → spec.AreTokens text.now items end → spec.HasTokens result items end }
-    ensures all_refusals { (worth : spec.Worth) (place : Place) → spec.IsFirstRefused text.now worth place → spec.HasRefusal result worth place }
+    ensures all_refusals { (evaluation : spec.Evaluation) (place : Place) → spec.IsFirstRefused text.now evaluation place → spec.HasRefusal result evaluation place }
+    // Each token's text is a slice of the source that isn't empty, in the order of the source.
+    ensures slices { IfOk result (λ tokens. spec.AreSlices 0 (length text.now) tokens.items) }
+    ensures count { IfOk result (λ tokens. length tokens.items ≤ length text.now) }
     ensures too_long { 1048576 < length text.now → IsErrOf result (LexError.TooLong (length text.now)) }
 {
     if text.len() > SOURCE_LIMIT {
@@ -48,7 +59,7 @@ pub fn lex(alloc: Global, text: &[u8]) -> Result<Tokens, LexError>
     read(alloc, text)
 }
 
-/// The same, of a source of at most the greatest length.
+/// The same, for a source of at most the greatest length.
 fn read(alloc: Global, text: &[u8]) -> Result<Tokens, LexError>
     requires { length text.now ≤ 1048576 }
     ensures ok { IfOk result (λ tokens. spec.AreTokens text.now tokens.items tokens.end) }
@@ -61,14 +72,21 @@ fn read(alloc: Global, text: &[u8]) -> Result<Tokens, LexError>
     Ok(lexer.into_tokens())
 }
 
-/// Two longest pieces at the front of one text are one.
-pub fn one_longest_piece()
-    ensures { (text : List ℕ) (sort other : Sort) (n m : ℕ) → IsLongest text sort n → IsLongest text other m → (sort ≡ other) × (n ≡ m) }
+/// Two longest lexemes at the front of one text have one class and one length.
+pub fn one_longest_lexeme()
+    ensures { (text : List ℕ) (class other : TokenClass) (n m : ℕ) → IsLongestLexeme text class n → IsLongestLexeme text other m → (class ≡ other) × (n ≡ m) }
 {}
 
 /// Two readings of one text are equal: its tokens, or the refusal.
 pub fn one_reading()
     ensures tokens { (text : List ℕ) (items items' : List Token) (end end' : Place) → spec.AreTokens text items end → spec.AreTokens text items' end' → (items ≡ items') × (end ≡ end') }
-    ensures refusal { (text : List ℕ) (worth worth' : spec.Worth) (place place' : Place) → spec.IsFirstRefused text worth place → spec.IsFirstRefused text worth' place' → (worth ≡ worth') × (place ≡ place') }
-    ensures either { (text : List ℕ) (items : List Token) (end place : Place) (worth : spec.Worth) → spec.AreTokens text items end → spec.IsFirstRefused text worth place → ⊥ }
+    ensures refusal { (text : List ℕ) (evaluation evaluation' : spec.Evaluation) (place place' : Place) → spec.IsFirstRefused text evaluation place → spec.IsFirstRefused text evaluation' place' → (evaluation ≡ evaluation') × (place ≡ place') }
+    ensures either { (text : List ℕ) (items : List Token) (end place : Place) (evaluation : spec.Evaluation) → spec.AreTokens text items end → spec.IsFirstRefused text evaluation place → ⊥ }
+{}
+
+/// The tokens of a text are slices of it, none of them empty, in its order; so they are no more
+/// than its bytes.
+pub fn tokens_are_slices()
+    ensures slices { (text : List ℕ) (items : List Token) (end : Place) → spec.AreTokens text items end → spec.AreSlices 0 (length text) items }
+    ensures count { (text : List ℕ) (items : List Token) (end : Place) → spec.AreTokens text items end → length items ≤ length text }
 {}

@@ -1,9 +1,9 @@
-//! What a number's spelling comes to.
+//! Integer constants (C11 6.4.4.1), and the other preprocessing numbers.
 ghost use Rattle.std.specs.Prelude.{◌≡◌, ◌<◌, ◌≤◌, ◌^◌, ◌↔◌, length, drop, MatchOption, MatchBool, IsTrue, Bool, ◌==◌, ◌||◌, None, Some};
 ghost use Rattle.std.specs.List.{list_any};
 ghost use Rattle.mv_lexer.specs.Numbers as numbers;
 ghost use Rattle.mv_lexer.specs.Reading as spec;
-ghost use Rattle.mv_lexer.specs.declared.piece.Sort.TheVariants as sorts;
+ghost use Rattle.mv_lexer.specs.declared.class.TokenClass.TheVariants as classes;
 
 use crate::error::LexError;
 use crate::table::{Table, index_of, size};
@@ -11,7 +11,7 @@ use mv_ast::place::Place;
 use mv_ast::token::Piece;
 use mv_num::kind::Kind;
 
-/// The value of a digit; every other byte has 99.
+/// The value of a decimal or hexadecimal digit; every other byte has 99.
 pub fn digit(byte: u8) -> u8
     ensures { result ≡ numbers.digit byte }
 {
@@ -23,7 +23,7 @@ pub fn digit(byte: u8) -> u8
     }
 }
 
-/// The value of these digits, unless it passes 32 bits.
+/// The value of these digits, unless it is above 32 bits.
 pub fn value(base: u32, digits: &[u8]) -> Option<u32>
     requires some { 1 ≤ base }
     requires small { base ≤ 16 }
@@ -54,7 +54,7 @@ fn is_suffix_byte(byte: u8) -> bool
     byte == b'u' || byte == b'U' || byte == b'l' || byte == b'L'
 }
 
-/// Where the suffix of a number begins.
+/// Where the integer suffix of a number begins: its length, where it has none.
 fn suffix_at(text: &[u8]) -> usize
     ensures value { result ≡ numbers.suffix_at text.now }
     ensures in_range { result ≤ length text.now }
@@ -66,7 +66,7 @@ fn suffix_at(text: &[u8]) -> usize
     at
 }
 
-/// Whether 0x stands in front.
+/// Whether `0x` or `0X` stands in front.
 fn is_hexadecimal(text: &[u8]) -> bool
     ensures { result ≡ numbers.is_hexadecimal text.now }
 {
@@ -76,7 +76,7 @@ fn is_hexadecimal(text: &[u8]) -> bool
     }
 }
 
-/// The base of a number.
+/// The base of a number: 16, 8 or 10.
 fn base_of(text: &[u8]) -> u32
     ensures value { result ≡ numbers.base text.now }
     ensures some { 1 ≤ result }
@@ -99,7 +99,7 @@ fn suffix_of(text: &[u8]) -> &[u8]
     suffix
 }
 
-/// The digits of a number, without 0x and the suffix.
+/// The digits of a number, without `0x` and the suffix.
 fn digits_of(text: &[u8]) -> &[u8]
     ensures { result.now ≡ numbers.digits text.now }
 {
@@ -120,7 +120,8 @@ fn has_digits(text: &[u8]) -> bool
     !digits.is_empty() && are_digits(base_of(text), digits)
 }
 
-/// Whether the suffix of a constant says that it is unsigned.
+/// Whether this suffix makes a constant unsigned. A suffix that no constant of the profile has is
+/// `None`.
 fn short_suffix(suffix: &[u8]) -> Option<bool>
     ensures { result ≡ numbers.short_suffix suffix.now }
 {
@@ -133,7 +134,7 @@ fn short_suffix(suffix: &[u8]) -> Option<bool>
     }
 }
 
-/// The type of a constant with this value, where it has one.
+/// The first type of the profile that its base and suffix allow and that holds its value.
 fn kind_of(base: u32, unsigned: bool, value: u32) -> Option<Kind>
     ensures { result ≡ numbers.kind_of base unsigned value }
 {
@@ -148,7 +149,7 @@ fn kind_of(base: u32, unsigned: bool, value: u32) -> Option<Kind>
     }
 }
 
-/// The value and the type of a constant, where it has one.
+/// The value and the type of a constant, where a type of the profile holds it.
 fn constant(text: &[u8], unsigned: bool) -> Option<(u32, Kind)>
     ensures { MatchOption result (numbers.kind_of (numbers.base text.now) unsigned (numbers.value text.now) ≡ None) (λ c. (c.0 ≡ numbers.value text.now) × (numbers.kind_of (numbers.base text.now) unsigned (numbers.value text.now) ≡ Some c.1)) }
 {
@@ -172,7 +173,7 @@ fn has_either(text: &[u8], small: u8, capital: u8) -> bool
     text.iter().any(|byte| *byte == small || *byte == capital)
 }
 
-/// Whether a number has a point or an exponent.
+/// Whether a number has a point, or the letter of an exponent: `p` where it is hexadecimal, else `e`.
 fn is_floating(text: &[u8]) -> bool
     ensures { result ≡ numbers.is_floating text.now }
 {
@@ -185,12 +186,12 @@ fn is_floating(text: &[u8]) -> bool
     }
 }
 
-/// What a number's spelling comes to: a constant or a refusal.
-pub fn number_piece(text: &[u8], place: Place) -> Result<Option<Piece>, LexError>
-    ensures { spec.ComesTo sorts.Number text.now place result }
+/// Evaluates a preprocessing number: an integer constant or a refusal.
+pub fn evaluate_number(text: &[u8], place: Place) -> Result<Option<Piece>, LexError>
+    ensures { spec.GivesEvaluation classes.PreprocessingNumber text.now place result }
 {
     if !has_digits(text) {
-        return other_number(text, place);
+        return refuse_number(text, place);
     }
     let suffix = suffix_of(text);
     if let Some(unsigned) = short_suffix(suffix) {
@@ -202,14 +203,14 @@ pub fn number_piece(text: &[u8], place: Place) -> Result<Option<Piece>, LexError
     if index_of(Table::LongSuffixes, suffix) < size(Table::LongSuffixes) {
         return Err(LexError::Unsupported(place));
     }
-    other_number(text, place)
+    refuse_number(text, place)
 }
 
 /// The refusal of a number that is no integer constant.
-fn other_number(text: &[u8], place: Place) -> Result<Option<Piece>, LexError>
-    requires no_constant { (unsigned : Bool) → numbers.IsConstant text.now unsigned → ⊥ }
-    requires no_long { numbers.IsLong text.now → ⊥ }
-    ensures { spec.ComesTo sorts.Number text.now place result }
+fn refuse_number(text: &[u8], place: Place) -> Result<Option<Piece>, LexError>
+    requires no_constant { (unsigned : Bool) → numbers.IsIntegerConstant text.now unsigned → ⊥ }
+    requires no_long { numbers.IsLongConstant text.now → ⊥ }
+    ensures { spec.GivesEvaluation classes.PreprocessingNumber text.now place result }
 {
     if is_floating(text) {
         Err(LexError::Unsupported(place))

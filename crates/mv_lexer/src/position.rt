@@ -2,8 +2,8 @@
 ghost use Rattle.std.specs.Prelude.{◌≡◌, ◌+◌, ◌≤◌, ◌<◌, ◌-◌, ◌^◌, length};
 ghost use Rattle.mv_lexer.specs.Place as spec;
 
-use crate::include::has_feed;
-use crate::piece::Sort;
+use crate::class::TokenClass;
+use crate::include::has_line_feed;
 use mv_ast::place::Place;
 
 /// Where a reading stands: how many bytes are behind it, its place, and whether no token stands on
@@ -12,14 +12,14 @@ use mv_ast::place::Place;
 pub struct Position {
     pub offset: u32,
     pub place: Place,
-    pub fresh: bool,
+    pub at_line_start: bool,
 }
 
 /// The start of a source.
 pub const START: Position = Position {
     offset: 0,
     place: Place { line: 1, column: 1 },
-    fresh: true,
+    at_line_start: true,
 };
 
 /// The place behind a byte.
@@ -57,19 +57,19 @@ fn place_after(mut place: Place, bytes: &[u8]) -> Place
 }
 
 impl Position {
-    /// Where a reading stands behind a piece.
-    pub fn after(self, sort: Sort, bytes: &[u8]) -> Position
+    /// Where a reading stands behind a lexeme.
+    pub fn after(self, class: TokenClass, bytes: &[u8]) -> Position
         requires column { 0 < self.place.column }
         requires small { self.place.line + self.place.column ≤ self.offset + 2 }
         requires fits { self.offset + length bytes.now ≤ 1048576 }
-        ensures value { result ≡ spec.after self sort bytes.now }
+        ensures value { result ≡ spec.after self class bytes.now }
         ensures column { 0 < result.place.column }
         ensures small { result.place.line + result.place.column ≤ result.offset + 2 }
     {
         Position {
             offset: self.offset + bytes.len() as u32,
             place: place_after(self.place, bytes),
-            fresh: sort.is_white() && (self.fresh || has_feed(bytes)),
+            at_line_start: class.is_skipped() && (self.at_line_start || has_line_feed(bytes)),
         }
     }
 }

@@ -1,7 +1,8 @@
 ghost use Rattle.std.specs.Prelude.{◌≡◌, ◌≤◌, ◌<◌, IfSome, IfNone};
 ghost use Rattle.mv_num.specs.Kinds.{kind_number};
 
-/// The integer types of the profile.
+/// The integer types (C11 6.2.5): `_Bool`, `signed char`, `unsigned char`, `short`, `unsigned short`, `int` and `unsigned int`. Plain
+/// `char` is `unsigned char`, `short` has 16 bits and `int` 32.
 #[derive(Clone, Copy, Debug, PartialEq, Eq, Drop)]
 pub enum Kind {
     Bool,
@@ -14,7 +15,7 @@ pub enum Kind {
 }
 
 impl Kind {
-    /// The number that stands for it in tables.
+    /// The number that stands for it in tables, from 0 for `_Bool` to 6 for `unsigned int`.
     pub fn number(self) -> u32
         ensures value { result ≡ kind_number self }
         ensures small { result ≤ 6 }
@@ -30,7 +31,7 @@ impl Kind {
         }
     }
 
-    /// The kind of a number, and none above 6.
+    /// The kind that a number stands for, and `None` for each number above 6.
     pub fn of_number(number: u32) -> Option<Kind>
         ensures some { IfSome result (λ kind. kind_number kind ≡ number) }
         ensures none { IfNone result (6 < number) }

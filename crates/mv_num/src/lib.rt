@@ -5,5 +5,7 @@ pub mod boxed;
 pub mod bytes;
 pub mod kind;
 pub mod list;
+#[cfg(test)]
+mod tests;
 pub mod text;
 pub mod word;

@@ -1,6 +1,6 @@
-ghost use Rattle.std.specs.Prelude.{◌≡◌, ◌<◌, eqb};
+ghost use Rattle.std.specs.Prelude.{◌≡◌, ◌<◌, eqb, ℕ, Option, Some};
 ghost use Rattle.mv_isa.specs.Execution.{reg, put, sets, jumps, branches, loads, stores, Goes};
-ghost use Rattle.mv_num.specs.Words.{add, lt_s, lt_u};
+ghost use Rattle.mv_num.specs.Words.{add, lt_s, lt_u, word_of};
 ghost use Rattle.mv_fetch.specs.Held.{IsWidth, Room};
 ghost use Rattle.mv_rv32.specs.Stepping.{access, Gives, Keeps, Stays, Wants};
 
@@ -84,12 +84,12 @@ impl Hart {
         requires { rd < 32 }
         ensures gives { (room : Room) → Gives (jumps (put self.old.regs rd (add self.old.pc 4)) room target) result self.new room }
         ensures keeps { Keeps result self.old self.new }
-        ensures wants { (room : Room) → Wants result room }
+        ensures wants { (address : Option ℕ) (room : Room) → Wants result address room }
     {
+        let next = word::add(self.pc, 4);
         if target % 4 != 0 {
             return Stepped::Fault(Cause::Jump);
         }
-        let next = word::add(self.pc, 4);
         self.put(rd, next);
         self.pc = target;
         Stepped::Next
@@ -100,7 +100,7 @@ impl Hart {
     pub(crate) fn branches(&mut self, imm: i32, test: bool) -> Stepped
         ensures gives { (room : Room) → Gives (branches self.old.regs self.old.pc room imm test) result self.new room }
         ensures keeps { Keeps result self.old self.new }
-        ensures wants { (room : Room) → Wants result room }
+        ensures wants { (address : Option ℕ) (room : Room) → Wants result address room }
     {
         if !test {
             return self.goes_on();
@@ -115,13 +115,21 @@ impl Hart {
 
     // A load into a register.
     #[tactic(auto, unfolding(mv_isa::specs::Execution::loads, crate::specs::Stepping::access))]
-    pub(crate) fn loads(&mut self, memory: &Memory, rd: u8, rs1: u8, imm: i32, width: u32, kind: Kind) -> Stepped
+    pub(crate) fn loads(
+        &mut self,
+        memory: &Memory,
+        rd: u8,
+        rs1: u8,
+        imm: i32,
+        width: u32,
+        kind: Kind,
+    ) -> Stepped
         requires rd { rd < 32 }
         requires rs1 { rs1 < 32 }
         requires width { IsWidth width }
         ensures gives { Gives (loads access self.old.regs self.old.pc memory.now rd rs1 imm width kind) result self.new memory.now }
         ensures keeps { Keeps result self.old self.new }
-        ensures wants { (room : Room) → Wants result room }
+        ensures wants { (address : Option ℕ) (room : Room) → Wants result address room }
     {
         let address = word::add(self.reg(rs1), word::of_signed(imm));
         match memory.load(address, width) {
@@ -132,13 +140,20 @@ impl Hart {
 
     // A store of a register.
     #[tactic(auto, unfolding(mv_isa::specs::Execution::stores, crate::specs::Stepping::access))]
-    pub(crate) fn stores(&mut self, memory: &mut Memory, rs1: u8, rs2: u8, imm: i32, width: u32) -> Stepped
+    pub(crate) fn stores(
+        &mut self,
+        memory: &mut Memory,
+        rs1: u8,
+        rs2: u8,
+        imm: i32,
+        width: u32,
+    ) -> Stepped
         requires rs1 { rs1 < 32 }
         requires rs2 { rs2 < 32 }
         requires width { IsWidth width }
         ensures gives { Gives (stores access self.old.regs self.old.pc memory.old rs1 rs2 imm width) result self.new memory.new }
         ensures stays { Stays result self.old self.new memory.old memory.new }
-        ensures wants { Wants result memory.old }
+        ensures wants { Wants result (Some (add (reg self.old.regs rs1) (word_of imm))) memory.old }
     {
         let address = word::add(self.reg(rs1), word::of_signed(imm));
         let value = self.reg(rs2);

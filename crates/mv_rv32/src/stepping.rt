@@ -1,8 +1,8 @@
-ghost use Rattle.std.specs.Prelude.{◌≡◌, ◌<◌, ◌⊎◌, length};
-ghost use Rattle.mv_isa.specs.Encoding.{HasRegisters};
-ghost use Rattle.mv_isa.specs.Execution.{execute};
+ghost use Rattle.std.specs.Prelude.{◌≡◌, ◌<◌, ◌⊎◌, length, Some};
+ghost use Rattle.mv_isa.specs.Encoding.{Fits};
+ghost use Rattle.mv_isa.specs.Execution.{execute, step};
 ghost use Rattle.mv_fetch.specs.Held.{choices};
-ghost use Rattle.mv_rv32.specs.Stepping.{access, picked_step, Gives, Stays, Wants};
+ghost use Rattle.mv_rv32.specs.Stepping.{access, picked_step, picked_target, word_target, target, Gives, Stays, Wants};
 
 use crate::arith::{quotient_s, quotient_u, remainder_s, remainder_u, truth, upper};
 use crate::hart::{Hart, Stepped};
@@ -14,10 +14,10 @@ use mv_num::word;
 // What an instruction does.
 #[tactic(auto, unfolding(mv_isa::specs::Execution::execute, crate::specs::Stepping::access))]
 fn execute(hart: &mut Hart, memory: &mut Memory, instr: Instr) -> Stepped
-    requires { HasRegisters instr }
+    requires { Fits instr }
     ensures gives { Gives (execute access instr hart.old.regs hart.old.pc memory.old) result hart.new memory.new }
     ensures stays { Stays result hart.old hart.new memory.old memory.new }
-    ensures wants { Wants result memory.old }
+    ensures wants { Wants result (target instr hart.old.regs) memory.old }
 {
     match instr {
         Instr::Lui { rd, imm } => hart.sets(rd, upper(imm)),
@@ -210,19 +210,34 @@ fn execute(hart: &mut Hart, memory: &mut Memory, instr: Instr) -> Stepped
     }
 }
 
-/// One step by the picked choice of a word at pc.
-#[tactic(auto, unfolding(crate::specs::Stepping::picked_step))]
+/// One step with a word that is at hand: the instruction of the word is carried out, as the definition in `mv_isa` says.
+///
+/// `Call` stops before an ECALL, `Fault` and `Memory` change nothing, and `Memory` comes only at a store into text with `spare`
+/// 0, so that all other steps take no memory.
+#[tactic(auto, unfolding(crate::specs::Stepping::word_target))]
+pub fn step_word(hart: &mut Hart, memory: &mut Memory, word: u32) -> Stepped
+    ensures gives { Gives (step access (Some word) hart.old.regs hart.old.pc memory.old) result hart.new memory.new }
+    ensures stays { Stays result hart.old hart.new memory.old memory.new }
+    ensures wants { Wants result (word_target word hart.old.regs) memory.old }
+{
+    match decode(word) {
+        None => Stepped::Fault(Cause::Undefined),
+        Some(instr) => execute(hart, memory, instr),
+    }
+}
+
+/// One step with the word that stands at pc in the picked choice, as `step_word` does it. Where pc has no choice, `pick` is any
+/// number and the step faults.
+#[tactic(auto, unfolding(crate::specs::Stepping::picked_step, crate::specs::Stepping::picked_target))]
 pub fn step(hart: &mut Hart, memory: &mut Memory, pick: u64) -> Stepped
     requires { (length (choices memory.old.held hart.old.pc) ≡ 0) ⊎ (pick < length (choices memory.old.held hart.old.pc)) }
     ensures gives { Gives (picked_step memory.old pick hart.old.regs hart.old.pc) result hart.new memory.new }
     ensures stays { Stays result hart.old hart.new memory.old memory.new }
-    ensures wants { Wants result memory.old }
+    ensures wants { Wants result (picked_target memory.old pick hart.old.regs hart.old.pc) memory.old }
 {
     if memory.choices(hart.pc) == 0 {
         return Stepped::Fault(Cause::Fetch);
     }
-    match decode(memory.fetch(hart.pc, pick)) {
-        None => Stepped::Fault(Cause::Undefined),
-        Some(instr) => execute(hart, memory, instr),
-    }
+    let word = memory.fetch(hart.pc, pick);
+    step_word(hart, memory, word)
 }

@@ -1,4 +1,4 @@
-use Rattle.std.proofs.Common.{◌≡◌, ◌+◌, ◌*◌, ◌∙◌, ◌<◌, ◌≤◌, length, refl, sym, arith}
+use Rattle.std.proofs.Common.{◌≡◌, ◌+◌, ◌∙◌, length, refl, arith}
 use Rattle.mv_num.specs.Bytes.{words_of}
 use Rattle.mv_image.specs.Places.{name_bytes}
 use Rattle.mv_image.proofs.Judged.{end_of, bad_word, missing_word, bad_name, missing_name, trailing, spelled, words_fit, word_breaks, names_fit, name_breaks, count_is, end_at, names_at}

@@ -1,10 +1,9 @@
-use Rattle.std.proofs.Common.{◌≡◌, ◌+◌, ◌*◌, ◌≤◌, ◌∙◌, ℕ, List, ap, sym, subst, arith, refl, length}
-use Rattle.std.specs.Prelude.{slice_range}
+use Rattle.std.proofs.Common.{◌≡◌, ◌+◌, ◌*◌, ◌≤◌, ◌∙◌, ℕ, List, ap, sym, subst, arith, length}
 use Rattle.mv_num.specs.Bytes.{words_of}
-use Rattle.mv_image.specs.Places.{data_at, switches_at, switch_rows, function_rows, text_words, data_words, names, name_length, name_bytes, sum_below, words_end}
+use Rattle.mv_image.specs.Places.{data_at, switch_rows, function_rows, text_words, data_words, names, name_length, name_bytes, sum_below, words_end}
 use Rattle.mv_image.specs.Faults.{AllFit, Spells}
 use Rattle.mv_image.specs.Spelling.{Fields, filled}
-use Rattle.mv_image.proofs.RowRules.{switches_from, functions_from, variants_from, guards_from, sites_from, end_from}
+use Rattle.mv_image.proofs.RowRules.{functions_from, variants_from, guards_from, sites_from, end_from}
 use Rattle.mv_image.proofs.WhatIsRead.{data_from, switches_after, names_sum, all_fit, length_is, has_room, filled_from, made_image}
 use Rattle.mv_image.proofs.reading.image_part.Goals as goal
 

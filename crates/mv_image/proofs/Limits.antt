@@ -1,0 +1,90 @@
+-- The limits of an image.
+use Rattle.std.proofs.Common.{◌≡◌, ℕ, ◌+◌, ◌*◌, ◌≤◌, true, List, length, slice_index, subst, arith}
+use Rattle.std.proofs.lemmas.Bool.{eqb-true, leb-true, ltb-true}
+use Rattle.mv_image.specs.Places.{text_words, data_words, switch_rows, function_rows, variant_rows, guard_rows, site_rows}
+use Rattle.mv_image.specs.Rules.{header_fits, is_text_address, is_data_address}
+use Rattle.mv_image.specs.WellFormed.{IsInText, IsInData}
+use Rattle.mv_image.specs.Spelling.{Fields}
+use Rattle.mv_image.specs.Faults.{Rules, image_words}
+use Rattle.mv_image.proofs.PlaceLaws.{first_true, second_true}
+use Rattle.mv_image.proofs.WhatIsRead.{header_rule}
+use Rattle.mv_image.proofs.RowsStand.{counts_of, image_fits}
+
+pub in_text : (image : Fields) (ws : List ℕ) (a : ℕ) → text_words ws ≡ length image.text → is_text_address ws a ≡ true → IsInText image a
+in_text image ws a n h = record {
+  aligned = eqb-true _ _ (first_true _ _ (first_true _ _ h));
+  not_before = leb-true _ _ (second_true _ _ (first_true _ _ h));
+  within = omega (arith, n, ltb-true a (4096 + 4 * text_words ws) (second_true _ _ h));
+}
+
+pub in_data : (image : Fields) (ws : List ℕ) (a : ℕ) → data_words ws ≡ length image.globals → is_data_address ws a ≡ true → IsInData image a
+in_data image ws a n h = record {
+  aligned = eqb-true _ _ (first_true _ _ (first_true _ _ h));
+  not_before = leb-true _ _ (second_true _ _ (first_true _ _ h));
+  within = omega (arith, n, ltb-true a (1048576 + 4 * data_words ws) (second_true _ _ h));
+}
+
+from_one : (ws : List ℕ) → header_fits ws 3 ≡ true → 1 ≤ text_words ws
+unfolding header_fits
+from_one ws h = leb-true _ _ (first_true _ _ (first_true _ _ h))
+
+text_most : (ws : List ℕ) → header_fits ws 3 ≡ true → text_words ws ≤ 131072
+unfolding header_fits
+text_most ws h = leb-true _ _ (second_true _ _ (first_true _ _ h))
+
+entry_in : (ws : List ℕ) → header_fits ws 3 ≡ true → is_text_address ws (slice_index ws 2) ≡ true
+unfolding header_fits
+entry_in ws h = second_true _ _ h
+
+data_most : (ws : List ℕ) → header_fits ws 4 ≡ true → data_words ws ≤ 262144
+unfolding header_fits
+data_most ws h = leb-true _ _ h
+
+switches_most : (ws : List ℕ) → header_fits ws 5 ≡ true → switch_rows ws ≤ 64
+unfolding header_fits
+switches_most ws h = leb-true _ _ h
+
+functions_most : (ws : List ℕ) → header_fits ws 6 ≡ true → function_rows ws ≤ 1000
+unfolding header_fits
+functions_most ws h = leb-true _ _ h
+
+variants_most : (ws : List ℕ) → header_fits ws 7 ≡ true → variant_rows ws ≤ 64000
+unfolding header_fits
+variants_most ws h = leb-true _ _ (first_true _ _ h)
+
+guards_most : (ws : List ℕ) → header_fits ws 8 ≡ true → guard_rows ws ≤ 64000
+unfolding header_fits
+guards_most ws h = leb-true _ _ (first_true _ _ h)
+
+sites_most : (ws : List ℕ) → header_fits ws 9 ≡ true → site_rows ws ≤ 16384
+unfolding header_fits
+sites_most ws h = leb-true _ _ h
+
+pub record IsWithin (a : Fields) : Type 0 where
+  pub some_text : 1 ≤ length a.text
+  pub text : length a.text ≤ 131072
+  pub globals : length a.globals ≤ 262144
+  pub switches : length a.switches ≤ 64
+  pub functions : length a.functions ≤ 1000
+  pub variants : length a.variants ≤ 64000
+  pub guards : length a.guards ≤ 64000
+  pub sites : length a.sites ≤ 16384
+  pub entry : IsInText a a.entry
+
+pub is_within : (a : Fields) → Rules a → IsWithin a
+is_within a r =
+    let fit = image_fits a r in
+    let n = counts_of a r in
+    let ws : List ℕ = image_words a in
+    let third = header_rule ws 3 fit (omega arith) in
+    record {
+      some_text = omega (arith, n.text, from_one ws third);
+      text = omega (arith, n.text, text_most ws third);
+      globals = omega (arith, n.globals, data_most ws (header_rule ws 4 fit (omega arith)));
+      switches = omega (arith, n.switches, switches_most ws (header_rule ws 5 fit (omega arith)));
+      functions = omega (arith, n.functions, functions_most ws (header_rule ws 6 fit (omega arith)));
+      variants = omega (arith, n.variants, variants_most ws (header_rule ws 7 fit (omega arith)));
+      guards = omega (arith, n.guards, guards_most ws (header_rule ws 8 fit (omega arith)));
+      sites = omega (arith, n.sites, sites_most ws (header_rule ws 9 fit (omega arith)));
+      entry = subst (λ (e : ℕ). IsInText a e) n.entry (in_text a ws (slice_index ws 2) n.text (entry_in ws third));
+    }

@@ -1,0 +1,63 @@
+-- What the rows of an image keep, each by its own fields.
+use Rattle.std.specs.Prelude.{ℕ, ◌≡◌, ◌+◌, ◌-◌, ◌*◌, ◌/◌, ◌%◌, ◌<◌, ◌≤◌, true, length, slice_index, slice_index_or}
+use Rattle.mv_num.specs.Kinds.{kind_number, is_value, is_at_most}
+use Rattle.mv_descriptors.specs.declared.rows.SwitchRow.{SwitchRow}
+use Rattle.mv_descriptors.specs.declared.rows.FunctionRow.{FunctionRow}
+use Rattle.mv_descriptors.specs.declared.rows.VariantRow.{VariantRow}
+use Rattle.mv_descriptors.specs.declared.rows.GuardRow.{GuardRow}
+use Rattle.mv_descriptors.specs.declared.rows.SiteRow.{SiteRow}
+use Rattle.mv_image.specs.Spelling.{Fields}
+use Rattle.mv_image.specs.Jumps.{nop, jump}
+use Rattle.mv_image.specs.Patched.{kind_of}
+
+-- an address of a word of text, which stands from 0x1000 on
+pub record IsInText (image : Fields) (a : ℕ) : Type 0 where
+  pub aligned : a % 4 ≡ 0
+  pub not_before : 4096 ≤ a
+  pub within : a < 4096 + 4 * length image.text
+
+-- an address of a word of data, which stands from 0x100000 on
+pub record IsInData (image : Fields) (a : ℕ) : Type 0 where
+  pub aligned : a % 4 ≡ 0
+  pub not_before : 1048576 ≤ a
+  pub within : a < 1048576 + 4 * length image.globals
+
+pub record FitsSwitch (image : Fields) (row : SwitchRow) : Type 0 where
+  pub named : 1 ≤ row.length
+  pub name : row.length ≤ 63
+  pub address : IsInData image row.address
+  pub some : 1 ≤ row.count
+  pub count : row.count ≤ 16
+  pub values : (i : ℕ) → i < row.count → is_value (kind_number row.kind) (slice_index row.values i) ≡ true
+
+pub record FitsFunction (image : Fields) (row : FunctionRow) : Type 0 where
+  pub named : 1 ≤ row.length
+  pub name : row.length ≤ 63
+  pub entry : IsInText image row.entry
+  pub count : row.count ≤ 6
+  pub switches : (i : ℕ) → i < row.count → slice_index row.switches i < length image.switches
+  pub ascend : (i : ℕ) → i + 1 < row.count → slice_index row.switches i < slice_index row.switches (i + 1)
+  pub some : 1 ≤ row.variants
+  pub variants : row.variants ≤ 64
+
+pub record FitsVariant (image : Fields) (row : VariantRow) : Type 0 where
+  pub address : IsInText image row.address
+  pub inlined : row.inlined ≤ 1
+  pub some : 1 ≤ row.guards
+  pub guards : row.guards ≤ 64
+
+-- A site holds a call of its function, and NOP.
+pub record FitsSite (image : Fields) (row : SiteRow) : Type 0 where
+  pub address : IsInText image row.address
+  pub next : IsInText image (row.address + 4)
+  pub function : row.function < length image.functions
+  pub call : (d : FunctionRow) → slice_index image.text ((row.address - 4096) / 4) ≡ jump 1 row.address (slice_index_or image.functions row.function d).entry
+  pub pad : slice_index image.text ((row.address + 4 - 4096) / 4) ≡ nop
+
+-- A guard row of a function gives a range of values for each of the function's switches, and zeros for no switch.
+pub record FitsGuard (image : Fields) (function : FunctionRow) (row : GuardRow) : Type 0 where
+  pub low : (i : ℕ) → i < function.count → is_value (kind_of image (slice_index function.switches i)) (slice_index row.low i) ≡ true
+  pub high : (i : ℕ) → i < function.count → is_value (kind_of image (slice_index function.switches i)) (slice_index row.high i) ≡ true
+  pub ordered : (i : ℕ) → i < function.count → is_at_most (kind_of image (slice_index function.switches i)) (slice_index row.low i) (slice_index row.high i) ≡ true
+  pub low_unused : (i : ℕ) → function.count ≤ i → i < 6 → slice_index row.low i ≡ 0
+  pub high_unused : (i : ℕ) → function.count ≤ i → i < 6 → slice_index row.high i ≡ 0

@@ -1,0 +1,125 @@
+-- Moves of what is seen, one after the other.
+use Rattle.std.proofs.Common.{ℕ, zero, suc, ◌≡◌, ◌<◌, ◌≤◌, ◌+◌, ◌%◌, ◌^◌, add-one, ◌⊎◌, inl, inr, List, [], ◌∷◌, ◌++◌, length, slice_index, Option, Some, None, option_map, Ok, refl, sym, ap, ap₂, ◌∙◌, subst, arith, append_assoc, append-nil, mod-eq_of_lt, slice_get}
+use Rattle.std.proofs.lemmas.List.{get_or_append_left, get_or_at, length-append}
+use Rattle.std.proofs.lemmas.Bool.{cases_lt}
+use Rattle.mv_ast.specs.declared.world.Binding.{Binding}
+use Rattle.mv_isa.specs.Execution.{Outcome, Goes, Calls, Faults, reg, put}
+use Rattle.mv_fetch.specs.Held.{Room, choices}
+use Rattle.mv_rv32.specs.Stepping.{picked_step}
+use Rattle.mv_io.specs.Outside.{Takes}
+use Rattle.mv_io.specs.declared.outside.Failed.{Failed}
+use Rattle.mv_probe.specs.Ways.{Way, Follows, pick_of, next_way, way_after}
+use Rattle.mv_machine.specs.Runs.{Stop, Going, Exit, Trap, Fault, State, Request, next_read, later_reads, bytes_to_come, choices_at, fetched_step, turn, runs_from, executed, counts_as}
+use Rattle.mv_machine.specs.Snapshots.{Tells, Under}
+use Rattle.mv_machine.specs.Moves.{Seen, shown, Meets, Moves}
+use Rattle.mv_machine.proofs.Turns.{runs_more, executed_more, runs_append, executed_append}
+
+-- ---- the sink
+
+pub nothing_written : (written : Option (List ℕ)) → written ≡ option_map (λ before. before ++ []) written
+nothing_written None = refl
+nothing_written (Some before) = ap Some (sym (append-nil before))
+
+pub written_then : (a b c : Option (List ℕ)) (xs ys : List ℕ) → b ≡ option_map (λ before. before ++ xs) a → c ≡ option_map (λ before. before ++ ys) b → c ≡ option_map (λ before. before ++ (xs ++ ys)) a
+written_then None b c xs ys e d = d ∙ ap (λ o. option_map (λ before. before ++ ys) o) e
+written_then (Some a) b c xs ys e d = d ∙ ap (λ o. option_map (λ before. before ++ ys) o) e ∙ ap Some (append_assoc a xs ys)
+
+-- ---- the source
+
+-- a read that was answered is the next one of an input that the source had
+pub record Read (left : Option (List ℕ)) (byte : Option ℕ) (later : List (Option ℕ)) : Type 0 where
+  pub input : List (Option ℕ)
+  pub tells : Tells left input
+  pub next : next_read input ≡ byte
+  pub rest : later_reads input ≡ later
+
+pub read : (left left' : Option (List ℕ)) (byte : Option ℕ) (later : List (Option ℕ)) → Takes {E = Failed} left left' (Ok byte) → Tells left' later → Read left byte later
+read None left' byte later t h = record { input = byte ∷ later; tells = tt; next = refl; rest = refl }
+read (Some old) left' (Some b) later t h =
+    record { input = Some b ∷ later; tells = ap (λ l. Some b ∷ l) (subst (λ o. Tells o later) t.2 h) ∙ sym (ap bytes_to_come t.1); next = refl; rest = refl }
+read (Some old) left' None later t h =
+    let none : later ≡ [] = subst (λ o. Tells o later) t.1 h ∙ ap bytes_to_come t.0 in
+    record { input = []; tells = sym (ap bytes_to_come t.0); next = refl; rest = sym none }
+
+-- ---- one move
+
+pub moves_quietly : (f : State → State) (x y : Seen) (stop : Stop) → y.left ≡ x.left → y.written ≡ x.written → ((bindings : List Binding) (input : List (Option ℕ)) (output : List ℕ) → f (shown x bindings Going input output) ≡ shown y bindings stop input output) → Moves f x y stop
+moves_quietly f x y stop l w e =
+    ([], w ∙ nothing_written x.written, λ later tells. (later, subst (λ o. Tells o later) l tells, λ b out. (tt, e b later out ∙ ap (λ o. shown y b stop later o) (sym (append-nil out)))))
+
+pub moves_reading : (f : State → State) (x y : Seen) (byte : Option ℕ) → Takes {E = Failed} x.left y.left (Ok byte) → y.written ≡ x.written → ((bindings : List Binding) (input : List (Option ℕ)) (output : List ℕ) → next_read input ≡ byte → f (shown x bindings Going input output) ≡ shown y bindings Going (later_reads input) output) → Moves f x y Going
+moves_reading f x y byte takes w e =
+    ([], w ∙ nothing_written x.written, λ later tells. let r = read x.left y.left byte later takes tells in (r.input, r.tells, λ b out. (tt, e b r.input out r.next ∙ ap₂ (λ i o. shown y b Going i o) r.rest (sym (append-nil out)))))
+
+pub moves_writing : (f : State → State) (x y : Seen) (byte : ℕ) → y.left ≡ x.left → y.written ≡ option_map (λ before. before ++ byte ∷ []) x.written → ((bindings : List Binding) (input : List (Option ℕ)) (output : List ℕ) → f (shown x bindings Going input output) ≡ shown y bindings Going input (output ++ byte ∷ [])) → Moves f x y Going
+moves_writing f x y byte l w e =
+    (byte ∷ [], w, λ later tells. (later, subst (λ o. Tells o later) l tells, λ b out. (tt, e b later out)))
+
+-- the same of a function that does the same
+pub moves_as : (f g : State → State) (x y : Seen) (stop : Stop) → ((bindings : List Binding) (input : List (Option ℕ)) (output : List ℕ) → g (shown x bindings Going input output) ≡ f (shown x bindings Going input output)) → Moves f x y stop → Moves g x y stop
+moves_as f g x y stop e m =
+    (m.0, m.1, λ later tells. let t = m.2 later tells in (t.0, t.1, λ b out. (tt, e b t.0 out ∙ (t.2 b out).1)))
+
+-- the fetch of a pick that is one of the choices
+pub fetched : (x : Seen) (bindings : List Binding) (stop : Stop) (input : List (Option ℕ)) (output : List ℕ) (pick : ℕ) → pick < length (choices x.room.held x.pc) → fetched_step (shown x bindings stop input output) pick ≡ picked_step x.room pick x.regs x.pc
+unfolding fetched_step choices_at
+fetched x bindings stop input output pick lt = ap (λ p. picked_step x.room p x.regs x.pc) (mod-eq_of_lt lt)
+
+pub count_is : (x : Seen) (bindings : List Binding) (stop : Stop) (input : List (Option ℕ)) (output : List ℕ) → choices_at (shown x bindings stop input output) ≡ length (choices x.room.held x.pc)
+unfolding choices_at
+count_is x bindings stop input output = refl
+
+-- ---- one more move
+
+pub way_more : (way v way' : Option Way) (count pick n : ℕ) → v ≡ option_map (λ w. way_after w n) way → Follows v way' count pick → way' ≡ option_map (λ w. way_after w (n + 1)) way
+unfolding way_after
+way_more None v way' count pick n is follows = subst (λ o. Follows o way' count pick) is follows
+way_more (Some w) v way' count pick n is follows =
+    let f : Follows (Some (way_after w n)) way' count pick = subst (λ o. Follows o way' count pick) is follows in
+    f.1 ∙ ap (λ k. Some (way_after w k)) (sym (add-one n))
+
+under_next : (w : Way) (s : State) (picks : List ℕ) (pick j : ℕ) → length picks ≡ j → pick ≡ pick_of (way_after w j) (choices_at (runs_from s picks j)) → slice_index (picks ++ pick ∷ []) j ≡ pick_of (way_after w j) (choices_at (runs_from s (picks ++ pick ∷ []) j))
+under_next w s picks pick j len e =
+    get_or_at picks pick [] 0 j len ∙ e ∙ ap (λ t. pick_of (way_after w j) (choices_at t)) (sym (runs_append s picks (pick ∷ []) j (omega (arith, len))))
+
+pub under_more : (way v way' : Option Way) (s : State) (picks : List ℕ) (pick count n : ℕ) → length picks ≡ n → v ≡ option_map (λ w. way_after w n) way → Follows v way' count pick → choices_at (runs_from s picks n) ≡ count → Under way s picks → Under way s (picks ++ pick ∷ [])
+under_more None v way' s picks pick count n len is follows c under = tt
+under_more (Some w) v way' s picks pick count n len is follows c under = λ j lt.
+    let f : Follows (Some (way_after w n)) way' count pick = subst (λ o. Follows o way' count pick) is follows in
+    under_at (cases_lt j (length picks)) f lt
+  where
+    under_at : {j : ℕ} → ((j < length picks) ⊎ (length picks ≤ j)) → Follows (Some (way_after w n)) way' count pick → j < length (picks ++ pick ∷ []) → slice_index (picks ++ pick ∷ []) j ≡ pick_of (way_after w j) (choices_at (runs_from s (picks ++ pick ∷ []) j))
+    under_at {j} (inl lt) f all = get_or_append_left picks (pick ∷ []) 0 j lt ∙ under j lt ∙ ap (λ t. pick_of (way_after w j) (choices_at t)) (sym (runs_append s picks (pick ∷ []) j (omega (arith, lt))))
+    under_at {j} (inr ge) f all =
+        let e : n ≡ j = omega (arith, ge, all, length-append picks (pick ∷ []), len) in
+        subst (λ k. slice_index (picks ++ pick ∷ []) k ≡ pick_of (way_after w k) (choices_at (runs_from s (picks ++ pick ∷ []) k))) e (under_next w s picks pick n len (f.0 ∙ ap (λ k. pick_of (way_after w n) k) (sym c)))
+
+-- what is seen after so many instructions, and how many were executed
+abbrev pub SoFar : Option Way → (picks : List ℕ) (n : ℕ) → State → Type 0
+SoFar way picks n s = Under way s picks × (executed s picks n ≡ n)
+
+pub meets_more : (x y z : Seen) (stop : Stop) (way v way' : Option Way) (picks : List ℕ) (pick n : ℕ) → length picks ≡ n → v ≡ option_map (λ w. way_after w n) way → Follows v way' (length (choices y.room.held y.pc)) pick → Meets (SoFar way picks n) (λ s. runs_from s picks n) x y Going → Moves (λ s. turn s pick) y z stop → Meets (SoFar way (picks ++ pick ∷ []) (n + 1)) (λ s. runs_from s (picks ++ pick ∷ []) (n + 1)) x z stop
+meets_more x y z stop way v way' picks pick n len is follows m t =
+    let all : List ℕ = picks ++ pick ∷ [] in
+    let le : n ≤ length picks = omega (arith, len) in (
+      m.0 ++ t.0,
+      written_then x.written y.written z.written m.0 t.0 m.1 t.1,
+      λ later tells.
+          let mid = t.2 later tells in
+          let start = m.2 mid.0 mid.1 in (
+            start.0,
+            start.1,
+            λ b o.
+                let s = shown x b Going start.0 o in
+                let here = start.2 b o in
+                let at : runs_from s all n ≡ shown y b Going mid.0 (o ++ m.0) = runs_append s picks (pick ∷ []) n le ∙ here.1 in
+                let count : choices_at (runs_from s picks n) ≡ length (choices y.room.held y.pc) = ap choices_at here.1 ∙ count_is y b Going mid.0 (o ++ m.0) in
+                let one : counts_as (runs_from s all n).stop ≡ 1 = ap (λ (e : State). counts_as e.stop) at in (
+                  (
+                    under_more way v way' s picks pick (length (choices y.room.held y.pc)) n len is follows count here.0.0,
+                    omega (arith, executed_more s all n, executed_append s picks (pick ∷ []) n le, here.0.1, one),
+                  ),
+                  runs_more s all n ∙ ap₂ turn at (get_or_at picks pick [] 0 n len) ∙ (mid.2 b (o ++ m.0)).1 ∙ ap (λ (out : List ℕ). shown z b stop later out) (append_assoc o m.0 t.0),
+                ),
+          ),
+    )

@@ -1,0 +1,242 @@
+-- From a walk over what is seen to a call of `run`.
+use Rattle.std.proofs.Common.{ℕ, ◌≡◌, ◌<◌, ◌≤◌, ◌+◌, ◌-◌, ◌%◌, mod-eq_of_lt, ◌⊎◌, inl, inr, List, [], ◌∷◌, ◌++◌, length, slice_index, slice_get, Option, Some, None, option_map, unwrap_or, IfSome, IsSomeAnd, refl, sym, ap, ap₂, ◌∙◌, subst, arith}
+use Rattle.std.proofs.lemmas.List.{length-append, get_or_at, nil_from_length}
+use Rattle.mv_ast.specs.declared.world.Binding.{Binding}
+use Rattle.mv_isa.specs.Execution.{Calls, Faults, reg, step}
+use Rattle.mv_isa.specs.declared.instr.Cause.{Cause}
+use Rattle.mv_isa.specs.declared.instr.Cause.TheVariants as cause
+use Rattle.mv_fetch.specs.Held.{Room, IsInText, choices}
+use Rattle.mv_rv32.specs.Stepping.{access, picked_step, picked_target}
+use Rattle.mv_probe.specs.Ways.{Way, Follows, way_after}
+use Rattle.mv_machine.specs.declared.machine.Stopped.{Stopped}
+use Rattle.mv_machine.specs.declared.machine.Stopped.TheVariants as answer
+use Rattle.mv_machine.specs.Runs.{Stop, Going, Exit, Trap, Fault, State, Request, Reads, Writes, request_of, choices_at, fetched_step, turn, runs_from, executed}
+use Rattle.mv_machine.specs.Snapshots.{Snapshot, resumed, Tells, Under, Asks, Reached, Whole, Broken, Answered, WantsMemory, Ran, Unless, last_of}
+use Rattle.mv_machine.specs.Moves.{Seen, shown, Meets, Moves, Outcomes, Called, Wanting, Turns, Goes, Walked, FaultAt}
+use Rattle.mv_machine.proofs.Turns.{turn_by, runs_more, runs_over, executed_over, runs_append, executed_append, IsOver}
+use Rattle.mv_machine.proofs.Moved.{SoFar, fetched, way_more, under_more, meets_more, count_is}
+
+-- what is seen of a machine
+pub record IsSeen (m : Snapshot) (x : Seen) : Type 0 where
+  pub regs : m.regs ≡ x.regs
+  pub pc : m.pc ≡ x.pc
+  pub room : m.room ≡ x.room
+
+resumed_is : (m : Snapshot) (x : Seen) (input : List (Option ℕ)) → IsSeen m x → shown x m.bindings Going input [] ≡ resumed m input
+unfolding resumed
+resumed_is m x input i = rw (i.regs, i.pc, i.room) refl
+
+reached : (e : State) (y : Seen) (bindings : List Binding) (stop : Stop) (is : Snapshot) (later : List (Option ℕ)) (more : List ℕ) (written : Option (List ℕ)) → IsSeen is y → is.bindings ≡ bindings → y.written ≡ option_map (λ before. before ++ more) written → e ≡ shown y bindings stop later more → Reached e stop is later written y.written
+reached e y bindings stop is later more written i b w at = record {
+  regs = i.regs ∙ sym (ap (λ (s : State). s.regs) at);
+  pc = i.pc ∙ sym (ap (λ (s : State). s.pc) at);
+  memory = i.room ∙ sym (ap (λ (s : State). s.room) at);
+  bindings = b ∙ sym (ap (λ (s : State). s.bindings) at);
+  input = ap (λ (s : State). s.input) at;
+  output = w ∙ ap (λ (out : List ℕ). option_map (λ before. before ++ out) written) (sym (ap (λ (s : State). s.output) at));
+  stopped = ap (λ (s : State). s.stop) at;
+}
+
+choices_same : (e : State) (z : Seen) → e.pc ≡ z.pc → e.room ≡ z.room → choices_at e ≡ length (choices z.room.held z.pc)
+unfolding choices_at
+choices_same e z pc room = ap₂ (λ (a : ℕ) (r : Room). length (choices r.held a)) pc room
+
+fetches : (e : State) (z : Seen) (pick : ℕ) → e.regs ≡ z.regs → e.pc ≡ z.pc → e.room ≡ z.room → pick < length (choices z.room.held z.pc) → fetched_step e pick ≡ picked_step z.room pick z.regs z.pc
+unfolding fetched_step
+fetches e z pick regs pc room lt =
+    ap₂ (λ (c : ℕ) (r : Room). picked_step r (pick % c) e.regs e.pc) (choices_same e z pc room) room
+    ∙ ap₂ (λ (g : List ℕ) (a : ℕ). picked_step z.room (pick % length (choices z.room.held z.pc)) g a) regs pc
+    ∙ ap (λ (p : ℕ). picked_step z.room p z.regs z.pc) (mod-eq_of_lt lt)
+
+asks : (e : State) (z : Seen) (pick : ℕ) (request : Request) → e.regs ≡ z.regs → e.pc ≡ z.pc → e.room ≡ z.room → pick < length (choices z.room.held z.pc) → Called z pick request → Asks e pick request
+asks e z pick request regs pc room lt c = (fetches e z pick regs pc room lt ∙ c.0, ap (λ (g : List ℕ). request_of (reg g 17)) regs ∙ c.1)
+
+wants : (e : State) (z : Seen) (pick : ℕ) → e.regs ≡ z.regs → e.pc ≡ z.pc → e.room ≡ z.room → pick < length (choices z.room.held z.pc) → Wanting z pick → WantsMemory e pick
+wants e z pick regs pc room lt w =
+    let target : picked_target e.room (pick % choices_at e) e.regs e.pc ≡ picked_target z.room pick z.regs z.pc =
+    ap₂ (λ (c : ℕ) (r : Room). picked_target r (pick % c) e.regs e.pc) (choices_same e z pc room) room
+    ∙ ap₂ (λ (g : List ℕ) (a : ℕ). picked_target z.room (pick % length (choices z.room.held z.pc)) g a) regs pc
+    ∙ ap (λ (p : ℕ). picked_target z.room p z.regs z.pc) (mod-eq_of_lt lt) in
+    (subst (λ (a : Option ℕ). IsSomeAnd a IsInText) (sym target) w.0, ap (λ (r : Room). r.spare) room ∙ w.1)
+
+-- no word is fetched where there is no choice
+unfetched : (room : Room) (pick : ℕ) (regs : List ℕ) (pc : ℕ) → length (choices room.held pc) ≡ 0 → picked_step room pick regs pc ≡ Faults cause.Fetch
+unfolding picked_step
+unfetched room pick regs pc none = ap (λ (words : List ℕ). step access (slice_get words pick) regs pc room) (nil_from_length (choices room.held pc) none)
+
+unless : (o : Option Stopped) (X : Type 0) → X → Unless o X
+unless None X h = h
+unless (Some last) X h = tt
+
+module _ (was is : Snapshot) (x y : Seen) (a : IsSeen was x) (b : IsSeen is y) (same : is.bindings ≡ was.bindings) (way way' : Option Way) (A B : Type 0) (steps : ℕ) where
+  abbrev At : List (Option ℕ) → State → Stop → Type 0
+  At later e stop = Reached e stop is later x.written y.written
+
+  from_meets : (f : State → State) (P : State → Type 0) (stop : Stop) (Q : List (Option ℕ) → State → Type 0) → Meets P f x y stop → ((later : List (Option ℕ)) (s : State) → P s → Reached (f s) stop is later x.written y.written → Q later s) → (later : List (Option ℕ)) → Tells y.left later → (input : List (Option ℕ)) × Tells x.left input × Q later (resumed was input)
+  from_meets f P stop Q m q later tells =
+      let t = m.2 later tells in
+      let s : State = shown x was.bindings Going t.0 [] in
+      let here = t.2 was.bindings [] in
+      (t.0, t.1, subst (λ (e : State). Q later e) (resumed_is was x t.0 a) (q later s here.0 (reached (f s) y was.bindings stop is later m.0 x.written b same m.1 here.1)))
+
+  -- the steps were used up
+  pub all_steps : Goes steps x y way way' → Ran steps answer.Steps was is x.left y.left x.written y.written way way' A B
+  all_steps g = record {
+    picks = g.0;
+    way_is = g.2 ∙ ap (λ (n : ℕ). option_map (λ w. way_after w n) way) (sym g.1);
+    run = from_meets (λ s. runs_from s g.0 steps) (SoFar way g.0 steps) Going (λ later s. Under way s g.0 × Answered answer.Steps steps s g.0 (At later) A B) g.3
+        (λ later s p r. (p.0, record { reached = r; picked = p.1 ∙ sym g.1 }));
+  }
+
+  -- an instruction ended the run
+  module _ (n : ℕ) (mid : Seen) (v : Option Way) (lt : n < steps) (g : Goes n x mid way v) (pick : ℕ) (below : pick < length (choices mid.room.held mid.pc)) (follows : Follows v way' (length (choices mid.room.held mid.pc)) pick) where
+    abbrev all : List ℕ
+    all = g.0 ++ pick ∷ []
+
+    len : length all ≡ n + 1
+    len = omega (arith, length-append g.0 (pick ∷ []), g.1)
+
+    way_all : way' ≡ option_map (λ w. way_after w (length all)) way
+    way_all = way_more way v way' (length (choices mid.room.held mid.pc)) pick n g.2 follows ∙ ap (λ (k : ℕ). option_map (λ w. way_after w k) way) (sym len)
+
+    to_end : (s : State) (stop : Stop) → IsOver stop → (runs_from s all (n + 1)).stop ≡ stop → runs_from s all steps ≡ runs_from s all (n + 1)
+    to_end s stop over e =
+        let k : steps ≡ (steps - (n + 1)) + (n + 1) = omega (arith, lt) in
+        ap (λ (i : ℕ). runs_from s all i) k ∙ runs_over s all (n + 1) (steps - (n + 1)) (subst (λ t. IsOver t) (sym e) over)
+
+    executed_to_end : (s : State) (stop : Stop) → IsOver stop → (runs_from s all (n + 1)).stop ≡ stop → executed s all steps ≡ executed s all (n + 1)
+    executed_to_end s stop over e =
+        let k : steps ≡ (steps - (n + 1)) + (n + 1) = omega (arith, lt) in
+        ap (λ (i : ℕ). executed s all i) k ∙ executed_over s all (n + 1) (steps - (n + 1)) (subst (λ t. IsOver t) (sym e) over)
+
+    whole : (stop : Stop) → IsOver stop → (later : List (Option ℕ)) (s : State) → SoFar way all (n + 1) s → Reached (runs_from s all (n + 1)) stop is later x.written y.written → Whole s all steps (At later) stop
+    whole stop over later s p r = record {
+      reached = subst (λ (e : State). At later e stop) (sym (to_end s stop over r.stopped)) r;
+      picked = executed_to_end s stop over r.stopped ∙ p.1 ∙ sym len;
+    }
+
+    ended : (stop : Stop) (r : Stopped) → IsOver stop → Moves (λ s. turn s pick) mid y stop → ((later : List (Option ℕ)) (s : State) → Whole s all steps (At later) stop → Answered r steps s all (At later) A B) → Ran steps r was is x.left y.left x.written y.written way way' A B
+    ended stop r over t answers = record {
+      picks = all;
+      way_is = way_all;
+      run = from_meets (λ s. runs_from s all (n + 1)) (SoFar way all (n + 1)) stop (λ later s. Under way s all × Answered r steps s all (At later) A B)
+          (meets_more x mid y stop way v way' g.0 pick n g.1 g.2 follows g.3 t)
+          (λ later s p e. (p.0, answers later s (whole stop over later s p e)));
+    }
+
+    pub ended_at : (status : ℕ) → Moves (λ s. turn s pick) mid y (Exit status) → Ran steps (answer.Ended status) was is x.left y.left x.written y.written way way' A B
+    ended_at status t = ended (Exit status) (answer.Ended status) tt t (λ later s w. w)
+
+    pub trapped_at : (code : ℕ) → Moves (λ s. turn s pick) mid y (Trap code) → Ran steps (answer.Trapped code) was is x.left y.left x.written y.written way way' A B
+    trapped_at code t = ended (Trap code) (answer.Trapped code) tt t (λ later s w. w)
+
+    pub fault_at : (pc : ℕ) (why : Cause) → pc ≡ y.pc → Moves (λ s. turn s pick) mid y (Fault why) → Ran steps (answer.Fault pc why) was is x.left y.left x.written y.written way way' A B
+    fault_at pc why e t = ended (Fault why) (answer.Fault pc why) tt t (λ later s w. (w.reached, sym w.reached.pc ∙ b.pc ∙ sym e))
+
+    -- an instruction was fetched and not carried out
+    broken : (r : Stopped) (Why : State → ℕ → Type 0) → y ≡ mid → ((e : State) → e.regs ≡ mid.regs → e.pc ≡ mid.pc → e.room ≡ mid.room → Why e pick) → ((later : List (Option ℕ)) (s : State) → Broken s all steps (At later) Why → Answered r steps s all (At later) A B) → Ran steps r was is x.left y.left x.written y.written way way' A B
+    broken r Why still why answers = record {
+      picks = all;
+      way_is = way_all;
+      run = from_meets (λ s. runs_from s g.0 n) (SoFar way g.0 n) Going (λ later s. Under way s all × Answered r steps s all (At later) A B)
+          (subst (λ (z : Seen). Meets (SoFar way g.0 n) (λ s. runs_from s g.0 n) x z Going) (sym still) g.3)
+          (λ later s p e.
+          let same_state : runs_from s all n ≡ runs_from s g.0 n = runs_append s g.0 (pick ∷ []) n (omega (arith, g.1)) in
+          let regs : (runs_from s g.0 n).regs ≡ mid.regs = sym e.regs ∙ b.regs ∙ ap (λ (z : Seen). z.regs) still in
+          let pc : (runs_from s g.0 n).pc ≡ mid.pc = sym e.pc ∙ b.pc ∙ ap (λ (z : Seen). z.pc) still in
+          let room : (runs_from s g.0 n).room ≡ mid.room = sym e.memory ∙ b.room ∙ ap (λ (z : Seen). z.room) still in
+          let count : choices_at (runs_from s g.0 n) ≡ length (choices mid.room.held mid.pc) = choices_same (runs_from s g.0 n) mid pc room in (
+            under_more way v way' s g.0 pick (length (choices mid.room.held mid.pc)) n g.1 g.2 follows count p.0,
+            answers later s (record {
+              count = n;
+              within = lt;
+              reached = subst (λ (t : State). At later t Going) (sym same_state) e;
+              picked = sym len;
+              cause = subst (λ (t : State). Why t (slice_index all n)) (sym same_state) (subst (λ (k : ℕ). Why (runs_from s g.0 n) k) (sym (get_or_at g.0 pick [] 0 n g.1)) (why (runs_from s g.0 n) regs pc room));
+            }),
+          ));
+    }
+
+    pub input_fault_at : y ≡ mid → Called mid pick Reads → A → Ran steps answer.InputFault was is x.left y.left x.written y.written way way' A B
+    input_fault_at still c rose = broken answer.InputFault (λ e p. Asks e p Reads × A) still (λ e regs pc room. (asks e mid pick Reads regs pc room below c, rose)) (λ later s w. w)
+
+    pub output_fault_at : y ≡ mid → Called mid pick Writes → B → Ran steps answer.OutputFault was is x.left y.left x.written y.written way way' A B
+    output_fault_at still c rose = broken answer.OutputFault (λ e p. Asks e p Writes × B) still (λ e regs pc room. (asks e mid pick Writes regs pc room below c, rose)) (λ later s w. w)
+
+    pub memory_at : y ≡ mid → Wanting mid pick → Ran steps answer.Memory was is x.left y.left x.written y.written way way' A B
+    memory_at still w = broken answer.Memory WantsMemory still (λ e regs pc room. wants e mid pick regs pc room below w) (λ later s h. h)
+
+  -- there was no word to fetch
+  module _ (n : ℕ) (mid : Seen) (v : Option Way) (lt : n < steps) (g : Goes n x mid way v) (none : length (choices mid.room.held mid.pc) ≡ 0) (still : y ≡ mid) (stays : way' ≡ v) where
+    no_step : (b : List Binding) (input : List (Option ℕ)) (output : List ℕ) (pick : ℕ) → fetched_step (shown mid b Going input output) pick ≡ Faults cause.Fetch
+    unfolding fetched_step
+    no_step b input output pick = unfetched mid.room (pick % choices_at (shown mid b Going input output)) mid.regs mid.pc none
+
+    one_more : (b : List Binding) (input : List (Option ℕ)) (output : List ℕ) (pick : ℕ) → turn (shown mid b Going input output) pick ≡ shown mid b (Fault cause.Fetch) input output
+    one_more b input output pick = turn_by (shown mid b Going input output) pick (Faults cause.Fetch) refl (no_step b input output pick)
+
+    to_fault : Meets (SoFar way g.0 n) (λ s. runs_from s g.0 (n + 1)) x mid (Fault cause.Fetch)
+    to_fault =
+        let m = g.3 in (
+          m.0,
+          m.1,
+          λ later tells. let t = m.2 later tells in (
+            t.0,
+            t.1,
+            λ b o.
+                ((t.2 b o).0, runs_more (shown x b Going t.0 o) g.0 n ∙ ap (λ (e : State). turn e (slice_index g.0 n)) (t.2 b o).1 ∙ one_more b later (o ++ m.0) (slice_index g.0 n)),
+          ),
+        )
+
+    to_last : (s : State) → (runs_from s g.0 (n + 1)).stop ≡ Fault cause.Fetch → runs_from s g.0 steps ≡ runs_from s g.0 (n + 1)
+    to_last s e =
+        let k : steps ≡ (steps - (n + 1)) + (n + 1) = omega (arith, lt) in
+        ap (λ (i : ℕ). runs_from s g.0 i) k ∙ runs_over s g.0 (n + 1) (steps - (n + 1)) (subst (λ t. IsOver t) (sym e) tt)
+
+    pub unfetched_at : Ran steps (answer.Fault mid.pc cause.Fetch) was is x.left y.left x.written y.written way way' A B
+    unfetched_at = record {
+      picks = g.0;
+      way_is = stays ∙ g.2 ∙ ap (λ (k : ℕ). option_map (λ w. way_after w k) way) (sym g.1);
+      run = from_meets (λ s. runs_from s g.0 (n + 1)) (SoFar way g.0 n) (Fault cause.Fetch) (λ later s. Under way s g.0 × Answered (answer.Fault mid.pc cause.Fetch) steps s g.0 (At later) A B)
+          (subst (λ (z : Seen). Meets (SoFar way g.0 n) (λ s. runs_from s g.0 (n + 1)) x z (Fault cause.Fetch)) (sym still) to_fault)
+          (λ later s p e.
+          let last = to_last s e.stopped in
+          (p.0, (subst (λ (t : State). At later t (Fault cause.Fetch)) (sym last) e, ap (λ (t : State). t.pc) last ∙ sym e.pc ∙ b.pc ∙ ap (λ (z : Seen). z.pc) still)));
+    }
+
+  from_turn : (n : ℕ) (mid : Seen) (v : Option Way) (r : Stopped) → n < steps → Goes n x mid way v → FaultAt r y.pc → Turns (Some r) mid y v way' A B → Ran steps r was is x.left y.left x.written y.written way way' A B
+  from_turn n mid v r lt g f (inl t) =
+      let is_fault : r ≡ answer.Fault mid.pc cause.Fetch = ap (λ (o : Option Stopped). unwrap_or o answer.Steps) t.1 in
+      subst (λ (q : Stopped). Ran steps q was is x.left y.left x.written y.written way way' A B) (sym is_fault) (unfetched_at n mid v lt g t.0 t.2 t.3)
+  from_turn n mid v (answer.Ended status) lt g f (inr t) = ended_at n mid v lt g t.0 t.1 t.2 status t.3
+  from_turn n mid v (answer.Trapped code) lt g f (inr t) = trapped_at n mid v lt g t.0 t.1 t.2 code t.3
+  from_turn n mid v answer.Steps lt g f (inr t) = absurd t.3
+  from_turn n mid v answer.InputFault lt g f (inr t) = input_fault_at n mid v lt g t.0 t.1 t.2 t.3.0 t.3.1 t.3.2
+  from_turn n mid v answer.OutputFault lt g f (inr t) = output_fault_at n mid v lt g t.0 t.1 t.2 t.3.0 t.3.1 t.3.2
+  from_turn n mid v (answer.Fault pc why) lt g f (inr t) = fault_at n mid v lt g t.0 t.1 t.2 pc why f t.3
+  from_turn n mid v answer.Memory lt g f (inr t) = memory_at n mid v lt g t.0 t.1 t.2 t.3.0 t.3.1
+
+  walked : (r : Option Stopped) → Walked steps r x y way way' A B → IfSome r (λ stopped. FaultAt stopped y.pc) → Ran steps (unwrap_or r answer.Steps) was is x.left y.left x.written y.written way way' A B
+  walked None w f = all_steps w
+  walked (Some r) w f = from_turn w.0 w.1 w.2 r w.3 w.4 f w.5
+
+  pub ran : (r : Option Stopped) (result : Stopped) (last : Option Stopped) → result ≡ unwrap_or r answer.Steps → Walked steps r x y way way' A B → IfSome r (λ stopped. FaultAt stopped y.pc) → Unless last (Ran steps result was is x.left y.left x.written y.written way way' A B)
+  ran r result last e w f = unless last _ (subst (λ (q : Stopped). Ran steps q was is x.left y.left x.written y.written way way' A B) (sym e) (walked r w f))
+
+abbrev is_fault : Option Stopped → Type 0
+is_fault (Some (answer.Fault pc why)) = Unit {0}
+is_fault _ = ⊥
+
+not_steps : (x y : Seen) (way way' : Option Way) (A B : Type 0) → Turns (Some answer.Steps) x y way way' A B → ⊥
+not_steps x y way way' A B (inl t) = subst (λ (r : Option Stopped). is_fault r) (sym t.1) tt
+not_steps x y way way' A B (inr t) = t.3
+
+pub last_is : (steps : ℕ) (x y : Seen) (way way' : Option Way) (A B : Type 0) (r : Option Stopped) → Walked steps r x y way way' A B → r ≡ last_of (unwrap_or r answer.Steps)
+last_is steps x y way way' A B None w = refl
+last_is steps x y way way' A B (Some (answer.Ended status)) w = refl
+last_is steps x y way way' A B (Some (answer.Trapped code)) w = refl
+last_is steps x y way way' A B (Some answer.Steps) w = absurd (not_steps w.1 y w.2 way' A B w.5)
+last_is steps x y way way' A B (Some answer.InputFault) w = refl
+last_is steps x y way way' A B (Some answer.OutputFault) w = refl
+last_is steps x y way way' A B (Some (answer.Fault pc why)) w = refl
+last_is steps x y way way' A B (Some answer.Memory) w = refl

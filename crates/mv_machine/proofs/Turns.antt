@@ -1,0 +1,74 @@
+-- How a run grows by one instruction, and that nothing follows its end.
+use Rattle.std.proofs.Common.{ℕ, zero, suc, ◌≡◌, ◌<◌, ◌≤◌, ◌+◌, ◌%◌, add-one, ◌⊎◌, inl, inr, List, [], ◌∷◌, ◌++◌, length, slice_index, Option, Some, None, refl, sym, ap, ap₂, ◌∙◌, subst, arith}
+use Rattle.std.proofs.lemmas.List.{get_or_append_left}
+use Rattle.mv_isa.specs.Execution.{Outcome, Goes, Calls, Faults, reg}
+use Rattle.mv_fetch.specs.Held.{Room}
+use Rattle.mv_machine.specs.Runs.{Stop, Going, Exit, Trap, Fault, State, Request, request_of, environment_call, where_going, after, fetched_step, turn, runs_from, executed, counts_as}
+
+-- after no instruction
+pub runs_none : (s : State) (picks : List ℕ) → runs_from s picks 0 ≡ s
+unfolding runs_from
+runs_none s picks = refl
+
+-- after one more
+pub runs_more : (s : State) (picks : List ℕ) (n : ℕ) → runs_from s picks (n + 1) ≡ turn (runs_from s picks n) (slice_index picks n)
+unfolding runs_from
+runs_more s picks n = ap (λ (k : ℕ). runs_from s picks k) (add-one n)
+
+pub executed_more : (s : State) (picks : List ℕ) (n : ℕ) → executed s picks (n + 1) ≡ executed s picks n + counts_as (runs_from s picks n).stop
+unfolding executed
+executed_more s picks n = ap (λ (k : ℕ). executed s picks k) (add-one n)
+
+-- an instruction of a run that goes on, by what its step leads to
+pub turn_by : (s : State) (pick : ℕ) (outcome : Outcome Room) → s.stop ≡ Going → fetched_step s pick ≡ outcome → turn s pick ≡ after outcome s
+unfolding turn
+turn_by s pick outcome going e = ap₂ (λ (stop : Stop) (o : Outcome Room). where_going stop (after o s) s) going e
+
+-- the run has ended
+abbrev pub IsOver : Stop → Type 0
+IsOver Going = ⊥
+IsOver (Exit status) = Unit {0}
+IsOver (Trap code) = Unit {0}
+IsOver (Fault why) = Unit {0}
+
+over_stays : (stop : Stop) (a b : State) → IsOver stop → where_going stop a b ≡ b
+over_stays Going a b h = absurd h
+over_stays (Exit status) a b h = refl
+over_stays (Trap code) a b h = refl
+over_stays (Fault why) a b h = refl
+
+over_counts : (stop : Stop) → IsOver stop → counts_as stop ≡ 0
+over_counts Going h = absurd h
+over_counts (Exit status) h = refl
+over_counts (Trap code) h = refl
+over_counts (Fault why) h = refl
+
+pub turn_over : (s : State) (pick : ℕ) → IsOver s.stop → turn s pick ≡ s
+unfolding turn
+turn_over s pick h = over_stays s.stop (after (fetched_step s pick) s) s h
+
+pub runs_over : (s : State) (picks : List ℕ) (n m : ℕ) → IsOver (runs_from s picks n).stop → runs_from s picks (m + n) ≡ runs_from s picks n
+runs_over s picks n zero h = let e : 0 + n ≡ n = omega arith in ap (λ (k : ℕ). runs_from s picks k) e
+runs_over s picks n (suc m) h =
+    let before = runs_over s picks n m h in
+    let e : runs_from s picks (suc m + n) ≡ turn (runs_from s picks (m + n)) (slice_index picks (m + n)) = (let k : suc m + n ≡ m + n + 1 = omega arith in ap (λ (i : ℕ). runs_from s picks i) k) ∙ runs_more s picks (m + n) in
+    e ∙ turn_over (runs_from s picks (m + n)) (slice_index picks (m + n)) (subst (λ (t : State). IsOver t.stop) (sym before) h) ∙ before
+
+pub executed_over : (s : State) (picks : List ℕ) (n m : ℕ) → IsOver (runs_from s picks n).stop → executed s picks (m + n) ≡ executed s picks n
+executed_over s picks n zero h = let e : 0 + n ≡ n = omega arith in ap (λ (k : ℕ). executed s picks k) e
+executed_over s picks n (suc m) h =
+    let before = executed_over s picks n m h in
+    let none : counts_as (runs_from s picks (m + n)).stop ≡ 0 = over_counts (runs_from s picks (m + n)).stop (subst (λ (t : State). IsOver t.stop) (sym (runs_over s picks n m h)) h) in
+    let e : executed s picks (suc m + n) ≡ executed s picks (m + n + 1) = (let k : suc m + n ≡ m + n + 1 = omega arith in ap (λ (i : ℕ). executed s picks i) k) in
+    omega (arith, e, executed_more s picks (m + n), none, before)
+
+-- only the picks so far matter
+pub runs_append : (s : State) (picks more : List ℕ) (n : ℕ) → n ≤ length picks → runs_from s (picks ++ more) n ≡ runs_from s picks n
+unfolding runs_from
+runs_append s picks more zero le = refl
+runs_append s picks more (suc n) le = ap₂ turn (runs_append s picks more n (omega (arith, le))) (get_or_append_left picks more 0 n (omega (arith, le)))
+
+pub executed_append : (s : State) (picks more : List ℕ) (n : ℕ) → n ≤ length picks → executed s (picks ++ more) n ≡ executed s picks n
+unfolding executed
+executed_append s picks more zero le = refl
+executed_append s picks more (suc n) le = ap₂ (λ (k : ℕ) (t : State). k + counts_as t.stop) (executed_append s picks more n (omega (arith, le))) (runs_append s picks more n (omega (arith, le)))

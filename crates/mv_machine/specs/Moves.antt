@@ -1,0 +1,111 @@
+-- What the code holds of a state, and that what it does to it is what a definition does to the state.
+use Rattle.std.specs.Prelude.{ℕ, ◌≡◌, ◌≤◌, ◌+◌, ◌%◌, ◌^◌, ◌<◌, ◌⊎◌, ◌∷◌, List, [], ◌++◌, length, Option, Some, None, option_map, IsSomeAnd, Ok, Result}
+use Rattle.mv_num.specs.Words.{add}
+use Rattle.mv_ast.specs.declared.world.Binding.{Binding}
+use Rattle.mv_isa.specs.declared.instr.Cause.TheVariants as cause
+use Rattle.mv_isa.specs.Execution.{put, reg, Calls}
+use Rattle.mv_fetch.specs.Held.{Room, IsInText, choices}
+use Rattle.mv_rv32.specs.Stepping.{picked_step, picked_target}
+use Rattle.mv_rv32.specs.declared.hart.Hart.{Hart}
+use Rattle.mv_io.specs.Outside.{Takes}
+use Rattle.mv_io.specs.declared.outside.Failed.{Failed}
+use Rattle.mv_probe.specs.Ways.{Way, Follows, way_after}
+use Rattle.mv_machine.specs.declared.machine.Stopped.{Stopped}
+use Rattle.mv_machine.specs.declared.machine.Stopped.TheVariants as answer
+use Rattle.mv_machine.specs.Runs.{State, Stop, Going, Exit, Trap, Fault, Request, Reads, Writes, request_of, word_read, turn, runs_from, executed}
+use Rattle.mv_machine.specs.Snapshots.{Tells, Under}
+
+-- the hart and the memory, and what the source and the sink tell
+pub record Seen : Type 0 where
+  pub regs : List ℕ
+  pub pc : ℕ
+  pub room : Room
+  pub left : Option (List ℕ)
+  pub written : Option (List ℕ)
+
+abbrev pub seen : Hart → Room → (left written : Option (List ℕ)) → Seen
+seen hart room left written = record { regs = hart.regs; pc = hart.pc; room = room; left = left; written = written }
+
+-- the state of which that is seen
+abbrev pub shown : Seen → List Binding → Stop → (input : List (Option ℕ)) → (output : List ℕ) → State
+shown x bindings stop input output = record { regs = x.regs; pc = x.pc; room = x.room; bindings = bindings; input = input; output = output; log = []; stop = stop }
+
+-- one more piece of output stands in the sink, and whatever is still to come, the function takes a state of the first kind with a fitting input to
+-- the one of the second kind; and P holds of the first
+abbrev pub Meets : (State → Type 0) → (State → State) → Seen → Seen → Stop → Type 0
+Meets P f x y stop =
+    (more : List ℕ) × (y.written ≡ option_map (λ before. before ++ more) x.written)
+    × ((later : List (Option ℕ)) → Tells y.left later → (input : List (Option ℕ)) × Tells x.left input
+    × ((bindings : List Binding) (output : List ℕ) → P (shown x bindings Going input output) × (f (shown x bindings Going input output) ≡ shown y bindings stop later (output ++ more))))
+
+abbrev pub Moves : (State → State) → Seen → Seen → Stop → Type 0
+Moves f x y stop = Meets (λ s. Unit {0}) f x y stop
+
+-- a read that did not fail
+abbrev pub Gets : Hart → Hart → (left left' : Option (List ℕ)) → Type 0
+Gets hart hart' left left' =
+    (byte : Option ℕ) × Takes {E = Failed} left left' (Ok byte) × (hart'.regs ≡ put hart.regs 10 (word_read byte)) × (hart'.pc ≡ add hart.pc 4)
+
+-- a write that did not fail
+abbrev pub Puts : Hart → Hart → (written written' : Option (List ℕ)) → Type 0
+Puts hart hart' written written' =
+    (written' ≡ option_map (λ before. before ++ reg hart.regs 10 % 2 ^ 8 ∷ []) written) × (hart'.regs ≡ put hart.regs 10 (reg hart.regs 10 % 2 ^ 8)) × (hart'.pc ≡ add hart.pc 4)
+
+-- an answer of one instruction: a move to a stop, or a fault of the outside or want of memory, which is no move
+abbrev pub Outcomes : Option Stopped → (Stop → Type 0) → (input output memory : Type 0) → Type 0
+Outcomes None moves input output memory = moves Going
+Outcomes (Some (answer.Ended status)) moves input output memory = moves (Exit status)
+Outcomes (Some (answer.Trapped code)) moves input output memory = moves (Trap code)
+Outcomes (Some answer.Steps) moves input output memory = ⊥
+Outcomes (Some answer.InputFault) moves input output memory = input
+Outcomes (Some answer.OutputFault) moves input output memory = output
+Outcomes (Some (answer.Fault pc why)) moves input output memory = moves (Fault why)
+Outcomes (Some answer.Memory) moves input output memory = memory
+
+-- an answer that is a stop of the definition
+abbrev pub IsStop : Stopped → Stop → Type 0
+IsStop (answer.Ended status) stop = Exit status ≡ stop
+IsStop (answer.Trapped code) stop = Trap code ≡ stop
+IsStop answer.Steps stop = ⊥
+IsStop answer.InputFault stop = ⊥
+IsStop answer.OutputFault stop = ⊥
+IsStop (answer.Fault pc why) stop = Fault why ≡ stop
+IsStop answer.Memory stop = ⊥
+
+-- the call that stands at pc is that one
+abbrev pub Called : Seen → (pick : ℕ) → Request → Type 0
+Called x pick request = (picked_step x.room pick x.regs x.pc ≡ Calls) × (request_of (reg x.regs 17) ≡ request)
+
+-- the instruction stores into text, and nothing is spare
+abbrev pub Wanting : Seen → (pick : ℕ) → Type 0
+Wanting x pick = IsSomeAnd (picked_target x.room pick x.regs x.pc) IsInText × (x.room.spare ≡ 0)
+
+-- one instruction: no fetch there, or the one that the oracle picks
+abbrev pub Turns : Option Stopped → Seen → Seen → Option Way → Option Way → (input_rose output_rose : Type 0) → Type 0
+Turns result x y way way' input_rose output_rose =
+    let count = length (choices x.room.held x.pc) in
+    ((count ≡ 0) × (result ≡ Some (answer.Fault x.pc cause.Fetch)) × (y ≡ x) × (way' ≡ way))
+    ⊎ ((pick : ℕ) × (pick < count) × Follows way way' count pick
+    × Outcomes result (Moves (λ s. turn s pick) x y) ((y ≡ x) × Called x pick Reads × input_rose) ((y ≡ x) × Called x pick Writes × output_rose) ((y ≡ x) × Wanting x pick))
+
+-- so many instructions, none of which ended the run
+abbrev pub Goes : (n : ℕ) → Seen → Seen → Option Way → Option Way → Type 0
+Goes n x y way way' =
+    (picks : List ℕ) × (length picks ≡ n) × (way' ≡ option_map (λ w. way_after w n) way)
+    × Meets (λ s. Under way s picks × (executed s picks n ≡ n)) (λ s. runs_from s picks n) x y Going
+
+-- a walk of at most so many instructions: all of them, or some and then one that stopped it
+abbrev pub Walked : (steps : ℕ) → Option Stopped → Seen → Seen → Option Way → Option Way → (input_rose output_rose : Type 0) → Type 0
+Walked steps None x y way way' input_rose output_rose = Goes steps x y way way'
+Walked steps (Some stopped) x y way way' input_rose output_rose =
+    (n : ℕ) × (mid : Seen) × (v : Option Way) × (n < steps) × Goes n x mid way v × Turns (Some stopped) mid y v way' input_rose output_rose
+
+-- a fault is told with its place
+abbrev pub FaultAt : Stopped → ℕ → Type 0
+FaultAt (answer.Ended status) pc = Unit {0}
+FaultAt (answer.Trapped code) pc = Unit {0}
+FaultAt answer.Steps pc = Unit {0}
+FaultAt answer.InputFault pc = Unit {0}
+FaultAt answer.OutputFault pc = Unit {0}
+FaultAt (answer.Fault place why) pc = place ≡ pc
+FaultAt answer.Memory pc = Unit {0}

@@ -1,0 +1,133 @@
+//! A machine and its runs.
+
+ghost use Rattle.std.specs.Prelude.{◌≡◌, [], Some, None, replicate, IfOk};
+ghost use Rattle.std.specs.Result.{result_ok};
+ghost use Rattle.mv_fetch.specs.Held.{load};
+ghost use Rattle.mv_io.specs.Outside.{Rose};
+ghost use Rattle.mv_machine.specs.Runs.{first, free};
+ghost use Rattle.mv_machine.specs.Snapshots.{kept, Ran, Unless, last_of};
+
+use crate::turning::walk;
+use mv_ast::world::Binding;
+use mv_fetch::Memory;
+use mv_image::Image;
+use mv_image::facts::within_limits;
+use mv_io::{Sink, Source};
+use mv_num::list::List;
+use mv_probe::FetchOracle;
+use mv_rv32::{Cause, Hart};
+use std::alloc::{AllocError, Global};
+use std::marker::Model;
+
+/// Why a run stopped.
+#[derive(Clone, Copy, Debug, PartialEq, Eq, Drop)]
+pub enum Stopped {
+    /// The program ended with this exit status.
+    Ended(u8),
+    /// The program trapped with this code, 1 to 4.
+    Trapped(u8),
+    /// The given number of instructions was executed, and the program goes on.
+    Steps,
+    /// A read failed. The program stands before it.
+    InputFault,
+    /// A write failed. The program stands before it.
+    OutputFault,
+    /// The instruction at this address faults.
+    Fault(u32, Cause),
+    /// There was no memory to remember the word that a store into text replaces.
+    Memory,
+}
+
+// What a function is bound to at the start.
+const FREE: Binding = Binding {
+    bound: false,
+    count: 0,
+    values: [0; 6],
+};
+
+// So many functions that are free.
+fn all_free(alloc: Global, count: usize) -> Result<List<Binding>, AllocError>
+    ensures { IfOk result (λ bindings. bindings ≡ replicate count free) }
+{
+    Ok(List::from_vec(vec![in alloc; FREE; count]?))
+}
+
+/// A hart, its memory and the bindings of the attributed functions, and the last answer where a run has ended.
+#[derive(Drop)]
+pub struct Machine {
+    hart: Hart,
+    memory: Memory,
+    bindings: List<Binding>,
+    last: Option<Stopped>,
+}
+
+impl Model for Machine {
+    ghost use Rattle.mv_machine.specs.Snapshots.{Snapshot};
+
+    ghost Value = { Snapshot };
+
+    ghost view = { λ m. record { regs = m.hart.regs; pc = m.hart.pc; room = m.memory; bindings = m.bindings; last = m.last } };
+}
+
+impl Machine {
+    /// The machine of an image before its first instruction. From here on memory can be wanting only where a program stores into its text more
+    /// often between two FENCE.I than a plan of the image would.
+    pub fn start(alloc: Global, image: &Image) -> Result<Machine, AllocError>
+        ensures { IfOk result (λ machine. machine ≡ kept (first image.now []) None) }
+    {
+        within_limits(image);
+        let patchable = image.functions().len() + 2 * image.sites().len();
+        Ok(Machine {
+            hart: Hart {
+                regs: [0; 32],
+                pc: image.entry(),
+            },
+            memory: Memory::new(alloc, image.text(), image.globals(), patchable as u32)?,
+            bindings: all_free(alloc, image.functions().len())?,
+            last: None,
+        })
+    }
+
+    /// Runs so many instructions, or up to the one that ends the run. After `Steps` a further call goes on; after any other answer it gives
+    /// this answer again and does nothing.
+    pub fn run<I: Source, O: Sink>(
+        &mut self,
+        steps: u64,
+        source: &mut I,
+        sink: &mut O,
+        oracle: &mut Box<dyn FetchOracle>,
+    ) -> Stopped
+        ensures runs { Unless self.old.last (Ran steps result self.old self.new
+            (I.left source.old) (I.left source.new) (O.written sink.old) (O.written sink.new) (way oracle.old) (way oracle.new)
+            (Rose (I.faults source.old) (I.faults source.new)) (Rose (O.faults sink.old) (O.faults sink.new))) }
+        ensures last { self.old.last ≡ None → self.new.last ≡ last_of result }
+        ensures again { (last : Stopped) → self.old.last ≡ Some last → (result ≡ last) × (self.new ≡ self.old) × (source.new ≡ source.old) × (sink.new ≡ sink.old) × (way oracle.new ≡ way oracle.old) }
+    {
+        if let Some(last) = self.last {
+            return last;
+        }
+        self.last = walk(
+            &mut self.hart,
+            &mut self.memory,
+            steps,
+            source,
+            sink,
+            oracle,
+        );
+        self.last.unwrap_or(Stopped::Steps)
+    }
+
+    /// What each attributed function is bound to, in order of declaration.
+    pub fn bindings(&self) -> &List<Binding>
+        ensures { result.now ≡ self.now.bindings }
+    {
+        &self.bindings
+    }
+
+    /// The present word at an address, and none outside the regions of memory or where the address is no multiple of 4.
+    pub fn word(&self, address: u32) -> Option<u32>
+        ensures { result ≡ result_ok (load self.now.room.held address 4) }
+    {
+        self.memory.load(address, 4).ok()
+    }
+}

@@ -1,0 +1,70 @@
+//! One instruction after the other.
+
+ghost use Rattle.std.specs.Prelude.{◌≤◌, ◌<◌, IfSome};
+ghost use Rattle.mv_io.specs.Outside.{Rose};
+ghost use Rattle.mv_probe.specs.Ways.{Follows};
+ghost use Rattle.mv_machine.specs.Moves.{Turns, Walked, seen, FaultAt};
+
+use crate::call::call;
+use crate::machine::Stopped;
+use mv_fetch::Memory;
+use mv_io::{Sink, Source};
+use mv_probe::FetchOracle;
+use mv_rv32::{Cause, Hart, Stepped, step};
+
+// What the oracle picks for a fetch.
+fn picked(oracle: &mut Box<dyn FetchOracle>, address: u32, choices: u64) -> u64
+    requires { 1 ≤ choices }
+    ensures below { result < choices }
+    ensures follows { Follows (way oracle.old) (way oracle.new) choices result }
+{
+    oracle.pick(address, choices)
+}
+
+// One instruction, and the answer of the run where it doesn't go on.
+fn turn<I: Source, O: Sink>(
+    hart: &mut Hart,
+    memory: &mut Memory,
+    source: &mut I,
+    sink: &mut O,
+    oracle: &mut Box<dyn FetchOracle>,
+) -> Option<Stopped>
+    ensures moves { Turns result (seen hart.old memory.old (I.left source.old) (O.written sink.old)) (seen hart.new memory.new (I.left source.new) (O.written sink.new)) (way oracle.old) (way oracle.new)
+        (Rose (I.faults source.old) (I.faults source.new)) (Rose (O.faults sink.old) (O.faults sink.new)) }
+    ensures place { IfSome result (λ stopped. FaultAt stopped hart.new.pc) }
+    ensures input { I.faults source.old ≤ I.faults source.new }
+    ensures output { O.faults sink.old ≤ O.faults sink.new }
+{
+    let choices = memory.choices(hart.pc);
+    if choices == 0 {
+        return Some(Stopped::Fault(hart.pc, Cause::Fetch));
+    }
+    let pick = picked(oracle, hart.pc, choices);
+    match step(hart, memory, pick) {
+        Stepped::Next => None,
+        Stepped::Call => call(hart, source, sink),
+        Stepped::Fault(cause) => Some(Stopped::Fault(hart.pc, cause)),
+        Stepped::Memory => Some(Stopped::Memory),
+    }
+}
+
+/// So many instructions, and the answer of the run where one of them doesn't go on.
+pub(crate) fn walk<I: Source, O: Sink>(
+    hart: &mut Hart,
+    memory: &mut Memory,
+    steps: u64,
+    source: &mut I,
+    sink: &mut O,
+    oracle: &mut Box<dyn FetchOracle>,
+) -> Option<Stopped>
+    ensures walked { Walked steps result (seen hart.old memory.old (I.left source.old) (O.written sink.old)) (seen hart.new memory.new (I.left source.new) (O.written sink.new)) (way oracle.old) (way oracle.new)
+        (Rose (I.faults source.old) (I.faults source.new)) (Rose (O.faults sink.old) (O.faults sink.new)) }
+    ensures place { IfSome result (λ stopped. FaultAt stopped hart.new.pc) }
+{
+    for count in 0..steps {
+        if let Some(stopped) = turn(hart, memory, source, sink, oracle) {
+            return Some(stopped);
+        }
+    }
+    None
+}
