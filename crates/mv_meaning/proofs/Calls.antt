@@ -1,10 +1,10 @@
 -- What a call comes to.
-use Rattle.std.proofs.Common.{◌≡◌, ℕ, zero, suc, ◌+◌, ◌-◌, ◌^◌, ◌≤◌, ◌<◌, Bool, true, false, if◌then◌else◌, nat_eq, nat_lt, List, arith, refl, sym, ap, subst, ◌∙◌, Option, Some, None, Result, Ok, Err, slice_get}
+use Rattle.std.proofs.Common.{◌≡◌, ℕ, zero, suc, ◌+◌, ◌-◌, ◌^◌, ◌≤◌, ◌<◌, Bool, true, false, if◌then◌else◌, nat_lt, List, arith, refl, sym, ap, subst, ◌∙◌, Some, None, Result, Ok, Err, slice_get}
 use Rattle.mv_ast.specs.declared.program.Program.{Program}
 use Rattle.mv_ast.specs.declared.program.Function.{Function}
 use Rattle.mv_ast.specs.declared.world.Stop.{Stop}
 use Rattle.mv_ast.specs.declared.world.Stop.TheVariants.{Trapped, Unfinished}
-use Rattle.mv_ast.specs.Worlds.{World, Outcome, Came, Stopped, give, stop}
+use Rattle.mv_ast.specs.Worlds.{Outcome, Came, Stopped, stop}
 use Rattle.mv_ast.specs.Numbering.{own_numbers, function_of_number}
 use Rattle.mv_meaning.specs.declared.state.Frame.{Frame}
 use Rattle.mv_meaning.specs.declared.state.Here.{Here}
@@ -12,7 +12,7 @@ use Rattle.mv_meaning.specs.declared.state.State.{State}
 use Rattle.mv_meaning.specs.declared.state.Halt.{Halt}
 use Rattle.mv_meaning.specs.declared.state.Halt.TheVariants as halt
 use Rattle.mv_meaning.specs.declared.state.Flow.{Flow}
-use Rattle.mv_meaning.specs.Meaning.{Evaluation, Context, call_at, call_numbered, call_through, call_of, back_in, popped, deeper, frame_of, flow_of_all, returned_value}
+use Rattle.mv_meaning.specs.Meaning.{call_at, call_numbered, call_through, call_of, back_in, popped, frame_of, flow_of_all, returned_value}
 use Rattle.mv_meaning.specs.Runs.{capped, totalled, world_of, Shows, IsOutcome, own_context}
 use Rattle.mv_meaning.proofs.Contexts.{numbers_at}
 use Rattle.mv_meaning.proofs.Steps.{gave, halted, not_zero}

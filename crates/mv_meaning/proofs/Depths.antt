@@ -1,5 +1,5 @@
 -- The measure of the evaluation: what a bound is worth, and below it the depth of a statement with its expressions.
-use Rattle.std.proofs.Common.{◌≡◌, ℕ, zero, suc, ◌+◌, ◌-◌, ◌*◌, ◌<◌, ◌≤◌, max, List, [], ◌∷◌, ◌++◌, map, length, get_or, drop, arith, refl, ap, ◌∙◌, Option, Some, None, slice_get}
+use Rattle.std.proofs.Common.{◌≡◌, ℕ, zero, suc, ◌+◌, ◌-◌, ◌*◌, ◌<◌, ◌≤◌, max, List, [], ◌∷◌, ◌++◌, map, length, get_or, drop, arith, refl, ap, ◌∙◌, Option, Some, slice_get}
 use Rattle.std.specs.Prelude.{option_to_list}
 use denote.Param.Weighed.{most, at_most, most-append}
 use Rattle.mv_ast.specs.declared.program.Program.{Program}

@@ -1,5 +1,5 @@
 -- From the run of `main` to the meaning of the program.
-use Rattle.std.proofs.Common.{◌≡◌, ℕ, ◌+◌, ◌-◌, ◌^◌, ◌≤◌, ◌%◌, List, [], arith, refl, sym, ◌∙◌, ap, subst, Option, Some, None, Result, Ok, Err, slice_get}
+use Rattle.std.proofs.Common.{◌≡◌, ℕ, ◌+◌, ◌-◌, ◌^◌, ◌≤◌, ◌%◌, List, [], arith, sym, ◌∙◌, ap, subst, Option, Some, None, Result, Ok, Err, slice_get}
 use Rattle.mv_ast.specs.declared.program.Program.{Program}
 use Rattle.mv_ast.specs.declared.program.Function.{Function}
 use Rattle.mv_ast.specs.declared.world.Action.{Action}
@@ -15,7 +15,7 @@ use Rattle.mv_meaning.specs.declared.state.Flow.TheVariants.{Goes}
 use Rattle.mv_meaning.specs.declared.meant.End.{End}
 use Rattle.mv_meaning.specs.declared.meant.End.TheVariants.{Exit}
 use Rattle.mv_meaning.specs.declared.meant.Meant.{Meant}
-use Rattle.mv_meaning.specs.Meaning.{returned_value, end_of_stop, meant_by, meaning_of, frame_of, flow_of_all, run_of_main, first_world, mean}
+use Rattle.mv_meaning.specs.Meaning.{returned_value, end_of_stop, meant_by, meaning_of, frame_of, flow_of_all, run_of_main, mean}
 use Rattle.mv_meaning.specs.Runs.{capped, totalled, world_of, Shows, IsOutcome, own_context}
 use Rattle.mv_meaning.specs.Programs.{IsStart, HasRun, HasEnd}
 use Rattle.mv_meaning.specs.Growth.{Extends, with_capped_work}

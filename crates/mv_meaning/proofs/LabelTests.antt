@@ -1,6 +1,6 @@
 -- The labels of the arms of a `switch`, tested in order.
-use Rattle.std.proofs.Common.{◌≡◌, ℕ, suc, ◌+◌, ◌-◌, ◌^◌, ◌≤◌, ◌<◌, Bool, true, false, if◌then◌else◌, nat_eq, List, [], ◌∷◌, ◌++◌, length, get_or, drop, arith, refl, sym, ◌∙◌, ap, subst}
-use Rattle.std.proofs.lemmas.List.{drop_more, drop_all}
+use Rattle.std.proofs.Common.{◌≡◌, ℕ, suc, ◌+◌, ◌-◌, ◌^◌, ◌≤◌, ◌<◌, Bool, true, false, if◌then◌else◌, nat_eq, List, [], ◌∷◌, ◌++◌, length, get_or, drop, arith, refl, sym, ◌∙◌, ap}
+use Rattle.std.proofs.lemmas.List.{drop_more}
 use Rattle.mv_ast.specs.declared.program.Arm.{Arm}
 use Rattle.mv_meaning.specs.declared.state.State.{State}
 use Rattle.mv_meaning.specs.Meaning.{Tried, tried_labels}

@@ -1,5 +1,5 @@
 -- What is evaluated at a greater bound goes on from what it is at a lesser one.
-use Rattle.std.proofs.Common.{◌≡◌, ℕ, zero, suc, ◌+◌, ◌-◌, ◌^◌, ◌%◌, ◌≤◌, Bool, true, false, if◌then◌else◌, nat_eq, nat_lt, List, [], ◌∷◌, ◌++◌, map, drop, length, arith, refl, sym, ◌∙◌, ap, subst, Option, Some, None, slice_get}
+use Rattle.std.proofs.Common.{◌≡◌, ℕ, ◌-◌, ◌^◌, Bool, true, false, if◌then◌else◌, nat_eq, nat_lt, List, [], ◌∷◌, ◌++◌, map, length, arith, refl, sym, ◌∙◌, ap, subst, Option, Some, None, slice_get}
 use Rattle.std.specs.Prelude.{slice_index}
 use Rattle.mv_num.specs.Words.{add, sub}
 use Rattle.mv_ast.specs.declared.program.CType.{CType}
@@ -13,19 +13,17 @@ use Rattle.mv_ast.specs.declared.program.Target.{Target, Target-F, map-Target, r
 use Rattle.mv_ast.specs.declared.world.Action.{Action}
 use Rattle.mv_ast.specs.declared.world.Action.TheVariants.{Skip, Flip}
 use Rattle.mv_ast.specs.declared.world.Stop.{Stop}
-use Rattle.mv_ast.specs.declared.world.Stop.TheVariants.{Trapped, Unfinished}
-use Rattle.mv_ast.specs.Worlds.{World, Outcome, Came, Stopped, Computation, after, and_then, bind, give, stop, counted}
+use Rattle.mv_ast.specs.declared.world.Stop.TheVariants.{Trapped}
+use Rattle.mv_ast.specs.Worlds.{World, bind, give, stop, counted}
 use Rattle.mv_ast.specs.Numbering.{function_of_number}
 use Rattle.mv_ast.specs.Plans.{Answered, ordered, polled, acted, flipped, with_word, words_or_none, switch_global, bindings_after, events_from, is_commit, bound_from, is_addressed, attributed_functions}
 use Rattle.mv_meaning.specs.declared.state.Frame.{Frame}
 use Rattle.mv_meaning.specs.declared.state.Lvalue.{Lvalue}
 use Rattle.mv_meaning.specs.declared.state.Lvalue.TheVariants as lvalue
-use Rattle.mv_meaning.specs.declared.state.Flow.{Flow}
-use Rattle.mv_meaning.specs.declared.state.Flow.TheVariants.{Goes, Breaks, Continues, Returns}
 use Rattle.mv_meaning.specs.Operators.{converted, unary_value, binary_value}
-use Rattle.mv_meaning.specs.Meaning.{Evaluation, Context, Denotation, read_lvalue, store_lvalue, element_below, global_element, local_element, value_or_trap, unless_zero, truth_of, byte_of, get_byte, put_byte, answered, known_value, call_at, call_numbered, call_through, values_of, target_lvalue, form_value, expr_denotation, form_of, lvalue_of, denotation_of, value_of, values_of_all}
-use Rattle.mv_meaning.specs.Growth.{Begins, Grew, world_left, Grows, IsContinued, same, GoesOn}
-use Rattle.mv_meaning.proofs.Growing.{Begins-refl, Begins-trans, Grew-refl, Grew-trans, Grows-stop, Grows-give, Grows-counted, Grows-bind, GoesOn-same, GoesOn-counted, GoesOn-bind}
+use Rattle.mv_meaning.specs.Meaning.{Evaluation, Context, Denotation, read_lvalue, store_lvalue, element_below, global_element, local_element, value_or_trap, unless_zero, truth_of, byte_of, known_value, call_at, call_numbered, call_through, values_of, target_lvalue, form_value, expr_denotation, form_of, lvalue_of, denotation_of, value_of}
+use Rattle.mv_meaning.specs.Growth.{Begins, Grew, world_left, Grows, GoesOn}
+use Rattle.mv_meaning.proofs.Growing.{Begins-refl, Grew-refl, Grew-trans, Grows-stop, Grows-give, Grows-counted, Grows-bind, GoesOn-same, GoesOn-counted, GoesOn-bind}
 use Rattle.mv_meaning.proofs.Equations.{ctype_of_lem}
 
 -- one evaluation goes on from another, and only lets a world grow

@@ -1,5 +1,5 @@
 -- The same for statements, and for programs at two bounds.
-use Rattle.std.proofs.Common.{◌≡◌, ℕ, zero, suc, ◌+◌, ◌-◌, ◌≤◌, Bool, if◌then◌else◌, List, [], ◌∷◌, ◌++◌, map, drop, length, replicate, arith, refl, sym, ◌∙◌, ap, subst, Option, Some, None, slice_get}
+use Rattle.std.proofs.Common.{◌≡◌, ℕ, zero, suc, ◌-◌, ◌≤◌, Bool, if◌then◌else◌, List, [], ◌∷◌, ◌++◌, map, drop, length, replicate, arith, refl, sym, ◌∙◌, ap, subst, Option, Some, None, slice_get}
 use Rattle.std.specs.Prelude.{slice_set}
 use Rattle.std.proofs.lemmas.List.{length-map}
 use Rattle.mv_ast.specs.declared.program.Program.{Program}
@@ -9,17 +9,16 @@ use Rattle.mv_ast.specs.declared.program.Stmt.{Stmt, Stmt-F, roll-Stmt, out-roll
 use Rattle.mv_ast.specs.declared.program.Stmt.TheOpen as stmt
 use Rattle.mv_ast.specs.declared.program.Arm.{Arm, Arm-F, roll-Arm, map-Arm}
 use Rattle.mv_ast.specs.declared.world.Stop.TheVariants.{Unfinished}
-use Rattle.mv_ast.specs.Worlds.{World, Outcome, Came, Stopped, bind, give, stop, counted}
+use Rattle.mv_ast.specs.Worlds.{World, Outcome, Came, Stopped, stop, counted}
 use Rattle.mv_ast.specs.Names.{any_of, names_local}
 use Rattle.mv_meaning.specs.declared.state.Frame.{Frame}
 use Rattle.mv_meaning.specs.declared.state.Lvalue.TheVariants as lvalue
 use Rattle.mv_meaning.specs.declared.state.Flow.{Flow}
 use Rattle.mv_meaning.specs.declared.state.Flow.TheVariants.{Goes, Breaks, Continues, Returns}
-use Rattle.mv_meaning.specs.Meaning.{Evaluation, Context, then_on, after_body, after_switch, in_order, bodies_of, switch_flow, put_values, size_of, clear_local, optional_value, value_of, flow_of, flow_of_all, arm_of, call_of, back_in, popped, deeper, frame_of, context_at, run_of_main}
+use Rattle.mv_meaning.specs.Meaning.{Evaluation, Context, then_on, after_body, after_switch, in_order, bodies_of, switch_flow, put_values, size_of, clear_local, optional_value, value_of, flow_of, flow_of_all, arm_of, call_of, back_in, deeper, frame_of, context_at, run_of_main}
 use Rattle.mv_meaning.specs.Arms.{first_arm}
-use Rattle.mv_meaning.specs.Runs.{while_from, do_from, for_from, arms_from}
-use Rattle.mv_meaning.specs.Growth.{Begins, Grew, world_left, work_done, Grows, IsContinued, same, further, GoesOn}
-use Rattle.mv_meaning.proofs.Growing.{Grew-refl, Grew-trans, Grows-stop}
+use Rattle.mv_meaning.specs.Runs.{arms_from}
+use Rattle.mv_meaning.specs.Growth.{Grew, world_left, work_done, Grows, IsContinued, same, further}
 use Rattle.mv_meaning.proofs.Equations.{flow_of-Block, flow_of-Clear, flow_of-Express, flow_of-If, flow_of-While, flow_of-Do, flow_of-For, flow_of-Switch, flow_of-Break, flow_of-Continue, flow_of-Return, arm_of_lem}
 use Rattle.mv_meaning.proofs.SwitchArms.{leads_to}
 use Rattle.mv_meaning.proofs.Rising.{Rises, ContextRises, rises_give, rises_stop, rises_counted, rises_unless, rises_bind, rises_store, value_rises}

@@ -1,11 +1,11 @@
 -- The values of a declared local, stored one after the other.
-use Rattle.std.proofs.Common.{◌≡◌, ℕ, suc, ◌+◌, ◌-◌, ◌^◌, ◌≤◌, ◌<◌, List, [], ◌∷◌, map, length, get_or, drop, replicate, Bool, if◌then◌else◌, arith, refl, sym, ◌∙◌, ap, subst, Result, Ok, Err}
+use Rattle.std.proofs.Common.{◌≡◌, ℕ, suc, ◌+◌, ◌-◌, ◌^◌, ◌≤◌, ◌<◌, List, ◌∷◌, map, length, get_or, drop, replicate, Bool, if◌then◌else◌, arith, sym, ◌∙◌, ap, subst, Result, Ok, Err}
 use Rattle.std.specs.Prelude.{slice_set}
 use Rattle.std.proofs.lemmas.List.{drop_more, drop_all}
 use Rattle.mv_ast.specs.declared.program.Program.{Program}
 use Rattle.mv_ast.specs.declared.program.Expr.{Expr}
 use Rattle.mv_ast.specs.Plans.{with_word}
-use Rattle.mv_ast.specs.Worlds.{World, Outcome, Came, Stopped, after, bind, give}
+use Rattle.mv_ast.specs.Worlds.{Outcome, Came, bind}
 use Rattle.mv_meaning.specs.declared.state.Frame.{Frame}
 use Rattle.mv_meaning.specs.declared.state.Here.{Here}
 use Rattle.mv_meaning.specs.declared.state.State.{State}
@@ -15,7 +15,7 @@ use Rattle.mv_meaning.specs.declared.state.Halt.TheVariants as halt
 use Rattle.mv_meaning.specs.declared.state.Flow.{Flow}
 use Rattle.mv_meaning.specs.declared.state.Flow.TheVariants.{Goes}
 use Rattle.mv_meaning.specs.Meaning.{Evaluation, Context, value_of, store_lvalue, put_values, size_of, clear_local}
-use Rattle.mv_meaning.specs.Runs.{capped, totalled, world_of, Shows, IsOutcome}
+use Rattle.mv_meaning.specs.Runs.{capped, totalled, world_of, IsOutcome}
 use Rattle.mv_meaning.proofs.Steps.{went_on, stopped_there, totalled-after, counted_on}
 use Rattle.mv_meaning.proofs.Turns.{after-none}
 

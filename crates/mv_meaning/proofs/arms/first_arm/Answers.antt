@@ -1,4 +1,4 @@
-use Rattle.std.proofs.Common.{◌≡◌, ◌∙◌, ◌+◌, sym, ap, arith, true, false, drop, length}
+use Rattle.std.proofs.Common.{◌≡◌, ◌∙◌, ◌+◌, sym, ap, arith, true, false, drop}
 use Rattle.std.proofs.lemmas.List.{drop_all}
 use Rattle.mv_meaning.specs.Meaning.{Tried, tried_labels}
 use Rattle.mv_meaning.specs.Arms.{has_label, all_labels, first_arm}

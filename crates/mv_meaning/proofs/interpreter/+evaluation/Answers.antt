@@ -1,4 +1,4 @@
-use Rattle.std.proofs.Common.{◌≡◌, refl, rules, alloc_error, arith, subst, sym, ap, ◌∙◌, Err, Ok, true, false, get_or, ℕ, List, [], map, length, drop, ◌≤◌, if◌then◌else◌, Option}
+use Rattle.std.proofs.Common.{◌≡◌, refl, rules, alloc_error, arith, subst, sym, ap, ◌∙◌, Err, Ok, true, false, ℕ, List, [], map, length, drop, ◌≤◌, if◌then◌else◌, Option}
 use Rattle.std.specs.Option.{option_copied}
 use Rattle.std.proofs.lemmas.List.{length-map}
 use Rattle.mv_ast.specs.declared.program.Expr.{Expr}
@@ -8,7 +8,6 @@ use Rattle.mv_meaning.specs.declared.state.Flow.{Flow}
 use Rattle.std.specs.Prelude.{slice_index, option_to_list}
 use denote.Param.Weighed.{most-append}
 use Rattle.mv_ast.specs.declared.program.Expr.{size-Expr}
-use Rattle.mv_num.specs.Words.{add}
 use Rattle.mv_ast.specs.declared.program.Form.{out-Form}
 use Rattle.mv_ast.specs.declared.program.Form.TheVariants.{outs-Number, outs-Read, outs-Function, outs-Unary, outs-Binary, outs-Both, outs-Either, outs-Choose, outs-Convert, outs-Set, outs-Change, outs-After, outs-Direct, outs-Through, outs-Known}
 use Rattle.mv_ast.specs.declared.program.Target.{out-Target}
@@ -16,12 +15,11 @@ use Rattle.mv_ast.specs.declared.program.Target.TheVariants.{outs-Global, outs-L
 use Rattle.mv_ast.specs.declared.program.Stmt.{out-Stmt, roll-Stmt}
 use Rattle.mv_ast.specs.declared.program.Stmt.TheOpen as stmt
 use Rattle.mv_ast.specs.declared.program.Stmt.TheVariants.{outs-Block, outs-Clear, outs-Express, outs-If, outs-While, outs-Do, outs-For, outs-Switch, outs-Break, outs-Continue, outs-Return}
-use Rattle.mv_ast.specs.declared.world.Stop.TheVariants.{Unfinished}
 use Rattle.mv_ast.specs.Numbering.{own_numbers}
 use Rattle.mv_ast.specs.Worlds.{give, counted}
 use Rattle.mv_meaning.specs.declared.state.Lvalue.TheVariants as lvalue
 use Rattle.mv_meaning.specs.declared.state.Halt.TheVariants as halt
-use Rattle.mv_meaning.specs.declared.state.Flow.TheVariants.{Goes, Breaks, Continues, Returns}
+use Rattle.mv_meaning.specs.declared.state.Flow.TheVariants.{Goes, Breaks, Continues}
 use Rattle.mv_meaning.specs.Meaning.{Evaluation, global_element, local_element, value_of, optional_value, then_on, unless_zero}
 use Rattle.mv_meaning.specs.Runs.{IsOutcome, own_context, world_of, goes_back, optional_outcome, for_from}
 use Rattle.mv_meaning.proofs.Calls.{too_deep, out_of_bound, missing, went_through, failed_inside, through_null, through_some, through_none}

@@ -2,7 +2,7 @@ use Rattle.std.proofs.Common.{◌≡◌, ◌+◌, ◌-◌, ◌*◌, ◌^◌, ◌
 use Rattle.std.specs.Prelude.{option_to_list}
 use Rattle.mv_ast.specs.Worlds.{bind, give}
 use Rattle.mv_meaning.specs.Meaning.{values_of_all, put_values, value_of}
-use Rattle.mv_meaning.specs.Runs.{totalled, own_context, exprs_outcome, stmts_outcome, while_outcome, while_from, do_outcome, do_from, for_outcome, for_from, arms_outcome, arms_from, stores_outcome, world_of}
+use Rattle.mv_meaning.specs.Runs.{totalled, own_context, exprs_outcome, stmts_outcome, while_outcome, while_from, do_outcome, do_from, for_outcome, for_from, arms_outcome, stores_outcome, world_of}
 use Rattle.mv_meaning.proofs.Depths.{spent, exprs_depth, optional_depth, stmt_depth, stmts_depth, arms_depth, loop_depth}
 use Rattle.mv_meaning.proofs.interpreter.+evaluation.Given as goal
 

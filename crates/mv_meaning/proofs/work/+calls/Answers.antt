@@ -1,7 +1,6 @@
-use Rattle.std.proofs.Common.{ap, sym, ◌∙◌, ◌+◌}
+use Rattle.std.proofs.Common.{ap, ◌∙◌}
 use Rattle.mv_ast.specs.declared.program.Form.{out-Form}
 use Rattle.mv_ast.specs.declared.program.Form.TheVariants.{outs-Direct, outs-Through}
-use Rattle.mv_meaning.specs.Runs.{capped}
 use Rattle.mv_meaning.proofs.Naming.{calls-Direct, calls-Through, capped_right, capped_both}
 use Rattle.mv_meaning.proofs.work.+calls.Goals as goal
 

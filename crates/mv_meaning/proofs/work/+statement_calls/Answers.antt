@@ -1,7 +1,6 @@
-use Rattle.std.proofs.Common.{◌≡◌, ap, sym, ◌∙◌}
+use Rattle.std.proofs.Common.{ap, ◌∙◌}
 use Rattle.mv_ast.specs.declared.program.Stmt.{out-Stmt}
 use Rattle.mv_ast.specs.declared.program.Stmt.TheVariants.{outs-If, outs-While, outs-For, outs-Switch}
-use Rattle.mv_meaning.specs.Runs.{capped}
 use Rattle.mv_meaning.proofs.Reckoning.{capped_two, capped_three, capped_four, calls-If, calls-While, calls-For, calls-Switch, arms_more}
 use Rattle.mv_meaning.proofs.work.+statement_calls.Goals as goal
 

@@ -1,4 +1,4 @@
-use Rattle.std.proofs.Common.{◌≡◌, ℕ, ◌*◌, ap, sym, ◌∙◌, take, map, length, get_or}
+use Rattle.std.proofs.Common.{ℕ, ◌*◌, ap, sym, ◌∙◌, take, map, length}
 use Rattle.mv_ast.specs.Plans.{switch_domain}
 use Rattle.mv_ast.specs.Counts.{product_of}
 use Rattle.mv_meaning.specs.Runs.{capped}
