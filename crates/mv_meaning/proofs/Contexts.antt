@@ -1,0 +1,8 @@
+-- What is around an evaluation at each bound.
+use Rattle.std.proofs.Common.{◌≡◌, ℕ, zero, suc, List, refl}
+use Rattle.mv_ast.specs.declared.program.Program.{Program}
+use Rattle.mv_meaning.specs.Meaning.{context_at}
+
+pub numbers_at : (p : Program) (numbers : List ℕ) (k : ℕ) → (context_at p numbers k).numbers ≡ numbers
+numbers_at p numbers zero = refl
+numbers_at p numbers (suc k) = refl

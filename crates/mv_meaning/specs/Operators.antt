@@ -1,0 +1,67 @@
+-- The operators of the source language, by the numbers of their marks.
+use Rattle.std.specs.Prelude.{ℕ, Bool, true, false, not, Option, Some, None, if◌then◌else◌, nat_eq, nat_lt, bit_and, bit_or, bit_xor}
+use Rattle.mv_num.specs.declared.kind.Kind.{Kind}
+use Rattle.mv_num.specs.declared.kind.Kind.TheVariants.{UInt}
+use Rattle.mv_num.specs.Words.{add, sub, mul, div_s, div_u, rem_s, rem_u, shl, shr_s, shr_u, lt_s, lt_u, narrow}
+use Rattle.mv_ast.specs.declared.program.CType.{CType}
+use Rattle.mv_ast.specs.declared.program.CType.TheVariants.{Void, Scalar, Pointer}
+
+-- 1 for true and 0 for false
+abbrev pub as_word : Bool → ℕ
+as_word b = if b then 1 else 0
+
+abbrev pub is_unsigned_kind : Kind → Bool
+is_unsigned_kind UInt = true
+is_unsigned_kind _ = false
+
+-- whether the operators of a type are those on unsigned numbers
+abbrev pub is_unsigned : CType → Bool
+is_unsigned (Scalar kind) = is_unsigned_kind kind
+is_unsigned _ = false
+
+-- a value converted to a type; none is left of one that is converted to void
+abbrev pub converted : CType → ℕ → ℕ
+converted Void a = 0
+converted (Scalar kind) a = narrow kind a
+converted (Pointer signature) a = a
+
+-- ~ 10, ! 11, + 12, - 13
+unfoldable pub unary_value : ℕ → ℕ → ℕ
+unary_value op a =
+    if nat_eq op 10 then bit_xor a 4294967295
+    else if nat_eq op 11 then as_word (nat_eq a 0)
+    else if nat_eq op 13 then sub 0 a
+    else a
+
+-- whether the first is less, by the order of a type
+abbrev pub is_less : CType → ℕ → ℕ → Bool
+is_less t a b = if is_unsigned t then lt_u a b else lt_s a b
+
+-- * 14, / 15, % 16 and the sums; a quotient and a remainder only by a divisor that is not 0
+unfoldable pub product_value : ℕ → CType → ℕ → ℕ → Option ℕ
+product_value op t a b =
+    if nat_eq op 12 then Some (add a b)
+    else if nat_eq op 13 then Some (sub a b)
+    else if nat_eq op 14 then Some (mul a b)
+    else if nat_eq b 0 then None
+    else if nat_eq op 15 then Some (if is_unsigned t then div_u a b else div_s a b)
+    else Some (if is_unsigned t then rem_u a b else rem_s a b)
+
+-- & 17, | 18, ^ 19, < 20, > 21, << 25, >> 26, <= 27, >= 28, == 29, != 30
+unfoldable pub bit_value : ℕ → CType → ℕ → ℕ → ℕ
+bit_value op t a b =
+    if nat_eq op 17 then bit_and a b
+    else if nat_eq op 18 then bit_or a b
+    else if nat_eq op 19 then bit_xor a b
+    else if nat_eq op 20 then as_word (is_less t a b)
+    else if nat_eq op 21 then as_word (is_less t b a)
+    else if nat_eq op 25 then shl a b
+    else if nat_eq op 26 then (if is_unsigned t then shr_u a b else shr_s a b)
+    else if nat_eq op 27 then as_word (not (is_less t b a))
+    else if nat_eq op 28 then as_word (not (is_less t a b))
+    else if nat_eq op 29 then as_word (nat_eq a b)
+    else as_word (not (nat_eq a b))
+
+-- The value of an operator whose left operand has this type, or none where it divides by 0.
+unfoldable pub binary_value : ℕ → CType → ℕ → ℕ → Option ℕ
+binary_value op t a b = if nat_lt op 17 then product_value op t a b else Some (bit_value op t a b)
