@@ -6,3 +6,4 @@ pub mod Programs
 pub mod Simulation
 pub mod Decisions
 pub mod Endings
+pub mod Commands
