@@ -7,3 +7,4 @@ pub mod Simulation
 pub mod Decisions
 pub mod Endings
 pub mod Commands
+pub mod Pieces
