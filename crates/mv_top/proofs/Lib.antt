@@ -8,3 +8,4 @@ pub mod Decisions
 pub mod Endings
 pub mod Commands
 pub mod Pieces
+pub mod Meanings

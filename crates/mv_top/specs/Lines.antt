@@ -1,5 +1,5 @@
 -- The last line of the notes.
-use Rattle.std.specs.Prelude.{ℕ, ◌≡◌, Bool, ◌||◌, nat_eq, if◌then◌else◌, List, [], ◌∷◌, ◌++◌, codes}
+use Rattle.std.specs.Prelude.{ℕ, ◌≡◌, Bool, true, false, ◌||◌, nat_eq, if◌then◌else◌, List, [], ◌∷◌, ◌++◌, codes}
 use Rattle.std.specs.Fmt.{decimal}
 use Rattle.mv_ast.specs.declared.place.Place.{Place}
 use Rattle.mv_top.specs.declared.status.Refusal.{Refusal}
@@ -38,6 +38,18 @@ status_text Steps = codes "steps"
 
 abbrev pub last_line : Status → List ℕ
 last_line status = status_text status ++ 10 ∷ []
+
+-- no last line is written where memory was refused or a write failed
+abbrev pub is_silent : Status → Bool
+is_silent (Ended status) = false
+is_silent (Trapped code) = false
+is_silent Usage = false
+is_silent (Refused refusal) = false
+is_silent Memory = true
+is_silent InputFault = false
+is_silent OutputFault = true
+is_silent ShelfFault = false
+is_silent Steps = false
 
 -- the process status
 abbrev pub number_of : Status → ℕ

@@ -1,7 +1,7 @@
 //! How a command ended.
 
 ghost use Rattle.std.specs.Prelude.{◌≡◌, Some};
-ghost use Rattle.mv_top.specs.Lines.{cause_text, number_of, place_text, refusal_text, status_text};
+ghost use Rattle.mv_top.specs.Lines.{is_silent, number_of, refusal_text, status_text};
 
 use mv_ast::place::Place;
 use std::fmt;
@@ -55,6 +55,13 @@ impl Status {
             Status::ShelfFault => 7,
             Status::Steps => 8,
         }
+    }
+
+    /// Whether no last line is written with this status.
+    pub(crate) fn is_silent(&self) -> bool
+        ensures { result ≡ is_silent self.now }
+    {
+        matches!(self, Status::Memory | Status::OutputFault)
     }
 }
 

@@ -55,7 +55,8 @@ fn run_text<I: Source, O: Sink>(
         Ok(Stopped::InputFault) => Status::InputFault,
         Ok(Stopped::OutputFault) => Status::OutputFault,
         Ok(Stopped::Fault(_, _)) => unreachable!(),
-        Ok(Stopped::Memory) | Err(_) => Status::Memory,
+        Ok(Stopped::Memory) => Status::Memory,
+        Err(_) => Status::Memory,
     }
 }
 
@@ -89,7 +90,7 @@ fn report<N: Sink>(alloc: Global, status: Status, notes: &mut N) -> Status
     ensures notes { Notes result (N.written notes.old) (N.written notes.new) }
     ensures status { (result ≡ status) ⊎ ((result ≡ Status.Memory) ⊎ ((result ≡ Status.OutputFault) × Rose (N.faults notes.old) (N.faults notes.new))) }
 {
-    if status == Status::Memory || status == Status::OutputFault {
+    if status.is_silent() {
         return status;
     }
     let Ok(line) = format!(in alloc; "{status}\n") else {
