@@ -1,16 +1,18 @@
 -- Which status comes, from what each status says.
 use Rattle.std.proofs.Common.{ℕ, ◌≡◌, ◌<◌, ◌≤◌, ◌+◌, ◌*◌, ◌^◌, ◌⊎◌, inl, inr, List, [], ◌∷◌, ◌++◌, length, take, refl, sym, ap, ◌∙◌, subst, arith, lit<, ◌/◌, Option, Some, None}
-use Rattle.std.specs.Prelude.{codes, option_map}
+use Rattle.std.specs.Prelude.{codes, option_map, Vec, Ok, Bool, true, false}
 use Rattle.std.specs.Fmt.{decimal}
 use Rattle.std.proofs.lemmas.Fmt.{decimal_injective}
 use Rattle.std.proofs.lemmas.List.{take_all}
-use Rattle.mv_io.specs.Shelves.{Files, Lacks}
+use Rattle.std.specs.declared.alloc.Global.{Global}
+use Rattle.mv_io.specs.Shelves.{Files, Lacks, Loads}
 use Rattle.mv_top.specs.First.{First}
 use Rattle.mv_top.specs.Code.{instructions}
 use Rattle.mv_top.specs.Commands.{IsRun, IsPlainRun, IsLimitedRun, IsNoCommand}
 use Rattle.mv_top.specs.Grown.{Grew, GrewLess}
-use Rattle.mv_top.specs.Lines.{last_line}
-use Rattle.mv_top.specs.Outcomes.{Holds, Means, MeansNothing, Part, RunsFile, SomePart, Gives, Quiet, Tells, Is, Decides, Notes, not_built}
+use Rattle.mv_top.specs.Lines.{is_silent, last_line}
+use Rattle.mv_top.specs.Outcomes.{Holds, Means, MeansNothing, Part, RunsFile, SomePart, Gives, Quiet, Tells, Is, Decides, Notes, RunsText, not_built}
+use Rattle.mv_top.proofs.Pieces.{grew_none}
 use Rattle.mv_top.specs.declared.status.Status.{Status}
 use Rattle.mv_top.specs.declared.status.Status.TheVariants.{Ended, Trapped, Usage, Refused, Memory, InputFault, OutputFault, ShelfFault, Steps}
 
@@ -147,3 +149,86 @@ module _ (words : List (List ℕ)) (files : Option Files) (shelf_rose input_rose
 
     pub decides : (status : Status) → Given status → Decides words files status
     decides status g = record { usage = decides_usage status g; absent = decides_absent status g; refused = decides_refused status g; ended = decides_ended status g }
+
+-- ---- from the parts of a command to the command
+
+pub holds_loaded : (files : Option Files) (name : List ℕ) (loaded : Vec ℕ Global) → Loads files name (Ok loaded) → Holds files name loaded.items
+holds_loaded None name loaded h = tt
+holds_loaded (Some files) name loaded h = h
+
+module _ (words : List (List ℕ)) (files : Option Files) (shelf_rose input_rose output_rose notes_rose : Type 0) (Wrote : List ℕ → Type 0) (text : List ℕ) (steps : ℕ) (file : RunsFile words files text steps) where
+  some_of : (piece : List ℕ) → Part text piece → Wrote piece → SomePart words files Wrote
+  some_of piece part wrote = (piece, wrote, inr (text, steps, file, part))
+
+  pub gives_text : (status : Status) → RunsText text steps input_rose output_rose Wrote status → Gives words files shelf_rose input_rose output_rose notes_rose Wrote status
+  gives_text (Ended s) (bytes, means, wrote) = (text, steps, bytes, file, means, wrote)
+  gives_text (Trapped code) r = r
+  gives_text Usage r = absurd r
+  gives_text (Refused refusal) (is, nothing, wrote) = (text, steps, file, nothing, is, wrote)
+  gives_text Memory (piece, part, wrote) = some_of piece part wrote
+  gives_text InputFault (piece, part, wrote, rose) = (some_of piece part wrote, rose)
+  gives_text OutputFault (piece, part, wrote, rose) = (some_of piece part wrote, inl rose)
+  gives_text ShelfFault r = absurd r
+  gives_text Steps (bytes, s, means, few, wrote) = (text, steps, bytes, s, file, means, few, wrote)
+
+-- ---- from the command to its notes
+
+pub notes_written : (status : Status) (before now : Option (List ℕ)) → is_silent status ≡ false → Grew before now (last_line status) → Notes status before now
+notes_written (Ended s) before now loud h = h
+notes_written (Trapped code) before now loud h = h
+notes_written Usage before now loud h = h
+notes_written (Refused refusal) before now loud h = h
+notes_written Memory before now loud h = absurd (cc loud)
+notes_written InputFault before now loud h = h
+notes_written OutputFault before now loud h = absurd (cc loud)
+notes_written ShelfFault before now loud h = h
+notes_written Steps before now loud h = h
+
+-- nothing is less than a line
+none_written : (before : Option (List ℕ)) → GrewLess before before (last_line Usage)
+none_written before = (0, lit< tt, grew_none before)
+
+pub notes_silent : (status : Status) (before : Option (List ℕ)) → is_silent status ≡ true → Notes status before before
+notes_silent (Ended s) before quiet = absurd (cc quiet)
+notes_silent (Trapped code) before quiet = absurd (cc quiet)
+notes_silent Usage before quiet = absurd (cc quiet)
+notes_silent (Refused refusal) before quiet = absurd (cc quiet)
+notes_silent Memory before quiet = (Usage, none_written before)
+notes_silent InputFault before quiet = absurd (cc quiet)
+notes_silent OutputFault before quiet = (Usage, none_written before)
+notes_silent ShelfFault before quiet = absurd (cc quiet)
+notes_silent Steps before quiet = absurd (cc quiet)
+
+pub no_notes : (before : Option (List ℕ)) → Notes Memory before before
+no_notes before = (Usage, none_written before)
+
+pub some_notes : (status : Status) (before now : Option (List ℕ)) → GrewLess before now (last_line status) → Notes OutputFault before now
+some_notes status before now h = (status, h)
+
+-- the status that stands after the notes
+module _ (words : List (List ℕ)) (files : Option Files) (shelf_rose input_rose output_rose notes_rose : Type 0) (Wrote : List ℕ → Type 0) where
+  abbrev pub Performed : Status → Type 0
+  Performed status = Gives words files shelf_rose input_rose output_rose ⊥ Wrote status
+
+  abbrev pub Reported : Status → Type 0
+  Reported status = Gives words files shelf_rose input_rose output_rose notes_rose Wrote status
+
+  rose_here : output_rose ⊎ ⊥ → output_rose ⊎ notes_rose
+  rose_here (inl rose) = inl rose
+  rose_here (inr never) = absurd never
+
+  still : (status : Status) → Performed status → Reported status
+  still (Ended s) given = given
+  still (Trapped code) given = given
+  still Usage given = given
+  still (Refused refusal) given = given
+  still Memory given = given
+  still InputFault given = given
+  still OutputFault given = (given.0, rose_here given.1)
+  still ShelfFault given = given
+  still Steps given = given
+
+  pub reported : (performed result : Status) → Performed performed → (result ≡ performed) ⊎ ((result ≡ Memory) ⊎ ((result ≡ OutputFault) × notes_rose)) → Reported result
+  reported performed result given (inl same) = subst Reported (sym same) (still performed given)
+  reported performed result given (inr (inl same)) = subst Reported (sym same) (some_part words files shelf_rose input_rose output_rose ⊥ Wrote performed given)
+  reported performed result given (inr (inr (same, rose))) = subst Reported (sym same) (some_part words files shelf_rose input_rose output_rose ⊥ Wrote performed given, inr rose)

@@ -69,8 +69,8 @@ fn perform<H: Shelf, I: Source, O: Sink>(
     out: &mut O,
     oracle: &mut Box<dyn FetchOracle>,
 ) -> Status
-    ensures gives { (notes_rose : Type 0) → Gives (map string_bytes words.now) (H.files shelf.old) (Rose (H.faults shelf.old) (H.faults shelf.new))
-        (Rose (I.faults input.old) (I.faults input.new)) (Rose (O.faults out.old) (O.faults out.new)) notes_rose
+    ensures gives { Gives (map string_bytes words.now) (H.files shelf.old) (Rose (H.faults shelf.old) (H.faults shelf.new))
+        (Rose (I.faults input.old) (I.faults input.new)) (Rose (O.faults out.old) (O.faults out.new)) ⊥
         (λ bytes. Grew (O.written out.old) (O.written out.new) bytes) result }
     ensures input { Keeps (I.left input.old) (I.left input.new) }
     ensures files { H.files shelf.new ≡ H.files shelf.old }
