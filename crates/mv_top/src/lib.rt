@@ -6,6 +6,8 @@ mod execution;
 mod number;
 mod reader;
 mod status;
+#[cfg(test)]
+mod tests;
 mod tokens;
 mod top;
 mod writing;

@@ -1,0 +1,1 @@
+int main(void){putchar(72);putchar(105);}

@@ -1,0 +1,41 @@
+//! The program `multiverse`: the top call over standard input, standard output, standard error and the files of the machine.
+#![tactic(auto)]
+
+use mv_io::{FileShelf, StdSink, StdSource};
+use mv_probe::{FetchOracle, Oldest};
+use mv_top::{Status, multiverse};
+use std::env;
+use std::io;
+use std::process::ExitCode;
+
+/// The words after the program's name.
+fn words(rt: &HostRuntime) -> io::Result<Vec<String>> {
+    let mut words = Vec::new(rt.alloc());
+    for word in env::args(rt)?.skip(1) {
+        words.push(word)?;
+    }
+    Ok(words)
+}
+
+fn run(rt: &HostRuntime) -> io::Result<Status> {
+    let words = words(rt)?;
+    let mut shelf = FileShelf::new(rt);
+    let mut input = StdSource::new(rt.stdin());
+    let mut out = StdSink::new(rt.stdout());
+    let mut notes = StdSink::new(rt.stderr());
+    let mut oracle: Box<dyn FetchOracle> = Box::new(rt.alloc(), Oldest)?;
+    Ok(multiverse(
+        rt.alloc(),
+        words.as_slice(),
+        &mut shelf,
+        &mut input,
+        &mut out,
+        &mut notes,
+        &mut oracle,
+    ))
+}
+
+fn main(rt: HostRuntime) -> ExitCode {
+    let status = run(&rt).unwrap_or(Status::Memory);
+    ExitCode::from(status.number())
+}
