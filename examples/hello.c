@@ -1,5 +1,5 @@
 int main(void) {
-  putchar(72);
-  putchar(105);
-  return 3;
+    putchar(72);
+    putchar(105);
+    return 3;
 }

@@ -1,34 +1,30 @@
-//! The program: the real objects, and one call of the top call.
+//! The program `multiverse`: the top call over standard input, standard output, standard error and the files of the machine.
 #![tactic(auto)]
 
 use mv_io::{FileShelf, StdSink, StdSource};
 use mv_probe::{FetchOracle, Oldest};
 use mv_top::{Status, multiverse};
 use std::env;
+use std::io;
 use std::process::ExitCode;
 
-// The words after the program's name, and what the process ends with where there is no memory for them.
-fn words(rt: HostRuntime) -> Option<Vec<String>> {
+/// The words after the program's name.
+fn words(rt: &HostRuntime) -> io::Result<Vec<String>> {
     let mut words = Vec::new(rt.alloc());
-    for word in env::args(&rt).ok()?.skip(1) {
-        words.push(word).ok()?;
+    for word in env::args(rt)?.skip(1) {
+        words.push(word)?;
     }
-    Some(words)
+    Ok(words)
 }
 
-fn main(rt: HostRuntime) -> ExitCode {
-    let Some(words) = words(rt) else {
-        return ExitCode::from(Status::Memory.number());
-    };
-    let Ok(oldest) = Box::new(rt.alloc(), Oldest) else {
-        return ExitCode::from(Status::Memory.number());
-    };
-    let mut oracle: Box<dyn FetchOracle> = oldest;
+fn run(rt: &HostRuntime) -> io::Result<Status> {
+    let words = words(rt)?;
     let mut shelf = FileShelf::new(rt);
     let mut input = StdSource::new(rt.stdin());
     let mut out = StdSink::new(rt.stdout());
     let mut notes = StdSink::new(rt.stderr());
-    let status = multiverse(
+    let mut oracle: Box<dyn FetchOracle> = Box::new(rt.alloc(), Oldest)?;
+    Ok(multiverse(
         rt.alloc(),
         words.as_slice(),
         &mut shelf,
@@ -36,6 +32,10 @@ fn main(rt: HostRuntime) -> ExitCode {
         &mut out,
         &mut notes,
         &mut oracle,
-    );
+    ))
+}
+
+fn main(rt: HostRuntime) -> ExitCode {
+    let status = run(&rt).unwrap_or(Status::Memory);
     ExitCode::from(status.number())
 }

@@ -1,0 +1,28 @@
+use Rattle.std.proofs.Common.{◌≡◌, map, ℕ, List}
+use Rattle.std.specs.String.{string_bytes}
+use Rattle.mv_io.specs.Outside.{Rose}
+use Rattle.mv_top.specs.Grown.{Grew}
+use Rattle.mv_top.proofs.Decisions.{decides, reported}
+use Rattle.mv_top.proofs.top.multiverse.Goals as goal
+
+pub returns-clause-gives : goal.returns-clause-gives
+returns-clause-gives g c =
+    reported (map string_bytes c.args.words.now) (g.H.Shelf.files c.args.shelf.now)
+      (Rose (g.H.Shelf.faults c.args.shelf.now) (g.H.Shelf.faults c.perform-status.new.shelf))
+      (Rose (g.I.Source.faults c.args.input.now) (g.I.Source.faults c.perform-status.new.input))
+      (Rose (g.O.Sink.faults c.args.out.now) (g.O.Sink.faults c.perform-status.new.out))
+      (Rose (g.N.Sink.faults c.args.notes.now) (g.N.Sink.faults c.report.new.notes))
+      (λ bytes. Grew (g.O.Sink.written c.args.out.now) (g.O.Sink.written c.perform-status.new.out) bytes)
+      c.perform-status.result c.report.result c.perform-status.ensures.gives c.report.ensures.status
+
+pub returns-clause-decides : goal.returns-clause-decides
+returns-clause-decides g c = λ quiet.
+    let words = map string_bytes c.args.words.now in
+    let files = g.H.Shelf.files c.args.shelf.now in
+    let shelf_rose = Rose (g.H.Shelf.faults c.args.shelf.now) (g.H.Shelf.faults c.perform-status.new.shelf) in
+    let input_rose = Rose (g.I.Source.faults c.args.input.now) (g.I.Source.faults c.perform-status.new.input) in
+    let output_rose = Rose (g.O.Sink.faults c.args.out.now) (g.O.Sink.faults c.perform-status.new.out) in
+    let notes_rose = Rose (g.N.Sink.faults c.args.notes.now) (g.N.Sink.faults c.report.new.notes) in
+    let wrote = λ (bytes : List ℕ). Grew (g.O.Sink.written c.args.out.now) (g.O.Sink.written c.perform-status.new.out) bytes in
+    decides words files shelf_rose input_rose output_rose notes_rose wrote quiet c.report.result
+      (reported words files shelf_rose input_rose output_rose notes_rose wrote c.perform-status.result c.report.result c.perform-status.ensures.gives c.report.ensures.status)

@@ -1,0 +1,64 @@
+-- The last line of the notes.
+use Rattle.std.specs.Prelude.{ℕ, ◌≡◌, Bool, true, false, ◌||◌, nat_eq, if◌then◌else◌, List, [], ◌∷◌, ◌++◌, codes}
+use Rattle.std.specs.Fmt.{decimal}
+use Rattle.mv_ast.specs.declared.place.Place.{Place}
+use Rattle.mv_top.specs.declared.status.Refusal.{Refusal}
+use Rattle.mv_top.specs.declared.status.Status.{Status}
+use Rattle.mv_top.specs.declared.status.Status.TheVariants.{Ended, Trapped, Usage, Refused, Memory, InputFault, OutputFault, ShelfFault, Steps}
+
+abbrev pub place_text : Place → List ℕ
+place_text place = decimal place.line ++ (codes ":" ++ decimal place.column)
+
+-- the refusals that name a place alone
+abbrev pub has_place : ℕ → Bool
+has_place code = nat_eq code 1 || (nat_eq code 2 || (nat_eq code 4 || (nat_eq code 5 || nat_eq code 16)))
+
+abbrev pub cause_text : Refusal → List ℕ
+cause_text r =
+    if has_place r.code then place_text r.place else (
+    if nat_eq r.code 6 then place_text r.place ++ (codes " rule " ++ decimal r.detail) else (
+    if nat_eq r.code 7 then codes "limit " ++ (decimal r.detail ++ (codes " count " ++ decimal r.count)) else (
+    if nat_eq r.code 8 then codes "function " ++ (decimal r.detail ++ (codes " count " ++ decimal r.count)) else
+    codes "count " ++ decimal r.count)))
+
+abbrev pub refusal_text : Refusal → List ℕ
+refusal_text r = codes "refused " ++ (decimal r.code ++ (codes " " ++ cause_text r))
+
+-- the text of a status, which is the last line of the notes without its line feed
+abbrev pub status_text : Status → List ℕ
+status_text (Ended status) = codes "ended " ++ decimal status
+status_text (Trapped code) = codes "trapped " ++ decimal code
+status_text Usage = codes "usage"
+status_text (Refused refusal) = refusal_text refusal
+status_text Memory = codes "out of memory"
+status_text InputFault = codes "input fault"
+status_text OutputFault = codes "output fault"
+status_text ShelfFault = codes "shelf fault"
+status_text Steps = codes "steps"
+
+abbrev pub last_line : Status → List ℕ
+last_line status = status_text status ++ 10 ∷ []
+
+-- no last line is written where memory was refused or a write failed
+abbrev pub is_silent : Status → Bool
+is_silent (Ended status) = false
+is_silent (Trapped code) = false
+is_silent Usage = false
+is_silent (Refused refusal) = false
+is_silent Memory = true
+is_silent InputFault = false
+is_silent OutputFault = true
+is_silent ShelfFault = false
+is_silent Steps = false
+
+-- the process status
+abbrev pub number_of : Status → ℕ
+number_of (Ended status) = 0
+number_of (Trapped code) = 1
+number_of Usage = 2
+number_of (Refused refusal) = 3
+number_of Memory = 4
+number_of InputFault = 5
+number_of OutputFault = 6
+number_of ShelfFault = 7
+number_of Steps = 8

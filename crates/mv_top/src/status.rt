@@ -1,0 +1,110 @@
+//! How a command ended.
+
+ghost use Rattle.std.specs.Prelude.{◌≡◌, Some};
+ghost use Rattle.mv_top.specs.Lines.{is_silent, number_of, refusal_text, status_text};
+
+use mv_ast::place::Place;
+use std::fmt;
+
+/// Why a text is refused: the code of the cause, the place in the text, a detail as the number of a rule, and a count. What a code doesn't use
+/// is 0.
+#[derive(Clone, Copy, Debug, PartialEq, Eq)]
+pub struct Refusal {
+    pub code: u8,
+    pub place: Place,
+    pub detail: u32,
+    pub count: u64,
+}
+
+/// How a command ended.
+#[derive(Clone, Copy, Debug, PartialEq, Eq)]
+pub enum Status {
+    /// The program ended with this exit status.
+    Ended(u8),
+    /// The program trapped with this code.
+    Trapped(u8),
+    /// The words are no command.
+    Usage,
+    /// The text is refused.
+    Refused(Refusal),
+    /// Memory was refused.
+    Memory,
+    /// A read of the input failed.
+    InputFault,
+    /// A write to the output or to the notes failed.
+    OutputFault,
+    /// The shelf failed, or has no such file.
+    ShelfFault,
+    /// The step limit was reached, and the program goes on.
+    Steps,
+}
+
+impl Status {
+    /// The status of the process, which tells the kind of the end alone: 0 for a program that ended, whatever its own status is.
+    pub fn number(&self) -> u8
+        ensures { result ≡ number_of self.now }
+    {
+        match self {
+            Status::Ended(_) => 0,
+            Status::Trapped(_) => 1,
+            Status::Usage => 2,
+            Status::Refused(_) => 3,
+            Status::Memory => 4,
+            Status::InputFault => 5,
+            Status::OutputFault => 6,
+            Status::ShelfFault => 7,
+            Status::Steps => 8,
+        }
+    }
+
+    /// Whether no last line is written with this status.
+    pub(crate) fn is_silent(&self) -> bool
+        ensures { result ≡ is_silent self.now }
+    {
+        matches!(self, Status::Memory | Status::OutputFault)
+    }
+}
+
+impl fmt::Display for Refusal {
+    ghost output = { λ refusal. Some (refusal_text refusal) };
+
+    fn fmt<W: fmt::Write>(&self, f: &mut fmt::Formatter<W>) -> fmt::Result {
+        let Refusal {
+            code,
+            place: Place { line, column },
+            detail,
+            count,
+        } = *self;
+        if code == 1 || code == 2 || code == 4 || code == 5 || code == 16 {
+            return write!(f, "refused {code} {line}:{column}");
+        }
+        if code == 6 {
+            return write!(f, "refused {code} {line}:{column} rule {detail}");
+        }
+        if code == 7 {
+            return write!(f, "refused {code} limit {detail} count {count}");
+        }
+        if code == 8 {
+            return write!(f, "refused {code} function {detail} count {count}");
+        }
+        write!(f, "refused {code} count {count}")
+    }
+}
+
+impl fmt::Display for Status {
+    ghost output = { λ status. Some (status_text status) };
+
+    fn fmt<W: fmt::Write>(&self, f: &mut fmt::Formatter<W>) -> fmt::Result {
+        match self {
+            Status::Ended(status) => write!(f, "ended {status}"),
+            Status::Trapped(code) => write!(f, "trapped {code}"),
+            Status::Usage => write!(f, "usage"),
+            Status::Refused(refusal) => write!(f, "{refusal}"),
+            Status::Memory => write!(f, "out of memory"),
+            Status::InputFault => write!(f, "input fault"),
+            Status::OutputFault => write!(f, "output fault"),
+            Status::ShelfFault => write!(f, "shelf fault"),
+            Status::Steps => write!(f, "steps"),
+        }
+    }
+}
