@@ -4,9 +4,8 @@
 use mv_io::{FileShelf, StdSink, StdSource};
 use mv_probe::{FetchOracle, Oldest};
 use mv_top::{Status, multiverse};
-use std::env;
-use std::io;
 use std::process::ExitCode;
+use std::{env, io};
 
 /// The words after the program's name.
 fn words(rt: &HostRuntime) -> io::Result<Vec<String>> {

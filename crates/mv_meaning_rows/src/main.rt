@@ -9,7 +9,10 @@ use mv_ast::program::Program;
 use mv_meaning::meant::{End, evaluate};
 
 fn show(rt: &HostRuntime, name: &str, program: &Program, bound: u32) -> anyhow::Result<()> {
-    ensure!(program.functions.len() < 0x1_0000_0000, "more functions than numbers");
+    ensure!(
+        program.functions.len() < 0x1_0000_0000,
+        "more functions than numbers"
+    );
     let meant = evaluate(rt.alloc(), program, &[], &[], bound)?;
     print!(rt; "{name}: ")?;
     for byte in meant.output.as_slice() {
@@ -32,7 +35,12 @@ fn main(rt: HostRuntime) -> anyhow::Result<()> {
     show(&rt, "depth", &rows::depth(alloc)?, 600)?;
     show(&rt, "depth_out_of_bound", &rows::depth(alloc)?, 3)?;
     show(&rt, "index_outside", &rows::index(alloc)?, 1000)?;
-    show(&rt, "trap_of_an_unread_value", &rows::quotient(alloc)?, 1000)?;
+    show(
+        &rt,
+        "trap_of_an_unread_value",
+        &rows::quotient(alloc)?,
+        1000,
+    )?;
     show(&rt, "conversions", &rows::conversions(alloc)?, 1000)?;
     show(&rt, "index_before_value", &rows::order(alloc)?, 1000)?;
     show(&rt, "turns_of_a_loop", &rows::forever(alloc)?, 3)?;

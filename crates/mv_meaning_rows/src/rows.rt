@@ -56,12 +56,7 @@ pub fn level(alloc: Heap) -> Result<Program, AllocError> {
     body.push(digit(alloc, call(alloc, 0))?)?;
     let main = function(alloc, none(alloc), body)?;
     let switches = one(alloc, switch(alloc, 0, 0, 4)?)?;
-    Ok(program(
-        alloc,
-        one(alloc, level)?,
-        switches,
-        two(alloc, high, main)?,
-    ))
+    Ok(program(alloc, one(alloc, level)?, switches, two(alloc, high, main)?))
 }
 
 /// `M int s; int inner(void){ return multiverse_commit(); } int outer(void){ return inner(); }`
@@ -86,12 +81,7 @@ pub fn live_frame(alloc: Heap) -> Result<Program, AllocError> {
     functions.push(f)?;
     functions.push(main)?;
     let switches = one(alloc, switch(alloc, 0, 0, 1)?)?;
-    Ok(program(
-        alloc,
-        one(alloc, scalar(alloc)?)?,
-        switches,
-        functions,
-    ))
+    Ok(program(alloc, one(alloc, scalar(alloc)?)?, switches, functions))
 }
 
 /// `M int s; M int f(void){ return s; } int (*p)(void) = f;`
@@ -134,12 +124,7 @@ pub fn depth(alloc: Heap) -> Result<Program, AllocError> {
     let mut functions = two(alloc, nop, down)?;
     functions.push(main)?;
     let switches = one(alloc, switch(alloc, 0, 0, 1)?)?;
-    Ok(program(
-        alloc,
-        one(alloc, scalar(alloc)?)?,
-        switches,
-        functions,
-    ))
+    Ok(program(alloc, one(alloc, scalar(alloc)?)?, switches, functions))
 }
 
 /// `int a[3] = {1, 2, 3}; int main(void){ int i = 2; putchar(48+a[i]); i++; putchar(48+a[i]); }`

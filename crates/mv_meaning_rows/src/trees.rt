@@ -10,6 +10,7 @@ use mv_num::text::Text;
 use std::alloc::{AllocError, Global as Heap};
 
 pub const INT: CType = CType::Scalar(Kind::Int);
+
 pub const UINT: CType = CType::Scalar(Kind::UInt);
 
 /// No item.
@@ -61,17 +62,11 @@ pub fn binary(alloc: Heap, op: u8, a: Expr, b: Expr) -> Result<Expr, AllocError>
 }
 
 pub fn convert(alloc: Heap, kind: Kind, a: Expr) -> Result<Expr, AllocError> {
-    Ok(typed(
-        CType::Scalar(kind),
-        Form::Convert(Boxed::new(alloc, a)?),
-    ))
+    Ok(typed(CType::Scalar(kind), Form::Convert(Boxed::new(alloc, a)?)))
 }
 
 pub fn set(alloc: Heap, target: Target, a: Expr) -> Result<Stmt, AllocError> {
-    Ok(Stmt::Express(int(Form::Set(
-        target,
-        Boxed::new(alloc, a)?,
-    ))))
+    Ok(Stmt::Express(int(Form::Set(target, Boxed::new(alloc, a)?))))
 }
 
 pub fn element_of_global(alloc: Heap, g: u32, at: Expr) -> Result<Target, AllocError> {

@@ -48,9 +48,10 @@ module _ (s : State) (numbers : List ℕ) (status : ℕ) where
   at_part : (done rest : List ℕ) (n part : ℕ) (t : State) → At s numbers done rest n part t → part < 3 → (n < instructions (written numbers)) × (t.output ≡ take (n / 3) (written numbers))
   at_part done rest n part t at small =
       let count = at.count in
-      let long : length numbers ≡ length done + length rest = ap length at.split ∙ length-append done rest in
-      (omega (arith, count, long, length-written numbers),
-       at.output ∙ sym (ap (λ k. take k (written numbers)) (third n (length done) part count small) ∙ ap (λ l. take (length done) (written l)) at.split ∙ take_written done rest))
+      let long : length numbers ≡ length done + length rest = ap length at.split ∙ length-append done rest in (
+        omega (arith, count, long, length-written numbers),
+        at.output ∙ sym (ap (λ k. take k (written numbers)) (third n (length done) part count small) ∙ ap (λ l. take (length done) (written l)) at.split ∙ take_written done rest),
+      )
 
   going : (n : ℕ) (t : State) → Stands s numbers status n t → t.stop ≡ Going → (n < instructions (written numbers)) × (t.output ≡ take (n / 3) (written numbers))
   going n t (inl (done, rest, at)) stop = at_part done rest n 0 t at (lit< tt)

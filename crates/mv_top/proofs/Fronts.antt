@@ -39,9 +39,9 @@ same_tail (x ∷ token) rest rest' e = same_tail token rest rest' (let f : token
 pub goes_on : (token text gap front rest : List ℕ) → IsToken token → text ≡ gap ++ front → Blank gap → begins_space front ≡ false → front ≡ token ++ rest → Ends token rest → Goes (one token) text rest
 goes_on token text gap front rest t e b s f ends = record {
   on = λ tokens spelled.
-    let x = behind_space token text gap front tokens t e b s spelled in
-    subst (Spells tokens) (same_tail token x.0 rest (sym x.1 ∙ f)) x.3;
-  back = λ tokens more. (gap, rest, e ∙ ap (λ r. gap ++ r) f, b, ends, more)
+      let x = behind_space token text gap front tokens t e b s spelled in
+      subst (Spells tokens) (same_tail token x.0 rest (sym x.1 ∙ f)) x.3;
+  back = λ tokens more. (gap, rest, e ∙ ap (λ r. gap ++ r) f, b, ends, more);
 }
 
 -- another byte string stands there
@@ -52,10 +52,10 @@ stuck_at token text gap front t e b s never tokens spelled = let x = behind_spac
 pub stuck_in_word : (token text gap front rest : List ℕ) → IsToken token → text ≡ gap ++ front → Blank gap → begins_space front ≡ false → front ≡ token ++ rest → begins_word token ≡ true → begins_word rest ≡ true → Stuck (one token) text
 stuck_in_word token text gap front rest t e b s f w v =
     stuck_at token text gap front t e b s (λ rest' g ends.
-      let same : rest' ≡ rest = same_tail token rest' rest (sym g ∙ f) in
-      let stop : begins_word rest' ≡ false = ends w in
-      let there : begins_word rest' ≡ true = ap begins_word same ∙ v in
-      cc)
+    let same : rest' ≡ rest = same_tail token rest' rest (sym g ∙ f) in
+    let stop : begins_word rest' ≡ false = ends w in
+    let there : begins_word rest' ≡ true = ap begins_word same ∙ v in
+    cc)
 
 first_token : (token rest : List ℕ) → IsToken token → first_byte (token ++ rest) ≡ get_or token 0 0
 first_token [] rest t = absurd (omega (arith, t.some))
@@ -88,7 +88,7 @@ stuck_behind first second text mid g stuck tokens spelled = stuck tokens (g.on (
 pub goes_behind : (first second : List (List ℕ) → List (List ℕ)) (text mid rest : List ℕ) → Goes first text mid → Goes second mid rest → Goes (λ more. first (second more)) text rest
 goes_behind first second text mid rest g h = record {
   on = λ tokens spelled. h.on tokens (g.on (second tokens) spelled);
-  back = λ tokens more. g.back (second tokens) (h.back tokens more)
+  back = λ tokens more. g.back (second tokens) (h.back tokens more);
 }
 
 -- the same, one token after the other

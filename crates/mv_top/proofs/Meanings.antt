@@ -17,7 +17,7 @@ module _ (text numbers : List ℕ) (returned : Option ℕ) (the : IsTheProgram t
   means = record {
     first = (numbers, returned, the.is, refl, sym (status_is returned));
     bytes_alone = λ others other (ns, r, is, b, s). b ∙ ap written (the.numbers_alone ns r is);
-    status_alone = λ others other (ns, r, is, b, s). s ∙ ap status_of (the.returned_alone ns r is) ∙ status_is returned
+    status_alone = λ others other (ns, r, is, b, s). s ∙ ap status_of (the.returned_alone ns r is) ∙ status_is returned;
   }
 
   pub means_ended : (status : ℕ) → status ≡ result_of returned % 2 ^ 8 → Means text (written numbers) status

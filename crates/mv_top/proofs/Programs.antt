@@ -63,17 +63,18 @@ on_more : (text numbers rest : List ℕ) (n : ℕ) (behind : List ℕ) → IsSta
     (later : List ℕ) × (all ≡ (numbers ++ n ∷ []) ++ later) × Spells (body later returned) behind × AllByRecursion Small later
 on_more text numbers rest n behind is all returned [] e spelled small = absurd (first_ending returned rest spelled is.first)
 on_more text numbers rest n behind is all returned (m ∷ more) e spelled small =
-    let same : m ≡ n = is.alone m small.0 (body more returned) spelled in
-    (more,
-     e ∙ ap (λ k. numbers ++ k ∷ more) same ∙ sym (append_assoc numbers (n ∷ []) more),
-     is.goes.on (body more returned) (subst (λ k. Spells (statement k (body more returned)) rest) same spelled),
-     small.1)
+    let same : m ≡ n = is.alone m small.0 (body more returned) spelled in (
+      more,
+      e ∙ ap (λ k. numbers ++ k ∷ more) same ∙ sym (append_assoc numbers (n ∷ []) more),
+      is.goes.on (body more returned) (subst (λ k. Spells (statement k (body more returned)) rest) same spelled),
+      small.1,
+    )
 
 pub taken_more : (text numbers rest : List ℕ) (n : ℕ) (behind : List ℕ) → Taken text numbers rest → IsStatement rest n behind → Taken text (numbers ++ n ∷ []) behind
 taken_more text numbers rest n behind taken is = record {
   small = all_and Small numbers n taken.small is.small;
   back = λ more returned spelled. subst (λ all. Spells (body all returned) text) (sym (append_assoc numbers (n ∷ []) more)) (taken.back (n ∷ more) returned (is.goes.back (body more returned) spelled));
-  on = λ all returned small spelled. let x = taken.on all returned small spelled in on_more text numbers rest n behind is all returned x.0 x.1 x.2 x.3
+  on = λ all returned small spelled. let x = taken.on all returned small spelled in on_more text numbers rest n behind is all returned x.0 x.1 x.2 x.3;
 }
 
 pub all_taken : (numbers rest : List ℕ) → ((n : ℕ) → Small n → Stuck (statement n) rest) → AllTaken numbers rest
@@ -104,10 +105,10 @@ module _ (text behind numbers rest : List ℕ) (opens : Goes opening text behind
       spelled = opens.back (body numbers returned) (subst (λ all. Spells (body all returned) behind) (append_nil numbers) (taken.back [] returned end.spelled));
       few = few;
       small = taken.small;
-      small_return = end.small
+      small_return = end.small;
     };
     numbers_alone = λ others other is. (ends_there others other is).0;
-    returned_alone = λ others other is. end.alone other is.small_return (ends_there others other is).1
+    returned_alone = λ others other is. end.alone other is.small_return (ends_there others other is).1;
   }
 
   pub is_no_program : ((other : Option ℕ) → SmallReturn other → Spells (ending other) rest → ⊥) → IsNoProgram text

@@ -176,7 +176,7 @@ module _ (s : State) (numbers : List ℕ) (status : ℕ) (start : IsStart number
       let long : length numbers ≡ length done + length rest = ap length split ∙ length-append done rest in
       let small : n < 131072 = omega (arith, at.count, long, few, below) in
       let text : slice_get s.room.held.text n ≡ Some w =
-          ap (λ words. slice_get words n) (start.text ∙ ap (λ l. code l status) split) ∙ ap (λ k. slice_get (code (done ++ rest) status) k) at.count ∙ code_at done rest status part ∙ there in
+      ap (λ words. slice_get words n) (start.text ∙ ap (λ l. code l status) split) ∙ ap (λ k. slice_get (code (done ++ rest) status) k) at.count ∙ code_at done rest status part ∙ there in
       rw (at.pc, at.room) (one_choice s.room.held n w small text start.older)
 
   -- an addi of a small number
@@ -206,10 +206,12 @@ module _ (s : State) (numbers : List ℕ) (status : ℕ) (start : IsStart number
       let small : v ≤ 2047 = argument_small status done rest (subst (AllByRecursion Small) at.split bounds.small) bounds.small_status in
       let e : turn t pick ≡ record t { regs = put t.regs 10 v; pc = 4096 + 4 * (n + 1) } = addi done rest n 0 t pick 10 v at (lit< tt) (word_at rest 0) (lit< tt) (lit< tt) small in
       let width = at.width in
-      let after : Phase1 s numbers status (n + 1) (record t { regs = put t.regs 10 v; pc = 4096 + 4 * (n + 1) }) =
-        (done, rest,
-         record { split = at.split; count = omega (arith, at.count); pc = refl; room = at.room; input = at.input; output = at.output; going = at.going; width = put_width t.regs 10 v (lit< tt) ∙ width },
-         reg_put_same t.regs 10 v (lit< tt) (omega (arith, width))) in
+      let after : Phase1 s numbers status (n + 1) (record t { regs = put t.regs 10 v; pc = 4096 + 4 * (n + 1) }) = (
+        done,
+        rest,
+        record { split = at.split; count = omega (arith, at.count); pc = refl; room = at.room; input = at.input; output = at.output; going = at.going; width = put_width t.regs 10 v (lit< tt) ∙ width },
+        reg_put_same t.regs 10 v (lit< tt) (omega (arith, width)),
+      ) in
       subst (Phase1 s numbers status (n + 1)) (sym e) after
 
   second_turn : (n : ℕ) (t : State) (pick : ℕ) → Phase1 s numbers status n t → Phase2 s numbers status (n + 1) (turn t pick)
@@ -217,11 +219,13 @@ module _ (s : State) (numbers : List ℕ) (status : ℕ) (start : IsStart number
       let v = request_behind rest in
       let e : turn t pick ≡ record t { regs = put t.regs 17 v; pc = 4096 + 4 * (n + 1) } = addi done rest n 1 t pick 17 v at (lit< tt) (word_at rest 1) (lit< tt) (lit< tt) (omega (arith, request_small rest)) in
       let width = at.width in
-      let after : Phase2 s numbers status (n + 1) (record t { regs = put t.regs 17 v; pc = 4096 + 4 * (n + 1) }) =
-        (done, rest,
-         record { split = at.split; count = omega (arith, at.count); pc = refl; room = at.room; input = at.input; output = at.output; going = at.going; width = put_width t.regs 17 v (lit< tt) ∙ width },
-         reg_put_other t.regs 17 10 v (lit< tt) (lit< tt) (omega arith) ∙ argument,
-         reg_put_same t.regs 17 v (lit< tt) (omega (arith, width))) in
+      let after : Phase2 s numbers status (n + 1) (record t { regs = put t.regs 17 v; pc = 4096 + 4 * (n + 1) }) = (
+        done,
+        rest,
+        record { split = at.split; count = omega (arith, at.count); pc = refl; room = at.room; input = at.input; output = at.output; going = at.going; width = put_width t.regs 17 v (lit< tt) ∙ width },
+        reg_put_other t.regs 17 10 v (lit< tt) (lit< tt) (omega arith) ∙ argument,
+        reg_put_same t.regs 17 v (lit< tt) (omega (arith, width)),
+      ) in
       subst (Phase2 s numbers status (n + 1)) (sym e) after
 
   writes : (n : ℕ) (t : State) (pick m : ℕ) (done rest : List ℕ) → At s numbers done (m ∷ rest) n 2 t → reg t.regs 10 ≡ m → reg t.regs 17 ≡ 2 → Phase0 s numbers status (n + 1) (turn t pick)
@@ -232,16 +236,20 @@ module _ (s : State) (numbers : List ℕ) (status : ℕ) (start : IsStart number
       let next : add t.pc 4 ≡ 4096 + 4 * (n + 1) = ap (λ a. add a 4) at.pc ∙ next_address n (omega (arith, at.count, long, few)) in
       let moved : State = record t { regs = put t.regs 10 (m % 2 ^ 8); pc = 4096 + 4 * (n + 1); output = t.output ++ m % 2 ^ 8 ∷ [] } in
       let e : turn t pick ≡ moved = ecall done (m ∷ rest) n t pick at (word_at (m ∷ rest) 2) ∙ rw (request, argument, next) refl in
-      let after : Phase0 s numbers status (n + 1) moved =
-        (done ++ m ∷ [], rest,
-         record {
-           split = at.split ∙ sym (append_assoc done (m ∷ []) rest);
-           count = omega (arith, at.count, length-append done (m ∷ []));
-           pc = refl; room = at.room; input = at.input;
-           output = ap (λ o. o ++ m % 2 ^ 8 ∷ []) at.output ∙ sym (written_more done m);
-           going = at.going;
-           width = put_width t.regs 10 (m % 2 ^ 8) (lit< tt) ∙ at.width
-         }) in
+      let after : Phase0 s numbers status (n + 1) moved = (
+        done ++ m ∷ [],
+        rest,
+        record {
+          split = at.split ∙ sym (append_assoc done (m ∷ []) rest);
+          count = omega (arith, at.count, length-append done (m ∷ []));
+          pc = refl;
+          room = at.room;
+          input = at.input;
+          output = ap (λ o. o ++ m % 2 ^ 8 ∷ []) at.output ∙ sym (written_more done m);
+          going = at.going;
+          width = put_width t.regs 10 (m % 2 ^ 8) (lit< tt) ∙ at.width;
+        },
+      ) in
       subst (Phase0 s numbers status (n + 1)) (sym e) after
 
   exits : (n : ℕ) (t : State) (pick : ℕ) (done : List ℕ) → At s numbers done [] n 2 t → reg t.regs 10 ≡ status → reg t.regs 17 ≡ 0 → Over s numbers status (n + 1) (turn t pick)
@@ -253,7 +261,7 @@ module _ (s : State) (numbers : List ℕ) (status : ℕ) (start : IsStart number
         stop = refl;
         output = at.output ∙ ap written (sym same);
         input = at.input;
-        count = omega (arith, at.count, ap length same)
+        count = omega (arith, at.count, ap length same);
       } in
       subst (Over s numbers status (n + 1)) (sym e) after
 

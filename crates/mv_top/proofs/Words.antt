@@ -59,7 +59,7 @@ module _ (text gap front word rest : List ℕ) (at : text ≡ gap ++ front) (bla
       record {
         small = small;
         goes = goes_on (decimal n) text gap front rest (digits_token (decimal n) d.0.1 d.0.0) at blank bare (split ∙ ap (λ w. w ++ rest) e) (λ _. end);
-        alone = λ m small' tokens spelled. decimal_injective m n (omega arith) (omega arith) (sym (number_is m small' tokens spelled) ∙ e)
+        alone = λ m small' tokens spelled. decimal_injective m n (omega arith) (omega arith) (sym (number_is m small' tokens spelled) ∙ e);
       }
 
 -- nothing that follows the number there follows another number

@@ -22,10 +22,12 @@ const ENTRY: u32 = 0x1000;
 
 // The registers of an environment call's argument and number.
 const A0: u8 = 10;
+
 const A7: u8 = 17;
 
 // The numbers of the environment calls.
 const EXIT: u16 = 0;
+
 const PUTCHAR: u16 = 2;
 
 // One environment call behind the code so far.

@@ -60,13 +60,7 @@ fn end(text: &[u8]) -> Option<Option<u16>>
                 None
             }
         }
-        None => {
-            if closes(text) {
-                Some(None)
-            } else {
-                None
-            }
-        }
+        None => { if closes(text) { Some(None) } else { None } }
     }
 }
 

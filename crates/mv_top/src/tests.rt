@@ -50,7 +50,14 @@ fn carry_out(
 }
 
 /// Words, text, the write that fails, and the status, output and notes that are wanted.
-type Row = (&'static str, &'static str, u32, Status, &'static str, &'static str);
+type Row = (
+    &'static str,
+    &'static str,
+    u32,
+    Status,
+    &'static str,
+    &'static str,
+);
 
 const REFUSED: Status = Status::Refused(Refusal {
     code: 16,
@@ -63,13 +70,55 @@ const REFUSED: Status = Status::Refused(Refusal {
 fn each_command_ends_with_its_status(rt: HostRuntime) -> Result<(), Fail> {
     let rows: [Row; 13] = [
         ("run a.c", HELLO, 0, Status::Ended(3), "Hi", "ended 3\n"),
-        ("run a.c", "int main(void){}", 0, Status::Ended(0), "", "ended 0\n"),
-        ("run a.c", "int main(void){ return 300; }", 0, Status::Ended(44), "", "ended 44\n"),
-        ("run a.c", "int\tmain ( void ) {\n putchar(256);\n}\n", 0, Status::Ended(0), "\0", "ended 0\n"),
-        ("run a.c", "int main(void){ x }", 0, REFUSED, "", "refused 16 1:1\n"),
+        (
+            "run a.c",
+            "int main(void){}",
+            0,
+            Status::Ended(0),
+            "",
+            "ended 0\n",
+        ),
+        (
+            "run a.c",
+            "int main(void){ return 300; }",
+            0,
+            Status::Ended(44),
+            "",
+            "ended 44\n",
+        ),
+        (
+            "run a.c",
+            "int\tmain ( void ) {\n putchar(256);\n}\n",
+            0,
+            Status::Ended(0),
+            "\0",
+            "ended 0\n",
+        ),
+        (
+            "run a.c",
+            "int main(void){ x }",
+            0,
+            REFUSED,
+            "",
+            "refused 16 1:1\n",
+        ),
         ("run a.c --steps 1", HELLO, 0, Status::Steps, "", "steps\n"),
-        ("run a.c --steps 8", HELLO, 0, Status::Steps, "Hi", "steps\n"),
-        ("run a.c --steps 9", HELLO, 0, Status::Ended(3), "Hi", "ended 3\n"),
+        (
+            "run a.c --steps 8",
+            HELLO,
+            0,
+            Status::Steps,
+            "Hi",
+            "steps\n",
+        ),
+        (
+            "run a.c --steps 9",
+            HELLO,
+            0,
+            Status::Ended(3),
+            "Hi",
+            "ended 3\n",
+        ),
         ("run a.c", HELLO, 2, Status::OutputFault, "H", ""),
         ("run b.c", HELLO, 0, Status::ShelfFault, "", "shelf fault\n"),
         ("run", HELLO, 0, Status::Usage, "", "usage\n"),
@@ -103,7 +152,10 @@ fn the_oracle_makes_no_difference(rt: HostRuntime) -> Result<(), Fail> {
 
 #[test]
 fn each_status_has_its_line(rt: HostRuntime) -> Result<(), Fail> {
-    let place = Place { line: 2, column: 42 };
+    let place = Place {
+        line: 2,
+        column: 42,
+    };
     let refused = |code, detail, count| {
         Status::Refused(Refusal {
             code,
@@ -123,7 +175,10 @@ fn each_status_has_its_line(rt: HostRuntime) -> Result<(), Fail> {
     ];
     for (status, line, number) in rows {
         let text = format!(in rt.alloc(); "{status}")?;
-        assert!(rt; text.as_str() == line && status.number() == number, "{line}");
+        assert!(rt;
+            text.as_str() == line && status.number() == number,
+            "{line}"
+        );
     }
     Ok(())
 }

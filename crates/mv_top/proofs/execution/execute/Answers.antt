@@ -29,7 +29,7 @@ returns-clause-ends g c =
     let image : c.without_tables-image.result ≡ bare 4096 (code numbers status) [] = c.without_tables-image.ensures ∙ rw (c.in_ok-text.ensures, c.new.ensures) refl in
     let fresh : c.in_ok-machine.machine ≡ kept (first (bare 4096 (code numbers status) []) []) None = c.in_ok-machine.ensures ∙ ap (λ i. kept (first i []) None) image in
     run_ends numbers status c.args.steps bounds c.run.result c.in_ok-machine.machine c.run.new.self _ _ _ _ _ _ _ _ fresh
-      (unless_fresh c.in_ok-machine.machine (first (bare 4096 (code numbers status) []) []) _ fresh c.run.ensures.runs)
+    (unless_fresh c.in_ok-machine.machine (first (bare 4096 (code numbers status) []) []) _ fresh c.run.ensures.runs)
 
 pub returns-clause-input : goal.returns-clause-input
 returns-clause-input g c =
@@ -39,4 +39,4 @@ returns-clause-input g c =
     let image : c.without_tables-image.result ≡ bare 4096 (code numbers status) [] = c.without_tables-image.ensures ∙ rw (c.in_ok-text.ensures, c.new.ensures) refl in
     let fresh : c.in_ok-machine.machine ≡ kept (first (bare 4096 (code numbers status) []) []) None = c.in_ok-machine.ensures ∙ ap (λ i. kept (first i []) None) image in
     run_keeps numbers status c.args.steps bounds c.run.result c.in_ok-machine.machine c.run.new.self _ _ _ _ _ _ _ _ fresh
-      (unless_fresh c.in_ok-machine.machine (first (bare 4096 (code numbers status) []) []) _ fresh c.run.ensures.runs)
+    (unless_fresh c.in_ok-machine.machine (first (bare 4096 (code numbers status) []) []) _ fresh c.run.ensures.runs)

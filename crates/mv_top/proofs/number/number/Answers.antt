@@ -11,8 +11,8 @@ use Rattle.mv_top.proofs.number.number.Goals.{then-is_empty-via-then-is_empty, t
 pub returns-then-is_empty : goal.returns-then-is_empty
 returns-then-is_empty c = λ n h e.
     elim c.then-is_empty.branch [
-      then-is_empty-via-then-is_empty w ↦ not_empty n c.args.text.now (omega arith) e (search rules)
-    | then-is_empty-via-else-is_empty+then-text-gt1 w ↦ no_leading_zero n c.args.text.now (omega arith) e (search rules) (search rules)
+      | then-is_empty-via-then-is_empty w ↦ not_empty n c.args.text.now (omega arith) e (search rules)
+      | then-is_empty-via-else-is_empty+then-text-gt1 w ↦ no_leading_zero n c.args.text.now (omega arith) e (search rules) (search rules)
     ]
 
 pub returns-then-not-is_ascii_digit : goal.returns-then-not-is_ascii_digit
@@ -29,7 +29,7 @@ pub loop-byte-preserved : goal.loop-byte-preserved
 loop-byte-preserved c = record {
   value = ap (λ digit. 10 * c.loop-byte.value + digit) c.from.ensures ∙ value_more c.loop-byte.byte-index c.loop-byte.value c.args.text.now c.loop-byte-test.true (omega (arith, c.if-not-is_ascii_digit.ensures.cases)) c.loop-byte.invariant.value;
   small = c.if-value-most.false;
-  digits = all_digits_more c.loop-byte.byte-index c.args.text.now c.loop-byte-test.true (omega (arith, c.if-not-is_ascii_digit.ensures.cases)) c.loop-byte.invariant.digits
+  digits = all_digits_more c.loop-byte.byte-index c.args.text.now c.loop-byte-test.true (omega (arith, c.if-not-is_ascii_digit.ensures.cases)) c.loop-byte.invariant.digits;
 }
 
 pub returns : goal.returns

@@ -6,14 +6,14 @@ use Rattle.mv_top.proofs.reader.statements.Goals as goal
 pub loop-count-init : goal.loop-count-init
 loop-count-init c = record {
   count = c.new-numbers.ensures.len;
-  taken = subst (λ numbers. Taken c.args.text.now numbers c.args.text.now) (sym c.new-numbers.ensures.items) (taken_none c.args.text.now)
+  taken = subst (λ numbers. Taken c.args.text.now numbers c.args.text.now) (sym c.new-numbers.ensures.items) (taken_none c.args.text.now);
 }
 
 pub loop-count-preserved : goal.loop-count-preserved
 loop-count-preserved c = record {
   count = omega (arith, c.in_ok-push-in-Some.ensures.len, c.loop-count.invariant.count);
   taken = subst (λ numbers. Taken c.args.text.now numbers c.in-Some.behind.now) (sym c.in_ok-push-in-Some.ensures.items)
-    (taken_more c.args.text.now c.loop-count.numbers.items c.loop-count.rest.now c.in-Some.number c.in-Some.behind.now c.loop-count.invariant.taken c.in-Some.ensures)
+      (taken_more c.args.text.now c.loop-count.numbers.items c.loop-count.rest.now c.in-Some.number c.in-Some.behind.now c.loop-count.invariant.taken c.in-Some.ensures);
 }
 
 pub returns-in-None-clause-all : goal.returns-in-None-clause-all

@@ -12,7 +12,7 @@ returns-in_err-value c =
     let rest = c.split_at.result.1.now in
     let split : front ≡ word ++ rest = sym (ap (λ w. w ++ rest) c.split_at.ensures.front ∙ ap (λ r. take c.word_length.result front ++ r) c.split_at.ensures.back ∙ take-append-drop c.word_length.result front) in
     rw c.from_residual.ensures
-      (no_number c.args.text.now g.0 front word rest g.1 g.2 c.without_space-text.ensures.rest split (subst IsWord (sym c.split_at.ensures.front) c.word_length.ensures.word) (ap begins_word c.split_at.ensures.back ∙ c.word_length.ensures.rest) c.in_err-value.ensures)
+    (no_number c.args.text.now g.0 front word rest g.1 g.2 c.without_space-text.ensures.rest split (subst IsWord (sym c.split_at.ensures.front) c.word_length.ensures.word) (ap begins_word c.split_at.ensures.back ∙ c.word_length.ensures.rest) c.in_err-value.ensures)
 
 pub returns : goal.returns
 returns c =

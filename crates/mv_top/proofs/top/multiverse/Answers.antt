@@ -8,12 +8,12 @@ use Rattle.mv_top.proofs.top.multiverse.Goals as goal
 pub returns-clause-gives : goal.returns-clause-gives
 returns-clause-gives g c =
     reported (map string_bytes c.args.words.now) (g.H.Shelf.files c.args.shelf.now)
-      (Rose (g.H.Shelf.faults c.args.shelf.now) (g.H.Shelf.faults c.perform-status.new.shelf))
-      (Rose (g.I.Source.faults c.args.input.now) (g.I.Source.faults c.perform-status.new.input))
-      (Rose (g.O.Sink.faults c.args.out.now) (g.O.Sink.faults c.perform-status.new.out))
-      (Rose (g.N.Sink.faults c.args.notes.now) (g.N.Sink.faults c.report.new.notes))
-      (λ bytes. Grew (g.O.Sink.written c.args.out.now) (g.O.Sink.written c.perform-status.new.out) bytes)
-      c.perform-status.result c.report.result c.perform-status.ensures.gives c.report.ensures.status
+    (Rose (g.H.Shelf.faults c.args.shelf.now) (g.H.Shelf.faults c.perform-status.new.shelf))
+    (Rose (g.I.Source.faults c.args.input.now) (g.I.Source.faults c.perform-status.new.input))
+    (Rose (g.O.Sink.faults c.args.out.now) (g.O.Sink.faults c.perform-status.new.out))
+    (Rose (g.N.Sink.faults c.args.notes.now) (g.N.Sink.faults c.report.new.notes))
+    (λ bytes. Grew (g.O.Sink.written c.args.out.now) (g.O.Sink.written c.perform-status.new.out) bytes)
+    c.perform-status.result c.report.result c.perform-status.ensures.gives c.report.ensures.status
 
 pub returns-clause-decides : goal.returns-clause-decides
 returns-clause-decides g c = λ quiet.
@@ -25,4 +25,4 @@ returns-clause-decides g c = λ quiet.
     let notes_rose = Rose (g.N.Sink.faults c.args.notes.now) (g.N.Sink.faults c.report.new.notes) in
     let wrote = λ (bytes : List ℕ). Grew (g.O.Sink.written c.args.out.now) (g.O.Sink.written c.perform-status.new.out) bytes in
     decides words files shelf_rose input_rose output_rose notes_rose wrote quiet c.report.result
-      (reported words files shelf_rose input_rose output_rose notes_rose wrote c.perform-status.result c.report.result c.perform-status.ensures.gives c.report.ensures.status)
+    (reported words files shelf_rose input_rose output_rose notes_rose wrote c.perform-status.result c.report.result c.perform-status.ensures.gives c.report.ensures.status)

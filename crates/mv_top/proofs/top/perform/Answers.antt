@@ -15,4 +15,4 @@ returns-in-Ok-clause-gives g c =
     let wrote = λ (bytes : List ℕ). Grew (g.O.Sink.written c.args.out.now) (g.O.Sink.written c.run_text.new.out) bytes in
     let runs : RunsText c.in-Ok.text.items c.in-Some.field-0.steps input_rose output_rose wrote c.run_text.result = subst (λ text. RunsText text c.in-Some.field-0.steps input_rose output_rose wrote c.run_text.result) c.as_slice.ensures.value c.run_text.ensures.runs in
     gives_text words files (Rose (g.H.Shelf.faults c.args.shelf.now) (g.H.Shelf.faults c.load.new.self)) input_rose output_rose ⊥ wrote c.in-Ok.text.items c.in-Some.field-0.steps
-      (c.in-Some.field-0.file.now, c.in-Some.ensures, holds_loaded files c.in-Some.field-0.file.now c.in-Ok.text c.in-Ok.ensures.bytes) c.run_text.result runs
+    (c.in-Some.field-0.file.now, c.in-Some.ensures, holds_loaded files c.in-Some.field-0.file.now c.in-Ok.text c.in-Ok.ensures.bytes) c.run_text.result runs
