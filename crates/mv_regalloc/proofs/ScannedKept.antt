@@ -1,0 +1,74 @@
+-- A whole body whose temporaries are renamed by the scan means the same.
+use Rattle.std.proofs.Common.{arith, ◌≡◌, ℕ, ◌-◌, ◌<◌, ◌≤◌, Bool, true, List, refl, sym, ◌∙◌, subst, ◌⊎◌, inl, inr}
+use Rattle.std.proofs.lemmas.Bool.{cases_lt}
+use Rattle.mv_ir.specs.declared.body.Body.{Body}
+use Rattle.mv_ir.specs.Live.{mark_at, marks_length, all_marks, IsWhole, HasTemps}
+use Rattle.mv_regalloc.specs.Scan.{Interval, used, number_of, Overlap}
+use Rattle.mv_regalloc.specs.Rename.{Fits}
+use Rattle.mv_regalloc.specs.Intervals.{span, by_first, range, given, allotted, scanned, IsRenamed}
+use Rattle.mv_regalloc.proofs.Apart.{numbers_apart, number_found}
+use Rattle.mv_regalloc.proofs.Spans.{marked_any, marked_first, marked_last, first_below}
+use Rattle.mv_regalloc.proofs.Stands.{AreSpans, Stands, in_range, listed, by_first_spans, every_range, scan_stands, scan_stands_new, given_stands, number_used, given_number, scan_number}
+use Rattle.mv_regalloc.proofs.Most.{same_long, scan_all_apart, uses_most}
+use Rattle.mv_regalloc.proofs.RenamedKept.{rename_keeps}
+use Rattle.mv_regalloc.proofs.Whole.{stays_whole, few_intervals}
+
+module _ (b : Body) (has : HasTemps b) where
+  abbrev marks : ℕ → List Bool
+  marks = all_marks b
+
+  abbrev long : ℕ
+  long = marks_length (marks 0)
+
+  abbrev others : List Interval
+  others = by_first marks (range b.params (b.temps - b.params)) 0 long
+
+  spans : AreSpans marks (λ u. b.params ≤ u) others
+  spans = by_first_spans marks (λ u. b.params ≤ u) (range b.params (b.temps - b.params)) 0 long (every_range marks b.params (b.temps - b.params))
+
+  stands : (i t : ℕ) → mark_at (marks t) i ≡ true → Stands marks t (allotted b)
+  stands i t h = by (cases_lt t b.params)
+    where
+      by : (t < b.params) ⊎ (b.params ≤ t) → Stands marks t (allotted b)
+      by (inl l) = scan_stands marks (λ u. b.params ≤ u) t (given marks b.params) others spans (given_stands marks b.params t l)
+      by (inr l) =
+          let one = marked_any (marks t) i h in
+          let low = has i t h in
+          let end = first_below 0 (marks t) one in
+          let e = same_long b has t in
+          scan_stands_new marks (λ u. b.params ≤ u) t (given marks b.params) others spans
+          (listed marks (range b.params (b.temps - b.params)) 0 long t (in_range marks b.params (b.temps - b.params) t l (omega (arith, low, l))) one (omega arith) (omega (arith, end, e)))
+
+  overlap : (i t u : ℕ) → mark_at (marks t) i ≡ true → mark_at (marks u) i ≡ true → Overlap (span marks t) (span marks u)
+  overlap i t u h k = record {
+    before = (let x = marked_first 0 (marks t) i h in let y = marked_last 0 (marks u) i k in omega (arith, x, y));
+    behind = (let x = marked_first 0 (marks u) i k in let y = marked_last 0 (marks t) i h in omega (arith, x, y));
+  }
+
+  pub scanned_fits : Fits (number_of (allotted b)) (used (allotted b)) b
+  scanned_fits = record {
+    separate = record {
+      apart = λ i t u h k e.
+          let x = stands i t h in
+          let y = stands i u k in
+          numbers_apart t u x.placed y.placed (allotted b) (scan_all_apart b has) x.stands y.stands
+          (subst (λ z. Overlap z y.placed.interval) (sym x.is) (subst (λ z. Overlap (span marks t) z) (sym y.is) (overlap i t u h k))) e;
+      old = has;
+      new = λ i t h.
+          let x = stands i t h in
+          let e = number_found t x.placed (allotted b) x.stands in
+          let l = number_used marks t x.placed (allotted b) x.stands in
+          omega (arith, e, l);
+    };
+    params = λ t h. scan_number marks b.params t (given marks b.params) others spans h ∙ given_number marks b.params t h;
+  }
+
+  pub scanned_is_renamed : IsWhole b → IsRenamed b (scanned b)
+  scanned_is_renamed whole = record {
+    keeps = rename_keeps (number_of (allotted b)) (used (allotted b)) b whole scanned_fits;
+    temps = uses_most b has;
+    whole = stays_whole (number_of (allotted b)) (used (allotted b)) b scanned_fits whole;
+    intervals = (let a = few_intervals (scanned b) in let e = uses_most b has in omega (arith, a, e));
+    numbers = number_of (allotted b);
+    changes = refl;
+  }

@@ -1,0 +1,57 @@
+-- The intervals of a body in the order of their first positions, and the numbers that a scan of them gives.
+use Rattle.std.specs.Prelude.{ℕ, zero, suc, ◌+◌, ◌-◌, ◌≡◌, ◌<◌, ◌≤◌, Bool, true, cond, eqb, ◌&&◌, List, [], ◌∷◌, ◌++◌}
+use Rattle.mv_ir.specs.declared.body.Body.{Body}
+use Rattle.mv_ir.specs.Keeps.{KeepsBody}
+use Rattle.mv_ir.specs.Live.{mark_at, any, marks_length, all_marks, most_intervals, IsWhole}
+use Rattle.mv_regalloc.specs.Scan.{Interval, Placed, scan, used, number_of}
+use Rattle.mv_regalloc.specs.Rename.{renamed}
+
+-- the first and the last marked position, where the list begins at a position and one is marked
+abbrev pub first_from : ℕ → List Bool → ℕ
+first_from at [] = at
+first_from at (x ∷ xs) = cond x at (first_from (suc at) xs)
+
+abbrev pub last_from : ℕ → List Bool → ℕ
+last_from at [] = at
+last_from at (x ∷ xs) = cond (any xs) (last_from (suc at) xs) at
+
+abbrev pub span : (ℕ → List Bool) → ℕ → Interval
+span marks t = record { temp = t; first = first_from 0 (marks t); last = last_from 0 (marks t) }
+
+-- the intervals of some temporaries that begin at a position
+abbrev pub beginning : (ℕ → List Bool) → ℕ → List ℕ → List Interval
+beginning marks at [] = []
+beginning marks at (t ∷ ts) = cond (any (marks t) && eqb (first_from 0 (marks t)) at) (span marks t ∷ beginning marks at ts) (beginning marks at ts)
+
+-- those that begin at one of so many positions from one on, in the order of these
+abbrev pub by_first : (ℕ → List Bool) → List ℕ → ℕ → ℕ → List Interval
+by_first marks ts at zero = []
+by_first marks ts at (suc steps) = beginning marks at ts ++ by_first marks ts (suc at) steps
+
+-- n numbers from a on
+abbrev pub range : ℕ → ℕ → List ℕ
+range a zero = []
+range a (suc n) = range a n ++ (a + n) ∷ []
+
+-- the parameters keep their numbers
+abbrev pub given : (ℕ → List Bool) → ℕ → List Placed
+given marks zero = []
+given marks (suc n) = record { interval = span marks n; number = n } ∷ given marks n
+
+-- the parameters, and then the others in the order of their first positions
+abbrev pub allotted : Body → List Placed
+allotted b = scan (given (all_marks b) b.params) (by_first (all_marks b) (range b.params (b.temps - b.params)) 0 (marks_length (all_marks b 0)))
+
+abbrev pub scanned : Body → Body
+scanned b = renamed (number_of (allotted b)) (used (allotted b)) b
+
+-- The second body means what the first means, at no greater cost; it has as many temporaries as there are intervals
+-- over one position at most; it is whole as well, with no more intervals over a position; and nothing but the
+-- temporaries has changed.
+pub record IsRenamed (b result : Body) : Type 0 where
+  pub keeps : KeepsBody b result
+  pub temps : result.temps ≡ most_intervals b
+  pub whole : IsWhole result
+  pub intervals : most_intervals result ≤ most_intervals b
+  pub numbers : ℕ → ℕ
+  pub changes : result ≡ renamed numbers result.temps b
