@@ -1,10 +1,11 @@
 -- What a call comes to.
-use Rattle.std.proofs.Common.{◌≡◌, ℕ, zero, suc, ◌+◌, ◌-◌, ◌^◌, ◌≤◌, ◌<◌, Bool, true, false, if◌then◌else◌, nat_lt, List, arith, refl, sym, ap, subst, ◌∙◌, Some, None, Result, Ok, Err, slice_get}
+use Rattle.std.proofs.Common.{◌≡◌, ℕ, zero, suc, ◌+◌, ◌-◌, ◌^◌, ◌≤◌, ◌<◌, Bool, true, false, if◌then◌else◌, nat_lt, List, arith, refl, sym, ap, subst, ◌∙◌, length, Some, None, Result, Ok, Err, slice_get}
+use Rattle.mv_ast.specs.declared.program.CType.{CType}
 use Rattle.mv_ast.specs.declared.program.Program.{Program}
 use Rattle.mv_ast.specs.declared.program.Function.{Function}
 use Rattle.mv_ast.specs.declared.world.Stop.{Stop}
 use Rattle.mv_ast.specs.declared.world.Stop.TheVariants.{Trapped, Unfinished}
-use Rattle.mv_ast.specs.Worlds.{Outcome, Came, Stopped, stop}
+use Rattle.mv_ast.specs.Worlds.{Outcome, Came, Stopped, Computation, stop}
 use Rattle.mv_ast.specs.Numbering.{own_numbers, function_of_number}
 use Rattle.mv_meaning.specs.declared.state.Frame.{Frame}
 use Rattle.mv_meaning.specs.declared.state.Here.{Here}
@@ -14,7 +15,7 @@ use Rattle.mv_meaning.specs.declared.state.Halt.TheVariants as halt
 use Rattle.mv_meaning.specs.declared.state.Flow.{Flow}
 use Rattle.mv_meaning.specs.Meaning.{call_at, call_numbered, call_through, call_of, back_in, popped, frame_of, flow_of_all, returned_value}
 use Rattle.mv_meaning.specs.Runs.{capped, totalled, world_of, Shows, IsOutcome, own_context}
-use Rattle.mv_meaning.proofs.Contexts.{numbers_at}
+use Rattle.mv_meaning.proofs.Contexts.{numbers_at, lets_at, stray_at}
 use Rattle.mv_meaning.proofs.Steps.{gave, halted, not_zero}
 
 -- the frame of a callee stands above that of its caller
@@ -120,29 +121,34 @@ module _ (p : Program) (here : Here) (f : ℕ) (vs : List ℕ) (caller : Frame) 
 
 -- ---- calls through a pointer
 
-module _ (p : Program) (here : Here) (vs : List ℕ) (f : Frame) (s : State) where
+module _ (p : Program) (here : Here) (t : CType) (vs : List ℕ) (f : Frame) (s : State) where
   pub through_null : (v : ℕ) → v ≡ 0 → s.work ≤ 2 ^ 64 - 1 →
-      IsOutcome s.work (call_through (own_context p here.bound) v vs f (world_of here s)) here (Err (halt.Stopped (Trapped 3))) f s
+      IsOutcome s.work (call_through (own_context p here.bound) t v vs f (world_of here s)) here (Err (halt.Stopped (Trapped 3))) f s
   through_null v e le =
-      let P : ℕ → Type 0 = λ x. IsOutcome s.work (call_through (own_context p here.bound) x vs f (world_of here s)) here (Err (halt.Stopped (Trapped 3))) f s in
+      let P : ℕ → Type 0 = λ x. IsOutcome s.work (call_through (own_context p here.bound) t x vs f (world_of here s)) here (Err (halt.Stopped (Trapped 3))) f s in
       subst P (sym e) (halted le)
 
   through_number : (v : ℕ) → (v ≡ 0 → ⊥) →
-      call_through (own_context p here.bound) v vs f (world_of here s) ≡
-      call_numbered (own_context p here.bound) (function_of_number (own_numbers p) v) vs f (world_of here s)
+      call_through (own_context p here.bound) t v vs f (world_of here s) ≡
+      call_numbered (own_context p here.bound) t (function_of_number (own_numbers p) v) vs f (world_of here s)
   through_number v ne =
-      ap (λ b. (if b then stop (Trapped 3) else call_numbered (own_context p here.bound) (function_of_number (own_context p here.bound).numbers v) vs) f (world_of here s)) (not_zero v ne) ∙
-      ap (λ ns. call_numbered (own_context p here.bound) (function_of_number ns v) vs f (world_of here s)) (numbers_at p (own_numbers p) here.bound)
+      ap (λ b. (if b then stop (Trapped 3) else call_numbered (own_context p here.bound) t (function_of_number (own_context p here.bound).numbers v) vs) f (world_of here s)) (not_zero v ne) ∙
+      ap (λ ns. call_numbered (own_context p here.bound) t (function_of_number ns v) vs f (world_of here s)) (numbers_at p (own_numbers p) here.bound)
 
   pub through_some : (v g : ℕ) {r : Result ℕ Halt} {f' : Frame} {s' : State} → (v ≡ 0 → ⊥) → function_of_number (own_numbers p) v ≡ Some g →
       IsOutcome s.work (call_at (own_context p here.bound) g vs f (world_of here s)) here r f' s' →
-      IsOutcome s.work (call_through (own_context p here.bound) v vs f (world_of here s)) here r f' s'
+      IsOutcome s.work (call_through (own_context p here.bound) t v vs f (world_of here s)) here r f' s'
   through_some v g {r = r} {f' = f'} {s' = s'} ne e k =
       let P : Outcome Frame ℕ → Type 0 = λ o. IsOutcome s.work o here r f' s' in
-      subst P (sym (through_number v ne ∙ ap (λ o. call_numbered (own_context p here.bound) o vs f (world_of here s)) e)) k
+      let context = own_context p here.bound in
+      subst P
+      (sym (through_number v ne ∙ ap (λ o. call_numbered context t o vs f (world_of here s)) e ∙
+      ap (λ (lets : CType → ℕ → ℕ → Bool). (if lets t g (length vs) then call_at context g vs else context.stray) f (world_of here s)) (lets_at p (own_numbers p) here.bound))) k
 
   pub through_none : (v : ℕ) → (v ≡ 0 → ⊥) → function_of_number (own_numbers p) v ≡ None → s.work ≤ 2 ^ 64 - 1 →
-      IsOutcome s.work (call_through (own_context p here.bound) v vs f (world_of here s)) here (Ok 0) f s
+      IsOutcome s.work (call_through (own_context p here.bound) t v vs f (world_of here s)) here (Ok 0) f s
   through_none v ne e le =
       let P : Outcome Frame ℕ → Type 0 = λ o. IsOutcome s.work o here (Ok 0) f s in
-      subst P (sym (through_number v ne ∙ ap (λ o. call_numbered (own_context p here.bound) o vs f (world_of here s)) e)) (gave le)
+      subst P
+      (sym (through_number v ne ∙ ap (λ o. call_numbered (own_context p here.bound) t o vs f (world_of here s)) e ∙
+      ap (λ (stray : Computation Frame ℕ). stray f (world_of here s)) (stray_at p (own_numbers p) here.bound))) (gave le)

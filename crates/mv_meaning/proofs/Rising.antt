@@ -134,6 +134,8 @@ rises_known p (Plan code index) vs = rises_alike (known_value p (Plan code index
 -- one context goes on from another
 pub record ContextRises (lesser greater : Context) : Type 0 where
   pub numbers : lesser.numbers ≡ greater.numbers
+  pub lets : lesser.lets ≡ greater.lets
+  pub strays : Rises lesser.stray greater.stray
   pub calls : (f : ℕ) (vs : List ℕ) → Rises (lesser.call f vs) (greater.call f vs)
   pub loops : (s : _) → Rises (lesser.loop s) (greater.loop s)
 
@@ -144,15 +146,18 @@ module _ (p : Program) (lesser greater : Context) (rises : ContextRises lesser g
     on = λ frame w. (rises_either (nat_lt w.depth 512) (lesser.call f vs) (greater.call f vs) (stop (Trapped 4)) (stop (Trapped 4)) (rises.calls f vs) (rises_stop (Trapped 4))).on frame w;
   }
 
-  rises_numbered : (f : Option ℕ) (vs : List ℕ) → Rises (call_numbered lesser f vs) (call_numbered greater f vs)
-  rises_numbered None vs = rises_give 0
-  rises_numbered (Some f) vs = rises_call f vs
+  rises_numbered : (t : CType) (f : Option ℕ) (vs : List ℕ) → Rises (call_numbered lesser t f vs) (call_numbered greater t f vs)
+  rises_numbered t None vs = rises.strays
+  rises_numbered t (Some f) vs =
+      let lets : CType → ℕ → ℕ → Bool = lesser.lets in
+      subst (λ (l : CType → ℕ → ℕ → Bool). Rises (if lets t f (length vs) then call_at lesser f vs else lesser.stray) (if l t f (length vs) then call_at greater f vs else greater.stray)) rises.lets
+      (rises_either (lets t f (length vs)) (call_at lesser f vs) (call_at greater f vs) lesser.stray greater.stray (rises_call f vs) rises.strays)
 
-  rises_through : (v : ℕ) (vs : List ℕ) → Rises (call_through lesser v vs) (call_through greater v vs)
-  rises_through v vs =
-      let same_numbers : Rises (call_numbered lesser (function_of_number lesser.numbers v) vs) (call_numbered greater (function_of_number greater.numbers v) vs) =
-      subst (λ ns. Rises (call_numbered lesser (function_of_number lesser.numbers v) vs) (call_numbered greater (function_of_number ns v) vs)) rises.numbers
-      (rises_numbered (function_of_number lesser.numbers v) vs) in
+  rises_through : (t : CType) (v : ℕ) (vs : List ℕ) → Rises (call_through lesser t v vs) (call_through greater t v vs)
+  rises_through t v vs =
+      let same_numbers : Rises (call_numbered lesser t (function_of_number lesser.numbers v) vs) (call_numbered greater t (function_of_number greater.numbers v) vs) =
+      subst (λ ns. Rises (call_numbered lesser t (function_of_number lesser.numbers v) vs) (call_numbered greater t (function_of_number ns v) vs)) rises.numbers
+      (rises_numbered t (function_of_number lesser.numbers v) vs) in
       rises_either (nat_eq v 0) (stop (Trapped 3)) (stop (Trapped 3)) _ _ (rises_stop (Trapped 3)) same_numbers
 
   -- ---- by induction over the forms
@@ -212,7 +217,7 @@ module _ (p : Program) (lesser greater : Context) (rises : ContextRises lesser g
       rises_bind _ _ _ _ (rises_store s (converted t (if up then add old 1 else sub old 1))) (λ new. rises_give old)))
   form_rises (form.Direct f args) t = rises_bind _ _ _ _ (rises_values args) (rises_call f)
   form_rises (form.Through args callee) t =
-      rises_bind _ _ _ _ (rises_values args) (λ vs. rises_bind _ _ _ _ callee.1 (λ v. rises_through v vs))
+      rises_bind _ _ _ _ (rises_values args) (λ vs. rises_bind _ _ _ _ callee.1 (λ v. rises_through t v vs))
   form_rises (form.Known k args) t = rises_bind _ _ _ _ (rises_values args) (rises_known p k)
 
   abbrev target_there : Context → Target-F F T E → Evaluation Lvalue

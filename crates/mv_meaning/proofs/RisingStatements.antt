@@ -9,7 +9,7 @@ use Rattle.mv_ast.specs.declared.program.Stmt.{Stmt, Stmt-F, roll-Stmt, out-roll
 use Rattle.mv_ast.specs.declared.program.Stmt.TheOpen as stmt
 use Rattle.mv_ast.specs.declared.program.Arm.{Arm, Arm-F, roll-Arm, map-Arm}
 use Rattle.mv_ast.specs.declared.world.Stop.TheVariants.{Unfinished}
-use Rattle.mv_ast.specs.Worlds.{World, Outcome, Came, Stopped, stop, counted}
+use Rattle.mv_ast.specs.Worlds.{World, Outcome, Came, Stopped, stop, counted, give}
 use Rattle.mv_ast.specs.Names.{any_of, names_local}
 use Rattle.mv_meaning.specs.declared.state.Frame.{Frame}
 use Rattle.mv_meaning.specs.declared.state.Lvalue.TheVariants as lvalue
@@ -21,6 +21,7 @@ use Rattle.mv_meaning.specs.Runs.{arms_from}
 use Rattle.mv_meaning.specs.Growth.{Grew, world_left, work_done, Grows, IsContinued, same, further}
 use Rattle.mv_meaning.proofs.Equations.{flow_of-Block, flow_of-Clear, flow_of-Express, flow_of-If, flow_of-While, flow_of-Do, flow_of-For, flow_of-Switch, flow_of-Break, flow_of-Continue, flow_of-Return, arm_of_lem}
 use Rattle.mv_meaning.proofs.SwitchArms.{leads_to}
+use Rattle.mv_meaning.proofs.Contexts.{lets_at}
 use Rattle.mv_meaning.proofs.Rising.{Rises, ContextRises, rises_give, rises_stop, rises_counted, rises_unless, rises_bind, rises_store, value_rises}
 
 rises_then : (flow : Flow) (d e : Evaluation Flow) → Rises d e → Rises (then_on flow d) (then_on flow e)
@@ -240,9 +241,11 @@ module _ (p : Program) (lesser greater : Context) where
 module _ (p : Program) (numbers : List ℕ) where
   -- each context goes on from itself
   context_alike : (k : ℕ) → ContextRises (context_at p numbers k) (context_at p numbers k)
-  context_alike zero = record { numbers = refl; calls = λ f vs. rises_stop Unfinished; loops = λ s. rises_stop Unfinished }
+  context_alike zero = record { numbers = refl; lets = refl; strays = rises_give 0; calls = λ f vs. rises_stop Unfinished; loops = λ s. rises_stop Unfinished }
   context_alike (suc k) = record {
     numbers = refl;
+    lets = refl;
+    strays = rises_give 0;
     calls = λ f vs. call_rises p (context_at p numbers k) (context_at p numbers k) (context_alike k) f (slice_get p.functions f) vs;
     loops = λ s. flow_rises p (context_at p numbers k) (context_at p numbers k) (context_alike k) s;
   }
@@ -255,9 +258,15 @@ module _ (p : Program) (numbers : List ℕ) where
   numbers_same zero = refl
   numbers_same (suc k) = refl
 
+  stray_rises : (k : ℕ) → Rises (give 0) (context_at p numbers k).stray
+  stray_rises zero = rises_give 0
+  stray_rises (suc k) = rises_give 0
+
   pub context_rises : (j k : ℕ) → j ≤ k → ContextRises (context_at p numbers j) (context_at p numbers k)
   context_rises zero k le = record {
     numbers = numbers_same k;
+    lets = sym (lets_at p numbers k);
+    strays = stray_rises k;
     calls = λ f vs. from_unfinished ((context_at p numbers k).call f vs) ((context_alike k).calls f vs).grows;
     loops = λ s. from_unfinished ((context_at p numbers k).loop s) ((context_alike k).loops s).grows;
   }
@@ -266,6 +275,8 @@ module _ (p : Program) (numbers : List ℕ) where
       let inner : ContextRises (context_at p numbers j) (context_at p numbers k) = context_rises j k (omega arith) in
       record {
         numbers = refl;
+        lets = refl;
+        strays = rises_give 0;
         calls = λ f vs. call_rises p (context_at p numbers j) (context_at p numbers k) inner f (slice_get p.functions f) vs;
         loops = λ s. flow_rises p (context_at p numbers j) (context_at p numbers k) inner s;
       }

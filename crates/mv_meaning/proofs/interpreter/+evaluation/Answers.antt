@@ -473,21 +473,21 @@ pub value_of-returns-then-v-eq0 : goal.value_of-returns-then-v-eq0
 value_of-returns-then-v-eq0 t c =
     let a = c.args in
     begun a.here a.frame.now a.state.now _ (value_of-Through a.program.now (own_context a.program.now a.here.bound) a.e.now c.in-Through.args c.in-Through.callee (ap out-Form c.in-Through.is ∙ outs-Through c.in-Through.args c.in-Through.callee)) c.count.ensures (λ le0. on _ _ c.in_ok-values-in-Through.ensures (λ le1. on _ _ (rw c.get-in-Through.ensures at c.in_ok-v-in-Through.ensures)
-    (λ le2. through_null a.program.now a.here c.in_ok-values-in-Through.values c.value_of-in-Through.new.frame c.value_of-in-Through.new.state c.in_ok-v-in-Through.v c.if-v-eq0.true le2)))
+    (λ le2. through_null a.program.now a.here a.e.now.ctype c.in_ok-values-in-Through.values c.value_of-in-Through.new.frame c.value_of-in-Through.new.state c.in_ok-v-in-Through.v c.if-v-eq0.true le2)))
 
 pub value_of-returns-in-Some-function_of_number : goal.value_of-returns-in-Some-function_of_number
 value_of-returns-in-Some-function_of_number t c =
     let a = c.args in
     let found = sym c.function_of_number.ensures ∙ c.in-Some-function_of_number.is in
     begun a.here a.frame.now a.state.now _ (value_of-Through a.program.now (own_context a.program.now a.here.bound) a.e.now c.in-Through.args c.in-Through.callee (ap out-Form c.in-Through.is ∙ outs-Through c.in-Through.args c.in-Through.callee)) c.count.ensures (λ le0. on _ _ c.in_ok-values-in-Through.ensures (λ le1. on _ _ (rw c.get-in-Through.ensures at c.in_ok-v-in-Through.ensures)
-    (λ le2. through_some a.program.now a.here c.in_ok-values-in-Through.values c.value_of-in-Through.new.frame c.value_of-in-Through.new.state c.in_ok-v-in-Through.v c.in-Some-function_of_number.f c.if-v-eq0.false found c.call-in-Some-function_of_number.ensures)))
+    (λ le2. through_some a.program.now a.here a.e.now.ctype c.in_ok-values-in-Through.values c.value_of-in-Through.new.frame c.value_of-in-Through.new.state c.in_ok-v-in-Through.v c.in-Some-function_of_number.f c.if-v-eq0.false found c.call-in-Some-function_of_number.ensures)))
 
 pub value_of-returns-in-Through : goal.value_of-returns-in-Through
 value_of-returns-in-Through t c =
     let a = c.args in
     let found = sym c.function_of_number.ensures ∙ c.in-None-function_of_number.is in
     begun a.here a.frame.now a.state.now _ (value_of-Through a.program.now (own_context a.program.now a.here.bound) a.e.now c.in-Through.args c.in-Through.callee (ap out-Form c.in-Through.is ∙ outs-Through c.in-Through.args c.in-Through.callee)) c.count.ensures (λ le0. on _ _ c.in_ok-values-in-Through.ensures (λ le1. on _ _ (rw c.get-in-Through.ensures at c.in_ok-v-in-Through.ensures)
-    (λ le2. through_none a.program.now a.here c.in_ok-values-in-Through.values c.value_of-in-Through.new.frame c.value_of-in-Through.new.state c.in_ok-v-in-Through.v c.if-v-eq0.false found le2)))
+    (λ le2. through_none a.program.now a.here a.e.now.ctype c.in_ok-values-in-Through.values c.value_of-in-Through.new.frame c.value_of-in-Through.new.state c.in_ok-v-in-Through.v c.if-v-eq0.false found le2)))
 
 pub optional_value-returns-in-None : goal.optional_value-returns-in-None
 optional_value-returns-in-None t c =

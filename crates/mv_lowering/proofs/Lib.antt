@@ -1,0 +1,6 @@
+pub mod SourceInduction
+pub mod Running
+pub mod Showing
+pub mod Operators
+pub mod Forms
+pub mod Control

@@ -1,0 +1,3 @@
+pub mod Lowered
+pub mod Lower
+pub mod Correct

