@@ -4,3 +4,5 @@ pub mod Showing
 pub mod Operators
 pub mod Forms
 pub mod Control
+pub mod Sequences
+pub mod Elements

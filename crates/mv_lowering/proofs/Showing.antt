@@ -20,44 +20,46 @@ use Rattle.mv_lowering.specs.Correct as c
 use Rattle.mv_lowering.proofs.Running as run
 use Rattle.mv_lowering.proofs.Running.{nodes_temp}
 
-module _ (p : Program) (setting : Setting) (frame : code_world.Frame) (function locals : ℕ) (sizes : ℕ → Option ℕ) (temps : ℕ) (bound : Bound) where
+module _ (p : Program) (setting : Setting) (frame : code_world.Frame) (function locals : ℕ) (sizes : ℕ → Option ℕ) (floor : ℕ) (scratch : ℕ → ℕ) (temps : ℕ) (bound : Bound) where
   abbrev V : Tree → State → ℕ
-  V = c.val p setting frame function locals sizes temps bound
+  V = c.val p setting frame function locals sizes floor scratch temps bound
 
   abbrev R : List Stm → State → ir.Outcome → ℕ → Type 0
-  R = c.Runs p setting frame function locals sizes temps bound
+  R = c.Runs p setting frame function locals sizes floor scratch temps bound
 
   abbrev Shows : Frame → World → State → Type 0
-  Shows = c.Shows p setting frame function locals sizes temps bound
+  Shows = c.Shows p setting frame function locals sizes floor scratch temps bound
 
   abbrev Kept : ℕ → State → State → Type 0
-  Kept = c.Kept p setting frame function locals sizes temps bound
+  Kept = c.Kept p setting frame function locals sizes floor scratch temps bound
 
   abbrev Reached : (due credit n : ℕ) → State → List Stm → Tree → ℕ → Frame → World → ℕ → Type 0
-  Reached = c.Reached p setting frame function locals sizes temps bound
+  Reached = c.Reached p setting frame function locals sizes floor scratch temps bound
 
   abbrev Halted : ℕ → State → List Stm → Stop → World → ℕ → Type 0
-  Halted = c.Halted p setting frame function locals sizes temps bound
+  Halted = c.Halted p setting frame function locals sizes floor scratch temps bound
 
   abbrev Shown : (due credit n : ℕ) → State → List Stm → Tree → Outcome Frame ℕ → Type 0
-  Shown = c.Shown p setting frame function locals sizes temps bound
+  Shown = c.Shown p setting frame function locals sizes floor scratch temps bound
 
   abbrev Correct : Evaluation ℕ → Lowering → Type 0
-  Correct = c.Correct p setting frame function locals sizes temps bound
+  Correct = c.Correct p setting frame function locals sizes floor scratch temps bound
 
   abbrev CorrectFor : ℕ → Evaluation ℕ → Lowering → Type 0
-  CorrectFor = c.CorrectFor p setting frame function locals sizes temps bound
+  CorrectFor = c.CorrectFor p setting frame function locals sizes floor scratch temps bound
 
   -- ---- a temporary that is no local
 
-  pub shows_temp : (f : Frame) (w : World) (s : State) (n v : ℕ) → locals ≤ n → Shows f w s → Shows f w (with_temp s n v)
+  pub shows_temp : (f : Frame) (w : World) (s : State) (n v : ℕ) → floor ≤ n → Shows f w s → Shows f w (with_temp s n v)
   shows_temp f w s n v h k = record {
     world = k.world;
     depth = k.depth;
     live = k.live;
     function = k.function;
     switches = k.switches;
-    each = λ l le sc. get_or-set_other s.temps n l v 0 (λ e. absurd (omega (arith, h, le, e))) ∙ k.each l le sc;
+    each = λ l le sc. get_or-set_other s.temps n l v 0 (λ e. absurd (omega (arith, h, le, e, k.above))) ∙ k.each l le sc;
+    above = k.above;
+    below = λ j le lt. get_or-set_other s.temps n j v 0 (λ e. absurd (omega (arith, h, lt, e))) ∙ k.below j le lt;
     elements = k.elements;
     words = k.words;
     size = k.size;
@@ -110,7 +112,7 @@ module _ (p : Program) (setting : Setting) (frame : code_world.Frame) (function 
   then_rest due total credit d c1 n n1 s code rest t t1 v f w work r (Came v2 f2 w2 work2) le enough h = record {
     state = h.state;
     cost = r.cost + h.cost;
-    runs = run.runs_append p setting frame function locals sizes temps bound code rest s r.state (Next h.state) r.cost h.cost r.runs h.runs;
+    runs = run.runs_append p setting frame function locals sizes floor scratch temps bound code rest s r.state (Next h.state) r.cost h.cost r.runs h.runs;
     shows = h.shows;
     value = h.value;
     kept = λ i a b. h.kept i a b ∙ r.kept i a (omega (arith, le, b));
@@ -118,7 +120,7 @@ module _ (p : Program) (setting : Setting) (frame : code_world.Frame) (function 
   }
   then_rest due total credit d c1 n n1 s code rest t t1 v f w work r (Stopped why w2 work2) le enough h = record {
     cost = r.cost + h.cost;
-    runs = λ ne. run.runs_append p setting frame function locals sizes temps bound code rest s r.state (Ends (c.end_of why (c.seen w2))) r.cost h.cost r.runs (h.runs ne);
+    runs = λ ne. run.runs_append p setting frame function locals sizes floor scratch temps bound code rest s r.state (Ends (c.end_of why (c.seen w2))) r.cost h.cost r.runs (h.runs ne);
     paid = omega (arith, enough, h.paid, r.paid);
   }
 
@@ -130,7 +132,7 @@ module _ (p : Program) (setting : Setting) (frame : code_world.Frame) (function 
       then_rest due total credit d c1 n n1 s code rest t t1 v f w work h (next v f w) le enough (k v f w work h)
   follow due total credit d c1 n n1 s code rest t t1 (Stopped why w work) next le enough h k = record {
     cost = h.cost;
-    runs = λ ne. run.runs_stop p setting frame function locals sizes temps bound code rest s (c.end_of why (c.seen w)) h.cost (h.runs ne);
+    runs = λ ne. run.runs_stop p setting frame function locals sizes floor scratch temps bound code rest s (c.end_of why (c.seen w)) h.cost (h.runs ne);
     paid = omega (arith, enough, h.paid);
   }
 
@@ -139,7 +141,7 @@ module _ (p : Program) (setting : Setting) (frame : code_world.Frame) (function 
   done due credit n s t v f w h e le = record {
     state = s;
     cost = 0;
-    runs = run.runs_nil p setting frame function locals sizes temps bound s;
+    runs = run.runs_nil p setting frame function locals sizes floor scratch temps bound s;
     shows = h;
     value = e;
     kept = kept_refl n s;
@@ -152,29 +154,29 @@ module _ (p : Program) (setting : Setting) (frame : code_world.Frame) (function 
 
   -- ---- a value in a temporary
 
-  put_away : (credit n at : ℕ) (s : State) (l : Lowered) (o : Outcome Frame ℕ) → n ≤ at → locals ≤ at → at < temps → Shown 11 credit n s l.code l.tree o → Shown 0 credit n s (l.code ++ set at l.tree ∷ []) (temp at) o
+  put_away : (credit n at : ℕ) (s : State) (l : Lowered) (o : Outcome Frame ℕ) → n ≤ at → floor ≤ at → at < temps → Shown 11 credit n s l.code l.tree o → Shown 0 credit n s (l.code ++ set at l.tree ∷ []) (temp at) o
   put_away credit n at s l (Came v f w work) up le lt r =
       let x = V l.tree r.state in
       record {
         state = with_temp r.state at x;
         cost = r.cost + (8 + 3 * nodes l.tree);
-        runs = run.runs_append p setting frame function locals sizes temps bound l.code (set at l.tree ∷ []) s r.state _ r.cost _ r.runs (run.runs_set p setting frame function locals sizes temps bound at l.tree r.state);
+        runs = run.runs_append p setting frame function locals sizes floor scratch temps bound l.code (set at l.tree ∷ []) s r.state _ r.cost _ r.runs (run.runs_set p setting frame function locals sizes floor scratch temps bound at l.tree r.state);
         shows = shows_temp f w r.state at x le r.shows;
-        value = run.val_temp p setting frame function locals sizes temps bound at (with_temp r.state at x) ∙ get_or-set_same r.state.temps at x 0 (subst (λ k. at < k) (sym r.shows.temps) lt) ∙ r.value;
+        value = run.val_temp p setting frame function locals sizes floor scratch temps bound at (with_temp r.state at x) ∙ get_or-set_same r.state.temps at x 0 (subst (λ k. at < k) (sym r.shows.temps) lt) ∙ r.value;
         kept = kept_trans n at s r.state (with_temp r.state at x) up r.kept (kept_temp at r.state x);
         paid = omega (arith, r.paid, nodes_temp at);
       }
   put_away credit n at s l (Stopped why w work) up le lt h = record {
     cost = h.cost;
-    runs = λ ne. run.runs_stop p setting frame function locals sizes temps bound l.code (set at l.tree ∷ []) s _ h.cost (h.runs ne);
+    runs = λ ne. run.runs_stop p setting frame function locals sizes floor scratch temps bound l.code (set at l.tree ∷ []) s _ h.cost (h.runs ne);
     paid = h.paid;
   }
 
   -- in the free temporary itself, or in one above it
-  pub put_at : (credit n at : ℕ) (s : State) (l : Lowered) (o : Outcome Frame ℕ) → n ≤ at → locals ≤ at → at < temps → Shown 11 credit n s l.code l.tree o → Shown 0 credit n s (l.code ++ set at l.tree ∷ []) (temp at) o
+  pub put_at : (credit n at : ℕ) (s : State) (l : Lowered) (o : Outcome Frame ℕ) → n ≤ at → floor ≤ at → at < temps → Shown 11 credit n s l.code l.tree o → Shown 0 credit n s (l.code ++ set at l.tree ∷ []) (temp at) o
   put_at credit n at s l o up le lt h = put_away credit n at s l o up le lt h
 
-  pub kept_shown : (credit : ℕ) (keep : Bool) (n : ℕ) (s : State) (l : Lowered) (o : Outcome Frame ℕ) → locals ≤ n → (kept_if keep n l).top ≤ temps → Shown 11 credit n s l.code l.tree o →
+  pub kept_shown : (credit : ℕ) (keep : Bool) (n : ℕ) (s : State) (l : Lowered) (o : Outcome Frame ℕ) → floor ≤ n → (kept_if keep n l).top ≤ temps → Shown 11 credit n s l.code l.tree o →
       Shown 0 credit n s (kept_if keep n l).code (kept_if keep n l).tree o
   kept_shown credit true n s l o le lt h = more_credit 11 0 credit credit n n s l.code l.tree o (omega arith) (omega arith) (omega arith) h
   kept_shown credit false n s l o le lt h = put_away credit n n s l o (omega arith) le (omega (arith, lt)) h
@@ -184,10 +186,10 @@ module _ (p : Program) (setting : Setting) (frame : code_world.Frame) (function 
   kept_top false n l h = omega (arith, h)
 
   -- a value that is put away, or behind which no code comes, lasts
-  pub lasts : (keep : Bool) (n : ℕ) (l : Lowered) (s s1 : State) → locals ≤ n → (keep ≡ true → s ≡ s1) → Kept (n + 1) s s1 → V (kept_if keep n l).tree s1 ≡ V (kept_if keep n l).tree s
+  pub lasts : (keep : Bool) (n : ℕ) (l : Lowered) (s s1 : State) → floor ≤ n → (keep ≡ true → s ≡ s1) → Kept (n + 1) s s1 → V (kept_if keep n l).tree s1 ≡ V (kept_if keep n l).tree s
   lasts true n l s s1 le e k = ap (V l.tree) (sym (e refl))
   lasts false n l s s1 le e k =
-      run.val_temp p setting frame function locals sizes temps bound n s1 ∙ k n le (omega arith) ∙ sym (run.val_temp p setting frame function locals sizes temps bound n s)
+      run.val_temp p setting frame function locals sizes floor scratch temps bound n s1 ∙ k n le (omega arith) ∙ sym (run.val_temp p setting frame function locals sizes floor scratch temps bound n s)
 
   -- ---- two operands
 
@@ -203,7 +205,7 @@ module _ (p : Program) (setting : Setting) (frame : code_world.Frame) (function 
       false_is h = subst Is h tt
 
   pub two : (due total credit ka kb n : ℕ) (f : Frame) (w : World) (s : State) (ma mb : Evaluation ℕ) (la lb : Lowering) (rest : List Stm) (t : Tree) (next : ℕ → ℕ → Evaluation ℕ) →
-      ka + (kb + credit) ≤ total → locals ≤ n → max (first la lb n).top (second lb n).top ≤ temps → Shows f w s → CorrectFor ka ma la → CorrectFor kb mb lb →
+      ka + (kb + credit) ≤ total → floor ≤ n → max (first la lb n).top (second lb n).top ≤ temps → Shows f w s → CorrectFor ka ma la → CorrectFor kb mb lb →
       ((x y : ℕ) (f2 : Frame) (w2 : World) (s2 : State) → Shows f2 w2 s2 → V (first la lb n).tree s2 ≡ x → V (second lb n).tree s2 ≡ y →
       Shown due (credit + (3 * nodes (first la lb n).tree + 3 * nodes (second lb n).tree)) n s2 rest t (next x y f2 w2)) →
       Shown due total n s ((first la lb n).code ++ ((second lb n).code ++ rest)) t (bind ma (λ x. bind mb (λ y. next x y)) f w)
@@ -220,7 +222,7 @@ module _ (p : Program) (setting : Setting) (frame : code_world.Frame) (function 
       (λ y f2 w2 work2 r2.
       more_credit due due (credit + (3 * nodes (first la lb n).tree + 3 * nodes (second lb n).tree)) (credit + 3 * nodes (first la lb n).tree + (3 * nodes (second lb n).tree + 0)) n n r2.state rest t (next x y f2 w2) (omega arith) (omega arith) (omega arith)
       (k x y f2 w2 r2.state r2.shows
-      (lasts keep n (la n) r1.state r2.state le (λ e. run.runs_nowhere p setting frame function locals sizes temps bound (second lb n).code r1.state r2.state r2.cost (empty (second lb n).code (is_low (la n).tree) e) r2.runs) r2.kept ∙ r1.value)
+      (lasts keep n (la n) r1.state r2.state le (λ e. run.runs_nowhere p setting frame function locals sizes floor scratch temps bound (second lb n).code r1.state r2.state r2.cost (empty (second lb n).code (is_low (la n).tree) e) r2.runs) r2.kept ∙ r1.value)
       r2.value)))
 
   -- ---- work that pays

@@ -64,8 +64,9 @@ level [] f args depth live w = record { cost = 0; end = More w }
 level (calls ∷ below) f args depth live w = calls f args depth live w
 
 -- one function's frame, at a bound: the source's numbers of locals, and the temporaries that the code has
--- The source has so many locals; each is a scalar, or an array where it has a size.
-module _ (p : Program) (setting : Setting) (frame : code_world.Frame) (own locals : ℕ) (sizes : ℕ → Option ℕ) (room : ℕ) (bound : Bound) where
+-- The source has so many locals; each is a scalar, or an array where it has a size. The temporaries behind those of the locals and up to the
+-- floor are in use, and hold these values.
+module _ (p : Program) (setting : Setting) (frame : code_world.Frame) (own locals : ℕ) (sizes : ℕ → Option ℕ) (floor : ℕ) (scratch : ℕ → ℕ) (room : ℕ) (bound : Bound) where
   -- a tree's value
   abbrev pub val : Tree → State → ℕ
   val t s = value setting.numbers frame.bound t s.temps s.world.globals
@@ -86,13 +87,15 @@ module _ (p : Program) (setting : Setting) (frame : code_world.Frame) (own local
     pub elements : (l : ℕ) → l < locals → (sizes l ≡ None → ⊥) → slice_index_or s.arrays l [] ≡ slice_index_or f.locals l []
     pub words : (l : ℕ) → l < locals → length (slice_index_or f.locals l []) ≡ words_of_size (sizes l)
     pub size : length f.locals ≡ locals
+    pub above : locals ≤ floor
+    pub below : (k : ℕ) → locals ≤ k → k < floor → slice_index s.temps k ≡ scratch k
     pub temps : length s.temps ≡ room
     pub arrays : length s.arrays ≡ locals
     pub globals : (g : ℕ) → length (slice_index_or w.globals g []) ≡ global_words p g
 
   -- the values that were put away below a temporary are as before
   abbrev pub Kept : ℕ → State → State → Type 0
-  Kept n s s' = (k : ℕ) → locals ≤ k → k < n → slice_index s'.temps k ≡ slice_index s.temps k
+  Kept n s s' = (k : ℕ) → floor ≤ k → k < n → slice_index s'.temps k ≡ slice_index s.temps k
 
   -- Code that comes to its end, with a tree for the source's value. What it costs, with the tree and what is
   -- due after it, is paid by the work, at 100 for one of work, and by a credit.
@@ -120,7 +123,7 @@ module _ (p : Program) (setting : Setting) (frame : code_world.Frame) (own local
   abbrev pub CorrectFor : ℕ → Evaluation ℕ → Lowering → Type 0
   CorrectFor credit m l =
       (n : ℕ) (f : Frame) (w : World) (s : State) →
-      locals ≤ n → (l n).top ≤ room → Shows f w s → Shown 11 credit n s (l n).code (l n).tree (m f w)
+      floor ≤ n → (l n).top ≤ room → Shows f w s → Shown 11 credit n s (l n).code (l n).tree (m f w)
 
   abbrev pub Correct : Evaluation ℕ → Lowering → Type 0
   Correct = CorrectFor 0
