@@ -6,3 +6,4 @@ pub mod Forms
 pub mod Control
 pub mod Sequences
 pub mod Elements
+pub mod Arguments
