@@ -7,3 +7,4 @@ pub mod Control
 pub mod Sequences
 pub mod Elements
 pub mod Arguments
+pub mod Expressions

@@ -16,7 +16,7 @@ use Rattle.mv_ast.specs.declared.program.Form.{Form, Form-F, fold-Form}
 use Rattle.mv_ast.specs.declared.program.Form.TheOpen as form
 use Rattle.mv_ast.specs.declared.program.Target.{Target, Target-F, fold-Target}
 use Rattle.mv_ast.specs.Counts.{words_of_size}
-use Rattle.mv_ast.specs.Plans.{same_truth}
+use Rattle.mv_ast.specs.Plans.{same_truth, is_among, switch_global}
 use Rattle.mv_meaning.specs.Operators.{is_unsigned}
 use Rattle.mv_lowering.specs.Lowered.{Lowered, Lowering, number, unary, binary, temp, global, set, set_global, read, write, lower_number, lower_local, lower_global, lower_function, lower_one, lower_two, lower_division, lower_both, lower_either, lower_choice, lower_set_local, lower_set_global, lower_call, lower_through, lower_known, index_in, lower_element, lower_read_element, lower_set_element}
 
@@ -196,12 +196,17 @@ abbrev pub is_scalar : Option ℕ → Bool
 is_scalar None = true
 is_scalar (Some n) = false
 
-module _ (p : Program) (locals : ℕ) (sizes : ℕ → Option ℕ) where
-  -- a local is named as the scalar or the array that it is, and a global has a word
+-- whether a global is one of a function's switches
+abbrev pub is_own_switch : Program → Option Function → ℕ → Bool
+is_own_switch p None g = false
+is_own_switch p (Some f) g = is_among g (map (switch_global p) f.switches)
+
+module _ (p : Program) (function locals : ℕ) (sizes : ℕ → Option ℕ) where
+  -- a local is named as the scalar or the array that it is, and no switch of the function as an array
   abbrev pub names_target : Target-F (CType → Bool) Bool Bool → Bool
   names_target (form.Global g) = true
   names_target (form.Local l) = nat_lt l locals && is_scalar (sizes l)
-  names_target (form.GlobalAt g e) = e
+  names_target (form.GlobalAt g e) = not (is_own_switch p (slice_get p.functions function) g) && e
   names_target (form.LocalAt l e) = nat_lt l locals && (not (is_scalar (sizes l)) && e)
 
   -- a called function takes as many arguments, and is void where the call is

@@ -4,7 +4,7 @@
 ghost use Rattle.std.specs.Prelude.{IsTrue};
 
 /// The lowering of expressions is correct.
-pub fn expressions() -> bool
+pub fn lowering_is_right() -> bool
     ensures { IsTrue result }
 {
     true
