@@ -1,6 +1,6 @@
 -- Arguments, known functions and direct calls.
-use Rattle.std.proofs.Common.{◌≡◌, ℕ, zero, suc, ◌+◌, ◌*◌, ◌<◌, ◌≤◌, Bool, true, false, cond, eqb, ltb, List, [], ◌∷◌, ◌++◌, map, max, Option, Some, None, refl, sym, ◌∙◌, subst, ap, arith}
-use Rattle.std.specs.Prelude.{slice_index, slice_set, slice_index_or, length}
+use Rattle.std.proofs.Common.{◌≡◌, ℕ, suc, ◌+◌, ◌*◌, ◌<◌, ◌≤◌, Bool, true, false, cond, eqb, ltb, List, [], ◌∷◌, ◌++◌, map, Option, Some, None, refl, sym, ◌∙◌, subst, ap, arith}
+use Rattle.std.specs.Prelude.{slice_index_or, length}
 use Rattle.mv_ast.specs.Plans.{word_at}
 use Rattle.mv_ir.specs.Meaning.{code_meaning}
 use Rattle.std.proofs.lemmas.List.{get_or-set_same, length-map}
@@ -11,7 +11,7 @@ use Rattle.mv_ast.specs.declared.program.Program.{Program}
 use Rattle.mv_ast.specs.declared.program.Known.{Known}
 use Rattle.mv_ast.specs.declared.world.Stop.{Stop}
 use Rattle.mv_ast.specs.declared.world.Stop.TheVariants as stops
-use Rattle.mv_ast.specs.Worlds.{World, Outcome, Came, Stopped, after, and_then, bind, give, stop, counted}
+use Rattle.mv_ast.specs.Worlds.{World, Outcome, Came, Stopped, after, and_then, bind, give, stop}
 use Rattle.mv_meaning.specs.declared.state.Frame.{Frame}
 use Rattle.mv_ast.specs.declared.program.CType.{CType}
 use Rattle.mv_ast.specs.Numbering.{function_from, function_of_number}

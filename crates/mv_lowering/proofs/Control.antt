@@ -1,11 +1,10 @@
 -- `&&` and `||`: control inside an expression.
-use Rattle.std.proofs.Common.{◌≡◌, ℕ, zero, suc, ◌+◌, ◌*◌, ◌<◌, ◌≤◌, Bool, true, false, cond, eqb, List, [], ◌∷◌, ◌++◌, max, refl, sym, ◌∙◌, subst, ap, arith, Option}
-use Rattle.std.specs.Prelude.{slice_index}
+use Rattle.std.proofs.Common.{◌≡◌, ℕ, ◌+◌, ◌*◌, ◌<◌, ◌≤◌, Bool, true, false, cond, eqb, List, [], ◌∷◌, ◌++◌, refl, sym, ◌∙◌, subst, ap, arith, Option}
 use Rattle.std.proofs.lemmas.List.{get_or-set_same}
 use Rattle.mv_ir.specs.declared.tree.Tree.{Tree}
 use Rattle.mv_ir.specs.declared.stm.Stm.{Stm}
 use Rattle.mv_ast.specs.declared.program.Program.{Program}
-use Rattle.mv_ast.specs.Worlds.{World, Outcome, Came, Stopped, after, and_then, bind, give, counted}
+use Rattle.mv_ast.specs.Worlds.{World, Outcome, Came, Stopped, bind, give}
 use Rattle.mv_meaning.specs.declared.state.Frame.{Frame}
 use Rattle.mv_meaning.specs.Meaning.{Evaluation, unless_zero, truth_of}
 use Rattle.mv_ir.specs.World.{Setting}
@@ -15,7 +14,7 @@ use Rattle.mv_ir.specs.Outcome as ir
 use Rattle.mv_ir.specs.Trees.{nodes, flag}
 use Rattle.mv_ir.specs.Trees as ir_tree
 use Rattle.mv_ir.specs.Meaning.{with_temp}
-use Rattle.mv_lowering.specs.Lowered.{Lowered, Lowering, number, temp, set, choose, truth, truth_in, unary, is_low, kept_if, lower_both, lower_either, lower_choice}
+use Rattle.mv_lowering.specs.Lowered.{Lowering, number, temp, set, choose, truth, truth_in, unary, is_low, kept_if, lower_both, lower_either, lower_choice}
 use Rattle.mv_lowering.specs.Correct as c
 use Rattle.mv_lowering.proofs.Running as run
 use Rattle.mv_lowering.proofs.Running.{nodes_number, nodes_temp, nodes_unary}

@@ -1,5 +1,5 @@
 -- Elements of arrays: reads, stores and changes.
-use Rattle.std.proofs.Common.{◌≡◌, ℕ, zero, suc, ◌+◌, ◌*◌, ◌<◌, ◌≤◌, Bool, true, false, cond, eqb, ltb, List, [], ◌∷◌, ◌++◌, map, length, max, Option, Some, None, refl, sym, ◌∙◌, subst, ap, arith, ◌⊎◌, inl, inr}
+use Rattle.std.proofs.Common.{◌≡◌, ℕ, ◌+◌, ◌*◌, ◌<◌, ◌≤◌, Bool, true, false, cond, ltb, List, [], ◌∷◌, ◌++◌, length, Option, None, refl, sym, ◌∙◌, subst, ap, arith, ◌⊎◌, inl, inr}
 use Rattle.std.specs.Prelude.{slice_index, slice_set, slice_index_or, slice_get, unwrap_or}
 use Rattle.std.proofs.lemmas.List.{get_or-set_same, get_or-set_other, length-set}
 use Rattle.std.proofs.lemmas.Bool.{cases_eq, lt-ltb, ltb-true}
@@ -13,8 +13,8 @@ use Rattle.mv_ast.specs.declared.program.Program.{Program}
 use Rattle.mv_ast.specs.declared.world.Binding.{Binding}
 use Rattle.mv_ast.specs.declared.world.Stop.TheVariants.{Trapped}
 use Rattle.mv_ast.specs.Counts.{words_of_size}
-use Rattle.mv_ast.specs.Plans.{word_at, with_word, words_or_none, global_read, bound_value}
-use Rattle.mv_ast.specs.Worlds.{World, Outcome, Came, Stopped, after, and_then, bind, give, stop}
+use Rattle.mv_ast.specs.Plans.{word_at, with_word, bound_value}
+use Rattle.mv_ast.specs.Worlds.{World, Outcome, Came, Stopped, and_then, bind, give, stop}
 use Rattle.mv_meaning.specs.declared.state.Frame.{Frame}
 use Rattle.mv_meaning.specs.declared.state.Lvalue.{Lvalue}
 use Rattle.mv_meaning.specs.declared.state.Lvalue.TheVariants as lvalue
@@ -26,8 +26,8 @@ use Rattle.mv_ir.specs.Outcome.{State, Next, Ends, Bound}
 use Rattle.mv_ir.specs.Outcome as ir
 use Rattle.mv_ir.specs.Trees.{nodes}
 use Rattle.mv_ir.specs.Meaning.{elements, with_temp, with_world, with_global, with_elements, traps}
-use Rattle.mv_lowering.specs.Lowered.{Lowering, number, temp, binary, set, set_global, global, check, read, write, kept_if, index_in, lower_element, lower_read_element, lower_set_element}
-use Rattle.mv_lowering.specs.Lower.{Place, InLocal, InGlobal, Element, converted_tree, next_tree, lower_after, global_words}
+use Rattle.mv_lowering.specs.Lowered.{Lowering, number, temp, binary, set, set_global, global, check, read, write, lower_element, lower_read_element, lower_set_element}
+use Rattle.mv_lowering.specs.Lower.{InLocal, InGlobal, Element, next_tree, lower_after, global_words}
 use Rattle.mv_lowering.specs.Correct as c
 use Rattle.mv_lowering.proofs.Running as run
 use Rattle.mv_lowering.proofs.Running.{nodes_number, nodes_temp, nodes_global, nodes_binary}

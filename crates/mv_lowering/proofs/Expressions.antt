@@ -1,5 +1,5 @@
 -- Every expression is lowered correctly.
-use Rattle.std.proofs.Common.{◌≡◌, ℕ, zero, suc, ◌+◌, ◌*◌, ◌<◌, ◌≤◌, Bool, true, false, cond, eqb, ltb, List, [], ◌∷◌, ◌++◌, map, length, Option, Some, None, refl, sym, ◌∙◌, subst, ap, arith}
+use Rattle.std.proofs.Common.{◌≡◌, ℕ, ◌+◌, ◌<◌, ◌≤◌, Bool, true, false, cond, eqb, List, [], ◌∷◌, map, length, Option, Some, None, refl, sym, ◌∙◌, subst, ap, arith}
 use Rattle.std.specs.Prelude.{nat_eq, nat_lt, not, ◌&&◌, ◌||◌, slice_get, slice_index}
 use Rattle.std.proofs.lemmas.Bool.{ltb-true}
 use Rattle.std.proofs.lemmas.List.{length-map}
@@ -19,11 +19,11 @@ use Rattle.mv_ir.specs.declared.stm.Array.{Array}
 use Rattle.mv_ir.specs.declared.stm.Array.TheVariants as array
 use Rattle.mv_ast.specs.declared.program.CType.{CType}
 use Rattle.mv_ast.specs.declared.program.Known.{Known}
-use Rattle.mv_ast.specs.declared.program.Expr.{Expr, Expr-F, roll-Expr, fold-roll-Expr, map-Expr}
+use Rattle.mv_ast.specs.declared.program.Expr.{Expr, Expr-F, roll-Expr, fold-roll-Expr}
 use Rattle.mv_ast.specs.declared.program.Form.{Form, Form-F, roll-Form, fold-roll-Form, map-Form}
 use Rattle.mv_ast.specs.declared.program.Form.TheOpen as form
 use Rattle.mv_ast.specs.declared.program.Target.{Target, Target-F, roll-Target, fold-roll-Target, map-Target}
-use Rattle.mv_ast.specs.Worlds.{World, Outcome, bind, give, counted}
+use Rattle.mv_ast.specs.Worlds.{World, bind, give, counted}
 use Rattle.mv_meaning.specs.declared.state.Frame.{Frame}
 use Rattle.mv_meaning.specs.declared.state.Lvalue.{Lvalue}
 use Rattle.mv_meaning.specs.declared.state.Lvalue.TheVariants as lvalue
@@ -163,7 +163,6 @@ module _ (p : Program) (setting : Setting) (frame : code_world.Frame) (function 
     (context : Context) (room : locals ≤ temps) (strict : c.IsStrict p setting.numbers context)
     (calls : (floor : ℕ) (scratch : ℕ → ℕ) → c.CallsAgree p setting frame function locals sizes floor scratch temps bound context)
     (knows : (floor : ℕ) (scratch : ℕ → ℕ) (k : Known) → c.KnownAgrees p setting frame function locals sizes floor scratch temps bound k) where
-
   -- correct whatever temporaries are in use
   abbrev pub Everywhere : ℕ → Evaluation ℕ → Lowering → Type 0
   Everywhere k m l = (floor : ℕ) (scratch : ℕ → ℕ) → c.CorrectFor p setting frame function locals sizes floor scratch temps bound k m l
@@ -402,9 +401,9 @@ module _ (p : Program) (setting : Setting) (frame : code_world.Frame) (function 
       let part = fold-roll-Expr (CType → Lowering) Place Part lower_form place_of_layer lower_layer x in
       let named = fold-roll-Expr (CType → Bool) Bool Bool (names_form p function locals sizes) (names_target p function locals sizes) (names_layer p function locals sizes) x in (
         (λ floor scratch.
-        subst (λ (k : Denotation). c.Correct p setting frame function locals sizes floor scratch temps bound k.value (lower_expr (roll-Expr x))) (sym meant)
-        (subst (λ (l : Part). c.Correct p setting frame function locals sizes floor scratch temps bound (counted 1 (form_of p context x.what x.ctype)) l.lower) (sym part)
-        (show.counted_once p setting frame function locals sizes floor scratch temps bound (form_of p context x.what x.ctype) (form_lowering x.what x.ctype) (h x.ctype (sym named ∙ b) floor scratch)))),
+            subst (λ (k : Denotation). c.Correct p setting frame function locals sizes floor scratch temps bound k.value (lower_expr (roll-Expr x))) (sym meant)
+            (subst (λ (l : Part). c.Correct p setting frame function locals sizes floor scratch temps bound (counted 1 (form_of p context x.what x.ctype)) l.lower) (sym part)
+            (show.counted_once p setting frame function locals sizes floor scratch temps bound (form_of p context x.what x.ctype) (form_lowering x.what x.ctype) (h x.ctype (sym named ∙ b) floor scratch)))),
         ap (λ (l : Part). l.ctype) part ∙ sym (ap (λ (k : Denotation). k.ctype) meant),
       )
 

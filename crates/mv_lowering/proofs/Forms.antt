@@ -1,6 +1,6 @@
 -- Each form of expression: if its parts are lowered correctly, so is the whole.
-use Rattle.std.proofs.Common.{◌≡◌, ℕ, zero, suc, ◌+◌, ◌*◌, ◌<◌, ◌≤◌, Bool, true, false, cond, eqb, List, [], ◌∷◌, ◌++◌, map, length, max, Option, Some, None, refl, sym, ◌∙◌, subst, ap, arith, append-nil, ◌⊎◌, inl, inr}
-use Rattle.std.specs.Prelude.{slice_index, slice_set, slice_index_or, slice_get, unwrap_or, nat_eq}
+use Rattle.std.proofs.Common.{◌≡◌, ℕ, ◌+◌, ◌*◌, ◌<◌, ◌≤◌, Bool, true, false, cond, eqb, List, [], ◌∷◌, ◌++◌, length, Option, Some, None, refl, sym, ◌∙◌, subst, ap, arith, append-nil, ◌⊎◌, inl, inr}
+use Rattle.std.specs.Prelude.{slice_index, slice_set, slice_index_or, slice_get, unwrap_or}
 use Rattle.std.proofs.lemmas.List.{get_or-set_same, get_or-set_other, length-set, set_past}
 use Rattle.std.proofs.lemmas.Option.{unwrap_or-slice_get}
 use Rattle.std.proofs.lemmas.Bool.{cases_eq, cases_lt}
@@ -10,14 +10,13 @@ use Rattle.mv_ast.specs.declared.program.Program.{Program}
 use Rattle.mv_ast.specs.Counts.{words_of_size}
 use Rattle.mv_ast.specs.Plans.{word_at, with_word, words_or_none, global_read, bound_value}
 use Rattle.mv_ast.specs.declared.world.Stop.TheVariants.{Trapped}
-use Rattle.mv_ast.specs.Worlds.{World, Outcome, Came, Stopped, after, and_then, bind, give, stop, counted}
+use Rattle.mv_ast.specs.Worlds.{World, Outcome, bind, give}
 use Rattle.mv_meaning.specs.declared.state.Frame.{Frame}
 use Rattle.mv_meaning.specs.declared.state.Lvalue.TheVariants as lvalue
-use Rattle.mv_meaning.specs.Meaning.{Evaluation, read_lvalue, store_lvalue, value_or_trap, unless_zero, truth_of}
+use Rattle.mv_meaning.specs.Meaning.{Evaluation, read_lvalue, store_lvalue, value_or_trap}
 use Rattle.mv_ir.specs.World.{Setting}
 use Rattle.mv_ir.specs.World as code_world
 use Rattle.mv_ir.specs.Outcome.{State, Next, Ends, Bound}
-use Rattle.mv_ir.specs.Outcome as ir
 use Rattle.mv_ir.specs.Trees.{nodes, read_as, found}
 use Rattle.mv_ir.specs.Trees as ir_tree
 use Rattle.mv_ir.specs.Meaning.{with_temp, with_world, with_global, traps}

@@ -8,3 +8,5 @@ pub mod Sequences
 pub mod Elements
 pub mod Arguments
 pub mod Expressions
+pub mod Depths
+pub mod ExpressionDepths

@@ -1,14 +1,13 @@
 -- The operators as trees have the source's values.
-use Rattle.std.proofs.Common.{◌≡◌, ℕ, zero, suc, ◌+◌, ◌*◌, ◌≤◌, Bool, true, false, cond, eqb, ltb, List, Option, Some, None, refl, sym, ◌∙◌, subst, ap, arith}
-use Rattle.std.specs.Prelude.{not, nat_eq, nat_lt}
-use Rattle.mv_num.specs.declared.kind.Kind.{Kind}
+use Rattle.std.proofs.Common.{◌≡◌, ℕ, suc, ◌+◌, ◌≤◌, Bool, true, false, cond, Option, refl, ◌∙◌, ap, arith}
+use Rattle.std.specs.Prelude.{not, nat_eq}
 use Rattle.mv_num.specs.Words as word
 use Rattle.mv_ir.specs.declared.tree.Tree.{Tree}
 use Rattle.mv_ir.specs.declared.tree.Tree.TheOpen as tree
 use Rattle.mv_ast.specs.declared.program.Program.{Program}
 use Rattle.mv_ast.specs.declared.program.CType.{CType}
 use Rattle.mv_ast.specs.declared.program.CType.TheVariants.{Void, Scalar, Pointer}
-use Rattle.mv_meaning.specs.Operators.{is_unsigned, is_less, as_word, converted, unary_value, product_value, bit_value, binary_value}
+use Rattle.mv_meaning.specs.Operators.{is_unsigned, is_less, as_word, converted, unary_value, bit_value}
 use Rattle.mv_ir.specs.World.{Setting}
 use Rattle.mv_ir.specs.World as code_world
 use Rattle.mv_ir.specs.Outcome.{State, Bound}

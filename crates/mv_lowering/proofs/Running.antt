@@ -1,5 +1,5 @@
 -- How code runs, by its statements.
-use Rattle.std.proofs.Common.{◌≡◌, ℕ, zero, suc, ◌+◌, ◌*◌, ◌≤◌, Bool, true, false, cond, eqb, ltb, List, [], ◌∷◌, ◌++◌, map, Option, Some, None, refl, sym, ◌∙◌, subst, ap, arith}
+use Rattle.std.proofs.Common.{◌≡◌, ℕ, suc, ◌+◌, ◌*◌, true, false, cond, eqb, ltb, List, [], ◌∷◌, ◌++◌, map, Option, Some, refl, ◌∙◌, subst, ap, arith}
 use Rattle.std.specs.Prelude.{length, slice_index, slice_set, slice_index_or}
 use Rattle.mv_ir.specs.declared.tree.Tree.{Tree}
 use Rattle.mv_ir.specs.declared.tree.Tree.TheOpen as tree
@@ -16,7 +16,7 @@ use Rattle.mv_ir.specs.Outcome as ir
 use Rattle.mv_ir.specs.Trees as ir_tree
 use Rattle.mv_ir.specs.Trees.{nodes, nodes_of_all}
 use Rattle.mv_ir.specs.Meaning.{code_meaning, meaning, with_temp, with_world, with_global, with_elements, elements, traps, goal, callee_nodes, call_to, known_end}
-use Rattle.mv_ir.proofs.Keeping.{run_same, map_append, in_order_append, one_meaning}
+use Rattle.mv_ir.proofs.Keeping.{map_append, in_order_append, one_meaning}
 use Rattle.mv_ir.proofs.Rolls.{value_roll, nodes_roll}
 use Rattle.mv_lowering.specs.Lowered as lowered
 use Rattle.mv_lowering.specs.Lowered.{number, temp, global, unary, binary, set, set_global, divide, choose, check, read, write, call, known}

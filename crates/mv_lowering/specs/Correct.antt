@@ -18,7 +18,7 @@ use Rattle.mv_ast.specs.Plans.{word_at, bound_value}
 use Rattle.mv_meaning.specs.declared.state.Frame.{Frame}
 use Rattle.mv_meaning.specs.Meaning.{Evaluation, Context, Denotation, known_value}
 use Rattle.mv_ast.specs.declared.program.Known.{Known}
-use Rattle.mv_lowering.specs.Lowered.{Lowered, Lowering}
+use Rattle.mv_lowering.specs.Lowered.{Lowering}
 use Rattle.mv_lowering.specs.Lower.{is_callable, is_void, global_words}
 
 -- the source's world as the code sees it: the numbers of frames stand in the code's frame

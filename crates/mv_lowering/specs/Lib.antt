@@ -1,3 +1,4 @@
 pub mod Lowered
 pub mod Lower
 pub mod Correct
+pub mod Law

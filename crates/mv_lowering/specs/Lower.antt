@@ -1,5 +1,5 @@
 -- The lowering of expressions: a fold that gives, for each, its code and its tree from the first free temporary on.
-use Rattle.std.specs.Prelude.{ℕ, ◌+◌, Bool, true, false, ◌&&◌, cond, List, [], ◌∷◌, ◌++◌, map, max, length, Option, Some, None, if◌then◌else◌, nat_eq, nat_lt, not, slice_get}
+use Rattle.std.specs.Prelude.{ℕ, ◌+◌, Bool, true, false, ◌&&◌, cond, List, [], ◌∷◌, ◌++◌, map, length, Option, Some, None, if◌then◌else◌, nat_eq, nat_lt, not, slice_get}
 use Rattle.mv_ir.specs.declared.tree.Tree.{Tree}
 use Rattle.mv_ir.specs.declared.tree.Tree.TheOpen as tree
 use Rattle.mv_ir.specs.declared.tree.Tree.TheViews.{roll-Tree}
@@ -18,7 +18,7 @@ use Rattle.mv_ast.specs.declared.program.Target.{Target, Target-F, fold-Target}
 use Rattle.mv_ast.specs.Counts.{words_of_size}
 use Rattle.mv_ast.specs.Plans.{same_truth, is_among, switch_global}
 use Rattle.mv_meaning.specs.Operators.{is_unsigned}
-use Rattle.mv_lowering.specs.Lowered.{Lowered, Lowering, number, unary, binary, temp, global, set, set_global, read, write, lower_number, lower_local, lower_global, lower_function, lower_one, lower_two, lower_division, lower_both, lower_either, lower_choice, lower_set_local, lower_set_global, lower_call, lower_through, lower_known, index_in, lower_element, lower_read_element, lower_set_element}
+use Rattle.mv_lowering.specs.Lowered.{Lowering, number, unary, binary, temp, global, set, set_global, read, write, lower_number, lower_local, lower_global, lower_function, lower_one, lower_two, lower_division, lower_both, lower_either, lower_choice, lower_set_local, lower_set_global, lower_call, lower_through, lower_known, index_in, lower_element, lower_read_element, lower_set_element}
 
 -- ---- operators, by the numbers of their marks
 

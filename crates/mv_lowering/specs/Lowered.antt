@@ -1,5 +1,5 @@
 -- What an expression is lowered to: statements, and a tree for its value at their end.
-use Rattle.std.specs.Prelude.{ℕ, ◌+◌, cond, Bool, true, false, ◌&&◌, List, [], ◌∷◌, ◌++◌, max, if◌then◌else◌, nat_eq, nat_lt, nat_le, Option, Some, None}
+use Rattle.std.specs.Prelude.{ℕ, ◌+◌, cond, Bool, true, false, ◌&&◌, List, [], ◌∷◌, ◌++◌, max, nat_le, Option, Some, None}
 use Rattle.mv_ir.specs.declared.tree.Tree.{Tree}
 use Rattle.mv_ir.specs.declared.tree.Tree.TheOpen as tree
 use Rattle.mv_ir.specs.declared.tree.Tree.TheViews.{roll-Tree}
@@ -11,8 +11,6 @@ use Rattle.mv_ir.specs.declared.stm.Callee.{Callee}
 use Rattle.mv_ir.specs.declared.stm.Callee.TheVariants as callee
 use Rattle.mv_ir.specs.Trees.{depth}
 use Rattle.mv_ast.specs.declared.program.Known.{Known}
-use Rattle.mv_ast.specs.declared.program.CType.{CType}
-use Rattle.mv_meaning.specs.Operators.{is_unsigned}
 
 pub record Lowered : Type 0 where
   pub code : List Stm

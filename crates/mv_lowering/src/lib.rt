@@ -1,11 +1,14 @@
-//! What the trees of the source language are lowered to, and that it does what they mean.
+//! The lowering of the source's expressions to intermediate code, as a definition, and that it is right.
+//!
+//! An expression is lowered, from the first free temporary on, to statements and a tree for its value at their end; `specs/Lowered.antt` and
+//! `specs/Lower.antt` say to which. Evaluation is left to right, traps come before stores, and a place is evaluated once.
 #![tactic(auto)]
 
-ghost use Rattle.std.specs.Prelude.{IsTrue};
+ghost use Rattle.mv_lowering.specs.Law.{ExpressionsAreRight, ExpressionsAreShallow};
 
-/// The lowering of expressions is correct.
-pub fn lowering_is_right() -> bool
-    ensures { IsTrue result }
-{
-    true
-}
+/// Lowered expressions do what they mean: with the same value, effects and traps, at a cost, together with that of
+/// keeping the value, of at most 100 for one of work (C11 6.5). And no tree of theirs is deeper than 4.
+pub fn expressions_are_right()
+    ensures right { ExpressionsAreRight }
+    ensures shallow { ExpressionsAreShallow }
+{}
