@@ -1,0 +1,4 @@
+// What the numbers of functions don't matter to.
+
+/// The law.
+pub fn numbering_law() {}
