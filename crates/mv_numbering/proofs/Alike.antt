@@ -1,4 +1,4 @@
--- Values, objects, frames, worlds and outcomes that differ in the numbers of functions alone.
+-- Values and objects that differ in the numbers of functions alone.
 use Rattle.std.proofs.Common.{◌≡◌, ℕ, zero, suc, ◌<◌, ◌⊎◌, inl, inr, Bool, true, false, List, [], ◌∷◌, ◌++◌, map, length, replicate, get_or, refl, sym, ◌∙◌, ap, subst, arith, Option, Some, None, nat_eq, slice_get}
 use Rattle.std.specs.Prelude.{All, slice_index, slice_set, unwrap_or}
 use Rattle.std.proofs.lemmas.Option.{slice_get_within}
@@ -7,16 +7,17 @@ use Rattle.mv_ast.specs.declared.program.CType.TheVariants.{Void, Scalar, Pointe
 use Rattle.mv_ast.specs.declared.program.Program.{Program}
 use Rattle.mv_ast.specs.Plans.{words_or_none, word_at, with_word}
 use Rattle.mv_numbering.specs.Numberings.{IsNumbering}
-use Rattle.mv_numbering.specs.Typing.{IsInteger, IsFunctionOf}
+use Rattle.mv_numbering.specs.Typing.{IsInteger, IsFunctionOf, IsTyped}
 use Rattle.mv_numbering.proofs.Numbers.{number_above, number_once}
 
--- the program, and its two numberings
+-- a well-typed program, and its two numberings
 pub record Setting : Type 0 where
   pub program : Program
   pub ns : List ℕ
   pub ms : List ℕ
   pub left : IsNumbering program ns
   pub right : IsNumbering program ms
+  pub typed : IsTyped program
 
 module _ (x : Setting) where
   -- two nulls, or the numbers of one function
