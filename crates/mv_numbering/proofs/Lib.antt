@@ -1,3 +1,4 @@
 mod Alike
 mod Numbers
 mod Outcomes
+mod Switches
