@@ -1,4 +1,5 @@
 mod Alike
+mod Leaves
 mod Numbers
 mod Outcomes
 mod Switches
