@@ -3,3 +3,4 @@ mod Leaves
 mod Numbers
 mod Outcomes
 mod Switches
+mod Typed
