@@ -1,4 +1,6 @@
 mod Alike
+mod Calls
+mod Expressions
 mod Leaves
 mod Numbers
 mod Outcomes
