@@ -4,5 +4,6 @@ mod Expressions
 mod Leaves
 mod Numbers
 mod Outcomes
+mod Statements
 mod Switches
 mod Typed
