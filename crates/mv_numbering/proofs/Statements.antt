@@ -190,3 +190,129 @@ module _ (x : Setting) (c d : Context) (same : SameContext x c d) (fn : Function
   switch_alike v arms h =
       flows_pointwise x ts fn.result _ _ _ _ (leads_to x.program c v (arms_of arms)) (leads_to x.program d v (arms_of arms))
       (alike_counted x ts R _ _ _ (arms_alike (first_arm v (arms_of arms)) arms h))
+
+  -- by the equations of the two contexts
+  by_equations : (s : Stmt) (e e' : Evaluation Flow) → flow_of x.program c s ≡ counted 1 e → flow_of x.program d s ≡ counted 1 e' → Alike x ts R e e' →
+      Alike x ts R (flow_of x.program c s) (flow_of x.program d s)
+  by_equations s e e' q r h =
+      subst (λ z. Alike x ts R z (flow_of x.program d s)) (sym q) (subst (λ z. Alike x ts R (counted 1 e) z) (sym r) (alike_counted x ts R 1 e e' h))
+
+  -- a test, and then one way or the other
+  tested : (e : Expr) (n n' y y' : Evaluation Flow) → IsTypedExpr x.program fn e → Alike x ts R n n' → Alike x ts R y y' →
+      Alike x ts R (bind (value_of x.program c e) (λ v. unless_zero v n y)) (bind (value_of x.program d e) (λ v. unless_zero v n' y'))
+  tested e n n' y y' h k q =
+      alike_bind x ts (Same x e.ctype) R (value_of x.program c e) (value_of x.program d e) (λ v. unless_zero v n y) (λ v. unless_zero v n' y') (value_alike e h)
+      (λ v u r. alike_unless x ts R v u n n' y y' (same_test x e.ctype v u r) k q)
+
+  -- the body of a loop, and then what follows it
+  around : (body : List S) (e e' : Evaluation Flow) → AllStmts x.program fn (stmts_of body) → Alike x ts R e e' →
+      Alike x ts R (bind (flow_of_all x.program c (stmts_of body)) (λ flow. after_body flow e)) (bind (flow_of_all x.program d (stmts_of body)) (λ flow. after_body flow e'))
+  around body e e' h k =
+      alike_bind x ts R R (flow_of_all x.program c (stmts_of body)) (flow_of_all x.program d (stmts_of body)) (λ flow. after_body flow e) (λ flow. after_body flow e')
+      (body_alike body h) (λ a b q. flows_after x ts fn.result a b e e' q k)
+
+  abbrev paired : (ss : List Stmt) → AllStmts x.program fn ss → List ((s : Stmt) × TypedStmt x.program fn s)
+  paired [] h = []
+  paired (s ∷ ss) h = (s, h.0) ∷ paired ss h.1
+
+  paired_plain : (ss : List Stmt) (h : AllStmts x.program fn ss) → map (λ (s : (s : Stmt) × TypedStmt x.program fn s). s.0) (paired ss h) ≡ ss
+  paired_plain [] h = refl
+  paired_plain (s ∷ ss) h = ap (λ l. s ∷ l) (paired_plain ss h.1)
+
+  -- a `for` behind its first part
+  for_again : (test step : Option Expr) (ss : List Stmt) → IsTypedOption x.program fn test → IsTypedOption x.program fn step → AllStmts x.program fn ss →
+      TypedStmt x.program fn (roll-Stmt (stmt.For [] test step ss))
+  for_again test step ss h k q =
+      every_made-Stmt (HasTypedParts x.program fn) (λ a. Unit {0}) (stmt.For [] test step ss) (stmt.For [] test step (paired ss q))
+      (ap (λ l. stmt.For [] test step l) (paired_plain ss q)) (h, k)
+
+  for_alike : (test step : Option Expr) (body : List S) → IsTypedOption x.program fn test → IsTypedOption x.program fn step → AllStmts x.program fn (stmts_of body) →
+      Alike x ts R
+      (bind (optional_value x.program c 1 test) (λ v. unless_zero v (give Goes)
+      (bind (flow_of_all x.program c (stmts_of body)) (λ flow. after_body flow
+      (bind (optional_value x.program c 0 step) (λ u. c.loop (roll-Stmt (stmt.For [] test step (stmts_of body)))))))))
+      (bind (optional_value x.program d 1 test) (λ v. unless_zero v (give Goes)
+      (bind (flow_of_all x.program d (stmts_of body)) (λ flow. after_body flow
+      (bind (optional_value x.program d 0 step) (λ u. d.loop (roll-Stmt (stmt.For [] test step (stmts_of body)))))))))
+  for_alike test step body h k q =
+      let again : Stmt = roll-Stmt (stmt.For [] test step (stmts_of body)) in
+      let next : Alike x ts R (bind (optional_value x.program c 0 step) (λ u. c.loop again)) (bind (optional_value x.program d 0 step) (λ u. d.loop again)) =
+      alike_bind x ts SameTest R (optional_value x.program c 0 step) (optional_value x.program d 0 step) (λ u. c.loop again) (λ u. d.loop again)
+      (optional_alike 0 step k) (λ a b r. same.loops fn again (for_again test step (stmts_of body) h k q)) in
+      alike_bind x ts SameTest R (optional_value x.program c 1 test) (optional_value x.program d 1 test) _ _ (optional_alike 1 test h)
+      (λ v u r. alike_unless x ts R v u (give Goes) (give Goes) _ _ r (alike_give x ts R Goes Goes tt) (around body _ _ q next))
+
+  abbrev stmt_plain : Stmt-F S A → Stmt-F Stmt Arm
+  stmt_plain y = map-Stmt S A Stmt Arm (λ a. a.0) (λ a. a.0) y
+
+  stmt_alike : (y : Stmt-F S A) (s : Stmt) → out-Stmt s ≡ stmt_plain y → TypedStmt x.program fn (roll-Stmt (stmt_plain y)) →
+      HasTypedParts x.program fn (stmt_plain y) → StmtParts x.program fn (stmt_plain y) →
+      Alike x ts R (flow_of x.program c s) (flow_of x.program d s)
+  stmt_alike (stmt.Block body) s o t h k =
+      by_equations s _ _ (flow_of-Block x.program c s _ o) (flow_of-Block x.program d s _ o) (body_alike body k)
+  stmt_alike (stmt.Clear l values) s o t h k =
+      by_equations s _ _ (flow_of-Clear x.program c s _ _ o) (flow_of-Clear x.program d s _ _ o)
+      (clear_alike h.0 l (any_of (map (names_local l) values)) values h.1 h.2)
+  stmt_alike (stmt.Express a) s o t h k =
+      by_equations s _ _ (flow_of-Express x.program c s _ o) (flow_of-Express x.program d s _ o)
+      (alike_bind x ts (Same x a.ctype) R _ _ (λ v. give Goes) (λ v. give Goes) (value_alike a h) (λ v u q. alike_give x ts R Goes Goes tt))
+  stmt_alike (stmt.If a yes_part no_part) s o t h k =
+      by_equations s _ _ (flow_of-If x.program c s _ _ _ o) (flow_of-If x.program d s _ _ _ o)
+      (tested a _ _ _ _ h (body_alike no_part k.1) (body_alike yes_part k.0))
+  stmt_alike (stmt.While a body) s o t h k =
+      by_equations s _ _ (flow_of-While x.program c s _ _ o) (flow_of-While x.program d s _ _ o)
+      (tested a (give Goes) (give Goes) _ _ h (alike_give x ts R Goes Goes tt)
+      (around body _ _ k (same.loops fn (roll-Stmt (stmt.While a (stmts_of body))) t)))
+  stmt_alike (stmt.Do body a) s o t h k =
+      by_equations s _ _ (flow_of-Do x.program c s _ _ o) (flow_of-Do x.program d s _ _ o)
+      (around body _ _ k
+      (tested a (give Goes) (give Goes) _ _ h (alike_give x ts R Goes Goes tt)
+      (same.loops fn (roll-Stmt (stmt.Do (stmts_of body) a)) t)))
+  stmt_alike (stmt.For first test step body) s o t h k =
+      by_equations s _ _ (flow_of-For x.program c s _ _ _ _ o) (flow_of-For x.program d s _ _ _ _ o)
+      (alike_bind x ts R R _ _ _ _ (body_alike first k.0) (λ a b q. flows_then x ts fn.result a b _ _ q (for_alike test step body h.0 h.1 k.1)))
+  stmt_alike (stmt.Switch a arms) s o t h k =
+      by_equations s _ _ (flow_of-Switch x.program c s _ _ o) (flow_of-Switch x.program d s _ _ o)
+      (alike_bind x ts (Same x a.ctype) R _ _ _ _ (value_alike a h.0) (λ v u q.
+      subst (λ n. Alike x ts R (switch_flow v (map (arm_of x.program c) (arms_of arms))) (switch_flow n (map (arm_of x.program d) (arms_of arms))))
+      (same_integer x a.ctype v u h.1 q) (switch_alike v arms k)))
+  stmt_alike stmt.Break s o t h k =
+      by_equations s (give Breaks) (give Breaks) (flow_of-Break x.program c s o) (flow_of-Break x.program d s o) (alike_give x ts R Breaks Breaks tt)
+  stmt_alike stmt.Continue s o t h k =
+      by_equations s (give Continues) (give Continues) (flow_of-Continue x.program c s o) (flow_of-Continue x.program d s o) (alike_give x ts R Continues Continues tt)
+  stmt_alike (stmt.Return a) s o t h k =
+      by_equations s _ _ (flow_of-Return x.program c s _ o) (flow_of-Return x.program d s _ o)
+      (alike_bind x ts (Same x fn.result) R _ _ (λ v. give (Returns v)) (λ v. give (Returns v)) (returned_alike a h)
+      (λ v u q. alike_give x ts R (Returns v) (Returns u) q))
+
+  stmt_case : (z : Stmt-F Stmt Arm) (y : Stmt-F S A) → stmt_plain y ≡ z → StmtAlike (roll-Stmt z)
+  stmt_case z y q =
+      subst (λ z. StmtAlike (roll-Stmt z)) q
+      (λ t.
+      let z = stmt_plain y in
+      let back = out-roll-Stmt z in
+      stmt_alike y (roll-Stmt z) back t
+      (subst (HasTypedParts x.program fn) back (stmt_node x.program fn (roll-Stmt z) t))
+      (subst (StmtParts x.program fn) back (stmt_parts x.program fn (roll-Stmt z) t)))
+
+  arm_case : (z : Arm-F Stmt Arm) (y : Arm-F S A) → map-Arm S A Stmt Arm (λ a. a.0) (λ a. a.0) y ≡ z → ArmAlike (roll-Arm z)
+  arm_case z y q =
+      subst (λ z. ArmAlike (roll-Arm z)) q
+      (λ t.
+      let a : Arm = roll-Arm (map-Arm S A Stmt Arm (λ a. a.0) (λ a. a.0) y) in
+      let parts : AllStmts x.program fn (stmts_of y.body) =
+      subst (λ (b : Arm-F Stmt Arm). AllStmts x.program fn b.body) (out-roll-Arm (map-Arm S A Stmt Arm (λ a. a.0) (λ a. a.0) y)) (arm_parts x.program fn a t) in
+      let bodies : Context → List (Evaluation Flow) = λ e. map (flow_of x.program e) (stmts_of y.body) in
+      subst (λ l. AllFlows x ts fn.result l (arm_of x.program d a).body) (sym (ap (λ e. e.body) (arm_of_lem x.program c a)))
+      (subst (λ l. AllFlows x ts fn.result (bodies c) l) (sym (ap (λ e. e.body) (arm_of_lem x.program d a))) (all_alike y.body parts)))
+
+  pub alike_stmt : (s : Stmt) → TypedStmt x.program fn s → Alike x ts R (flow_of x.program c s) (flow_of x.program d s)
+  alike_stmt s = ind-Stmt StmtAlike ArmAlike stmt_case arm_case s
+
+  pub alike_stmts : (body : List Stmt) → All (TypedStmt x.program fn) body → AllFlows x ts fn.result (map (flow_of x.program c) body) (map (flow_of x.program d) body)
+  alike_stmts [] h = tt
+  alike_stmts (s ∷ body) h =
+      (alike_stmt s (all_head (TypedStmt x.program fn) s body h), alike_stmts body (all_tail (TypedStmt x.program fn) s body h))
+
+  pub alike_body : (body : List Stmt) → All (TypedStmt x.program fn) body → Alike x ts R (flow_of_all x.program c body) (flow_of_all x.program d body)
+  alike_body body h = flows_in_order x ts fn.result _ _ (alike_stmts body h)
