@@ -6,17 +6,16 @@ use Rattle.mv_ast.specs.declared.program.CType.{CType}
 use Rattle.mv_ast.specs.declared.program.CType.TheVariants.{Void, Scalar, Pointer}
 use Rattle.mv_ast.specs.declared.program.Program.{Program}
 use Rattle.mv_ast.specs.Plans.{words_or_none, word_at, with_word}
-use Rattle.mv_numbering.specs.Numberings.{IsNumbering}
 use Rattle.mv_numbering.specs.Typing.{IsInteger, IsFunctionOf, IsTyped}
-use Rattle.mv_numbering.proofs.Numbers.{number_above, number_once}
+use Rattle.mv_numbering.proofs.Numbers.{Distinguishes, number_above, number_once}
 
 -- a well-typed program, and its two numberings
 pub record Setting : Type 0 where
   pub program : Program
   pub ns : List ℕ
   pub ms : List ℕ
-  pub left : IsNumbering program ns
-  pub right : IsNumbering program ms
+  pub left : Distinguishes program ns
+  pub right : Distinguishes program ms
   pub typed : IsTyped program
 
 module _ (x : Setting) where

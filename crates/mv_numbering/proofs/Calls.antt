@@ -13,9 +13,8 @@ use Rattle.mv_ast.specs.Numbering.{function_of_number}
 use Rattle.mv_meaning.specs.declared.state.Flow.{Flow}
 use Rattle.mv_meaning.specs.declared.state.Flow.TheVariants.{Goes, Breaks, Continues, Returns}
 use Rattle.mv_meaning.specs.Meaning.{Evaluation, Context, call_at, call_numbered, call_through}
-use Rattle.mv_numbering.specs.Numberings.{IsNumbering}
 use Rattle.mv_numbering.specs.Typing.{IsFunctionOf, IsTypedStmt, local_types, parameter_types}
-use Rattle.mv_numbering.proofs.Numbers.{number_above, number_found}
+use Rattle.mv_numbering.proofs.Numbers.{Distinguishes, number_above, number_found}
 use Rattle.mv_numbering.proofs.Alike.{Setting, Same, SamePointer, SameValues}
 use Rattle.mv_numbering.proofs.Outcomes.{Alike, alike_stop, alike_either}
 
@@ -54,7 +53,7 @@ module _ (x : Setting) (c d : Context) (same : SameContext x c d) (ts : List CTy
       alike_either x ts (Same x g.result) (nat_lt w.depth 512) (nat_lt v.depth 512) (c.call n vs) (d.call n us) (stop (Trapped 4)) (stop (Trapped 4))
       (sym (ap (λ (z : World). nat_lt z.depth 512) hw.others)) (same.calls ts n g vs us h k) (alike_stop x ts (Same x g.result) (Trapped 4)) f f' w v hf hw
 
-  to_function : (a : Context) (ns : List ℕ) (numbering : IsNumbering x.program ns) (v n : ℕ) (g : Function) (vs : List ℕ) → a.numbers ≡ ns →
+  to_function : (a : Context) (ns : List ℕ) (numbering : Distinguishes x.program ns) (v n : ℕ) (g : Function) (vs : List ℕ) → a.numbers ≡ ns →
       slice_get x.program.functions n ≡ Some g → v ≡ slice_index ns n → call_through a v vs ≡ call_at a n vs
   to_function a ns numbering v n g vs e h k =
       let within = slice_get_within x.program.functions n g h in

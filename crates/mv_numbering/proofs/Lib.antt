@@ -4,6 +4,7 @@ mod Expressions
 mod Leaves
 mod Numbers
 mod Outcomes
+mod Programs
 mod Statements
 mod Switches
 mod Typed
