@@ -1,6 +1,7 @@
 mod Alike
 mod Calls
 mod Expressions
+mod Lawful
 mod Leaves
 mod Numbers
 mod Outcomes
