@@ -1,5 +1,6 @@
 mod Alike
 mod Calls
+mod Differences
 mod Expressions
 mod Lawful
 mod Leaves

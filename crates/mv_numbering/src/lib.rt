@@ -2,5 +2,7 @@
 #![tactic(auto)]
 
 mod law;
+mod numbering;
 
 pub use law::numbering_law;
+pub use numbering::is_numbering;
