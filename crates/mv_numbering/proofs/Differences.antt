@@ -1,9 +1,12 @@
 -- Whether no number of a list stands twice, by a set of those that were seen.
 use Rattle.std.proofs.Common.{◌≡◌, ℕ, ◌+◌, ◌<◌, ◌≤◌, ◌⊎◌, inl, inr, Bool, true, false, not, cond, List, length, get_or, refl, sym, ◌∙◌, ap, subst, arith, nat_lt, ◌==◌}
-use Rattle.std.specs.Prelude.{◌≢◌, AllPairs}
+use Rattle.std.specs.Prelude.{◌≢◌, ◌^◌, All, AllPairs}
+use Rattle.std.specs.Bool.{Decides}
 use Rattle.std.specs.Ordering.{nat_cmp}
 use Rattle.std.specs.BTreeMap.{is_at}
 use Rattle.std.proofs.lemmas.List.{get_or_default}
+use Rattle.mv_ast.specs.declared.program.Program.{Program}
+use Rattle.mv_numbering.specs.Numberings.{IsNumbering}
 
 -- whether a number was seen among the first so many, which all differ
 pub record IsSeen (xs : List ℕ) (n : ℕ) (has : ℕ → Bool) : Type 0 where
@@ -83,3 +86,18 @@ was_absent added false e h = refl
 pub was_present : (added old : Bool) → added ≡ not old → added ≡ false → old ≡ true
 was_present added true e h = refl
 was_present added false e h = cc
+
+-- as many words above 0 as there are functions are a numbering where they differ
+module _ (p : Program) (xs : List ℕ) (count : length xs ≡ length p.functions) (above : All (λ n. (n == 0) ≡ false) xs) (words : (i : ℕ) → get_or xs i 0 < 2 ^ 32) where
+  words_above : All (λ n. (0 < n) × (n < 2 ^ 32)) xs
+  words_above k d lt =
+      let some = above k d lt in
+      let word = words k in
+      let same = get_or_default xs k d 0 lt in
+      (grind (arith, some), omega (arith, word, same))
+
+  pub numbering_where : (answer : Bool) → Decides answer (AllPairs (λ m n. m ≢ n) xs) → Decides answer (IsNumbering p xs)
+  numbering_where answer h = (
+    (λ e. record { count = count; words = words_above; different = h.0 e }),
+    (λ (n : IsNumbering p xs). h.1 n.different),
+  )

@@ -12,7 +12,7 @@ use std::collections::BTreeSet;
 
 // Whether no number stands twice.
 fn are_different(alloc: Global, numbers: &[u32]) -> Result<bool, AllocError>
-    ensures { IfOk result (λ yes. Decides yes (AllPairs (λ m n. m ≢ n) numbers.now)) }
+    ensures { IfOk result (λ answer. Decides answer (AllPairs (λ m n. m ≢ n) numbers.now)) }
 {
     let mut seen = BTreeSet::new(alloc);
     for number in numbers {
@@ -31,8 +31,8 @@ pub fn is_numbering(
     program: &Program,
     numbers: &[u32],
 ) -> Result<bool, AllocError>
-    ensures decides { IfOk result (λ yes. Decides yes (IsNumbering program.now numbers.now)) }
-    ensures serves { IfOk result (λ yes. IsTrue yes → IsTyped program.now → MeansItself program.now numbers.now) }
+    ensures decides { IfOk result (λ answer. Decides answer (IsNumbering program.now numbers.now)) }
+    ensures serves { IfOk result (λ answer. IsTrue answer → IsTyped program.now → MeansItself program.now numbers.now) }
 {
     if numbers.len() != program.functions.len() || numbers.contains(&0) {
         return Ok(false);
