@@ -1,9 +1,8 @@
 -- Contexts that are alike, and calls in them.
-use Rattle.std.proofs.Common.{◌≡◌, ℕ, Bool, true, false, List, [], ◌∷◌, map, refl, sym, ◌∙◌, ap, subst, arith, inl, inr, Option, Some, None, if◌then◌else◌, nat_eq, nat_lt, slice_get}
+use Rattle.std.proofs.Common.{◌≡◌, ℕ, Bool, true, false, List, refl, sym, ◌∙◌, ap, subst, arith, inl, inr, Option, Some, if◌then◌else◌, nat_eq, nat_lt, slice_get}
 use Rattle.std.specs.Prelude.{slice_index}
 use Rattle.std.proofs.lemmas.Option.{slice_get_within}
 use Rattle.mv_ast.specs.declared.program.CType.{CType}
-use Rattle.mv_ast.specs.declared.program.CType.TheVariants.{Pointer}
 use Rattle.mv_ast.specs.declared.program.Signature.{Signature}
 use Rattle.mv_ast.specs.declared.program.Function.{Function}
 use Rattle.mv_ast.specs.declared.program.Stmt.{Stmt}
@@ -12,7 +11,7 @@ use Rattle.mv_ast.specs.Worlds.{World, stop}
 use Rattle.mv_ast.specs.Numbering.{function_of_number}
 use Rattle.mv_meaning.specs.declared.state.Flow.{Flow}
 use Rattle.mv_meaning.specs.declared.state.Flow.TheVariants.{Goes, Breaks, Continues, Returns}
-use Rattle.mv_meaning.specs.Meaning.{Evaluation, Context, call_at, call_numbered, call_through}
+use Rattle.mv_meaning.specs.Meaning.{Context, call_at, call_numbered, call_through}
 use Rattle.mv_numbering.specs.Typing.{IsFunctionOf, IsTypedStmt, local_types, parameter_types}
 use Rattle.mv_numbering.proofs.Numbers.{Distinguishes, number_above, number_found}
 use Rattle.mv_numbering.proofs.Alike.{Setting, Same, SamePointer, SameValues}
@@ -78,5 +77,5 @@ module _ (x : Setting) (c d : Context) (same : SameContext x c d) (ts : List CTy
       (subst (λ b. Alike x ts (Same x signature.result) (call_at c k.0 vs) b) (sym (to_function d x.ms x.right u k.0 f.function us same.right f.defined k.3))
       (subst (λ t. Alike x ts (Same x t) (call_at c k.0 vs) (call_at d k.0 us)) result
       (alike_call k.0 f.function vs us f.defined (subst (λ l. SameValues x l vs us) params q)))) where
-    signature_once : (o : Option Signature) (a b : Signature) → o ≡ Some a → o ≡ Some b → a ≡ b
-    signature_once o a b h k = cc
+        signature_once : (o : Option Signature) (a b : Signature) → o ≡ Some a → o ≡ Some b → a ≡ b
+        signature_once o a b h k = cc

@@ -1,5 +1,5 @@
 -- Whether no number of a list stands twice, by a set of those that were seen.
-use Rattle.std.proofs.Common.{◌≡◌, ℕ, ◌+◌, ◌<◌, ◌≤◌, ◌⊎◌, inl, inr, Bool, true, false, not, cond, List, length, get_or, refl, sym, ◌∙◌, ap, subst, arith, nat_lt, ◌==◌}
+use Rattle.std.proofs.Common.{◌≡◌, ℕ, ◌+◌, ◌<◌, ◌≤◌, ◌⊎◌, inl, inr, Bool, true, false, not, cond, List, length, get_or, refl, sym, ◌∙◌, ap, arith, nat_lt, ◌==◌}
 use Rattle.std.specs.Prelude.{◌≢◌, ◌^◌, All, AllPairs}
 use Rattle.std.specs.Bool.{Decides}
 use Rattle.std.specs.Ordering.{nat_cmp}

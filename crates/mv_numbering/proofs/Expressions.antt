@@ -1,25 +1,23 @@
 -- Well-typed expressions are alike under two numberings.
-use Rattle.std.proofs.Common.{◌≡◌, ℕ, Bool, true, false, not, List, [], ◌∷◌, map, refl, sym, ◌∙◌, ap, subst, arith, inl, inr, ◌⊎◌, Option, Some, None, if◌then◌else◌, nat_eq, slice_get}
+use Rattle.std.proofs.Common.{◌≡◌, ℕ, Bool, not, List, [], ◌∷◌, map, refl, sym, ◌∙◌, ap, subst, inl, inr, ◌⊎◌, Option, Some, if◌then◌else◌, nat_eq}
 use Rattle.std.specs.Prelude.{All, slice_index}
 use Rattle.mv_num.specs.Words.{add, sub}
 use Rattle.mv_ast.specs.declared.program.CType.{CType}
 use Rattle.mv_ast.specs.declared.program.CType.TheVariants.{Void, Scalar, Pointer}
-use Rattle.mv_ast.specs.declared.program.Signature.{Signature}
 use Rattle.mv_ast.specs.declared.program.Function.{Function}
-use Rattle.mv_ast.specs.declared.program.Known.{Known}
-use Rattle.mv_ast.specs.declared.program.Expr.{Expr, Expr-F, ind-Expr, map-Expr, roll-Expr, out-Expr, out-roll-Expr, fold-roll-Expr}
+use Rattle.mv_ast.specs.declared.program.Expr.{Expr, Expr-F, ind-Expr, map-Expr, roll-Expr, out-roll-Expr, fold-roll-Expr}
 use Rattle.mv_ast.specs.declared.program.Form.{Form, Form-F, map-Form, roll-Form, out-Form, out-roll-Form, fold-roll-Form}
 use Rattle.mv_ast.specs.declared.program.Form.TheOpen as form
 use Rattle.mv_ast.specs.declared.program.Target.{Target, Target-F, map-Target, roll-Target, out-Target, out-roll-Target, fold-roll-Target}
-use Rattle.mv_ast.specs.Worlds.{bind, give, counted}
+use Rattle.mv_ast.specs.Worlds.{Came, and_then, bind, give, counted}
 use Rattle.mv_meaning.specs.declared.state.Lvalue.{Lvalue}
 use Rattle.mv_meaning.specs.declared.state.Lvalue.TheVariants as lvalue
 use Rattle.mv_meaning.specs.Operators.{as_word, converted, unary_value, binary_value, bit_value}
-use Rattle.mv_meaning.specs.Meaning.{Evaluation, Context, Denotation, read_lvalue, store_lvalue, global_element, local_element, value_or_trap, unless_zero, truth_of, known_value, call_at, call_through, values_of, target_lvalue, form_value, expr_denotation, form_of, lvalue_of, denotation_of, value_of}
-use Rattle.mv_meaning.proofs.Equations.{ctype_of_lem, value_of-Number}
-use Rattle.mv_numbering.specs.Typing.{IsInteger, IsConstantOf, IsFunctionOf, TakesOne, TakesTwo, ConvertsTo, HasType, LvalueHasType, local_types, global_types, parameter_types, types_of}
+use Rattle.mv_meaning.specs.Meaning.{Evaluation, Context, Denotation, read_lvalue, store_lvalue, global_element, local_element, value_or_trap, known_value, values_of, target_lvalue, form_value, expr_denotation, form_of, lvalue_of, denotation_of, value_of}
+use Rattle.mv_meaning.proofs.Equations.{ctype_of_lem}
+use Rattle.mv_numbering.specs.Typing.{IsInteger, IsConstantOf, IsNull, IsFunctionOf, TakesOne, TakesTwo, ConvertsTo, HasType, LvalueHasType, local_types, parameter_types, types_of}
 use Rattle.mv_numbering.proofs.Alike.{Setting, Same, SameValues, same_integer, integer_same, same_test, pointers_compare}
-use Rattle.mv_numbering.proofs.Outcomes.{Alike, alike_give, alike_stop, alike_counted, alike_unless, alike_weaken, alike_bind}
+use Rattle.mv_numbering.proofs.Outcomes.{Alike, AlikeOutcome, alike_give, alike_counted, alike_unless, alike_weaken, alike_bind}
 use Rattle.mv_numbering.proofs.Switches.{all_head, all_tail}
 use Rattle.mv_numbering.proofs.Leaves.{SameLvalue, alike_read, alike_store, alike_global, alike_local, alike_trap, alike_known}
 use Rattle.mv_numbering.proofs.Calls.{SameContext, alike_call, alike_through}
@@ -171,7 +169,16 @@ module _ (x : Setting) (c d : Context) (same : SameContext x c d) (fn : Function
       (stores_alike t a b (next_of up t old) (next_of up t old') h (integer_same x t _ _ i (ap (next_of up t) (same_integer x t old old' i o))))
       (λ m n q. alike_give x ts (Same x t) old old' o))
 
-  convert_alike : (t : CType) (a : E) → ConvertsTo t a.0.ctype (out-Form a.0.what) → TypedExpr x.program fn a.0 →
+  -- a null pointer constant as a function pointer
+  null_alike : (s : ℕ) (a : Expr) → IsNull x.program a →
+      Alike x ts (Same x (Pointer s)) (bind (value_of x.program c a) (λ n. give (converted (Pointer s) n))) (bind (value_of x.program d a) (λ n. give (converted (Pointer s) n)))
+  null_alike s a h f g w v hf hw =
+      let next : ℕ → Evaluation ℕ = λ n. give (converted (Pointer s) n) in
+      subst (λ o. AlikeOutcome x ts ℕ (Same x (Pointer s)) (and_then o next) (and_then (value_of x.program d a g v) next)) (sym (h.value c f w))
+      (subst (λ o. AlikeOutcome x ts ℕ (Same x (Pointer s)) (and_then (Came 0 f w h.work) next) (and_then o next)) (sym (h.value d g v))
+      (record { value = inl (refl, refl); frame = hf; world = hw; work = refl }))
+
+  convert_alike : (t : CType) (a : E) → ConvertsTo x.program t a.0 → TypedExpr x.program fn a.0 →
       Alike x ts (Same x t) (bind (value_of x.program c a.0) (λ v. give (converted t v))) (bind (value_of x.program d a.0) (λ v. give (converted t v)))
   convert_alike Void a h k =
       alike_bind x ts (Same x a.0.ctype) (Same x Void) _ _ _ _ (a.1 k) (λ v u q. alike_give x ts (Same x Void) 0 0 refl)
@@ -181,15 +188,7 @@ module _ (x : Setting) (c d : Context) (same : SameContext x c d) (fn : Function
   convert_alike (Pointer s) a (inl h) k =
       alike_bind x ts (Same x a.0.ctype) (Same x (Pointer s)) _ _ _ _ (a.1 k) (λ v u q.
       alike_give x ts (Same x (Pointer s)) v u (subst (λ t. Same x t v u) h q))
-  convert_alike (Pointer s) a (inr h) k =
-      let null : Context → Evaluation ℕ = λ z. bind (value_of x.program z a.0) (λ v. give (converted (Pointer s) v)) in
-      let zero_at : (z : Context) → value_of x.program z a.0 ≡ counted 1 (give 0) = λ z. value_of-Number x.program z a.0 0 h.1 in
-      let plain : Evaluation ℕ = bind (counted 1 (give 0)) (λ v. give (converted (Pointer s) v)) in
-      let left : null c ≡ plain = ap (λ e. bind e (λ v. give (converted (Pointer s) v))) (zero_at c) in
-      let right : null d ≡ plain = ap (λ e. bind e (λ v. give (converted (Pointer s) v))) (zero_at d) in
-      subst (λ e. Alike x ts (Same x (Pointer s)) e (null d)) (sym left)
-      (subst (λ e. Alike x ts (Same x (Pointer s)) plain e) (sym right)
-      (alike_counted x ts (Same x (Pointer s)) 1 (give 0) (give 0) (alike_give x ts (Same x (Pointer s)) 0 0 (inl (refl, refl)))))
+  convert_alike (Pointer s) a (inr h) k = null_alike s a.0 h
 
   function_alike : (g : ℕ) (t : CType) → (s : ℕ) × (t ≡ Pointer s) × IsFunctionOf x.program s g →
       Alike x ts (Same x t) (give (slice_index c.numbers g)) (give (slice_index d.numbers g))

@@ -6,7 +6,7 @@ use Rattle.mv_ast.specs.declared.program.Program.{Program}
 use Rattle.mv_ast.specs.Numbering.{own_numbers}
 use Rattle.mv_numbering.specs.Numberings.{IsNumbering}
 use Rattle.mv_numbering.specs.Typing.{IsTyped}
-use Rattle.mv_numbering.specs.Laws.{MeansTheSame, MeansItself, NumbersDoNotShow, AnyNumberingServes, OwnNumberingIsOne}
+use Rattle.mv_numbering.specs.Laws.{MeansItself, NumbersDoNotShow, AnyNumberingServes, OwnNumberingIsOne}
 use Rattle.mv_numbering.proofs.Numbers.{numbering_distinguishes, own_distinguishes}
 use Rattle.mv_numbering.proofs.Programs.{same_meaning, own_meaning}
 

@@ -1,13 +1,10 @@
 -- Reads, stores, elements and known functions under two numberings.
-use Rattle.std.proofs.Common.{◌≡◌, ℕ, ◌+◌, ◌-◌, ◌^◌, Bool, true, false, List, [], ◌∷◌, ◌++◌, map, length, refl, sym, ◌∙◌, ap, subst, Option, Some, None, if◌then◌else◌, nat_eq, nat_lt, slice_get}
+use Rattle.std.proofs.Common.{◌≡◌, ℕ, ◌+◌, ◌-◌, ◌^◌, Bool, true, false, List, [], ◌∷◌, map, length, refl, ap, subst, Option, Some, None, if◌then◌else◌, nat_eq, nat_lt, slice_get}
 use Rattle.std.specs.Prelude.{All, IsTrue, unwrap_or}
-use Rattle.mv_num.specs.Kinds.{kind_number, is_value}
 use Rattle.mv_ast.specs.declared.program.CType.{CType}
 use Rattle.mv_ast.specs.declared.program.CType.TheVariants.{Void, Scalar, Pointer}
-use Rattle.mv_ast.specs.declared.program.Program.{Program}
 use Rattle.mv_ast.specs.declared.program.Global.{Global}
 use Rattle.mv_ast.specs.declared.program.Switch.{Switch}
-use Rattle.mv_ast.specs.declared.program.Function.{Function}
 use Rattle.mv_ast.specs.declared.program.Known.{Known}
 use Rattle.mv_ast.specs.declared.program.Known.TheVariants.{Getchar, Putchar, Poll, Plan}
 use Rattle.mv_ast.specs.declared.world.Action.{Action}
@@ -17,7 +14,7 @@ use Rattle.mv_ast.specs.declared.world.Stop.TheVariants.{Trapped}
 use Rattle.mv_ast.specs.Actions.{fits, is_value_of, is_global_value, is_switch_value}
 use Rattle.mv_ast.specs.Counts.{patchable}
 use Rattle.mv_ast.specs.Worlds.{World, give, stop}
-use Rattle.mv_ast.specs.Plans.{Answered, attributed_functions, bound_from, bound_value, bindings_after, is_addressed, is_commit, rebound, ordered, flipped, acted, polled, switch_global, global_or_none, with_word, word_at, words_or_none}
+use Rattle.mv_ast.specs.Plans.{Answered, attributed_functions, bound_from, bound_value, is_addressed, is_commit, rebound, ordered, flipped, acted, polled, switch_global, global_or_none, with_word, word_at, words_or_none}
 use Rattle.mv_meaning.specs.declared.state.Frame.{Frame}
 use Rattle.mv_meaning.specs.declared.state.Lvalue.{Lvalue}
 use Rattle.mv_meaning.specs.declared.state.Lvalue.TheVariants as lvalue

@@ -1,5 +1,5 @@
 -- Frames, worlds, outcomes and evaluations that differ in the numbers of functions alone.
-use Rattle.std.proofs.Common.{◌≡◌, ℕ, ◌+◌, Bool, true, false, List, refl, sym, ◌∙◌, ap, subst, if◌then◌else◌, nat_eq}
+use Rattle.std.proofs.Common.{◌≡◌, ℕ, ◌+◌, Bool, true, false, List, refl, sym, ap, subst, if◌then◌else◌, nat_eq}
 use Rattle.std.specs.Prelude.{All, IsTrue}
 use Rattle.mv_ast.specs.declared.program.CType.{CType}
 use Rattle.mv_ast.specs.declared.world.Stop.{Stop}

@@ -1,5 +1,5 @@
 -- Well-typed programs mean the same under two numberings.
-use Rattle.std.proofs.Common.{◌≡◌, ℕ, zero, suc, ◌+◌, ◌<◌, ◌%◌, inl, inr, List, [], ◌∷◌, ◌++◌, map, take, drop, length, replicate, get_or, refl, sym, ◌∙◌, ap, subst, arith, Option, Some, None, slice_get}
+use Rattle.std.proofs.Common.{◌≡◌, ℕ, zero, suc, ◌+◌, ◌<◌, ◌%◌, inl, inr, List, [], ◌∷◌, ◌++◌, map, take, drop, length, replicate, get_or, refl, sym, ◌∙◌, ap, subst, arith, Some, slice_get}
 use Rattle.std.specs.Prelude.{All, IsTrue, slice_index, unwrap_or}
 use Rattle.std.proofs.lemmas.Option.{slice_get_within, unwrap_or-slice_get, slice_get-get_or}
 use Rattle.mv_ast.specs.declared.program.CType.{CType}
@@ -8,21 +8,20 @@ use Rattle.mv_ast.specs.declared.program.Program.{Program}
 use Rattle.mv_ast.specs.declared.program.Global.{Global}
 use Rattle.mv_ast.specs.declared.program.Local.{Local}
 use Rattle.mv_ast.specs.declared.program.Function.{Function}
-use Rattle.mv_ast.specs.declared.program.Stmt.{Stmt}
 use Rattle.mv_ast.specs.declared.world.Action.{Action}
 use Rattle.mv_ast.specs.declared.world.Stop.TheVariants.{Unfinished}
 use Rattle.mv_ast.specs.Actions.{fits}
 use Rattle.mv_ast.specs.Counts.{words_of_size}
 use Rattle.mv_ast.specs.Numbering.{own_numbers, numbers_from}
-use Rattle.mv_ast.specs.Worlds.{World, Outcome, Came, Stopped, stop}
+use Rattle.mv_ast.specs.Worlds.{World, Outcome, Came, Stopped}
 use Rattle.mv_meaning.specs.declared.state.Frame.{Frame}
 use Rattle.mv_meaning.specs.declared.state.Flow.{Flow}
 use Rattle.mv_meaning.specs.declared.state.Flow.TheVariants.{Goes, Breaks, Continues, Returns}
 use Rattle.mv_meaning.specs.declared.meant.End.TheVariants.{Exit}
 use Rattle.mv_meaning.specs.Meaning.{Context, returned_value, frame_of, deeper, popped, back_in, call_of, flow_of_all, context_at, first_words, first_world, end_of_stop, meant_by, meaning_of, run_of_main, mean}
 use Rattle.mv_numbering.specs.Numberings.{renumbered, renumbered_at, first_words_under, first_world_under, meaning_under}
-use Rattle.mv_numbering.specs.Typing.{IsInteger, IsFunctionOf, IsTypedFunction, IsFirstValue, global_types, local_types, parameter_types}
-use Rattle.mv_numbering.proofs.Numbers.{Distinguishes, own_number_or}
+use Rattle.mv_numbering.specs.Typing.{IsInteger, IsTypedFunction, IsFirstValue, local_types, parameter_types}
+use Rattle.mv_numbering.proofs.Numbers.{Distinguishes}
 use Rattle.mv_numbering.proofs.Alike.{Setting, Same, SameWords, SameObjects, SameValues, same_null, same_integer, words_null}
 use Rattle.mv_numbering.proofs.Outcomes.{SameWorld, SameFrame, AlikeOutcome, Alike, alike_stop}
 use Rattle.mv_numbering.proofs.Switches.{all_head, all_tail, all_got}
@@ -137,9 +136,10 @@ module _ (x : Setting) where
   globals_alike : (gs : List Global) → All (λ (g : Global). All (IsFirstValue x.program g.ctype) g.first) gs →
       SameObjects x (map (λ (g : Global). g.ctype) gs) (map (first_words_under x.ns) gs) (map (first_words_under x.ms) gs)
   globals_alike [] h = tt
-  globals_alike (g ∷ gs) h =
-      (first_words_alike g.ctype g.first _ (all_head (λ (g : Global). All (IsFirstValue x.program g.ctype) g.first) g gs h),
-      globals_alike gs (all_tail (λ (g : Global). All (IsFirstValue x.program g.ctype) g.first) g gs h))
+  globals_alike (g ∷ gs) h = (
+    first_words_alike g.ctype g.first _ (all_head (λ (g : Global). All (IsFirstValue x.program g.ctype) g.first) g gs h),
+    globals_alike gs (all_tail (λ (g : Global). All (IsFirstValue x.program g.ctype) g.first) g gs h),
+  )
 
   module _ (input : List ℕ) (actions : List Action) (fit : All (λ a. IsTrue (fits x.program a)) actions) where
     starts_alike : SameWorld x (first_world_under x.program x.ns input actions) (first_world_under x.program x.ms input actions)

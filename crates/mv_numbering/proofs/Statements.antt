@@ -1,5 +1,5 @@
 -- Well-typed statements are alike under two numberings.
-use Rattle.std.proofs.Common.{◌≡◌, ℕ, zero, suc, ◌-◌, Bool, true, false, List, [], ◌∷◌, ◌++◌, map, drop, length, replicate, refl, sym, ◌∙◌, ap, subst, Option, Some, None, if◌then◌else◌, nat_eq, slice_get}
+use Rattle.std.proofs.Common.{◌≡◌, ℕ, zero, suc, ◌-◌, Bool, List, [], ◌∷◌, ◌++◌, map, drop, length, replicate, refl, sym, ◌∙◌, ap, subst, Option, Some, None, if◌then◌else◌, nat_eq, slice_get}
 use Rattle.std.specs.Prelude.{All, slice_set}
 use Rattle.std.proofs.lemmas.List.{length-map}
 use Rattle.mv_ast.specs.declared.program.CType.{CType}
@@ -7,21 +7,21 @@ use Rattle.mv_ast.specs.declared.program.Function.{Function}
 use Rattle.mv_ast.specs.declared.program.Expr.{Expr}
 use Rattle.mv_ast.specs.declared.program.Stmt.{Stmt, Stmt-F, roll-Stmt, out-Stmt, out-roll-Stmt, map-Stmt, ind-Stmt, every_made-Stmt}
 use Rattle.mv_ast.specs.declared.program.Stmt.TheOpen as stmt
-use Rattle.mv_ast.specs.declared.program.Arm.{Arm, Arm-F, roll-Arm, out-Arm, out-roll-Arm, map-Arm}
+use Rattle.mv_ast.specs.declared.program.Arm.{Arm, Arm-F, roll-Arm, out-roll-Arm, map-Arm}
 use Rattle.mv_ast.specs.Worlds.{World, bind, give, counted}
 use Rattle.mv_ast.specs.Names.{any_of, names_local}
 use Rattle.mv_meaning.specs.declared.state.Frame.{Frame}
 use Rattle.mv_meaning.specs.declared.state.Lvalue.TheVariants as lvalue
 use Rattle.mv_meaning.specs.declared.state.Flow.{Flow}
 use Rattle.mv_meaning.specs.declared.state.Flow.TheVariants.{Goes, Breaks, Continues, Returns}
-use Rattle.mv_meaning.specs.Meaning.{Evaluation, Context, store_lvalue, unless_zero, then_on, after_body, after_switch, in_order, bodies_of, switch_flow, put_values, size_of, clear_local, optional_value, value_of, flow_of, flow_of_all, arm_of, tried_labels}
+use Rattle.mv_meaning.specs.Meaning.{Evaluation, Context, store_lvalue, unless_zero, then_on, after_body, after_switch, in_order, bodies_of, switch_flow, put_values, size_of, clear_local, optional_value, value_of, flow_of, flow_of_all, arm_of}
 use Rattle.mv_meaning.specs.Arms.{first_arm}
 use Rattle.mv_meaning.specs.Runs.{arms_from}
 use Rattle.mv_meaning.proofs.Equations.{flow_of-Block, flow_of-Clear, flow_of-Express, flow_of-If, flow_of-While, flow_of-Do, flow_of-For, flow_of-Switch, flow_of-Break, flow_of-Continue, flow_of-Return, arm_of_lem}
 use Rattle.mv_meaning.proofs.SwitchArms.{leads_to}
 use Rattle.mv_numbering.specs.Typing.{HasTypedParts, IsTypedAt, IsTypedExpr, IsTypedOption, ReturnsTyped, local_types}
 use Rattle.mv_numbering.proofs.Alike.{Setting, Same, same_null, same_test, words_null, objects_set, size_alike, same_integer}
-use Rattle.mv_numbering.proofs.Outcomes.{SameFrame, SameWorld, Alike, AlikeOutcome, alike_give, alike_counted, alike_unless, alike_weaken, alike_bind}
+use Rattle.mv_numbering.proofs.Outcomes.{SameFrame, Alike, AlikeOutcome, alike_give, alike_counted, alike_unless, alike_weaken, alike_bind}
 use Rattle.mv_numbering.proofs.Switches.{all_head, all_tail}
 use Rattle.mv_numbering.proofs.Leaves.{alike_store}
 use Rattle.mv_numbering.proofs.Calls.{SameContext, SameFlow}

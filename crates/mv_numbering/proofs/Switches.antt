@@ -1,6 +1,6 @@
 -- Switches are integers: bound values and what a commit reads are the same under two numberings.
-use Rattle.std.proofs.Common.{◌≡◌, ℕ, suc, Bool, true, false, ◌&&◌, List, [], ◌∷◌, map, length, refl, sym, ◌∙◌, ap, subst, arith, Option, Some, None, if◌then◌else◌, nat_eq, slice_get, filter, cond}
-use Rattle.std.specs.Prelude.{All, slice_index_or, unwrap_or}
+use Rattle.std.proofs.Common.{◌≡◌, ℕ, suc, Bool, true, false, List, [], ◌∷◌, refl, ◌∙◌, ap, subst, arith, Option, Some, None, if◌then◌else◌, nat_eq, slice_get}
+use Rattle.std.specs.Prelude.{All}
 use Rattle.std.proofs.lemmas.List.Elements.{All-filter}
 use Rattle.std.proofs.lemmas.Option.{slice_get_within, get_or_from_slice_get}
 use Rattle.mv_ast.specs.declared.program.CType.{CType}
@@ -9,7 +9,7 @@ use Rattle.mv_ast.specs.declared.program.Function.{Function}
 use Rattle.mv_ast.specs.declared.world.Binding.{Binding}
 use Rattle.mv_ast.specs.Plans.{attributed_functions, attributed_before, switch_global, global_or_none, word_at, switch_words, all_in_domain, bound_to, free, committed, value_among, binding_value, bound_value, is_addressed, is_commit, ordered_from, bindings_after}
 use Rattle.mv_numbering.specs.Typing.{IsInteger, IsIntegerSwitch, IsTypedFunction, global_types}
-use Rattle.mv_numbering.proofs.Alike.{Setting, SameObjects, Same, same_integer, word_alike}
+use Rattle.mv_numbering.proofs.Alike.{Setting, SameObjects, same_integer, word_alike}
 
 -- ---- lists
 

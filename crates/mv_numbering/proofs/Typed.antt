@@ -1,15 +1,15 @@
 -- The parts of well-typed expressions and statements are well typed.
-use Rattle.std.proofs.Common.{◌≡◌, List, [], ◌∷◌, map, ap, subst, sym, Option, Some, None}
+use Rattle.std.proofs.Common.{List, [], ◌∷◌, map, subst}
 use Rattle.mv_ast.specs.declared.program.Program.{Program}
 use Rattle.mv_ast.specs.declared.program.Function.{Function}
-use Rattle.mv_ast.specs.declared.program.Expr.{Expr, Expr-F, out-Expr, map-Expr, every-Expr, every_held-Expr, every_here-Expr}
+use Rattle.mv_ast.specs.declared.program.Expr.{Expr, Expr-F, out-Expr, every-Expr, every_held-Expr, every_here-Expr}
 use Rattle.mv_ast.specs.declared.program.Form.{Form, Form-F, out-Form, map-Form, every-Form, every_held-Form}
 use Rattle.mv_ast.specs.declared.program.Form.TheOpen as form
 use Rattle.mv_ast.specs.declared.program.Target.{Target, Target-F, out-Target, map-Target, every-Target, every_held-Target}
 use Rattle.mv_ast.specs.declared.program.Stmt.{Stmt, Stmt-F, out-Stmt, map-Stmt, every-Stmt, every_held-Stmt, every_here-Stmt}
 use Rattle.mv_ast.specs.declared.program.Stmt.TheOpen as stmt
-use Rattle.mv_ast.specs.declared.program.Arm.{Arm, Arm-F, out-Arm, map-Arm, every-Arm, every_held-Arm}
-use Rattle.mv_numbering.specs.Typing.{HasType, IsTypedExpr, HasTypedParts, IsTypedStmt}
+use Rattle.mv_ast.specs.declared.program.Arm.{Arm, Arm-F, out-Arm, every-Arm, every_held-Arm}
+use Rattle.mv_numbering.specs.Typing.{HasType, HasTypedParts}
 
 module _ (p : Program) (f : Function) where
   abbrev any_form : Form-F Form Target Expr → Type 0

@@ -4,7 +4,6 @@ use Rattle.mv_ast.specs.declared.program.CType.{CType}
 use Rattle.mv_ast.specs.declared.program.CType.TheVariants.{Void, Scalar, Pointer}
 use Rattle.mv_ast.specs.declared.program.Program.{Program}
 use Rattle.mv_ast.specs.declared.program.Signature.{Signature}
-use Rattle.mv_ast.specs.declared.program.Global.{Global}
 use Rattle.mv_ast.specs.declared.program.Switch.{Switch}
 use Rattle.mv_ast.specs.declared.program.Function.{Function}
 use Rattle.mv_ast.specs.declared.program.Expr.{Expr, every-Expr}
@@ -14,6 +13,9 @@ use Rattle.mv_ast.specs.declared.program.Target.{Target, Target-F, out-Target}
 use Rattle.mv_ast.specs.declared.program.Stmt.{Stmt, Stmt-F, every-Stmt}
 use Rattle.mv_ast.specs.declared.program.Stmt.TheOpen as stmt
 use Rattle.mv_ast.specs.declared.program.Arm.{Arm}
+use Rattle.mv_ast.specs.Worlds.{World, Came}
+use Rattle.mv_meaning.specs.declared.state.Frame.{Frame}
+use Rattle.mv_meaning.specs.Meaning.{Context, value_of}
 
 -- ---- types
 
@@ -67,11 +69,17 @@ TakesOne op t = IsInteger t ⊎ (op ≡ 11)
 abbrev pub TakesTwo : (op : ℕ) → CType → CType → Type 0
 TakesTwo op s t = (IsInteger s × IsInteger t) ⊎ (((op ≡ 29) ⊎ (op ≡ 30)) × (signature : ℕ) × (s ≡ Pointer signature) × (t ≡ Pointer signature))
 
--- An integer converts to an integer, everything to void, and the constant 0 to a function pointer.
-abbrev pub ConvertsTo : CType → CType → Form-F Form Target Expr → Type 0
-ConvertsTo Void from what = Unit {0}
-ConvertsTo (Scalar kind) from what = IsInteger from
-ConvertsTo (Pointer signature) from what = (from ≡ Pointer signature) ⊎ (IsInteger from × (what ≡ form.Number 0))
+-- A null pointer constant (C11 6.3.2.3): an integer expression that comes to 0 wherever it is evaluated, at some work, and does nothing else.
+pub record IsNull (p : Program) (e : Expr) : Type 0 where
+  pub integer : IsInteger e.ctype
+  pub work : ℕ
+  pub value : (context : Context) (frame : Frame) (world : World) → value_of p context e frame world ≡ Came 0 frame world work
+
+-- An integer converts to an integer, everything to void, and a null pointer constant to a function pointer.
+abbrev pub ConvertsTo : Program → CType → Expr → Type 0
+ConvertsTo p Void a = Unit {0}
+ConvertsTo p (Scalar kind) a = IsInteger a.ctype
+ConvertsTo p (Pointer signature) a = (a.ctype ≡ Pointer signature) ⊎ IsNull p a
 
 abbrev pub HasType : Program → Function → CType → Form-F Form Target Expr → Type 0
 HasType p f t (form.Number n) = IsConstantOf t n
@@ -82,7 +90,7 @@ HasType p f t (form.Binary op a b) = IsInteger t × TakesTwo op a.ctype b.ctype
 HasType p f t (form.Both a b) = IsInteger t
 HasType p f t (form.Either a b) = IsInteger t
 HasType p f t (form.Choose c a b) = (a.ctype ≡ t) × (b.ctype ≡ t)
-HasType p f t (form.Convert a) = ConvertsTo t a.ctype (out-Form a.what)
+HasType p f t (form.Convert a) = ConvertsTo p t a
 HasType p f t (form.Set target a) = LvalueHasType p f t (out-Target target) × (a.ctype ≡ t)
 HasType p f t (form.Change op kind target a) = IsInteger t × IsInteger a.ctype × LvalueHasType p f t (out-Target target)
 HasType p f t (form.After up target) = IsInteger t × LvalueHasType p f t (out-Target target)

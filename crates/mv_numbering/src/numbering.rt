@@ -26,11 +26,7 @@ fn are_different(alloc: Global, numbers: &[u32]) -> Result<bool, AllocError>
 /// Whether a list of numbers is a numbering of the functions of a program, in their order: as many numbers as there are
 /// functions, each above 0, no two the same. In time of the order of n log n. Where it is one, a well-typed program means under
 /// it what it means.
-pub fn is_numbering(
-    alloc: Global,
-    program: &Program,
-    numbers: &[u32],
-) -> Result<bool, AllocError>
+pub fn is_numbering(alloc: Global, program: &Program, numbers: &[u32]) -> Result<bool, AllocError>
     ensures decides { IfOk result (λ answer. Decides answer (IsNumbering program.now numbers.now)) }
     ensures serves { IfOk result (λ answer. IsTrue answer → IsTyped program.now → MeansItself program.now numbers.now) }
 {

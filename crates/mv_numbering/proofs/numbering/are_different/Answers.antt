@@ -1,4 +1,4 @@
-use Rattle.std.proofs.Common.{rules, ap, arith, refl}
+use Rattle.std.proofs.Common.{refl}
 use Rattle.std.specs.Ordering.{nat_cmp}
 use Rattle.std.specs.BTreeSet.{contains}
 use Rattle.mv_numbering.proofs.Differences.{seen_none, seen_one, seen_twice, seen_all, was_absent, was_present}
@@ -12,9 +12,9 @@ pub returns-then-not-branch : goal.returns-then-not-branch
 returns-then-not-branch c = (
   (λ e. absurd (cc)),
   (λ apart.
-  absurd
-  (seen_twice c.args.numbers.now c.loop-number.number-index (contains nat_cmp c.loop-number.seen) c.loop-number.invariant c.loop-number-test.true
-  (was_present _ _ c.in_ok-insert.ensures.added c.if-not-branch.true) apart)),
+      absurd
+      (seen_twice c.args.numbers.now c.loop-number.number-index (contains nat_cmp c.loop-number.seen) c.loop-number.invariant c.loop-number-test.true
+      (was_present _ _ c.in_ok-insert.ensures.added c.if-not-branch.true) apart)),
 )
 
 pub loop-number-preserved : goal.loop-number-preserved
