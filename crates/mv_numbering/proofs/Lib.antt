@@ -1,0 +1,12 @@
+mod Alike
+mod Calls
+mod Differences
+mod Expressions
+mod Lawful
+mod Leaves
+mod Numbers
+mod Outcomes
+mod Programs
+mod Statements
+mod Switches
+mod Typed
