@@ -246,7 +246,7 @@ module _ (x : Setting) (c d : Context) (same : SameContext x c d) (fn : Function
       (subst (λ l. Alike x ts (SameValues x l) (values_of (map (denotation_of x.program c) (map (λ (a : E). a.0) args))) (values_of (map (denotation_of x.program d) (map (λ (a : E). a.0) args)))) h.5 (values_alike args k.0))
       (λ vs us q.
       alike_bind x ts (Same x (Pointer h.0)) (Same x h.1.result) _ _ _ _ (retyped callee.0.ctype (Pointer h.0) _ _ h.2 (callee.1 k.1))
-      (λ v u r. alike_through x c d same ts h.0 h.1 v u vs us h.3 r q)))
+      (λ v u r. alike_through x c d same ts h.0 h.1 t v u vs us h.3 h.4 r q)))
   form_alike (form.Known n args) t h k =
       alike_bind x ts (SameValues x (types_of (map (λ (a : E). a.0) args))) (Same x t) _ _ _ _ (values_alike args k) (λ vs us q.
       as_integer t _ _ h.0

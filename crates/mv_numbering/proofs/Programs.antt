@@ -1,5 +1,5 @@
 -- Well-typed programs mean the same under two numberings.
-use Rattle.std.proofs.Common.{◌≡◌, ℕ, zero, suc, ◌+◌, ◌<◌, ◌%◌, inl, inr, List, [], ◌∷◌, ◌++◌, map, take, drop, length, replicate, get_or, refl, sym, ◌∙◌, ap, subst, arith, Some, slice_get}
+use Rattle.std.proofs.Common.{◌≡◌, ℕ, Bool, zero, suc, ◌+◌, ◌<◌, ◌%◌, inl, inr, List, [], ◌∷◌, ◌++◌, map, take, drop, length, replicate, get_or, refl, sym, ◌∙◌, ap, subst, arith, Some, slice_get}
 use Rattle.std.specs.Prelude.{All, IsTrue, slice_index, unwrap_or}
 use Rattle.std.proofs.lemmas.Option.{slice_get_within, unwrap_or-slice_get, slice_get-get_or}
 use Rattle.mv_ast.specs.declared.program.CType.{CType}
@@ -18,8 +18,8 @@ use Rattle.mv_meaning.specs.declared.state.Frame.{Frame}
 use Rattle.mv_meaning.specs.declared.state.Flow.{Flow}
 use Rattle.mv_meaning.specs.declared.state.Flow.TheVariants.{Goes, Breaks, Continues, Returns}
 use Rattle.mv_meaning.specs.declared.meant.End.TheVariants.{Exit}
-use Rattle.mv_meaning.specs.Meaning.{Context, returned_value, frame_of, deeper, popped, back_in, call_of, flow_of_all, context_at, first_words, first_world, end_of_stop, meant_by, meaning_of, run_of_main, mean}
-use Rattle.mv_numbering.specs.Numberings.{renumbered, renumbered_at, first_words_under, first_world_under, meaning_under}
+use Rattle.mv_meaning.specs.Meaning.{Context, returned_value, frame_of, deeper, popped, back_in, call_of, flow_of_all, Evaluation, context_at, context_with, first_words, first_world, end_of_stop, meant_by, meaning_of, run_of_main, mean}
+use Rattle.mv_numbering.specs.Numberings.{renumbered, renumbered_at, first_words_under, first_world_under, Admits, meaning_in, meaning_under}
 use Rattle.mv_numbering.specs.Typing.{IsInteger, IsTypedFunction, IsFirstValue, local_types, parameter_types}
 use Rattle.mv_numbering.proofs.Numbers.{Distinguishes}
 use Rattle.mv_numbering.proofs.Alike.{Setting, Same, SameWords, SameObjects, SameValues, same_null, same_integer, words_null}
@@ -91,19 +91,28 @@ module _ (x : Setting) where
 
   -- ---- at each bound
 
-  pub contexts_alike : (k : ℕ) → SameContext x (context_at x.program x.ns k) (context_at x.program x.ms k)
-  contexts_alike zero = record {
+  pub contexts_alike : (l m : CType → ℕ → ℕ → Bool) (stray other : Evaluation ℕ) → Admits x.program l → Admits x.program m → (k : ℕ) →
+      SameContext x (context_with x.program x.ns l stray k) (context_with x.program x.ms m other k)
+  contexts_alike l m stray other admits too zero = record {
     left = refl;
     right = refl;
+    left_lets = admits;
+    right_lets = too;
     calls = λ ts n g vs us e h. alike_stop x ts (Same x g.result) Unfinished;
     loops = λ g s h. alike_stop x (local_types g) (SameFlow x g.result) Unfinished;
   }
-  contexts_alike (suc k) = record {
-    left = refl;
-    right = refl;
-    calls = λ ts n g vs us e h. call_alike (context_at x.program x.ns k) (context_at x.program x.ms k) (contexts_alike k) ts n g vs us e h;
-    loops = λ g s h. alike_stmt x (context_at x.program x.ns k) (context_at x.program x.ms k) (contexts_alike k) g s h;
-  }
+  contexts_alike l m stray other admits too (suc k) =
+      let c = context_with x.program x.ns l stray k in
+      let d = context_with x.program x.ms m other k in
+      let same = contexts_alike l m stray other admits too k in
+      record {
+        left = refl;
+        right = refl;
+        left_lets = admits;
+        right_lets = too;
+        calls = λ ts n g vs us e h. call_alike c d same ts n g vs us e h;
+        loops = λ g s h. alike_stmt x c d same g s h;
+      }
 
   -- ---- the first world
 
@@ -158,8 +167,11 @@ module _ (x : Setting) where
     meanings_alike ts t (Came a f w n) (Stopped s' v m) i h = absurd h
     meanings_alike ts t (Stopped s w n) (Came b g v m) i h = absurd h
 
-    pub same_meaning : (bound : ℕ) → meaning_under x.program x.ns input actions bound ≡ meaning_under x.program x.ms input actions bound
-    same_meaning bound =
+    pub same_meaning : (l m : CType → ℕ → ℕ → Bool) (stray other : Evaluation ℕ) → Admits x.program l → Admits x.program m → (bound : ℕ) →
+        meaning_in x.program (context_with x.program x.ns l stray bound) x.ns input actions ≡ meaning_in x.program (context_with x.program x.ms m other bound) x.ms input actions
+    same_meaning l m stray other admits too bound =
+        let c = context_with x.program x.ns l stray bound in
+        let d = context_with x.program x.ms m other bound in
         let p : Program = x.program in
         let g : Function = x.typed.entry.main in
         let typed : IsTypedFunction p g = all_got (IsTypedFunction p) p.functions p.main g x.typed.functions x.typed.entry.defined in
@@ -167,10 +179,10 @@ module _ (x : Setting) where
         subst (λ n. SameValues x (map (λ (l : Local). l.ctype) (take n g.locals)) [] []) (sym x.typed.entry.bare) tt in
         let frame : Frame = record { function = p.main; locals = [] } in
         subst (λ o.
-        meaning_of (run_of_main p (context_at p x.ns bound) o frame (first_world_under p x.ns input actions)) ≡
-        meaning_of (run_of_main p (context_at p x.ms bound) o frame (first_world_under p x.ms input actions))) (sym x.typed.entry.defined)
+        meaning_of (run_of_main p c o frame (first_world_under p x.ns input actions)) ≡
+        meaning_of (run_of_main p d o frame (first_world_under p x.ms input actions))) (sym x.typed.entry.defined)
         (meanings_alike (local_types g) g.result _ _ x.typed.entry.result
-        (alike_body x (context_at p x.ns bound) (context_at p x.ms bound) (contexts_alike bound) g g.body typed.body
+        (alike_body x c d (contexts_alike l m stray other admits too bound) g g.body typed.body
         (frame_of p.main g []) (frame_of p.main g []) (first_world_under p x.ns input actions) (first_world_under p x.ms input actions)
         (frames_alike p.main g [] [] none) starts_alike))
 
