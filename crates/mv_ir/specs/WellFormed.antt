@@ -62,9 +62,9 @@ has_room [] g = false
 has_room (r ∷ rooms) g = nat_eq r.global g || has_room rooms g
 
 -- a global has a room, and an array of the frame a size
-abbrev pub is_there : Body → Array → Bool
-is_there b (array.Global g) = has_room b.rooms g
-is_there b (array.Local l) = nat_lt l (length b.arrays)
+abbrev pub is_there : List Room → List ℕ → Array → Bool
+is_there rooms sizes (array.Global g) = has_room rooms g
+is_there rooms sizes (array.Local l) = nat_lt l (length sizes)
 
 -- ---- arguments
 
@@ -90,7 +90,7 @@ pub record IsWellFormed (b : Body) : Type 0 where
   pub temps : HasTemps b
   pub params : b.params ≤ 8
   pub targets : all_around (map stm_targets b.code) [] ≡ true
-  pub named : all_true (map (is_there b) (named b.code)) ≡ true
+  pub named : all_true (map (is_there b.rooms b.arrays) (named b.code)) ≡ true
   pub read : all_true (map (has_room b.rooms) (scalars_read b.code)) ≡ true
   pub arguments : all_true (map stm_arguments b.code) ≡ true
   pub size : statements b.code + tree_nodes b.code ≤ 2 ^ 30
