@@ -1,5 +1,5 @@
 -- The replacement of reads changes nothing that a temporary sees: where it is live, and where it is written.
-use Rattle.std.proofs.Common.{◌≡◌, ℕ, ◌+◌, ◌<◌, Bool, true, false, not, ◌&&◌, ◌||◌, List, [], ◌∷◌, ◌++◌, map, refl, subst, sym, ap, ◌∙◌, Option, None, Some}
+use Rattle.std.proofs.Common.{◌≡◌, ℕ, ◌<◌, Bool, false, not, ◌&&◌, ◌||◌, List, [], ◌∷◌, ◌++◌, map, refl, subst, sym, ap, ◌∙◌, Option, None, Some}
 use Rattle.std.specs.Prelude.{ltb}
 use Rattle.mv_ir.specs.declared.tree.Tree.{Tree}
 use Rattle.mv_ir.specs.declared.tree.Tree.TheOpen.{Tree-F}
@@ -12,7 +12,7 @@ use Rattle.mv_ir.specs.declared.stm.Stm.TheOpen as stm
 use Rattle.mv_ir.specs.declared.body.Body.{Body}
 use Rattle.mv_ir.specs.Trees.{found}
 use Rattle.mv_ir.specs.Measures.{callee_trees}
-use Rattle.mv_ir.specs.Live.{reads_temp, any_reads, is, Around, Flow, live_in_order, live_at_loop, marks_in_order, around_loop, plain, goes_next, layer_flow, flow, nowhere, live_at_start, all_marks, IsWhole, HasTemps, mark_at, marks_length, interval, filled, greatest_up_to, count_at, below, most_intervals}
+use Rattle.mv_ir.specs.Live.{reads_temp, any_reads, is, Around, Flow, live_in_order, marks_in_order, plain, goes_next, layer_flow, flow, nowhere, live_at_start, all_marks, IsWhole, HasTemps, mark_at, marks_length, interval, filled, greatest_up_to, count_at, below, most_intervals}
 use Rattle.mv_ir.proofs.Induction.{TreeChildren, tree_ind}
 use Rattle.mv_ir.proofs.Rolls.{same_functions, reads_temp_roll, flow_roll}
 use Rattle.mv_clone.specs.Bind.{bound_tree, bound_callee, bound_layer, bound_code, known_or_read}

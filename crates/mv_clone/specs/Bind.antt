@@ -1,6 +1,6 @@
 -- The reads of some switches replaced by their values, and what that keeps.
-use Rattle.std.specs.Prelude.{ℕ, ◌≡◌, Bool, not, List, [], ◌∷◌, map, Option, Some, None, is_some}
-use Rattle.std.specs.List.{zip, filter}
+use Rattle.std.specs.Prelude.{ℕ, ◌≡◌, Bool, not, List, map, Option, Some, None, is_some}
+use Rattle.std.specs.List.{filter}
 use Rattle.mv_ir.specs.declared.tree.Tree.{Tree}
 use Rattle.mv_ir.specs.declared.tree.Tree.TheOpen.{Tree-F}
 use Rattle.mv_ir.specs.declared.tree.Tree.TheOpen as tree

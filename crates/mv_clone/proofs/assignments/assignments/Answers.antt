@@ -1,4 +1,4 @@
-use Rattle.std.proofs.Common.{◌≡◌, ℕ, List, Some, length, map, ap, sym, ◌∙◌, subst}
+use Rattle.std.proofs.Common.{◌≡◌, length, map, ap, sym, ◌∙◌, subst}
 use Rattle.std.specs.Prelude.{IfOk}
 use Rattle.std.specs.Option.{option_copied}
 use Rattle.mv_ast.specs.Plans.{switch_domain}
@@ -13,7 +13,7 @@ in_order : (c : goal.After-combined) → IfOk c.combined.result (λ all. values_
 in_order c =
     let p = c.args.program.now in
     let domains : map (switch_domain p) c.as_slice.result.now ≡ domains_of p c.args.function =
-            ap (map (switch_domain p)) c.as_slice.ensures ∙ ap (domains_or_none p) (ap option_copied (sym c.in-Some.is) ∙ c.get.ensures) in
+    ap (map (switch_domain p)) c.as_slice.ensures ∙ ap (domains_or_none p) (ap option_copied (sym c.in-Some.is) ∙ c.get.ensures) in
     subst (λ ds. IfOk c.combined.result (λ all. values_of all ≡ combinations ds)) domains c.combined.ensures
 
 pub returns-in-Some-clause-every : goal.returns-in-Some-clause-every
