@@ -1,12 +1,17 @@
 use Rattle.std.proofs.Common.{◌≡◌, length, map, ap, sym, ◌∙◌, subst}
-use Rattle.std.specs.Prelude.{IfOk}
+use Rattle.std.specs.Prelude.{IfOk, Result, Ok, Err}
 use Rattle.std.specs.Option.{option_copied}
 use Rattle.mv_ast.specs.Plans.{switch_domain}
 use Rattle.mv_ast.specs.Counts.{product_of}
 use Rattle.mv_ir.specs.Combinations.{combinations, values_of, AreAllCombinations}
 use Rattle.mv_clone.specs.Assignments.{domains_or_none, domains_of}
-use Rattle.mv_clone.proofs.AllCombinations.{every_of, count_of, answer_gives}
+use Rattle.mv_ir.proofs.AllCombinations.{every_of, count_of}
 use Rattle.mv_clone.proofs.assignments.assignments.Goals as goal
+
+-- what follows of an answer
+answer_gives : {T E : Type 0} (P Q : T → Type 0) (r : Result T E) → ((x : T) → P x → Q x) → IfOk r P → IfOk r Q
+answer_gives P Q (Ok x) f h = f x h
+answer_gives P Q (Err e) f h = h
 
 -- the domains are those of the function that was found
 in_order : (c : goal.After-combined) → IfOk c.combined.result (λ all. values_of all ≡ combinations (domains_of c.args.program.now c.args.function))

@@ -1,6 +1,6 @@
 -- The combinations of some domains are all of them, each once, and as many as the product of the domains' lengths.
 use Rattle.std.proofs.Common.{arith, ◌≡◌, ℕ, zero, suc, ◌+◌, ◌*◌, ◌<◌, List, [], ◌∷◌, ◌++◌, length, map, refl, sym, ◌∙◌, ap, subst, ◌⊎◌, inl, inr, length-append}
-use Rattle.std.specs.Prelude.{slice_index_or, IfOk, Result, Ok, Err}
+use Rattle.std.specs.Prelude.{slice_index_or}
 use Rattle.std.proofs.lemmas.List.{length-map}
 use Rattle.mv_ir.specs.declared.body.Assignment.{Assignment}
 use Rattle.mv_ast.specs.Counts.{product_of}
@@ -191,8 +191,3 @@ module _ (ds : List (List ℕ)) where
 
   pub count_of : (all : List Assignment) → values_of all ≡ combinations ds → length all ≡ product_of (map (λ d. length d) ds)
   count_of all e = sym (length-map all (λ a. a.values)) ∙ ap length e ∙ combinations_count ds
-
--- what follows of an answer
-pub answer_gives : {T E : Type 0} (P Q : T → Type 0) (r : Result T E) → ((x : T) → P x → Q x) → IfOk r P → IfOk r Q
-answer_gives P Q (Ok x) f h = f x h
-answer_gives P Q (Err e) f h = h
