@@ -1,6 +1,7 @@
 //! The trees of the source language, and what its programs and its machines share.
 #![tactic(auto)]
 
+pub mod operators;
 pub mod place;
 pub mod program;
 pub mod token;

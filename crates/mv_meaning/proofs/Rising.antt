@@ -20,7 +20,7 @@ use Rattle.mv_ast.specs.Plans.{Answered, ordered, polled, acted, flipped, with_w
 use Rattle.mv_meaning.specs.declared.state.Frame.{Frame}
 use Rattle.mv_meaning.specs.declared.state.Lvalue.{Lvalue}
 use Rattle.mv_meaning.specs.declared.state.Lvalue.TheVariants as lvalue
-use Rattle.mv_meaning.specs.Operators.{converted, unary_value, binary_value}
+use Rattle.mv_ast.specs.Operators.{converted, unary_value, binary_value}
 use Rattle.mv_meaning.specs.Meaning.{Evaluation, Context, Denotation, read_lvalue, store_lvalue, element_below, global_element, local_element, value_or_trap, unless_zero, truth_of, byte_of, known_value, call_at, call_numbered, call_through, values_of, target_lvalue, form_value, expr_denotation, form_of, lvalue_of, denotation_of, value_of}
 use Rattle.mv_meaning.specs.Growth.{Begins, Grew, world_left, Grows, GoesOn}
 use Rattle.mv_meaning.proofs.Growing.{Begins-refl, Grew-refl, Grew-trans, Grows-stop, Grows-give, Grows-counted, Grows-bind, GoesOn-same, GoesOn-counted, GoesOn-bind}

@@ -9,11 +9,11 @@ use crate::arms::{arms_from, first_arm};
 use crate::known::known_value;
 use crate::numbers::{function_of_number, number_of};
 use crate::objects::{clear_local, frame_of};
-use crate::operators::{binary_value, converted, unary_value};
 use crate::reads::global_read;
 use crate::state::{
     Flow, Frame, Halt, Here, Lvalue, State, count, put_word, size_at, store_lvalue, word_at,
 };
+use mv_ast::operators::{binary_value, converted, unary_value};
 use mv_ast::program::{Arm, Expr, Form, Program, Stmt, Target};
 use mv_ast::world::Stop;
 use mv_num::list::List;

@@ -1,0 +1,3 @@
+mod Lookups
+mod SignatureLists
+mod Types
