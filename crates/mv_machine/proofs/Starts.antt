@@ -1,9 +1,10 @@
 -- The start of a machine.
 use Rattle.std.proofs.Common.{ℕ, ◌≡◌, ◌+◌, ◌*◌, List, [], length, replicate, Option, None, refl, ap, ap₂, ◌∙◌}
 use Rattle.mv_ast.specs.declared.world.Binding.{Binding}
+use Rattle.mv_ast.specs.Plans.{free}
 use Rattle.mv_fetch.specs.Held.{Held, Room, first as first_memory}
 use Rattle.mv_image.specs.Spelling.{Fields}
-use Rattle.mv_machine.specs.Runs.{first, free, patchable}
+use Rattle.mv_machine.specs.Runs.{first, patchable}
 use Rattle.mv_machine.specs.Snapshots.{Snapshot, kept, resumed}
 
 abbrev snapshot : (pc : ℕ) (held : Held) (spare reserve : ℕ) (bindings : List Binding) → Snapshot

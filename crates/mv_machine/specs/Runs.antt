@@ -1,9 +1,10 @@
 -- The run of a machine as a definition. `turn` is one instruction, `runs_from` is so many of them from any state, and `runs` is so many of an
 -- image from its start. All of them are functions: of the image, the input, the picks of the fetches and the number of instructions.
-use Rattle.std.specs.Prelude.{ℕ, zero, suc, ◌+◌, ◌*◌, ◌-◌, ◌%◌, ◌^◌, false, cond, eqb, ltb, List, [], ◌∷◌, ◌++◌, length, map, replicate, slice_index, Option, Some, None}
+use Rattle.std.specs.Prelude.{ℕ, zero, suc, ◌+◌, ◌*◌, ◌-◌, ◌%◌, ◌^◌, cond, eqb, ltb, List, [], ◌∷◌, ◌++◌, length, map, replicate, slice_index, Option, Some, None}
 use Rattle.mv_num.specs.Words.{add}
 use Rattle.mv_ast.specs.declared.world.Binding.{Binding}
 use Rattle.mv_ast.specs.declared.world.Event.{Event}
+use Rattle.mv_ast.specs.Plans.{free}
 use Rattle.mv_isa.specs.declared.instr.Cause.{Cause}
 use Rattle.mv_isa.specs.declared.instr.Cause.TheVariants as cause
 use Rattle.mv_isa.specs.Execution.{Outcome, Goes, Calls, Faults, reg, put}
@@ -127,10 +128,6 @@ executed s picks zero = 0
 executed s picks (suc n) = executed s picks n + counts_as (runs_from s picks n).stop
 
 -- ---- the start
-
--- a function that is bound to nothing
-abbrev pub free : Binding
-free = record { bound = false; count = 0; values = replicate 6 0 }
 
 -- how many words of text a plan of an image can change: the entry of each function and the two words of each call site
 unfoldable pub patchable : Fields → ℕ

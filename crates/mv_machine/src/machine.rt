@@ -3,8 +3,9 @@
 ghost use Rattle.std.specs.Prelude.{◌≡◌, [], Some, None, replicate, IfOk};
 ghost use Rattle.std.specs.Result.{result_ok};
 ghost use Rattle.mv_fetch.specs.Held.{load};
+ghost use Rattle.mv_ast.specs.Plans.{free};
 ghost use Rattle.mv_io.specs.Outside.{Rose};
-ghost use Rattle.mv_machine.specs.Runs.{first, free};
+ghost use Rattle.mv_machine.specs.Runs.{first};
 ghost use Rattle.mv_machine.specs.Snapshots.{kept, Ran, Unless, last_of};
 
 use crate::turning::walk;

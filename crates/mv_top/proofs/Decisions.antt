@@ -11,7 +11,7 @@ use Rattle.mv_top.specs.Code.{instructions}
 use Rattle.mv_top.specs.Commands.{IsRun, IsPlainRun, IsLimitedRun, IsNoCommand}
 use Rattle.mv_top.specs.Grown.{Grew, GrewLess}
 use Rattle.mv_top.specs.Lines.{is_silent, last_line}
-use Rattle.mv_top.specs.Outcomes.{Holds, Means, MeansNothing, Part, RunsFile, SomePart, Gives, Quiet, Tells, Is, Decides, Notes, RunsText, not_built}
+use Rattle.mv_top.specs.Outcomes.{Holds, Means, MeansNothing, Part, RunsFile, SomePart, Gives, Quiet, Tells, Is, Decides, Cut, Notes, RunsText, not_built}
 use Rattle.mv_top.proofs.Pieces.{grew_none}
 use Rattle.mv_top.specs.declared.status.Status.{Status}
 use Rattle.mv_top.specs.declared.status.Status.TheVariants.{Ended, Trapped, Usage, Refused, Memory, InputFault, OutputFault, ShelfFault, Steps}
@@ -173,37 +173,48 @@ module _ (words : List (List ℕ)) (files : Option Files) (shelf_rose input_rose
 
 -- ---- from the command to its notes
 
-pub notes_written : (status : Status) (before now : Option (List ℕ)) → is_silent status ≡ false → Grew before now (last_line status) → Notes status before now
-notes_written (Ended s) before now loud h = h
-notes_written (Trapped code) before now loud h = h
-notes_written Usage before now loud h = h
-notes_written (Refused refusal) before now loud h = h
-notes_written Memory before now loud h = absurd (cc loud)
-notes_written InputFault before now loud h = h
-notes_written OutputFault before now loud h = absurd (cc loud)
-notes_written ShelfFault before now loud h = h
-notes_written Steps before now loud h = h
+module _ (Due : Status → Type 0) where
+  pub notes_written : (status : Status) (before now : Option (List ℕ)) → is_silent status ≡ false → Grew before now (last_line status) → Notes Due status before now
+  notes_written (Ended s) before now loud h = h
+  notes_written (Trapped code) before now loud h = h
+  notes_written Usage before now loud h = h
+  notes_written (Refused refusal) before now loud h = h
+  notes_written Memory before now loud h = absurd (cc loud)
+  notes_written InputFault before now loud h = h
+  notes_written OutputFault before now loud h = absurd (cc loud)
+  notes_written ShelfFault before now loud h = h
+  notes_written Steps before now loud h = h
 
--- nothing is less than a line
-none_written : (before : Option (List ℕ)) → GrewLess before before (last_line Usage)
-none_written before = (0, lit< tt, grew_none before)
+  pub notes_silent : (status : Status) (before : Option (List ℕ)) → is_silent status ≡ true → Notes Due status before before
+  notes_silent (Ended s) before quiet = absurd (cc quiet)
+  notes_silent (Trapped code) before quiet = absurd (cc quiet)
+  notes_silent Usage before quiet = absurd (cc quiet)
+  notes_silent (Refused refusal) before quiet = absurd (cc quiet)
+  notes_silent Memory before quiet = inl (grew_none before)
+  notes_silent InputFault before quiet = absurd (cc quiet)
+  notes_silent OutputFault before quiet = inl (grew_none before)
+  notes_silent ShelfFault before quiet = absurd (cc quiet)
+  notes_silent Steps before quiet = absurd (cc quiet)
 
-pub notes_silent : (status : Status) (before : Option (List ℕ)) → is_silent status ≡ true → Notes status before before
-notes_silent (Ended s) before quiet = absurd (cc quiet)
-notes_silent (Trapped code) before quiet = absurd (cc quiet)
-notes_silent Usage before quiet = absurd (cc quiet)
-notes_silent (Refused refusal) before quiet = absurd (cc quiet)
-notes_silent Memory before quiet = (Usage, none_written before)
-notes_silent InputFault before quiet = absurd (cc quiet)
-notes_silent OutputFault before quiet = (Usage, none_written before)
-notes_silent ShelfFault before quiet = absurd (cc quiet)
-notes_silent Steps before quiet = absurd (cc quiet)
+  pub no_notes : (before : Option (List ℕ)) → Notes Due Memory before before
+  no_notes before = inl (grew_none before)
 
-pub no_notes : (before : Option (List ℕ)) → Notes Memory before before
-no_notes before = (Usage, none_written before)
+  -- a status whose line is reported is due
+  module _ (status : Status) (due : Due status) where
+    cut_due : (before now : Option (List ℕ)) → Cut (λ s. s ≡ status) before now → Cut Due before now
+    cut_due before now (inl none) = inl none
+    cut_due before now (inr (s, same, loud, less)) = inr (s, subst Due (sym same) due, loud, less)
 
-pub some_notes : (status : Status) (before now : Option (List ℕ)) → GrewLess before now (last_line status) → Notes OutputFault before now
-some_notes status before now h = (status, h)
+    pub notes_due : (result : Status) (before now : Option (List ℕ)) → Notes (λ s. s ≡ status) result before now → Notes Due result before now
+    notes_due (Ended s) before now h = h
+    notes_due (Trapped code) before now h = h
+    notes_due Usage before now h = h
+    notes_due (Refused refusal) before now h = h
+    notes_due Memory before now h = cut_due before now h
+    notes_due InputFault before now h = h
+    notes_due OutputFault before now h = cut_due before now h
+    notes_due ShelfFault before now h = h
+    notes_due Steps before now h = h
 
 -- the status that stands after the notes
 module _ (words : List (List ℕ)) (files : Option Files) (shelf_rose input_rose output_rose notes_rose : Type 0) (Wrote : List ℕ → Type 0) where

@@ -1,6 +1,7 @@
 -- The white space and the token at the front of a text.
 use Rattle.std.proofs.Common.{ℕ, zero, suc, ◌≡◌, ◌<◌, ◌≤◌, ◌+◌, Bool, true, false, List, [], ◌∷◌, ◌++◌, length, take, drop, get_or, refl, sym, ap, ◌∙◌, subst, arith, add-one, MatchOption, Option, Some, None, Bor}
 use Rattle.std.specs.List.{AllByRecursion}
+use Rattle.std.proofs.lemmas.List.{append-nil}
 use Rattle.std.proofs.Math.Seq.{drop-cons}
 use Rattle.mv_top.specs.First.{Blank, Ends, Spells, is_space, is_word, begins_word}
 use Rattle.mv_top.specs.Reading.{Goes, IsToken, Stuck, begins_space, first_byte, one}
@@ -71,16 +72,12 @@ first_is token text gap front rest t e b f = ap first_byte (e ∙ ap (λ r. gap 
 pub first_spelled : (token text : List ℕ) (tokens : List (List ℕ)) → IsToken token → Spells (token ∷ tokens) text → first_byte text ≡ get_or token 0 0
 first_spelled token text tokens t (gap, rest, e, b, ends, more) = first_is token text gap (token ++ rest) rest t e b refl
 
-append_nil : (xs : List ℕ) → xs ++ [] ≡ xs
-append_nil [] = refl
-append_nil (x ∷ xs) = ap (λ r. x ∷ r) (append_nil xs)
-
 -- a text of white space has no rest
 pub blank_rest : (text gap front : List ℕ) → text ≡ gap ++ front → Blank gap → begins_space front ≡ false → Blank text → front ≡ []
-blank_rest text gap front e b s all = sym (same_rest text [] gap front all refl b s (append_nil text ∙ e))
+blank_rest text gap front e b s all = sym (same_rest text [] gap front all refl b s (append-nil text ∙ e))
 
 pub blank_gap : (text gap front : List ℕ) → text ≡ gap ++ front → Blank gap → front ≡ [] → Blank text
-blank_gap text gap front e b f = subst Blank (sym (e ∙ ap (λ r. gap ++ r) f ∙ append_nil gap)) b
+blank_gap text gap front e b f = subst Blank (sym (e ∙ ap (λ r. gap ++ r) f ∙ append-nil gap)) b
 
 pub stuck_behind : (first second : List (List ℕ) → List (List ℕ)) (text mid : List ℕ) → Goes first text mid → Stuck second mid → Stuck (λ more. first (second more)) text
 stuck_behind first second text mid g stuck tokens spelled = stuck tokens (g.on (second tokens) spelled)

@@ -3,7 +3,7 @@ use Rattle.std.proofs.Common.{ℕ, ◌≡◌, ◌<◌, ◌≤◌, ◌+◌, Bool,
 use Rattle.std.specs.Prelude.{codes}
 use Rattle.std.specs.Fmt.{decimal}
 use Rattle.std.specs.List.{AllByRecursion}
-use Rattle.std.proofs.lemmas.List.{append_assoc}
+use Rattle.std.proofs.lemmas.List.{append-nil, append_assoc}
 use Rattle.mv_top.specs.First.{Small, SmallReturn, IsProgram, Spells, body, closing, ending, opening, returning, statement}
 use Rattle.mv_top.specs.Reading.{AllTaken, Goes, IsEnding, IsNoProgram, IsReturn, IsStatement, IsTheProgram, IsToken, Stuck, Taken, first_byte}
 use Rattle.mv_top.proofs.Fronts.{first_spelled}
@@ -87,22 +87,18 @@ all_full numbers rest full (m ∷ more) returned small few spelled = absurd (ome
 
 -- ---- the program
 
-append_nil : (xs : List ℕ) → xs ++ [] ≡ xs
-append_nil [] = refl
-append_nil (x ∷ xs) = ap (λ r. x ∷ r) (append_nil xs)
-
 module _ (text behind numbers rest : List ℕ) (opens : Goes opening text behind) (few : length numbers ≤ 1000) (taken : Taken behind numbers rest) (all : AllTaken numbers rest) where
   -- a program of the text ends where the statements end
   ends_there : (others : List ℕ) (other : Option ℕ) → IsProgram text others other → (others ≡ numbers) × Spells (ending other) rest
   ends_there others other is =
       let x = taken.on others other is.small (opens.on (body others other) is.spelled) in
       let none : x.0 ≡ [] = all x.0 other x.3 (subst (λ l. length l ≤ 1000) x.1 is.few) x.2 in
-      (x.1 ∙ ap (λ more. numbers ++ more) none ∙ append_nil numbers, subst (λ more. Spells (body more other) rest) none x.2)
+      (x.1 ∙ ap (λ more. numbers ++ more) none ∙ append-nil numbers, subst (λ more. Spells (body more other) rest) none x.2)
 
   pub is_program : (returned : Option ℕ) → IsEnding rest returned → IsTheProgram text numbers returned
   is_program returned end = record {
     is = record {
-      spelled = opens.back (body numbers returned) (subst (λ all. Spells (body all returned) behind) (append_nil numbers) (taken.back [] returned end.spelled));
+      spelled = opens.back (body numbers returned) (subst (λ all. Spells (body all returned) behind) (append-nil numbers) (taken.back [] returned end.spelled));
       few = few;
       small = taken.small;
       small_return = end.small;

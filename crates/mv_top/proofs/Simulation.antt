@@ -4,7 +4,7 @@ use Rattle.std.specs.Prelude.{pos, slice_get, slice_index, slice_set, slice_inde
 use Rattle.std.specs.List.{AllByRecursion}
 use Rattle.std.proofs.lemmas.Bool.Decides.{nat_tests}
 use Rattle.std.proofs.lemmas.Int.{ints}
-use Rattle.std.proofs.lemmas.List.{append_assoc, get_or-set_same, get_or-set_other, length-set}
+use Rattle.std.proofs.lemmas.List.{append-nil, append_assoc, get_or-set_same, get_or-set_other, length-set}
 use Rattle.mv_num.specs.Words.{add, word_of}
 use Rattle.mv_isa.specs.declared.instr.Instr.{Instr}
 use Rattle.mv_isa.specs.declared.instr.Instr.TheVariants.{Addi, Ecall}
@@ -100,10 +100,6 @@ code_at (n ∷ done) rest status p =
 pub code_length : (numbers : List ℕ) (status : ℕ) → length (code numbers status) ≡ 3 * length numbers + 3
 code_length [] status = refl
 code_length (n ∷ numbers) status = let h = code_length numbers status in omega (arith, h)
-
-append_nil : (xs : List ℕ) → xs ++ [] ≡ xs
-append_nil [] = refl
-append_nil (x ∷ xs) = ap (λ r. x ∷ r) (append_nil xs)
 
 written_more : (done : List ℕ) (m : ℕ) → written (done ++ m ∷ []) ≡ written done ++ m % 2 ^ 8 ∷ []
 written_more [] m = refl
@@ -255,7 +251,7 @@ module _ (s : State) (numbers : List ℕ) (status : ℕ) (start : IsStart number
   exits : (n : ℕ) (t : State) (pick : ℕ) (done : List ℕ) → At s numbers done [] n 2 t → reg t.regs 10 ≡ status → reg t.regs 17 ≡ 0 → Over s numbers status (n + 1) (turn t pick)
   unfolding request_of
   exits n t pick done at argument request =
-      let same : numbers ≡ done = at.split ∙ append_nil done in
+      let same : numbers ≡ done = at.split ∙ append-nil done in
       let e : turn t pick ≡ record t { stop = Exit (status % 2 ^ 8) } = ecall done [] n t pick at (word_at [] 2) ∙ rw (request, argument) refl in
       let after : Over s numbers status (n + 1) (record t { stop = Exit (status % 2 ^ 8) }) = record {
         stop = refl;

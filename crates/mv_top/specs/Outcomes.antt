@@ -1,11 +1,11 @@
 -- What each status of a command says, and when it may come.
-use Rattle.std.specs.Prelude.{ℕ, ◌≡◌, ◌<◌, ◌≤◌, ◌/◌, ◌⊎◌, List, [], ◌∷◌, take, Option, Some, None}
+use Rattle.std.specs.Prelude.{ℕ, ◌≡◌, ◌<◌, ◌≤◌, ◌/◌, ◌⊎◌, false, List, [], ◌∷◌, take, Option, Some, None}
 use Rattle.mv_ast.specs.declared.place.Place.{Place}
 use Rattle.mv_io.specs.Shelves.{Files, Lacks}
 use Rattle.mv_top.specs.First.{First}
 use Rattle.mv_top.specs.Code.{instructions}
 use Rattle.mv_top.specs.Commands.{IsRun, IsNoCommand}
-use Rattle.mv_top.specs.Lines.{last_line}
+use Rattle.mv_top.specs.Lines.{is_silent, last_line}
 use Rattle.mv_top.specs.Grown.{Grew, GrewLess}
 use Rattle.mv_top.specs.declared.status.Refusal.{Refusal}
 use Rattle.mv_top.specs.declared.status.Status.{Status}
@@ -72,17 +72,22 @@ module _ (words : List (List ℕ)) (files : Option Files) where
     Gives ShelfFault = (file : List ℕ) × (steps : ℕ) × IsRun words file steps × (shelf_rose ⊎ Lacks files file) × Wrote []
     Gives Steps = (text : List ℕ) × (steps : ℕ) × (bytes : List ℕ) × (status : ℕ) × RunsFile text steps × Means text bytes status × (steps < instructions bytes) × Wrote (take (steps / 3) bytes)
 
--- The notes grew by the last line; by less of some last line, or nothing, where memory was refused or a write failed.
-abbrev pub Notes : Status → (before now : Option (List ℕ)) → Type 0
-Notes (Ended status) before now = Grew before now (last_line (Ended status))
-Notes (Trapped code) before now = Grew before now (last_line (Trapped code))
-Notes Usage before now = Grew before now (last_line Usage)
-Notes (Refused refusal) before now = Grew before now (last_line (Refused refusal))
-Notes Memory before now = (status : Status) × GrewLess before now (last_line status)
-Notes InputFault before now = Grew before now (last_line InputFault)
-Notes OutputFault before now = (status : Status) × GrewLess before now (last_line status)
-Notes ShelfFault before now = Grew before now (last_line ShelfFault)
-Notes Steps before now = Grew before now (last_line Steps)
+-- The notes grew by the last line. With a status that has none they are as before, or they grew by less than the last line of a status that was due: then
+-- memory was refused for that line, or its write failed.
+module _ (Due : Status → Type 0) where
+  abbrev pub Cut : (before now : Option (List ℕ)) → Type 0
+  Cut before now = Grew before now [] ⊎ ((status : Status) × Due status × (is_silent status ≡ false) × GrewLess before now (last_line status))
+
+  abbrev pub Notes : Status → (before now : Option (List ℕ)) → Type 0
+  Notes (Ended status) before now = Grew before now (last_line (Ended status))
+  Notes (Trapped code) before now = Grew before now (last_line (Trapped code))
+  Notes Usage before now = Grew before now (last_line Usage)
+  Notes (Refused refusal) before now = Grew before now (last_line (Refused refusal))
+  Notes Memory before now = Cut before now
+  Notes InputFault before now = Grew before now (last_line InputFault)
+  Notes OutputFault before now = Cut before now
+  Notes ShelfFault before now = Grew before now (last_line ShelfFault)
+  Notes Steps before now = Grew before now (last_line Steps)
 
 -- ---- which status comes where no count of faults rises
 

@@ -87,7 +87,7 @@ fn perform<H: Shelf, I: Source, O: Sink>(
 
 // Writes the last line of the notes, and gives the status that then stands.
 fn report<N: Sink>(alloc: Global, status: Status, notes: &mut N) -> Status
-    ensures notes { Notes result (N.written notes.old) (N.written notes.new) }
+    ensures notes { Notes (λ due. due ≡ status) result (N.written notes.old) (N.written notes.new) }
     ensures status { (result ≡ status) ⊎ ((result ≡ Status.Memory) ⊎ ((result ≡ Status.OutputFault) × Rose (N.faults notes.old) (N.faults notes.new))) }
 {
     if status.is_silent() {
@@ -102,8 +102,9 @@ fn report<N: Sink>(alloc: Global, status: Status, notes: &mut N) -> Status
     }
 }
 
-/// Carries out the command that the words are: the words after the program's name. The output goes to `out`, and the last line to `notes`,
-/// except where memory was refused or a write failed. `run` fetches by the oracle.
+/// Carries out the command that the words are: the words after the program's name. The output goes to `out`, and the last line to `notes`.
+/// Where memory was refused or a write failed, there is no last line: `notes` is as it was, or has a part of the last line of a status whose
+/// cause stands. `run` fetches by the oracle.
 pub fn multiverse<H: Shelf, I: Source, O: Sink, N: Sink>(
     alloc: Global,
     words: &[String],
@@ -118,7 +119,9 @@ pub fn multiverse<H: Shelf, I: Source, O: Sink, N: Sink>(
         (λ bytes. Grew (O.written out.old) (O.written out.new) bytes) result }
     ensures decides { Quiet (Rose (H.faults shelf.old) (H.faults shelf.new)) (Rose (I.faults input.old) (I.faults input.new))
         (Rose (O.faults out.old) (O.faults out.new)) (Rose (N.faults notes.old) (N.faults notes.new)) → Decides (map string_bytes words.now) (H.files shelf.old) result }
-    ensures notes { Notes result (N.written notes.old) (N.written notes.new) }
+    ensures notes { Notes (λ due. Gives (map string_bytes words.now) (H.files shelf.old) (Rose (H.faults shelf.old) (H.faults shelf.new))
+        (Rose (I.faults input.old) (I.faults input.new)) (Rose (O.faults out.old) (O.faults out.new)) ⊥
+        (λ bytes. Grew (O.written out.old) (O.written out.new) bytes) due) result (N.written notes.old) (N.written notes.new) }
     ensures input { Keeps (I.left input.old) (I.left input.new) }
     ensures files { H.files shelf.new ≡ H.files shelf.old }
 {

@@ -1,4 +1,4 @@
-use Rattle.std.proofs.Common.{◌≡◌, ◌<◌, ℕ, List, length, get_or, below_more, subst, arith}
+use Rattle.std.proofs.Common.{◌<◌, ℕ, List, length, get_or, below_more, subst, arith}
 use Rattle.std.proofs.lemmas.List.{get_or_default}
 use Rattle.mv_isa.specs.declared.labelled.Line.{Line}
 use Rattle.mv_isa.specs.declared.labelled.Line.TheVariants.{Label}

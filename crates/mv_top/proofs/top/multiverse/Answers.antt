@@ -2,7 +2,8 @@ use Rattle.std.proofs.Common.{◌≡◌, map, ℕ, List}
 use Rattle.std.specs.String.{string_bytes}
 use Rattle.mv_io.specs.Outside.{Rose}
 use Rattle.mv_top.specs.Grown.{Grew}
-use Rattle.mv_top.proofs.Decisions.{decides, reported}
+use Rattle.mv_top.specs.Outcomes.{Gives}
+use Rattle.mv_top.proofs.Decisions.{decides, notes_due, reported}
 use Rattle.mv_top.proofs.top.multiverse.Goals as goal
 
 pub returns-clause-gives : goal.returns-clause-gives
@@ -14,6 +15,17 @@ returns-clause-gives g c =
     (Rose (g.N.Sink.faults c.args.notes.now) (g.N.Sink.faults c.report.new.notes))
     (λ bytes. Grew (g.O.Sink.written c.args.out.now) (g.O.Sink.written c.perform-status.new.out) bytes)
     c.perform-status.result c.report.result c.perform-status.ensures.gives c.report.ensures.status
+
+pub returns-clause-notes : goal.returns-clause-notes
+returns-clause-notes g c =
+    notes_due
+    (λ due. Gives (map string_bytes c.args.words.now) (g.H.Shelf.files c.args.shelf.now)
+    (Rose (g.H.Shelf.faults c.args.shelf.now) (g.H.Shelf.faults c.perform-status.new.shelf))
+    (Rose (g.I.Source.faults c.args.input.now) (g.I.Source.faults c.perform-status.new.input))
+    (Rose (g.O.Sink.faults c.args.out.now) (g.O.Sink.faults c.perform-status.new.out)) ⊥
+    (λ bytes. Grew (g.O.Sink.written c.args.out.now) (g.O.Sink.written c.perform-status.new.out) bytes) due)
+    c.perform-status.result c.perform-status.ensures.gives c.report.result (g.N.Sink.written c.args.notes.now) (g.N.Sink.written c.report.new.notes)
+    c.report.ensures.notes
 
 pub returns-clause-decides : goal.returns-clause-decides
 returns-clause-decides g c = λ quiet.
