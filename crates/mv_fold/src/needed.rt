@@ -1,5 +1,5 @@
 // Which temporaries are needed, by what reads them.
-ghost use Rattle.std.specs.Prelude.{◌≡◌, ◌<◌, ◌+◌, IfOk, OnOk, All, length, replicate, false};
+ghost use Rattle.std.specs.Prelude.{◌≡◌, ◌<◌, ◌+◌, ◌^◌, [], IfOk, OnOk, All, length, replicate, false};
 ghost use Rattle.mv_fold.specs.Needed.{flag, IsNeeded};
 ghost use Rattle.mv_fold.specs.Reaching.{row, Fits, AreRows, IsReached, IsVisited};
 
@@ -30,14 +30,17 @@ fn count(uses: &[Use]) -> usize
 {
     let mut count = 0;
     for read in uses {
-        count = count.max(read.used as usize + 1).max(row(read.user));
+        let end = row(Some(read.used));
+        let row = row(read.user);
+        count = count.max(end).max(row);
     }
     count
 }
 
 /// Where the reads for a temporary stand, behind those for the body.
 fn row(user: Option<u32>) -> usize
-    ensures { result ≡ row user }
+    ensures value { result ≡ row user }
+    ensures small { result < 2 ^ 33 }
 {
     match user {
         Some(t) => t as usize + 1,
