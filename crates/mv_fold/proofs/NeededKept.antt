@@ -34,7 +34,8 @@ use Rattle.mv_fold.specs.Simple.{alone}
 use Rattle.mv_fold.specs.declared.uses.Use.{Use}
 use Rattle.mv_fold.specs.Needed.{layer_tree_uses, tree_uses, trees_uses, layer_uses, stm_uses, code_uses, counts, used_in, IsNeeded, needed_layer, needed_stm, needed_code}
 use Rattle.mv_fold.proofs.NeededEquations.{tree_uses_roll, stm_uses_roll, needed_stm_roll}
-use Rattle.mv_fold.proofs.Reached.{or_left, or_right, or_cases, eqb_true, eqb_self}
+use Rattle.mv_fold.proofs.Reached.{or_left, or_right, eqb_self}
+use Rattle.mv_fold.proofs.Closing.{Among, Closed, left, right, among, for_body, closed}
 
 -- ---- values
 
@@ -74,49 +75,7 @@ module _ (setting : Setting) (frame : Frame) (needed : ℕ → Bool) where
   abbrev pub q : Places
   q = record { next = Agree; leaves = λ n. Agree; restarts = λ n. Agree }
 
-  -- a tree that reads needed ones alone
-  abbrev Among : Tree → Type 0
-  Among x = (t : ℕ) → reads_temp t x ≡ true → needed t ≡ true
-
-  abbrev pub Closed : List Use → Type 0
-  Closed = Each (λ x. counts needed x.user ≡ true → needed x.used ≡ true)
-
-  left : (xs ys : List Use) → Closed (xs ++ ys) → Closed xs
-  left [] ys h = tt
-  left (x ∷ xs) ys h = (h.0, left xs ys h.1)
-
-  right : (xs ys : List Use) → Closed (xs ++ ys) → Closed ys
-  right [] ys h = h
-  right (x ∷ xs) ys h = right xs ys h.1
-
-  module _ (user : Option ℕ) (c : counts needed user ≡ true) where
-    abbrev IsAmong : Tree → Type 0
-    IsAmong x = Closed (tree_uses user x) → Among x
-
-    abbrev Reads : ℕ → Tree-F Tree → Type 0
-    Reads t x = layer_reads_temp t (map-Tree Tree Bool (reads_temp t) x) ≡ true
-
-    among_layer : (x : Tree-F Tree) → TreeChildren IsAmong x → Closed (layer_tree_uses user (map-Tree Tree (List Use) (tree_uses user) x)) → (t : ℕ) → Reads t x → needed t ≡ true
-    among_layer (tree.Number n) h a t r = let e : false ≡ true = r in absurd (cc)
-    among_layer (tree.Temp n) h a t r = subst (λ u. needed u ≡ true) (eqb_true n t r) (a.0 c)
-    among_layer (tree.Global n) h a t r = let e : false ≡ true = r in absurd (cc)
-    among_layer (tree.Function n) h a t r = let e : false ≡ true = r in absurd (cc)
-    among_layer (tree.Unary o x) h a t r = h a t r
-    among_layer (tree.Binary o x y) h a t r = by (or_cases (reads_temp t x) (reads_temp t y) r)
-      where
-        by : (reads_temp t x ≡ true) ⊎ (reads_temp t y ≡ true) → needed t ≡ true
-        by (inl e) = h.0 (left (tree_uses user x) (tree_uses user y) a) t e
-        by (inr e) = h.1 (right (tree_uses user x) (tree_uses user y) a) t e
-    among_layer (tree.Narrow k x) h a t r = h a t r
-
-    -- of a tree that is read for what counts
-    among : (x : Tree) → Closed (tree_uses user x) → Among x
-    among = tree_ind IsAmong (λ x h a t r. among_layer x h (subst Closed (tree_uses_roll user x) a) t (sym (reads_temp_roll t x) ∙ r))
-
-  for_body : (x : Tree) → Closed (tree_uses None x) → Among x
-  for_body = among None refl
-
-  same_in : (x : Tree) → Among x → SameIn setting frame Agree x x
+  same_in : (x : Tree) → Among needed x → SameIn setting frame Agree x x
   same_in x h = record {
     value = λ xs ys globals e. value_same setting.numbers frame.bound xs ys globals x (λ t r. e.same t (h t r));
     smaller = omega arith;
@@ -151,26 +110,26 @@ module _ (setting : Setting) (frame : Frame) (needed : ℕ → Bool) where
   R xs ys = MeaningRel Agree q (in_order xs) (in_order ys)
 
   abbrev IsRelated : Stm → Type 0
-  IsRelated s = Closed (stm_uses s) → R (m s ∷ []) (map m (needed_stm needed s))
+  IsRelated s = Closed needed (stm_uses s) → R (m s ∷ []) (map m (needed_stm needed s))
 
-  many_in : (xs : List Tree) → Closed (trees_uses xs) → SameTreesIn setting frame Agree q xs xs
+  many_in : (xs : List Tree) → Closed needed (trees_uses xs) → SameTreesIn setting frame Agree q xs xs
   many_in [] h = tt
-  many_in (x ∷ xs) h = (same_in x (for_body x (left (tree_uses None x) (trees_uses xs) h)), many_in xs (right (tree_uses None x) (trees_uses xs) h))
+  many_in (x ∷ xs) h = (same_in x (for_body needed x (left needed (tree_uses None x) (trees_uses xs) h)), many_in xs (right needed (tree_uses None x) (trees_uses xs) h))
 
-  callee_in : (f : Callee) → Closed (trees_uses (callee_trees f)) → SameCalleeIn setting frame Agree q f f
+  callee_in : (f : Callee) → Closed needed (trees_uses (callee_trees f)) → SameCalleeIn setting frame Agree q f f
   callee_in (callee.Direct f) h = refl
-  callee_in (callee.Through t) h = same_in t (for_body t (left (tree_uses None t) [] h))
+  callee_in (callee.Through t) h = same_in t (for_body needed t (left needed (tree_uses None t) [] h))
 
   puts : (r : Option ℕ) → Puts setting frame Agree q r r
   puts None = keeps
   puts (Some t) = writes t
 
   -- a list, from each of its statements
-  kids : (b : List Stm) → Each IsRelated b → Closed (code_uses b) → R (map m b) (map m (joined (map (needed_stm needed) b)))
+  kids : (b : List Stm) → Each IsRelated b → Closed needed (code_uses b) → R (map m b) (map m (joined (map (needed_stm needed) b)))
   kids [] h a = nil_rel Agree q
   kids (s ∷ b) h a =
       subst (λ l. R (map m (s ∷ b)) l) (sym (map_append m (needed_stm needed s) (joined (map (needed_stm needed) b))))
-      (append_rel Agree Agree q (m s ∷ []) (map m (needed_stm needed s)) (map m b) (map m (joined (map (needed_stm needed) b))) (h.0 (left (stm_uses s) _ a)) (kids b h.1 (right (stm_uses s) _ a)))
+      (append_rel Agree Agree q (m s ∷ []) (map m (needed_stm needed s)) (map m b) (map m (joined (map (needed_stm needed) b))) (h.0 (left needed (stm_uses s) _ a)) (kids b h.1 (right needed (stm_uses s) _ a)))
 
   abbrev layer_means : Stm-F Stm → Meaning
   layer_means x = statement setting frame (map-Stm Stm Meaning m x)
@@ -200,7 +159,7 @@ module _ (setting : Setting) (frame : Frame) (needed : ℕ → Bool) where
       apart : (u : ℕ) → needed u ≡ true → u ≡ t → ⊥
       apart u r same = let c : true ≡ false = sym r ∙ ap needed same ∙ e in cc
 
-  set_related : (t : ℕ) (v : Tree) (c : Bool) → needed t ≡ c → (needed t ≡ true → Among v) → R (m (roll-Stm (stm.Set t v)) ∷ []) (map m (cond c (alone (stm.Set t v)) []))
+  set_related : (t : ℕ) (v : Tree) (c : Bool) → needed t ≡ c → (needed t ≡ true → Among needed v) → R (m (roll-Stm (stm.Set t v)) ∷ []) (map m (cond c (alone (stm.Set t v)) []))
   set_related t v true e h = one (stm.Set t v) (stm.Set t v) (set_rel setting frame Agree q t t v v (same_in v (h e)) (writes t))
   set_related t v false e h = dropped t v e
 
@@ -208,17 +167,17 @@ module _ (setting : Setting) (frame : Frame) (needed : ℕ → Bool) where
   same_under zero xs ys e = e
   same_under (suc n) xs ys e = e
 
-  related_layer : (x : Stm-F Stm) → StmChildren IsRelated x → Closed (layer_uses (map-Stm Stm (List Use) stm_uses x)) → R (m (roll-Stm x) ∷ []) (map m (needed_layer needed (map-Stm Stm (List Stm) (needed_stm needed) x)))
-  related_layer (stm.Set t v) h a = set_related t v (needed t) refl (λ e. among (Some t) e v a)
-  related_layer (stm.SetGlobal g v) h a = one (stm.SetGlobal g v) (stm.SetGlobal g v) (set_global_rel setting frame Agree q g v v (same_in v (for_body v a)) keeps)
-  related_layer (stm.Divide t o x y) h a = one (stm.Divide t o x y) (stm.Divide t o x y) (divide_rel setting frame Agree q t t o x x y y (same_in x (for_body x (left (tree_uses None x) _ a))) (same_in y (for_body y (right (tree_uses None x) _ a))) (writes t))
-  related_layer (stm.Check r i) h a = one (stm.Check r i) (stm.Check r i) (check_rel setting frame Agree q r i i (same_in i (for_body i a)) keeps)
-  related_layer (stm.Read t r i) h a = one (stm.Read t r i) (stm.Read t r i) (read_rel setting frame Agree q t t r i i (same_in i (for_body i a)) (writes t))
-  related_layer (stm.Write r i v) h a = one (stm.Write r i v) (stm.Write r i v) (write_rel setting frame Agree q r i i v v (same_in i (for_body i (left (tree_uses None i) _ a))) (same_in v (for_body v (right (tree_uses None i) _ a))) keeps)
+  related_layer : (x : Stm-F Stm) → StmChildren IsRelated x → Closed needed (layer_uses (map-Stm Stm (List Use) stm_uses x)) → R (m (roll-Stm x) ∷ []) (map m (needed_layer needed (map-Stm Stm (List Stm) (needed_stm needed) x)))
+  related_layer (stm.Set t v) h a = set_related t v (needed t) refl (λ e. among needed (Some t) e v a)
+  related_layer (stm.SetGlobal g v) h a = one (stm.SetGlobal g v) (stm.SetGlobal g v) (set_global_rel setting frame Agree q g v v (same_in v (for_body needed v a)) keeps)
+  related_layer (stm.Divide t o x y) h a = one (stm.Divide t o x y) (stm.Divide t o x y) (divide_rel setting frame Agree q t t o x x y y (same_in x (for_body needed x (left needed (tree_uses None x) _ a))) (same_in y (for_body needed y (right needed (tree_uses None x) _ a))) (writes t))
+  related_layer (stm.Check r i) h a = one (stm.Check r i) (stm.Check r i) (check_rel setting frame Agree q r i i (same_in i (for_body needed i a)) keeps)
+  related_layer (stm.Read t r i) h a = one (stm.Read t r i) (stm.Read t r i) (read_rel setting frame Agree q t t r i i (same_in i (for_body needed i a)) (writes t))
+  related_layer (stm.Write r i v) h a = one (stm.Write r i v) (stm.Write r i v) (write_rel setting frame Agree q r i i v v (same_in i (for_body needed i (left needed (tree_uses None i) _ a))) (same_in v (for_body needed v (right needed (tree_uses None i) _ a))) keeps)
   related_layer (stm.Zero l) h a = one (stm.Zero l) (stm.Zero l) (zero_rel setting frame Agree q l keeps)
   related_layer (stm.If t x y) h a =
       one (stm.If t x y) (stm.If t (joined (map (needed_stm needed) x)) (joined (map (needed_stm needed) y)))
-      (if_rel setting frame Agree q t t (map m x) (map m (joined (map (needed_stm needed) x))) (map m y) (map m (joined (map (needed_stm needed) y))) (same_in t (for_body t (left (tree_uses None t) _ a))) (kids x h.0 (left (code_uses x) _ (right (tree_uses None t) _ a))) (kids y h.1 (right (code_uses x) _ (right (tree_uses None t) _ a))))
+      (if_rel setting frame Agree q t t (map m x) (map m (joined (map (needed_stm needed) x))) (map m y) (map m (joined (map (needed_stm needed) y))) (same_in t (for_body needed t (left needed (tree_uses None t) _ a))) (kids x h.0 (left needed (code_uses x) _ (right needed (tree_uses None t) _ a))) (kids y h.1 (right needed (code_uses x) _ (right needed (tree_uses None t) _ a))))
   related_layer (stm.Loop b) h a =
       one (stm.Loop b) (stm.Loop (joined (map (needed_stm needed) b)))
       (loop_rel Agree q (in_order (map m b)) (in_order (map m (joined (map (needed_stm needed) b)))) (places_weaker Agree q (in_loop Agree q) _ _ keeps same_under same_under (kids b h a)))
@@ -227,14 +186,14 @@ module _ (setting : Setting) (frame : Frame) (needed : ℕ → Bool) where
       (block_rel Agree Agree q (in_order (map m b)) (in_order (map m (joined (map (needed_stm needed) b)))) (places_weaker Agree q (in_block Agree q) _ _ keeps same_under same_under (kids b h a)))
   related_layer (stm.Break n) h a = one (stm.Break n) (stm.Break n) (break_rel setting frame Agree q n keeps)
   related_layer (stm.Back n) h a = one (stm.Back n) (stm.Back n) (back_rel setting frame Agree q n keeps)
-  related_layer (stm.Call r f args) h a = one (stm.Call r f args) (stm.Call r f args) (call_rel setting frame Agree q r r f f args args (callee_in f (left (trees_uses (callee_trees f)) _ a)) (many_in args (right (trees_uses (callee_trees f)) _ a)) (puts r))
+  related_layer (stm.Call r f args) h a = one (stm.Call r f args) (stm.Call r f args) (call_rel setting frame Agree q r r f f args args (callee_in f (left needed (trees_uses (callee_trees f)) _ a)) (many_in args (right needed (trees_uses (callee_trees f)) _ a)) (puts r))
   related_layer (stm.Known r k args) h a = one (stm.Known r k args) (stm.Known r k args) (known_rel setting frame Agree q r r k args args (many_in args a) (puts r))
-  related_layer (stm.Return v) h a = one (stm.Return v) (stm.Return v) (return_rel setting frame Agree q v v (same_in v (for_body v a)))
+  related_layer (stm.Return v) h a = one (stm.Return v) (stm.Return v) (return_rel setting frame Agree q v v (same_in v (for_body needed v a)))
 
   related : (s : Stm) → IsRelated s
-  related = stm_ind IsRelated (λ x h a. subst (λ l. R (m (roll-Stm x) ∷ []) (map m l)) (sym (needed_stm_roll needed x)) (related_layer x h (subst Closed (stm_uses_roll x) a)))
+  related = stm_ind IsRelated (λ x h a. subst (λ l. R (m (roll-Stm x) ∷ []) (map m l)) (sym (needed_stm_roll needed x)) (related_layer x h (subst (Closed needed) (stm_uses_roll x) a)))
 
-  pub code_related : (code : List Stm) → Closed (code_uses code) → R (map m code) (map m (needed_code needed code))
+  pub code_related : (code : List Stm) → Closed needed (code_uses code) → R (map m code) (map m (needed_code needed code))
   code_related code a = kids code (stms_ind IsRelated related code) a
 
   pub agree_self : (xs : List ℕ) → Agree xs xs
@@ -260,15 +219,9 @@ end_same q (Ends e) (Leaves n s') h = absurd h
 end_same q (Ends e) (Restarts n s') h = absurd h
 end_same q (Ends e) (Ends e') h = h
 
--- what is needed is closed under what it is computed from
-closed : (setting : Setting) (frame : Frame) (needed : ℕ → Bool) (uses : List Use) → ((t : ℕ) → used_in needed uses t ≡ true → needed t ≡ true) → Closed setting frame needed uses
-closed setting frame needed [] h = tt
-closed setting frame needed (x ∷ xs) h =
-    ((λ c. h x.used (or_left _ _ (ap (λ b. b && eqb x.used x.used) c ∙ eqb_self x.used))), closed setting frame needed xs (λ t e. h t (or_right _ _ e)))
-
 pub needed_keeps : (b : Body) (needed : ℕ → Bool) → IsNeeded needed (code_uses b.code) → KeepsBody b (record b { code = needed_code needed b.code })
 needed_keeps b needed h setting frame contents args bound w =
     let start = entry_state contents b args w in
-    let all = closed setting frame needed (code_uses b.code) (λ t e. h t ∙ e) in
+    let all = closed needed (code_uses b.code) (λ t e. h t ∙ e) in
     let r = code_related setting frame needed b.code all bound start start (record { temps = agree_self setting frame needed start.temps; arrays = refl; world = refl }) in
     record { same = end_same (q setting frame needed) _ _ r.outcome; cheaper = r.cheaper }
