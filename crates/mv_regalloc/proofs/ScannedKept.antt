@@ -7,7 +7,7 @@ use Rattle.mv_regalloc.specs.Scan.{Interval, used, number_of, Overlap}
 use Rattle.mv_regalloc.specs.Rename.{Fits}
 use Rattle.mv_regalloc.specs.Intervals.{span, by_first, range, given, allotted, scanned, IsRenamed}
 use Rattle.mv_regalloc.proofs.Apart.{numbers_apart, number_found}
-use Rattle.mv_regalloc.proofs.Spans.{marked_any, marked_first, marked_last, first_below}
+use Rattle.mv_regalloc.proofs.Ranges.{marked_any, marked_first, marked_last, first_below}
 use Rattle.mv_regalloc.proofs.Stands.{AreSpans, Stands, in_range, listed, by_first_spans, every_range, scan_stands, scan_stands_new, given_stands, number_used, given_number, scan_number}
 use Rattle.mv_regalloc.proofs.Most.{same_long, scan_all_apart, uses_most}
 use Rattle.mv_regalloc.proofs.RenamedKept.{rename_keeps}
