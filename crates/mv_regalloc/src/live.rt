@@ -116,11 +116,7 @@ pub fn live_stm(
             join(bits, &others);
             read_tree(bits, t);
         }
-        Stm::Loop(b) => {
-            let inner = levels.inside(alloc, bits, &levels.none)?;
-            *bits = levels.none.copied(alloc)?;
-            live_code(alloc, b, bits, &inner)?;
-        }
+        Stm::Loop(b) => live_loop(alloc, b, bits, levels)?,
         Stm::Block(b) => {
             let inner = levels.inside(alloc, bits, &levels.none)?;
             live_code(alloc, b, bits, &inner)?;
@@ -142,4 +138,20 @@ pub fn live_stm(
         }
     }
     Ok(())
+}
+
+/// From what is live behind a loop to what is live at its start: a path that goes back goes through the start again.
+#[cycle(live)]
+#[tactic(auto, using(crate::proofs::RowEquations::live_loop))]
+pub fn live_loop(
+    alloc: Global,
+    code: &List<Stm>,
+    bits: &mut List<bool>,
+    levels: &Levels,
+) -> Result<(), AllocError>
+    ensures { OnOk result (bits.new ≡ (stm_rows (Stm.Loop code.now)).live (sets levels.now bits.old)) }
+{
+    let inner = levels.inside(alloc, bits, &levels.none)?;
+    *bits = levels.none.copied(alloc)?;
+    live_code(alloc, code, bits, &inner)
 }

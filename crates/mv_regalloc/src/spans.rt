@@ -2,13 +2,14 @@
 
 ghost use Rattle.std.specs.Prelude.{ℕ, ◌≡◌, ◌<◌, ◌&&◌, ◌∷◌, [], true, false, cond, eqb, map, length, slice_index, replicate, IfOk, OnOk};
 ghost use Rattle.mv_ir.specs.Live.{mark_at, all_marks};
-ghost use Rattle.mv_regalloc.specs.Rows.{sets, put_bit, live_before, rows_in_order, stm_rows};
+ghost use Rattle.mv_regalloc.specs.Rows.{sets, with_reads, either_bits, put_bit, live_before, rows_in_order, stm_rows};
 ghost use Rattle.mv_regalloc.specs.Spanned.{Adds, AreSpansOf, with_params};
 
 use crate::bits::{has, join, put, read_tree, set};
-use crate::live::{live_code, live_stm, Levels};
+use crate::live::{live_loop, live_stm, Levels};
 use mv_ir::body::Body;
 use mv_ir::stm::Stm;
+use mv_ir::tree::Tree;
 use mv_num::list::List;
 use std::alloc::{AllocError, Global};
 
@@ -123,29 +124,73 @@ fn mark_stm(
             let mut others = bits.copied(alloc)?;
             mark_code(alloc, b, &mut others, levels, spans)?;
             mark_code(alloc, a, bits, levels, spans)?;
-            join(bits, &others);
-            read_tree(bits, t);
-            spans.mark(bits)
+            mark_test(t, bits, &others, spans)
         }
-        Stm::Loop(b) => {
-            let behind = bits.copied(alloc)?;
-            live_stm(alloc, stm, bits, levels)?;
-            let inner = levels.inside(alloc, &behind, bits)?;
-            let mut within = bits.copied(alloc)?;
-            mark_code(alloc, b, &mut within, &inner, spans)?;
-            spans.mark(bits)
-        }
-        Stm::Block(b) => {
-            let inner = levels.inside(alloc, bits, &levels.none)?;
-            mark_code(alloc, b, bits, &inner, spans)?;
-            spans.mark(bits)
-        }
+        Stm::Loop(b) => mark_loop(alloc, b, bits, levels, spans),
+        Stm::Block(b) => mark_block(alloc, b, bits, levels, spans),
         Stm::Break(_) => mark_plain(alloc, stm, None, bits, levels, spans),
         Stm::Back(_) => mark_plain(alloc, stm, None, bits, levels, spans),
         Stm::Call(t, _, _) => mark_plain(alloc, stm, *t, bits, levels, spans),
         Stm::Known(t, _, _) => mark_plain(alloc, stm, *t, bits, levels, spans),
         Stm::Return(_) => mark_plain(alloc, stm, None, bits, levels, spans),
     }
+}
+
+#[cycle(spans)]
+fn mark_loop(
+    alloc: Global,
+    code: &List<Stm>,
+    bits: &mut List<bool>,
+    levels: &Levels,
+    spans: &mut Spans,
+) -> Result<(), AllocError>
+    ensures live { OnOk result (bits.new ≡ (stm_rows (Stm.Loop code.now)).live (sets levels.now bits.old)) }
+    ensures rows { OnOk result (
+        Adds ((stm_rows (Stm.Loop code.now)).rows (sets levels.now bits.old)) spans.old spans.new
+        ) }
+{
+    let behind = bits.copied(alloc)?;
+    live_loop(alloc, code, bits, levels)?;
+    let inner = levels.inside(alloc, &behind, bits)?;
+    let mut within = bits.copied(alloc)?;
+    mark_code(alloc, code, &mut within, &inner, spans)?;
+    spans.mark(bits)
+}
+
+#[cycle(spans)]
+#[tactic(auto, using(crate::proofs::RowEquations::live_block))]
+fn mark_block(
+    alloc: Global,
+    code: &List<Stm>,
+    bits: &mut List<bool>,
+    levels: &Levels,
+    spans: &mut Spans,
+) -> Result<(), AllocError>
+    ensures live { OnOk result (bits.new ≡ (stm_rows (Stm.Block code.now)).live (sets levels.now bits.old)) }
+    ensures rows { OnOk result (
+        Adds ((stm_rows (Stm.Block code.now)).rows (sets levels.now bits.old)) spans.old spans.new
+        ) }
+{
+    let inner = levels.inside(alloc, bits, &levels.none)?;
+    mark_code(alloc, code, bits, &inner, spans)?;
+    spans.mark(bits)
+}
+
+// The position of an `If`, from what is live before its two lists.
+fn mark_test(
+    test: &Tree,
+    bits: &mut List<bool>,
+    others: &List<bool>,
+    spans: &mut Spans,
+) -> Result<(), AllocError>
+    ensures live { bits.new ≡ with_reads test.now (either_bits bits.old others.now) }
+    ensures rows { OnOk result (
+        Adds (with_reads test.now (either_bits bits.old others.now) ∷ []) spans.old spans.new
+        ) }
+{
+    join(bits, others);
+    read_tree(bits, test);
+    spans.mark(bits)
 }
 
 // A statement without statements of its own, and the temporary that it writes.
