@@ -86,15 +86,23 @@ module _ (b : Body) where
       let rest = shows.rows t l ∙ ap (marks_in_order (map (flow t) b.code)) out in
       ap (λ c. c ∷ column t rows) (params_bit b.params (live_before (map stm_rows b.code) (no_sets none)) t (omega (arith, wide, l)) ∙ ap (λ c. c || ltb t b.params) live) ∙ ap (λ c. (live_at_start t b.code || ltb t b.params) ∷ c) rest
 
-  rows_all : length (first ∷ rows) ≡ marks_length (all_marks b 0)
-  rows_all = ap suc (code_rows_long b.code (no_sets none) ∙ sym (code_long 0 b.code nowhere))
+  rows_all : (t : ℕ) → length (first ∷ rows) ≡ marks_length (all_marks b t)
+  rows_all t = ap suc (code_rows_long b.code (no_sets none) ∙ sym (code_long t b.code nowhere))
 
-  pub body_spans : (s s' : Spans) (bits : Bits) → bits ≡ live_before (map stm_rows b.code) (no_sets none) → Adds rows (record { positions = 0; begins = replicate b.temps 0; ends = replicate b.temps 0 }) s → Adds (with_params b.params bits ∷ []) s s' → AreSpansOf (all_marks b) b.temps s'
-  body_spans s s' bits e x y =
-      let one : Spanned b.temps rows s = subst (λ l. Spanned b.temps l s) (append-nil rows) (x.adds b.temps [] (start b.temps)) in
-      let all : Spanned b.temps (first ∷ rows) s' = (subst (λ o. Adds (with_params b.params o ∷ []) s s') e y).adds b.temps rows one in
+  -- from lists that the code has made
+  pub body_spans : (levels : Levels) (bits after : Bits) (begins ends : List ℕ) (s s' : Spans) → levels ≡ record { none = none; leaves = []; restarts = [] } → bits ≡ none → begins ≡ replicate b.temps 0 → ends ≡ replicate b.temps 0 →
+      after ≡ live_before (map stm_rows b.code) (sets levels bits) → Adds (rows_in_order (map stm_rows b.code) (sets levels bits)) (record { positions = 0; begins = begins; ends = ends }) s → Adds (with_params b.params after ∷ []) s s' → AreSpansOf (all_marks b) b.temps s'
+  body_spans levels bits after begins ends s s' l z f g e x y =
+      let same : sets levels bits ≡ no_sets none = ap (λ o. sets o bits) l ∙ ap (sets (record { none = none; leaves = []; restarts = [] })) z in
+      let old : Spans = record { positions = 0; begins = begins; ends = ends } in
+      let fresh : Spans = record { positions = 0; begins = replicate b.temps 0; ends = replicate b.temps 0 } in
+      let started : fresh ≡ old = ap (λ o. record { positions = 0; begins = o; ends = replicate b.temps 0 }) (sym f) ∙ ap (λ o. record { positions = 0; begins = begins; ends = o }) (sym g) in
+      let body : Adds rows old s = subst (λ o. Adds (rows_in_order (map stm_rows b.code) o) old s) same x in
+      let one : Spanned b.temps rows s = subst (λ l. Spanned b.temps l s) (append-nil rows) (body.adds b.temps [] (subst (Spanned b.temps []) started (start b.temps))) in
+      let here : after ≡ live_before (map stm_rows b.code) (no_sets none) = e ∙ ap (live_before (map stm_rows b.code)) same in
+      let all : Spanned b.temps (first ∷ rows) s' = (subst (λ o. Adds (with_params b.params o ∷ []) s s') here y).adds b.temps rows one in
       record {
-        positions = all.positions ∙ rows_all;
+        positions = λ t. all.positions ∙ rows_all t;
         begins_long = all.begins_long;
         ends_long = all.ends_long;
         begins = λ t l. all.begins t l ∙ ap from_first (columns t l);

@@ -32,7 +32,7 @@ pub record Adds (rows : List Bits) (s s' : Spans) : Type 0 where
 
 -- the spans of the first n temporaries by their marks
 pub record AreSpansOf (marks : ℕ → List Bool) (n : ℕ) (s : Spans) : Type 0 where
-  pub positions : s.positions ≡ marks_length (marks 0)
+  pub positions : (t : ℕ) → s.positions ≡ marks_length (marks t)
   pub begins_long : length s.begins ≡ n
   pub ends_long : length s.ends ≡ n
   pub begins : (t : ℕ) → t < n → slice_index s.begins t ≡ from_first (marks t)
