@@ -54,7 +54,7 @@ clear_at zero t = refl
 clear_at (suc n) zero = refl
 clear_at (suc n) (suc t) = clear_at n t
 
-long_zeros : (n : ℕ) → length (replicate n 0) ≡ n
+long_zeros : (n : ℕ) → length {A = ℕ} (replicate n 0) ≡ n
 long_zeros zero = refl
 long_zeros (suc n) = ap suc (long_zeros n)
 
@@ -90,10 +90,11 @@ module _ (b : Body) where
   rows_all t = ap suc (code_rows_long b.code (no_sets none) ∙ sym (code_long t b.code nowhere))
 
   -- from lists that the code has made
-  pub body_spans : (levels : Levels) (bits after : Bits) (begins ends : List ℕ) (s s' : Spans) → levels ≡ record { none = none; leaves = []; restarts = [] } → bits ≡ none → begins ≡ replicate b.temps 0 → ends ≡ replicate b.temps 0 →
-      after ≡ live_before (map stm_rows b.code) (sets levels bits) → Adds (rows_in_order (map stm_rows b.code) (sets levels bits)) (record { positions = 0; begins = begins; ends = ends }) s → Adds (with_params b.params after ∷ []) s s' → AreSpansOf (all_marks b) b.temps s'
-  body_spans levels bits after begins ends s s' l z f g e x y =
-      let same : sets levels bits ≡ no_sets none = ap (λ o. sets o bits) l ∙ ap (sets (record { none = none; leaves = []; restarts = [] })) z in
+  pub body_spans : (clear bits after : Bits) (leaves restarts : List Bits) (begins ends : List ℕ) (s s' : Spans) → clear ≡ none → leaves ≡ [] → restarts ≡ [] → bits ≡ none → begins ≡ replicate b.temps 0 → ends ≡ replicate b.temps 0 →
+      after ≡ live_before (map stm_rows b.code) (sets (record { none = clear; leaves = leaves; restarts = restarts }) bits) →
+      Adds (rows_in_order (map stm_rows b.code) (sets (record { none = clear; leaves = leaves; restarts = restarts }) bits)) (record { positions = 0; begins = begins; ends = ends }) s → Adds (with_params b.params after ∷ []) s s' → AreSpansOf (all_marks b) b.temps s'
+  body_spans clear bits after leaves restarts begins ends s s' k l m z f g e x y =
+      let same : sets (record { none = clear; leaves = leaves; restarts = restarts }) bits ≡ no_sets none = λ i. record { none = k i; next = z i; leaves = l i; restarts = m i } in
       let old : Spans = record { positions = 0; begins = begins; ends = ends } in
       let fresh : Spans = record { positions = 0; begins = replicate b.temps 0; ends = replicate b.temps 0 } in
       let started : fresh ≡ old = ap (λ o. record { positions = 0; begins = o; ends = replicate b.temps 0 }) (sym f) ∙ ap (λ o. record { positions = 0; begins = begins; ends = o }) (sym g) in
