@@ -9,7 +9,7 @@ use Rattle.mv_regalloc.specs.Intervals.{first_from, last_from, span, beginning, 
 use Rattle.mv_regalloc.proofs.Apart.{AllApart, scan_apart}
 use Rattle.mv_regalloc.proofs.Counted.{held, scan_held, scan_used, held_used, Begun}
 use Rattle.mv_regalloc.proofs.Marks.{code_long}
-use Rattle.mv_regalloc.proofs.Spans.{first_below, interval_at}
+use Rattle.mv_regalloc.proofs.Ranges.{first_below, interval_at}
 use Rattle.mv_regalloc.proofs.Stands.{by_first_order, given_apart, given_used}
 
 abbrev unit : Bool → ℕ

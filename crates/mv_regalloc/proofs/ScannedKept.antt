@@ -1,17 +1,21 @@
 -- A whole body whose temporaries are renamed by the scan means the same.
 use Rattle.std.proofs.Common.{arith, ◌≡◌, ℕ, ◌-◌, ◌<◌, ◌≤◌, Bool, true, List, refl, sym, ◌∙◌, subst, ◌⊎◌, inl, inr}
+use Rattle.std.specs.Prelude.{slice_index}
 use Rattle.std.proofs.lemmas.Bool.{cases_lt}
 use Rattle.mv_ir.specs.declared.body.Body.{Body}
 use Rattle.mv_ir.specs.Live.{mark_at, marks_length, all_marks, IsWhole, HasTemps}
 use Rattle.mv_regalloc.specs.Scan.{Interval, used, number_of, Overlap}
-use Rattle.mv_regalloc.specs.Rename.{Fits}
-use Rattle.mv_regalloc.specs.Intervals.{span, by_first, range, given, allotted, scanned, IsRenamed}
+use Rattle.mv_regalloc.specs.Rename.{renamed, Fits}
+use Rattle.mv_regalloc.specs.Intervals.{span, by_first, range, given, allotted, IsRenamed}
+use Rattle.mv_regalloc.specs.Tracked.{IsNumbered}
+use Rattle.mv_regalloc.specs.declared.number.Numbering.{Numbering}
 use Rattle.mv_regalloc.proofs.Apart.{numbers_apart, number_found}
-use Rattle.mv_regalloc.proofs.Spans.{marked_any, marked_first, marked_last, first_below}
+use Rattle.mv_regalloc.proofs.Ranges.{marked_any, marked_first, marked_last, first_below}
 use Rattle.mv_regalloc.proofs.Stands.{AreSpans, Stands, in_range, listed, by_first_spans, every_range, scan_stands, scan_stands_new, given_stands, number_used, given_number, scan_number}
-use Rattle.mv_regalloc.proofs.Most.{same_long, scan_all_apart, uses_most}
+use Rattle.mv_regalloc.proofs.Most.{same_long, scan_all_apart, uses_most, enough_temps}
 use Rattle.mv_regalloc.proofs.RenamedKept.{rename_keeps}
-use Rattle.mv_regalloc.proofs.Whole.{stays_whole, few_intervals}
+use Rattle.mv_regalloc.proofs.Whole.{stays_whole, has_temps, few_intervals}
+use Rattle.mv_regalloc.proofs.Counts.{same_statements, same_calls, same_nodes, same_deepest, same_scalars, same_arrays}
 
 module _ (b : Body) (has : HasTemps b) where
   abbrev marks : ℕ → List Bool
@@ -63,12 +67,39 @@ module _ (b : Body) (has : HasTemps b) where
     params = λ t h. scan_number marks b.params t (given marks b.params) others spans h ∙ given_number marks b.params t h;
   }
 
-  pub scanned_is_renamed : IsWhole b → IsRenamed b (scanned b)
-  scanned_is_renamed whole = record {
-    keeps = rename_keeps (number_of (allotted b)) (used (allotted b)) b whole scanned_fits;
-    temps = uses_most b has;
-    whole = stays_whole (number_of (allotted b)) (used (allotted b)) b scanned_fits whole;
-    intervals = (let a = few_intervals (scanned b) in let e = uses_most b has in omega (arith, a, e));
-    numbers = number_of (allotted b);
-    changes = refl;
-  }
+  -- numbers that are those of the scan for each temporary of the body
+  module _ (c : ℕ → ℕ) (same : (t : ℕ) → t < b.temps → c t ≡ number_of (allotted b) t) where
+    fits : Fits c (used (allotted b)) b
+    fits = record {
+      separate = record {
+        apart = λ i t u h k e. scanned_fits.separate.apart i t u h k (sym (same t (has i t h)) ∙ e ∙ same u (has i u k));
+        old = has;
+        new = (λ i t h. let low = scanned_fits.separate.new i t h in let e = same t (has i t h) in omega (arith, low, e));
+      };
+      params = (λ t h. same t (let le = enough_temps b has in omega (arith, h, le)) ∙ scanned_fits.params t h);
+    }
+
+    numbered_is_renamed : (n : ℕ) → n ≡ used (allotted b) → IsWhole b → IsRenamed b (renamed c n b)
+    numbered_is_renamed n e whole =
+        let f : Fits c n b = subst (λ k. Fits c k b) (sym e) fits in
+        record {
+          keeps = rename_keeps c n b whole f;
+          temps = e ∙ uses_most b has;
+          intervals = (let a = few_intervals (renamed c n b) in let m = uses_most b has in omega (arith, a, m, e));
+          whole = stays_whole c n b f whole;
+          has_temps = has_temps c n b f;
+          numbers = c;
+          changes = refl;
+          params = f.params;
+          statements = same_statements c b.code;
+          calls = same_calls c b.code;
+          tree_nodes = same_nodes c b.code;
+          deepest = same_deepest c b.code;
+          scalars = same_scalars c b.code;
+          arrays = same_arrays c b.code;
+        }
+
+-- what the code has made is such a body
+pub is_renamed : (b : Body) → HasTemps b → IsWhole b → (numbering : Numbering) → IsNumbered b numbering → (result : Body) → result ≡ renamed (slice_index numbering.numbers) numbering.used b → IsRenamed b result
+is_renamed b has whole numbering n result e =
+    subst (IsRenamed b) (sym e) (numbered_is_renamed b has (slice_index numbering.numbers) n.numbers numbering.used n.used whole)

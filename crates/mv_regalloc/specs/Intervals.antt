@@ -2,7 +2,8 @@
 use Rattle.std.specs.Prelude.{ℕ, zero, suc, ◌+◌, ◌-◌, ◌≡◌, ◌<◌, ◌≤◌, Bool, true, cond, eqb, ◌&&◌, List, [], ◌∷◌, ◌++◌}
 use Rattle.mv_ir.specs.declared.body.Body.{Body}
 use Rattle.mv_ir.specs.Keeps.{KeepsBody}
-use Rattle.mv_ir.specs.Live.{mark_at, any, marks_length, all_marks, most_intervals, IsWhole}
+use Rattle.mv_ir.specs.Live.{mark_at, any, marks_length, all_marks, most_intervals, IsWhole, HasTemps}
+use Rattle.mv_ir.specs.Measures.{statements, calls, tree_nodes, deepest, scalars_read, arrays_read}
 use Rattle.mv_regalloc.specs.Scan.{Interval, Placed, scan, used, number_of}
 use Rattle.mv_regalloc.specs.Rename.{renamed}
 
@@ -42,16 +43,22 @@ given marks (suc n) = record { interval = span marks n; number = n } ∷ given m
 abbrev pub allotted : Body → List Placed
 allotted b = scan (given (all_marks b) b.params) (by_first (all_marks b) (range b.params (b.temps - b.params)) 0 (marks_length (all_marks b 0)))
 
-abbrev pub scanned : Body → Body
-scanned b = renamed (number_of (allotted b)) (used (allotted b)) b
-
--- The second body means what the first means, at no greater cost; it has as many temporaries as there are intervals
--- over one position at most; it is whole as well, with no more intervals over a position; and nothing but the
--- temporaries has changed.
+-- The second body means what the first means, at no greater cost. It has as many temporaries as there are intervals
+-- over one position at most, and no more intervals over a position. It is whole as well, and its temporaries are its
+-- own. Nothing but the numbers of the temporaries has changed, and those of the parameters stay: so it has as many
+-- statements, calls and tree nodes, trees as deep, and reads the same globals.
 pub record IsRenamed (b result : Body) : Type 0 where
   pub keeps : KeepsBody b result
   pub temps : result.temps ≡ most_intervals b
-  pub whole : IsWhole result
   pub intervals : most_intervals result ≤ most_intervals b
+  pub whole : IsWhole result
+  pub has_temps : HasTemps result
   pub numbers : ℕ → ℕ
   pub changes : result ≡ renamed numbers result.temps b
+  pub params : (t : ℕ) → t < b.params → numbers t ≡ t
+  pub statements : statements result.code ≡ statements b.code
+  pub calls : calls result.code ≡ calls b.code
+  pub tree_nodes : tree_nodes result.code ≡ tree_nodes b.code
+  pub deepest : deepest result.code ≡ deepest b.code
+  pub scalars : scalars_read result.code ≡ scalars_read b.code
+  pub arrays : arrays_read result.code ≡ arrays_read b.code

@@ -1,0 +1,111 @@
+-- The spans of a body's temporaries, from its rows.
+use Rattle.std.proofs.Common.{arith, ◌≡◌, ℕ, zero, suc, ◌+◌, ◌-◌, ◌<◌, ◌≤◌, Bool, true, false, cond, eqb, ltb, ◌&&◌, ◌||◌, List, [], ◌∷◌, ◌++◌, length, map, refl, sym, ap, ◌∙◌, subst, append-nil, ◌⊎◌, inl, inr}
+use Rattle.std.specs.Prelude.{slice_index, slice_set, replicate}
+use Rattle.std.proofs.lemmas.List.{length-set}
+use Rattle.std.proofs.lemmas.Bool.{cases_eq, cases_lt, lt-ltb, le-ltb, eq-eqb, ne_eqb}
+use Rattle.mv_ir.specs.declared.stm.Stm.{Stm}
+use Rattle.mv_ir.specs.declared.body.Body.{Body}
+use Rattle.mv_ir.specs.Live.{mark_at, any, marks_length, live_in_order, marks_in_order, flow, nowhere, live_at_start, all_marks}
+use Rattle.mv_regalloc.specs.declared.live.Levels.{Levels}
+use Rattle.mv_regalloc.specs.declared.spans.Spans.{Spans}
+use Rattle.mv_regalloc.specs.Rows.{Bits, sets, live_before, rows_in_order, stm_rows, no_sets}
+use Rattle.mv_regalloc.specs.Spanned.{column, from_first, behind_last, Spanned, Adds, AreSpansOf, with_params}
+use Rattle.mv_regalloc.proofs.RowBits.{set_bit}
+use Rattle.mv_regalloc.proofs.RowsShow.{ListShows, body_shows, seen_nowhere}
+use Rattle.mv_regalloc.proofs.RowsLong.{code_rows_long}
+use Rattle.mv_regalloc.proofs.Marks.{code_long}
+
+params_long : (n : ℕ) (bits : Bits) → length (with_params n bits) ≡ length bits
+params_long zero bits = refl
+params_long (suc n) bits = length-set (with_params n bits) n true ∙ params_long n bits
+
+params_bit : (n : ℕ) (bits : Bits) (t : ℕ) → t < length bits → mark_at (with_params n bits) t ≡ (mark_at bits t || ltb t n)
+params_bit zero bits t l = by (mark_at bits t) ∙ ap (λ c. mark_at bits t || c) (sym (le-ltb t 0 (omega arith)))
+  where
+    by : (c : Bool) → c ≡ (c || false)
+    by true = refl
+    by false = refl
+params_bit (suc n) bits t l =
+    let long = params_long n bits in
+    set_bit (with_params n bits) n t true (omega (arith, long, l)) ∙ ap (cond (eqb n t) true) (params_bit n bits t l) ∙ by (cases_eq n t) (cases_lt t n)
+  where
+    or_true : (c : Bool) → true ≡ (c || true)
+    or_true true = refl
+    or_true false = refl
+
+    by : (n ≡ t) ⊎ (n ≡ t → ⊥) → (t < n) ⊎ (n ≤ t) → cond (eqb n t) true (mark_at bits t || ltb t n) ≡ (mark_at bits t || ltb t (suc n))
+    by (inl e) k = ap (λ c. cond c true (mark_at bits t || ltb t n)) (eq-eqb n t e) ∙ or_true (mark_at bits t) ∙ ap (λ c. mark_at bits t || c) (sym (lt-ltb t (suc n) (omega (arith, e))))
+    by (inr e) (inl k) =
+        ap (λ c. cond c true (mark_at bits t || ltb t n)) (ne_eqb n t e) ∙ ap (λ c. mark_at bits t || c) (lt-ltb t n k ∙ sym (lt-ltb t (suc n) (omega (arith, k))))
+    by (inr e) (inr k) =
+        ap (λ c. cond c true (mark_at bits t || ltb t n)) (ne_eqb n t e) ∙ ap (λ c. mark_at bits t || c) (le-ltb t n k ∙ sym (le-ltb t (suc n) (far (cases_lt n t))))
+      where
+        far : (n < t) ⊎ (t ≤ n) → suc n ≤ t
+        far (inl h) = h
+        far (inr h) = absurd (e (omega (arith, h, k)))
+
+zeros_at : (n t : ℕ) → slice_index (replicate n 0) t ≡ 0
+zeros_at zero t = refl
+zeros_at (suc n) zero = refl
+zeros_at (suc n) (suc t) = zeros_at n t
+
+clear_at : (n t : ℕ) → mark_at (replicate n false) t ≡ false
+clear_at zero t = refl
+clear_at (suc n) zero = refl
+clear_at (suc n) (suc t) = clear_at n t
+
+long_zeros : (n : ℕ) → length {A = ℕ} (replicate n 0) ≡ n
+long_zeros zero = refl
+long_zeros (suc n) = ap suc (long_zeros n)
+
+pub long_clear : (n : ℕ) → length (replicate n false) ≡ n
+long_clear zero = refl
+long_clear (suc n) = ap suc (long_clear n)
+
+start : (n : ℕ) → Spanned n [] (record { positions = 0; begins = replicate n 0; ends = replicate n 0 })
+start n = record { positions = refl; begins_long = long_zeros n; ends_long = long_zeros n; begins = λ t l. zeros_at n t; ends = λ t l. zeros_at n t }
+
+module _ (b : Body) where
+  abbrev none : Bits
+  none = replicate b.temps false
+
+  abbrev rows : List Bits
+  rows = rows_in_order (map stm_rows b.code) (no_sets none)
+
+  abbrev first : Bits
+  first = with_params b.params (live_before (map stm_rows b.code) (no_sets none))
+
+  shows : ListShows b.temps b.code (no_sets none)
+  shows = body_shows b.temps b.code none (long_clear b.temps) (clear_at b.temps)
+
+  columns : (t : ℕ) → t < b.temps → column t (first ∷ rows) ≡ all_marks b t
+  columns t l =
+      let out = seen_nowhere b.temps none t (clear_at b.temps t) in
+      let wide = shows.long in
+      let live = shows.live t l ∙ ap (live_in_order (map (flow t) b.code)) out in
+      let rest = shows.rows t l ∙ ap (marks_in_order (map (flow t) b.code)) out in
+      ap (λ c. c ∷ column t rows) (params_bit b.params (live_before (map stm_rows b.code) (no_sets none)) t (omega (arith, wide, l)) ∙ ap (λ c. c || ltb t b.params) live) ∙ ap (λ c. (live_at_start t b.code || ltb t b.params) ∷ c) rest
+
+  rows_all : (t : ℕ) → length (first ∷ rows) ≡ marks_length (all_marks b t)
+  rows_all t = ap suc (code_rows_long b.code (no_sets none) ∙ sym (code_long t b.code nowhere))
+
+  -- from lists that the code has made
+  pub body_spans : (clear bits after : Bits) (leaves restarts : List Bits) (begins ends : List ℕ) (s s' : Spans) → clear ≡ none → leaves ≡ [] → restarts ≡ [] → bits ≡ none → begins ≡ replicate b.temps 0 → ends ≡ replicate b.temps 0 →
+      after ≡ live_before (map stm_rows b.code) (sets (record { none = clear; leaves = leaves; restarts = restarts }) bits) →
+      Adds (rows_in_order (map stm_rows b.code) (sets (record { none = clear; leaves = leaves; restarts = restarts }) bits)) (record { positions = 0; begins = begins; ends = ends }) s → Adds (with_params b.params after ∷ []) s s' → AreSpansOf (all_marks b) b.temps s'
+  body_spans clear bits after leaves restarts begins ends s s' k l m z f g e x y =
+      let same : sets (record { none = clear; leaves = leaves; restarts = restarts }) bits ≡ no_sets none = λ i. record { none = k i; next = z i; leaves = l i; restarts = m i } in
+      let old : Spans = record { positions = 0; begins = begins; ends = ends } in
+      let fresh : Spans = record { positions = 0; begins = replicate b.temps 0; ends = replicate b.temps 0 } in
+      let started : fresh ≡ old = ap (λ o. record { positions = 0; begins = o; ends = replicate b.temps 0 }) (sym f) ∙ ap (λ o. record { positions = 0; begins = begins; ends = o }) (sym g) in
+      let body : Adds rows old s = subst (λ o. Adds (rows_in_order (map stm_rows b.code) o) old s) same x in
+      let one : Spanned b.temps rows s = subst (λ l. Spanned b.temps l s) (append-nil rows) (body.adds b.temps [] (subst (Spanned b.temps []) started (start b.temps))) in
+      let here : after ≡ live_before (map stm_rows b.code) (no_sets none) = e ∙ ap (live_before (map stm_rows b.code)) same in
+      let all : Spanned b.temps (first ∷ rows) s' = (subst (λ o. Adds (with_params b.params o ∷ []) s s') here y).adds b.temps rows one in
+      record {
+        positions = λ t. all.positions ∙ rows_all t;
+        begins_long = all.begins_long;
+        ends_long = all.ends_long;
+        begins = λ t l. all.begins t l ∙ ap from_first (columns t l);
+        ends = λ t l. all.ends t l ∙ ap behind_last (columns t l);
+      }

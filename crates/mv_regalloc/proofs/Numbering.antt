@@ -1,0 +1,162 @@
+-- The scan of a body by its table of spans, step by step.
+use Rattle.std.proofs.Common.{arith, ◌≡◌, ℕ, zero, suc, ◌+◌, ◌-◌, ◌<◌, ◌≤◌, Bool, true, false, cond, eqb, ltb, ◌&&◌, ◌||◌, List, [], ◌∷◌, ◌++◌, length, refl, sym, ap, ◌∙◌, subst, append-nil, ◌⊎◌, inl, inr}
+use Rattle.std.specs.Prelude.{slice_index, replicate}
+use Rattle.std.proofs.lemmas.Bool.{cases_eq, le-ltb, eq-eqb, ne_eqb, eqb-true}
+use Rattle.mv_ir.specs.declared.body.Body.{Body}
+use Rattle.mv_ir.specs.Live.{mark_at, any, marks_length, live_at_start, all_marks, marks_in_order, flow, nowhere}
+use Rattle.mv_regalloc.specs.declared.spans.Spans.{Spans}
+use Rattle.mv_regalloc.specs.Scan.{Placed, Interval, placed, scan, used}
+use Rattle.mv_regalloc.specs.Intervals.{first_from, last_from, span, beginning, by_first, range, given}
+use Rattle.mv_regalloc.specs.Spanned.{from_first, behind_last, AreSpansOf}
+use Rattle.mv_regalloc.specs.Tracked.{Tracks, interval}
+use Rattle.mv_regalloc.proofs.Adding.{none_first}
+use Rattle.mv_regalloc.proofs.Ranges.{first_last, first_below}
+use Rattle.mv_regalloc.proofs.Sweep.{scan_append, by_first_more, beginning_more, given_placed}
+
+-- ---- counted from the end
+
+first_sum : (k : ℕ) (xs : List Bool) → any xs ≡ true → first_from k xs + from_first xs ≡ k + marks_length xs
+first_sum k [] h = let e : false ≡ true = h in absurd cc
+first_sum k (true ∷ xs) h = refl
+first_sum k (false ∷ xs) h = let e = first_sum (suc k) xs h in omega (arith, e)
+
+last_sum : (k : ℕ) (xs : List Bool) → any xs ≡ true → suc (last_from k xs) + behind_last xs ≡ k + marks_length xs
+last_sum k [] h = let e : false ≡ true = h in absurd cc
+last_sum k (x ∷ xs) h = by x (any xs) refl h (last_sum (suc k) xs)
+  where
+    by : (x a : Bool) → any xs ≡ a → (x || a) ≡ true → (any xs ≡ true → suc (last_from (suc k) xs) + behind_last xs ≡ suc k + marks_length xs) →
+        suc (cond (any xs) (last_from (suc k) xs) k) + cond (any xs) (behind_last xs) (cond x (marks_length xs) 0) ≡ k + suc (marks_length xs)
+    by x true e h again =
+        let s = again e in
+        let a : cond (any xs) (last_from (suc k) xs) k ≡ last_from (suc k) xs = ap (λ c. cond c (last_from (suc k) xs) k) e in
+        let b : cond (any xs) (behind_last xs) (cond x (marks_length xs) 0) ≡ behind_last xs = ap (λ c. cond c (behind_last xs) (cond x (marks_length xs) 0)) e in
+        omega (arith, s, a, b)
+    by true false e h again =
+        let a : cond (any xs) (last_from (suc k) xs) k ≡ k = ap (λ c. cond c (last_from (suc k) xs) k) e in
+        let b : cond (any xs) (behind_last xs) (marks_length xs) ≡ marks_length xs = ap (λ c. cond c (behind_last xs) (marks_length xs)) e in
+        omega (arith, a, b)
+    by false false e h again = absurd cc
+
+pub begins_test : (xs : List Bool) (at : ℕ) → at < marks_length xs → from_first xs ≡ marks_length xs - at → (any xs && eqb (first_from 0 xs) at) ≡ true
+begins_test xs at h e = by (any xs) refl
+  where
+    by : (a : Bool) → any xs ≡ a → (any xs && eqb (first_from 0 xs) at) ≡ true
+    by true k = let s = first_sum 0 xs k in ap (λ c. c && eqb (first_from 0 xs) at) k ∙ eq-eqb (first_from 0 xs) at (omega (arith, s, h, e))
+    by false k = let z = none_first xs k in absurd (omega (arith, z, e, h))
+
+pub begins_not : (xs : List Bool) (at : ℕ) → at < marks_length xs → (from_first xs ≡ marks_length xs - at → ⊥) → (any xs && eqb (first_from 0 xs) at) ≡ false
+begins_not xs at h ne = by (any xs) refl
+  where
+    by : (a : Bool) → any xs ≡ a → (any xs && eqb (first_from 0 xs) at) ≡ false
+    by true k = let s = first_sum 0 xs k in ap (λ c. c && eqb (first_from 0 xs) at) k ∙ ne_eqb (first_from 0 xs) at (λ f. ne (omega (arith, s, h, f)))
+    by false k = ap (λ c. c && eqb (first_from 0 xs) at) k
+
+both_left : (a b : Bool) → (a && b) ≡ true → a ≡ true
+both_left true b h = refl
+both_left false b h = h
+
+both_right : (a b : Bool) → (a && b) ≡ true → b ≡ true
+both_right true b h = h
+both_right false b h = let e : false ≡ true = h in absurd cc
+
+-- ---- one temporary
+
+module _ (marks : ℕ → List Bool) (n : ℕ) (s : Spans) (h : AreSpansOf marks n s) where
+  end_of : (t : ℕ) → t < n → any (marks t) ≡ true → s.positions - slice_index s.ends t ≡ suc (last_from 0 (marks t))
+  end_of t l a =
+      let p = h.positions t in
+      let e = h.ends t l in
+      let k = last_sum 0 (marks t) a in
+      omega (arith, p, e, k)
+
+  abbrev At : ℕ → ℕ → Interval
+  At t first = interval t first (s.positions - slice_index s.ends t - 1)
+
+  span_at : (t first : ℕ) → t < n → any (marks t) ≡ true → first_from 0 (marks t) ≡ first → At t first ≡ span marks t
+  span_at t first l a f =
+      let e = end_of t l a in
+      let last : s.positions - slice_index s.ends t - 1 ≡ last_from 0 (marks t) = omega (arith, e) in
+      ap (λ k. interval t k (s.positions - slice_index s.ends t - 1)) (sym f) ∙ ap (interval t (first_from 0 (marks t))) last
+
+  before_end : (t first : ℕ) → t < n → any (marks t) ≡ true → first_from 0 (marks t) ≡ first → first < s.positions - slice_index s.ends t
+  before_end t first l a f = let e = end_of t l a in let o = first_last 0 (marks t) a in omega (arith, e, o, f)
+
+  -- ---- parameters
+
+  module _ (k : ℕ) (low : k < n) (marked : mark_at (marks k) 0 ≡ true) where
+    some_of : (xs : List Bool) → mark_at xs 0 ≡ true → any xs ≡ true
+    some_of [] m = m
+    some_of (x ∷ xs) m = ap (λ c. c || any xs) m
+
+    zero_of : (xs : List Bool) → mark_at xs 0 ≡ true → first_from 0 xs ≡ 0
+    zero_of [] m = refl
+    zero_of (x ∷ xs) m = ap (λ c. cond c 0 (first_from 1 xs)) m
+
+    pub param_before : 0 < s.positions - slice_index s.ends k
+    param_before = before_end k 0 low (some_of (marks k) marked) (zero_of (marks k) marked)
+
+    pub param_placed : (ends numbers : List ℕ) → Tracks (placed (given marks k) (At k 0) ∷ given marks k) ends numbers → Tracks (given marks (k + 1)) ends numbers
+    param_placed ends numbers t =
+        let next : suc k ≡ k + 1 = omega arith in
+        subst (λ j. Tracks (given marks j) ends numbers) next
+        (subst (λ d. Tracks d ends numbers) (given_placed marks k (zero_of (marks k) marked))
+        (subst (λ x. Tracks (placed (given marks k) x ∷ given marks k) ends numbers) (span_at k 0 low (some_of (marks k) marked) (zero_of (marks k) marked)) t))
+
+  -- ---- the others
+
+  module _ (at a t : ℕ) (low : a ≤ t) (high : t < n) (here : at < s.positions) where
+    range_more : range a (t + 1 - a) ≡ range a (t - a) ++ t ∷ []
+    range_more =
+        let e : t + 1 - a ≡ suc (t - a) = omega arith in
+        let f : a + (t - a) ≡ t = omega (arith, low) in
+        ap (range a) e ∙ ap (λ k. range a (t - a) ++ k ∷ []) f
+
+    abbrev before : List Interval
+    before = beginning marks at (range a (t - a))
+
+    scan_more : (done : List Placed) (xs : List Interval) → beginning marks at (t ∷ []) ≡ xs → scan done (beginning marks at (range a (t + 1 - a))) ≡ scan (scan done before) xs
+    scan_more done xs e =
+        let m : t + 1 - a ≡ suc (t - a) = omega (arith, low) in
+        let f : a + (t - a) ≡ t = omega (arith, low) in
+        ap (λ k. scan done (beginning marks at (range a k))) m ∙ ap (scan done) (beginning_more marks at a (t - a) ∙ ap (λ k. before ++ beginning marks at (k ∷ [])) f ∙ ap (λ l. before ++ l) e) ∙ scan_append done before xs
+
+    test_of : slice_index s.begins t ≡ s.positions - at → (any (marks t) && eqb (first_from 0 (marks t)) at) ≡ true
+    test_of e =
+        let p = h.positions t in
+        begins_test (marks t) at (omega (arith, p, here)) (let b = h.begins t high in omega (arith, b, p, e))
+
+    pub at_before : slice_index s.begins t ≡ s.positions - at → at < s.positions - slice_index s.ends t
+    at_before e =
+        let test = test_of e in
+        before_end t at high (both_left _ _ test) (eqb-true (first_from 0 (marks t)) at (both_right (any (marks t)) (eqb (first_from 0 (marks t)) at) test))
+
+    pub at_placed : slice_index s.begins t ≡ s.positions - at → (done : List Placed) (ends numbers : List ℕ) → Tracks (placed (scan done before) (At t at) ∷ scan done before) ends numbers → Tracks (scan done (beginning marks at (range a (t + 1 - a)))) ends numbers
+    at_placed e done ends numbers k =
+        let test = test_of e in
+        let first = eqb-true (first_from 0 (marks t)) at (both_right (any (marks t)) (eqb (first_from 0 (marks t)) at) test) in
+        let list : beginning marks at (t ∷ []) ≡ span marks t ∷ [] = ap (λ c. cond c (span marks t ∷ []) []) test in
+        subst (λ d. Tracks d ends numbers) (sym (scan_more done (span marks t ∷ []) list))
+        (subst (λ x. Tracks (placed (scan done before) x ∷ scan done before) ends numbers) (span_at t at high (both_left _ _ test) first) k)
+
+    pub at_passed : (slice_index s.begins t ≡ s.positions - at → ⊥) → (done : List Placed) (ends numbers : List ℕ) → Tracks (scan done before) ends numbers → Tracks (scan done (beginning marks at (range a (t + 1 - a)))) ends numbers
+    at_passed ne done ends numbers k =
+        let p = h.positions t in
+        let test = begins_not (marks t) at (omega (arith, p, here)) (λ e. ne (let b = h.begins t high in omega (arith, b, p, e))) in
+        let list : beginning marks at (t ∷ []) ≡ [] = ap (λ c. cond c (span marks t ∷ []) []) test in
+        subst (λ d. Tracks d ends numbers) (sym (scan_more done [] list)) k
+
+-- ---- one position
+
+pub position_more : (marks : ℕ → List Bool) (done : List Placed) (ts : List ℕ) (at : ℕ) → scan (scan done (by_first marks ts 0 at)) (beginning marks at ts) ≡ scan done (by_first marks ts 0 (at + 1))
+position_more marks done ts at =
+    let e : at + 1 ≡ suc at = omega arith in
+    let f : 0 + at ≡ at = omega arith in
+    sym (scan_append done (by_first marks ts 0 at) (beginning marks at ts)) ∙ ap (λ k. scan done (by_first marks ts 0 at ++ beginning marks k ts)) (sym f) ∙ ap (scan done) (sym (by_first_more marks ts 0 at)) ∙ ap (λ k. scan done (by_first marks ts 0 k)) (sym e)
+
+zeros_at : (n t : ℕ) → slice_index (replicate n 0) t ≡ 0
+zeros_at zero t = refl
+zeros_at (suc n) zero = refl
+zeros_at (suc n) (suc t) = zeros_at n t
+
+pub tracks_none : (n : ℕ) → Tracks [] [] (replicate n 0)
+tracks_none n = record { long = refl; busy = λ k at. sym (le-ltb at 0 (omega arith)); numbered = λ t l. zeros_at n t }

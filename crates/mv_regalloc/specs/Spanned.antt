@@ -1,0 +1,44 @@
+-- The spans of temporaries as they are counted from the end of some code.
+use Rattle.std.specs.Prelude.{ℕ, suc, ◌+◌, ◌-◌, ◌≡◌, ◌<◌, ◌≤◌, Bool, true, cond, List, [], ◌∷◌, ◌++◌, length, map, slice_index, slice_set, zero}
+use Rattle.mv_ir.specs.Live.{mark_at, any, marks_length}
+use Rattle.mv_regalloc.specs.declared.spans.Spans.{Spans}
+use Rattle.mv_regalloc.specs.Rows.{Bits}
+
+-- a temporary's marks
+abbrev pub column : ℕ → List Bits → List Bool
+column t = map (λ bits. mark_at bits t)
+
+-- how many positions there are from the first marked one on: none where none is marked
+abbrev pub from_first : List Bool → ℕ
+from_first [] = 0
+from_first (x ∷ xs) = cond x (suc (marks_length xs)) (from_first xs)
+
+-- how many positions there are behind the last marked one
+abbrev pub behind_last : List Bool → ℕ
+behind_last [] = 0
+behind_last (x ∷ xs) = cond (any xs) (behind_last xs) (cond x (marks_length xs) 0)
+
+-- the spans of n temporaries over some rows
+pub record Spanned (n : ℕ) (rows : List Bits) (s : Spans) : Type 0 where
+  pub positions : s.positions ≡ length rows
+  pub begins_long : length s.begins ≡ n
+  pub ends_long : length s.ends ≡ n
+  pub begins : (t : ℕ) → t < n → slice_index s.begins t ≡ from_first (column t rows)
+  pub ends : (t : ℕ) → t < n → slice_index s.ends t ≡ behind_last (column t rows)
+
+-- the second spans have some more rows before those of the first
+pub record Adds (rows : List Bits) (s s' : Spans) : Type 0 where
+  pub adds : (n : ℕ) (rest : List Bits) → Spanned n rest s → Spanned n (rows ++ rest) s'
+
+-- the spans of the first n temporaries by their marks
+pub record AreSpansOf (marks : ℕ → List Bool) (n : ℕ) (s : Spans) : Type 0 where
+  pub positions : (t : ℕ) → s.positions ≡ marks_length (marks t)
+  pub begins_long : length s.begins ≡ n
+  pub ends_long : length s.ends ≡ n
+  pub begins : (t : ℕ) → t < n → slice_index s.begins t ≡ from_first (marks t)
+  pub ends : (t : ℕ) → t < n → slice_index s.ends t ≡ behind_last (marks t)
+
+-- the bits with those of the first n temporaries set
+abbrev pub with_params : ℕ → Bits → Bits
+with_params zero bits = bits
+with_params (suc n) bits = slice_set (with_params n bits) n true

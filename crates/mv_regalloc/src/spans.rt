@@ -1,0 +1,252 @@
+// The first and the last position of each temporary: one walk from the end of a body to its start.
+
+ghost use Rattle.std.specs.Prelude.{ℕ, ◌≡◌, ◌<◌, ◌&&◌, ◌∷◌, [], true, false, cond, eqb, map, length, slice_index, replicate, IfOk, OnOk};
+ghost use Rattle.mv_ir.specs.Live.{mark_at, all_marks};
+ghost use Rattle.mv_regalloc.specs.Rows.{sets, with_reads, either_bits, put_bit, live_before, rows_in_order, stm_rows};
+ghost use Rattle.mv_regalloc.specs.Spanned.{Adds, AreSpansOf, with_params};
+
+use crate::bits::{has, join, put, read_tree, set};
+use crate::live::{live_loop, live_stm, Levels};
+use mv_ir::body::Body;
+use mv_ir::stm::Stm;
+use mv_ir::tree::Tree;
+use mv_num::list::List;
+use std::alloc::{AllocError, Global};
+
+/// For each temporary how many positions there are from its first one on, or 0 where it has none, and how many
+/// there are behind its last one; of as many positions as have been walked over.
+#[derive(Drop)]
+pub struct Spans {
+    pub positions: u64,
+    pub begins: List<u64>,
+    pub ends: List<u64>,
+}
+
+fn zeros(alloc: Global, count: usize) -> Result<List<u64>, AllocError>
+    ensures { IfOk result (λ items. items ≡ replicate count 0) }
+{
+    Ok(List::from_vec(vec![in alloc; 0; count]?))
+}
+
+// Puts a value at each place that a row marks.
+fn put_marked(items: &mut List<u64>, row: &List<bool>, value: u64)
+    ensures length { length items.new ≡ length items.old }
+    ensures items { (t : ℕ) → t < length items.old →
+        slice_index items.new t ≡ cond (mark_at row.now t) value (slice_index items.old t) }
+{
+    for place in 0..items.len() {
+        if has(row, place) {
+            items.set(place, value);
+        }
+    }
+}
+
+// Puts a value at each place that a row marks and where the other list has 0.
+fn put_first(items: &mut List<u64>, others: &List<u64>, row: &List<bool>, value: u64)
+    ensures length { length items.new ≡ length items.old }
+    ensures items { (t : ℕ) → t < length items.old →
+        slice_index items.new t ≡
+        cond (mark_at row.now t && eqb (slice_index others.now t) 0) value (slice_index items.old t) }
+{
+    for place in 0..items.len() {
+        if has(row, place) && is_zero(others, place) {
+            items.set(place, value);
+        }
+    }
+}
+
+fn is_zero(items: &List<u64>, place: usize) -> bool
+    ensures { result ≡ eqb (slice_index items.now place) 0 }
+{
+    match items.get(place) {
+        Some(item) => *item == 0,
+        None => true,
+    }
+}
+
+impl Spans {
+    /// One position more before the others, at which a row marks temporaries. A body's positions are fewer than
+    /// 2^64, since each takes memory.
+    pub fn mark(&mut self, row: &List<bool>) -> Result<(), AllocError>
+        ensures { OnOk result (Adds (row.now ∷ []) self.old self.new) }
+    {
+        let behind = self.positions;
+        if behind == u64::MAX {
+            return Err(AllocError);
+        }
+        put_first(&mut self.ends, &self.begins, row, behind);
+        put_marked(&mut self.begins, row, behind + 1);
+        self.positions = behind + 1;
+        Ok(())
+    }
+}
+
+/// Walks over some code from its end, as `live_code` does, and adds its positions to the spans.
+#[cycle(spans)]
+pub fn mark_code(
+    alloc: Global,
+    code: &List<Stm>,
+    bits: &mut List<bool>,
+    levels: &Levels,
+    spans: &mut Spans,
+) -> Result<(), AllocError>
+    ensures live { OnOk result (bits.new ≡ live_before (map stm_rows code.now) (sets levels.now bits.old)) }
+    ensures rows { OnOk result (Adds (rows_in_order (map stm_rows code.now) (sets levels.now bits.old)) spans.old spans.new) }
+{
+    let stms = code.as_slice();
+    for done in 0..stms.len() {
+        mark_stm(alloc, &stms[stms.len() - 1 - done], bits, levels, spans)?;
+    }
+    Ok(())
+}
+
+#[cycle(spans)]
+#[tactic(auto, using(crate::proofs::RowEquations::marked_stms))]
+fn mark_stm(
+    alloc: Global,
+    stm: &Stm,
+    bits: &mut List<bool>,
+    levels: &Levels,
+    spans: &mut Spans,
+) -> Result<(), AllocError>
+    ensures live { OnOk result (bits.new ≡ (stm_rows stm.now).live (sets levels.now bits.old)) }
+    ensures rows { OnOk result (Adds ((stm_rows stm.now).rows (sets levels.now bits.old)) spans.old spans.new) }
+{
+    match stm {
+        Stm::Set(t, _) => mark_plain(alloc, stm, Some(*t), bits, levels, spans),
+        Stm::SetGlobal(_, _) => mark_plain(alloc, stm, None, bits, levels, spans),
+        Stm::Divide(t, _, _, _) => mark_plain(alloc, stm, Some(*t), bits, levels, spans),
+        Stm::Check(_, _) => mark_plain(alloc, stm, None, bits, levels, spans),
+        Stm::Read(t, _, _) => mark_plain(alloc, stm, Some(*t), bits, levels, spans),
+        Stm::Write(_, _, _) => mark_plain(alloc, stm, None, bits, levels, spans),
+        Stm::Zero(_) => mark_plain(alloc, stm, None, bits, levels, spans),
+        Stm::If(t, a, b) => {
+            let mut others = bits.copied(alloc)?;
+            mark_code(alloc, b, &mut others, levels, spans)?;
+            mark_code(alloc, a, bits, levels, spans)?;
+            mark_test(t, bits, &others, spans)
+        }
+        Stm::Loop(b) => mark_loop(alloc, b, bits, levels, spans),
+        Stm::Block(b) => mark_block(alloc, b, bits, levels, spans),
+        Stm::Break(_) => mark_plain(alloc, stm, None, bits, levels, spans),
+        Stm::Back(_) => mark_plain(alloc, stm, None, bits, levels, spans),
+        Stm::Call(t, _, _) => mark_plain(alloc, stm, *t, bits, levels, spans),
+        Stm::Known(t, _, _) => mark_plain(alloc, stm, *t, bits, levels, spans),
+        Stm::Return(_) => mark_plain(alloc, stm, None, bits, levels, spans),
+    }
+}
+
+#[cycle(spans)]
+fn mark_loop(
+    alloc: Global,
+    code: &List<Stm>,
+    bits: &mut List<bool>,
+    levels: &Levels,
+    spans: &mut Spans,
+) -> Result<(), AllocError>
+    ensures live { OnOk result (bits.new ≡ (stm_rows (Stm.Loop code.now)).live (sets levels.now bits.old)) }
+    ensures rows { OnOk result (
+        Adds ((stm_rows (Stm.Loop code.now)).rows (sets levels.now bits.old)) spans.old spans.new
+        ) }
+{
+    let behind = bits.copied(alloc)?;
+    live_loop(alloc, code, bits, levels)?;
+    let inner = levels.inside(alloc, &behind, bits)?;
+    let mut within = bits.copied(alloc)?;
+    mark_code(alloc, code, &mut within, &inner, spans)?;
+    spans.mark(bits)
+}
+
+#[cycle(spans)]
+#[tactic(auto, using(crate::proofs::RowEquations::live_block))]
+fn mark_block(
+    alloc: Global,
+    code: &List<Stm>,
+    bits: &mut List<bool>,
+    levels: &Levels,
+    spans: &mut Spans,
+) -> Result<(), AllocError>
+    ensures live { OnOk result (bits.new ≡ (stm_rows (Stm.Block code.now)).live (sets levels.now bits.old)) }
+    ensures rows { OnOk result (
+        Adds ((stm_rows (Stm.Block code.now)).rows (sets levels.now bits.old)) spans.old spans.new
+        ) }
+{
+    let inner = levels.inside(alloc, bits, &levels.none)?;
+    mark_code(alloc, code, bits, &inner, spans)?;
+    spans.mark(bits)
+}
+
+// The position of an `If`, from what is live before its two lists.
+fn mark_test(
+    test: &Tree,
+    bits: &mut List<bool>,
+    others: &List<bool>,
+    spans: &mut Spans,
+) -> Result<(), AllocError>
+    ensures live { bits.new ≡ with_reads test.now (either_bits bits.old others.now) }
+    ensures rows { OnOk result (
+        Adds (with_reads test.now (either_bits bits.old others.now) ∷ []) spans.old spans.new
+        ) }
+{
+    join(bits, others);
+    read_tree(bits, test);
+    spans.mark(bits)
+}
+
+// A statement without statements of its own, and the temporary that it writes.
+fn mark_plain(
+    alloc: Global,
+    stm: &Stm,
+    written: Option<u32>,
+    bits: &mut List<bool>,
+    levels: &Levels,
+    spans: &mut Spans,
+) -> Result<(), AllocError>
+    ensures live { OnOk result (bits.new ≡ (stm_rows stm.now).live (sets levels.now bits.old)) }
+    ensures rows { OnOk result (
+        Adds (put_bit written true ((stm_rows stm.now).live (sets levels.now bits.old)) ∷ []) spans.old spans.new
+        ) }
+{
+    live_stm(alloc, stm, bits, levels)?;
+    let mut row = bits.copied(alloc)?;
+    put(&mut row, written, true);
+    spans.mark(&row)
+}
+
+fn no_bits(alloc: Global, count: usize) -> Result<List<bool>, AllocError>
+    ensures { IfOk result (λ bits. bits ≡ replicate count false) }
+{
+    Ok(List::from_vec(vec![in alloc; false; count]?))
+}
+
+// The parameters are there at the start.
+#[tactic(auto, using(crate::proofs::Adding::params_more))]
+fn set_params(bits: &mut List<bool>, params: u32)
+    ensures { bits.new ≡ with_params params bits.old }
+{
+    for param in 0..params {
+        set(bits, param, true);
+    }
+}
+
+/// The spans of a body's temporaries.
+pub fn spans_of(alloc: Global, body: &Body) -> Result<Spans, AllocError>
+    ensures { IfOk result (λ spans. AreSpansOf (all_marks body.now) body.now.temps spans) }
+{
+    let temps = body.temps as usize;
+    let mut spans = Spans {
+        positions: 0,
+        begins: zeros(alloc, temps)?,
+        ends: zeros(alloc, temps)?,
+    };
+    let mut bits = no_bits(alloc, temps)?;
+    let levels = Levels {
+        none: no_bits(alloc, temps)?,
+        leaves: List::new(alloc),
+        restarts: List::new(alloc),
+    };
+    mark_code(alloc, &body.code, &mut bits, &levels, &mut spans)?;
+    set_params(&mut bits, body.params);
+    spans.mark(&bits)?;
+    Ok(spans)
+}
