@@ -1,1 +1,3 @@
+pub mod Classes
 pub mod Exact
+pub mod Shapes
