@@ -1,3 +1,5 @@
 pub mod Classes
 pub mod Exact
+pub mod Lists
+pub mod Peek
 pub mod Shapes
