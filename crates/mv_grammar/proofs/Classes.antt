@@ -1,6 +1,6 @@
 -- Classes of terminals: what a test says of each terminal of a class.
 use Rattle.std.proofs.Common.{◌≡◌, ℕ, zero, suc, ◌+◌, ◌<◌, ◌≤◌, Bool, true, false, List, [], ◌∷◌, ◌++◌, ◌⊎◌, inl, inr, refl, sym, ap, subst, ◌∙◌, arith}
-use Rattle.std.specs.Prelude.{nat_eq, nat_le, ◌||◌, ◌&&◌}
+use Rattle.std.specs.Prelude.{nat_eq, nat_le, ◌||◌, ◌&&◌, not}
 use Rattle.std.proofs.lemmas.Bool.{eqb-true, leb-false, lt-leb}
 use Rattle.std.proofs.lemmas.Bool.Decides.{nat_tests}
 use Rattle.mv_ast.specs.declared.place.Place.{Place}
@@ -41,13 +41,20 @@ and_false false = refl
 abbrev pub either : (Terminal → Bool) → (Terminal → Bool) → Terminal → Bool
 either f g t = f t || g t
 
--- all terminals of none of a class
+-- all terminals that aren't of a class
 abbrev pub all_but : (Terminal → Bool) → Terminal → Bool
-all_but f t = go (f t)
+all_but f t = not (f t)
+
+pub of_all_but : (f : Terminal → Bool) (t : Terminal) → all_but f t ≡ false → f t ≡ true
+of_all_but f t h = go (f t) h
   where
-    go : Bool → Bool
-    go true = false
-    go false = true
+    go : (v : Bool) → not v ≡ false → v ≡ true
+    go true h = refl
+    go false h = absurd (cc)
+
+-- a class that leaves out two, as the two tell
+pub but_two : (f g h : Terminal → Bool) → ((t : Terminal) → f t ≡ true → h t ≡ false) → ((t : Terminal) → g t ≡ true → h t ≡ false) → (t : Terminal) → all_but (either f g) t ≡ false → h t ≡ false
+but_two f g h a b t k = elim (or_cases (f t) (g t) (of_all_but (either f g) t k)) [ inl m ↦ a t m | inr m ↦ b t m ]
 
 -- single kinds
 
@@ -199,6 +206,11 @@ of_class c g v h (Chars cs) k = let u = said c g 0 Int cs v (h 0 Int cs) in of_h
 -- what a test says of each terminal of a class
 pub at_class : (c : Class) (f : Terminal → Bool) {v : Bool} → ((p : Place) (s : List ℕ) (n : ℕ) (k : Kind) (cs : List ℕ) → says c (λ w. f (terminal_at p s w)) n k cs v ≡ true) → (t : Terminal) → is_in c t ≡ true → f t ≡ v
 at_class c f {v} h t k = of_class c (λ w. f (terminal_at t.place t.spelling w)) v (h t.place t.spelling) t.what k
+
+-- what a test says of each terminal of a class within such a one
+pub at_in : (c : Class) {test : Terminal → Bool} → ((t : Terminal) → test t ≡ true → is_in c t ≡ true) → (f : Terminal → Bool) {v : Bool}
+    → ((p : Place) (s : List ℕ) (n : ℕ) (k : Kind) (cs : List ℕ) → says c (λ w. f (terminal_at p s w)) n k cs v ≡ true) → (t : Terminal) → test t ≡ true → f t ≡ v
+at_in c i f h t k = at_class c f h t (i t k)
 
 -- the classes of the grammar, by their members
 

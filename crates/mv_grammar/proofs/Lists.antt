@@ -18,23 +18,36 @@ pub regroup : {X Y Z : Type 0} (A : X → List Terminal → Type 0) (F : X → Y
     → IsThen (IsThen A F) G z b → IsThen A (λ x. IsThen (F x) G) z b
 regroup A F G z b c =
     let d = c.first in
-    record { middle = d.middle; front = d.front; back = d.back ++ c.back; whole = c.whole ∙ (ap (λ l. l ++ c.back) d.whole ∙ append_assoc d.front d.back c.back); first = d.first;
-      second = record { middle = c.middle; front = d.back; back = c.back; whole = refl; first = d.second; second = c.second } }
+    record {
+      middle = d.middle;
+      front = d.front;
+      back = d.back ++ c.back;
+      whole = c.whole ∙ (ap (λ l. l ++ c.back) d.whole ∙ append_assoc d.front d.back c.back);
+      first = d.first;
+      second = record { middle = c.middle; front = d.back; back = c.back; whole = refl; first = d.second; second = c.second };
+    }
 
 pub ungroup : {X Y Z : Type 0} (A : X → List Terminal → Type 0) (F : X → Y → List Terminal → Type 0) (G : Y → Z → List Terminal → Type 0) (z : Z) (b : List Terminal)
     → IsThen A (λ x. IsThen (F x) G) z b → IsThen (IsThen A F) G z b
 ungroup A F G z b c =
     let d = c.second in
-    record { middle = d.middle; front = c.front ++ d.front; back = d.back; whole = c.whole ∙ (ap (λ l. c.front ++ l) d.whole ∙ sym (append_assoc c.front d.front d.back)); second = d.second;
-      first = record { middle = c.middle; front = c.front; back = d.front; whole = refl; first = c.first; second = d.first } }
+    record {
+      middle = d.middle;
+      front = c.front ++ d.front;
+      back = d.back;
+      whole = c.whole ∙ (ap (λ l. c.front ++ l) d.whole ∙ sym (append_assoc c.front d.front d.back));
+      second = d.second;
+      first = record { middle = c.middle; front = c.front; back = d.front; whole = refl; first = c.first; second = d.first };
+    }
 
 -- what never follows a chain doesn't follow what is before it
 pub apart_chain : {X : Type 0} (never test : Terminal → Bool) (F : X → X → List Terminal → Type 0) (x : X) (more : X → Terminal → Bool)
     → ((y : X) → Leads test (F y)) → ((t : Terminal) → test t ≡ true → never t ≡ false) → Apart never (L.chain F x) more never
 apart_chain never test F x more l h y b r c k m =
     elim (chain_opened F x y b c) [
-      inl d ↦ apart_leads never test (L.◌>>=◌ (F x) (L.chain F)) more never (leads_then test (F x) (L.chain F) (l x)) h y b r d k m
-    | inr d ↦ apart_give never x more y b r d k m ]
+      | inl d ↦ apart_leads never test (L.◌>>=◌ (F x) (L.chain F)) more never (leads_then test (F x) (L.chain F) (l x)) h y b r d k m
+      | inr d ↦ apart_give never x more y b r d k m
+    ]
 
 -- lists with commas
 
@@ -76,14 +89,32 @@ no_more F x = record { count = zero; phrases = record { value = refl; empty = re
 
 -- no phrase more, and the brace
 closed_tail : {X : Type 0} (A : X → List Terminal → Type 0) (xs ys : List X) (b : List Terminal) → Closed xs ys b → Tail A xs ys b
-closed_tail A xs ys b c = record { middle = xs; front = []; back = b; whole = refl; first = no_more (L.comma_pushed A) xs;
-  second = record { middle = xs; front = []; back = b; whole = refl; first = inr (record { value = refl; empty = refl }); second = c } }
+closed_tail A xs ys b c = record {
+  middle = xs;
+  front = [];
+  back = b;
+  whole = refl;
+  first = no_more (L.comma_pushed A) xs;
+  second = record { middle = xs; front = []; back = b; whole = refl; first = inr (record { value = refl; empty = refl }); second = c };
+}
 
 -- a comma and the brace
 last_tail : {X : Type 0} (A : X → List Terminal → Type 0) (xs ys : List X) (t : Terminal) (b : List Terminal) → is_mark 7 t ≡ true → Closed xs ys b → Tail A xs ys (t ∷ b)
-last_tail A xs ys t b k c = record { middle = xs; front = []; back = t ∷ b; whole = refl; first = no_more (L.comma_pushed A) xs;
-  second = record { middle = xs; front = t ∷ []; back = b; whole = refl;
-    first = inl (record { middle = t; front = t ∷ []; back = []; whole = refl; first = record { one = refl; kind = k }; second = record { value = refl; empty = refl } }); second = c } }
+last_tail A xs ys t b k c = record {
+  middle = xs;
+  front = [];
+  back = t ∷ b;
+  whole = refl;
+  first = no_more (L.comma_pushed A) xs;
+  second = record {
+    middle = xs;
+    front = t ∷ [];
+    back = b;
+    whole = refl;
+    first = inl (record { middle = t; front = t ∷ []; back = []; whole = refl; first = record { one = refl; kind = k }; second = record { value = refl; empty = refl } });
+    second = c;
+  };
+}
 
 -- a comma and another phrase
 more_tail : {X : Type 0} (A : X → List Terminal → Type 0) (xs ys : List X) (x : X) (t : Terminal) (b r : List Terminal) → is_mark 7 t ≡ true → A x b → Tail A (xs ++ x ∷ []) ys r → Tail A xs ys (t ∷ (b ++ r))
@@ -97,8 +128,14 @@ more_tail A xs ys x t b r k a c = record {
     front = t ∷ b;
     back = c.front;
     whole = refl;
-    first = record { middle = t; front = t ∷ []; back = b; whole = refl; first = record { one = refl; kind = k };
-      second = record { middle = x; front = b; back = []; whole = sym (append-nil b); first = a; second = record { value = refl; empty = refl } } };
+    first = record {
+      middle = t;
+      front = t ∷ [];
+      back = b;
+      whole = refl;
+      first = record { one = refl; kind = k };
+      second = record { middle = x; front = b; back = []; whole = sym (append-nil b); first = a; second = record { value = refl; empty = refl } };
+    };
     second = c.first;
   }));
   second = c.second;
@@ -109,8 +146,9 @@ tail_of A xs ys b (inr c) = closed_tail A xs ys b c
 tail_of A xs ys b (inl c) =
     let e : b ≡ c.middle ∷ c.back = c.whole ∙ ap (λ z. z ++ c.back) c.first.one in
     subst (λ z. Tail A xs ys z) (sym e) (elim c.second [
-      inl d ↦ last_tail A xs ys c.middle c.back c.first.kind d
-    | inr d ↦ subst (λ z. Tail A xs ys (c.middle ∷ z)) (sym d.whole) (more_tail A xs ys d.middle c.middle d.front d.back c.first.kind d.first d.second) ])
+      | inl d ↦ last_tail A xs ys c.middle c.back c.first.kind d
+      | inr d ↦ subst (λ z. Tail A xs ys (c.middle ∷ z)) (sym d.whole) (more_tail A xs ys d.middle c.middle d.front d.back c.first.kind d.first d.second)
+    ])
 
 closed_moved : {X : Type 0} (xs ys zs : List X) (b : List Terminal) → ys ≡ xs → Closed ys zs b → Closed xs zs b
 closed_moved xs ys zs b e c = subst (λ l. Closed l zs b) e c
@@ -122,8 +160,14 @@ opened_end A xs ys b c = go c.first
     go : L.last_comma xs c.middle c.front → Factored A xs ys b
     go (inl d) =
         let e : c.front ≡ d.middle ∷ [] = d.whole ∙ (ap (λ z. z ++ d.back) d.first.one ∙ ap (λ z. d.middle ∷ z) d.second.empty) in
-        inl (record { middle = d.middle; front = d.middle ∷ []; back = c.back; whole = c.whole ∙ ap (λ z. z ++ c.back) e; first = record { one = refl; kind = d.first.kind };
-          second = inl (closed_moved xs c.middle ys c.back d.second.value c.second) })
+        inl (record {
+          middle = d.middle;
+          front = d.middle ∷ [];
+          back = c.back;
+          whole = c.whole ∙ ap (λ z. z ++ c.back) e;
+          first = record { one = refl; kind = d.first.kind };
+          second = inl (closed_moved xs c.middle ys c.back d.second.value c.second);
+        })
     go (inr d) = inr (subst (λ z. Closed xs ys z) (sym (c.whole ∙ ap (λ z. z ++ c.back) d.empty)) (closed_moved xs c.middle ys c.back d.value c.second))
 
 opened_tail : {X : Type 0} (A : X → List Terminal → Type 0) (xs ys : List X) (b : List Terminal) → Tail A xs ys b → Factored A xs ys b
@@ -136,10 +180,22 @@ opened_tail A xs ys b c = go (chain_opened (L.comma_pushed A) xs c.middle c.fron
         let h : f.back ≡ g.front = g.whole ∙ (ap (λ z. g.front ++ z) g.second.empty ∙ append-nil g.front) in
         let e : d.front ≡ f.middle ∷ g.front = f.whole ∙ (ap (λ z. z ++ f.back) f.first.one ∙ ap (λ z. f.middle ∷ z) h) in
         let w : b ≡ (f.middle ∷ []) ++ (g.front ++ (d.back ++ c.back)) =
-            c.whole ∙ (ap (λ z. z ++ c.back) d.whole ∙ (ap (λ z. (z ++ d.back) ++ c.back) e ∙ ap (λ z. f.middle ∷ z) (append_assoc g.front d.back c.back))) in
-        inl (record { middle = f.middle; front = f.middle ∷ []; back = g.front ++ (d.back ++ c.back); whole = w; first = record { one = refl; kind = f.first.kind };
-          second = inr (record { middle = g.middle; front = g.front; back = d.back ++ c.back; whole = refl; first = g.first;
-            second = record { middle = c.middle; front = d.back; back = c.back; whole = refl; first = subst (λ z. L.chain (L.comma_pushed A) z c.middle d.back) g.second.value d.second; second = c.second } }) })
+        c.whole ∙ (ap (λ z. z ++ c.back) d.whole ∙ (ap (λ z. (z ++ d.back) ++ c.back) e ∙ ap (λ z. f.middle ∷ z) (append_assoc g.front d.back c.back))) in
+        inl (record {
+          middle = f.middle;
+          front = f.middle ∷ [];
+          back = g.front ++ (d.back ++ c.back);
+          whole = w;
+          first = record { one = refl; kind = f.first.kind };
+          second = inr (record {
+            middle = g.middle;
+            front = g.front;
+            back = d.back ++ c.back;
+            whole = refl;
+            first = g.first;
+            second = record { middle = c.middle; front = d.back; back = c.back; whole = refl; first = subst (λ z. L.chain (L.comma_pushed A) z c.middle d.back) g.second.value d.second; second = c.second };
+          });
+        })
     go (inr d) =
         opened_end A xs ys b (subst (λ z. (L.◌>>=◌ (L.last_comma z) (λ zs. Closed zs)) ys b) d.value (subst (λ z. (L.◌>>=◌ (L.last_comma c.middle) (λ zs. Closed zs)) ys z) (sym (c.whole ∙ ap (λ z. z ++ c.back) d.empty)) c.second))
 
@@ -154,8 +210,11 @@ tail_leads : {X : Type 0} (A : X → List Terminal → Type 0) (xs : List X) →
 tail_leads A xs ys b c = factored_leads A xs ys b (opened_tail A xs ys b c)
 
 any_tail : {X : Type 0} (A : X → List Terminal → Type 0) (xs : List X) → Any (Tail A xs)
-any_tail A xs = record { value = xs; tokens = sample (Mark 5) ∷ [];
-  phrase = closed_tail A xs xs (sample (Mark 5) ∷ []) (record { middle = sample (Mark 5); front = sample (Mark 5) ∷ []; back = []; whole = refl; first = record { one = refl; kind = refl }; second = record { value = refl; empty = refl } }) }
+any_tail A xs = record {
+  value = xs;
+  tokens = sample (Mark 5) ∷ [];
+  phrase = closed_tail A xs xs (sample (Mark 5) ∷ []) (record { middle = sample (Mark 5); front = sample (Mark 5) ∷ []; back = []; whole = refl; first = record { one = refl; kind = refl }; second = record { value = refl; empty = refl } });
+}
 
 module _ {X : Type 0} (n b : ℕ) (never test : Terminal → Bool) (closing : (t : Terminal) → closes t ≡ true → never t ≡ false) (A A' : X → List Terminal → Type 0) (p : List Terminal → Read X)
     (leads : Leads test A) (leads' : Leads test A') (apart : (t : Terminal) → test t ≡ true → is_mark 5 t ≡ false) (a : ExactIn (Room n b) never none A A' p (λ _. none)) where

@@ -96,3 +96,7 @@ module _ {X : Type 0} (K : ℕ → Type 0) (f test : Terminal → Bool) (A A' : 
   pub moves_exact : Moves f p
   moves_exact t ts (Some x) s k e = let j : Got A more (t ∷ ts) x s = a.judged (t ∷ ts) (Some x) s (none_next (t ∷ ts)) e in let l : length s < length (t ∷ ts) = shorter test A more (t ∷ ts) x s leads j in omega arith
   moves_exact t ts None s k e = let j : Lost A (t ∷ ts) s = a.judged (t ∷ ts) None s (none_next (t ∷ ts)) e in lost_moves t ts s j.front k e j.whole
+
+-- a reader that takes a terminal first
+pub moves_token : {X : Type 0} (f : Terminal → Bool) (g : Terminal → List Terminal → Read X) → ((t : Terminal) (ts : List Terminal) (o : Option X) (s : List Terminal) → g t ts ≡ Ends o s → length s ≤ length ts) → Moves f (R.◌>>=◌ (R.token f) g)
+moves_token f g h t ts o s k e = h t ts o s (sym (ap (λ v. go_on g (cond v (Ends (Some t) ts) (Ends None (t ∷ ts)))) k) ∙ e)
