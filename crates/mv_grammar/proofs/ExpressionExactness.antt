@@ -21,7 +21,7 @@ use Rattle.mv_grammar.specs.ExpressionReader.{Readers}
 use Rattle.mv_grammar.proofs.Classes.{sample, terminal_at, either, all_but, but_two, or_none, none_or, or_right, and_false, at_mark, at_keyword, at_name, at_number, at_class, at_in, is_in, signs, steps, type_words, type_parts, expression_starts, in_signs, in_steps, in_type_words, in_type_parts, wider, at_either, rank_apart, rank_wide, rank_narrow, rank_zero, zero_rank}
 use Rattle.mv_grammar.proofs.Exact.{Exact, ExactIn, Any, Free, Got, Begins, Leads, leads_token, leads_then, leads_marked, leads_or, leads_any, exact_before, exact_deep, exact_same, exact_marked, none, none_next}
 use Rattle.mv_grammar.proofs.Shapes.{Room, Apart, apart_leads, leads_first, leads_wider, given, taken, first, beyond, after, after_in, picked, later, stepped, eased, chained, repeated}
-use Rattle.mv_grammar.proofs.Lists.{comma_list_exact}
+use Rattle.mv_grammar.proofs.Lists.{never_in_list, enclosed_exact}
 use Rattle.mv_grammar.proofs.Peek.{Moves, exact_two, StartsAt, moves_exact, moves_token}
 
 -- how an expression begins
@@ -143,10 +143,6 @@ weight Cond = 2
 weight Cast = 1
 weight Unary = 1
 
--- what never stands behind an argument: all but a comma and the parenthesis
-abbrev pub never_in_list : Terminal → Bool
-never_in_list = all_but (either (is_mark 7) (is_mark 1))
-
 -- the productions
 
 module _ (n : ℕ) (J C : Expressions) (P : Readers) (self : (r : Nonterminal) → Exact (Room n (weight r)) none (J r) (C r) (P r) (λ _. more r))
@@ -157,19 +153,13 @@ module _ (n : ℕ) (J C : Expressions) (P : Readers) (self : (r : Nonterminal) �
       (picked (leads_first is_number) (first (taken (sample (Number 0 Int)) refl (at_number _ (λ _ _ _ _. refl))) (λ t. given refl))
       (first (taken (sample (Mark 0)) refl (at_mark 0 _ refl (λ _ _. refl))) (λ _. after (self Assign) (λ x. first (taken (sample (Mark 1)) refl (at_mark 1 _ refl (λ _ _. refl))) (λ _. given refl)))))
 
-  argument_list_exact : Exact (Room n 6) none (L.◌>>=◌ (L.comma_list (J Assign)) (λ xs. L.◌>>=◌ (L.token (is_mark 1)) (λ _. L.give xs)))
-      (L.◌>>=◌ (L.comma_list (C Assign)) (λ xs. L.◌>>=◌ (L.token (is_mark 1)) (λ _. L.give xs)))
-      (R.◌>>=◌ (R.comma_list n (P Assign)) (λ xs. R.◌>>=◌ (R.token (is_mark 1)) (λ _. R.give xs))) (λ _. none)
-  argument_list_exact =
-      after_in (λ xs. apart_leads never_in_list (is_mark 1) _ (λ _. none) none (leads_first (is_mark 1)) (at_mark 1 _ refl (λ _ _. refl)))
-      (comma_list_exact n 6 never_in_list starts (at_mark 7 _ refl (λ _ _. refl)) (J Assign) (C Assign) (P Assign) (lj Assign)
-      (eased never_in_list (λ _. but_two (is_mark 7) (is_mark 1) (more Assign) (at_mark 7 _ refl (λ _ _. refl)) (at_mark 1 _ refl (λ _ _. refl))) (later 3 6 (omega arith) (self Assign))))
-      (λ xs. first (taken (sample (Mark 1)) refl (at_mark 1 _ refl (λ _ _. refl))) (λ _. given refl))
-
   arguments_exact : Exact (Room n 6) none (G.arguments J) (G.arguments C) (M.arguments n P) (λ _. none)
   arguments_exact =
       picked (leads_first (is_mark 1)) (first (taken (sample (Mark 1)) refl (λ _ _. refl)) (λ _. given refl))
-      (exact_before (Room n 6) none _ starts _ _ _ _ argument_list_exact (leads_then starts _ _ (leads_then starts _ _ (lc Assign))) (at_class expression_starts _ (λ _ _ _ _ _. refl)))
+      (exact_before (Room n 6) none _ starts _ _ _ _
+      (enclosed_exact n 6 starts (J Assign) (C Assign) (P Assign) (lj Assign)
+      (eased never_in_list (λ _. but_two (is_mark 7) (is_mark 1) (more Assign) (at_mark 7 _ refl (λ _ _. refl)) (at_mark 1 _ refl (λ _ _. refl))) (later 3 6 (omega arith) (self Assign))))
+      (leads_then starts _ _ (leads_then starts _ _ (lc Assign))) (at_class expression_starts _ (λ _ _ _ _ _. refl)))
 
   suffix_exact : (left : Place × Node) → Exact (Room n 3) none (G.suffix J left) (G.suffix C left) (M.suffix n P left) (λ _. none)
   suffix_exact left =

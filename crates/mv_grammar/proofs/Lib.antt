@@ -1,4 +1,5 @@
 pub mod Classes
+pub mod DeclarationExactness
 pub mod Exact
 pub mod ExpressionExactness
 pub mod Lists

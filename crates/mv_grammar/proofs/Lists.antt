@@ -9,7 +9,7 @@ use Rattle.mv_grammar.specs.Language.{IsGiven, IsThen}
 use Rattle.mv_grammar.specs.Reader as R
 use Rattle.mv_grammar.specs.Reader.{Read, next}
 use Rattle.mv_grammar.proofs.Exact.{Exact, ExactIn, Any, Free, Begins, Got, Leads, none, leads_token, leads_then, leads_or, shorter, not_longer, exact_before, exact_same, exact_room, exact_deep, exact_then, exact_choice, exact_token, chain_once, chain_opened}
-use Rattle.mv_grammar.proofs.Classes.{sample, either, or_none, none_or, or_right, at_mark}
+use Rattle.mv_grammar.proofs.Classes.{sample, either, all_but, or_none, none_or, or_right, at_mark}
 use Rattle.mv_grammar.proofs.Shapes.{Room, room_down, Apart, apart_none, apart_give, apart_leads, leads_first, leads_wider, given, taken, first, after_in, beyond_in, picked, later, repeated}
 
 -- one phrase after another, regrouped
@@ -67,6 +67,19 @@ module _ {X : Type 0} (n b : ℕ) (never test : Terminal → Bool) (comma : (t :
   comma_list_exact =
       beyond_in test leads (λ x. apart_chain never (is_mark 7) (L.comma_pushed A') (x ∷ []) (λ _. is_mark 7) (λ _. leads_first (is_mark 7)) comma) a
       (λ x. commas_exact (b + 3) (omega arith) (omega arith) (x ∷ []))
+
+-- all but a comma and a closing parenthesis
+abbrev pub never_in_list : Terminal → Bool
+never_in_list = all_but (either (is_mark 7) (is_mark 1))
+
+-- a list with commas, up to its parenthesis
+pub enclosed_exact : {X : Type 0} (n b : ℕ) (test : Terminal → Bool) (A A' : X → List Terminal → Type 0) (p : List Terminal → Read X) → Leads test A → ExactIn (Room n b) never_in_list none A A' p (λ _. none)
+    → Exact (Room n b) none (L.◌>>=◌ (L.comma_list A) (λ xs. L.◌>>=◌ (L.token (is_mark 1)) (λ _. L.give xs))) (L.◌>>=◌ (L.comma_list A') (λ xs. L.◌>>=◌ (L.token (is_mark 1)) (λ _. L.give xs)))
+    (R.◌>>=◌ (R.comma_list n p) (λ xs. R.◌>>=◌ (R.token (is_mark 1)) (λ _. R.give xs))) (λ _. none)
+enclosed_exact n b test A A' p leads a =
+    after_in (λ xs. apart_leads never_in_list (is_mark 1) _ (λ _. none) none (leads_first (is_mark 1)) (at_mark 1 _ refl (λ _ _. refl)))
+    (comma_list_exact n b never_in_list test (at_mark 7 _ refl (λ _ _. refl)) A A' p leads a)
+    (λ xs. first (taken (sample (Mark 1)) refl (at_mark 1 _ refl (λ _ _. refl))) (λ _. given refl))
 
 -- lists in braces
 

@@ -1,5 +1,5 @@
 -- Exactness, with what the goal tells left out: a proof for a production has the production's shape.
-use Rattle.std.proofs.Common.{◌≡◌, ℕ, zero, suc, ◌+◌, ◌*◌, ◌<◌, ◌≤◌, Bool, true, false, List, [], ◌∷◌, ◌++◌, ◌⊎◌, inl, inr, length, refl, sym, ap, subst, ◌∙◌, append_assoc, arith}
+use Rattle.std.proofs.Common.{◌≡◌, ℕ, zero, suc, ◌+◌, ◌*◌, ◌<◌, ◌≤◌, Bool, true, false, Option, List, [], ◌∷◌, ◌++◌, ◌⊎◌, inl, inr, length, refl, sym, ap, subst, ◌∙◌, append_assoc, arith}
 use Rattle.std.specs.Prelude.{◌||◌}
 use Rattle.mv_ast.specs.declared.place.Place.{Place}
 use Rattle.mv_grammar.specs.Terminals.{Terminal}
@@ -26,6 +26,15 @@ leads_first test {F} = leads_then test (L.token test) F (leads_token test)
 pub leads_wider : {X : Type 0} {test wider : Terminal → Bool} {F : Terminal → X → List Terminal → Type 0} → ((t : Terminal) → test t ≡ true → wider t ≡ true) → Leads wider (L.◌>>=◌ (L.token test) F)
 leads_wider {X} {test} {wider} {F} h = leads_any test wider (L.◌>>=◌ (L.token test) F) h (leads_first test)
 
+-- a phrase or none, and a phrase after it
+pub leads_optional : {X Y : Type 0} (test : Terminal → Bool) (A : X → List Terminal → Type 0) (F : Option X → Y → List Terminal → Type 0) → Leads test A → ((x : Option X) → Leads test (F x)) → Leads test (L.◌>>=◌ (L.optional A) F)
+leads_optional test A F l m y b c = go c.first
+  where
+    go : L.optional A c.middle c.front → Begins test b
+    go (inl d) = let h : Begins test d.front = l d.middle d.front d.first in
+        record { head = h.head; tail = (h.tail ++ d.back) ++ c.back; whole = c.whole ∙ ap (λ z. z ++ c.back) (d.whole ∙ ap (λ z. z ++ d.back) h.whole); kind = h.kind }
+    go (inr e) = let h : Begins test c.back = m c.middle y c.back c.second in record { head = h.head; tail = h.tail; whole = c.whole ∙ (ap (λ z. z ++ c.back) e.empty ∙ h.whole); kind = h.kind }
+
 -- what never follows doesn't begin a phrase of this language either, nor what follows it
 abbrev pub Apart : {X : Type 0} → (Terminal → Bool) → (X → List Terminal → Type 0) → (X → Terminal → Bool) → (Terminal → Bool) → Type 0
 Apart {X} never A more outer = (x : X) (b r : List Terminal) → A x b → Free (more x) r → Free outer r → Free never (b ++ r)
@@ -39,6 +48,15 @@ apart_give never x more y b r c h k = ap (λ z. next never (z ++ r)) c.empty ∙
 pub apart_leads : {X : Type 0} (never test : Terminal → Bool) (A : X → List Terminal → Type 0) (more : X → Terminal → Bool) (outer : Terminal → Bool)
     → Leads test A → ((t : Terminal) → test t ≡ true → never t ≡ false) → Apart never A more outer
 apart_leads never test A more outer l h x b r c k m = let s : Begins test b = l x b c in ap (λ z. next never (z ++ r)) s.whole ∙ h s.head s.kind
+
+-- an empty phrase, where what never follows outside covers what never does inside
+pub apart_given : {X : Type 0} (never outer : Terminal → Bool) (x : X) (more : X → Terminal → Bool) → ((t : Terminal) → outer t ≡ false → never t ≡ false) → Apart never (L.give x) more outer
+apart_given never outer x more h y b [] c k m = ap (λ z. next never (z ++ [])) c.empty
+apart_given never outer x more h y b (t ∷ r) c k m = ap (λ z. next never (z ++ (t ∷ r))) c.empty ∙ h t m
+
+pub apart_or : {X : Type 0} (never : Terminal → Bool) (A B : X → List Terminal → Type 0) (more : X → Terminal → Bool) (outer : Terminal → Bool) → Apart never A more outer → Apart never B more outer → Apart never (L.◌or◌ A B) more outer
+apart_or never A B more outer a d x b r (inl c) k m = a x b r c k m
+apart_or never A B more outer a d x b r (inr c) k m = d x b r c k m
 
 -- the words
 
