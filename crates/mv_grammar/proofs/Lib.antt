@@ -1,4 +1,5 @@
 pub mod Classes
+pub mod DanglingElse
 pub mod DeclarationExactness
 pub mod Exact
 pub mod ExpressionExactness

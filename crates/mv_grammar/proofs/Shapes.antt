@@ -1,5 +1,5 @@
 -- Exactness, with what the goal tells left out: a proof for a production has the production's shape.
-use Rattle.std.proofs.Common.{◌≡◌, ℕ, zero, suc, ◌+◌, ◌*◌, ◌<◌, ◌≤◌, Bool, true, false, Option, List, [], ◌∷◌, ◌++◌, ◌⊎◌, inl, inr, length, refl, sym, ap, subst, ◌∙◌, append_assoc, arith}
+use Rattle.std.proofs.Common.{◌≡◌, ℕ, zero, suc, ◌+◌, ◌*◌, ◌<◌, ◌≤◌, Bool, true, false, Option, Some, None, List, [], ◌∷◌, ◌++◌, ◌⊎◌, inl, inr, length, refl, sym, ap, subst, ◌∙◌, append_assoc, arith}
 use Rattle.std.specs.Prelude.{◌||◌}
 use Rattle.mv_ast.specs.declared.place.Place.{Place}
 use Rattle.mv_grammar.specs.Terminals.{Terminal}
@@ -7,7 +7,7 @@ use Rattle.mv_grammar.specs.Language as L
 use Rattle.mv_grammar.specs.Language.{IsGiven, IsThen}
 use Rattle.mv_grammar.specs.Reader as R
 use Rattle.mv_grammar.specs.Reader.{Read, next}
-use Rattle.mv_grammar.proofs.Exact.{Exact, ExactIn, Free, Begins, Leads, none, none_next, leads_token, leads_then, leads_any, shorter, not_longer, exact_give, exact_token, exact_then, exact_before, exact_room, exact_eased, exact_choice, exact_guarded, exact_marked, exact_chain}
+use Rattle.mv_grammar.proofs.Exact.{Exact, ExactIn, Free, Begins, Leads, none, none_next, leads_token, leads_then, leads_any, shorter, not_longer, exact_give, exact_token, exact_then, exact_before, exact_room, exact_eased, exact_choice, exact_guarded, exact_marked, exact_chain, chain_opened}
 use Rattle.mv_grammar.proofs.Classes.{either, or_none, none_or}
 
 -- The bound n is b above three times the number of terminals.
@@ -27,13 +27,21 @@ pub leads_wider : {X : Type 0} {test wider : Terminal → Bool} {F : Terminal �
 leads_wider {X} {test} {wider} {F} h = leads_any test wider (L.◌>>=◌ (L.token test) F) h (leads_first test)
 
 -- a phrase or none, and a phrase after it
-pub leads_optional : {X Y : Type 0} (test : Terminal → Bool) (A : X → List Terminal → Type 0) (F : Option X → Y → List Terminal → Type 0) → Leads test A → ((x : Option X) → Leads test (F x)) → Leads test (L.◌>>=◌ (L.optional A) F)
-leads_optional test A F l m y b c = go c.first
+pub leads_maybe : {X Y : Type 0} (test : Terminal → Bool) (A : X → List Terminal → Type 0) (x : X) (F : X → Y → List Terminal → Type 0) → Leads test A → ((x : X) → Leads test (F x)) → Leads test (L.◌>>=◌ (L.◌or◌ A (L.give x)) F)
+leads_maybe test A x F l m y b c = go c.first
   where
-    go : L.optional A c.middle c.front → Begins test b
-    go (inl d) = let h : Begins test d.front = l d.middle d.front d.first in
-        record { head = h.head; tail = (h.tail ++ d.back) ++ c.back; whole = c.whole ∙ ap (λ z. z ++ c.back) (d.whole ∙ ap (λ z. z ++ d.back) h.whole); kind = h.kind }
+    go : (L.◌or◌ A (L.give x)) c.middle c.front → Begins test b
+    go (inl d) = let h : Begins test c.front = l c.middle c.front d in record { head = h.head; tail = h.tail ++ c.back; whole = c.whole ∙ ap (λ z. z ++ c.back) h.whole; kind = h.kind }
     go (inr e) = let h : Begins test c.back = m c.middle y c.back c.second in record { head = h.head; tail = h.tail; whole = c.whole ∙ (ap (λ z. z ++ c.back) e.empty ∙ h.whole); kind = h.kind }
+
+pub leads_optional : {X Y : Type 0} (test : Terminal → Bool) (A : X → List Terminal → Type 0) (F : Option X → Y → List Terminal → Type 0) → Leads test A → ((x : Option X) → Leads test (F x)) → Leads test (L.◌>>=◌ (L.optional A) F)
+leads_optional test A F l m = leads_maybe test _ None F (leads_then test A _ l) m
+
+-- a chain, and a phrase after it
+pub leads_chain : {X Y : Type 0} (test : Terminal → Bool) (F : X → X → List Terminal → Type 0) (x : X) (G : X → Y → List Terminal → Type 0) → ((x : X) → Leads test (F x)) → ((x : X) → Leads test (G x)) → Leads test (L.◌>>=◌ (L.chain F x) G)
+leads_chain test F x G l m y b c =
+    leads_maybe test (L.◌>>=◌ (F x) (L.chain F)) x G (leads_then test (F x) (L.chain F) (l x)) m y b
+    (record { middle = c.middle; front = c.front; back = c.back; whole = c.whole; first = chain_opened F x c.middle c.front c.first; second = c.second })
 
 -- what never follows doesn't begin a phrase of this language either, nor what follows it
 abbrev pub Apart : {X : Type 0} → (Terminal → Bool) → (X → List Terminal → Type 0) → (X → Terminal → Bool) → (Terminal → Bool) → Type 0
