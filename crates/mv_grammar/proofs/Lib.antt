@@ -6,3 +6,4 @@ pub mod ExpressionExactness
 pub mod Lists
 pub mod Peek
 pub mod Shapes
+pub mod StatementExactness
