@@ -186,7 +186,7 @@ declarator_leads E P = leads_then declarator_starts _ _ (direct_leads E P)
 pub declared_leads : (E : Expressions) (P : Parameters) → Leads declarator_starts (G.declared E P)
 declared_leads E P = leads_then declarator_starts _ _ (declarator_leads E P)
 
-init_leads : (E : Expressions) → Leads (is_mark 22) (G.init E)
+pub init_leads : (E : Expressions) → Leads (is_mark 22) (G.init E)
 init_leads E = leads_first (is_mark 22)
 
 -- an optional name

@@ -7,3 +7,5 @@ pub mod Lists
 pub mod Peek
 pub mod Shapes
 pub mod StatementExactness
+pub mod UnitExactness
+pub mod Verdict

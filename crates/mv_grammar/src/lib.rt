@@ -1,2 +1,16 @@
-//! The grammar of the profile, as a relation between tokens and trees (C11 6.5 to 6.9).
+//! The grammar of the profile (C11 6.5, 6.7 to 6.9): what it is for the tokens of a source to be a
+//! translation unit, and the laws of it that a parser needs.
+//!
+//! A phrase is a list of terminals, tokens with their spelling. The nonterminals are relations
+//! between phrases and trees, production by production; no parser is in them.
 #![tactic(auto)]
+
+ghost use Rattle.std.specs.Prelude.{◌≡◌, ℕ, List};
+ghost use Rattle.mv_ast.specs.declared.token.Tokens.{Tokens};
+ghost use Rattle.mv_ast.specs.declared.unit.Unit as unit;
+ghost use Rattle.mv_grammar.specs.Reading as spec;
+
+/// The same tokens are no two units.
+pub fn one_reading()
+    ensures { (text : List ℕ) (tokens : Tokens) (u v : unit.Unit) → spec.Reads text tokens u → spec.Reads text tokens v → u ≡ v }
+{}
