@@ -3,6 +3,7 @@ pub mod DanglingElse
 pub mod DeclarationExactness
 pub mod Exact
 pub mod ExpressionExactness
+pub mod Laws
 pub mod Lists
 pub mod Peek
 pub mod Shapes

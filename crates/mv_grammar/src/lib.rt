@@ -5,7 +5,8 @@
 //! between phrases and trees, production by production; no parser is in them.
 #![tactic(auto)]
 
-ghost use Rattle.std.specs.Prelude.{◌≡◌, ℕ, List};
+ghost use Rattle.std.specs.Prelude.{◌≡◌, ◌⊎◌, ℕ, List};
+ghost use Rattle.mv_ast.specs.declared.place.Place.{Place};
 ghost use Rattle.mv_ast.specs.declared.token.Tokens.{Tokens};
 ghost use Rattle.mv_ast.specs.declared.unit.Unit as unit;
 ghost use Rattle.mv_grammar.specs.Reading as spec;
@@ -13,4 +14,11 @@ ghost use Rattle.mv_grammar.specs.Reading as spec;
 /// The same tokens are no two units.
 pub fn one_reading()
     ensures { (text : List ℕ) (tokens : Tokens) (u v : unit.Unit) → spec.Reads text tokens u → spec.Reads text tokens v → u ≡ v }
+{}
+
+/// Tokens are a unit, or they break off at one place; never both.
+pub fn one_verdict()
+    ensures either { (text : List ℕ) (tokens : Tokens) → ((u : unit.Unit) × spec.Reads text tokens u) ⊎ ((place : Place) × spec.BreaksAt text tokens place) }
+    ensures not_both { (text : List ℕ) (tokens : Tokens) (u : unit.Unit) (place : Place) → spec.Reads text tokens u → spec.BreaksAt text tokens place → ⊥ }
+    ensures one_place { (text : List ℕ) (tokens : Tokens) (place other : Place) → spec.BreaksAt text tokens place → spec.BreaksAt text tokens other → place ≡ other }
 {}
