@@ -7,6 +7,7 @@ pub mod Laws
 pub mod Lists
 pub mod Peek
 pub mod Shapes
+pub mod Sources
 pub mod StatementExactness
 pub mod UnitExactness
 pub mod Verdict

@@ -1,5 +1,5 @@
 -- What it is for the tokens of a source to be a translation unit, and where tokens that are none break off.
-use Rattle.std.specs.Prelude.{◌≡◌, ℕ, ◌-◌, ◌+◌, ◌*◌, ◌==◌, ◌||◌, nat_lt, if◌then◌else◌, Bool, List, [], ◌∷◌, ◌++◌, length, drop}
+use Rattle.std.specs.Prelude.{◌≡◌, ◌≤◌, ℕ, ◌-◌, ◌+◌, ◌*◌, ◌==◌, ◌||◌, nat_lt, if◌then◌else◌, Bool, List, [], ◌∷◌, ◌++◌, length, drop}
 use Rattle.mv_ast.specs.declared.place.Place.{Place}
 use Rattle.mv_ast.specs.declared.token.Token.{Token}
 use Rattle.mv_ast.specs.declared.token.Tokens.{Tokens}
@@ -60,3 +60,16 @@ place_left tokens left end = if left == 0 || nat_lt (length tokens) left then en
 -- a bound at which a reading of so many terminals isn't too deep
 abbrev pub bound : ℕ → ℕ
 bound count = 3 * count + 5
+
+-- each of these tokens ends within a text of this length
+abbrev pub AreWithin : ℕ → List Token → Type 0
+AreWithin size [] = Unit {0}
+AreWithin size (t ∷ ts) = (t.stop ≤ size) × AreWithin size ts
+
+-- With some more text, which leaves these tokens as they are, and some more tokens, there is a unit.
+pub record BeginsIn (text : List ℕ) (before : List Token) : Type 0 where
+  pub extra : List ℕ
+  pub more : List Token
+  pub items : List Item
+  pub kept : terminals (text ++ extra) before ≡ terminals text before
+  pub reads : AreItems (terminals (text ++ extra) (before ++ more)) items
