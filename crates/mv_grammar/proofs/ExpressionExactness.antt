@@ -1,15 +1,14 @@
 -- The reading of expressions takes exactly the phrases of the grammar.
-use Rattle.std.proofs.Common.{◌≡◌, ℕ, zero, suc, ◌+◌, ◌*◌, ◌<◌, ◌≤◌, Bool, true, false, Option, Some, None, List, [], ◌∷◌, ◌++◌, ◌⊎◌, inl, inr, length, refl, sym, ap, subst, ◌∙◌, append_assoc, length-append, arith}
-use Rattle.std.specs.Prelude.{nat_eq, nat_le, ◌||◌, ◌&&◌}
+use Rattle.std.proofs.Common.{◌≡◌, ℕ, zero, suc, ◌+◌, ◌*◌, ◌<◌, ◌≤◌, Bool, true, false, Option, Some, None, List, [], ◌∷◌, ◌++◌, inl, inr, length, refl, sym, ap, ◌∙◌, append_assoc, length-append, arith}
+use Rattle.std.specs.Prelude.{◌&&◌}
 use Rattle.std.proofs.lemmas.List.{append-nil}
 use Rattle.mv_ast.specs.declared.place.Place.{Place}
-use Rattle.mv_num.specs.declared.kind.Kind.{Kind}
 use Rattle.mv_num.specs.declared.kind.Kind.TheVariants.{Int}
-use Rattle.mv_ast.specs.declared.token.Piece.TheVariants.{Keyword, Name, Number, Chars, Mark}
+use Rattle.mv_ast.specs.declared.token.Piece.TheVariants.{Keyword, Name, Number, Mark}
 use Rattle.mv_ast.specs.declared.unit.Node.{Node}
 use Rattle.mv_ast.specs.declared.unit.Specs.{Specs}
 use Rattle.mv_ast.specs.declared.unit.What.TheVariants as w
-use Rattle.mv_grammar.specs.Terminals.{Terminal, mark, is_mark, is_keyword, is_name, is_number, rank, is_rank, within_rank, is_sign, is_step, is_type_word, is_type_part}
+use Rattle.mv_grammar.specs.Terminals.{Terminal, is_mark, is_keyword, is_name, is_number, is_rank, within_rank, is_sign, is_step, is_type_word, is_type_part}
 use Rattle.mv_grammar.specs.Language as L
 use Rattle.mv_grammar.specs.Language.{place_of}
 use Rattle.mv_grammar.specs.Reader as R
@@ -18,9 +17,9 @@ use Rattle.mv_grammar.specs.Expressions as G
 use Rattle.mv_grammar.specs.Expressions.{Nonterminal, Expressions, Assign, Cond, Cast, Unary, joined, no_specs, specs_at}
 use Rattle.mv_grammar.specs.ExpressionReader as M
 use Rattle.mv_grammar.specs.ExpressionReader.{Readers}
-use Rattle.mv_grammar.proofs.Classes.{sample, terminal_at, either, all_but, but_two, or_none, none_or, or_right, and_false, at_mark, at_keyword, at_name, at_number, at_class, at_in, is_in, signs, steps, type_words, type_parts, expression_starts, in_signs, in_steps, in_type_words, in_type_parts, wider, at_either, rank_apart, rank_wide, rank_narrow, rank_zero, zero_rank}
-use Rattle.mv_grammar.proofs.Exact.{Exact, ExactIn, Any, Free, Got, Begins, Leads, leads_token, leads_then, leads_marked, leads_or, leads_any, exact_before, exact_deep, exact_same, exact_marked, none, none_next}
-use Rattle.mv_grammar.proofs.Shapes.{Room, Apart, apart_leads, leads_first, leads_wider, given, taken, first, beyond, after, after_in, picked, later, stepped, eased, chained, repeated}
+use Rattle.mv_grammar.proofs.Classes.{sample, either, but_two, or_none, and_false, at_mark, at_keyword, at_name, at_number, at_class, at_in, is_in, signs, steps, type_words, expression_starts, in_signs, in_steps, in_type_words, rank_apart, rank_wide, rank_narrow, rank_zero, zero_rank}
+use Rattle.mv_grammar.proofs.Exact.{Exact, Any, Begins, Leads, leads_then, leads_marked, leads_or, exact_before, exact_deep, exact_same, exact_marked, none, none_next}
+use Rattle.mv_grammar.proofs.Shapes.{Room, leads_first, leads_wider, given, taken, first, beyond, after, picked, later, stepped, eased, chained, repeated}
 use Rattle.mv_grammar.proofs.Lists.{never_in_list, enclosed_exact}
 use Rattle.mv_grammar.proofs.Peek.{Moves, exact_two, StartsAt, moves_exact, moves_token}
 

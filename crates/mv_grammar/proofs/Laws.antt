@@ -1,18 +1,16 @@
 -- Tokens are a unit or break off at one place, and what begins a unit does so in some source.
-use Rattle.std.proofs.Common.{◌≡◌, ℕ, zero, suc, ◌+◌, ◌-◌, ◌*◌, ◌<◌, ◌≤◌, Option, Some, None, List, [], ◌∷◌, ◌++◌, ◌⊎◌, inl, inr, length, take, drop, refl, sym, ap, subst, ◌∙◌, arith, append_assoc, length-append}
+use Rattle.std.proofs.Common.{◌≡◌, ℕ, Some, None, List, [], ◌∷◌, ◌++◌, ◌⊎◌, inl, inr, length, refl, sym, ap, subst, ◌∙◌, append_assoc}
 use Rattle.std.proofs.lemmas.List.{append-nil}
-use Rattle.std.proofs.Math.Seq.{drop-append_seam}
 use Rattle.mv_ast.specs.declared.place.Place.{Place}
-use Rattle.mv_ast.specs.declared.token.Token.{Token}
 use Rattle.mv_ast.specs.declared.token.Tokens.{Tokens}
 use Rattle.mv_ast.specs.declared.unit.Item.{Item}
 use Rattle.mv_ast.specs.declared.unit.Unit as unit
-use Rattle.mv_grammar.specs.Terminals.{Terminal, terminal, terminals}
+use Rattle.mv_grammar.specs.Terminals.{Terminal, terminals}
 use Rattle.mv_grammar.specs.Reader as R
 use Rattle.mv_grammar.specs.Reader.{Read, Deep}
 use Rattle.mv_grammar.specs.Units.{AreItems}
 use Rattle.mv_grammar.specs.UnitReader as M
-use Rattle.mv_grammar.specs.Reading.{Reads, Exactly, Begins, Ends, Breaks, BreaksAt, place_or, bound}
+use Rattle.mv_grammar.specs.Reading.{Reads, Begins, Ends, Breaks, BreaksAt, place_or, bound}
 use Rattle.mv_grammar.proofs.Verdict.{whole, broken, enough}
 
 -- a unit doesn't break off

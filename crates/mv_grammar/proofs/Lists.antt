@@ -1,15 +1,14 @@
 -- Lists with commas, and lists in braces.
-use Rattle.std.proofs.Common.{◌≡◌, ℕ, zero, suc, ◌+◌, ◌*◌, ◌<◌, ◌≤◌, Bool, true, false, List, [], ◌∷◌, ◌++◌, ◌⊎◌, inl, inr, length, refl, sym, ap, subst, ◌∙◌, append_assoc, arith}
-use Rattle.std.specs.Prelude.{◌||◌}
+use Rattle.std.proofs.Common.{◌≡◌, ℕ, zero, suc, ◌+◌, ◌*◌, ◌<◌, ◌≤◌, Bool, true, false, List, [], ◌∷◌, ◌++◌, inl, inr, length, refl, sym, ap, subst, ◌∙◌, append_assoc, arith}
 use Rattle.std.proofs.lemmas.List.{append-nil}
-use Rattle.mv_ast.specs.declared.token.Piece.TheVariants.{Keyword, Name, Number, Chars, Mark}
+use Rattle.mv_ast.specs.declared.token.Piece.TheVariants.{Mark}
 use Rattle.mv_grammar.specs.Terminals.{Terminal, is_mark}
 use Rattle.mv_grammar.specs.Language as L
 use Rattle.mv_grammar.specs.Language.{IsGiven, IsThen}
 use Rattle.mv_grammar.specs.Reader as R
 use Rattle.mv_grammar.specs.Reader.{Read, next}
-use Rattle.mv_grammar.proofs.Exact.{Exact, ExactIn, Any, Free, Begins, Got, Leads, none, leads_token, leads_then, leads_or, shorter, not_longer, exact_before, exact_same, exact_room, exact_deep, exact_then, exact_choice, exact_token, chain_once, chain_opened}
-use Rattle.mv_grammar.proofs.Classes.{sample, either, all_but, or_none, none_or, or_right, at_mark}
+use Rattle.mv_grammar.proofs.Exact.{Exact, ExactIn, Any, Leads, none, leads_token, leads_then, leads_or, shorter, not_longer, exact_before, exact_same, exact_room, exact_deep, exact_then, exact_choice, exact_token, chain_once, chain_opened}
+use Rattle.mv_grammar.proofs.Classes.{sample, either, all_but, or_none, none_or, at_mark}
 use Rattle.mv_grammar.proofs.Shapes.{Room, room_down, Apart, apart_none, apart_give, apart_leads, leads_first, leads_wider, given, taken, first, after_in, beyond_in, picked, later, repeated}
 
 -- one phrase after another, regrouped

@@ -1,13 +1,11 @@
 -- Exactness, with what the goal tells left out: a proof for a production has the production's shape.
-use Rattle.std.proofs.Common.{◌≡◌, ℕ, zero, suc, ◌+◌, ◌*◌, ◌<◌, ◌≤◌, Bool, true, false, Option, Some, None, List, [], ◌∷◌, ◌++◌, ◌⊎◌, inl, inr, length, refl, sym, ap, subst, ◌∙◌, append_assoc, arith}
-use Rattle.std.specs.Prelude.{◌||◌}
-use Rattle.mv_ast.specs.declared.place.Place.{Place}
+use Rattle.std.proofs.Common.{◌≡◌, ℕ, suc, ◌+◌, ◌*◌, ◌<◌, ◌≤◌, Bool, true, false, Option, None, List, [], ◌∷◌, ◌++◌, inl, inr, length, refl, sym, ap, ◌∙◌, arith}
 use Rattle.mv_grammar.specs.Terminals.{Terminal}
 use Rattle.mv_grammar.specs.Language as L
 use Rattle.mv_grammar.specs.Language.{IsGiven, IsThen}
 use Rattle.mv_grammar.specs.Reader as R
 use Rattle.mv_grammar.specs.Reader.{Read, next}
-use Rattle.mv_grammar.proofs.Exact.{Exact, ExactIn, Free, Begins, Leads, none, none_next, leads_token, leads_then, leads_any, shorter, not_longer, exact_give, exact_token, exact_then, exact_before, exact_room, exact_eased, exact_choice, exact_guarded, exact_marked, exact_chain, chain_opened}
+use Rattle.mv_grammar.proofs.Exact.{Exact, ExactIn, Free, Begins, Leads, none, none_next, leads_token, leads_then, leads_any, shorter, not_longer, exact_give, exact_token, exact_then, exact_room, exact_eased, exact_choice, exact_guarded, exact_chain, chain_opened}
 use Rattle.mv_grammar.proofs.Classes.{either, or_none, none_or}
 
 -- The bound n is b above three times the number of terminals.

@@ -1,10 +1,9 @@
 -- What begins a unit does so in some source.
-use Rattle.std.proofs.Common.{◌≡◌, ℕ, zero, suc, ◌+◌, ◌-◌, ◌*◌, ◌<◌, ◌≤◌, List, [], ◌∷◌, ◌++◌, ◌⊎◌, inl, inr, length, take, drop, refl, sym, ap, subst, ◌∙◌, arith, append_assoc}
+use Rattle.std.proofs.Common.{◌≡◌, ℕ, zero, suc, ◌+◌, ◌-◌, ◌<◌, ◌≤◌, List, [], ◌∷◌, ◌++◌, ◌⊎◌, inl, inr, length, take, drop, refl, sym, ap, subst, ◌∙◌, arith, append_assoc}
 use Rattle.std.proofs.lemmas.List.{take-append-le, drop-append-le, length-drop}
 use Rattle.std.proofs.lemmas.Bool.{cases_lt}
 use Rattle.std.proofs.Math.Seq.{drop-append_seam, take-append_seam}
 use Rattle.mv_ast.specs.declared.token.Token.{Token}
-use Rattle.mv_ast.specs.declared.unit.Item.{Item}
 use Rattle.mv_grammar.specs.Terminals.{Terminal, terminal, terminals}
 use Rattle.mv_grammar.specs.Units.{AreItems}
 use Rattle.mv_grammar.specs.Reading.{Begins, BeginsIn, AreWithin}

@@ -1,11 +1,9 @@
 -- The reading of statements and local declarations takes exactly the phrases of the grammar.
-use Rattle.std.proofs.Common.{◌≡◌, ℕ, zero, suc, ◌+◌, ◌*◌, ◌<◌, ◌≤◌, Bool, true, false, Option, Some, None, List, [], ◌∷◌, ◌++◌, ◌⊎◌, inl, inr, length, refl, sym, ap, subst, ◌∙◌, arith}
-use Rattle.std.specs.Prelude.{not, ◌||◌, ◌&&◌}
+use Rattle.std.proofs.Common.{◌≡◌, ℕ, zero, suc, ◌+◌, ◌*◌, ◌≤◌, Bool, true, false, Some, None, List, [], ◌∷◌, ◌++◌, inl, inr, length, refl, sym, ap, ◌∙◌, arith}
+use Rattle.std.specs.Prelude.{◌&&◌}
 use Rattle.mv_ast.specs.declared.place.Place.{Place}
-use Rattle.mv_ast.specs.declared.token.Piece.TheVariants.{Keyword, Name, Number, Chars, Mark}
-use Rattle.mv_ast.specs.declared.unit.Node.{Node}
+use Rattle.mv_ast.specs.declared.token.Piece.TheVariants.{Keyword, Mark}
 use Rattle.mv_ast.specs.declared.unit.Line.{Line}
-use Rattle.mv_ast.specs.declared.unit.Act.{Act}
 use Rattle.mv_ast.specs.declared.unit.Act.TheVariants as a
 use Rattle.mv_grammar.specs.Terminals.{Terminal, is_mark, is_keyword, is_specifier, is_no_end}
 use Rattle.mv_grammar.specs.Language as L
@@ -14,16 +12,16 @@ use Rattle.mv_grammar.specs.Reader as R
 use Rattle.mv_grammar.specs.Reader.{Read, next}
 use Rattle.mv_grammar.specs.Expressions.{Nonterminal, Expressions, Assign, Cond, phrase}
 use Rattle.mv_grammar.specs.ExpressionReader.{Readers, read}
-use Rattle.mv_grammar.specs.Declarations.{Parameters, declared, specs, params, place_of_specs}
+use Rattle.mv_grammar.specs.Declarations.{Parameters, declared, params, place_of_specs}
 use Rattle.mv_grammar.specs.DeclarationReader as D
 use Rattle.mv_grammar.specs.DeclarationReader.{ParameterReader}
 use Rattle.mv_grammar.specs.Statements as G
 use Rattle.mv_grammar.specs.Statements.{Lines, is_open, line_at, express}
 use Rattle.mv_grammar.specs.StatementReader as M
 use Rattle.mv_grammar.specs.StatementReader.{LineReader}
-use Rattle.mv_grammar.proofs.Classes.{Class, sample, terminal_at, either, all_but, of_all_but, but_two, or_right, and_false, at_mark, at_keyword, at_class, at_in, is_in, wider, specifiers, expression_starts, in_specifiers}
-use Rattle.mv_grammar.proofs.Exact.{Exact, ExactIn, Any, Leads, leads_token, leads_then, leads_marked, leads_or, leads_any, exact_before, exact_deep, exact_same, exact_marked, none, none_next}
-use Rattle.mv_grammar.proofs.Shapes.{Room, Apart, apart_give, apart_leads, leads_first, leads_wider, given, ended, taken, first, after, after_in, picked, later, stepped, eased, chained, guarded}
+use Rattle.mv_grammar.proofs.Classes.{Class, sample, either, of_all_but, and_false, at_mark, at_keyword, at_class, at_in, is_in, wider, specifiers, expression_starts, in_specifiers}
+use Rattle.mv_grammar.proofs.Exact.{Exact, ExactIn, Any, Leads, leads_then, leads_marked, leads_or, leads_any, exact_before, exact_deep, exact_same, exact_marked, none, none_next}
+use Rattle.mv_grammar.proofs.Shapes.{Room, apart_leads, leads_first, leads_wider, given, ended, taken, first, after, after_in, picked, later, stepped, chained, guarded}
 use Rattle.mv_grammar.proofs.Lists.{comma_list_exact}
 use Rattle.mv_grammar.proofs.ExpressionExactness.{starts, more, weight, deep, expression_exact, phrase_leads}
 use Rattle.mv_grammar.proofs.DeclarationExactness.{declarator_class, declarator_starts, never_declared, never_in_parameters, specs_leads, declared_leads, specs_exact, declared_exact, params_exact}

@@ -1,7 +1,6 @@
 -- The reading of items takes exactly the phrases of the grammar.
-use Rattle.std.proofs.Common.{◌≡◌, ℕ, zero, suc, ◌+◌, ◌*◌, ◌<◌, ◌≤◌, Bool, true, false, Option, Some, None, List, [], ◌∷◌, ◌++◌, ◌⊎◌, inl, inr, length, refl, sym, ap, subst, ◌∙◌, arith}
-use Rattle.std.proofs.lemmas.List.{append-nil}
-use Rattle.mv_ast.specs.declared.token.Piece.TheVariants.{Keyword, Name, Number, Chars, Mark}
+use Rattle.std.proofs.Common.{◌≡◌, ℕ, ◌≤◌, Bool, true, false, Some, None, List, [], ◌∷◌, ◌++◌, inl, inr, refl, sym, ap, subst, ◌∙◌, arith}
+use Rattle.mv_ast.specs.declared.token.Piece.TheVariants.{Mark}
 use Rattle.mv_ast.specs.declared.unit.Specs.{Specs}
 use Rattle.mv_ast.specs.declared.unit.Declarator.{Declarator}
 use Rattle.mv_ast.specs.declared.unit.Item.{Item}
@@ -20,9 +19,9 @@ use Rattle.mv_grammar.specs.StatementReader.{LineReader}
 use Rattle.mv_grammar.specs.Units as G
 use Rattle.mv_grammar.specs.Units.{item_of}
 use Rattle.mv_grammar.specs.UnitReader as M
-use Rattle.mv_grammar.proofs.Classes.{Class, sample, either, all_but, but_two, at_mark, at_keyword, at_class, is_in}
+use Rattle.mv_grammar.proofs.Classes.{Class, sample, either, but_two, at_mark, at_class, is_in}
 use Rattle.mv_grammar.proofs.Exact.{Exact, ExactIn, Leads, leads_then, leads_or, leads_any, exact_before, exact_same, none}
-use Rattle.mv_grammar.proofs.Shapes.{Room, Apart, apart_give, apart_leads, leads_first, leads_wider, leads_maybe, leads_chain, given, taken, first, after, after_in, picked, repeated}
+use Rattle.mv_grammar.proofs.Shapes.{Room, apart_leads, leads_first, leads_wider, leads_maybe, leads_chain, given, taken, first, after, after_in, picked, repeated}
 use Rattle.mv_grammar.proofs.Lists.{regroup, ungroup, commas_exact}
 use Rattle.mv_grammar.proofs.ExpressionExactness.{starts, more, weight, deep, expression_exact, phrase_leads}
 use Rattle.mv_grammar.proofs.DeclarationExactness.{declarator_class, declarator_starts, never_declared, never_in_parameters, never_suffix, specs_leads, declarator_leads, declared_leads, init_leads, specs_exact, declarator_exact, with_init_exact, declared_exact, params_exact}

@@ -1,5 +1,5 @@
 -- What is read tells what the tokens are: a unit and no other, or where they break off.
-use Rattle.std.proofs.Common.{◌≡◌, ℕ, zero, suc, ◌+◌, ◌*◌, ◌-◌, ◌<◌, ◌≤◌, Bool, true, false, cond, Option, Some, None, List, [], ◌∷◌, ◌++◌, length, drop, refl, sym, ap, subst, ◌∙◌, arith, length-append}
+use Rattle.std.proofs.Common.{◌≡◌, ℕ, zero, suc, ◌+◌, ◌-◌, ◌<◌, Bool, true, false, cond, Option, Some, None, List, [], ◌∷◌, ◌++◌, length, drop, refl, sym, ap, subst, ◌∙◌, arith, length-append}
 use Rattle.std.specs.Prelude.{nat_eq, nat_lt, ◌||◌}
 use Rattle.std.proofs.lemmas.List.{append-nil}
 use Rattle.std.proofs.Math.Seq.{drop-append_seam}
@@ -9,15 +9,14 @@ use Rattle.mv_ast.specs.declared.token.Token.{Token}
 use Rattle.mv_ast.specs.declared.token.Tokens.{Tokens}
 use Rattle.mv_ast.specs.declared.unit.Item.{Item}
 use Rattle.mv_ast.specs.declared.unit.Unit as unit
-use Rattle.mv_grammar.specs.Terminals.{Terminal, terminal, terminals}
+use Rattle.mv_grammar.specs.Terminals.{Terminal, terminals}
 use Rattle.mv_grammar.specs.Language as L
 use Rattle.mv_grammar.specs.Reader as R
 use Rattle.mv_grammar.specs.Reader.{Read, Deep, next}
 use Rattle.mv_grammar.specs.Units.{AreItems, items}
 use Rattle.mv_grammar.specs.UnitReader as M
-use Rattle.mv_grammar.specs.Reading.{Reads, Exactly, Begins, Ends, Breaks, BreaksAt, place_or, place_or_end, place_left, bound}
-use Rattle.mv_grammar.proofs.Exact.{Exact, Got, Lost, Found, none_next}
-use Rattle.mv_grammar.proofs.Shapes.{Room}
+use Rattle.mv_grammar.specs.Reading.{Reads, Exactly, Ends, Breaks, BreaksAt, place_or, place_or_end, place_left, bound}
+use Rattle.mv_grammar.proofs.Exact.{Got, Lost, Found, none_next}
 use Rattle.mv_grammar.proofs.ExpressionExactness.{deep}
 use Rattle.mv_grammar.proofs.UnitExactness.{unit_exact}
 

@@ -1,5 +1,5 @@
 -- The grammar of expressions (C11 6.5), production by production.
-use Rattle.std.specs.Prelude.{◌≡◌, ℕ, zero, suc, Bool, true, false, Option, Some, None, List, [], ◌∷◌, ◌++◌}
+use Rattle.std.specs.Prelude.{ℕ, zero, suc, Bool, true, false, Some, None, List, [], ◌∷◌, ◌++◌}
 use Rattle.mv_ast.specs.declared.place.Place.{Place}
 use Rattle.mv_ast.specs.declared.token.Piece.{Piece}
 use Rattle.mv_ast.specs.declared.token.Piece.TheVariants as piece

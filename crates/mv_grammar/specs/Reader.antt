@@ -1,5 +1,5 @@
 -- Readers: what is taken from the front of the terminals, without going back.
-use Rattle.std.specs.Prelude.{◌≡◌, ℕ, zero, suc, Bool, true, false, ◌&&◌, Option, Some, None, List, [], ◌∷◌, ◌++◌, if◌then◌else◌}
+use Rattle.std.specs.Prelude.{ℕ, zero, suc, Bool, false, ◌&&◌, Option, Some, None, List, [], ◌∷◌, ◌++◌, if◌then◌else◌}
 use Rattle.mv_ast.specs.declared.place.Place.{Place}
 use Rattle.mv_grammar.specs.Terminals.{Terminal, is_mark}
 use Rattle.mv_grammar.specs.Language.{place_of}

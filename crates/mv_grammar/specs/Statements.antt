@@ -1,5 +1,5 @@
 -- The grammar of statements and local declarations (C11 6.8), production by production.
-use Rattle.std.specs.Prelude.{◌≡◌, ℕ, zero, suc, Bool, true, false, Option, Some, None, List, [], ◌∷◌, ◌++◌}
+use Rattle.std.specs.Prelude.{◌≡◌, ℕ, zero, suc, Bool, true, false, Option, Some, None, List, []}
 use Rattle.mv_ast.specs.declared.place.Place.{Place}
 use Rattle.mv_ast.specs.declared.unit.Node.{Node}
 use Rattle.mv_ast.specs.declared.unit.Line.{Line, Line-F, fold-Line}

@@ -1,5 +1,5 @@
 -- What the reading of a translation unit takes, step by step.
-use Rattle.std.specs.Prelude.{◌≡◌, ℕ, Bool, true, Option, Some, None, List, [], ◌∷◌, ◌++◌, ◌+◌, ◌*◌, length}
+use Rattle.std.specs.Prelude.{ℕ, true, Some, None, List, [], ◌∷◌}
 use Rattle.mv_ast.specs.declared.unit.Specs.{Specs}
 use Rattle.mv_ast.specs.declared.unit.Declarator.{Declarator}
 use Rattle.mv_ast.specs.declared.unit.Item.{Item}

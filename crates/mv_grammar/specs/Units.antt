@@ -1,5 +1,5 @@
 -- The grammar of a translation unit (C11 6.9), and what it is for tokens to be one.
-use Rattle.std.specs.Prelude.{◌≡◌, ℕ, Option, Some, None, List, [], ◌∷◌, ◌++◌}
+use Rattle.std.specs.Prelude.{ℕ, Option, Some, None, List, [], ◌∷◌}
 use Rattle.mv_ast.specs.declared.unit.Specs.{Specs}
 use Rattle.mv_ast.specs.declared.unit.Declarator.{Declarator}
 use Rattle.mv_ast.specs.declared.unit.Line.{Line}
