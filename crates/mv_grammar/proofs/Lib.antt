@@ -1,0 +1,13 @@
+pub mod Classes
+pub mod DanglingElse
+pub mod DeclarationExactness
+pub mod Exact
+pub mod ExpressionExactness
+pub mod Laws
+pub mod Lists
+pub mod Peek
+pub mod Shapes
+pub mod Sources
+pub mod StatementExactness
+pub mod UnitExactness
+pub mod Verdict
