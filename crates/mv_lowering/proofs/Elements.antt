@@ -18,7 +18,7 @@ use Rattle.mv_ast.specs.Worlds.{World, Outcome, Came, Stopped, and_then, bind, g
 use Rattle.mv_meaning.specs.declared.state.Frame.{Frame}
 use Rattle.mv_meaning.specs.declared.state.Lvalue.{Lvalue}
 use Rattle.mv_meaning.specs.declared.state.Lvalue.TheVariants as lvalue
-use Rattle.mv_meaning.specs.Operators.{converted}
+use Rattle.mv_ast.specs.Operators.{converted}
 use Rattle.mv_meaning.specs.Meaning.{Evaluation, value_in, read_lvalue, store_lvalue, element_below, global_element, local_element}
 use Rattle.mv_ir.specs.World.{Setting}
 use Rattle.mv_ir.specs.World as code_world

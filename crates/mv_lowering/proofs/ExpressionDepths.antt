@@ -13,7 +13,7 @@ use Rattle.mv_ast.specs.declared.program.Expr.{Expr, fold-roll-Expr}
 use Rattle.mv_ast.specs.declared.program.Form.{Form, Form-F, fold-roll-Form, map-Form}
 use Rattle.mv_ast.specs.declared.program.Form.TheOpen as form
 use Rattle.mv_ast.specs.declared.program.Target.{Target, Target-F, fold-roll-Target, map-Target}
-use Rattle.mv_meaning.specs.Operators.{is_unsigned}
+use Rattle.mv_ast.specs.Operators.{is_unsigned}
 use Rattle.mv_lowering.specs.Lowered.{Lowering, number, temp, global, binary, set, set_global, read, write, lower_number, lower_local, lower_global, index_in, lower_element}
 use Rattle.mv_lowering.specs.Lower.{Part, Place, InLocal, InGlobal, Element, narrowed, unary_tree, converted_tree, less_tree, bit_tree, quotient_number, remainder_number, lower_operator, lower_product, lower_binary, place_of_layer, lower_read, lower_set, lower_changed, lower_change, next_tree, lower_after, is_void, lower_form, lower_layer, form_lowering, place_of, part_of, lower_expr}
 use Rattle.mv_lowering.proofs.SourceInduction.{FormChildren, TargetChildren, expr_ind}

@@ -7,7 +7,7 @@ use Rattle.mv_ir.specs.declared.tree.Tree.TheOpen as tree
 use Rattle.mv_ast.specs.declared.program.Program.{Program}
 use Rattle.mv_ast.specs.declared.program.CType.{CType}
 use Rattle.mv_ast.specs.declared.program.CType.TheVariants.{Void, Scalar, Pointer}
-use Rattle.mv_meaning.specs.Operators.{is_unsigned, is_less, as_word, converted, unary_value, bit_value}
+use Rattle.mv_ast.specs.Operators.{is_unsigned, is_less, as_word, converted, unary_value, bit_value}
 use Rattle.mv_ir.specs.World.{Setting}
 use Rattle.mv_ir.specs.World as code_world
 use Rattle.mv_ir.specs.Outcome.{State, Bound}

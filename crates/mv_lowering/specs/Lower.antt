@@ -17,7 +17,7 @@ use Rattle.mv_ast.specs.declared.program.Form.TheOpen as form
 use Rattle.mv_ast.specs.declared.program.Target.{Target, Target-F, fold-Target}
 use Rattle.mv_ast.specs.Counts.{words_of_size}
 use Rattle.mv_ast.specs.Plans.{same_truth, is_among, switch_global}
-use Rattle.mv_meaning.specs.Operators.{is_unsigned}
+use Rattle.mv_ast.specs.Operators.{is_unsigned}
 use Rattle.mv_lowering.specs.Lowered.{Lowering, number, unary, binary, temp, global, set, set_global, read, write, lower_number, lower_local, lower_global, lower_function, lower_one, lower_two, lower_division, lower_both, lower_either, lower_choice, lower_set_local, lower_set_global, lower_call, lower_through, lower_known, index_in, lower_element, lower_read_element, lower_set_element}
 
 -- ---- operators, by the numbers of their marks

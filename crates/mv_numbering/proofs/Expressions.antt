@@ -12,7 +12,7 @@ use Rattle.mv_ast.specs.declared.program.Target.{Target, Target-F, map-Target, r
 use Rattle.mv_ast.specs.Worlds.{Came, and_then, bind, give, counted}
 use Rattle.mv_meaning.specs.declared.state.Lvalue.{Lvalue}
 use Rattle.mv_meaning.specs.declared.state.Lvalue.TheVariants as lvalue
-use Rattle.mv_meaning.specs.Operators.{as_word, converted, unary_value, binary_value, bit_value}
+use Rattle.mv_ast.specs.Operators.{as_word, converted, unary_value, binary_value, bit_value}
 use Rattle.mv_meaning.specs.Meaning.{Evaluation, Context, Denotation, read_lvalue, store_lvalue, global_element, local_element, value_or_trap, known_value, values_of, target_lvalue, form_value, expr_denotation, form_of, lvalue_of, denotation_of, value_of}
 use Rattle.mv_meaning.proofs.Equations.{ctype_of_lem}
 use Rattle.mv_numbering.specs.Typing.{IsInteger, IsConstantOf, IsNull, IsFunctionOf, TakesOne, TakesTwo, ConvertsTo, HasType, LvalueHasType, local_types, parameter_types, types_of}

@@ -8,7 +8,8 @@ use Rattle.mv_ast.specs.declared.program.Signature.{Signature}
 use Rattle.mv_ast.specs.declared.world.Action.{Action}
 use Rattle.mv_ast.specs.Worlds.{World}
 use Rattle.mv_meaning.specs.declared.meant.Meant.{Meant}
-use Rattle.mv_meaning.specs.Meaning.{Context, context_at, first_words, first_world, meaning_of, run_of_main}
+use Rattle.mv_ast.specs.Starts.{first_words, first_world}
+use Rattle.mv_meaning.specs.Meaning.{Context, context_at, meaning_of, run_of_main}
 use Rattle.mv_numbering.specs.Typing.{IsFunctionOf}
 
 -- A numbering has a word above 0 for each function, different for different functions.
