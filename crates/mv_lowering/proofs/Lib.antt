@@ -10,3 +10,6 @@ pub mod Arguments
 pub mod Expressions
 pub mod Depths
 pub mod ExpressionDepths
+pub mod Flows
+pub mod Loops
+pub mod Switches
