@@ -47,13 +47,13 @@ module _ (p : Program) (setting : Setting) (frame : code_world.Frame) (own local
   Shows = statements.Shows p setting frame own locals sizes room void []
 
   abbrev pub CorrectFor : Bound → ℕ → Evaluation ℕ → Lowering → Type 0
-  CorrectFor b = c.CorrectFor p setting frame own locals sizes locals (λ k. 0) room b
+  CorrectFor b = c.CorrectFor p setting frame own locals sizes (λ l. None) locals (λ k. 0) room b
 
   abbrev Reached : Bound → (due credit n : ℕ) → State → List Stm → Tree → ℕ → Frame → World → ℕ → Type 0
-  Reached b = c.Reached p setting frame own locals sizes locals (λ k. 0) room b
+  Reached b = c.Reached p setting frame own locals sizes (λ l. None) locals (λ k. 0) room b
 
   abbrev Shown : Bound → (due credit n : ℕ) → State → List Stm → Tree → Outcome Frame ℕ → Type 0
-  Shown b = c.Shown p setting frame own locals sizes locals (λ k. 0) room b
+  Shown b = c.Shown p setting frame own locals sizes (λ l. None) locals (λ k. 0) room b
 
   abbrev pub code : List Stm → Bound → State → Run
   code xs bound s = code_meaning setting frame xs bound s
@@ -61,13 +61,13 @@ module _ (p : Program) (setting : Setting) (frame : code_world.Frame) (own local
   -- what a state shows doesn't depend on the bound
   pub at_no_bound : (b : Bound) (f : Frame) (w : World) (s : State) → statements.Shows p setting frame own locals sizes room void b f w s → Shows f w s
   at_no_bound b f w s h = record {
-    world = h.world; depth = h.depth; live = h.live; function = h.function; switches = h.switches; each = h.each; elements = h.elements; words = h.words;
+    world = h.world; depth = h.depth; live = h.live; function = h.function; switches = h.switches; each = h.each; elements = h.elements; untouched = h.untouched; words = h.words;
     size = h.size; above = h.above; below = h.below; temps = h.temps; arrays = h.arrays; globals = h.globals;
   }
 
   pub at_bound : (b : Bound) (f : Frame) (w : World) (s : State) → Shows f w s → statements.Shows p setting frame own locals sizes room void b f w s
   at_bound b f w s h = record {
-    world = h.world; depth = h.depth; live = h.live; function = h.function; switches = h.switches; each = h.each; elements = h.elements; words = h.words;
+    world = h.world; depth = h.depth; live = h.live; function = h.function; switches = h.switches; each = h.each; elements = h.elements; untouched = h.untouched; words = h.words;
     size = h.size; above = h.above; below = h.below; temps = h.temps; arrays = h.arrays; globals = h.globals;
   }
 
@@ -117,7 +117,7 @@ module _ (p : Program) (setting : Setting) (frame : code_world.Frame) (own local
       (joined xs rest b s ∙ ap (λ r. then_do r (code rest b)) h.runs) (3 * nodes t + 11) (omega (arith, h.paid)) (k v f w work h)
   behind out b credit before n s xs rest t (Stopped why w work) next h k = record {
     cost = h.cost;
-    runs = λ ne. run.runs_stop p setting frame own locals sizes locals (λ k. 0) room b xs rest s (c.end_of why (c.seen w)) h.cost (h.runs ne);
+    runs = λ ne. run.runs_stop p setting frame own locals sizes (λ l. None) locals (λ k. 0) room b xs rest s (c.end_of why (c.seen w)) h.cost (h.runs ne);
     paid = omega (arith, h.paid);
   }
 
@@ -174,15 +174,15 @@ module _ (p : Program) (setting : Setting) (frame : code_world.Frame) (own local
 
   -- ---- choices
 
-  pub chosen : (out : Out) (b : Bound) (v : ℕ) (t : Tree) (xs ys : List Stm) (f : Frame) (w : World) (s : State) (zero_way other_way : Evaluation Flow) (z : Bool) (credit : ℕ) → eqb v 0 ≡ z → c.val p setting frame own locals sizes locals (λ k. 0) room b t s ≡ v →
+  pub chosen : (out : Out) (b : Bound) (v : ℕ) (t : Tree) (xs ys : List Stm) (f : Frame) (w : World) (s : State) (zero_way other_way : Evaluation Flow) (z : Bool) (credit : ℕ) → eqb v 0 ≡ z → c.val p setting frame own locals sizes (λ l. None) locals (λ k. 0) room b t s ≡ v →
       (z ≡ true → FlowShown out credit (code ys b s) (zero_way f w)) → (z ≡ false → FlowShown out credit (code xs b s) (other_way f w)) →
       FlowShown out (credit + (8 + 3 * nodes t)) (code (choose t xs ys ∷ []) b s) (cond z zero_way other_way f w)
   chosen out b v t xs ys f w s zero_way other_way true credit e ev hz ho =
       priced out credit (8 + 3 * nodes t) (code ys b s) (code (choose t xs ys ∷ []) b s) (zero_way f w)
-      (run.if_runs p setting frame own locals sizes locals (λ k. 0) room b t xs ys s ∙ ap (λ q. spend (8 + 3 * nodes t) (cond q (code ys b s) (code xs b s))) (ap (λ j. eqb j 0) ev ∙ e)) (hz refl)
+      (run.if_runs p setting frame own locals sizes (λ l. None) locals (λ k. 0) room b t xs ys s ∙ ap (λ q. spend (8 + 3 * nodes t) (cond q (code ys b s) (code xs b s))) (ap (λ j. eqb j 0) ev ∙ e)) (hz refl)
   chosen out b v t xs ys f w s zero_way other_way false credit e ev hz ho =
       priced out credit (8 + 3 * nodes t) (code xs b s) (code (choose t xs ys ∷ []) b s) (other_way f w)
-      (run.if_runs p setting frame own locals sizes locals (λ k. 0) room b t xs ys s ∙ ap (λ q. spend (8 + 3 * nodes t) (cond q (code ys b s) (code xs b s))) (ap (λ j. eqb j 0) ev ∙ e)) (ho refl)
+      (run.if_runs p setting frame own locals sizes (λ l. None) locals (λ k. 0) room b t xs ys s ∙ ap (λ q. spend (8 + 3 * nodes t) (cond q (code ys b s) (code xs b s))) (ap (λ j. eqb j 0) ev ∙ e)) (ho refl)
 
   -- an expression, and a choice by its value
   pub tested : (out : Out) (b : Bound) (credit before : ℕ) (me : Evaluation ℕ) (my mn : Evaluation Flow) (le : Lowering) (xs ys : List Stm) → (le locals).top ≤ room → CorrectFor b before me le →

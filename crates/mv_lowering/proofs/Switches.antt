@@ -1,5 +1,5 @@
 -- `switch`: the tests of its labels, and its arms with their fall through.
-use Rattle.std.proofs.Common.{◌≡◌, ℕ, zero, suc, ◌+◌, ◌*◌, ◌<◌, ◌≤◌, Bool, true, false, cond, eqb, List, [], ◌∷◌, ◌++◌, length, drop, max, Option, Some, refl, sym, ◌∙◌, subst, ap, arith, append_assoc, map}
+use Rattle.std.proofs.Common.{◌≡◌, ℕ, zero, suc, ◌+◌, ◌*◌, ◌<◌, ◌≤◌, Bool, true, false, cond, eqb, List, [], ◌∷◌, ◌++◌, length, drop, max, Option, Some, refl, sym, ◌∙◌, subst, ap, arith, append_assoc, map, None}
 use Rattle.std.specs.Prelude.{slice_index}
 use Rattle.std.proofs.lemmas.List.{get_or-set_same}
 use Rattle.mv_ir.specs.declared.tree.Tree.{Tree}
@@ -111,14 +111,14 @@ module _ (p : Program) (setting : Setting) (frame : code_world.Frame) (own local
   -- ---- the tests
 
   abbrev V : Bound → Tree → State → ℕ
-  V b = c.val p setting frame own locals sizes locals (λ k. 0) room b
+  V b = c.val p setting frame own locals sizes (λ l. None) locals (λ k. 0) room b
 
   test_value : (b : Bound) (n l v : ℕ) (s : State) → slice_index s.temps n ≡ v → V b (binary 11 (temp n) (number l)) s ≡ flag (eqb v l)
   unfolding ir_tree.binary
   test_value b n l v s e =
-      run.val_binary p setting frame own locals sizes locals (λ k. 0) room b 11 (temp n) (number l) s ∙
-      ap (λ x. flag (eqb x (V b (number l) s))) (run.val_temp p setting frame own locals sizes locals (λ k. 0) room b n s ∙ e) ∙
-      ap (λ x. flag (eqb v x)) (run.val_number p setting frame own locals sizes locals (λ k. 0) room b l s)
+      run.val_binary p setting frame own locals sizes (λ l. None) locals (λ k. 0) room b 11 (temp n) (number l) s ∙
+      ap (λ x. flag (eqb x (V b (number l) s))) (run.val_temp p setting frame own locals sizes (λ l. None) locals (λ k. 0) room b n s ∙ e) ∙
+      ap (λ x. flag (eqb v x)) (run.val_number p setting frame own locals sizes (λ l. None) locals (λ k. 0) room b l s)
 
   test_nodes : (n l : ℕ) → nodes (binary 11 (temp n) (number l)) ≡ 3
   test_nodes n l = omega (arith, nodes_binary 11 (temp n) (number l), nodes_temp n, nodes_number l)
@@ -126,7 +126,7 @@ module _ (p : Program) (setting : Setting) (frame : code_world.Frame) (own local
   one_test : (b : Bound) (n i l v : ℕ) (s : State) → slice_index s.temps n ≡ v →
       code (choose (binary 11 (temp n) (number l)) (break i ∷ []) [] ∷ []) b s ≡ cond (eqb v l) (ran 25 (Leaves i s)) (ran 17 (Next s))
   one_test b n i l v s e =
-      run.if_runs p setting frame own locals sizes locals (λ k. 0) room b (binary 11 (temp n) (number l)) (break i ∷ []) [] s ∙
+      run.if_runs p setting frame own locals sizes (λ l. None) locals (λ k. 0) room b (binary 11 (temp n) (number l)) (break i ∷ []) [] s ∙
       ap (λ k. spend (8 + 3 * k) (cond (eqb (V b (binary 11 (temp n) (number l)) s) 0) (code [] b s) (code (break i ∷ []) b s))) (test_nodes n l) ∙
       ap (λ x. spend 17 (cond (eqb x 0) (ran 0 (Next s)) (code (break i ∷ []) b s))) (test_value b n l v s e) ∙
       ap (λ r. spend 17 (cond (eqb (flag (eqb v l)) 0) (ran 0 (Next s)) r)) (one_meaning setting frame (stm.Break i) b s) ∙ by (eqb v l)
@@ -384,11 +384,11 @@ module _ (p : Program) (setting : Setting) (frame : code_world.Frame) (own local
       let rest = enclosed (nested (test_arms locals 0 ls ++ break (arm_place (λ a. a.other) 0 ls) ∷ []) ls j) ∷ [] in
       flows.behind p setting frame own locals sizes room void (out_of void j) b 100 0 locals s e.code (set locals e.tree ∷ rest) e.tree (me f w) (λ v. switch_flow v ds) (ce locals f w s (omega arith) fits (flows.at_bound p setting frame own locals sizes room void b f w s sh))
       (λ v f1 w1 work r.
-      let x = c.val p setting frame own locals sizes locals (λ k. 0) room b e.tree r.state in
+      let x = c.val p setting frame own locals sizes (λ l. None) locals (λ k. 0) room b e.tree r.state in
       let s1 = with_temp r.state locals x in
       let shown = flows.at_no_bound p setting frame own locals sizes room void b f1 w1 r.state r.shows in
       flows.more p setting frame own locals sizes room void (out_of void j) (8 + (8 + 3 * nodes e.tree)) (100 + (3 * nodes e.tree + 11)) (code (set locals e.tree ∷ rest) b r.state) (switch_flow v ds f1 w1) (omega arith)
       (flows.priced p setting frame own locals sizes room void (out_of void j) 8 (8 + 3 * nodes e.tree) (code rest b s1) (code (set locals e.tree ∷ rest) b r.state) (switch_flow v ds f1 w1)
-      (joined (set locals e.tree ∷ []) rest b r.state ∙ ap (λ q. then_do q (code rest b)) (run.runs_set p setting frame own locals sizes locals (λ k. 0) room b locals e.tree r.state))
-      (arrives j b ds ls locals v f1 w1 s1 h (show.shows_temp p setting frame own locals sizes locals (λ k. 0) room [] f1 w1 r.state locals x (omega arith) shown)
+      (joined (set locals e.tree ∷ []) rest b r.state ∙ ap (λ q. then_do q (code rest b)) (run.runs_set p setting frame own locals sizes (λ l. None) locals (λ k. 0) room b locals e.tree r.state))
+      (arrives j b ds ls locals v f1 w1 s1 h (show.shows_temp p setting frame own locals sizes (λ l. None) locals (λ k. 0) room [] f1 w1 r.state locals x (omega arith) shown)
       (get_or-set_same r.state.temps locals x 0 (subst (λ k. locals < k) (sym r.shows.temps) (omega (arith, room_for))) ∙ r.value))))

@@ -172,7 +172,7 @@ levels calls (suc k) = calls k ∷ levels calls k
 
 module _ (p : Program) (setting : Setting) (frame : code_world.Frame) (own locals : ℕ) (sizes : ℕ → Option ℕ) (room : ℕ) (void : Bool) where
   abbrev pub Shows : Bound → Frame → World → State → Type 0
-  Shows bound = c.Shows p setting frame own locals sizes locals (λ k. 0) room bound
+  Shows bound = c.Shows p setting frame own locals sizes (λ l. None) locals (λ k. 0) room bound
 
   pub record FlowReached (out : Flow → State → ir.Outcome) (credit : ℕ) (r : Run) (flow : Flow) (f : Frame) (w : World) (work : ℕ) : Type 0 where
     pub state : State
