@@ -83,7 +83,7 @@ module _ (p : Program) (setting : Setting) (frame : code_world.Frame) (function 
 
   -- ---- the words of an array
 
-  elements_are : (a : Array) (f : Frame) (w : World) (s : State) → IsArray a → Shows f w s → elements a s ≡ words_in a f w
+  pub elements_are : (a : Array) (f : Frame) (w : World) (s : State) → IsArray a → Shows f w s → elements a s ≡ words_in a f w
   elements_are (array.Global g) f w s isa h = ap (λ (x : code_world.World). slice_index_or x.globals g []) h.world
   elements_are (array.Local l) f w s isa h = h.elements l isa.0 isa.1
 
@@ -150,7 +150,7 @@ module _ (p : Program) (setting : Setting) (frame : code_world.Frame) (function 
 
   -- ---- stores
 
-  shows_array : (l i v : ℕ) (f : Frame) (w : World) (s : State) → IsArray (array.Local l) → Shows f w s →
+  pub shows_array : (l i v : ℕ) (f : Frame) (w : World) (s : State) → IsArray (array.Local l) → Shows f w s →
       Shows (record f { locals = with_word f.locals l i v }) w (with_elements (array.Local l) s (slice_set (elements (array.Local l) s) i v))
   shows_array l i v f w s isa h =
       let ws = slice_index_or f.locals l [] in
@@ -198,7 +198,7 @@ module _ (p : Program) (setting : Setting) (frame : code_world.Frame) (function 
       long k lk (inr ne) = ap length (get_or-set_other f.locals l k (slice_set (slice_index_or f.locals l []) i v) [] ne) ∙ h.words k lk
 
   -- a write, with a value that stands in a temporary
-  runs_written : (a : Array) (i tv : Tree) (v u : ℕ) (f : Frame) (w : World) (s : State) → IsArray a → Shows f w s → V i s ≡ v → V tv s ≡ u → v < size_in a →
+  pub runs_written : (a : Array) (i tv : Tree) (v u : ℕ) (f : Frame) (w : World) (s : State) → IsArray a → Shows f w s → V i s ≡ v → V tv s ≡ u → v < size_in a →
       R (write a i tv ∷ []) s (Next (with_elements a s (slice_set (elements a s) v u))) (8 + 3 * (nodes i + nodes tv))
   runs_written a i tv v u f w s isa h ev eu lt =
       run.runs_write p setting frame function locals sizes held floor scratch temps bound a i tv s ∙

@@ -104,7 +104,7 @@ module _ (p : Program) (setting : Setting) (frame : code_world.Frame) (own local
   comes_to out credit b m m' xs same h f w s sh = subst (λ (o : Outcome Frame Flow). FlowShown out credit (code xs b s) o) (same f w) (h f w s sh)
 
   -- work that was done, and the price that it paid
-  spent : (out : Out) (credit before cost work : ℕ) (inner outer : Run) (o : Outcome Frame Flow) → outer ≡ spend cost inner → (k : ℕ) → cost + k ≤ 100 * work + before → FlowShown out (credit + k) inner o → FlowShown out (credit + before) outer (after work o)
+  pub spent : (out : Out) (credit before cost work : ℕ) (inner outer : Run) (o : Outcome Frame Flow) → outer ≡ spend cost inner → (k : ℕ) → cost + k ≤ 100 * work + before → FlowShown out (credit + k) inner o → FlowShown out (credit + before) outer (after work o)
   spent out credit before cost work inner outer o e k le h =
       paid_by out (credit + before) work outer o (more out ((credit + k) + cost) (credit + before + 100 * work) outer o (omega (arith, le)) (priced out (credit + k) cost inner outer o e h))
 

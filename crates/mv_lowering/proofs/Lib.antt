@@ -13,3 +13,4 @@ pub mod ExpressionDepths
 pub mod Flows
 pub mod Loops
 pub mod Switches
+pub mod Clears

@@ -1,6 +1,7 @@
 -- What statements are lowered to (C11 6.8), and when that is right. Between statements no temporaries are in use but the locals'.
-use Rattle.std.specs.Prelude.{◌≡◌, ℕ, zero, suc, ◌+◌, ◌*◌, ◌≤◌, Bool, true, false, cond, List, [], ◌∷◌, ◌++◌, length, max, Option, Some, None}
+use Rattle.std.specs.Prelude.{◌≡◌, ℕ, zero, suc, ◌+◌, ◌*◌, ◌≤◌, Bool, true, false, cond, List, [], ◌∷◌, ◌++◌, length, max, nat_le, ◌||◌, ◌-◌, Option, Some, None}
 use Rattle.mv_ir.specs.declared.tree.Tree.{Tree}
+use Rattle.mv_ir.specs.declared.stm.Array.TheVariants as array
 use Rattle.mv_ir.specs.declared.stm.Stm.{Stm}
 use Rattle.mv_ir.specs.declared.stm.Stm.TheOpen as stm
 use Rattle.mv_ir.specs.declared.stm.Stm.TheViews.{roll-Stm}
@@ -11,12 +12,13 @@ use Rattle.mv_ir.specs.Outcome as ir
 use Rattle.mv_ir.specs.Meaning.{code_meaning}
 use Rattle.mv_ast.specs.declared.program.Program.{Program}
 use Rattle.mv_ast.specs.declared.world.Stop.{Stop}
+use Rattle.mv_ast.specs.Counts.{words_of_size}
 use Rattle.mv_ast.specs.Worlds.{World, Outcome, Came, Stopped}
 use Rattle.mv_meaning.specs.declared.state.Frame.{Frame}
 use Rattle.mv_meaning.specs.declared.state.Flow.{Flow}
 use Rattle.mv_meaning.specs.declared.state.Flow.TheVariants.{Goes, Breaks, Continues, Returns}
 use Rattle.mv_meaning.specs.Meaning.{Evaluation, returned_value}
-use Rattle.mv_lowering.specs.Lowered.{Lowering, number, temp, binary, set, choose}
+use Rattle.mv_lowering.specs.Lowered.{Lowering, number, temp, binary, set, write, choose}
 use Rattle.mv_lowering.specs.Correct as c
 use Rattle.mv_lowering.specs.Correct.{ran, end_of, seen, is_astray}
 
@@ -52,6 +54,44 @@ pub record Code : Type 0 where
 -- where they stand
 abbrev pub Placed : Type 0
 Placed = Jumps → Code
+
+-- ---- declarations of locals
+
+-- a value into a word of a local: into its temporary, or into an element of its array
+abbrev pub store_word : Option ℕ → ℕ → ℕ → Tree → Stm
+store_word None l i v = set l v
+store_word (Some size) l i v = write (array.Local l) (number i) v
+
+-- all words of a local become 0
+abbrev pub clear_words : Option ℕ → ℕ → Stm
+clear_words None l = set l (number 0)
+clear_words (Some size) l = roll-Stm (stm.Zero l)
+
+abbrev pub store_zeros : Option ℕ → ℕ → ℕ → ℕ → List Stm
+store_zeros size l i zero = []
+store_zeros size l i (suc n) = store_word size l i (number 0) ∷ store_zeros size l (suc i) n
+
+module _ (locals : ℕ) where
+  -- given values, from a word on
+  abbrev pub store_values : Option ℕ → ℕ → ℕ → List Lowering → List Stm
+  store_values size l i [] = []
+  store_values size l i (e ∷ es) = (e locals).code ++ (store_word size l i (e locals).tree ∷ store_values size l (suc i) es)
+
+  abbrev pub values_top : List Lowering → ℕ
+  values_top [] = locals
+  values_top (e ∷ es) = max (e locals).top (values_top es)
+
+  -- The words become 0 first where a value names the local itself, or where this costs no more than the work of the words without a value
+  -- pays for; else the values come first, and then a 0 for each word without one.
+  abbrev pub lower_clear : Option ℕ → ℕ → Bool → List Lowering → Placed
+  lower_clear size l names_itself es j =
+      let words = words_of_size size in
+      record {
+        code = cond (names_itself || nat_le (8 * words) (92 * (words - length es)))
+            (clear_words size l ∷ store_values size l 0 es)
+            (store_values size l 0 es ++ store_zeros size l (length es) (words - length es));
+        top = values_top es;
+      }
 
 -- ---- `switch`
 
