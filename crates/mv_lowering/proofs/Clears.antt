@@ -1,8 +1,8 @@
 -- Declarations of locals, with their given values.
-use Rattle.std.proofs.Common.{◌≡◌, ℕ, zero, suc, ◌+◌, ◌-◌, ◌*◌, ◌<◌, ◌≤◌, Bool, true, false, cond, eqb, ltb, List, [], ◌∷◌, ◌++◌, map, length, replicate, max, Option, Some, None, refl, sym, ◌∙◌, subst, ap, arith, ◌⊎◌, inl, inr, eq-eqb}
+use Rattle.std.proofs.Common.{◌≡◌, ℕ, zero, suc, ◌+◌, ◌-◌, ◌*◌, ◌<◌, ◌≤◌, Bool, true, false, cond, eqb, ltb, List, [], ◌∷◌, ◌++◌, map, length, replicate, max, Option, Some, None, refl, sym, ◌∙◌, subst, ap, arith, ◌⊎◌, inl, inr, eq-eqb, append_assoc}
 use Rattle.std.specs.Prelude.{slice_index, slice_set, slice_index_or, slice_get, nat_le, ◌||◌}
 use Rattle.std.proofs.lemmas.List.{get_or-set_same, get_or-set_other, length-set}
-use Rattle.std.proofs.lemmas.Bool.{cases_eq, cases_lt, leb-true, lt-ltb, ne_eqb}
+use Rattle.std.proofs.lemmas.Bool.{cases_eq, cases_lt, leb-true, le-leb, lt-ltb, ne_eqb}
 use Rattle.mv_ir.specs.declared.tree.Tree.{Tree}
 use Rattle.mv_ir.specs.declared.stm.Stm.{Stm}
 use Rattle.mv_ir.specs.declared.stm.Stm.TheOpen as stm
@@ -446,3 +446,217 @@ module _ (p : Program) (setting : Setting) (frame : code_world.Frame) (own local
           Is : Option ℕ → Type 0
           Is None = ⊥
           Is (Some x) = Unit {0}
+
+  -- ---- values of a local whose other words come afterwards
+
+  -- After i words: those before are the same on both sides, those behind are 0 in the source.
+  pub record Halfway (n i : ℕ) (ws gs : List ℕ) : Type 0 where
+    pub source_long : length ws ≡ n
+    pub code_long : length gs ≡ n
+    pub before : (k : ℕ) → k < i → slice_index ws k ≡ slice_index gs k
+    pub behind : (k : ℕ) → i ≤ k → slice_index ws k ≡ 0
+
+  one_further : (n i v : ℕ) (ws gs : List ℕ) → i < n → Halfway n i ws gs → Halfway n (suc i) (slice_set ws i v) (slice_set gs i v)
+  one_further n i v ws gs lt h = record {
+    source_long = length-set ws i v ∙ h.source_long;
+    code_long = length-set gs i v ∙ h.code_long;
+    before = λ k below. by k below (cases_eq k i);
+    behind = λ k le. get_or-set_other ws i k v 0 (λ e. absurd (omega (arith, le, e))) ∙ h.behind k (omega (arith, le));
+  }
+    where
+      by : (k : ℕ) → k < suc i → (k ≡ i) ⊎ (k ≡ i → ⊥) → slice_index (slice_set ws i v) k ≡ slice_index (slice_set gs i v) k
+      by k below (inl e) =
+          subst (λ j. slice_index (slice_set ws i v) j ≡ slice_index (slice_set gs i v) j) (sym e)
+          (get_or-set_same ws i v 0 (subst (λ m. i < m) (sym h.source_long) lt) ∙ sym (get_or-set_same gs i v 0 (subst (λ m. i < m) (sym h.code_long) lt)))
+      by k below (inr ne) = get_or-set_other ws i k v 0 ne ∙ h.before k (omega (arith, below, ne)) ∙ sym (get_or-set_other gs i k v 0 ne)
+
+  one_zero : (n i : ℕ) (ws gs : List ℕ) → i < n → Halfway n i ws gs → Halfway n (suc i) ws (slice_set gs i 0)
+  one_zero n i ws gs lt h = record {
+    source_long = h.source_long;
+    code_long = length-set gs i 0 ∙ h.code_long;
+    before = λ k below. by k below (cases_eq k i);
+    behind = λ k le. h.behind k (omega (arith, le));
+  }
+    where
+      by : (k : ℕ) → k < suc i → (k ≡ i) ⊎ (k ≡ i → ⊥) → slice_index ws k ≡ slice_index (slice_set gs i 0) k
+      by k below (inl e) =
+          subst (λ j. slice_index ws j ≡ slice_index (slice_set gs i 0) j) (sym e)
+          (h.behind i (omega arith) ∙ sym (get_or-set_same gs i 0 0 (subst (λ m. i < m) (sym h.code_long) lt)))
+      by k below (inr ne) = h.before k (omega (arith, below, ne)) ∙ sym (get_or-set_other gs i k 0 0 ne)
+
+  all_of_it : (n : ℕ) (ws gs : List ℕ) → Halfway n n ws gs → ws ≡ gs
+  all_of_it n ws gs h = same_lists ws gs (h.source_long ∙ sym h.code_long) (λ i lt. h.before i (subst (λ m. i < m) h.source_long lt))
+
+  -- a write of a word, where the code's words of the local are known
+  writes : (b : Bound) (l i v n : ℕ) (gs : List ℕ) (t : Tree) (s : State) → slice_index_or s.arrays l [] ≡ gs → length gs ≡ n → i < n → c.val p setting frame own locals sizes none locals (λ k. 0) room b t s ≡ v →
+      code (write (array.Local l) (number i) t ∷ []) b s ≡ ran (8 + 3 * (nodes (number i) + nodes t)) (Next (with_elements (array.Local l) s (slice_set gs i v)))
+  writes b l i v n gs t s eg long lt ev =
+      let V : Tree → State → ℕ = c.val p setting frame own locals sizes none locals (λ k. 0) room b in
+      let cost = 8 + 3 * (nodes (number i) + nodes t) in
+      run.runs_write p setting frame own locals sizes none locals (λ k. 0) room b (array.Local l) (number i) t s ∙
+      ap (λ (xs : List ℕ). ran cost (cond (ltb (V (number i) s) (length xs)) (Next (with_elements (array.Local l) s (slice_set xs (V (number i) s) (V t s)))) (traps 2 s))) eg ∙
+      ap (λ k. ran cost (cond (ltb k (length gs)) (Next (with_elements (array.Local l) s (slice_set gs k (V t s)))) (traps 2 s))) (run.val_number p setting frame own locals sizes none locals (λ k. 0) room b i s) ∙
+      ap (λ z. ran cost (cond z (Next (with_elements (array.Local l) s (slice_set gs i (V t s)))) (traps 2 s))) (lt-ltb i (length gs) (subst (λ m. i < m) (sym long) lt)) ∙
+      ap (λ k. ran cost (Next (with_elements (array.Local l) s (slice_set gs i k)))) ev
+
+  -- the words without a value
+  zeros : (j : Jumps) (b : Bound) (l n i m : ℕ) (ws gs : List ℕ) (f : Frame) (w : World) (s : State) → (sizes l ≡ None → ⊥) → l < locals → i + m ≡ n → Halfway n i ws gs → ShowsAt (only l (ws, gs)) f w s →
+      FlowShown (out_of void j) (14 * m) (code (store_zeros (Some n) l i m) b s) (give Goes f w)
+  zeros j b l n i zero ws gs f w s apart lt e h sh =
+      let whole : ws ≡ gs = all_of_it n ws gs (subst (λ k. Halfway n k ws gs) (omega (arith, e)) h) in
+      record { state = s; cost = 0; runs = refl; shows = array_declared l ws f w s apart (subst (λ g. ShowsAt (only l (ws, g)) f w s) (sym whole) sh); nothing = λ q. refl; paid = omega arith }
+  zeros j b l n i (suc m) ws gs f w s apart lt e h sh =
+      let rest = store_zeros (Some n) l (suc i) m in
+      let s1 = with_elements (array.Local l) s (slice_set gs i 0) in
+      let cost = 8 + 3 * (nodes (number i) + nodes (number 0)) in
+      flows.more p setting frame own locals sizes room void (out_of void j) (14 * m + cost) (14 * suc m) (code (write (array.Local l) (number i) (number 0) ∷ rest) b s) (give Goes f w) (omega (arith, nodes_number i, nodes_number 0))
+      (flows.priced p setting frame own locals sizes room void (out_of void j) (14 * m) cost (code rest b s1) (code (write (array.Local l) (number i) (number 0) ∷ rest) b s) (give Goes f w)
+      (joined (write (array.Local l) (number i) (number 0) ∷ []) rest b s ∙ ap (λ q. then_do q (code rest b))
+      (writes b l i 0 n gs (number 0) s (sh.untouched l (ws, gs) (only_here l (ws, gs))).1 h.code_long (omega (arith, e)) (run.val_number p setting frame own locals sizes none locals (λ k. 0) room b 0 s)))
+      (zeros j b l n (suc i) m ws (slice_set gs i 0) f w s1 apart lt (omega (arith, e)) (one_zero n i ws gs (omega (arith, e)) h) (recoded l ws gs (slice_set gs i 0) f w s lt sh)))
+
+  -- the values, and then those words
+  fills : (j : Jumps) (b : Bound) (l n i k m : ℕ) (ms : List (Evaluation ℕ)) (ls : List Lowering) (ws gs : List ℕ) (f : Frame) (w : World) (s : State) → (sizes l ≡ None → ⊥) → l < locals → i + length ls ≡ k → k + m ≡ n → values_top locals ls ≤ room →
+      ((both : List ℕ × List ℕ) → AllAt (only l both) b ms ls) → Halfway n i ws gs → ShowsAt (only l (ws, gs)) f w s →
+      FlowShown (out_of void j) (14 * m) (code (store_values locals (Some n) l i ls ++ store_zeros (Some n) l k m) b s) (put_values l i ms f w)
+  fills j b l n i k m [] [] ws gs f w s apart lt ek en fits hs h sh =
+      let ik : k ≡ i = omega (arith, ek) in
+      subst (λ q. FlowShown (out_of void j) (14 * m) (code (store_zeros (Some n) l q m) b s) (give Goes f w)) (sym ik)
+      (zeros j b l n i m ws gs f w s apart lt (omega (arith, ek, en)) h sh)
+  fills j b l n i k m [] (x ∷ ls) ws gs f w s apart lt ek en fits hs h sh = absurd (hs (ws, gs))
+  fills j b l n i k m (q ∷ ms) [] ws gs f w s apart lt ek en fits hs h sh = absurd (hs (ws, gs))
+  fills j b l n i k m (q ∷ ms) (x ∷ ls) ws gs f w s apart lt ek en fits hs h sh =
+      let e = x locals in
+      let rest = store_values locals (Some n) l (suc i) ls ++ store_zeros (Some n) l k m in
+      subst (λ (xs : List Stm). FlowShown (out_of void j) (14 * m) (code xs b s) (bind q (λ v. bind (store_lvalue (lvalue.Local l i) v) (λ _. put_values l (suc i) ms)) f w))
+      (sym (append_assoc e.code (write (array.Local l) (number i) e.tree ∷ store_values locals (Some n) l (suc i) ls) (store_zeros (Some n) l k m)))
+      (flows.more p setting frame own locals sizes room void (out_of void j) (14 * m + 0) (14 * m) (code (e.code ++ (write (array.Local l) (number i) e.tree ∷ rest)) b s) (bind q (λ v. bind (store_lvalue (lvalue.Local l i) v) (λ _. put_values l (suc i) ms)) f w) (omega arith)
+      (behind_at (only l (ws, gs)) (out_of void j) b (14 * m) s e.code (write (array.Local l) (number i) e.tree ∷ rest) e.tree (q f w) (λ v. bind (store_lvalue (lvalue.Local l i) v) (λ _. put_values l (suc i) ms))
+      ((hs (ws, gs)).0 locals f w s (omega arith) (omega (arith, fits)) (rebound (only l (ws, gs)) [] b f w s sh))
+      (λ v f1 w1 work r.
+      let sh1 = rebound (only l (ws, gs)) b [] f1 w1 r.state r.shows in
+      let f2 : Frame = record f1 { locals = with_word f1.locals l i v } in
+      let s2 = with_elements (array.Local l) r.state (slice_set gs i v) in
+      let cost = 8 + 3 * (nodes (number i) + nodes e.tree) in
+      subst (λ (o : Outcome Frame Flow). FlowShown (out_of void j) (14 * m + (3 * nodes e.tree + 11)) (code (write (array.Local l) (number i) e.tree ∷ rest) b r.state) o) (sym (after_zero (put_values l (suc i) ms f2 w1)))
+      (flows.more p setting frame own locals sizes room void (out_of void j) (14 * m + cost) (14 * m + (3 * nodes e.tree + 11)) (code (write (array.Local l) (number i) e.tree ∷ rest) b r.state) (put_values l (suc i) ms f2 w1) (omega (arith, nodes_number i))
+      (flows.priced p setting frame own locals sizes room void (out_of void j) (14 * m) cost (code rest b s2) (code (write (array.Local l) (number i) e.tree ∷ rest) b r.state) (put_values l (suc i) ms f2 w1)
+      (joined (write (array.Local l) (number i) e.tree ∷ []) rest b r.state ∙ ap (λ z. then_do z (code rest b))
+      (writes b l i v n gs e.tree r.state (sh1.untouched l (ws, gs) (only_here l (ws, gs))).1 h.code_long (omega (arith, ek, en)) r.value))
+      (fills j b l n (suc i) k m ms ls (slice_set ws i v) (slice_set gs i v) f2 w1 s2 apart lt (omega (arith, ek)) en (omega (arith, fits)) (λ both. (hs both).1) (one_further n i v ws gs (omega (arith, ek, en)) h)
+      (touched l i v ws gs f1 w1 r.state lt sh1)))))))
+
+  -- a scalar with its value
+  fills_scalar : (j : Jumps) (b : Bound) (l : ℕ) (m : Evaluation ℕ) (x : Lowering) (both : List ℕ × List ℕ) (f : Frame) (w : World) (s : State) → sizes l ≡ None → l < locals → locals ≤ room → (x locals).top ≤ room → CorrectAt (only l both) b m x → ShowsAt (only l both) f w s →
+      FlowShown (out_of void j) 0 (code ((x locals).code ++ (set l (x locals).tree ∷ [])) b s) (put_values l 0 (m ∷ []) f w)
+  fills_scalar j b l m x both f w s sz lt le fits cm sh =
+      let e = x locals in
+      behind_at (only l both) (out_of void j) b 0 s e.code (set l e.tree ∷ []) e.tree (m f w) (λ v. bind (store_lvalue (lvalue.Local l 0) v) (λ _. put_values l 1 []))
+      (cm locals f w s (omega arith) fits (rebound (only l both) [] b f w s sh))
+      (λ v f1 w1 work r.
+      let y = c.val p setting frame own locals sizes (only l both) locals (λ k. 0) room b e.tree r.state in
+      record {
+        state = with_temp r.state l y;
+        cost = 8 + 3 * nodes e.tree;
+        runs = run.runs_set p setting frame own locals sizes (only l both) locals (λ k. 0) room b l e.tree r.state;
+        shows = scalar_declared l v y both f1 w1 r.state lt le sz r.value (rebound (only l both) b [] f1 w1 r.state r.shows);
+        nothing = λ q. refl;
+        paid = omega arith;
+      })
+
+  -- ---- the declaration
+
+  -- the words first, then the values
+  cleared_first : (j : Jumps) (b : Bound) (l : ℕ) (ms : List (Evaluation ℕ)) (ls : List Lowering) (f : Frame) (w : World) (s : State) → l < locals → locals ≤ room → length ls ≤ words_of_size (sizes l) → values_top locals ls ≤ room → AllAt none b ms ls → Shows f w s →
+      FlowShown (out_of void j) (8 + 8 * words_of_size (sizes l)) (code (clear_words (sizes l) l ∷ store_values locals (sizes l) l 0 ls) b s) (put_values l 0 ms (record f { locals = slice_set f.locals l (replicate (words_of_size (sizes l)) 0) }) w)
+  cleared_first j b l ms ls f w s lt le inside fits hs h =
+      let n = words_of_size (sizes l) in
+      let f1 : Frame = record f { locals = slice_set f.locals l (replicate n 0) } in
+      let r = clears j b l (sizes l) f w s refl lt le h in
+      let rest = store_values locals (sizes l) l 0 ls in
+      flows.more p setting frame own locals sizes room void (out_of void j) (0 + r.cost) (8 + 8 * n) (code (clear_words (sizes l) l ∷ rest) b s) (put_values l 0 ms f1 w) (omega (arith, r.paid))
+      (flows.priced p setting frame own locals sizes room void (out_of void j) 0 r.cost (code rest b r.state) (code (clear_words (sizes l) l ∷ rest) b s) (put_values l 0 ms f1 w)
+      (joined (clear_words (sizes l) l ∷ []) rest b s ∙ ap (λ q. then_do q (code rest b)) r.runs)
+      (stores j b l 0 ms ls f1 w r.state lt le (omega (arith, inside)) fits hs r.shows))
+
+  starts : (n : ℕ) (gs : List ℕ) → length gs ≡ n → Halfway n 0 (replicate n 0) gs
+  starts n gs long = record { source_long = zeros_long n; code_long = long; before = λ k lt. absurd (omega (arith, lt)); behind = λ k le. zeros_at n k }
+
+  -- the values first
+  values_first : (j : Jumps) (b : Bound) (l : ℕ) (size : Option ℕ) (ms : List (Evaluation ℕ)) (ls : List Lowering) (f : Frame) (w : World) (s : State) → sizes l ≡ size → l < locals → locals ≤ room → length ls ≤ words_of_size size → 0 < length ls → values_top locals ls ≤ room →
+      ((both : List ℕ × List ℕ) → AllAt (only l both) b ms ls) → Shows f w s →
+      FlowShown (out_of void j) (14 * (words_of_size size - length ls)) (code (store_values locals size l 0 ls ++ store_zeros size l (length ls) (words_of_size size - length ls)) b s)
+      (put_values l 0 ms (record f { locals = slice_set f.locals l (replicate (words_of_size size) 0) }) w)
+  values_first j b l (Some n) ms ls f w s sz lt le inside some fits hs h =
+      let gs = slice_index_or s.arrays l [] in
+      let f1 : Frame = record f { locals = slice_set f.locals l (replicate n 0) } in
+      let apart : sizes l ≡ None → ⊥ = λ q. some_none (sym sz ∙ q) in
+      let long : length gs ≡ n = ap length (h.elements l lt (apart, refl)) ∙ h.words l lt ∙ ap words_of_size sz in
+      fills j b l n 0 (length ls) (n - length ls) ms ls (replicate n 0) gs f1 w s apart lt (omega arith) (omega (arith, inside)) fits hs (starts n gs long)
+      (hidden l (replicate n 0) f w s lt (zeros_long n ∙ ap words_of_size (sym sz)) h)
+    where
+      some_none : Some n ≡ None → ⊥
+      some_none q = subst Is q tt
+        where
+          Is : Option ℕ → Type 0
+          Is None = ⊥
+          Is (Some x) = Unit {0}
+  values_first j b l None ms [] f w s sz lt le inside some fits hs h = absurd (omega (arith, some))
+  values_first j b l None [] (x ∷ ls) f w s sz lt le inside some fits hs h = absurd (hs ([], []))
+  values_first j b l None (m ∷ ms) (x ∷ y ∷ ls) f w s sz lt le inside some fits hs h = absurd (omega (arith, inside))
+  values_first j b l None (m ∷ q ∷ ms) (x ∷ []) f w s sz lt le inside some fits hs h = absurd (hs ([], [])).1
+  values_first j b l None (m ∷ []) (x ∷ []) f w s sz lt le inside some fits hs h =
+      let gs = slice_index_or s.arrays l [] in
+      let zs : List ℕ = 0 ∷ [] in
+      let f1 : Frame = record f { locals = slice_set f.locals l zs } in
+      let e = x locals in
+      subst (λ (xs : List Stm). FlowShown (out_of void j) (14 * (1 - 1)) (code xs b s) (put_values l 0 (m ∷ []) f1 w)) (sym (append_assoc e.code (set l e.tree ∷ []) []))
+      (flows.more p setting frame own locals sizes room void (out_of void j) 0 (14 * (1 - 1)) (code (e.code ++ (set l e.tree ∷ [])) b s) (put_values l 0 (m ∷ []) f1 w) (omega arith)
+      (fills_scalar j b l m x (zs, gs) f1 w s sz lt le (omega (arith, fits)) (hs (zs, gs)).0 (hidden l zs f w s lt (ap words_of_size (sym sz)) h)))
+
+  not_cheap : (n k : ℕ) → nat_le (8 * n) (92 * (n - k)) ≡ false → 0 < k
+  not_cheap n k e = by (cases_lt 0 k)
+    where
+      by : (0 < k) ⊎ (k ≤ 0) → 0 < k
+      by (inl lt) = lt
+      by (inr ge) = absurd (contrary (sym e ∙ le-leb (8 * n) (92 * (n - k)) (omega (arith, ge))))
+        where
+          contrary : false ≡ true → ⊥
+          contrary q = subst Is q tt
+            where
+              Is : Bool → Type 0
+              Is true = ⊥
+              Is false = Unit {0}
+
+  pub clear_correct : (j : Jumps) (b : Bound) (l : ℕ) (names_itself : Bool) (ms : List (Evaluation ℕ)) (ls : List Lowering) → l < locals → locals ≤ room → length ms ≡ length ls → length ls ≤ words_of_size (sizes l) → values_top locals ls ≤ room →
+      AllAt none b ms ls → (names_itself ≡ false → (both : List ℕ × List ℕ) → AllAt (only l both) b ms ls) →
+      flows.FlowCorrect p setting frame own locals sizes room void (out_of void j) 100 b (clear_local l names_itself ms) (lower_clear locals (sizes l) l names_itself ls j).code
+  clear_correct j b l names_itself ms ls lt le same inside fits all others f w s h =
+      subst (λ k. FlowShown (out_of void j) 100 (code (lower_clear locals (sizes l) l names_itself ls j).code b s) (after (cond names_itself k (k - length ms)) (put_values l 0 ms (record f { locals = slice_set f.locals l (replicate k 0) }) w))) (sym size_is)
+      (subst (λ k. FlowShown (out_of void j) 100 (code (lower_clear locals (sizes l) l names_itself ls j).code b s) (after (cond names_itself n (n - k)) (put_values l 0 ms f1 w))) (sym same)
+      (by names_itself (nat_le (8 * n) (92 * (n - length ls))) refl (λ z. others z)))
+    where
+      n : ℕ
+      n = words_of_size (sizes l)
+
+      size_is : size_of f.locals l ≡ n
+      size_is = ap length (words_is f.locals l) ∙ h.words l lt
+
+      f1 : Frame
+      f1 = record f { locals = slice_set f.locals l (replicate n 0) }
+
+      by : (z c : Bool) → nat_le (8 * n) (92 * (n - length ls)) ≡ c → (z ≡ false → (both : List ℕ × List ℕ) → AllAt (only l both) b ms ls) →
+          FlowShown (out_of void j) 100 (code (cond (z || c) (clear_words (sizes l) l ∷ store_values locals (sizes l) l 0 ls) (store_values locals (sizes l) l 0 ls ++ store_zeros (sizes l) l (length ls) (n - length ls))) b s)
+          (after (cond z n (n - length ls)) (put_values l 0 ms f1 w))
+      by true c e free =
+          flows.paid_by p setting frame own locals sizes room void (out_of void j) 100 n _ (put_values l 0 ms f1 w)
+          (flows.more p setting frame own locals sizes room void (out_of void j) (8 + 8 * n) (100 + 100 * n) _ (put_values l 0 ms f1 w) (omega arith)
+          (cleared_first j b l ms ls f w s lt le inside fits all h))
+      by false true e free =
+          flows.paid_by p setting frame own locals sizes room void (out_of void j) 100 (n - length ls) _ (put_values l 0 ms f1 w)
+          (flows.more p setting frame own locals sizes room void (out_of void j) (8 + 8 * n) (100 + 100 * (n - length ls)) _ (put_values l 0 ms f1 w) (omega (arith, leb-true (8 * n) (92 * (n - length ls)) e))
+          (cleared_first j b l ms ls f w s lt le inside fits all h))
+      by false false e free =
+          flows.paid_by p setting frame own locals sizes room void (out_of void j) 100 (n - length ls) _ (put_values l 0 ms f1 w)
+          (flows.more p setting frame own locals sizes room void (out_of void j) (14 * (n - length ls)) (100 + 100 * (n - length ls)) _ (put_values l 0 ms f1 w) (omega arith)
+          (values_first j b l (sizes l) ms ls f w s refl lt le inside (not_cheap n (length ls) e) fits (free refl) h))
