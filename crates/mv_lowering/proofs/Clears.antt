@@ -36,21 +36,21 @@ use Rattle.mv_lowering.proofs.Elements as elements_proofs
 use Rattle.mv_lowering.proofs.Sequences.{after_zero}
 use Rattle.mv_lowering.proofs.Flows as flows
 
-abbrev Held : Type 0
+abbrev pub Held : Type 0
 Held = ℕ → Option (List ℕ × List ℕ)
 
 -- nothing is being declared
-abbrev none : Held
+abbrev pub none : Held
 none l = None
 
 -- one local is being declared
-abbrev only : ℕ → List ℕ × List ℕ → Held
+abbrev pub only : ℕ → List ℕ × List ℕ → Held
 only l both k = cond (eqb k l) (Some both) None
 
 only_here : (l : ℕ) (both : List ℕ × List ℕ) → only l both l ≡ Some both
 only_here l both = ap (λ z. cond z (Some both) None) (eq-eqb l l refl)
 
-only_there : (l : ℕ) (both : List ℕ × List ℕ) (k : ℕ) → (k ≡ l → ⊥) → only l both k ≡ None
+pub only_there : (l : ℕ) (both : List ℕ × List ℕ) (k : ℕ) → (k ≡ l → ⊥) → only l both k ≡ None
 only_there l both k ne = ap (λ z. cond z (Some both) None) (ne_eqb k l ne)
 
 -- ---- lists
@@ -353,7 +353,7 @@ module _ (p : Program) (setting : Setting) (frame : code_world.Frame) (own local
     paid = omega (arith, h.paid);
   }
 
-  abbrev AllAt : Held → Bound → List (Evaluation ℕ) → List Lowering → Type 0
+  abbrev pub AllAt : Held → Bound → List (Evaluation ℕ) → List Lowering → Type 0
   AllAt held b [] [] = Unit {0}
   AllAt held b [] (l ∷ ls) = ⊥
   AllAt held b (m ∷ ms) [] = ⊥

@@ -30,7 +30,7 @@ use Rattle.mv_meaning.specs.declared.state.Lvalue.TheVariants as lvalue
 use Rattle.mv_meaning.specs.Operators.{is_unsigned, converted, unary_value, product_value, bit_value, binary_value}
 use Rattle.mv_meaning.specs.Meaning.{Evaluation, Context, Denotation, read_lvalue, store_lvalue, value_or_trap, target_lvalue, form_value, expr_denotation, form_of, lvalue_of, denotation_of, value_of}
 use Rattle.mv_lowering.specs.Lowered.{Lowering, binary, lower_number, lower_local, lower_global, lower_function, lower_division, lower_set_local, lower_set_global, lower_element, lower_read_element, lower_set_element}
-use Rattle.mv_lowering.specs.Lower.{Part, Place, InLocal, InGlobal, Element, place_of_layer, lower_read, lower_set, lower_changed, lower_change, lower_after, lower_form, lower_layer, form_lowering, place_of, part_of, lower_expr, lower_operator, lower_binary, lower_product, bit_tree, unary_tree, converted_tree, quotient_number, remainder_number, is_void, is_callable, is_scalar, is_free, all_of, is_own_switch, names_form, names_target, names_layer, form_is_well_named, target_is_well_named, is_well_named}
+use Rattle.mv_lowering.specs.Lower.{Part, Place, InLocal, InGlobal, Element, place_of_layer, lower_read, lower_set, lower_changed, lower_change, lower_after, lower_form, lower_layer, form_lowering, place_of, part_of, lower_expr, lower_operator, lower_binary, lower_product, bit_tree, unary_tree, converted_tree, quotient_number, remainder_number, is_void, is_callable, is_scalar, all_of, is_own_switch, names_form, names_target, names_layer, form_is_well_named, target_is_well_named, is_well_named}
 use Rattle.mv_lowering.specs.Correct as c
 use Rattle.mv_lowering.specs.Correct.{IsScalar}
 use Rattle.mv_lowering.proofs.Running.{nodes_binary}
@@ -66,10 +66,6 @@ split_or false b e = (refl, e)
 is_none : (o : Option ℕ) → is_scalar o ≡ true → o ≡ None
 is_none None e = refl
 is_none (Some n) e = no e
-
-not_held : (o : Option (List ℕ × List ℕ)) → is_free o ≡ true → o ≡ None
-not_held None e = refl
-not_held (Some both) e = no e
 
 is_some : (o : Option ℕ) → not (is_scalar o) ≡ true → o ≡ None → ⊥
 is_some None e h = no e
@@ -165,7 +161,7 @@ module _ (p : Program) (setting : Setting) (frame : code_world.Frame) (function 
 -- ---- all expressions
 
 module _ (p : Program) (setting : Setting) (frame : code_world.Frame) (function locals : ℕ) (sizes : ℕ → Option ℕ) (held : ℕ → Option (List ℕ × List ℕ)) (temps : ℕ) (bound : Bound)
-    (context : Context) (room : locals ≤ temps) (strict : c.IsStrict p setting.numbers context)
+    (free : ℕ → Bool) (frees : (l : ℕ) → free l ≡ true → held l ≡ None) (context : Context) (room : locals ≤ temps) (strict : c.IsStrict p setting.numbers context)
     (calls : (floor : ℕ) (scratch : ℕ → ℕ) → c.CallsAgree p setting frame function locals sizes held floor scratch temps bound context)
     (knows : (floor : ℕ) (scratch : ℕ → ℕ) (k : Known) → c.KnownAgrees p setting frame function locals sizes held floor scratch temps bound k) where
   -- correct whatever temporaries are in use
@@ -179,13 +175,13 @@ module _ (p : Program) (setting : Setting) (frame : code_world.Frame) (function 
   PlaceShown m (Element a i) = (mi : Evaluation ℕ) × (m ≡ bind mi (element_of a)) × ((floor : ℕ) (scratch : ℕ → ℕ) → elements.IsArray p setting frame function locals sizes held floor scratch temps bound a) × Everywhere 0 mi i
 
   abbrev P : Form → Type 0
-  P f = (t : CType) → form_is_well_named p function locals sizes held f t ≡ true → Everywhere 100 (form_of p context f t) (form_lowering f t)
+  P f = (t : CType) → form_is_well_named p function locals sizes free f t ≡ true → Everywhere 100 (form_of p context f t) (form_lowering f t)
 
   abbrev Q : Target → Type 0
-  Q x = target_is_well_named p function locals sizes held x ≡ true → PlaceShown (lvalue_of p context x) (place_of x)
+  Q x = target_is_well_named p function locals sizes free x ≡ true → PlaceShown (lvalue_of p context x) (place_of x)
 
   abbrev S : Expr → Type 0
-  S e = is_well_named p function locals sizes held e ≡ true → Everywhere 0 (value_of p context e) (lower_expr e) × ((part_of e).ctype ≡ (denotation_of p context e).ctype)
+  S e = is_well_named p function locals sizes free e ≡ true → Everywhere 0 (value_of p context e) (lower_expr e) × ((part_of e).ctype ≡ (denotation_of p context e).ctype)
 
   read_correct : (m : Evaluation Lvalue) (x : Place) → PlaceShown m x → Everywhere 100 (bind m (read_lvalue p)) (lower_read x)
   read_correct m (InLocal l) h floor scratch =
@@ -299,11 +295,11 @@ module _ (p : Program) (setting : Setting) (frame : code_world.Frame) (function 
 
   -- ---- the layers
 
-  all_correct : (es : List Expr) → Each S es → all_of (map (is_well_named p function locals sizes held) es) ≡ true → (floor : ℕ) (scratch : ℕ → ℕ) →
+  all_correct : (es : List Expr) → Each S es → all_of (map (is_well_named p function locals sizes free) es) ≡ true → (floor : ℕ) (scratch : ℕ → ℕ) →
       c.AllCorrect p setting frame function locals sizes held floor scratch temps bound (map (denotation_of p context) es) (map (λ (a : Part). a.lower) (map part_of es))
   all_correct [] h b floor scratch = tt
   all_correct (e ∷ es) h b floor scratch =
-      let bs = split (is_well_named p function locals sizes held e) (all_of (map (is_well_named p function locals sizes held) es)) b in
+      let bs = split (is_well_named p function locals sizes free e) (all_of (map (is_well_named p function locals sizes free) es)) b in
       ((h.0 bs.0).0 floor scratch, all_correct es h.1 bs.1 floor scratch)
 
   abbrev denotations : Form-F Form Target Expr → Form-F (CType → Evaluation ℕ) (Evaluation Lvalue) Denotation
@@ -313,12 +309,12 @@ module _ (p : Program) (setting : Setting) (frame : code_world.Frame) (function 
   parts = map-Form Form Target Expr (CType → Lowering) Place Part form_lowering place_of part_of
 
   abbrev tests : Form-F Form Target Expr → Form-F (CType → Bool) Bool Bool
-  tests = map-Form Form Target Expr (CType → Bool) Bool Bool (form_is_well_named p function locals sizes held) (target_is_well_named p function locals sizes held) (is_well_named p function locals sizes held)
+  tests = map-Form Form Target Expr (CType → Bool) Bool Bool (form_is_well_named p function locals sizes free) (target_is_well_named p function locals sizes free) (is_well_named p function locals sizes free)
 
   args_long : (args : List Expr) → length (map (λ (a : Part). a.lower) (map part_of args)) ≡ length args
   args_long args = length-map (map part_of args) (λ (a : Part). a.lower) ∙ length-map args part_of
 
-  layer : (x : Form-F Form Target Expr) → FormChildren P Q S x → (t : CType) → names_form p function locals sizes held (tests x) t ≡ true → Everywhere 100 (form_value p context (denotations x) t) (lower_form (parts x) t)
+  layer : (x : Form-F Form Target Expr) → FormChildren P Q S x → (t : CType) → names_form p function locals sizes free (tests x) t ≡ true → Everywhere 100 (form_value p context (denotations x) t) (lower_form (parts x) t)
   layer (form.Number n) h t b floor scratch = show.with_more p setting frame function locals sizes held floor scratch temps bound 14 100 (give n) (lower_number n) (omega arith) (forms.correct_number p setting frame function locals sizes held floor scratch temps bound n)
   layer (form.Read target) h t b floor scratch = read_correct (lvalue_of p context target) (place_of target) (h b) floor scratch
   layer (form.Function g) h t b floor scratch =
@@ -328,38 +324,38 @@ module _ (p : Program) (setting : Setting) (frame : code_world.Frame) (function 
       forms.correct_one p setting frame function locals sizes held floor scratch temps bound 100 0 2 (unary_tree op) (unary_value op) (value_of p context a) (lower_expr a) (omega arith)
       (operators.unary_same p setting frame function locals sizes held floor scratch temps bound op) (operators.unary_nodes op) ((h b).0 floor scratch)
   layer (form.Binary op a x) h t b floor scratch =
-      let bs = split (is_well_named p function locals sizes held a) (is_well_named p function locals sizes held x) b in
+      let bs = split (is_well_named p function locals sizes free a) (is_well_named p function locals sizes free x) b in
       let ca = h.0 bs.0 in
       let cx = h.1 bs.1 in
       subst (λ k. c.CorrectFor p setting frame function locals sizes held floor scratch temps bound 100 (bind (value_of p context a) (λ u. bind (value_of p context x) (λ v. value_or_trap (binary_value op (denotation_of p context a).ctype u v)))) (lower_binary false op k (lower_expr a) (lower_expr x))) (sym ca.1)
       (binary_correct p setting frame function locals sizes held floor scratch temps bound 100 0 0 false (value_of p context a) (value_of p context x) (lower_expr a) (lower_expr x) (omega arith) (ca.0 floor scratch) (cx.0 floor scratch) op (denotation_of p context a).ctype)
   layer (form.Both a x) h t b floor scratch =
-      let bs = split (is_well_named p function locals sizes held a) (is_well_named p function locals sizes held x) b in
+      let bs = split (is_well_named p function locals sizes free a) (is_well_named p function locals sizes free x) b in
       control.correct_both p setting frame function locals sizes held floor scratch temps bound (value_of p context a) (value_of p context x) (lower_expr a) (lower_expr x) ((h.0 bs.0).0 floor scratch) ((h.1 bs.1).0 floor scratch)
   layer (form.Either a x) h t b floor scratch =
-      let bs = split (is_well_named p function locals sizes held a) (is_well_named p function locals sizes held x) b in
+      let bs = split (is_well_named p function locals sizes free a) (is_well_named p function locals sizes free x) b in
       control.correct_either p setting frame function locals sizes held floor scratch temps bound (value_of p context a) (value_of p context x) (lower_expr a) (lower_expr x) ((h.0 bs.0).0 floor scratch) ((h.1 bs.1).0 floor scratch)
   layer (form.Choose x y z) h t b floor scratch =
-      let bs = split (is_well_named p function locals sizes held x) (is_well_named p function locals sizes held y && is_well_named p function locals sizes held z) b in
-      let cs = split (is_well_named p function locals sizes held y) (is_well_named p function locals sizes held z) bs.1 in
+      let bs = split (is_well_named p function locals sizes free x) (is_well_named p function locals sizes free y && is_well_named p function locals sizes free z) b in
+      let cs = split (is_well_named p function locals sizes free y) (is_well_named p function locals sizes free z) bs.1 in
       control.correct_choice p setting frame function locals sizes held floor scratch temps bound (value_of p context x) (value_of p context y) (value_of p context z) (lower_expr x) (lower_expr y) (lower_expr z) ((h.0 bs.0).0 floor scratch) ((h.1 cs.0).0 floor scratch) ((h.2 cs.1).0 floor scratch)
   layer (form.Convert a) h t b floor scratch =
       forms.correct_one p setting frame function locals sizes held floor scratch temps bound 100 0 1 (converted_tree t) (converted t) (value_of p context a) (lower_expr a) (omega arith)
       (operators.converted_same p setting frame function locals sizes held floor scratch temps bound t) (operators.converted_nodes t) ((h b).0 floor scratch)
   layer (form.Set target a) h t b floor scratch =
-      let bs = split (target_is_well_named p function locals sizes held target) (is_well_named p function locals sizes held a) b in
+      let bs = split (target_is_well_named p function locals sizes free target) (is_well_named p function locals sizes free a) b in
       set_correct (lvalue_of p context target) (place_of target) (value_of p context a) (lower_expr a) (h.0 bs.0) (h.1 bs.1).0 floor scratch
   layer (form.Change op kind target a) h t b floor scratch =
-      let bs = split (target_is_well_named p function locals sizes held target) (is_well_named p function locals sizes held a) b in
+      let bs = split (target_is_well_named p function locals sizes free target) (is_well_named p function locals sizes free a) b in
       change_correct op kind t (lvalue_of p context target) (place_of target) (value_of p context a) (lower_expr a) (h.0 bs.0) (h.1 bs.1).0 floor scratch
   layer (form.After up target) h t b floor scratch = after_correct up t (lvalue_of p context target) (place_of target) (h b) floor scratch
   layer (form.Direct g args) h t b floor scratch =
-      let bs = split (is_callable p g (length args) (is_void t)) (all_of (map (is_well_named p function locals sizes held) args))
-      (sym (ap (λ k. is_callable p g k (is_void t) && all_of (map (is_well_named p function locals sizes held) args)) (length-map args (is_well_named p function locals sizes held))) ∙ b) in
+      let bs = split (is_callable p g (length args) (is_void t)) (all_of (map (is_well_named p function locals sizes free) args))
+      (sym (ap (λ k. is_callable p g k (is_void t) && all_of (map (is_well_named p function locals sizes free) args)) (length-map args (is_well_named p function locals sizes free))) ∙ b) in
       arguments.correct_call p setting frame function locals sizes held floor scratch temps bound context (is_void t) g (map (denotation_of p context) args) (map (λ (a : Part). a.lower) (map part_of args))
       (subst (λ k. is_callable p g k (is_void t) ≡ true) (sym (args_long args)) bs.0) (calls floor scratch) (all_correct args h bs.1 floor scratch)
   layer (form.Through args callee) h t b floor scratch =
-      let bs = split (all_of (map (is_well_named p function locals sizes held) args)) (is_well_named p function locals sizes held callee) b in
+      let bs = split (all_of (map (is_well_named p function locals sizes free) args)) (is_well_named p function locals sizes free callee) b in
       arguments.correct_through p setting frame function locals sizes held floor scratch temps bound context strict t (map (denotation_of p context) args) (denotation_of p context callee) (map (λ (a : Part). a.lower) (map part_of args)) (lower_expr callee)
       (calls floor scratch) (all_correct args h.0 bs.0 floor scratch) ((h.1 bs.1).0 floor scratch)
   layer (form.Known k args) h t b floor scratch =
@@ -369,7 +365,7 @@ module _ (p : Program) (setting : Setting) (frame : code_world.Frame) (function 
   form_step x h t b floor scratch =
       subst (λ (k : CType → Evaluation ℕ). c.CorrectFor p setting frame function locals sizes held floor scratch temps bound 100 (k t) (form_lowering (roll-Form x) t)) (sym (fold-roll-Form (CType → Evaluation ℕ) (Evaluation Lvalue) Denotation (form_value p context) target_lvalue expr_denotation x))
       (subst (λ (l : CType → Lowering). c.CorrectFor p setting frame function locals sizes held floor scratch temps bound 100 (form_value p context (denotations x) t) (l t)) (sym (fold-roll-Form (CType → Lowering) Place Part lower_form place_of_layer lower_layer x))
-      (layer x h t (sym (ap (λ (q : CType → Bool). q t) (fold-roll-Form (CType → Bool) Bool Bool (names_form p function locals sizes held) (names_target p function locals sizes held) (names_layer p function locals sizes held) x)) ∙ b) floor scratch))
+      (layer x h t (sym (ap (λ (q : CType → Bool). q t) (fold-roll-Form (CType → Bool) Bool Bool (names_form p function locals sizes free) (names_target p function locals sizes free) (names_layer p function locals sizes free) x)) ∙ b) floor scratch))
 
   abbrev found_places : Target-F Form Target Expr → Target-F (CType → Evaluation ℕ) (Evaluation Lvalue) Denotation
   found_places = map-Target Form Target Expr (CType → Evaluation ℕ) (Evaluation Lvalue) Denotation (form_of p context) (lvalue_of p context) (denotation_of p context)
@@ -378,35 +374,35 @@ module _ (p : Program) (setting : Setting) (frame : code_world.Frame) (function 
   lowered_places = map-Target Form Target Expr (CType → Lowering) Place Part form_lowering place_of part_of
 
   abbrev tested_places : Target-F Form Target Expr → Target-F (CType → Bool) Bool Bool
-  tested_places = map-Target Form Target Expr (CType → Bool) Bool Bool (form_is_well_named p function locals sizes held) (target_is_well_named p function locals sizes held) (is_well_named p function locals sizes held)
+  tested_places = map-Target Form Target Expr (CType → Bool) Bool Bool (form_is_well_named p function locals sizes free) (target_is_well_named p function locals sizes free) (is_well_named p function locals sizes free)
 
-  target_layer : (x : Target-F Form Target Expr) → TargetChildren P Q S x → names_target p function locals sizes held (tested_places x) ≡ true →
+  target_layer : (x : Target-F Form Target Expr) → TargetChildren P Q S x → names_target p function locals sizes free (tested_places x) ≡ true →
       PlaceShown (target_lvalue (found_places x)) (place_of_layer (lowered_places x))
   target_layer (form.Global g) h b = refl
   target_layer (form.Local l) h b =
-      let bs = split (nat_lt l locals) (is_free (held l) && is_scalar (sizes l)) b in
-      let cs = split (is_free (held l)) (is_scalar (sizes l)) bs.1 in
-      (refl, ltb-true l locals bs.0, (is_none (sizes l) cs.1, not_held (held l) cs.0))
+      let bs = split (nat_lt l locals) (free l && is_scalar (sizes l)) b in
+      let cs = split (free l) (is_scalar (sizes l)) bs.1 in
+      (refl, ltb-true l locals bs.0, (is_none (sizes l) cs.1, frees l cs.0))
   target_layer (form.GlobalAt g e) h b =
-      let bs = split (not (is_own_switch p (slice_get p.functions function) g)) (is_well_named p function locals sizes held e) b in
+      let bs = split (not (is_own_switch p (slice_get p.functions function) g)) (is_well_named p function locals sizes free e) b in
       (value_of p context e, refl, (λ floor scratch. λ bindings. no_switch p function g (slice_get p.functions function) bindings (denied (is_own_switch p (slice_get p.functions function) g) bs.0)), (h bs.1).0)
   target_layer (form.LocalAt l e) h b =
-      let bs = split (nat_lt l locals) (is_free (held l) && (not (is_scalar (sizes l)) && is_well_named p function locals sizes held e)) b in
-      let ds = split (is_free (held l)) (not (is_scalar (sizes l)) && is_well_named p function locals sizes held e) bs.1 in
-      let cs = split (not (is_scalar (sizes l))) (is_well_named p function locals sizes held e) ds.1 in
-      (value_of p context e, refl, (λ floor scratch. (ltb-true l locals bs.0, (is_some (sizes l) cs.0, not_held (held l) ds.0))), (h cs.1).0)
+      let bs = split (nat_lt l locals) (free l && (not (is_scalar (sizes l)) && is_well_named p function locals sizes free e)) b in
+      let ds = split (free l) (not (is_scalar (sizes l)) && is_well_named p function locals sizes free e) bs.1 in
+      let cs = split (not (is_scalar (sizes l))) (is_well_named p function locals sizes free e) ds.1 in
+      (value_of p context e, refl, (λ floor scratch. (ltb-true l locals bs.0, (is_some (sizes l) cs.0, frees l ds.0))), (h cs.1).0)
 
   target_step : (x : Target-F Form Target Expr) → TargetChildren P Q S x → Q (roll-Target x)
   target_step x h b =
       subst (λ (k : Evaluation Lvalue). PlaceShown k (place_of (roll-Target x))) (sym (fold-roll-Target (CType → Evaluation ℕ) (Evaluation Lvalue) Denotation (form_value p context) target_lvalue expr_denotation x))
       (subst (λ (l : Place). PlaceShown (target_lvalue (found_places x)) l) (sym (fold-roll-Target (CType → Lowering) Place Part lower_form place_of_layer lower_layer x))
-      (target_layer x h (sym (fold-roll-Target (CType → Bool) Bool Bool (names_form p function locals sizes held) (names_target p function locals sizes held) (names_layer p function locals sizes held) x) ∙ b)))
+      (target_layer x h (sym (fold-roll-Target (CType → Bool) Bool Bool (names_form p function locals sizes free) (names_target p function locals sizes free) (names_layer p function locals sizes free) x) ∙ b)))
 
   expr_step : (x : Expr-F Form Target Expr) → P x.what → S (roll-Expr x)
   expr_step x h b =
       let meant = fold-roll-Expr (CType → Evaluation ℕ) (Evaluation Lvalue) Denotation (form_value p context) target_lvalue expr_denotation x in
       let part = fold-roll-Expr (CType → Lowering) Place Part lower_form place_of_layer lower_layer x in
-      let named = fold-roll-Expr (CType → Bool) Bool Bool (names_form p function locals sizes held) (names_target p function locals sizes held) (names_layer p function locals sizes held) x in (
+      let named = fold-roll-Expr (CType → Bool) Bool Bool (names_form p function locals sizes free) (names_target p function locals sizes free) (names_layer p function locals sizes free) x in (
         (λ floor scratch.
             subst (λ (k : Denotation). c.Correct p setting frame function locals sizes held floor scratch temps bound k.value (lower_expr (roll-Expr x))) (sym meant)
             (subst (λ (l : Part). c.Correct p setting frame function locals sizes held floor scratch temps bound (counted 1 (form_of p context x.what x.ctype)) l.lower) (sym part)
@@ -415,5 +411,5 @@ module _ (p : Program) (setting : Setting) (frame : code_world.Frame) (function 
       )
 
   -- Every expression that names only what there is is lowered correctly.
-  pub expr_correct : (e : Expr) → is_well_named p function locals sizes held e ≡ true → Everywhere 0 (value_of p context e) (lower_expr e)
+  pub expr_correct : (e : Expr) → is_well_named p function locals sizes free e ≡ true → Everywhere 0 (value_of p context e) (lower_expr e)
   expr_correct e b = (expr_ind P Q S form_step target_step expr_step e b).0

@@ -14,3 +14,4 @@ pub mod Flows
 pub mod Loops
 pub mod Switches
 pub mod Clears
+pub mod AllStatements

@@ -3,3 +3,4 @@ pub mod Lower
 pub mod Correct
 pub mod Law
 pub mod Statements
+pub mod LowerStatements

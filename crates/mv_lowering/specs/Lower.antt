@@ -196,22 +196,18 @@ abbrev pub is_scalar : Option ℕ → Bool
 is_scalar None = true
 is_scalar (Some n) = false
 
-abbrev pub is_free : Option (List ℕ × List ℕ) → Bool
-is_free None = true
-is_free (Some both) = false
-
 -- whether a global is one of a function's switches
 abbrev pub is_own_switch : Program → Option Function → ℕ → Bool
 is_own_switch p None g = false
 is_own_switch p (Some f) g = is_among g (map (switch_global p) f.switches)
 
-module _ (p : Program) (function locals : ℕ) (sizes : ℕ → Option ℕ) (held : ℕ → Option (List ℕ × List ℕ)) where
+module _ (p : Program) (function locals : ℕ) (sizes : ℕ → Option ℕ) (free : ℕ → Bool) where
   -- a local is named as the scalar or the array that it is, and none that is being declared, and no switch of the function as an array
   abbrev pub names_target : Target-F (CType → Bool) Bool Bool → Bool
   names_target (form.Global g) = true
-  names_target (form.Local l) = nat_lt l locals && (is_free (held l) && is_scalar (sizes l))
+  names_target (form.Local l) = nat_lt l locals && (free l && is_scalar (sizes l))
   names_target (form.GlobalAt g e) = not (is_own_switch p (slice_get p.functions function) g) && e
-  names_target (form.LocalAt l e) = nat_lt l locals && (is_free (held l) && (not (is_scalar (sizes l)) && e))
+  names_target (form.LocalAt l e) = nat_lt l locals && (free l && (not (is_scalar (sizes l)) && e))
 
   -- a called function takes as many arguments, and is void where the call is
   abbrev pub names_form : Form-F (CType → Bool) Bool Bool → CType → Bool
