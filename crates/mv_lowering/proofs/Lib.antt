@@ -10,3 +10,8 @@ pub mod Arguments
 pub mod Expressions
 pub mod Depths
 pub mod ExpressionDepths
+pub mod Flows
+pub mod Loops
+pub mod Switches
+pub mod Clears
+pub mod AllStatements

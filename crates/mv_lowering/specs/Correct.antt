@@ -64,9 +64,16 @@ level [] f args depth live w = record { cost = 0; end = More w }
 level (calls ∷ below) f args depth live w = calls f args depth live w
 
 -- one function's frame, at a bound: the source's numbers of locals, and the temporaries that the code has
--- The source has so many locals; each is a scalar, or an array where it has a size. The temporaries behind those of the locals and up to the
--- floor are in use, and hold these values.
-module _ (p : Program) (setting : Setting) (frame : code_world.Frame) (own locals : ℕ) (sizes : ℕ → Option ℕ) (floor : ℕ) (scratch : ℕ → ℕ) (room : ℕ) (bound : Bound) where
+-- A local that the code keeps where the source has it: a scalar, or an array. The others are those that are being declared.
+abbrev pub IsScalar : (ℕ → Option ℕ) → (ℕ → Option (List ℕ × List ℕ)) → ℕ → Type 0
+IsScalar sizes held l = (sizes l ≡ None) × (held l ≡ None)
+
+abbrev pub IsArrayLocal : (ℕ → Option ℕ) → (ℕ → Option (List ℕ × List ℕ)) → ℕ → Type 0
+IsArrayLocal sizes held l = (sizes l ≡ None → ⊥) × (held l ≡ None)
+
+-- The source has so many locals; each is a scalar, or an array where it has a size. Of a local that is being declared
+-- the source has some words and the code others. The temporaries behind those of the locals and up to the floor are in use, and hold these values.
+module _ (p : Program) (setting : Setting) (frame : code_world.Frame) (own locals : ℕ) (sizes : ℕ → Option ℕ) (held : ℕ → Option (List ℕ × List ℕ)) (floor : ℕ) (scratch : ℕ → ℕ) (room : ℕ) (bound : Bound) where
   -- a tree's value
   abbrev pub val : Tree → State → ℕ
   val t s = value setting.numbers frame.bound t s.temps s.world.globals
@@ -83,8 +90,9 @@ module _ (p : Program) (setting : Setting) (frame : code_world.Frame) (own local
     pub live : w.live ≡ frame.live
     pub function : f.function ≡ own
     pub switches : (g : ℕ) → found frame.bound g ≡ bound_value p w.bindings own (slice_get p.functions own) g
-    pub each : (l : ℕ) → l < locals → sizes l ≡ None → slice_index s.temps l ≡ word_at f.locals l 0
-    pub elements : (l : ℕ) → l < locals → (sizes l ≡ None → ⊥) → slice_index_or s.arrays l [] ≡ slice_index_or f.locals l []
+    pub each : (l : ℕ) → l < locals → IsScalar sizes held l → slice_index s.temps l ≡ word_at f.locals l 0
+    pub elements : (l : ℕ) → l < locals → IsArrayLocal sizes held l → slice_index_or s.arrays l [] ≡ slice_index_or f.locals l []
+    pub untouched : (l : ℕ) (both : List ℕ × List ℕ) → held l ≡ Some both → (slice_index_or f.locals l [] ≡ both.0) × (slice_index_or s.arrays l [] ≡ both.1)
     pub words : (l : ℕ) → l < locals → length (slice_index_or f.locals l []) ≡ words_of_size (sizes l)
     pub size : length f.locals ≡ locals
     pub above : locals ≤ floor

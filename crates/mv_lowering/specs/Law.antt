@@ -1,5 +1,5 @@
 -- What is proved of the lowering of expressions.
-use Rattle.std.specs.Prelude.{◌≡◌, ℕ, ◌≤◌, true, Option}
+use Rattle.std.specs.Prelude.{◌≡◌, Bool, None, ℕ, ◌≤◌, true, Option, List}
 use Rattle.mv_ast.specs.declared.program.Expr.{Expr}
 use Rattle.mv_ast.specs.declared.program.Known.{Known}
 use Rattle.mv_ast.specs.declared.program.Program.{Program}
@@ -16,12 +16,12 @@ use Rattle.mv_lowering.specs.Correct.{IsStrict, CallsAgree, KnownAgrees, Correct
 -- the functions that it calls and the known functions do so, and a call through a pointer reaches only functions that fit.
 abbrev pub ExpressionsAreRight : Type 0
 ExpressionsAreRight =
-    (p : Program) (setting : Setting) (frame : code_world.Frame) (function locals : ℕ) (sizes : ℕ → Option ℕ) (temps : ℕ) (bound : Bound) (context : Context) →
-    locals ≤ temps → IsStrict p setting.numbers context →
-    ((floor : ℕ) (scratch : ℕ → ℕ) → CallsAgree p setting frame function locals sizes floor scratch temps bound context) →
-    ((floor : ℕ) (scratch : ℕ → ℕ) (known : Known) → KnownAgrees p setting frame function locals sizes floor scratch temps bound known) →
-    (e : Expr) → is_well_named p function locals sizes e ≡ true →
-    (floor : ℕ) (scratch : ℕ → ℕ) → Correct p setting frame function locals sizes floor scratch temps bound (value_of p context e) (lower_expr e)
+    (p : Program) (setting : Setting) (frame : code_world.Frame) (function locals : ℕ) (sizes : ℕ → Option ℕ) (held : ℕ → Option (List ℕ × List ℕ)) (temps : ℕ) (bound : Bound) (free : ℕ → Bool) (context : Context) →
+    ((l : ℕ) → free l ≡ true → held l ≡ None) → locals ≤ temps → IsStrict p setting.numbers context →
+    ((floor : ℕ) (scratch : ℕ → ℕ) → CallsAgree p setting frame function locals sizes held floor scratch temps bound context) →
+    ((floor : ℕ) (scratch : ℕ → ℕ) (known : Known) → KnownAgrees p setting frame function locals sizes held floor scratch temps bound known) →
+    (e : Expr) → is_well_named p function locals sizes free e ≡ true →
+    (floor : ℕ) (scratch : ℕ → ℕ) → Correct p setting frame function locals sizes held floor scratch temps bound (value_of p context e) (lower_expr e)
 
 -- No tree of a lowered expression is deeper than 4.
 abbrev pub ExpressionsAreShallow : Type 0

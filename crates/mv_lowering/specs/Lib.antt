@@ -2,3 +2,5 @@ pub mod Lowered
 pub mod Lower
 pub mod Correct
 pub mod Law
+pub mod Statements
+pub mod LowerStatements
