@@ -10,3 +10,4 @@ mod Programs
 mod Statements
 mod Switches
 mod Typed
+mod WorkedProgram
