@@ -1,5 +1,6 @@
 mod Alike
 mod Calls
+pub mod Constants
 mod Differences
 mod Expressions
 mod Lawful

@@ -1,5 +1,5 @@
 -- A program whose global is a function pointer: `int f(void) { return 7; } int (*g)(void) = f; int main(void) { if (g == 0) g = f; return g(); }` is well typed.
-use Rattle.std.proofs.Common.{◌≡◌, inl, inr, false, [], ◌∷◌, map, refl, sym, ap, subst, Some, None}
+use Rattle.std.proofs.Common.{◌≡◌, inl, inr, false, [], ◌∷◌, map, refl, sym, subst, Some, None}
 use Rattle.std.specs.Prelude.{All}
 use Rattle.std.proofs.lemmas.List.Elements.{All-nil, All-cons}
 use Rattle.mv_num.specs.declared.kind.Kind.TheVariants.{Int}
@@ -15,8 +15,8 @@ use Rattle.mv_ast.specs.declared.program.Target.{Target, roll-Target, out-Target
 use Rattle.mv_ast.specs.declared.program.Stmt.{Stmt, roll-Stmt, every_made-Stmt}
 use Rattle.mv_ast.specs.declared.program.Stmt.TheOpen as stmt
 use Rattle.mv_ast.specs.declared.program.Arm.{Arm, every-Arm}
-use Rattle.mv_meaning.proofs.Equations.{value_of-Number}
 use Rattle.mv_numbering.specs.Numberings.{first_words_under}
+use Rattle.mv_numbering.proofs.Constants.{comes_number}
 use Rattle.mv_numbering.specs.Typing.{IsNull, IsFirstValue, HasType, LvalueHasType, HasTypedParts, IsTypedExpr, IsTypedStmt, IsTypedFunction, IsFunctionOf, IsTyped}
 
 abbrev int : CType
@@ -111,7 +111,7 @@ module _ (fn : Function) where
   zero_typed = made int (form.Number 0) (form.Number 0) refl tt
 
   zero_null : IsNull program zero_int
-  zero_null = record { integer = tt; work = 1; value = λ c f w. ap (λ e. e f w) (value_of-Number program c zero_int 0 (out-roll-Form (form.Number 0))) }
+  zero_null = (tt, comes_number program zero_int 0 (out-roll-Form (form.Number 0)))
 
   null_typed : E null
   null_typed = made (Pointer 0) (form.Convert zero_int) (form.Convert (zero_int, zero_typed)) refl (inr zero_null)
