@@ -174,8 +174,8 @@ module _ (x : Setting) (c d : Context) (same : SameContext x c d) (fn : Function
       Alike x ts (Same x (Pointer s)) (bind (value_of x.program c a) (λ n. give (converted (Pointer s) n))) (bind (value_of x.program d a) (λ n. give (converted (Pointer s) n)))
   null_alike s a h f g w v hf hw =
       let next : ℕ → Evaluation ℕ = λ n. give (converted (Pointer s) n) in
-      subst (λ o. AlikeOutcome x ts ℕ (Same x (Pointer s)) (and_then o next) (and_then (value_of x.program d a g v) next)) (sym (h.value c f w))
-      (subst (λ o. AlikeOutcome x ts ℕ (Same x (Pointer s)) (and_then (Came 0 f w h.work) next) (and_then o next)) (sym (h.value d g v))
+      subst (λ o. AlikeOutcome x ts ℕ (Same x (Pointer s)) (and_then o next) (and_then (value_of x.program d a g v) next)) (sym (h.1.value c f w))
+      (subst (λ o. AlikeOutcome x ts ℕ (Same x (Pointer s)) (and_then (Came 0 f w h.1.work) next) (and_then o next)) (sym (h.1.value d g v))
       (record { value = inl (refl, refl); frame = hf; world = hw; work = refl }))
 
   convert_alike : (t : CType) (a : E) → ConvertsTo x.program t a.0 → TypedExpr x.program fn a.0 →

@@ -1,5 +1,6 @@
 mod Alike
 mod Calls
+pub mod Constants
 mod Differences
 mod Expressions
 mod Lawful
@@ -10,3 +11,4 @@ mod Programs
 mod Statements
 mod Switches
 mod Typed
+mod WorkedProgram

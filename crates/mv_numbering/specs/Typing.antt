@@ -69,11 +69,14 @@ TakesOne op t = IsInteger t ⊎ (op ≡ 11)
 abbrev pub TakesTwo : (op : ℕ) → CType → CType → Type 0
 TakesTwo op s t = (IsInteger s × IsInteger t) ⊎ (((op ≡ 29) ⊎ (op ≡ 30)) × (signature : ℕ) × (s ≡ Pointer signature) × (t ≡ Pointer signature))
 
--- A null pointer constant (C11 6.3.2.3): an integer expression that comes to 0 wherever it is evaluated, at some work, and does nothing else.
-pub record IsNull (p : Program) (e : Expr) : Type 0 where
-  pub integer : IsInteger e.ctype
+-- an expression comes to a value wherever it is evaluated, at some work, and does nothing else
+pub record ComesTo (p : Program) (e : Expr) (v : ℕ) : Type 0 where
   pub work : ℕ
-  pub value : (context : Context) (frame : Frame) (world : World) → value_of p context e frame world ≡ Came 0 frame world work
+  pub value : (context : Context) (frame : Frame) (world : World) → value_of p context e frame world ≡ Came v frame world work
+
+-- a null pointer constant (C11 6.3.2.3)
+abbrev pub IsNull : Program → Expr → Type 0
+IsNull p e = IsInteger e.ctype × ComesTo p e 0
 
 -- An integer converts to an integer, everything to void, and a null pointer constant to a function pointer.
 abbrev pub ConvertsTo : Program → CType → Expr → Type 0
