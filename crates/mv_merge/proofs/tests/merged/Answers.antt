@@ -20,5 +20,5 @@ pub merge-requires-clause-all : goal.merge-requires-clause-all
 merge-requires-clause-all c =
     let values = c.args.values.now in
     let domains : domain_values c.push.new.self ≡ values ∷ [] =
-            pushed _ _ _ values c.new-domains.ensures c.in_ok-push.ensures.ok (c.from_vec.ensures ∙ c.in_ok-from_slice.ensures.items) in
+    pushed _ _ _ values c.new-domains.ensures c.in_ok-push.ensures.ok (c.from_vec.ensures ∙ c.in_ok-from_slice.ensures.items) in
     subst (λ ds. AreAllCombinations ds (all_values c.in_ok-rows.rows)) (sym domains) (of_values values (all_values c.in_ok-rows.rows) c.in_ok-rows.ensures c.requires.apart)
