@@ -1,9 +1,7 @@
 -- Words that are a command, and words that are none.
-use Rattle.std.proofs.Common.{ℕ, zero, suc, ◌≡◌, ◌<◌, ◌≤◌, ◌^◌, ◌⊎◌, inl, inr, List, [], ◌∷◌, length, map, get_or, refl, sym, ap, ◌∙◌, subst, arith, String}
-use Rattle.std.specs.Prelude.{codes}
+use Rattle.std.proofs.Common.{ℕ, ◌≡◌, ◌≤◌, inl, inr, List, [], ◌∷◌, length, map, get_or, refl, sym, ap, ◌∙◌, arith}
 use Rattle.std.specs.Fmt.{decimal}
-use Rattle.std.proofs.lemmas.Fmt.{decimal_injective}
-use Rattle.mv_top.specs.Commands.{IsRun, IsPlainRun, IsLimitedRun, IsNoCommand}
+use Rattle.mv_top.specs.Commands.{IsNoCommand}
 
 -- so many words, of which the front is that
 pub two_words : {W : Type 0} (text : W → List ℕ) (words : List W) (a b : W) → length words ≡ 2 → a ≡ get_or words 0 a → b ≡ get_or words 1 b → map text words ≡ text a ∷ text b ∷ []

@@ -1,17 +1,16 @@
 -- Which status comes, from what each status says.
-use Rattle.std.proofs.Common.{ℕ, ◌≡◌, ◌<◌, ◌≤◌, ◌+◌, ◌*◌, ◌^◌, ◌⊎◌, inl, inr, List, [], ◌∷◌, ◌++◌, length, take, refl, sym, ap, ◌∙◌, subst, arith, lit<, ◌/◌, Option, Some, None}
-use Rattle.std.specs.Prelude.{codes, option_map, Vec, Ok, Bool, true, false}
-use Rattle.std.specs.Fmt.{decimal}
+use Rattle.std.proofs.Common.{ℕ, ◌≡◌, ◌≤◌, ◌⊎◌, inl, inr, List, [], ◌∷◌, length, take, refl, sym, ap, ◌∙◌, subst, arith, ◌/◌, Option, Some, None}
+use Rattle.std.specs.Prelude.{Vec, Ok, true, false}
 use Rattle.std.proofs.lemmas.Fmt.{decimal_injective}
 use Rattle.std.proofs.lemmas.List.{take_all}
 use Rattle.std.specs.declared.alloc.Global.{Global}
 use Rattle.mv_io.specs.Shelves.{Files, Lacks, Loads}
 use Rattle.mv_top.specs.First.{First}
 use Rattle.mv_top.specs.Code.{instructions}
-use Rattle.mv_top.specs.Commands.{IsRun, IsPlainRun, IsLimitedRun, IsNoCommand}
-use Rattle.mv_top.specs.Grown.{Grew, GrewLess}
+use Rattle.mv_top.specs.Commands.{IsRun, IsNoCommand}
+use Rattle.mv_top.specs.Grown.{Grew}
 use Rattle.mv_top.specs.Lines.{is_silent, last_line}
-use Rattle.mv_top.specs.Outcomes.{Holds, Means, MeansNothing, Part, RunsFile, SomePart, Gives, Quiet, Tells, Is, Decides, Cut, Notes, RunsText, not_built}
+use Rattle.mv_top.specs.Outcomes.{Holds, MeansNothing, Part, RunsFile, SomePart, Gives, Quiet, Tells, Is, Decides, Cut, Notes, RunsText, not_built}
 use Rattle.mv_top.proofs.Pieces.{grew_none}
 use Rattle.mv_top.specs.declared.status.Status.{Status}
 use Rattle.mv_top.specs.declared.status.Status.TheVariants.{Ended, Trapped, Usage, Refused, Memory, InputFault, OutputFault, ShelfFault, Steps}

@@ -1,9 +1,8 @@
 -- How a call of the machine on the code ends.
-use Rattle.std.proofs.Common.{ℕ, ◌≡◌, ◌<◌, ◌≤◌, ◌+◌, ◌*◌, ◌/◌, ◌%◌, ◌^◌, ◌⊎◌, inl, inr, List, [], ◌∷◌, ◌++◌, length, map, take, replicate, refl, sym, ap, ◌∙◌, subst, arith, lit<, lit≤, length-append, Option, Some, None}
+use Rattle.std.proofs.Common.{ℕ, ◌≡◌, ◌<◌, ◌+◌, ◌*◌, ◌/◌, ◌%◌, ◌^◌, inl, inr, List, [], ◌∷◌, ◌++◌, length, take, refl, sym, ap, ◌∙◌, subst, arith, lit<, lit≤, length-append, Option, Some, None}
 use Rattle.std.specs.Prelude.{option_map}
-use Rattle.std.specs.List.{AllByRecursion}
 use Rattle.mv_fetch.specs.Held.{first as first_memory}
-use Rattle.mv_image.specs.Spelling.{Fields, bare}
+use Rattle.mv_image.specs.Spelling.{bare}
 use Rattle.mv_probe.specs.Ways.{Way}
 use Rattle.mv_machine.specs.declared.machine.Stopped.{Stopped}
 use Rattle.mv_machine.specs.declared.machine.Stopped.TheVariants.{Ended, Trapped, Steps, InputFault, OutputFault, Fault, Memory}
@@ -15,7 +14,7 @@ use Rattle.mv_top.specs.First.{Small, SmallReturn, written}
 use Rattle.mv_top.specs.Code.{code, instructions, result_of}
 use Rattle.mv_top.specs.Endings.{Ends}
 use Rattle.mv_top.specs.Grown.{Grew, Keeps}
-use Rattle.mv_top.proofs.Simulation.{At, IsSmall, IsStart, Over, Stands, stands}
+use Rattle.mv_top.proofs.Simulation.{At, IsSmall, IsStart, Stands, stands}
 
 -- a new machine on the code stands at its start
 pub begins : (numbers : List ℕ) (status : ℕ) (input : List (Option ℕ)) → IsStart numbers status (resumed (kept (first (bare 4096 (code numbers status) []) []) None) input)

@@ -1,9 +1,8 @@
 -- The white space and the token at the front of a text.
-use Rattle.std.proofs.Common.{ℕ, zero, suc, ◌≡◌, ◌<◌, ◌≤◌, ◌+◌, Bool, true, false, List, [], ◌∷◌, ◌++◌, length, take, drop, get_or, refl, sym, ap, ◌∙◌, subst, arith, add-one, MatchOption, Option, Some, None, Bor}
+use Rattle.std.proofs.Common.{ℕ, zero, suc, ◌≡◌, ◌<◌, ◌+◌, true, false, List, [], ◌∷◌, ◌++◌, length, take, get_or, refl, sym, ap, ◌∙◌, subst, arith, add-one, MatchOption, Option, Some, None, Bor}
 use Rattle.std.specs.List.{AllByRecursion}
 use Rattle.std.proofs.lemmas.List.{append-nil}
-use Rattle.std.proofs.Math.Seq.{drop-cons}
-use Rattle.mv_top.specs.First.{Blank, Ends, Spells, is_space, is_word, begins_word}
+use Rattle.mv_top.specs.First.{Blank, Ends, Spells, is_space, begins_word}
 use Rattle.mv_top.specs.Reading.{Goes, IsToken, Stuck, begins_space, first_byte, one}
 
 pub all_more_suc : (P : ℕ → Type 0) (i : ℕ) (xs : List ℕ) → i < length xs → AllByRecursion P (take i xs) → P (get_or xs i 0) → AllByRecursion P (take (suc i) xs)

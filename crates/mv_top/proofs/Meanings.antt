@@ -1,8 +1,8 @@
 -- From the program that was read and how its code ended to what the text means.
-use Rattle.std.proofs.Common.{ℕ, ◌≡◌, ◌<◌, ◌≤◌, ◌%◌, ◌^◌, ◌/◌, ◌⊎◌, inl, inr, List, [], ◌∷◌, take, refl, sym, ap, ◌∙◌, subst, Option, Some, None}
-use Rattle.mv_top.specs.First.{First, IsProgram, written, status_of}
+use Rattle.std.proofs.Common.{ℕ, ◌≡◌, ◌%◌, ◌^◌, inr, List, take, refl, sym, ap, ◌∙◌, subst, Option, Some, None}
+use Rattle.mv_top.specs.First.{written, status_of}
 use Rattle.mv_top.specs.Reading.{IsNoProgram, IsTheProgram}
-use Rattle.mv_top.specs.Code.{instructions, result_of}
+use Rattle.mv_top.specs.Code.{result_of}
 use Rattle.mv_top.specs.Outcomes.{Means, MeansNothing, Part}
 
 status_is : (returned : Option ℕ) → status_of returned ≡ result_of returned % 2 ^ 8

@@ -1,10 +1,10 @@
 -- What was written piece by piece.
-use Rattle.std.proofs.Common.{ℕ, ◌≡◌, ◌<◌, ◌≤◌, ◌+◌, ◌-◌, List, [], ◌∷◌, ◌++◌, length, take, drop, refl, sym, ap, ◌∙◌, subst, arith, length-drop, Option, Some, None, Result, Ok}
+use Rattle.std.proofs.Common.{ℕ, ◌≡◌, ◌≤◌, ◌+◌, ◌-◌, List, [], ◌++◌, length, take, drop, refl, sym, ap, ◌∙◌, subst, arith, length-drop, Option, Some, None, Ok}
 use Rattle.std.proofs.lemmas.List.{append-nil, append_assoc, take_rest}
 use Rattle.std.proofs.Math.Seq.{take-add}
 use Rattle.mv_io.specs.Outside.{Appends}
 use Rattle.mv_io.specs.declared.outside.Failed.{Failed}
-use Rattle.mv_top.specs.Grown.{Grew, GrewLess}
+use Rattle.mv_top.specs.Grown.{Grew}
 
 module _ (bytes : List ℕ) (done n : ℕ) where
   abbrev pub piece : List ℕ

@@ -1,11 +1,11 @@
 -- Statements, the end and the whole of a program.
-use Rattle.std.proofs.Common.{ℕ, ◌≡◌, ◌<◌, ◌≤◌, ◌+◌, Bool, true, false, List, [], ◌∷◌, ◌++◌, length, get_or, refl, sym, ap, ◌∙◌, subst, arith, lit<, length-append, Option, Some, None}
+use Rattle.std.proofs.Common.{ℕ, ◌≡◌, ◌≤◌, List, [], ◌∷◌, ◌++◌, length, refl, sym, ap, ◌∙◌, subst, arith, lit<, length-append, Option, Some, None}
 use Rattle.std.specs.Prelude.{codes}
 use Rattle.std.specs.Fmt.{decimal}
 use Rattle.std.specs.List.{AllByRecursion}
 use Rattle.std.proofs.lemmas.List.{append-nil, append_assoc}
 use Rattle.mv_top.specs.First.{Small, SmallReturn, IsProgram, Spells, body, closing, ending, opening, returning, statement}
-use Rattle.mv_top.specs.Reading.{AllTaken, Goes, IsEnding, IsNoProgram, IsReturn, IsStatement, IsTheProgram, IsToken, Stuck, Taken, first_byte}
+use Rattle.mv_top.specs.Reading.{AllTaken, Goes, IsEnding, IsNoProgram, IsReturn, IsStatement, IsTheProgram, Stuck, Taken, first_byte}
 use Rattle.mv_top.proofs.Fronts.{first_spelled}
 
 first_closing : (text : List ℕ) → Spells closing text → first_byte text ≡ 125

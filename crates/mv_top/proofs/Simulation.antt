@@ -1,6 +1,6 @@
 -- The run of the code of a program: three instructions for each number, and three that end it.
-use Rattle.std.proofs.Common.{ℕ, zero, suc, ◌≡◌, ◌<◌, ◌≤◌, ◌+◌, ◌-◌, ◌*◌, ◌/◌, ◌%◌, ◌^◌, ◌⊎◌, inl, inr, Bool, true, false, cond, eqb, ltb, List, [], ◌∷◌, ◌++◌, length, map, take, replicate, get_or, refl, sym, ap, ◌∙◌, subst, arith, add-one, lit<, lit≤, length-append, zero-add, ◌≢◌, Option, Some, None, set}
-use Rattle.std.specs.Prelude.{pos, slice_get, slice_index, slice_set, slice_index_or}
+use Rattle.std.proofs.Common.{ℕ, zero, suc, ◌≡◌, ◌<◌, ◌≤◌, ◌+◌, ◌-◌, ◌*◌, ◌/◌, ◌%◌, ◌^◌, ◌⊎◌, inl, inr, true, false, eqb, ltb, List, [], ◌∷◌, ◌++◌, length, replicate, refl, sym, ap, ◌∙◌, subst, arith, lit<, lit≤, length-append, zero-add, ◌≢◌, Some}
+use Rattle.std.specs.Prelude.{pos, slice_get, slice_index}
 use Rattle.std.specs.List.{AllByRecursion}
 use Rattle.std.proofs.lemmas.Bool.Decides.{nat_tests}
 use Rattle.std.proofs.lemmas.Int.{ints}
@@ -9,13 +9,13 @@ use Rattle.mv_num.specs.Words.{add, word_of}
 use Rattle.mv_isa.specs.declared.instr.Instr.{Instr}
 use Rattle.mv_isa.specs.declared.instr.Instr.TheVariants.{Addi, Ecall}
 use Rattle.mv_isa.specs.Encoding.{encode, decode, Fits, IsSigned}
-use Rattle.mv_isa.specs.Execution.{Outcome, Goes, Calls, execute, put, reg, sets}
+use Rattle.mv_isa.specs.Execution.{execute, put, reg, sets}
 use Rattle.mv_isa.proofs.RoundTrip.{decode-encode}
-use Rattle.mv_fetch.specs.Held.{Held, Room, choices, older_at, region_of, index_of}
+use Rattle.mv_fetch.specs.Held.{Held, choices, older_at, region_of, index_of}
 use Rattle.mv_rv32.specs.Stepping.{access, picked_step}
-use Rattle.mv_machine.specs.Runs.{State, Stop, Going, Exit, runs_from, turn, fetched_step, choices_at, after, answered, environment_call, request_of, Writes, Exits}
+use Rattle.mv_machine.specs.Runs.{State, Going, Exit, runs_from, turn, fetched_step, choices_at, after, answered, environment_call, request_of}
 use Rattle.mv_top.specs.First.{Small, written}
-use Rattle.mv_top.specs.Code.{call, code, instructions}
+use Rattle.mv_top.specs.Code.{call, code}
 
 -- ---- fetches
 

@@ -1,5 +1,5 @@
 -- A number at the front of a text is the whole word there.
-use Rattle.std.proofs.Common.{ℕ, ◌≡◌, ◌<◌, ◌≤◌, ◌^◌, Bool, true, false, List, [], ◌∷◌, ◌++◌, length, take, drop, refl, sym, ap, ◌∙◌, subst, arith, lit<, lit≤, MatchOption, Option, Some, None, Bor}
+use Rattle.std.proofs.Common.{ℕ, ◌≡◌, ◌<◌, ◌≤◌, true, false, List, [], ◌∷◌, ◌++◌, length, refl, sym, ap, ◌∙◌, subst, arith}
 use Rattle.std.specs.List.{AllByRecursion}
 use Rattle.std.specs.Int.{IsInRange}
 use Rattle.std.specs.Fmt.{decimal}
@@ -7,9 +7,9 @@ use Rattle.std.specs.Str.Parse.{AllDigits}
 use Rattle.std.proofs.lemmas.Bool.Decides.{nat_tests}
 use Rattle.std.proofs.lemmas.Str.Parse.{digit_from_value}
 use Rattle.std.proofs.lemmas.Fmt.{decimal_is_IsNumeral, decimal_injective}
-use Rattle.mv_top.specs.First.{Blank, Ends, Small, Spells, is_space, is_word, begins_word, statement}
-use Rattle.mv_top.specs.Reading.{Goes, IsNumberToken, IsToken, Stuck, begins_space, one}
-use Rattle.mv_top.proofs.Fronts.{behind_space, goes_on, stuck_at}
+use Rattle.mv_top.specs.First.{Blank, Small, Spells, is_space, is_word, begins_word}
+use Rattle.mv_top.specs.Reading.{IsNumberToken, IsToken, Stuck, begins_space, one}
+use Rattle.mv_top.proofs.Fronts.{behind_space, goes_on}
 
 abbrev pub IsWord : List ℕ → Type 0
 IsWord word = AllByRecursion (λ byte. is_word byte ≡ true) word

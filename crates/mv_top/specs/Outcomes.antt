@@ -1,6 +1,5 @@
 -- What each status of a command says, and when it may come.
-use Rattle.std.specs.Prelude.{ℕ, ◌≡◌, ◌<◌, ◌≤◌, ◌/◌, ◌⊎◌, false, List, [], ◌∷◌, take, Option, Some, None}
-use Rattle.mv_ast.specs.declared.place.Place.{Place}
+use Rattle.std.specs.Prelude.{ℕ, ◌≡◌, ◌<◌, ◌≤◌, ◌/◌, ◌⊎◌, false, List, [], take, Option, Some, None}
 use Rattle.mv_io.specs.Shelves.{Files, Lacks}
 use Rattle.mv_top.specs.First.{First}
 use Rattle.mv_top.specs.Code.{instructions}

@@ -1,4 +1,4 @@
-use Rattle.std.proofs.Common.{◌≡◌, ◌≤◌, [], length, refl, sym, ap, ◌∙◌, arith, None, ℕ}
+use Rattle.std.proofs.Common.{◌≡◌, [], length, refl, ap, ◌∙◌, arith, None}
 use Rattle.mv_image.specs.Spelling.{bare}
 use Rattle.mv_machine.specs.Runs.{first}
 use Rattle.mv_machine.specs.Snapshots.{kept}

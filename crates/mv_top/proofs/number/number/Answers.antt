@@ -1,5 +1,5 @@
 -- A text that isn't the numeral of a number up to the bound is seen at its front, at a byte that is no digit, or where the value passes the bound.
-use Rattle.std.proofs.Common.{rules, ℕ, ◌≡◌, ◌<◌, ◌≤◌, ◌^◌, ◌+◌, ◌-◌, ◌*◌, length, arith, get_or, sym, ◌∙◌, ap, take, subst, refl}
+use Rattle.std.proofs.Common.{rules, ◌≡◌, ◌<◌, ◌+◌, ◌*◌, length, arith, get_or, sym, ◌∙◌, ap, subst}
 use Rattle.std.specs.Int.{IsInRange}
 use Rattle.std.specs.Fmt.{decimal}
 use Rattle.std.specs.Str.Parse.{AllDigits, digits_value}

@@ -1,4 +1,4 @@
-use Rattle.std.proofs.Common.{◌≡◌, [], refl}
+use Rattle.std.proofs.Common.{[]}
 use Rattle.mv_top.proofs.reader.closes.Goals as goal
 
 pub returns-in-Some-clause-closes : goal.returns-in-Some-clause-closes

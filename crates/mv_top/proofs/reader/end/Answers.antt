@@ -1,4 +1,4 @@
-use Rattle.std.proofs.Common.{◌≡◌, true, false, sym, ◌∙◌}
+use Rattle.std.proofs.Common.{sym, ◌∙◌}
 use Rattle.mv_top.proofs.Programs.{ends_plain, ends_returned, no_end_plain, no_end_returned}
 use Rattle.mv_top.proofs.reader.end.Goals as goal
 

@@ -1,4 +1,4 @@
-use Rattle.mv_top.proofs.Programs.{is_program, is_no_program, is_not_opened}
+use Rattle.mv_top.proofs.Programs.{is_not_opened}
 use Rattle.mv_top.proofs.reader.read.Goals as goal
 
 pub returns-in_default : goal.returns-in_default

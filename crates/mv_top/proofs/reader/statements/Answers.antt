@@ -1,4 +1,4 @@
-use Rattle.std.proofs.Common.{◌≡◌, ◌≤◌, ◌∷◌, ◌++◌, [], arith, vec_len, length, sym, subst, ap, ◌∙◌, rules}
+use Rattle.std.proofs.Common.{arith, sym, subst}
 use Rattle.mv_top.specs.Reading.{Taken}
 use Rattle.mv_top.proofs.Programs.{taken_none, taken_more, all_taken, all_full}
 use Rattle.mv_top.proofs.reader.statements.Goals as goal

@@ -1,5 +1,5 @@
 -- The token stands behind the white space at the front, or something else does.
-use Rattle.std.proofs.Common.{ℕ, ◌≡◌, true, false, List, Option, None, Some, Bor, refl, sym, ◌∙◌, ap}
+use Rattle.std.proofs.Common.{ℕ, ◌≡◌, false, List, Option, None, Some, Bor, sym, ◌∙◌}
 use Rattle.std.proofs.lemmas.Slice.Eq.{strip_prefix_is}
 use Rattle.std.proofs.lemmas.Bool.Decides.{Decides-eqb}
 use Rattle.mv_top.specs.First.{begins_word}

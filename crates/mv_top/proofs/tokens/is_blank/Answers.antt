@@ -1,5 +1,5 @@
-use Rattle.std.proofs.Common.{◌≡◌, ◌==◌, length, ap, ◌∙◌, refl}
-use Rattle.mv_top.proofs.Fronts.{blank_rest, blank_gap}
+use Rattle.std.proofs.Common.{◌==◌, length, ap, ◌∙◌}
+use Rattle.mv_top.proofs.Fronts.{blank_rest}
 use Rattle.mv_top.proofs.tokens.is_blank.Goals as goal
 
 pub returns-clause-all : goal.returns-clause-all

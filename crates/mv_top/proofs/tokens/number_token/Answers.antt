@@ -1,4 +1,4 @@
-use Rattle.std.proofs.Common.{◌≡◌, ◌++◌, sym, ap, ◌∙◌, take, drop, length, subst}
+use Rattle.std.proofs.Common.{◌≡◌, ◌++◌, sym, ap, ◌∙◌, take, subst}
 use Rattle.std.proofs.lemmas.List.{take-append-drop}
 use Rattle.mv_top.specs.First.{begins_word}
 use Rattle.mv_top.proofs.Words.{IsWord, no_number, is_number}

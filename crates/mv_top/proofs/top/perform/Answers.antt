@@ -1,4 +1,4 @@
-use Rattle.std.proofs.Common.{◌≡◌, ◌∙◌, sym, subst, map, ℕ, List}
+use Rattle.std.proofs.Common.{subst, map, ℕ, List}
 use Rattle.std.specs.String.{string_bytes}
 use Rattle.mv_io.specs.Outside.{Rose}
 use Rattle.mv_top.specs.Grown.{Grew}

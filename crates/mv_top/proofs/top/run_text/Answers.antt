@@ -1,4 +1,4 @@
-use Rattle.std.proofs.Common.{◌≡◌, ◌%◌, ◌^◌, [], refl, take, inl}
+use Rattle.std.proofs.Common.{◌%◌, ◌^◌, refl, take}
 use Rattle.mv_top.specs.First.{written}
 use Rattle.mv_top.specs.Reading.{IsTheProgram, IsNoProgram}
 use Rattle.mv_top.specs.Code.{result_of}

@@ -1,4 +1,4 @@
-use Rattle.std.proofs.Common.{◌≤◌, arith}
+use Rattle.std.proofs.Common.{arith}
 use Rattle.mv_top.proofs.Pieces.{grew_more, still_within}
 use Rattle.mv_top.proofs.writing.write_all.Goals as goal
 
