@@ -16,6 +16,7 @@ use Rattle.mv_fold.proofs.FormNeeded.{needed_form}
 use Rattle.mv_fold.proofs.SetsNeeded.{none_unread}
 use Rattle.mv_fold.proofs.FoldedWithin.{folded_within}
 use Rattle.mv_fold.proofs.FoldedThinner.{folded_intervals}
+use Rattle.mv_fold.proofs.WellFormed.{folded_well_formed}
 
 abbrev with_code : Body → List Stm → Body
 with_code b code = record b { code = code }
@@ -33,6 +34,7 @@ folded_is b needed h =
       smaller = folded_within needed b.code;
       whole = kept.whole;
       has_temps = kept.has_temps;
+      well_formed = folded_well_formed b needed kept.has_temps (folded_within needed b.code);
       intervals = kept.intervals;
       params = refl;
       temps = refl;

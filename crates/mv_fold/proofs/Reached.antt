@@ -59,10 +59,10 @@ cons_cases : (y : ℕ) (ys : List ℕ) (t : ℕ) → Contains (y ∷ ys) t → (
 cons_cases y ys t (zero, lt, e) = inl e
 cons_cases y ys t (suc k, lt, e) = inr (k, omega (arith, lt), e)
 
-cons_head : (y : ℕ) (ys : List ℕ) (t : ℕ) → y ≡ t → Contains (y ∷ ys) t
+pub cons_head : (y : ℕ) (ys : List ℕ) (t : ℕ) → y ≡ t → Contains (y ∷ ys) t
 cons_head y ys t e = (0, omega arith, e)
 
-cons_tail : (y : ℕ) (ys : List ℕ) (t : ℕ) → Contains ys t → Contains (y ∷ ys) t
+pub cons_tail : (y : ℕ) (ys : List ℕ) (t : ℕ) → Contains ys t → Contains (y ∷ ys) t
 cons_tail y ys t (k, lt, e) = (suc k, omega (arith, lt), e)
 
 -- the row of one read more
