@@ -48,6 +48,6 @@ pub body_is_folded : (b : Body) (arrays : List ℕ) (code : List Stm) (rooms : L
     IsFolded b (record { params = b.params; temps = b.temps; arrays = arrays; code = code; rooms = rooms; marked = marked; switches = switches })
 body_is_folded b arrays code rooms marked switches ea (needed, h, e) er em es =
     let same : with_code b (needed_code needed (simple_code b.code)) ≡ record { params = b.params; temps = b.temps; arrays = arrays; code = code; rooms = rooms; marked = marked; switches = switches } =
-        λ i. record { params = b.params; temps = b.temps; arrays = sym ea i; code = sym e i; rooms = sym er i; marked = sym em i; switches = sym es i }
+    λ i. record { params = b.params; temps = b.temps; arrays = sym ea i; code = sym e i; rooms = sym er i; marked = sym em i; switches = sym es i }
     in
     subst (IsFolded b) same (folded_is b needed h)

@@ -126,11 +126,13 @@ Stops x = (t : ℕ) (r : Around) (b : Bool) → ((layer_of every x t).live (with
 stopped : (x : Stm-F Stm) (xs : List Stm) → Stops x → Thinner (roll-Stm x ∷ xs) (roll-Stm x ∷ [])
 stopped x xs h =
     let (m, k) = same (roll-Stm x) in
-    let (n, g) = gone every xs in
-    (m ++ n, subst (λ f. Thins every (m ++ n) f (code_flow every (roll-Stm x ∷ []))) (sym (flow_append every (roll-Stm x ∷ []) xs)) (record {
-      live = λ t r r' e v. ((all t r (live_in_order (map (flow t) xs) r)).0 ∙ (k.live t r r' e v).0, refl);
-      marks = λ t r r' e. subst (Covers (m ++ n) _) (append-nil ((code_flow every (roll-Stm x ∷ []) t).marks r')) (covers_append m _ ((code_flow every (roll-Stm x ∷ []) t).marks r') n _ [] (subst (λ l. Covers m l ((code_flow every (roll-Stm x ∷ []) t).marks r')) (sym (all t r (live_in_order (map (flow t) xs) r)).1) (k.marks t r r' e)) (g t r));
-    }))
+    let (n, g) = gone every xs in (
+      m ++ n,
+      subst (λ f. Thins every (m ++ n) f (code_flow every (roll-Stm x ∷ []))) (sym (flow_append every (roll-Stm x ∷ []) xs)) (record {
+        live = λ t r r' e v. ((all t r (live_in_order (map (flow t) xs) r)).0 ∙ (k.live t r r' e v).0, refl);
+        marks = λ t r r' e. subst (Covers (m ++ n) _) (append-nil ((code_flow every (roll-Stm x ∷ []) t).marks r')) (covers_append m _ ((code_flow every (roll-Stm x ∷ []) t).marks r') n _ [] (subst (λ l. Covers m l ((code_flow every (roll-Stm x ∷ []) t).marks r')) (sym (all t r (live_in_order (map (flow t) xs) r)).1) (k.marks t r r' e)) (g t r));
+      }),
+    )
   where
     all : (t : ℕ) (r : Around) (b : Bool) → ((code_flow every (roll-Stm x ∷ []) t).live (with_after r b) ≡ (code_flow every (roll-Stm x ∷ []) t).live r) × ((code_flow every (roll-Stm x ∷ []) t).marks (with_after r b) ≡ (code_flow every (roll-Stm x ∷ []) t).marks r)
     all = subst (λ (f : ℕ → Flow). (t : ℕ) (r : Around) (b : Bool) → ((f t).live (with_after r b) ≡ (f t).live r) × ((f t).marks (with_after r b) ≡ (f t).marks r)) (sym (flow_one every x)) h
@@ -240,10 +242,12 @@ callee_less (callee.Direct f) t e = (e, refl)
 callee_less (callee.Through x) t e = one_less x t e
 
 call_less : (f : Callee) (ts : List Tree) → Less (callee_trees f ++ ts) (callee_trees (simple_callee f) ++ map simple_tree ts)
-call_less f ts t e =
-    (reads_append t (callee_trees f) ts ∙
-    either (any_reads t (callee_trees f)) (any_reads t ts) (any_reads t (callee_trees (simple_callee f))) (any_reads t (map simple_tree ts)) (λ v. (callee_less f t v).0) (λ v. (many_less ts t v).0)
-    (sym (reads_append t (callee_trees (simple_callee f)) (map simple_tree ts)) ∙ e), refl)
+call_less f ts t e = (
+  reads_append t (callee_trees f) ts ∙
+      either (any_reads t (callee_trees f)) (any_reads t ts) (any_reads t (callee_trees (simple_callee f))) (any_reads t (map simple_tree ts)) (λ v. (callee_less f t v).0) (λ v. (many_less ts t v).0)
+      (sym (reads_append t (callee_trees (simple_callee f)) (map simple_tree ts)) ∙ e),
+  refl,
+)
 
 number_less : (n : ℕ) (ts : List Tree) → Less ts (number n ∷ [])
 number_less n ts t e = by (or_cases (reads_temp t (number n)) false e)

@@ -6,12 +6,13 @@ use Rattle.mv_ir.specs.declared.stm.Stm.{Stm}
 use Rattle.mv_ir.specs.declared.stm.Stm.TheOpen.{Stm-F}
 use Rattle.mv_ir.specs.declared.stm.Stm.TheOpen as stm
 use Rattle.mv_ir.specs.declared.stm.Stm.TheViews.{roll-Stm}
-use Rattle.mv_ir.specs.declared.stm.Stm.TheFolds.{fold-roll-Stm, map-Stm}
+use Rattle.mv_ir.specs.declared.stm.Stm.TheFolds.{map-Stm}
 use Rattle.mv_ir.specs.declared.body.Body.{Body}
 use Rattle.mv_ir.specs.Measures.{joined}
 use Rattle.mv_ir.specs.Live.{HasTemps}
 use Rattle.mv_ir.specs.WellFormed.{all_true, all_around, layer_targets, stm_targets, layer_named, stm_named, named, has_room, is_there, known_arguments, layer_arguments, stm_arguments, IsWellFormed}
 use Rattle.mv_ir.proofs.Induction.{Each, StmChildren, stm_ind, stms_ind}
+use Rattle.mv_ir.proofs.Rolls.{targets_roll, named_roll, arguments_roll}
 use Rattle.mv_ir.proofs.Keeping.{map_append}
 use Rattle.mv_ir.proofs.Lists.{joined_append}
 use Rattle.mv_fold.specs.Simple.{constant, simple_tree, jumps, ended, simple_callee, alone, division, choice, simple_layer, simple_stm, simple_code}
@@ -100,18 +101,6 @@ facts_append xs ys = λ i. record {
   arguments = (ap all_true (map_append stm_arguments xs ys) ∙ true_append (map stm_arguments xs) (map stm_arguments ys)) i;
   named = λ p. (ap (λ l. all_true (map p l)) (named_append xs ys) ∙ arrays_append p (named xs) (named ys)) i;
 }
-
-targets_roll : (x : Stm-F Stm) → stm_targets (roll-Stm x) ≡ layer_targets (map-Stm Stm (List Bool → Bool) stm_targets x)
-unfolding stm_targets
-targets_roll x = fold-roll-Stm (List Bool → Bool) layer_targets x
-
-arguments_roll : (x : Stm-F Stm) → stm_arguments (roll-Stm x) ≡ layer_arguments (map-Stm Stm Bool stm_arguments x)
-unfolding stm_arguments
-arguments_roll x = fold-roll-Stm Bool layer_arguments x
-
-named_roll : (x : Stm-F Stm) → stm_named (roll-Stm x) ≡ layer_named (map-Stm Stm (List Array) stm_named x)
-unfolding stm_named
-named_roll x = fold-roll-Stm (List Array) layer_named x
 
 abbrev layer_facts : Stm-F Stm → Facts
 layer_facts x = record {

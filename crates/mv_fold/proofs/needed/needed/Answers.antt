@@ -59,8 +59,8 @@ loop-next-preserved c =
     let lt : next < length c.loop-next.order.items = omega (arith, c.loop-next-test.true, c.len.ensures, c.loop-next.order.ok) in
     let below = reached_below count uses c.loop-next.flags.items c.loop-next.order.items next u c.loop-next.invariant lt in
     let read : c.deref-in-loop-next.result.now ≡ read_by (get_or c.loop-next.order.items next u + 1) uses =
-        c.deref-in-loop-next.ensures.value ∙ ap (λ v. v.items) c.index-in-loop-next-2.ensures ∙ rows.each (u + 1) c.index-in-loop-next-2.result.now (omega (arith, rows.long, below, c.index-in-loop-next.ensures)) ∙
-        ap (λ n. read_by (n + 1) uses) c.index-in-loop-next.ensures
+    c.deref-in-loop-next.ensures.value ∙ ap (λ v. v.items) c.index-in-loop-next-2.ensures ∙ rows.each (u + 1) c.index-in-loop-next-2.result.now (omega (arith, rows.long, below, c.index-in-loop-next.ensures)) ∙
+    ap (λ n. read_by (n + 1) uses) c.index-in-loop-next.ensures
     in
     let items = with_items_is c.loop-next.flags flags (c.visit-in-loop-next.auto.flags ∙ c.deref_mut-in-loop-next.ensures.len) in
     subst (λ l. IsSearched count uses l order (next + 1)) (sym items)
