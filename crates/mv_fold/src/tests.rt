@@ -1,12 +1,10 @@
 //! Small bodies and what they fold to, worked out by hand.
 
 use crate::fold;
-use mv_ast::program::Known;
 use mv_ir::body::Body;
-use mv_ir::stm::{Array, Callee, Stm};
+use mv_ir::stm::Stm;
 use mv_ir::tree::Tree;
 use mv_num::boxed::Boxed;
-use mv_num::kind::Kind;
 use mv_num::list::List;
 use std::alloc::{AllocError, Global};
 use std::test::Fail;
@@ -172,67 +170,5 @@ fn long_chains_are_left_out_at_once(rt: HostRuntime) -> Result<(), Fail> {
         let code = folded(alloc, chain(alloc, 100_000, forward)?)?;
         assert_eq!(rt; code.len(), 1);
     }
-    Ok(())
-}
-
-fn three(alloc: Global) -> Result<List<Tree>, AllocError> {
-    let mut trees = List::new(alloc);
-    trees.push(binary(alloc, 0, 1, 2)?)?;
-    Ok(trees)
-}
-
-fn is_three(trees: &List<Tree>) -> bool {
-    matches!(trees.as_slice(), [Tree::Number(3)])
-}
-
-/// `1 + 2` in a tree of each statement.
-fn every_statement(alloc: Global) -> Result<List<Stm>, AllocError> {
-    let array = Array::Local(0);
-    let mut code = list(
-        alloc,
-        Stm::Check(array, binary(alloc, 0, 1, 2)?),
-        Stm::Read(1, array, binary(alloc, 0, 1, 2)?),
-    )?;
-    code.push(Stm::Write(array, binary(alloc, 0, 1, 2)?, Tree::Temp(0)))?;
-    code.push(Stm::Zero(0))?;
-    code.push(Stm::Call(
-        Some(2),
-        Callee::Through(binary(alloc, 0, 1, 2)?),
-        three(alloc)?,
-    ))?;
-    code.push(Stm::Known(None, Known::Putchar, three(alloc)?))?;
-    let end = list(alloc, Stm::Break(0), Stm::Back(0))?;
-    code.push(Stm::Loop(end))?;
-    let end = list(alloc, Stm::Back(0), Stm::Break(0))?;
-    code.push(Stm::Block(end))?;
-    let narrow = Tree::Narrow(Kind::SChar, Boxed::new(alloc, Tree::Number(200))?);
-    code.push(Stm::Return(narrow))?;
-    Ok(code)
-}
-
-#[test]
-fn each_statement_has_its_trees_folded(rt: HostRuntime) -> Result<(), Fail> {
-    let code = folded(rt.alloc(), every_statement(rt.alloc())?)?;
-    assert!(rt;
-        match code.as_slice() {
-            [
-                Stm::Check(Array::Local(0), Tree::Number(3)),
-                Stm::Read(1, Array::Local(0), Tree::Number(3)),
-                Stm::Write(Array::Local(0), Tree::Number(3), Tree::Temp(0)),
-                Stm::Zero(0),
-                Stm::Call(Some(2), Callee::Through(Tree::Number(3)), args),
-                Stm::Known(None, Known::Putchar, byte),
-                Stm::Loop(turn),
-                Stm::Block(inner),
-                Stm::Return(Tree::Number(0xFFFF_FFC8)),
-            ] => {
-                is_three(args)
-                    && is_three(byte)
-                    && matches!(turn.as_slice(), [Stm::Break(0)])
-                    && matches!(inner.as_slice(), [Stm::Back(0)])
-            }
-            _ => false,
-        }
-    );
     Ok(())
 }
