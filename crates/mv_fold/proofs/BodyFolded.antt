@@ -3,11 +3,9 @@ use Rattle.std.proofs.Common.{◌≡◌, ℕ, Bool, List, refl, sym, subst}
 use Rattle.mv_ir.specs.declared.stm.Stm.{Stm}
 use Rattle.mv_ir.specs.declared.body.Body.{Body}
 use Rattle.mv_ir.specs.declared.body.Room.{Room}
-use Rattle.mv_ir.specs.Keeps.{KeepsBody}
 use Rattle.mv_ir.proofs.Keeping.{body_trans, body_between}
 use Rattle.mv_fold.specs.Simple.{simple_code}
 use Rattle.mv_fold.specs.Needed.{code_uses, IsNeeded, needed_code}
-use Rattle.mv_fold.specs.Form.{IsFoldedForm}
 use Rattle.mv_fold.specs.Folded.{IsFoldedCode, IsFolded}
 use Rattle.mv_fold.proofs.SimpleKept.{simple_keeps}
 use Rattle.mv_fold.proofs.NeededKept.{needed_keeps}

@@ -16,18 +16,18 @@ use Rattle.mv_ir.specs.declared.stm.Stm.TheFolds.{map-Stm}
 use Rattle.mv_ir.specs.declared.body.Body.{Body}
 use Rattle.mv_ir.specs.Trees.{unary, binary, divide}
 use Rattle.mv_ir.specs.Measures.{joined, callee_trees}
-use Rattle.mv_ir.specs.Live.{layer_reads_temp, reads_temp, any_reads, is, Around, Flow, with_after, live_in_order, marks_in_order, plain, goes_next, flow}
+use Rattle.mv_ir.specs.Live.{layer_reads_temp, reads_temp, any_reads, Around, Flow, with_after, live_in_order, plain, goes_next, flow}
 use Rattle.mv_ir.proofs.Induction.{Each, TreeChildren, tree_ind, StmChildren, stm_ind, stms_ind}
 use Rattle.mv_ir.proofs.Rolls.{reads_temp_roll}
 use Rattle.mv_fold.specs.declared.uses.Use.{Use}
 use Rattle.mv_fold.specs.Simple.{constant, number, one_or, two_or, simple_node, simple_tree, layer_jumps, jumps, ended, simple_callee, alone, division, choice, simple_layer, simple_stm, simple_code}
-use Rattle.mv_fold.specs.Needed.{tree_uses, trees_uses, layer_uses, stm_uses, code_uses, counts, IsNeeded, needed_layer, needed_stm, needed_code}
+use Rattle.mv_fold.specs.Needed.{tree_uses, trees_uses, layer_uses, stm_uses, code_uses, IsNeeded, needed_layer, needed_stm, needed_code}
 use Rattle.mv_fold.proofs.Reached.{or_left, or_right, or_cases, eqb_true}
 use Rattle.mv_fold.proofs.SimpleKept.{jumps_roll, simple_tree_roll, simple_stm_roll}
 use Rattle.mv_fold.proofs.NeededEquations.{stm_uses_roll, needed_stm_roll}
 use Rattle.mv_fold.proofs.SetsNeeded.{reads_append}
 use Rattle.mv_fold.proofs.Closing.{Closed, left, right, among, for_body, closed}
-use Rattle.mv_fold.proofs.Thinner.{Covers, covers_append, never, Implies, FitsAround, Thins, code_flow, IsThinner, layer_of, flow_one, flow_append, thinner_one, thinner_many, thinner_trans, thinner_append, thinner_none, ReadsLess, plain_thins, on_next, on_leaves, on_restarts, on_nothing, if_thins, loop_thins, block_thins, KeepsIntervals, thinner_body}
+use Rattle.mv_fold.proofs.Thinner.{Covers, covers_append, never, Implies, Thins, code_flow, IsThinner, layer_of, flow_one, flow_append, thinner_one, thinner_many, thinner_trans, thinner_append, thinner_none, ReadsLess, plain_thins, on_next, on_leaves, on_restarts, on_nothing, if_thins, loop_thins, block_thins, KeepsIntervals, thinner_body}
 
 -- ---- statements that are left out
 

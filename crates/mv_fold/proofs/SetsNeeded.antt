@@ -1,12 +1,9 @@
 -- No set is left of a temporary that no statement reads.
-use Rattle.std.proofs.Common.{arith, ◌≡◌, ℕ, zero, suc, ◌+◌, Bool, true, false, cond, eqb, ◌&&◌, ◌||◌, List, [], ◌∷◌, ◌++◌, map, Option, Some, None, refl, sym, ◌∙◌, ap, subst, append-nil}
+use Rattle.std.proofs.Common.{arith, ◌≡◌, ℕ, ◌+◌, Bool, true, false, cond, eqb, ◌&&◌, ◌||◌, List, [], ◌∷◌, ◌++◌, map, Option, Some, None, refl, sym, ◌∙◌, ap, append-nil}
 use Rattle.mv_ir.specs.declared.tree.Tree.{Tree}
 use Rattle.mv_ir.specs.declared.tree.Tree.TheOpen.{Tree-F}
 use Rattle.mv_ir.specs.declared.tree.Tree.TheOpen as tree
-use Rattle.mv_ir.specs.declared.tree.Tree.TheViews.{roll-Tree}
 use Rattle.mv_ir.specs.declared.tree.Tree.TheFolds.{map-Tree}
-use Rattle.mv_ir.specs.declared.stm.Callee.{Callee}
-use Rattle.mv_ir.specs.declared.stm.Callee.TheVariants as callee
 use Rattle.mv_ir.specs.declared.stm.Stm.{Stm}
 use Rattle.mv_ir.specs.declared.stm.Stm.TheOpen.{Stm-F}
 use Rattle.mv_ir.specs.declared.stm.Stm.TheOpen as stm

@@ -1,7 +1,7 @@
-use Rattle.std.proofs.Common.{arith, ◌≡◌, ◌∙◌, ◌+◌, ◌<◌, ℕ, All, [], length, get_or, false, replicate, ap, sym, subst}
+use Rattle.std.proofs.Common.{arith, ◌≡◌, ◌∙◌, ◌+◌, ◌<◌, All, length, get_or, false, ap, sym, subst}
 use Rattle.std.proofs.lemmas.List.{with_items_is, length-replicate}
-use Rattle.mv_fold.specs.Reaching.{IsVisited, IsReached, read_by}
-use Rattle.mv_fold.proofs.Reached.{IsSearched, search_begun, search_on, searched_all, search_below, reached_below, read_fits, reached_none, visited_same}
+use Rattle.mv_fold.specs.Reaching.{read_by}
+use Rattle.mv_fold.proofs.Reached.{IsSearched, search_begun, search_on, searched_all, search_below, reached_below, read_fits, visited_same}
 use Rattle.mv_fold.proofs.needed.needed.Goals as goal
 
 pub visit-requires-clause-fits : goal.visit-requires-clause-fits
