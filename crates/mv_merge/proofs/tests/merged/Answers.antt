@@ -1,5 +1,4 @@
 use Rattle.std.proofs.Common.{◌≡◌, ℕ, List, [], ◌∷◌, ◌++◌, map, refl, sym, ap, ◌∙◌, subst}
-use Rattle.mv_ir.specs.Measures.{joined}
 use Rattle.mv_ir.specs.Combinations.{combinations, AllApart, AreAllCombinations}
 use Rattle.mv_ir.proofs.AllCombinations.{all_combinations}
 use Rattle.mv_merge.specs.declared.rows.Domain.{Domain}
@@ -20,5 +19,5 @@ pub merge-requires-clause-all : goal.merge-requires-clause-all
 merge-requires-clause-all c =
     let values = c.args.values.now in
     let domains : domain_values c.push.new.self ≡ values ∷ [] =
-            pushed _ _ _ values c.new-domains.ensures c.in_ok-push.ensures.ok (c.from_vec.ensures ∙ c.in_ok-from_slice.ensures.items) in
+    pushed _ _ _ values c.new-domains.ensures c.in_ok-push.ensures.ok (c.from_vec.ensures ∙ c.in_ok-from_slice.ensures.items) in
     subst (λ ds. AreAllCombinations ds (all_values c.in_ok-rows.rows)) (sym domains) (of_values values (all_values c.in_ok-rows.rows) c.in_ok-rows.ensures c.requires.apart)
