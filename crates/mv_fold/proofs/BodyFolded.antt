@@ -3,11 +3,9 @@ use Rattle.std.proofs.Common.{◌≡◌, ℕ, Bool, List, refl, sym, subst}
 use Rattle.mv_ir.specs.declared.stm.Stm.{Stm}
 use Rattle.mv_ir.specs.declared.body.Body.{Body}
 use Rattle.mv_ir.specs.declared.body.Room.{Room}
-use Rattle.mv_ir.specs.Keeps.{KeepsBody}
 use Rattle.mv_ir.proofs.Keeping.{body_trans, body_between}
 use Rattle.mv_fold.specs.Simple.{simple_code}
 use Rattle.mv_fold.specs.Needed.{code_uses, IsNeeded, needed_code}
-use Rattle.mv_fold.specs.Form.{IsFoldedForm}
 use Rattle.mv_fold.specs.Folded.{IsFoldedCode, IsFolded}
 use Rattle.mv_fold.proofs.SimpleKept.{simple_keeps}
 use Rattle.mv_fold.proofs.NeededKept.{needed_keeps}
@@ -16,6 +14,7 @@ use Rattle.mv_fold.proofs.FormNeeded.{needed_form}
 use Rattle.mv_fold.proofs.SetsNeeded.{none_unread}
 use Rattle.mv_fold.proofs.FoldedWithin.{folded_within}
 use Rattle.mv_fold.proofs.FoldedThinner.{folded_intervals}
+use Rattle.mv_fold.proofs.WellFormed.{folded_well_formed}
 
 abbrev with_code : Body → List Stm → Body
 with_code b code = record b { code = code }
@@ -33,6 +32,7 @@ folded_is b needed h =
       smaller = folded_within needed b.code;
       whole = kept.whole;
       has_temps = kept.has_temps;
+      well_formed = folded_well_formed b needed kept.has_temps (folded_within needed b.code);
       intervals = kept.intervals;
       params = refl;
       temps = refl;
@@ -46,6 +46,6 @@ pub body_is_folded : (b : Body) (arrays : List ℕ) (code : List Stm) (rooms : L
     IsFolded b (record { params = b.params; temps = b.temps; arrays = arrays; code = code; rooms = rooms; marked = marked; switches = switches })
 body_is_folded b arrays code rooms marked switches ea (needed, h, e) er em es =
     let same : with_code b (needed_code needed (simple_code b.code)) ≡ record { params = b.params; temps = b.temps; arrays = arrays; code = code; rooms = rooms; marked = marked; switches = switches } =
-        λ i. record { params = b.params; temps = b.temps; arrays = sym ea i; code = sym e i; rooms = sym er i; marked = sym em i; switches = sym es i }
+    λ i. record { params = b.params; temps = b.temps; arrays = sym ea i; code = sym e i; rooms = sym er i; marked = sym em i; switches = sym es i }
     in
     subst (IsFolded b) same (folded_is b needed h)

@@ -16,18 +16,18 @@ use Rattle.mv_ir.specs.declared.stm.Stm.TheFolds.{map-Stm}
 use Rattle.mv_ir.specs.declared.body.Body.{Body}
 use Rattle.mv_ir.specs.Trees.{unary, binary, divide}
 use Rattle.mv_ir.specs.Measures.{joined, callee_trees}
-use Rattle.mv_ir.specs.Live.{layer_reads_temp, reads_temp, any_reads, is, Around, Flow, with_after, live_in_order, marks_in_order, plain, goes_next, flow}
+use Rattle.mv_ir.specs.Live.{layer_reads_temp, reads_temp, any_reads, Around, Flow, with_after, live_in_order, plain, goes_next, flow}
 use Rattle.mv_ir.proofs.Induction.{Each, TreeChildren, tree_ind, StmChildren, stm_ind, stms_ind}
 use Rattle.mv_ir.proofs.Rolls.{reads_temp_roll}
 use Rattle.mv_fold.specs.declared.uses.Use.{Use}
 use Rattle.mv_fold.specs.Simple.{constant, number, one_or, two_or, simple_node, simple_tree, layer_jumps, jumps, ended, simple_callee, alone, division, choice, simple_layer, simple_stm, simple_code}
-use Rattle.mv_fold.specs.Needed.{tree_uses, trees_uses, layer_uses, stm_uses, code_uses, counts, IsNeeded, needed_layer, needed_stm, needed_code}
+use Rattle.mv_fold.specs.Needed.{tree_uses, trees_uses, layer_uses, stm_uses, code_uses, IsNeeded, needed_layer, needed_stm, needed_code}
 use Rattle.mv_fold.proofs.Reached.{or_left, or_right, or_cases, eqb_true}
 use Rattle.mv_fold.proofs.SimpleKept.{jumps_roll, simple_tree_roll, simple_stm_roll}
 use Rattle.mv_fold.proofs.NeededEquations.{stm_uses_roll, needed_stm_roll}
 use Rattle.mv_fold.proofs.SetsNeeded.{reads_append}
 use Rattle.mv_fold.proofs.Closing.{Closed, left, right, among, for_body, closed}
-use Rattle.mv_fold.proofs.Thinner.{Covers, covers_append, never, Implies, FitsAround, Thins, code_flow, IsThinner, layer_of, flow_one, flow_append, thinner_one, thinner_many, thinner_trans, thinner_append, thinner_none, ReadsLess, plain_thins, on_next, on_leaves, on_restarts, on_nothing, if_thins, loop_thins, block_thins, KeepsIntervals, thinner_body}
+use Rattle.mv_fold.proofs.Thinner.{Covers, covers_append, never, Implies, Thins, code_flow, IsThinner, layer_of, flow_one, flow_append, thinner_one, thinner_many, thinner_trans, thinner_append, thinner_none, ReadsLess, plain_thins, on_next, on_leaves, on_restarts, on_nothing, if_thins, loop_thins, block_thins, KeepsIntervals, thinner_body}
 
 -- ---- statements that are left out
 
@@ -126,11 +126,13 @@ Stops x = (t : ℕ) (r : Around) (b : Bool) → ((layer_of every x t).live (with
 stopped : (x : Stm-F Stm) (xs : List Stm) → Stops x → Thinner (roll-Stm x ∷ xs) (roll-Stm x ∷ [])
 stopped x xs h =
     let (m, k) = same (roll-Stm x) in
-    let (n, g) = gone every xs in
-    (m ++ n, subst (λ f. Thins every (m ++ n) f (code_flow every (roll-Stm x ∷ []))) (sym (flow_append every (roll-Stm x ∷ []) xs)) (record {
-      live = λ t r r' e v. ((all t r (live_in_order (map (flow t) xs) r)).0 ∙ (k.live t r r' e v).0, refl);
-      marks = λ t r r' e. subst (Covers (m ++ n) _) (append-nil ((code_flow every (roll-Stm x ∷ []) t).marks r')) (covers_append m _ ((code_flow every (roll-Stm x ∷ []) t).marks r') n _ [] (subst (λ l. Covers m l ((code_flow every (roll-Stm x ∷ []) t).marks r')) (sym (all t r (live_in_order (map (flow t) xs) r)).1) (k.marks t r r' e)) (g t r));
-    }))
+    let (n, g) = gone every xs in (
+      m ++ n,
+      subst (λ f. Thins every (m ++ n) f (code_flow every (roll-Stm x ∷ []))) (sym (flow_append every (roll-Stm x ∷ []) xs)) (record {
+        live = λ t r r' e v. ((all t r (live_in_order (map (flow t) xs) r)).0 ∙ (k.live t r r' e v).0, refl);
+        marks = λ t r r' e. subst (Covers (m ++ n) _) (append-nil ((code_flow every (roll-Stm x ∷ []) t).marks r')) (covers_append m _ ((code_flow every (roll-Stm x ∷ []) t).marks r') n _ [] (subst (λ l. Covers m l ((code_flow every (roll-Stm x ∷ []) t).marks r')) (sym (all t r (live_in_order (map (flow t) xs) r)).1) (k.marks t r r' e)) (g t r));
+      }),
+    )
   where
     all : (t : ℕ) (r : Around) (b : Bool) → ((code_flow every (roll-Stm x ∷ []) t).live (with_after r b) ≡ (code_flow every (roll-Stm x ∷ []) t).live r) × ((code_flow every (roll-Stm x ∷ []) t).marks (with_after r b) ≡ (code_flow every (roll-Stm x ∷ []) t).marks r)
     all = subst (λ (f : ℕ → Flow). (t : ℕ) (r : Around) (b : Bool) → ((f t).live (with_after r b) ≡ (f t).live r) × ((f t).marks (with_after r b) ≡ (f t).marks r)) (sym (flow_one every x)) h
@@ -240,10 +242,12 @@ callee_less (callee.Direct f) t e = (e, refl)
 callee_less (callee.Through x) t e = one_less x t e
 
 call_less : (f : Callee) (ts : List Tree) → Less (callee_trees f ++ ts) (callee_trees (simple_callee f) ++ map simple_tree ts)
-call_less f ts t e =
-    (reads_append t (callee_trees f) ts ∙
-    either (any_reads t (callee_trees f)) (any_reads t ts) (any_reads t (callee_trees (simple_callee f))) (any_reads t (map simple_tree ts)) (λ v. (callee_less f t v).0) (λ v. (many_less ts t v).0)
-    (sym (reads_append t (callee_trees (simple_callee f)) (map simple_tree ts)) ∙ e), refl)
+call_less f ts t e = (
+  reads_append t (callee_trees f) ts ∙
+      either (any_reads t (callee_trees f)) (any_reads t ts) (any_reads t (callee_trees (simple_callee f))) (any_reads t (map simple_tree ts)) (λ v. (callee_less f t v).0) (λ v. (many_less ts t v).0)
+      (sym (reads_append t (callee_trees (simple_callee f)) (map simple_tree ts)) ∙ e),
+  refl,
+)
 
 number_less : (n : ℕ) (ts : List Tree) → Less ts (number n ∷ [])
 number_less n ts t e = by (or_cases (reads_temp t (number n)) false e)

@@ -1,5 +1,5 @@
 -- Folding makes no count greater, and reads no other globals.
-use Rattle.std.proofs.Common.{arith, ◌≡◌, ℕ, zero, suc, ◌+◌, ◌≤◌, max, Bool, true, false, cond, List, [], ◌∷◌, ◌++◌, map, Option, Some, None, refl, sym, ◌∙◌, ap, subst}
+use Rattle.std.proofs.Common.{arith, ◌≡◌, ℕ, zero, suc, ◌+◌, ◌≤◌, max, Bool, true, false, cond, List, [], ◌∷◌, ◌++◌, map, Option, Some, None, sym, subst}
 use Rattle.mv_num.specs.Words as word
 use Rattle.mv_ir.specs.declared.tree.Tree.{Tree}
 use Rattle.mv_ir.specs.declared.tree.Tree.TheOpen.{Tree-F}
@@ -13,8 +13,8 @@ use Rattle.mv_ir.specs.declared.stm.Stm.TheOpen.{Stm-F}
 use Rattle.mv_ir.specs.declared.stm.Stm.TheOpen as stm
 use Rattle.mv_ir.specs.declared.stm.Stm.TheViews.{roll-Stm}
 use Rattle.mv_ir.specs.declared.stm.Stm.TheFolds.{map-Stm}
-use Rattle.mv_ir.specs.Trees.{unary, binary, divide, node_count, nodes, node_depth, depth, nodes_of_all}
-use Rattle.mv_ir.specs.Measures.{joined, callee_trees, layer_trees, stm_trees, trees, layer_reads, tree_reads, layer_arrays, stm_arrays, layer_size, stm_size, layer_calls, stm_calls, deepest_of}
+use Rattle.mv_ir.specs.Trees.{unary, binary, divide, node_count, nodes, node_depth, depth}
+use Rattle.mv_ir.specs.Measures.{joined, callee_trees, layer_trees, stm_trees, trees, layer_reads, tree_reads, layer_arrays, stm_arrays, layer_size, stm_size, layer_calls, stm_calls}
 use Rattle.mv_ir.proofs.Induction.{Each, TreeChildren, tree_ind, StmChildren, stm_ind, stms_ind}
 use Rattle.mv_ir.proofs.Rolls.{nodes_roll, depth_roll, reads_roll}
 use Rattle.mv_fold.specs.Simple.{constant, number, one_or, two_or, simple_node, simple_tree, jumps, ended, simple_callee, alone, division, choice, simple_layer, simple_stm, simple_code}
@@ -22,7 +22,7 @@ use Rattle.mv_fold.specs.Needed.{needed_layer, needed_stm, needed_code}
 use Rattle.mv_fold.specs.Folded.{IsNoGreater}
 use Rattle.mv_fold.proofs.SimpleKept.{nodes_some, simple_tree_roll, simple_stm_roll}
 use Rattle.mv_fold.proofs.NeededEquations.{needed_stm_roll}
-use Rattle.mv_fold.proofs.Within.{Among, among_append, none_among, Amount, Less, less_refl, less_trans, with, less_with, nothing, less_nothing, less_left, less_right, of_trees, of_trees_append, amount, layer_amount, Within, within_append, within_one, within_many, no_greater}
+use Rattle.mv_fold.proofs.Within.{Among, among_append, none_among, Amount, Less, less_refl, less_trans, with, less_with, less_nothing, less_left, less_right, of_trees, of_trees_append, amount, layer_amount, Within, within_append, within_one, within_many, no_greater}
 
 -- ---- trees
 

@@ -1,5 +1,5 @@
 -- A list that grows by what each item of another gives.
-use Rattle.std.proofs.Common.{◌≡◌, ℕ, ◌+◌, ◌<◌, List, [], ◌∷◌, ◌++◌, length, map, take, get_or, sym, ◌∙◌, ap, subst, append_assoc}
+use Rattle.std.proofs.Common.{◌≡◌, ℕ, ◌+◌, ◌<◌, List, ◌++◌, length, map, take, get_or, sym, ◌∙◌, ap, subst, append_assoc}
 use Rattle.mv_ir.specs.Measures.{joined}
 use Rattle.mv_ir.proofs.Lists.{joined_push}
 

@@ -1,5 +1,5 @@
 -- Leaving out the sets of temporaries that aren't needed keeps the meaning, at no greater cost.
-use Rattle.std.proofs.Common.{arith, ◌≡◌, ℕ, zero, suc, ◌+◌, ◌*◌, ◌<◌, ◌≤◌, Bool, true, false, cond, eqb, ◌||◌, ◌&&◌, List, [], ◌∷◌, ◌++◌, length, map, get_or, Option, Some, None, refl, sym, ◌∙◌, ap, subst, ◌⊎◌, inl, inr, append_assoc}
+use Rattle.std.proofs.Common.{arith, ◌≡◌, ℕ, zero, suc, ◌<◌, ◌≤◌, Bool, true, false, cond, List, [], ◌∷◌, length, map, Option, Some, None, refl, sym, ◌∙◌, ap, subst, ◌⊎◌, inl, inr}
 use Rattle.std.specs.Prelude.{slice_index, slice_set}
 use Rattle.std.proofs.lemmas.List.{length-set, get_or-set_other, set_past}
 use Rattle.std.proofs.lemmas.Grind.{get_or-set_at}
@@ -9,31 +9,31 @@ use Rattle.mv_ir.specs.declared.tree.Tree.{Tree}
 use Rattle.mv_ir.specs.declared.tree.Tree.TheOpen.{Tree-F}
 use Rattle.mv_ir.specs.declared.tree.Tree.TheOpen as tree
 use Rattle.mv_ir.specs.declared.tree.Tree.TheViews.{roll-Tree}
-use Rattle.mv_ir.specs.declared.tree.Tree.TheFolds.{fold-roll-Tree, map-Tree}
+use Rattle.mv_ir.specs.declared.tree.Tree.TheFolds.{map-Tree}
 use Rattle.mv_ir.specs.declared.stm.Callee.{Callee}
 use Rattle.mv_ir.specs.declared.stm.Callee.TheVariants as callee
 use Rattle.mv_ir.specs.declared.stm.Stm.{Stm}
 use Rattle.mv_ir.specs.declared.stm.Stm.TheOpen.{Stm-F}
 use Rattle.mv_ir.specs.declared.stm.Stm.TheOpen as stm
 use Rattle.mv_ir.specs.declared.stm.Stm.TheViews.{roll-Stm}
-use Rattle.mv_ir.specs.declared.stm.Stm.TheFolds.{fold-roll-Stm, map-Stm}
-use Rattle.mv_ir.specs.World.{World, Setting, Frame}
-use Rattle.mv_ir.specs.Trees.{Value, tree_value, unary, binary, value, nodes}
-use Rattle.mv_ir.specs.Outcome.{State, End, Returned, Outcome, Next, Leaves, Restarts, Ends, Run, Meaning, Bound, in_order, then_do, goes_on, spend}
+use Rattle.mv_ir.specs.declared.stm.Stm.TheFolds.{map-Stm}
+use Rattle.mv_ir.specs.World.{Setting, Frame}
+use Rattle.mv_ir.specs.Trees.{Value, tree_value, unary, binary, value}
+use Rattle.mv_ir.specs.Outcome.{Returned, Outcome, Next, Leaves, Restarts, Ends, Meaning, in_order}
 use Rattle.mv_ir.specs.Meaning.{statement, meaning, code_meaning, entry_state, body_end}
 use Rattle.mv_ir.specs.Keeps.{KeepsBody}
 use Rattle.mv_ir.specs.declared.body.Body.{Body}
 use Rattle.mv_ir.specs.Measures.{joined, callee_trees}
-use Rattle.mv_ir.specs.Live.{layer_reads_temp, reads_temp}
+use Rattle.mv_ir.specs.Live.{reads_temp}
 use Rattle.mv_ir.proofs.Induction.{Each, TreeChildren, tree_ind, StmChildren, stm_ind, stms_ind}
 use Rattle.mv_ir.proofs.Rolls.{value_roll, reads_temp_roll}
 use Rattle.mv_ir.proofs.Keeping.{map_append, one_meaning}
-use Rattle.mv_ir.proofs.Relating.{Rel, StateRel, Places, with_next, under, in_block, in_loop, OutcomeRel, RunRel, MeaningRel, nil_rel, append_rel, left_out_rel, places_weaker, block_rel, loop_rel}
+use Rattle.mv_ir.proofs.Relating.{Places, under, in_block, in_loop, OutcomeRel, RunRel, MeaningRel, nil_rel, append_rel, places_weaker, block_rel, loop_rel}
 use Rattle.mv_ir.proofs.RelatedStatements.{SameIn, SameTreesIn, SameCalleeIn, Puts, set_rel, set_global_rel, divide_rel, check_rel, read_rel, write_rel, zero_rel, if_rel, break_rel, back_rel, call_rel, known_rel, return_rel}
 use Rattle.mv_fold.specs.Simple.{alone}
 use Rattle.mv_fold.specs.declared.uses.Use.{Use}
-use Rattle.mv_fold.specs.Needed.{layer_tree_uses, tree_uses, trees_uses, layer_uses, stm_uses, code_uses, counts, used_in, IsNeeded, needed_layer, needed_stm, needed_code}
-use Rattle.mv_fold.proofs.NeededEquations.{tree_uses_roll, stm_uses_roll, needed_stm_roll}
+use Rattle.mv_fold.specs.Needed.{tree_uses, trees_uses, layer_uses, stm_uses, code_uses, IsNeeded, needed_layer, needed_stm, needed_code}
+use Rattle.mv_fold.proofs.NeededEquations.{stm_uses_roll, needed_stm_roll}
 use Rattle.mv_fold.proofs.Reached.{or_left, or_right, eqb_self}
 use Rattle.mv_fold.proofs.Closing.{Among, Closed, left, right, among, for_body, closed}
 

@@ -1,6 +1,5 @@
 -- The search for the needed temporaries finds exactly these.
-use Rattle.std.proofs.Common.{arith, max, is_lt, nat_cmp, Less, Equal, Greater, nat_lt, ◌==◌, ◌≡◌, ℕ, zero, suc, ◌+◌, ◌<◌, ◌≤◌, Bool, true, false, cond, eqb, ◌&&◌, ◌||◌, List, [], ◌∷◌, ◌++◌, length, map, take, set, get_or, Option, Some, None, refl, sym, ◌∙◌, ap, subst, ◌⊎◌, inl, inr, All, Contains, filter, sum_by, Vec, Global, replicate, append_assoc, append-nil}
-use Rattle.std.specs.Prelude.{slice_index_or}
+use Rattle.std.proofs.Common.{arith, max, is_lt, nat_cmp, Less, Equal, Greater, nat_lt, ◌==◌, ◌≡◌, ℕ, zero, suc, ◌+◌, ◌<◌, ◌≤◌, Bool, true, false, cond, eqb, ◌&&◌, ◌||◌, List, [], ◌∷◌, ◌++◌, length, map, take, set, get_or, Option, Some, None, refl, sym, ◌∙◌, ap, subst, ◌⊎◌, inl, inr, All, Contains, filter, sum_by, replicate, append_assoc, append-nil}
 use Rattle.std.proofs.lemmas.Bool.{cases_eq, cases_lt}
 use Rattle.std.proofs.lemmas.List.{get_or_past, take_more, take_all, length_push, length-set, get_or-set_same, get_or-set_other, length-replicate, get_or-replicate, length-append, take-append-le}
 use Rattle.std.proofs.lemmas.List.Elements.{All-more, All-map, All-weaker, All-filter, All-replicate, Contains-push_cases, Contains-append_left, Contains-push, Contains-get_or, filter_more}
@@ -9,7 +8,7 @@ use Rattle.std.specs.Ordering.{ord_max}
 use Rattle.mv_ir.proofs.Keeping.{map_append}
 use Rattle.mv_fold.specs.declared.uses.Use.{Use}
 use Rattle.mv_fold.specs.Needed.{flag, counts, used_in, IsNeeded}
-use Rattle.mv_fold.specs.Reaching.{row, Fits, read_by, AreRows, one_if, IsReached, IsVisited}
+use Rattle.mv_fold.specs.Reaching.{row, Fits, read_by, one_if, IsReached, IsVisited}
 
 -- ---- what is used, by what is read for each row
 
@@ -59,10 +58,10 @@ cons_cases : (y : ℕ) (ys : List ℕ) (t : ℕ) → Contains (y ∷ ys) t → (
 cons_cases y ys t (zero, lt, e) = inl e
 cons_cases y ys t (suc k, lt, e) = inr (k, omega (arith, lt), e)
 
-cons_head : (y : ℕ) (ys : List ℕ) (t : ℕ) → y ≡ t → Contains (y ∷ ys) t
+pub cons_head : (y : ℕ) (ys : List ℕ) (t : ℕ) → y ≡ t → Contains (y ∷ ys) t
 cons_head y ys t e = (0, omega arith, e)
 
-cons_tail : (y : ℕ) (ys : List ℕ) (t : ℕ) → Contains ys t → Contains (y ∷ ys) t
+pub cons_tail : (y : ℕ) (ys : List ℕ) (t : ℕ) → Contains ys t → Contains (y ∷ ys) t
 cons_tail y ys t (k, lt, e) = (suc k, omega (arith, lt), e)
 
 -- the row of one read more

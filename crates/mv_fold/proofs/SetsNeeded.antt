@@ -1,18 +1,15 @@
 -- No set is left of a temporary that no statement reads.
-use Rattle.std.proofs.Common.{arith, ◌≡◌, ℕ, zero, suc, ◌+◌, Bool, true, false, cond, eqb, ◌&&◌, ◌||◌, List, [], ◌∷◌, ◌++◌, map, Option, Some, None, refl, sym, ◌∙◌, ap, subst, append-nil}
+use Rattle.std.proofs.Common.{arith, ◌≡◌, ℕ, ◌+◌, Bool, true, false, cond, eqb, ◌&&◌, ◌||◌, List, [], ◌∷◌, ◌++◌, map, Option, Some, None, refl, sym, ◌∙◌, ap, append-nil}
 use Rattle.mv_ir.specs.declared.tree.Tree.{Tree}
 use Rattle.mv_ir.specs.declared.tree.Tree.TheOpen.{Tree-F}
 use Rattle.mv_ir.specs.declared.tree.Tree.TheOpen as tree
-use Rattle.mv_ir.specs.declared.tree.Tree.TheViews.{roll-Tree}
 use Rattle.mv_ir.specs.declared.tree.Tree.TheFolds.{map-Tree}
-use Rattle.mv_ir.specs.declared.stm.Callee.{Callee}
-use Rattle.mv_ir.specs.declared.stm.Callee.TheVariants as callee
 use Rattle.mv_ir.specs.declared.stm.Stm.{Stm}
 use Rattle.mv_ir.specs.declared.stm.Stm.TheOpen.{Stm-F}
 use Rattle.mv_ir.specs.declared.stm.Stm.TheOpen as stm
 use Rattle.mv_ir.specs.declared.stm.Stm.TheViews.{roll-Stm}
 use Rattle.mv_ir.specs.declared.stm.Stm.TheFolds.{fold-roll-Stm, map-Stm}
-use Rattle.mv_ir.specs.Measures.{joined, callee_trees, layer_trees, stm_trees, trees}
+use Rattle.mv_ir.specs.Measures.{total, joined, callee_trees, layer_trees, stm_trees, trees}
 use Rattle.mv_ir.specs.Live.{layer_reads_temp, reads_temp, any_reads}
 use Rattle.mv_ir.proofs.Induction.{Each, TreeChildren, tree_ind, StmChildren, stm_ind, stms_ind}
 use Rattle.mv_ir.proofs.Rolls.{trees_roll, reads_temp_roll}
@@ -21,7 +18,7 @@ use Rattle.mv_ir.proofs.Lists.{joined_append}
 use Rattle.mv_fold.specs.declared.uses.Use.{Use}
 use Rattle.mv_fold.specs.Simple.{alone}
 use Rattle.mv_fold.specs.Needed.{layer_tree_uses, tree_uses, trees_uses, layer_uses, stm_uses, code_uses, counts, used_in, IsNeeded, needed_layer, needed_stm, needed_code}
-use Rattle.mv_fold.specs.Form.{added, layer_unread, unread}
+use Rattle.mv_fold.specs.Form.{layer_unread, unread}
 use Rattle.mv_fold.proofs.NeededEquations.{tree_uses_roll, stm_uses_roll, needed_stm_roll}
 
 or_assoc : (a b c : Bool) → ((a || b) || c) ≡ (a || (b || c))
@@ -136,13 +133,13 @@ unread_roll : (all : List Tree) (x : Stm-F Stm) → unread all (roll-Stm x) ≡ 
 unfolding unread
 unread_roll all x = fold-roll-Stm ℕ (layer_unread all) x
 
-added_append : (ns ms : List ℕ) → added (ns ++ ms) ≡ added ns + added ms
-added_append [] ms = omega arith
-added_append (n ∷ ns) ms = omega (arith, added_append ns ms)
+total_append : (ns ms : List ℕ) → total (ns ++ ms) ≡ total ns + total ms
+total_append [] ms = omega arith
+total_append (n ∷ ns) ms = omega (arith, total_append ns ms)
 
 module _ (needed : ℕ → Bool) (all : List Tree) (every : (t : ℕ) → needed t ≡ true → any_reads t all ≡ true) where
   abbrev unread_in : List Stm → ℕ
-  unread_in code = added (map (unread all) code)
+  unread_in code = total (map (unread all) code)
 
   abbrev IsReadBy : Stm → Type 0
   IsReadBy s = unread_in (needed_stm needed s) ≡ 0
@@ -150,7 +147,7 @@ module _ (needed : ℕ → Bool) (all : List Tree) (every : (t : ℕ) → needed
   kids_none : (b : List Stm) → Each IsReadBy b → unread_in (needed_code needed b) ≡ 0
   kids_none [] h = refl
   kids_none (s ∷ b) h =
-      omega (arith, h.0, kids_none b h.1, ap added (map_append (unread all) (needed_stm needed s) (needed_code needed b)), added_append (map (unread all) (needed_stm needed s)) (map (unread all) (needed_code needed b)))
+      omega (arith, h.0, kids_none b h.1, ap total (map_append (unread all) (needed_stm needed s) (needed_code needed b)), total_append (map (unread all) (needed_stm needed s)) (map (unread all) (needed_code needed b)))
 
   leaf_none : (x : Stm-F Stm) → layer_unread all (map-Stm Stm ℕ (unread all) x) ≡ 0 → unread_in (alone x) ≡ 0
   leaf_none x e = omega (arith, unread_roll all x, e)
@@ -182,5 +179,5 @@ module _ (needed : ℕ → Bool) (all : List Tree) (every : (t : ℕ) → needed
   none_in : (code : List Stm) → unread_in (needed_code needed code) ≡ 0
   none_in code = kids_none code (stms_ind IsReadBy none code)
 
-pub none_unread : (needed : ℕ → Bool) (code : List Stm) → IsNeeded needed (code_uses code) → added (map (unread (trees (needed_code needed code))) (needed_code needed code)) ≡ 0
+pub none_unread : (needed : ℕ → Bool) (code : List Stm) → IsNeeded needed (code_uses code) → total (map (unread (trees (needed_code needed code))) (needed_code needed code)) ≡ 0
 none_unread needed code h = none_in needed (trees (needed_code needed code)) (λ t e. sym (used_is_read needed t code) ∙ sym (h t) ∙ e) code

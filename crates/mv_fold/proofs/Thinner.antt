@@ -1,5 +1,5 @@
 -- Code whose temporaries are live or written at no other positions than those of other code.
-use Rattle.std.proofs.Common.{arith, ◌≡◌, ℕ, zero, suc, ◌+◌, ◌<◌, ◌≤◌, max, Bool, true, false, cond, not, eqb, ltb, ◌&&◌, ◌||◌, List, [], ◌∷◌, ◌++◌, map, Option, Some, None, refl, sym, ◌∙◌, ap, subst, ◌⊎◌, inl, inr, append-nil, append_assoc}
+use Rattle.std.proofs.Common.{arith, ◌≡◌, ℕ, zero, suc, ◌<◌, ◌≤◌, max, Bool, true, false, cond, not, ltb, ◌&&◌, ◌||◌, List, [], ◌∷◌, ◌++◌, map, Option, refl, sym, ◌∙◌, ap, subst, ◌⊎◌, inl, inr, append-nil, append_assoc}
 use Rattle.std.proofs.lemmas.Bool.{cases_lt}
 use Rattle.mv_ir.specs.declared.tree.Tree.{Tree}
 use Rattle.mv_ir.specs.declared.stm.Stm.{Stm}
@@ -8,7 +8,7 @@ use Rattle.mv_ir.specs.declared.stm.Stm.TheOpen as stm
 use Rattle.mv_ir.specs.declared.stm.Stm.TheViews.{roll-Stm}
 use Rattle.mv_ir.specs.declared.stm.Stm.TheFolds.{map-Stm}
 use Rattle.mv_ir.specs.declared.body.Body.{Body}
-use Rattle.mv_ir.specs.Live.{reads_temp, any_reads, is, Around, Flow, with_after, at_place, around_block, around_loop, live_in_order, marks_in_order, live_at_loop, plain, goes_next, layer_flow, flow, nowhere, live_at_start, all_marks, IsWhole, any, filled, interval, mark_at, HasTemps, count_at, below, greatest_up_to, marks_length, most_intervals}
+use Rattle.mv_ir.specs.Live.{reads_temp, any_reads, is, Around, Flow, with_after, at_place, around_block, around_loop, live_in_order, marks_in_order, live_at_loop, plain, goes_next, layer_flow, flow, nowhere, all_marks, IsWhole, any, filled, interval, mark_at, HasTemps, count_at, below, greatest_up_to, marks_length, most_intervals}
 use Rattle.mv_ir.proofs.Rolls.{flow_roll}
 use Rattle.mv_ir.proofs.Keeping.{map_append}
 use Rattle.mv_fold.proofs.Reached.{or_left, or_right, or_cases, and_cases}
@@ -153,10 +153,10 @@ count_most i j f f' h (t ∷ ts) = omega (arith, cond_most (mark_at (f t) j) (ma
 pub intervals_most : (b b' : Body) (ms : List Bool) → b'.temps ≡ b.temps → ((t : ℕ) → Covers ms (all_marks b t) (all_marks b' t)) → most_intervals b' ≤ most_intervals b
 intervals_most b b' ms e h =
     greatest_within (marks_length (all_marks b' 0)) _ (most_intervals b) (λ i lt.
-      let j = place ms i in
-      let counted = count_most i j (interval b) (interval b') (λ t m. covers_filled ms (all_marks b t) (all_marks b' t) (h t) false false (λ c. c) i m) (below b.temps) in
-      let most = greatest_most (marks_length (all_marks b 0)) (λ k. count_at k (map (interval b) (below b.temps))) j (covers_place ms (all_marks b 0) (all_marks b' 0) (h 0) i lt) in
-      omega (arith, counted, most, ap (λ n. count_at i (map (interval b') (below n))) e))
+    let j = place ms i in
+    let counted = count_most i j (interval b) (interval b') (λ t m. covers_filled ms (all_marks b t) (all_marks b' t) (h t) false false (λ c. c) i m) (below b.temps) in
+    let most = greatest_most (marks_length (all_marks b 0)) (λ k. count_at k (map (interval b) (below b.temps))) j (covers_place ms (all_marks b 0) (all_marks b' 0) (h 0) i lt) in
+    omega (arith, counted, most, ap (λ n. count_at i (map (interval b') (below n))) e))
 
 -- ---- flow: needed says of each temporary whether the second code may read it
 
@@ -199,10 +199,13 @@ module _ (needed : ℕ → Bool) where
   fits_self t r r' h = record { next = λ e. (e, (h.next e).1); leaves = λ n e. (e, (h.leaves n e).1); restarts = λ n e. (e, (h.restarts n e).1) }
 
   pub thinner_trans : (xs ys zs : List Stm) → IsThinner xs ys → IsThinner ys zs → IsThinner xs zs
-  thinner_trans xs ys zs (m, h) (n, k) = (composed m n, record {
-    live = λ t r r' e v. let mid = k.live t r' r' (fits_self t r r' e) v in h.live t r r' e mid.0;
-    marks = λ t r r' e. covers_trans m n _ _ _ (h.marks t r r' e) (k.marks t r' r' (fits_self t r r' e));
-  })
+  thinner_trans xs ys zs (m, h) (n, k) = (
+    composed m n,
+    record {
+      live = λ t r r' e v. let mid = k.live t r' r' (fits_self t r r' e) v in h.live t r r' e mid.0;
+      marks = λ t r r' e. covers_trans m n _ _ _ (h.marks t r r' e) (k.marks t r' r' (fits_self t r r' e));
+    },
+  )
 
   -- ---- lists
 
@@ -233,11 +236,13 @@ module _ (needed : ℕ → Bool) where
   fits_after t r r' b b' h k = record { next = k; leaves = h.leaves; restarts = h.restarts }
 
   pub thinner_append : (xs xs' ys ys' : List Stm) → IsThinner xs xs' → IsThinner ys ys' → IsThinner (xs ++ ys) (xs' ++ ys')
-  thinner_append xs xs' ys ys' (m, h) (n, k) = (m ++ n,
-      subst (λ f. Thins (m ++ n) f (code_flow (xs' ++ ys'))) (sym (flow_append xs ys)) (subst (Thins (m ++ n) (after xs ys)) (sym (flow_append xs' ys')) (record {
-        live = λ t r r' e. h.live t _ _ (fits_after t r r' _ _ e (k.live t r r' e));
-        marks = λ t r r' e. covers_append m _ _ n _ _ (h.marks t _ _ (fits_after t r r' _ _ e (k.live t r r' e))) (k.marks t r r' e);
-      })))
+  thinner_append xs xs' ys ys' (m, h) (n, k) = (
+    m ++ n,
+    subst (λ f. Thins (m ++ n) f (code_flow (xs' ++ ys'))) (sym (flow_append xs ys)) (subst (Thins (m ++ n) (after xs ys)) (sym (flow_append xs' ys')) (record {
+      live = λ t r r' e. h.live t _ _ (fits_after t r r' _ _ e (k.live t r r' e));
+      marks = λ t r r' e. covers_append m _ _ n _ _ (h.marks t _ _ (fits_after t r r' _ _ e (k.live t r r' e))) (k.marks t r r' e);
+    })),
+  )
 
   pub thinner_none : IsThinner [] []
   thinner_none = ([], record { live = λ t r r' e v. e.next v; marks = λ t r r' e. tt })

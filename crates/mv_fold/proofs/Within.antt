@@ -1,12 +1,12 @@
 -- Code that has no more in it than other code, and reads no other globals.
-use Rattle.std.proofs.Common.{arith, ◌≡◌, ℕ, zero, suc, ◌+◌, ◌≤◌, max, List, [], ◌∷◌, ◌++◌, map, refl, sym, ◌∙◌, ap, subst, ◌⊎◌, inl, inr, Contains, append-nil}
+use Rattle.std.proofs.Common.{arith, ◌≡◌, ℕ, ◌+◌, ◌≤◌, max, List, [], ◌∷◌, ◌++◌, map, sym, ◌∙◌, ap, subst, ◌⊎◌, inl, inr, Contains, append-nil}
 use Rattle.std.proofs.lemmas.List.Elements.{Contains-append_left, Contains-append_right, Contains-append_cases}
 use Rattle.mv_ir.specs.declared.tree.Tree.{Tree}
 use Rattle.mv_ir.specs.declared.stm.Stm.{Stm}
 use Rattle.mv_ir.specs.declared.stm.Stm.TheOpen.{Stm-F}
 use Rattle.mv_ir.specs.declared.stm.Stm.TheViews.{roll-Stm}
 use Rattle.mv_ir.specs.declared.stm.Stm.TheFolds.{map-Stm}
-use Rattle.mv_ir.specs.Trees.{nodes, nodes_of_all, depth}
+use Rattle.mv_ir.specs.Trees.{nodes_of_all}
 use Rattle.mv_ir.specs.Measures.{joined, total, layer_trees, stm_trees, trees, tree_reads, scalars_read, layer_arrays, stm_arrays, arrays_read, layer_size, stm_size, statements, layer_calls, stm_calls, calls, tree_nodes, deepest_of, deepest}
 use Rattle.mv_ir.proofs.Rolls.{trees_roll, arrays_roll, size_roll, calls_roll}
 use Rattle.mv_ir.proofs.Keeping.{map_append}

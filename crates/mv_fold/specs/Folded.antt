@@ -5,6 +5,7 @@ use Rattle.mv_ir.specs.declared.body.Body.{Body}
 use Rattle.mv_ir.specs.Keeps.{KeepsBody}
 use Rattle.mv_ir.specs.Measures.{scalars_read, arrays_read, statements, tree_nodes, calls, deepest}
 use Rattle.mv_ir.specs.Live.{IsWhole, HasTemps, most_intervals}
+use Rattle.mv_ir.specs.WellFormed.{IsWellFormed}
 use Rattle.mv_fold.specs.Simple.{simple_code}
 use Rattle.mv_fold.specs.Needed.{code_uses, IsNeeded, needed_code}
 use Rattle.mv_fold.specs.Form.{IsFoldedForm}
@@ -22,14 +23,15 @@ pub record IsNoGreater (code result : List Stm) : Type 0 where
   pub tree_nodes : tree_nodes result ≤ tree_nodes code
   pub calls : calls result ≤ calls code
 
--- The second body means what the first means, at no greater cost, and has the folded form. Where the first writes each
--- temporary before it reads it, and has all its temporaries, so does the second.
+-- The second body means what the first means, at no greater cost, and has the folded form. It is whole, and
+-- well formed, where the first is.
 pub record IsFolded (body result : Body) : Type 0 where
   pub means : KeepsBody body result
   pub form : IsFoldedForm result.code
   pub smaller : IsNoGreater body.code result.code
   pub whole : IsWhole body → IsWhole result
   pub has_temps : HasTemps body → HasTemps result
+  pub well_formed : IsWellFormed body → IsWellFormed result
   pub intervals : most_intervals result ≤ most_intervals body
   pub params : result.params ≡ body.params
   pub temps : result.temps ≡ body.temps

@@ -1,5 +1,5 @@
 -- The temporaries that code needs, and the code without the sets of all others.
-use Rattle.std.specs.Prelude.{ℕ, ◌+◌, ◌≡◌, Bool, true, false, cond, eqb, ◌&&◌, ◌||◌, List, [], ◌∷◌, ◌++◌, map, Option, Some, None, slice_index_or}
+use Rattle.std.specs.Prelude.{ℕ, ◌≡◌, Bool, true, false, cond, eqb, ◌&&◌, ◌||◌, List, [], ◌∷◌, ◌++◌, map, Option, Some, None, slice_index_or}
 use Rattle.mv_ir.specs.declared.tree.Tree.{Tree}
 use Rattle.mv_ir.specs.declared.tree.Tree.TheOpen.{Tree-F}
 use Rattle.mv_ir.specs.declared.tree.Tree.TheOpen as tree

@@ -1,8 +1,8 @@
 -- The search for the needed temporaries: from what the body reads, along what each temporary found is computed from.
-use Rattle.std.specs.Prelude.{ℕ, ◌+◌, ◌≡◌, ◌<◌, ◌≤◌, ◌⊎◌, Bool, true, cond, eqb, List, ◌++◌, map, length, Option, Some, None, All, Contains, filter, sum_by, slice_index_or, Vec}
+use Rattle.std.specs.Prelude.{ℕ, ◌+◌, ◌≡◌, ◌<◌, ◌≤◌, ◌⊎◌, Bool, true, cond, eqb, List, ◌++◌, map, length, Option, Some, None, Contains, filter, sum_by, slice_index_or, Vec}
 use Rattle.std.specs.Global.{Global}
 use Rattle.mv_fold.specs.declared.uses.Use.{Use}
-use Rattle.mv_fold.specs.Needed.{flag, used_in}
+use Rattle.mv_fold.specs.Needed.{flag}
 
 -- the body's row is the first
 abbrev pub row : Option ℕ → ℕ

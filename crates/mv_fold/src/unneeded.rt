@@ -63,11 +63,7 @@ fn put(code: &mut List<Stm>, stm: Stm) -> Result<(), AllocError>
 
 /// The code without the sets of temporaries that aren't flagged.
 #[cycle(needed)]
-pub fn needed_code(
-    alloc: Global,
-    flags: &[bool],
-    code: &List<Stm>,
-) -> Result<List<Stm>, AllocError>
+pub fn needed_code(alloc: Global, flags: &[bool], code: &List<Stm>) -> Result<List<Stm>, AllocError>
     ensures { IfOk result (λ kept. kept ≡ needed_code (flag flags.now) code.now) }
 {
     let mut kept = List::new(alloc);

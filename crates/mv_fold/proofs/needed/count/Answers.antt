@@ -1,7 +1,6 @@
-use Rattle.std.proofs.Common.{arith, ◌≡◌, ◌∙◌, ◌+◌, ◌<◌, ◌^◌, ap, All, subst}
+use Rattle.std.proofs.Common.{arith, ◌^◌, All, subst}
 use Rattle.std.specs.Prelude.{None}
 use Rattle.std.proofs.lemmas.List.{take_all}
-use Rattle.mv_fold.specs.declared.uses.Use.{Use}
 use Rattle.mv_fold.specs.Reaching.{Fits}
 use Rattle.mv_fold.proofs.Reached.{fits_more, greater, greatest}
 use Rattle.mv_fold.proofs.needed.count.Goals as goal

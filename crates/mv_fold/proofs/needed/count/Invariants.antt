@@ -1,4 +1,4 @@
-use Rattle.std.proofs.Common.{ℕ, ◌<◌, ◌^◌, All, take}
+use Rattle.std.proofs.Common.{◌<◌, ◌^◌, All, take}
 use Rattle.mv_fold.specs.Reaching.{Fits}
 use Rattle.mv_fold.proofs.needed.count.Given as goal
 

@@ -1,7 +1,7 @@
-use Rattle.std.proofs.Common.{arith, ◌≡◌, ◌∙◌, ◌+◌, ◌<◌, ℕ, All, [], length, get_or, false, replicate, ap, sym, subst}
+use Rattle.std.proofs.Common.{arith, ◌≡◌, ◌∙◌, ◌+◌, ◌<◌, All, length, get_or, false, ap, sym, subst}
 use Rattle.std.proofs.lemmas.List.{with_items_is, length-replicate}
-use Rattle.mv_fold.specs.Reaching.{IsVisited, IsReached, read_by}
-use Rattle.mv_fold.proofs.Reached.{IsSearched, search_begun, search_on, searched_all, search_below, reached_below, read_fits, reached_none, visited_same}
+use Rattle.mv_fold.specs.Reaching.{read_by}
+use Rattle.mv_fold.proofs.Reached.{IsSearched, search_begun, search_on, searched_all, search_below, reached_below, read_fits, visited_same}
 use Rattle.mv_fold.proofs.needed.needed.Goals as goal
 
 pub visit-requires-clause-fits : goal.visit-requires-clause-fits
@@ -59,8 +59,8 @@ loop-next-preserved c =
     let lt : next < length c.loop-next.order.items = omega (arith, c.loop-next-test.true, c.len.ensures, c.loop-next.order.ok) in
     let below = reached_below count uses c.loop-next.flags.items c.loop-next.order.items next u c.loop-next.invariant lt in
     let read : c.deref-in-loop-next.result.now ≡ read_by (get_or c.loop-next.order.items next u + 1) uses =
-        c.deref-in-loop-next.ensures.value ∙ ap (λ v. v.items) c.index-in-loop-next-2.ensures ∙ rows.each (u + 1) c.index-in-loop-next-2.result.now (omega (arith, rows.long, below, c.index-in-loop-next.ensures)) ∙
-        ap (λ n. read_by (n + 1) uses) c.index-in-loop-next.ensures
+    c.deref-in-loop-next.ensures.value ∙ ap (λ v. v.items) c.index-in-loop-next-2.ensures ∙ rows.each (u + 1) c.index-in-loop-next-2.result.now (omega (arith, rows.long, below, c.index-in-loop-next.ensures)) ∙
+    ap (λ n. read_by (n + 1) uses) c.index-in-loop-next.ensures
     in
     let items = with_items_is c.loop-next.flags flags (c.visit-in-loop-next.auto.flags ∙ c.deref_mut-in-loop-next.ensures.len) in
     subst (λ l. IsSearched count uses l order (next + 1)) (sym items)
