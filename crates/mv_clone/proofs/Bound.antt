@@ -8,7 +8,7 @@ use Rattle.mv_ir.specs.declared.tree.Tree.TheOpen.{Tree-F}
 use Rattle.mv_ir.specs.declared.tree.Tree.TheOpen as tree
 use Rattle.mv_ir.specs.declared.tree.Tree.TheVariants.{rolls-Number, rolls-Temp, rolls-Global, rolls-Function, rolls-Unary, rolls-Binary, rolls-Narrow}
 use Rattle.mv_ir.specs.declared.tree.Tree.TheViews.{roll-Tree}
-use Rattle.mv_ir.specs.declared.tree.Tree.TheFolds.{fold-Tree, fold-roll-Tree, map-Tree}
+use Rattle.mv_ir.specs.declared.tree.Tree.TheFolds.{fold-roll-Tree, map-Tree}
 use Rattle.mv_ir.specs.declared.stm.Array.{Array}
 use Rattle.mv_ir.specs.declared.stm.Callee.{Callee}
 use Rattle.mv_ast.specs.declared.program.Known.{Known}

@@ -1,6 +1,6 @@
 -- The reads of some switches replaced by their values, and what that keeps.
-use Rattle.std.specs.Prelude.{ℕ, ◌≡◌, Bool, not, List, [], ◌∷◌, map, Option, Some, None, is_some}
-use Rattle.std.specs.List.{zip, filter}
+use Rattle.std.specs.Prelude.{ℕ, ◌≡◌, Bool, not, List, map, Option, Some, None, is_some}
+use Rattle.std.specs.List.{filter}
 use Rattle.mv_ir.specs.declared.tree.Tree.{Tree}
 use Rattle.mv_ir.specs.declared.tree.Tree.TheOpen.{Tree-F}
 use Rattle.mv_ir.specs.declared.tree.Tree.TheOpen as tree
@@ -19,6 +19,8 @@ use Rattle.mv_ir.specs.Trees.{found}
 use Rattle.mv_ir.specs.Outcome.{Bound}
 use Rattle.mv_ir.specs.Meaning.{Contents, body_from}
 use Rattle.mv_ir.specs.Keeps.{KeepsCall}
+use Rattle.mv_ir.specs.Live.{IsWhole, interval, most_intervals}
+use Rattle.mv_ir.specs.WellFormed.{IsWellFormed}
 use Rattle.mv_ir.specs.Measures.{scalars_read, arrays_read, statements, tree_nodes, calls, deepest}
 
 -- ---- the replacement
@@ -77,7 +79,7 @@ is_free ps g = not (is_some (found ps g))
 
 -- The second body is the first under the values of its switches. It means in every frame, whatever its switches
 -- are read as there, what the first means where they are read as these values; it reads the same globals but for
--- the switches; and nothing else of it differs.
+-- the switches; and nothing else of it differs, so that it is whole and well formed where the first is.
 pub record IsBound (ps : List (ℕ × ℕ)) (body result : Body) : Type 0 where
   pub means :
       (others : List (ℕ × ℕ)) → ReadsNoMore ps others → (setting : Setting) (depth live : ℕ) (contents : Contents) (args : List ℕ) (bound : Bound) (w : World) →
@@ -88,6 +90,10 @@ pub record IsBound (ps : List (ℕ × ℕ)) (body result : Body) : Type 0 where
   pub statements : statements result.code ≡ statements body.code
   pub tree_nodes : tree_nodes result.code ≡ tree_nodes body.code
   pub calls : calls result.code ≡ calls body.code
+  pub whole : IsWhole body → IsWhole result
+  pub well_formed : IsWellFormed body → IsWellFormed result
+  pub intervals : (t : ℕ) → interval result t ≡ interval body t
+  pub most : most_intervals result ≡ most_intervals body
   pub params : result.params ≡ body.params
   pub temps : result.temps ≡ body.temps
   pub sizes : result.arrays ≡ body.arrays

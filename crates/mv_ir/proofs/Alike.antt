@@ -1,22 +1,20 @@
 -- Statements whose trees have the same values and whose parts keep the meaning keep it, in frames that may read
 -- their switches differently.
-use Rattle.std.proofs.Common.{◌≡◌, ℕ, zero, suc, ◌+◌, ◌*◌, ◌<◌, ◌≤◌, Bool, true, false, cond, eqb, ltb, List, [], ◌∷◌, ◌++◌, map, length, refl, sym, ◌∙◌, subst, ap, arith, Option, Some, None}
+use Rattle.std.proofs.Common.{◌≡◌, ℕ, ◌+◌, ◌*◌, ◌≤◌, Bool, true, false, cond, eqb, ltb, List, [], ◌∷◌, map, length, refl, ◌∙◌, subst, ap, arith, Option, Some}
 use Rattle.std.specs.Prelude.{slice_index, slice_set, slice_index_or}
 use Rattle.mv_ir.specs.declared.tree.Tree.{Tree}
 use Rattle.mv_ir.specs.declared.stm.Array.{Array}
 use Rattle.mv_ir.specs.declared.stm.Callee.{Callee}
 use Rattle.mv_ir.specs.declared.stm.Callee.TheVariants as callee
 use Rattle.mv_ast.specs.declared.program.Known.{Known}
-use Rattle.mv_ir.specs.declared.stm.Stm.{Stm}
 use Rattle.mv_ir.specs.declared.stm.Stm.TheOpen.{Stm-F}
 use Rattle.mv_ir.specs.declared.stm.Stm.TheOpen as stm
-use Rattle.mv_ir.specs.World.{World, Setting, Frame, Answer}
+use Rattle.mv_ir.specs.World.{Setting, Frame}
 use Rattle.mv_ir.specs.Trees.{Value, value, nodes, nodes_of_all, divide}
-use Rattle.mv_ir.specs.Outcome.{State, End, Returned, Outcome, Next, Leaves, Restarts, Ends, Run, Bound, Meaning, spend, now, in_order, block, loop}
-use Rattle.mv_ir.specs.Meaning.{elements, with_temp, with_world, with_global, with_elements, traps, put, Goal, At, goal_of, goal, callee_nodes, call_to, known_end, step, statement, of_tree}
+use Rattle.mv_ir.specs.Outcome.{State, Returned, Outcome, Next, Ends, Run, Meaning, in_order}
+use Rattle.mv_ir.specs.Meaning.{elements, with_temp, with_world, with_global, with_elements, traps, At, goal_of, goal, callee_nodes, call_to, known_end, statement}
 use Rattle.mv_ir.specs.Keeps.{KeepsRun, KeepsMeaning}
-use Rattle.mv_ir.proofs.Rolls.{same_functions}
-use Rattle.mv_ir.proofs.Keeping.{run_refl, run_equal, run_trans, spend_keeps, loop_keeps, block_keeps}
+use Rattle.mv_ir.proofs.Keeping.{run_refl, run_equal, spend_keeps, loop_keeps, block_keeps}
 
 -- the same value, with no more nodes
 pub record SameTree (numbers : List ℕ) (bound bound' : List (ℕ × ℕ)) (t t' : Tree) : Type 0 where

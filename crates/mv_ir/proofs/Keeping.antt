@@ -1,16 +1,13 @@
 -- To keep the meaning is reflexive and transitive, and if the parts keep it, the whole does.
-use Rattle.std.proofs.Common.{◌≡◌, ℕ, zero, suc, ◌+◌, ◌*◌, ◌≤◌, Bool, true, false, cond, eqb, List, [], ◌∷◌, ◌++◌, map, refl, sym, ◌∙◌, subst, ap, arith}
-use Rattle.mv_ir.specs.declared.tree.Tree.{Tree}
+use Rattle.std.proofs.Common.{◌≡◌, ℕ, zero, suc, ◌+◌, ◌≤◌, List, [], ◌∷◌, ◌++◌, map, refl, sym, ◌∙◌, subst, ap, arith}
 use Rattle.mv_ir.specs.declared.stm.Stm.{Stm}
 use Rattle.mv_ir.specs.declared.stm.Stm.TheOpen.{Stm-F}
-use Rattle.mv_ir.specs.declared.stm.Stm.TheOpen as stm
 use Rattle.mv_ir.specs.declared.stm.Stm.TheViews.{roll-Stm}
 use Rattle.mv_ir.specs.declared.stm.Stm.TheFolds.{fold-roll-Stm, map-Stm}
 use Rattle.mv_ir.specs.declared.body.Body.{Body}
 use Rattle.mv_ir.specs.World.{World, Setting, Frame}
-use Rattle.mv_ir.specs.Trees.{value, nodes}
-use Rattle.mv_ir.specs.Outcome.{State, End, More, Stuck, Outcome, Next, Leaves, Restarts, Ends, Run, Call, Bound, Calls, Meaning, spend, now, goes_on, then_do, in_order, block_end, block, turn_end, turn, loop}
-use Rattle.mv_ir.specs.Meaning.{of_tree, statement, meaning, code_meaning, Contents, first_temps, first_arrays, entry_state, body_end, body_from}
+use Rattle.mv_ir.specs.Outcome.{State, Outcome, Next, Leaves, Restarts, Ends, Run, Bound, Meaning, spend, now, goes_on, then_do, in_order, block_end, block, turn_end, turn, loop}
+use Rattle.mv_ir.specs.Meaning.{statement, meaning, code_meaning, Contents, first_temps, first_arrays, entry_state, body_end, body_from}
 use Rattle.mv_ir.specs.Measures.{joined}
 use Rattle.mv_ir.proofs.Induction.{Each}
 use Rattle.mv_ir.specs.Keeps.{KeepsRun, KeepsMeaning, KeepsCode, KeepsCall, KeepsBody}

@@ -1,30 +1,19 @@
--- If each body of a program keeps the meaning, the program does: at each bound, at no greater cost.
-use Rattle.std.proofs.Common.{arith, ◌≡◌, ℕ, zero, suc, ◌+◌, ◌*◌, ◌≤◌, Bool, true, false, cond, eqb, ltb, List, [], ◌∷◌, ◌++◌, map, Option, Some, None, refl, sym, ◌∙◌, subst, ap}
+-- If each function of a program keeps its meaning, they do so together: at each bound, at no greater cost.
+use Rattle.std.proofs.Common.{arith, ℕ, zero, suc, Bool, true, false, cond, eqb, ltb, List, [], ◌∷◌, map, Option, Some, None, refl, sym, ◌∙◌, subst, ap}
 use Rattle.std.specs.Prelude.{slice_get}
 use Rattle.mv_ir.specs.declared.stm.Stm.{Stm}
 use Rattle.mv_ir.specs.declared.stm.Stm.TheOpen.{Stm-F}
 use Rattle.mv_ir.specs.declared.stm.Stm.TheOpen as stm
-use Rattle.mv_ir.specs.declared.stm.Stm.TheViews.{roll-Stm}
 use Rattle.mv_ir.specs.declared.stm.Stm.TheFolds.{map-Stm}
 use Rattle.mv_ir.specs.declared.body.Body.{Body}
 use Rattle.mv_ir.specs.World.{World, Setting, Frame}
-use Rattle.mv_ir.specs.Trees.{nodes}
-use Rattle.mv_ir.specs.Outcome.{State, End, More, Outcome, Next, Leaves, Restarts, Ends, Run, Call, Calls, Bound, Meaning, spend, now, goes_on, then_do, in_order, block_end, block, turn_end, turn, loop}
+use Rattle.mv_ir.specs.Outcome.{State, Run, Call, Bound, Meaning, in_order, block_end, block, loop}
 use Rattle.mv_ir.specs.Meaning.{Goal, Nowhere, Null, At, call_end, made_call, within, call_to, statement, meaning, code_meaning, of_tree, body_end, entry_state, cleared, body_meaning}
-use Rattle.mv_ir.specs.Keeps.{KeepsRun, KeepsCall, KeepsBody}
+use Rattle.mv_ir.specs.Keeps.{KeepsRun, KeepsCall}
+use Rattle.mv_ir.specs.KeptPrograms.{KeepsFunction, KeepsFunctions, KeepsBound}
 use Rattle.mv_ir.specs.Levels.{Code, called, levels, frame_of_call}
 use Rattle.mv_ir.proofs.Induction.{Each, StmChildren, stm_ind, stms_ind}
 use Rattle.mv_ir.proofs.Keeping.{run_refl, spend_keeps, then_keeps, turn_keeps, meaning_roll}
-
-abbrev pub KeepsCalls : Calls → Calls → Type 0
-KeepsCalls c c' = (f : ℕ) (args : List ℕ) (depth live : ℕ) (w : World) → KeepsCall (c f args depth live w) (c' f args depth live w)
-
--- at each bound below
-abbrev pub KeepsBound : Bound → Bound → Type 0
-KeepsBound [] [] = Unit {0}
-KeepsBound [] (c' ∷ b') = ⊥
-KeepsBound (c ∷ b) [] = ⊥
-KeepsBound (c ∷ b) (c' ∷ b') = KeepsCalls c c' × KeepsBound b b'
 
 -- the same statement over callees that keep the meaning
 abbrev pub IsMonotone : Meaning → Type 0
@@ -95,31 +84,23 @@ module _ (setting : Setting) (frame : Frame) where
 
 -- ---- programs
 
--- the same functions with bodies that keep the meaning, which name the same switches
-abbrev pub KeepsProgram : List Code → List Code → Type 0
-KeepsProgram [] [] = Unit {0}
-KeepsProgram [] (c' ∷ p') = ⊥
-KeepsProgram (c ∷ p) [] = ⊥
-KeepsProgram (c ∷ p) (c' ∷ p') =
-    ((c.attributed ≡ c'.attributed) × (c.body.switches ≡ c'.body.switches) × KeepsBody c.body c'.body) × KeepsProgram p p'
-
-abbrev KeepsFound : Option Code → Option Code → Type 0
+abbrev pub KeepsFound : Option Code → Option Code → Type 0
 KeepsFound None None = Unit {0}
 KeepsFound None (Some c') = ⊥
 KeepsFound (Some c) None = ⊥
-KeepsFound (Some c) (Some c') = (c.attributed ≡ c'.attributed) × (c.body.switches ≡ c'.body.switches) × KeepsBody c.body c'.body
+KeepsFound (Some c) (Some c') = KeepsFunction c c'
 
-found_keeps : (p p' : List Code) (f : ℕ) → KeepsProgram p p' → KeepsFound (slice_get p f) (slice_get p' f)
+pub found_keeps : (p p' : List Code) (f : ℕ) → KeepsFunctions p p' → KeepsFound (slice_get p f) (slice_get p' f)
 found_keeps [] [] f h = tt
 found_keeps [] (c' ∷ p') f h = absurd h
 found_keeps (c ∷ p) [] f h = absurd h
 found_keeps (c ∷ p) (c' ∷ p') zero h = h.0
 found_keeps (c ∷ p) (c' ∷ p') (suc f) h = found_keeps p p' f h.1
 
-call_trans : (a b c : Call) → KeepsCall a b → KeepsCall b c → KeepsCall a c
+pub call_trans : (a b c : Call) → KeepsCall a b → KeepsCall b c → KeepsCall a c
 call_trans a b c h k = record { same = h.same ∙ k.same; cheaper = omega (arith, h.cheaper, k.cheaper) }
 
-body_monotone : (setting : Setting) (frame : Frame) (x : Body) (args : List ℕ) (b b' : Bound) (w : World) → KeepsBound b b' → KeepsCall (body_meaning setting frame x args b w) (body_meaning setting frame x args b' w)
+pub body_monotone : (setting : Setting) (frame : Frame) (x : Body) (args : List ℕ) (b b' : Bound) (w : World) → KeepsBound b b' → KeepsCall (body_meaning setting frame x args b w) (body_meaning setting frame x args b' w)
 body_monotone setting frame x args b b' w k =
     let r = code_monotone setting frame x.code b b' k (entry_state cleared x args w) in
     record { same = ap body_end r.same; cheaper = r.cheaper }
@@ -129,12 +110,12 @@ called_keeps setting None None h b b' k args depth live w = record { same = refl
 called_keeps setting None (Some c') h b b' k args depth live w = absurd h
 called_keeps setting (Some c) None h b b' k args depth live w = absurd h
 called_keeps setting (Some c) (Some c') h b b' k args depth live w =
-    let frame = ap (λ a. frame_of_call a c.body.switches depth live w) h.0 ∙ ap (λ l. frame_of_call c'.attributed l depth live w) h.1 in
+    let frame = ap (λ a. frame_of_call a c.body.switches depth live w) h.attributed ∙ ap (λ l. frame_of_call c'.attributed l depth live w) h.switches in
     let first = body_monotone setting (frame_of_call c.attributed c.body.switches depth live w) c.body args b b' w k in
-    let second = h.2 setting (frame_of_call c.attributed c.body.switches depth live w) cleared args b' w in
+    let second = h.meaning setting (frame_of_call c.attributed c.body.switches depth live w) cleared args b' w in
     call_trans _ _ _ first (subst (λ f. KeepsCall (body_meaning setting (frame_of_call c.attributed c.body.switches depth live w) c.body args b' w) (body_meaning setting f c'.body args b' w)) frame second)
 
-pub levels_keep : (setting : Setting) (p p' : List Code) → KeepsProgram p p' → (k : ℕ) → KeepsBound (levels setting p k) (levels setting p' k)
+pub levels_keep : (setting : Setting) (p p' : List Code) → KeepsFunctions p p' → (k : ℕ) → KeepsBound (levels setting p k) (levels setting p' k)
 levels_keep setting p p' h zero = tt
 levels_keep setting p p' h (suc k) =
     let below = levels_keep setting p p' h k in

@@ -1,6 +1,6 @@
 -- One statement and another, from states whose temporaries are related: where the trees have equal values there, and
 -- what the statements write keeps the next relation.
-use Rattle.std.proofs.Common.{arith, ◌≡◌, ℕ, zero, suc, ◌+◌, ◌*◌, ◌≤◌, Bool, true, false, cond, eqb, ltb, List, [], ◌∷◌, ◌++◌, map, length, Option, Some, None, refl, sym, ◌∙◌, subst, ap}
+use Rattle.std.proofs.Common.{arith, ◌≡◌, ℕ, ◌+◌, ◌*◌, ◌≤◌, Bool, true, false, cond, eqb, ltb, List, [], ◌∷◌, map, length, Option, Some, None, refl, ◌∙◌, subst, ap}
 use Rattle.std.specs.Prelude.{slice_index, slice_set, slice_index_or}
 use Rattle.mv_ir.specs.declared.tree.Tree.{Tree}
 use Rattle.mv_ir.specs.declared.stm.Array.{Array}
@@ -12,9 +12,9 @@ use Rattle.mv_ir.specs.declared.stm.Stm.TheOpen.{Stm-F}
 use Rattle.mv_ir.specs.declared.stm.Stm.TheOpen as stm
 use Rattle.mv_ir.specs.World.{World, Setting, Frame, Answer}
 use Rattle.mv_ir.specs.Trees.{Value, value, nodes, nodes_of_all, divide}
-use Rattle.mv_ir.specs.Outcome.{State, End, Returned, Trapped, More, Stuck, Outcome, Next, Leaves, Restarts, Ends, Run, Call, Calls, Bound, Meaning, spend, now, in_order, block, loop}
-use Rattle.mv_ir.specs.Meaning.{elements, with_temp, with_world, with_global, with_elements, traps, put, call_end, Goal, Nowhere, Null, At, goal_of, goal, callee_nodes, made_call, within, call_to, known_end, statement}
-use Rattle.mv_ir.proofs.Relating.{Rel, StateRel, Places, OutcomeRel, RunRel, MeaningRel, in_block, in_loop, block_rel, loop_rel}
+use Rattle.mv_ir.specs.Outcome.{End, Returned, Trapped, More, Stuck, Outcome, Next, Run, Bound, Meaning, spend, in_order}
+use Rattle.mv_ir.specs.Meaning.{elements, with_global, with_elements, put, call_end, Goal, Nowhere, Null, At, goal_of, goal, callee_nodes, made_call, within, call_to, statement}
+use Rattle.mv_ir.proofs.Relating.{Rel, StateRel, Places, OutcomeRel, RunRel, MeaningRel}
 
 -- from states that differ in the temporaries alone
 pub from_temps : (p : Rel) (q : Places) (m m' : Meaning) → ((bound : Bound) (xs ys : List ℕ) (arrays : List (List ℕ)) (w : World) → p xs ys → RunRel q (m bound (record { temps = xs; arrays = arrays; world = w })) (m' bound (record { temps = ys; arrays = arrays; world = w }))) → MeaningRel p q m m'

@@ -28,3 +28,8 @@ abbrev pub KeepsBody : Body → Body → Type 0
 KeepsBody b b' =
     (setting : Setting) (frame : Frame) (contents : Contents) (args : List ℕ) (bound : Bound) (w : World) →
     KeepsCall (body_from setting frame contents b args bound w) (body_from setting frame contents b' args bound w)
+
+-- it is kept by doing nothing, and by one thing after the other
+pub record KeepsOrder : Type 0 where
+  pub reflexive : (b : Body) → KeepsBody b b
+  pub transitive : (a b c : Body) → KeepsBody a b → KeepsBody b c → KeepsBody a c

@@ -1,10 +1,10 @@
 -- What a program's functions do at each bound, from their bodies.
-use Rattle.std.specs.Prelude.{ℕ, zero, suc, ◌+◌, Bool, cond, List, [], ◌∷◌, Option, Some, None, slice_get}
+use Rattle.std.specs.Prelude.{ℕ, zero, suc, ◌+◌, cond, List, [], ◌∷◌, Option, Some, None, slice_get}
 use Rattle.std.specs.List.{zip}
 use Rattle.mv_ir.specs.declared.body.Body.{Body}
 use Rattle.mv_ast.specs.declared.world.Binding.{Binding}
 use Rattle.mv_ir.specs.World.{World, Setting, Frame}
-use Rattle.mv_ir.specs.Outcome.{Stuck, Call, Calls, Bound}
+use Rattle.mv_ir.specs.Outcome.{Stuck, Call, Bound}
 use Rattle.mv_ir.specs.Meaning.{body_meaning}
 
 -- a function's body, and its place among the attributed functions where it is one

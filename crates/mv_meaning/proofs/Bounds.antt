@@ -4,11 +4,12 @@ use Rattle.mv_ast.specs.declared.program.Program.{Program}
 use Rattle.mv_ast.specs.declared.world.Action.{Action}
 use Rattle.mv_ast.specs.declared.world.Stop.TheVariants.{Unfinished}
 use Rattle.mv_ast.specs.Worlds.{World, Outcome, Came, Stopped}
+use Rattle.mv_ast.specs.Starts.{first_world}
 use Rattle.mv_ast.specs.Numbering.{own_numbers}
 use Rattle.mv_meaning.specs.declared.state.Frame.{Frame}
 use Rattle.mv_meaning.specs.declared.state.Flow.{Flow}
 use Rattle.mv_meaning.specs.declared.meant.Meant.{Meant}
-use Rattle.mv_meaning.specs.Meaning.{context_at, meaning_of, run_of_main, first_world, mean}
+use Rattle.mv_meaning.specs.Meaning.{context_at, meaning_of, run_of_main, mean}
 use Rattle.mv_meaning.specs.Growth.{Grew, world_left, work_done, IsContinued, same, further, Extends, with_capped_work}
 use Rattle.mv_meaning.proofs.Growing.{Begins-refl}
 use Rattle.mv_meaning.proofs.RisingStatements.{main_rises}

@@ -2,6 +2,7 @@
 use Rattle.std.specs.Prelude.{◌≡◌, ℕ, ◌%◌, List, [], Result, Ok, Err, slice_get}
 use Rattle.mv_ast.specs.declared.program.Program.{Program}
 use Rattle.mv_ast.specs.declared.world.Action.{Action}
+use Rattle.mv_ast.specs.Starts.{first_world}
 use Rattle.mv_meaning.specs.declared.state.Frame.{Frame}
 use Rattle.mv_meaning.specs.declared.state.Here.{Here}
 use Rattle.mv_meaning.specs.declared.state.State.{State}
@@ -10,7 +11,7 @@ use Rattle.mv_meaning.specs.declared.state.Halt.TheVariants as halt
 use Rattle.mv_meaning.specs.declared.state.Flow.{Flow}
 use Rattle.mv_meaning.specs.declared.meant.End.{End}
 use Rattle.mv_meaning.specs.declared.meant.End.TheVariants.{Exit}
-use Rattle.mv_meaning.specs.Meaning.{first_world, returned_value, run_of_main, end_of_stop}
+use Rattle.mv_meaning.specs.Meaning.{returned_value, run_of_main, end_of_stop}
 use Rattle.mv_meaning.specs.Runs.{world_of, IsOutcome, own_context}
 
 -- a state shows the world in which a program starts, without work

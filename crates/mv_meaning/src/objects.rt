@@ -3,7 +3,8 @@
 ghost use Rattle.std.specs.Prelude.{◌≡◌, ◌+◌, ◌-◌, ◌++◌, ◌∷◌, [], if◌then◌else◌, length, map, drop, replicate, slice_set, OnOk, IfOk};
 ghost use Rattle.mv_ast.specs.Counts.{words_of_size};
 ghost use Rattle.mv_ast.specs.Names.{any_of, names_local};
-ghost use Rattle.mv_meaning.specs.Meaning.{frame_of, first_words, size_of};
+ghost use Rattle.mv_ast.specs.Starts.{first_words};
+ghost use Rattle.mv_meaning.specs.Meaning.{frame_of, size_of};
 ghost use Rattle.mv_meaning.specs.Runs.{capped};
 
 use crate::state::{Frame, State, count, size_at};

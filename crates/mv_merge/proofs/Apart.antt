@@ -1,5 +1,5 @@
 -- A variant determines its parts.
-use Rattle.std.proofs.Common.{◌≡◌, ℕ, List, ap, sym, ◌∙◌}
+use Rattle.std.proofs.Common.{◌≡◌, ℕ, ap, sym, ◌∙◌}
 use Rattle.mv_num.specs.declared.kind.Kind.{Kind}
 use Rattle.mv_ir.specs.declared.tree.Tree.{Tree, out-Tree, Number, Temp, Global, Function, Unary, Binary, Narrow}
 use Rattle.mv_ir.specs.declared.tree.Tree.TheOpen.{Tree-F}

@@ -1,8 +1,9 @@
 // The rows of values under which a variant is taken.
 
+use mv_descriptors::GuardRow;
 use mv_ir::body::{Assignment, Body};
-use mv_num::list::List;
 use mv_num::kind::Kind;
+use mv_num::list::List;
 
 /// A switch's kind, and the values that it may be bound to.
 #[derive(Drop)]
@@ -18,15 +19,8 @@ pub struct Bound {
     pub body: Body,
 }
 
-/// A range of values for each switch of a function. Words that no switch uses are 0.
-#[derive(Clone, Copy, PartialEq, Eq, Debug)]
-pub struct GuardRow {
-    pub low: [u32; 6],
-    pub high: [u32; 6],
-}
-
-/// A row, and the variant that is taken where it holds.
-#[derive(Clone, Copy, PartialEq, Eq, Debug)]
+/// A row, and the place of the body that is taken where it holds.
+#[derive(Clone, Copy, Debug)]
 pub struct Guarded {
     pub body: u32,
     pub row: GuardRow,

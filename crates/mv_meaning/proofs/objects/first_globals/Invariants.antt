@@ -1,5 +1,5 @@
 use Rattle.std.proofs.Common.{◌≡◌, take, map}
-use Rattle.mv_meaning.specs.Meaning.{first_words}
+use Rattle.mv_ast.specs.Starts.{first_words}
 use Rattle.mv_meaning.proofs.objects.first_globals.Given as goal
 
 abbrev pub invariant-loop-global : goal.invariant-loop-global
