@@ -1,8 +1,7 @@
 -- A body without code and parameters.
-use Rattle.std.proofs.Common.{◌≡◌, ℕ, zero, suc, ◌<◌, true, false, ltb, ◌||◌, List, [], ◌∷◌, map, ap, ◌∙◌, sym, subst, arith}
+use Rattle.std.proofs.Common.{◌≡◌, ℕ, zero, suc, ◌<◌, true, false, ltb, ◌||◌, [], ◌∷◌, map, ap, ◌∙◌, sym, subst, arith}
 use Rattle.std.proofs.lemmas.Bool.{ltb-true}
 use Rattle.mv_ir.specs.declared.body.Body.{Body}
-use Rattle.mv_ir.specs.declared.stm.Stm.{Stm}
 use Rattle.mv_ir.specs.Live.{mark_at, live_at_start, all_marks, marks_in_order, flow, nowhere, IsWhole, HasTemps}
 
 pub empty_whole : (b : Body) → b.code ≡ [] → IsWhole b

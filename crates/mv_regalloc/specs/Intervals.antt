@@ -1,11 +1,11 @@
 -- The intervals of a body in the order of their first positions, and the numbers that a scan of them gives.
-use Rattle.std.specs.Prelude.{ℕ, zero, suc, ◌+◌, ◌-◌, ◌≡◌, ◌<◌, ◌≤◌, Bool, true, cond, eqb, ◌&&◌, List, [], ◌∷◌, ◌++◌}
+use Rattle.std.specs.Prelude.{ℕ, zero, suc, ◌+◌, ◌-◌, ◌≡◌, ◌<◌, ◌≤◌, Bool, cond, eqb, ◌&&◌, List, [], ◌∷◌, ◌++◌}
 use Rattle.mv_ir.specs.declared.body.Body.{Body}
 use Rattle.mv_ir.specs.Keeps.{KeepsBody}
-use Rattle.mv_ir.specs.Live.{mark_at, any, marks_length, all_marks, most_intervals, IsWhole, HasTemps}
+use Rattle.mv_ir.specs.Live.{any, marks_length, all_marks, most_intervals, IsWhole, HasTemps}
 use Rattle.mv_ir.specs.WellFormed.{IsWellFormed}
 use Rattle.mv_ir.specs.Measures.{statements, calls, tree_nodes, deepest, scalars_read, arrays_read}
-use Rattle.mv_regalloc.specs.Scan.{Interval, Placed, scan, used, number_of}
+use Rattle.mv_regalloc.specs.Scan.{Interval, Placed, scan}
 use Rattle.mv_regalloc.specs.Rename.{renamed}
 
 -- the first and the last marked position, where the list begins at a position and one is marked
