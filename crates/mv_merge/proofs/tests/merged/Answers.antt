@@ -1,5 +1,4 @@
 use Rattle.std.proofs.Common.{◌≡◌, ℕ, List, [], ◌∷◌, ◌++◌, map, refl, sym, ap, ◌∙◌, subst}
-use Rattle.mv_ir.specs.Measures.{joined}
 use Rattle.mv_ir.specs.Combinations.{combinations, AllApart, AreAllCombinations}
 use Rattle.mv_ir.proofs.AllCombinations.{all_combinations}
 use Rattle.mv_merge.specs.declared.rows.Domain.{Domain}
