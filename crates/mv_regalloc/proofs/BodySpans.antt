@@ -1,12 +1,10 @@
 -- The spans of a body's temporaries, from its rows.
-use Rattle.std.proofs.Common.{arith, ◌≡◌, ℕ, zero, suc, ◌+◌, ◌-◌, ◌<◌, ◌≤◌, Bool, true, false, cond, eqb, ltb, ◌&&◌, ◌||◌, List, [], ◌∷◌, ◌++◌, length, map, refl, sym, ap, ◌∙◌, subst, append-nil, ◌⊎◌, inl, inr}
-use Rattle.std.specs.Prelude.{slice_index, slice_set, replicate}
+use Rattle.std.proofs.Common.{arith, ◌≡◌, ℕ, zero, suc, ◌<◌, ◌≤◌, Bool, true, false, cond, eqb, ltb, ◌||◌, List, [], ◌∷◌, length, map, refl, sym, ap, ◌∙◌, subst, append-nil, ◌⊎◌, inl, inr}
+use Rattle.std.specs.Prelude.{slice_index, replicate}
 use Rattle.std.proofs.lemmas.List.{length-set}
 use Rattle.std.proofs.lemmas.Bool.{cases_eq, cases_lt, lt-ltb, le-ltb, eq-eqb, ne_eqb}
-use Rattle.mv_ir.specs.declared.stm.Stm.{Stm}
 use Rattle.mv_ir.specs.declared.body.Body.{Body}
-use Rattle.mv_ir.specs.Live.{mark_at, any, marks_length, live_in_order, marks_in_order, flow, nowhere, live_at_start, all_marks}
-use Rattle.mv_regalloc.specs.declared.live.Levels.{Levels}
+use Rattle.mv_ir.specs.Live.{mark_at, marks_length, live_in_order, marks_in_order, flow, nowhere, live_at_start, all_marks}
 use Rattle.mv_regalloc.specs.declared.spans.Spans.{Spans}
 use Rattle.mv_regalloc.specs.Rows.{Bits, sets, live_before, rows_in_order, stm_rows, no_sets}
 use Rattle.mv_regalloc.specs.Spanned.{column, from_first, behind_last, Spanned, Adds, AreSpansOf, with_params}

@@ -1,5 +1,5 @@
 -- Renaming changes no count of a body, no depth, and no read of a global.
-use Rattle.std.proofs.Common.{◌≡◌, ℕ, suc, ◌+◌, List, [], ◌∷◌, ◌++◌, map, max, refl, sym, ap, ◌∙◌, Option}
+use Rattle.std.proofs.Common.{◌≡◌, ℕ, suc, ◌+◌, Bool, nat_lt, nat_eq, List, [], ◌∷◌, ◌++◌, length, map, max, refl, sym, ap, ◌∙◌}
 use Rattle.mv_ir.specs.declared.tree.Tree.{Tree}
 use Rattle.mv_ir.specs.declared.tree.Tree.TheOpen.{Tree-F}
 use Rattle.mv_ir.specs.declared.tree.Tree.TheOpen as tree
@@ -14,8 +14,10 @@ use Rattle.mv_ir.specs.declared.stm.Stm.TheViews.{roll-Stm}
 use Rattle.mv_ir.specs.declared.stm.Stm.TheFolds.{map-Stm}
 use Rattle.mv_ir.specs.Trees.{node_count, nodes, node_depth, depth, nodes_of_all}
 use Rattle.mv_ir.specs.Measures.{joined, total, layer_reads, tree_reads, callee_trees, layer_trees, stm_trees, trees, layer_arrays, stm_arrays, arrays_read, layer_size, stm_size, statements, layer_calls, stm_calls, calls, tree_nodes, scalars_read, deepest, deepest_of}
+use Rattle.mv_ir.specs.declared.stm.Array.{Array}
+use Rattle.mv_ir.specs.WellFormed.{layer_targets, stm_targets, layer_named, stm_named, named, known_arguments, layer_arguments, stm_arguments}
 use Rattle.mv_ir.proofs.Induction.{Each, TreeChildren, tree_ind, StmChildren, stm_ind, stms_ind}
-use Rattle.mv_ir.proofs.Rolls.{nodes_roll, depth_roll, reads_roll, trees_roll, arrays_roll, size_roll, calls_roll}
+use Rattle.mv_ir.proofs.Rolls.{nodes_roll, depth_roll, reads_roll, trees_roll, arrays_roll, size_roll, calls_roll, targets_roll, named_roll, arguments_roll}
 use Rattle.mv_regalloc.specs.Rename.{renamed_tree, renamed_callee, renamed_layer, renamed_stm, renamed_code}
 use Rattle.mv_regalloc.proofs.RenamedTrees.{renamed_tree_roll, renamed_stm_roll}
 
@@ -215,6 +217,61 @@ module _ (c : ℕ → ℕ) where
   blind_arrays (stm.Known r k args) = refl
   blind_arrays (stm.Return v) = refl
 
+  length_renamed : (ts : List Tree) → length (map (renamed_tree c) ts) ≡ length ts
+  length_renamed [] = refl
+  length_renamed (t ∷ ts) = ap suc (length_renamed ts)
+
+  blind_targets : (x : Stm-F (List Bool → Bool)) → layer_targets (renamed_layer c x) ≡ layer_targets x
+  blind_targets (stm.Set t v) = refl
+  blind_targets (stm.SetGlobal k v) = refl
+  blind_targets (stm.Divide t o a b) = refl
+  blind_targets (stm.Check a i) = refl
+  blind_targets (stm.Read t a i) = refl
+  blind_targets (stm.Write a i v) = refl
+  blind_targets (stm.Zero l) = refl
+  blind_targets (stm.If t a b) = refl
+  blind_targets (stm.Loop b) = refl
+  blind_targets (stm.Block b) = refl
+  blind_targets (stm.Break n) = refl
+  blind_targets (stm.Back n) = refl
+  blind_targets (stm.Call r f args) = refl
+  blind_targets (stm.Known r k args) = refl
+  blind_targets (stm.Return v) = refl
+
+  blind_named : (x : Stm-F (List Array)) → layer_named (renamed_layer c x) ≡ layer_named x
+  blind_named (stm.Set t v) = refl
+  blind_named (stm.SetGlobal k v) = refl
+  blind_named (stm.Divide t o a b) = refl
+  blind_named (stm.Check a i) = refl
+  blind_named (stm.Read t a i) = refl
+  blind_named (stm.Write a i v) = refl
+  blind_named (stm.Zero l) = refl
+  blind_named (stm.If t a b) = refl
+  blind_named (stm.Loop b) = refl
+  blind_named (stm.Block b) = refl
+  blind_named (stm.Break n) = refl
+  blind_named (stm.Back n) = refl
+  blind_named (stm.Call r f args) = refl
+  blind_named (stm.Known r k args) = refl
+  blind_named (stm.Return v) = refl
+
+  blind_arguments : (x : Stm-F Bool) → layer_arguments (renamed_layer c x) ≡ layer_arguments x
+  blind_arguments (stm.Set t v) = refl
+  blind_arguments (stm.SetGlobal k v) = refl
+  blind_arguments (stm.Divide t o a b) = refl
+  blind_arguments (stm.Check a i) = refl
+  blind_arguments (stm.Read t a i) = refl
+  blind_arguments (stm.Write a i v) = refl
+  blind_arguments (stm.Zero l) = refl
+  blind_arguments (stm.If t a b) = refl
+  blind_arguments (stm.Loop b) = refl
+  blind_arguments (stm.Block b) = refl
+  blind_arguments (stm.Break n) = refl
+  blind_arguments (stm.Back n) = refl
+  blind_arguments (stm.Call r f args) = ap (λ n. nat_lt n 9) (length_renamed args)
+  blind_arguments (stm.Known r k args) = ap (λ n. nat_eq n (known_arguments k)) (length_renamed args)
+  blind_arguments (stm.Return v) = refl
+
   -- ---- of some code
 
   pub same_scalars : (b : List Stm) → scalars_read (renamed_code c b) ≡ scalars_read b
@@ -234,3 +291,12 @@ module _ (c : ℕ → ℕ) where
 
   pub same_calls : (b : List Stm) → calls (renamed_code c b) ≡ calls b
   same_calls b = ap total (blind_all stm_calls layer_calls calls_roll blind_calls b)
+
+  pub same_targets : (b : List Stm) → map stm_targets (renamed_code c b) ≡ map stm_targets b
+  same_targets b = blind_all stm_targets layer_targets targets_roll blind_targets b
+
+  pub same_named : (b : List Stm) → named (renamed_code c b) ≡ named b
+  same_named b = ap joined (blind_all stm_named layer_named named_roll blind_named b)
+
+  pub same_arguments : (b : List Stm) → map stm_arguments (renamed_code c b) ≡ map stm_arguments b
+  same_arguments b = blind_all stm_arguments layer_arguments arguments_roll blind_arguments b

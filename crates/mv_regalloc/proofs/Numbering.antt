@@ -1,16 +1,15 @@
 -- The scan of a body by its table of spans, step by step.
-use Rattle.std.proofs.Common.{arith, ◌≡◌, ℕ, zero, suc, ◌+◌, ◌-◌, ◌<◌, ◌≤◌, Bool, true, false, cond, eqb, ltb, ◌&&◌, ◌||◌, List, [], ◌∷◌, ◌++◌, length, refl, sym, ap, ◌∙◌, subst, append-nil, ◌⊎◌, inl, inr}
-use Rattle.std.specs.Prelude.{slice_index, replicate}
-use Rattle.std.proofs.lemmas.Bool.{cases_eq, le-ltb, eq-eqb, ne_eqb, eqb-true}
-use Rattle.mv_ir.specs.declared.body.Body.{Body}
-use Rattle.mv_ir.specs.Live.{mark_at, any, marks_length, live_at_start, all_marks, marks_in_order, flow, nowhere}
+use Rattle.std.proofs.Common.{arith, ◌≡◌, ℕ, suc, ◌+◌, ◌-◌, ◌<◌, ◌≤◌, Bool, true, false, cond, eqb, ◌&&◌, ◌||◌, List, [], ◌∷◌, ◌++◌, refl, sym, ap, ◌∙◌, subst}
+use Rattle.std.specs.Prelude.{slice_index}
+use Rattle.std.proofs.lemmas.Bool.{eq-eqb, ne_eqb, eqb-true}
+use Rattle.mv_ir.specs.Live.{mark_at, any, marks_length}
 use Rattle.mv_regalloc.specs.declared.spans.Spans.{Spans}
-use Rattle.mv_regalloc.specs.Scan.{Placed, Interval, placed, scan, used}
+use Rattle.mv_regalloc.specs.Scan.{Placed, Interval, placed, scan}
 use Rattle.mv_regalloc.specs.Intervals.{first_from, last_from, span, beginning, by_first, range, given}
 use Rattle.mv_regalloc.specs.Spanned.{from_first, behind_last, AreSpansOf}
 use Rattle.mv_regalloc.specs.Tracked.{Tracks, interval}
 use Rattle.mv_regalloc.proofs.Adding.{none_first}
-use Rattle.mv_regalloc.proofs.Ranges.{first_last, first_below}
+use Rattle.mv_regalloc.proofs.Ranges.{first_last}
 use Rattle.mv_regalloc.proofs.Sweep.{scan_append, by_first_more, beginning_more, given_placed}
 
 -- ---- counted from the end
@@ -105,12 +104,6 @@ module _ (marks : ℕ → List Bool) (n : ℕ) (s : Spans) (h : AreSpansOf marks
   -- ---- the others
 
   module _ (at a t : ℕ) (low : a ≤ t) (high : t < n) (here : at < s.positions) where
-    range_more : range a (t + 1 - a) ≡ range a (t - a) ++ t ∷ []
-    range_more =
-        let e : t + 1 - a ≡ suc (t - a) = omega arith in
-        let f : a + (t - a) ≡ t = omega (arith, low) in
-        ap (range a) e ∙ ap (λ k. range a (t - a) ++ k ∷ []) f
-
     abbrev before : List Interval
     before = beginning marks at (range a (t - a))
 
@@ -152,11 +145,3 @@ position_more marks done ts at =
     let e : at + 1 ≡ suc at = omega arith in
     let f : 0 + at ≡ at = omega arith in
     sym (scan_append done (by_first marks ts 0 at) (beginning marks at ts)) ∙ ap (λ k. scan done (by_first marks ts 0 at ++ beginning marks k ts)) (sym f) ∙ ap (scan done) (sym (by_first_more marks ts 0 at)) ∙ ap (λ k. scan done (by_first marks ts 0 k)) (sym e)
-
-zeros_at : (n t : ℕ) → slice_index (replicate n 0) t ≡ 0
-zeros_at zero t = refl
-zeros_at (suc n) zero = refl
-zeros_at (suc n) (suc t) = zeros_at n t
-
-pub tracks_none : (n : ℕ) → Tracks [] [] (replicate n 0)
-tracks_none n = record { long = refl; busy = λ k at. sym (le-ltb at 0 (omega arith)); numbered = λ t l. zeros_at n t }

@@ -1,9 +1,10 @@
 -- A whole body whose temporaries are renamed by the scan means the same.
-use Rattle.std.proofs.Common.{arith, ◌≡◌, ℕ, ◌-◌, ◌<◌, ◌≤◌, Bool, true, List, refl, sym, ◌∙◌, subst, ◌⊎◌, inl, inr}
+use Rattle.std.proofs.Common.{arith, ◌≡◌, ℕ, ◌-◌, ◌<◌, ◌≤◌, Bool, true, List, [], map, ap, refl, sym, ◌∙◌, subst, ◌⊎◌, inl, inr}
 use Rattle.std.specs.Prelude.{slice_index}
 use Rattle.std.proofs.lemmas.Bool.{cases_lt}
 use Rattle.mv_ir.specs.declared.body.Body.{Body}
 use Rattle.mv_ir.specs.Live.{mark_at, marks_length, all_marks, IsWhole, HasTemps}
+use Rattle.mv_ir.specs.WellFormed.{all_true, all_around, is_there, has_room}
 use Rattle.mv_regalloc.specs.Scan.{Interval, used, number_of, Overlap}
 use Rattle.mv_regalloc.specs.Rename.{renamed, Fits}
 use Rattle.mv_regalloc.specs.Intervals.{span, by_first, range, given, allotted, IsRenamed}
@@ -15,7 +16,7 @@ use Rattle.mv_regalloc.proofs.Stands.{AreSpans, Stands, in_range, listed, by_fir
 use Rattle.mv_regalloc.proofs.Most.{same_long, scan_all_apart, uses_most, enough_temps}
 use Rattle.mv_regalloc.proofs.RenamedKept.{rename_keeps}
 use Rattle.mv_regalloc.proofs.Whole.{stays_whole, has_temps, few_intervals}
-use Rattle.mv_regalloc.proofs.Counts.{same_statements, same_calls, same_nodes, same_deepest, same_scalars, same_arrays}
+use Rattle.mv_regalloc.proofs.Counts.{same_statements, same_calls, same_nodes, same_deepest, same_scalars, same_arrays, same_targets, same_named, same_arguments}
 
 module _ (b : Body) (has : HasTemps b) where
   abbrev marks : ℕ → List Bool
@@ -88,6 +89,15 @@ module _ (b : Body) (has : HasTemps b) where
           intervals = (let a = few_intervals (renamed c n b) in let m = uses_most b has in omega (arith, a, m, e));
           whole = stays_whole c n b f whole;
           has_temps = has_temps c n b f;
+          well_formed = λ w. record {
+            temps = has_temps c n b f;
+            params = w.params;
+            targets = ap (λ l. all_around l []) (same_targets c b.code) ∙ w.targets;
+            named = ap (λ l. all_true (map (is_there b.rooms b.arrays) l)) (same_named c b.code) ∙ w.named;
+            read = ap (λ l. all_true (map (has_room b.rooms) l)) (same_scalars c b.code) ∙ w.read;
+            arguments = ap all_true (same_arguments c b.code) ∙ w.arguments;
+            size = (let x = same_statements c b.code in let y = same_nodes c b.code in let z = w.size in omega (arith, x, y, z));
+          };
           numbers = c;
           changes = refl;
           params = f.params;

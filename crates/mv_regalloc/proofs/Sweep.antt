@@ -1,15 +1,10 @@
--- A scan position by position, and temporary by temporary: what each step adds, and that the numbers stay few.
-use Rattle.std.proofs.Common.{arith, ◌≡◌, ℕ, zero, suc, ◌+◌, ◌-◌, ◌<◌, ◌≤◌, Bool, true, false, cond, eqb, ltb, ◌&&◌, ◌||◌, List, [], ◌∷◌, ◌++◌, refl, sym, ap, ◌∙◌, subst, ◌⊎◌, inl, inr, append_assoc, append-nil}
+-- A scan position by position, and temporary by temporary: what each step adds.
+use Rattle.std.proofs.Common.{arith, ◌≡◌, ℕ, zero, suc, ◌+◌, ◌<◌, ◌≤◌, Bool, true, false, cond, eqb, ltb, ◌&&◌, ◌||◌, List, [], ◌∷◌, ◌++◌, refl, sym, ap, ◌∙◌, ◌⊎◌, inl, inr, append_assoc, append-nil}
 use Rattle.std.proofs.lemmas.Bool.{cases_lt, cases_eq, lt-ltb, le-ltb, eq-eqb, ne_eqb}
-use Rattle.mv_ir.specs.declared.body.Body.{Body}
-use Rattle.mv_ir.specs.Live.{any, marks_length, all_marks, interval, HasTemps}
-use Rattle.mv_regalloc.specs.Scan.{Interval, Placed, busy, has, lowest_free, placed, scan, used, over, InOrder}
+use Rattle.mv_ir.specs.Live.{any}
+use Rattle.mv_regalloc.specs.Scan.{Interval, Placed, busy, has, lowest_free, placed, scan}
 use Rattle.mv_regalloc.specs.Intervals.{first_from, last_from, span, beginning, by_first, range, given}
 use Rattle.mv_regalloc.proofs.Scanned.{free_is_free, free_is_lowest}
-use Rattle.mv_regalloc.proofs.Counted.{scan_used, held}
-use Rattle.mv_regalloc.proofs.Stands.{by_first_order, given_used}
-use Rattle.mv_regalloc.proofs.Most.{count_is, begun_params, enough_temps}
-use Rattle.mv_regalloc.proofs.Whole.{count_low}
 
 pub scan_append : (done : List Placed) (xs ys : List Interval) → scan done (xs ++ ys) ≡ scan (scan done xs) ys
 scan_append done [] ys = refl
@@ -67,33 +62,3 @@ module _ (marks : ℕ → List Bool) where
   -- a parameter that begins at the start is placed as it was given
   pub given_placed : (n : ℕ) → first_from 0 (marks n) ≡ 0 → placed (given marks n) (span marks n) ∷ given marks n ≡ given marks (suc n)
   given_placed n e = ap (λ k. record { interval = span marks n; number = k } ∷ given marks n) (ap (λ at. lowest_free (busy at (given marks n))) e ∙ given_lowest n)
-
--- ---- how many numbers
-
-order_left : (at : ℕ) (xs ys : List Interval) → InOrder at (xs ++ ys) → InOrder at xs
-order_left at [] ys h = tt
-order_left at (x ∷ xs) ys h = (h.0, h.1, order_left x.first xs ys h.2)
-
-over_left : (at : ℕ) (xs ys : List Interval) → over at xs ≤ over at (xs ++ ys)
-over_left at [] ys = omega arith
-over_left at (x ∷ xs) ys = let a = over_left at xs ys in omega (arith, a)
-
-module _ (b : Body) (has_temps : HasTemps b) where
-  abbrev pub others : List Interval
-  others = by_first (all_marks b) (range b.params (b.temps - b.params)) 0 (marks_length (all_marks b 0))
-
-  -- no part of the scan uses more numbers than there are temporaries
-  pub part_used : (xs ys : List Interval) → others ≡ xs ++ ys → used (scan (given (all_marks b) b.params) xs) ≤ b.temps
-  part_used xs ys e =
-      let order = order_left 0 xs ys (subst (InOrder 0) e (by_first_order (all_marks b) (range b.params (b.temps - b.params)) 0 (marks_length (all_marks b 0)))) in
-      let low = given_used (all_marks b) b.params in
-      let le = enough_temps b has_temps in
-      scan_used b.temps 0 (given (all_marks b) b.params) xs order (begun_params b has_temps b.params (omega arith)) (omega (arith, low, le)) few
-    where
-      few : (k : ℕ) → over k xs + held k (given (all_marks b) b.params) ≤ b.temps
-      few k =
-          let a = over_left k xs ys in
-          let s : over k others ≡ over k (xs ++ ys) = ap (over k) e in
-          let c = count_is b has_temps k in
-          let l = count_low (interval b) k b.temps in
-          omega (arith, a, s, c, l)

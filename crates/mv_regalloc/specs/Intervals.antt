@@ -1,10 +1,11 @@
 -- The intervals of a body in the order of their first positions, and the numbers that a scan of them gives.
-use Rattle.std.specs.Prelude.{ℕ, zero, suc, ◌+◌, ◌-◌, ◌≡◌, ◌<◌, ◌≤◌, Bool, true, cond, eqb, ◌&&◌, List, [], ◌∷◌, ◌++◌}
+use Rattle.std.specs.Prelude.{ℕ, zero, suc, ◌+◌, ◌-◌, ◌≡◌, ◌<◌, ◌≤◌, Bool, cond, eqb, ◌&&◌, List, [], ◌∷◌, ◌++◌}
 use Rattle.mv_ir.specs.declared.body.Body.{Body}
 use Rattle.mv_ir.specs.Keeps.{KeepsBody}
-use Rattle.mv_ir.specs.Live.{mark_at, any, marks_length, all_marks, most_intervals, IsWhole, HasTemps}
+use Rattle.mv_ir.specs.Live.{any, marks_length, all_marks, most_intervals, IsWhole, HasTemps}
+use Rattle.mv_ir.specs.WellFormed.{IsWellFormed}
 use Rattle.mv_ir.specs.Measures.{statements, calls, tree_nodes, deepest, scalars_read, arrays_read}
-use Rattle.mv_regalloc.specs.Scan.{Interval, Placed, scan, used, number_of}
+use Rattle.mv_regalloc.specs.Scan.{Interval, Placed, scan}
 use Rattle.mv_regalloc.specs.Rename.{renamed}
 
 -- the first and the last marked position, where the list begins at a position and one is marked
@@ -44,8 +45,8 @@ abbrev pub allotted : Body → List Placed
 allotted b = scan (given (all_marks b) b.params) (by_first (all_marks b) (range b.params (b.temps - b.params)) 0 (marks_length (all_marks b 0)))
 
 -- The second body means what the first means, at no greater cost. It has as many temporaries as there are intervals
--- over one position at most, and no more intervals over a position. It is whole as well, and its temporaries are its
--- own. Nothing but the numbers of the temporaries has changed, and those of the parameters stay: so it has as many
+-- over one position at most, and no more intervals over a position. It is whole as well, its temporaries are its own,
+-- and it is well formed where the first is. Nothing but the numbers of the temporaries has changed, and those of the parameters stay: so it has as many
 -- statements, calls and tree nodes, trees as deep, and reads the same globals.
 pub record IsRenamed (b result : Body) : Type 0 where
   pub keeps : KeepsBody b result
@@ -53,6 +54,7 @@ pub record IsRenamed (b result : Body) : Type 0 where
   pub intervals : most_intervals result ≤ most_intervals b
   pub whole : IsWhole result
   pub has_temps : HasTemps result
+  pub well_formed : IsWellFormed b → IsWellFormed result
   pub numbers : ℕ → ℕ
   pub changes : result ≡ renamed numbers result.temps b
   pub params : (t : ℕ) → t < b.params → numbers t ≡ t

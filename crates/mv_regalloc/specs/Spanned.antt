@@ -1,5 +1,5 @@
 -- The spans of temporaries as they are counted from the end of some code.
-use Rattle.std.specs.Prelude.{ℕ, suc, ◌+◌, ◌-◌, ◌≡◌, ◌<◌, ◌≤◌, Bool, true, cond, List, [], ◌∷◌, ◌++◌, length, map, slice_index, slice_set, zero}
+use Rattle.std.specs.Prelude.{ℕ, suc, ◌≡◌, ◌<◌, Bool, true, cond, List, [], ◌∷◌, ◌++◌, length, map, slice_index, slice_set, zero}
 use Rattle.mv_ir.specs.Live.{mark_at, any, marks_length}
 use Rattle.mv_regalloc.specs.declared.spans.Spans.{Spans}
 use Rattle.mv_regalloc.specs.Rows.{Bits}

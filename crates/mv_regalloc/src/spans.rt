@@ -6,7 +6,7 @@ ghost use Rattle.mv_regalloc.specs.Rows.{sets, with_reads, either_bits, put_bit,
 ghost use Rattle.mv_regalloc.specs.Spanned.{Adds, AreSpansOf, with_params};
 
 use crate::bits::{has, join, put, read_tree, set};
-use crate::live::{live_loop, live_stm, Levels};
+use crate::live::{Levels, live_loop, live_stm};
 use mv_ir::body::Body;
 use mv_ir::stm::Stm;
 use mv_ir::tree::Tree;

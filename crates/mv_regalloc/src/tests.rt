@@ -172,7 +172,10 @@ fn one_tree(alloc: Global, tree: Tree) -> Result<List<Tree>, AllocError> {
 /// Each kind of statement, with the temporaries 0 to 21 in written order.
 fn each_kind(alloc: Global) -> Result<List<Stm>, AllocError> {
     let mut yes = List::new(alloc);
-    yes.push(Stm::SetGlobal(0, Tree::Narrow(Kind::SChar, Boxed::new(alloc, Tree::Temp(9))?)))?;
+    yes.push(Stm::SetGlobal(
+        0,
+        Tree::Narrow(Kind::SChar, Boxed::new(alloc, Tree::Temp(9))?),
+    ))?;
     yes.push(Stm::Break(0))?;
     let mut no = List::new(alloc);
     no.push(Stm::Check(Array::Local(0), Tree::Temp(10)))?;

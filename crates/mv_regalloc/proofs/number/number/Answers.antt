@@ -1,4 +1,4 @@
-use Rattle.std.proofs.Common.{◌≡◌, ◌-◌, ◌<◌, subst, sym, ◌∙◌, ap, arith}
+use Rattle.std.proofs.Common.{◌≡◌, ◌-◌, subst, ◌∙◌, arith}
 use Rattle.mv_ir.specs.Live.{marks_length, all_marks}
 use Rattle.mv_regalloc.specs.Scan.{scan}
 use Rattle.mv_regalloc.specs.Intervals.{by_first, range, given, allotted}

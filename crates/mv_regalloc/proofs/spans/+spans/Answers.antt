@@ -2,7 +2,6 @@ use Rattle.std.proofs.Common.{◌≡◌, ◌-◌, ◌<◌, length, drop, get_or,
 use Rattle.std.proofs.lemmas.Result.{on_ok_weaker}
 use Rattle.mv_regalloc.specs.Rows.{sets, live_before, rows_in_order, stm_rows}
 use Rattle.mv_regalloc.specs.Spanned.{Adds}
-use Rattle.mv_regalloc.proofs.RowEquations.{live_if}
 use Rattle.mv_regalloc.proofs.Adding.{adds_two, code_step, if_adds, loop_adds, block_adds}
 use Rattle.mv_regalloc.proofs.spans.+spans.Goals as goal
 
