@@ -9,3 +9,6 @@ pub mod meaning;
 pub mod scope;
 pub mod signatures;
 pub mod space;
+
+#[cfg(test)]
+mod tests;
