@@ -28,7 +28,7 @@ terminals text (t ∷ ts) = terminal text t ∷ terminals text ts
 --     0 _Bool   1 break   2 case   3 char   4 const   5 continue   6 default   7 do   8 else   9 enum   10 for   11 if   12 int   13 return   14 short
 --     15 signed   16 static   17 switch   18 unsigned   19 void   20 while   21 __attribute__
 
--- the number of a mark in its row, and 255 for what is no mark
+-- the number of a mark, and 255 for what is no mark
 abbrev pub mark_of : Piece → ℕ
 mark_of (Mark n) = n
 mark_of (Keyword n) = 255
@@ -36,7 +36,7 @@ mark_of Name = 255
 mark_of (Number n k) = 255
 mark_of (Chars cs) = 255
 
--- the number of a keyword in its row, and 255 for what is no keyword
+-- the number of a keyword, and 255 for what is no keyword
 abbrev pub keyword_of : Piece → ℕ
 keyword_of (Keyword n) = n
 keyword_of (Mark n) = 255
