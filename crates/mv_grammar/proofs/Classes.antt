@@ -29,10 +29,6 @@ pub none_or : (a b : Bool) → (a || b) ≡ false → (a ≡ false) × (b ≡ fa
 none_or true b h = absurd (cc)
 none_or false b h = (refl, h)
 
-pub or_right : (a b : Bool) → b ≡ true → (a || b) ≡ true
-or_right true b h = refl
-or_right false b h = h
-
 pub and_false : (v : Bool) → (v && false) ≡ false
 and_false true = refl
 and_false false = refl

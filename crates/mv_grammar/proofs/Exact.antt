@@ -70,11 +70,6 @@ pub free_within : (wide narrow : Terminal → Bool) → ((t : Terminal) → wide
 free_within wide narrow h [] k = refl
 free_within wide narrow h (t ∷ ts) k = h t k
 
--- the head stays where what follows it changes
-free_moved : (test : Terminal → Bool) (b : List Terminal) (t : Terminal) (q q' : List Terminal) → Free test (b ++ (t ∷ q)) → Free test (b ++ (t ∷ q'))
-free_moved test [] t q q' h = h
-free_moved test (u ∷ b) t q q' h = h
-
 free_after : {X : Type 0} (more : X → Terminal → Bool) (x y : X) (ts r : List Terminal) → x ≡ y → ts ≡ r → Free (more x) ts → Free (more y) r
 free_after more x y ts r e f h = ap (λ z. next (more z) r) (sym e) ∙ (ap (next (more x)) (sym f) ∙ h)
 
@@ -585,16 +580,13 @@ not_longer A more ts x r g =
 
 -- one phrase, or none, of a chain
 
-once : {X : Type 0} (G : X → X → List Terminal → Type 0) (x y : X) (b : List Terminal) → (L.◌or◌ (L.◌>>=◌ (G x) (L.chain G)) (L.give x)) y b → L.chain G x y b
-once G x y b (inl c) = record { count = suc c.second.count; phrases = record { middle = c.middle; front = c.front; back = c.back; whole = c.whole; first = c.first; second = c.second.phrases } }
-once G x y b (inr c) = record { count = zero; phrases = c }
+pub chain_once : {X : Type 0} (G : X → X → List Terminal → Type 0) (x y : X) (b : List Terminal) → (L.◌or◌ (L.◌>>=◌ (G x) (L.chain G)) (L.give x)) y b → L.chain G x y b
+chain_once G x y b (inl c) = record { count = suc c.second.count; phrases = record { middle = c.middle; front = c.front; back = c.back; whole = c.whole; first = c.first; second = c.second.phrases } }
+chain_once G x y b (inr c) = record { count = zero; phrases = c }
 
 opened_turns : {X : Type 0} (G : X → X → List Terminal → Type 0) (k : ℕ) (x y : X) (b : List Terminal) → turns G k x y b → (L.◌or◌ (L.◌>>=◌ (G x) (L.chain G)) (L.give x)) y b
 opened_turns G zero x y b c = inr c
 opened_turns G (suc k) x y b c = inl (record { middle = c.middle; front = c.front; back = c.back; whole = c.whole; first = c.first; second = record { count = k; phrases = c.second } })
-
-pub chain_once : {X : Type 0} (G : X → X → List Terminal → Type 0) (x y : X) (b : List Terminal) → (L.◌or◌ (L.◌>>=◌ (G x) (L.chain G)) (L.give x)) y b → L.chain G x y b
-chain_once = once
 
 pub chain_opened : {X : Type 0} (G : X → X → List Terminal → Type 0) (x y : X) (b : List Terminal) → L.chain G x y b → (L.◌or◌ (L.◌>>=◌ (G x) (L.chain G)) (L.give x)) y b
 chain_opened G x y b c = opened_turns G c.count x y b c.phrases
@@ -625,7 +617,7 @@ module _ {X : Type 0} (K : ℕ → Type 0) (down : (l m : ℕ) → l ≤ m → K
       (record { value = x; tokens = []; phrase = record { count = zero; phrases = record { value = refl; empty = refl } } }) (λ ts h. let e : length ts < zero = h.1 in omega arith)
   chain_of (suc k) x =
       exact_same (λ l. K l × (l < suc k)) never (inner x) (L.◌or◌ (L.◌>>=◌ (F x) (L.chain F)) (L.give x)) (L.◌or◌ (L.◌>>=◌ (F' x) (L.chain F')) (L.give x)) (L.chain F x) (L.chain F' x)
-      (R.choice test (R.◌>>=◌ (f x) (R.chain test f k)) (R.give x)) more (once F x) (chain_opened F' x)
+      (R.choice test (R.◌>>=◌ (f x) (R.chain test f k)) (R.give x)) more (chain_once F x) (chain_opened F' x)
       (exact_choice (λ l. K l × (l < suc k)) never (inner x) test (more x) (L.◌>>=◌ (F x) (L.chain F)) (L.◌>>=◌ (F' x) (L.chain F')) (L.give x) (L.give x) (R.◌>>=◌ (f x) (R.chain test f k)) (R.give x) more
       (wide x) (narrow x) (leads_then test (F' x) (L.chain F') (leads' x))
       (exact_then (λ l. K l × (l < suc k)) (λ l. K l × (l < k)) never never (inner x) (F x) (F' x) (f x) inner (L.chain F) (L.chain F') (R.chain test f k) more

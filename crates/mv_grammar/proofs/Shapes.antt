@@ -141,11 +141,6 @@ pub eased : {X : Type 0} {K : ℕ → Type 0} (wider : Terminal → Bool) {befor
     → ((x : X) (t : Terminal) → wider t ≡ false → more x t ≡ false) → Exact K before A A' p more → ExactIn K wider before A A' p (λ _. none)
 eased {X} {K} wider {before} {A} {A'} {p} {more} h a = exact_eased K none wider before A A' p more (λ _. none) (λ x t k. refl) (λ x t k m. (h x t m, refl)) a
 
--- the same, where some classes already never follow
-pub eased_in : {X : Type 0} {K : ℕ → Type 0} {never : Terminal → Bool} (wider : Terminal → Bool) {before : Terminal → Bool} {A A' : X → List Terminal → Type 0} {p : List Terminal → Read X} {more : X → Terminal → Bool}
-    → ((x : X) (t : Terminal) → wider t ≡ false → (more x t ≡ false) × (never t ≡ false)) → ExactIn K never before A A' p more → ExactIn K wider before A A' p (λ _. none)
-eased_in {X} {K} {never} wider {before} {A} {A'} {p} {more} h a = exact_eased K never wider before A A' p more (λ _. none) (λ x t k. refl) (λ x t k m. h x t m) a
-
 -- what is exact whatever follows is so where some classes never do
 pub inside : {X : Type 0} {K : ℕ → Type 0} {never before : Terminal → Bool} {A A' : X → List Terminal → Type 0} {p : List Terminal → Read X} {more : X → Terminal → Bool}
     → Exact K before A A' p more → ExactIn K never before A A' p more

@@ -20,7 +20,15 @@ abbrev pub terminals : List ℕ → List Token → List Terminal
 terminals text [] = []
 terminals text (t ∷ ts) = terminal text t ∷ terminals text ts
 
--- the number of a mark in its row, and 255 for what is no mark
+-- The marks by their numbers:
+--     0 (   1 )   2 [   3 ]   4 {   5 }   6 ;   7 ,   8 :   9 ?   10 ~   11 !   12 +   13 -   14 *   15 /   16 %   17 &   18 |   19 ^   20 <   21 >
+--     22 =   23 ++   24 --   25 <<   26 >>   27 <=   28 >=   29 ==   30 !=   31 &&   32 ||   33 +=   34 -=   35 *=   36 /=   37 %=   38 &=   39 |=
+--     40 ^=   41 <<=   42 >>=
+-- The keywords by their numbers:
+--     0 _Bool   1 break   2 case   3 char   4 const   5 continue   6 default   7 do   8 else   9 enum   10 for   11 if   12 int   13 return   14 short
+--     15 signed   16 static   17 switch   18 unsigned   19 void   20 while   21 __attribute__
+
+-- the number of a mark, and 255 for what is no mark
 abbrev pub mark_of : Piece → ℕ
 mark_of (Mark n) = n
 mark_of (Keyword n) = 255
@@ -28,7 +36,7 @@ mark_of Name = 255
 mark_of (Number n k) = 255
 mark_of (Chars cs) = 255
 
--- the number of a keyword in its row, and 255 for what is no keyword
+-- the number of a keyword, and 255 for what is no keyword
 abbrev pub keyword_of : Piece → ℕ
 keyword_of (Keyword n) = n
 keyword_of (Mark n) = 255
