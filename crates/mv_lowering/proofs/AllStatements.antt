@@ -1,35 +1,33 @@
 -- Every statement is lowered correctly, at every bound.
-use Rattle.std.proofs.Common.{◌≡◌, ℕ, zero, suc, ◌+◌, ◌*◌, ◌<◌, ◌≤◌, Bool, true, false, cond, List, [], ◌∷◌, ◌++◌, map, length, max, Option, Some, None, refl, sym, ◌∙◌, subst, ap, arith}
+use Rattle.std.proofs.Common.{◌≡◌, ℕ, zero, suc, ◌+◌, ◌≤◌, Bool, true, false, cond, List, [], ◌∷◌, ◌++◌, map, length, Option, Some, None, refl, sym, ◌∙◌, subst, ap, arith}
 use Rattle.std.specs.Prelude.{not, ◌&&◌, ◌||◌, nat_eq, nat_lt, nat_le}
-use Rattle.std.proofs.lemmas.Bool.{ltb-true, leb-true, cases_eq, eq-eqb, ne_eqb}
+use Rattle.std.proofs.lemmas.Bool.{ltb-true, leb-true, eq-eqb}
 use Rattle.std.proofs.lemmas.List.{length-map}
 use Rattle.mv_ir.specs.declared.stm.Stm.{Stm}
 use Rattle.mv_ir.specs.World.{Setting}
 use Rattle.mv_ir.specs.World as code_world
-use Rattle.mv_ir.specs.Outcome.{State, Returned, Leaves, Ends, Bound, Calls}
+use Rattle.mv_ir.specs.Outcome.{Returned, Leaves, Ends, Bound, Calls}
 use Rattle.mv_ir.proofs.Induction.{Each}
-use Rattle.mv_ast.specs.declared.program.CType.{CType}
 use Rattle.mv_ast.specs.declared.program.Program.{Program}
 use Rattle.mv_ast.specs.declared.program.Known.{Known}
 use Rattle.mv_ast.specs.declared.program.Expr.{Expr}
 use Rattle.mv_ast.specs.declared.program.Stmt.{Stmt, Stmt-F, roll-Stmt, out-roll-Stmt, map-Stmt, ind-Stmt, fold-roll-Stmt}
 use Rattle.mv_ast.specs.declared.program.Stmt.TheOpen as stmt
-use Rattle.mv_ast.specs.declared.program.Arm.{Arm, Arm-F, roll-Arm, map-Arm, fold-roll-Arm}
+use Rattle.mv_ast.specs.declared.program.Arm.{Arm, Arm-F, roll-Arm, fold-roll-Arm}
 use Rattle.mv_ast.specs.Counts.{words_of_size}
 use Rattle.mv_ast.specs.Names.{any_of, names_local}
-use Rattle.mv_ast.specs.Worlds.{World, Outcome, after, bind, give, stop, counted}
+use Rattle.mv_ast.specs.Worlds.{World, after, bind, give, stop, counted}
 use Rattle.mv_ast.specs.declared.world.Stop.TheVariants.{Unfinished}
 use Rattle.mv_meaning.specs.declared.state.Frame.{Frame}
 use Rattle.mv_meaning.specs.declared.state.Flow.{Flow}
 use Rattle.mv_meaning.specs.declared.state.Flow.TheVariants.{Goes, Breaks, Continues, Returns}
-use Rattle.mv_meaning.specs.Meaning.{Evaluation, Context, ArmDenotation, context_with, value_of, optional_value, flow_of, flow_of_all, arm_of, in_order, then_on, after_body, unless_zero, clear_local, switch_flow}
+use Rattle.mv_meaning.specs.Meaning.{Evaluation, Context, ArmDenotation, value_of, optional_value, flow_of, flow_of_all, arm_of, in_order, then_on, after_body, unless_zero, clear_local, switch_flow}
 use Rattle.mv_meaning.proofs.Equations.{flow_of-Block, flow_of-Clear, flow_of-Express, flow_of-If, flow_of-While, flow_of-Do, flow_of-For, flow_of-Switch, flow_of-Break, flow_of-Continue, flow_of-Return, arm_of_lem}
-use Rattle.mv_lowering.specs.Lowered.{Lowering, lower_number}
-use Rattle.mv_lowering.specs.Lower.{lower_expr, is_well_named, all_of, is_callable, is_void}
-use Rattle.mv_lowering.specs.Statements.{Jumps, Placed, repeat, enclosed, test_and_body, LoweredArm, in_arm, in_body, in_sequence, arms_top, values_top, out_of, turn_out, levels}
+use Rattle.mv_lowering.specs.Lower.{lower_expr, is_well_named, all_of}
+use Rattle.mv_lowering.specs.Statements.{Jumps, Placed, repeat, enclosed, test_and_body, LoweredArm, in_arm, in_body, in_sequence, arms_top, out_of, turn_out, levels}
 use Rattle.mv_lowering.specs.LowerStatements.{lower_optional, lower_stmt_layer, lower_arm_layer, lower_stmt, lower_arm, but_for, named, named_option, stmt_named_layer, arm_named_layer, stmt_is_well_formed, arm_is_well_formed}
 use Rattle.mv_lowering.specs.Correct as c
-use Rattle.mv_lowering.proofs.Sequences.{after_zero, under, given}
+use Rattle.mv_lowering.proofs.Sequences.{given}
 use Rattle.mv_lowering.proofs.Expressions.{expr_correct, no, split, denied}
 use Rattle.mv_lowering.proofs.Showing as show
 use Rattle.mv_lowering.proofs.Forms as forms

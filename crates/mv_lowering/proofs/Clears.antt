@@ -1,6 +1,6 @@
 -- Declarations of locals, with their given values.
-use Rattle.std.proofs.Common.{◌≡◌, ℕ, zero, suc, ◌+◌, ◌-◌, ◌*◌, ◌<◌, ◌≤◌, Bool, true, false, cond, eqb, ltb, List, [], ◌∷◌, ◌++◌, map, length, replicate, max, Option, Some, None, refl, sym, ◌∙◌, subst, ap, arith, ◌⊎◌, inl, inr, eq-eqb, append_assoc}
-use Rattle.std.specs.Prelude.{slice_index, slice_set, slice_index_or, slice_get, nat_le, ◌||◌}
+use Rattle.std.proofs.Common.{◌≡◌, ℕ, zero, suc, ◌+◌, ◌-◌, ◌*◌, ◌<◌, ◌≤◌, Bool, true, false, cond, eqb, ltb, List, [], ◌∷◌, ◌++◌, map, length, replicate, Option, Some, None, refl, sym, ◌∙◌, subst, ap, arith, ◌⊎◌, inl, inr, eq-eqb, append_assoc}
+use Rattle.std.specs.Prelude.{slice_index, slice_set, slice_index_or, nat_le, ◌||◌}
 use Rattle.std.proofs.lemmas.List.{get_or-set_same, get_or-set_other, length-set}
 use Rattle.std.proofs.lemmas.Bool.{cases_eq, cases_lt, leb-true, le-leb, lt-ltb, ne_eqb}
 use Rattle.mv_ir.specs.declared.tree.Tree.{Tree}
@@ -10,7 +10,7 @@ use Rattle.mv_ir.specs.declared.stm.Array.TheVariants as array
 use Rattle.mv_ast.specs.declared.program.Program.{Program}
 use Rattle.mv_ast.specs.Counts.{words_of_size}
 use Rattle.mv_ast.specs.Plans.{word_at, with_word}
-use Rattle.mv_ast.specs.Worlds.{World, Outcome, Came, Stopped, after, and_then, bind, give, counted}
+use Rattle.mv_ast.specs.Worlds.{World, Outcome, Came, Stopped, after, and_then, bind, give}
 use Rattle.mv_meaning.specs.declared.state.Frame.{Frame}
 use Rattle.mv_meaning.specs.declared.state.Flow.{Flow}
 use Rattle.mv_meaning.specs.declared.state.Flow.TheVariants.{Goes}
@@ -21,11 +21,10 @@ use Rattle.mv_ir.specs.World as code_world
 use Rattle.mv_ir.specs.Outcome.{State, Next, Run, Bound, spend, then_do}
 use Rattle.mv_ir.specs.Outcome as ir
 use Rattle.mv_ir.specs.Trees.{nodes}
-use Rattle.mv_ir.specs.Meaning.{code_meaning, meaning, with_temp, with_elements, elements, traps}
+use Rattle.mv_ir.specs.Meaning.{meaning, with_temp, with_elements, elements, traps}
 use Rattle.mv_ir.proofs.Keeping.{map_append, in_order_append, one_meaning}
 use Rattle.mv_lowering.specs.Lowered.{Lowering, number, set, write}
 use Rattle.mv_lowering.specs.Statements.{Jumps, store_word, clear_words, store_zeros, store_values, values_top, lower_clear, out_of}
-use Rattle.mv_lowering.specs.Statements as statements
 use Rattle.mv_lowering.specs.Correct as c
 use Rattle.mv_lowering.specs.Correct.{ran, IsScalar, IsArrayLocal}
 use Rattle.mv_lowering.proofs.Running as run
@@ -100,8 +99,21 @@ module _ (p : Program) (setting : Setting) (frame : code_world.Frame) (own local
 
   rebound : (held : Held) (b b' : Bound) (f : Frame) (w : World) (s : State) → c.Shows p setting frame own locals sizes held locals (λ k. 0) room b f w s → c.Shows p setting frame own locals sizes held locals (λ k. 0) room b' f w s
   rebound held b b' f w s h = record {
-    world = h.world; depth = h.depth; live = h.live; function = h.function; switches = h.switches; each = h.each; elements = h.elements; untouched = h.untouched;
-    words = h.words; size = h.size; above = h.above; below = h.below; temps = h.temps; arrays = h.arrays; globals = h.globals;
+    world = h.world;
+    depth = h.depth;
+    live = h.live;
+    function = h.function;
+    switches = h.switches;
+    each = h.each;
+    elements = h.elements;
+    untouched = h.untouched;
+    words = h.words;
+    size = h.size;
+    above = h.above;
+    below = h.below;
+    temps = h.temps;
+    arrays = h.arrays;
+    globals = h.globals;
   }
 
   -- ---- into a declaration and out of it
@@ -139,9 +151,10 @@ module _ (p : Program) (setting : Setting) (frame : code_world.Frame) (own local
 
       held_here : (k : ℕ) (both : List ℕ × List ℕ) → only l both0 k ≡ Some both → (k ≡ l) ⊎ (k ≡ l → ⊥) → (slice_index_or (slice_set f.locals l ws) k [] ≡ both.0) × (slice_index_or s.arrays k [] ≡ both.1)
       held_here k both e (inl eq) =
-          let same : both0 ≡ both = some_same (sym (ap (only l both0) eq ∙ only_here l both0) ∙ e) in
-          (ap (λ j. slice_index_or (slice_set f.locals l ws) j []) eq ∙ get_or-set_same f.locals l ws [] inside ∙ ap (λ (q : List ℕ × List ℕ). q.0) same,
-          ap (λ j. slice_index_or s.arrays j []) eq ∙ ap (λ (q : List ℕ × List ℕ). q.1) same)
+          let same : both0 ≡ both = some_same (sym (ap (only l both0) eq ∙ only_here l both0) ∙ e) in (
+            ap (λ j. slice_index_or (slice_set f.locals l ws) j []) eq ∙ get_or-set_same f.locals l ws [] inside ∙ ap (λ (q : List ℕ × List ℕ). q.0) same,
+            ap (λ j. slice_index_or s.arrays j []) eq ∙ ap (λ (q : List ℕ × List ℕ). q.1) same,
+          )
         where
           some_same : Some both0 ≡ Some both → both0 ≡ both
           some_same q = ap (λ (o : Option (List ℕ × List ℕ)). unwrapped o) q
@@ -197,10 +210,11 @@ module _ (p : Program) (setting : Setting) (frame : code_world.Frame) (own local
 
       held_here : (k : ℕ) (both : List ℕ × List ℕ) → only l both1 k ≡ Some both → (k ≡ l) ⊎ (k ≡ l → ⊥) → (slice_index_or (with_word f.locals l i v) k [] ≡ both.0) × (slice_index_or (slice_set s.arrays l (slice_set gs i v)) k [] ≡ both.1)
       held_here k both e (inl eq) =
-          let same : both1 ≡ both = some_same (sym (ap (only l both1) eq ∙ only_here l both1) ∙ e) in
-          (ap (λ j. slice_index_or (with_word f.locals l i v) j []) eq ∙ ap (λ (xs : List (List ℕ)). slice_index_or xs l []) (with_word_is f.locals l i v) ∙
-          get_or-set_same f.locals l (slice_set (slice_index_or f.locals l []) i v) [] inside ∙ ap (λ xs. slice_set xs i v) was.0 ∙ ap (λ (q : List ℕ × List ℕ). q.0) same,
-          ap (λ j. slice_index_or (slice_set s.arrays l (slice_set gs i v)) j []) eq ∙ get_or-set_same s.arrays l (slice_set gs i v) [] inside_code ∙ ap (λ (q : List ℕ × List ℕ). q.1) same)
+          let same : both1 ≡ both = some_same (sym (ap (only l both1) eq ∙ only_here l both1) ∙ e) in (
+            ap (λ j. slice_index_or (with_word f.locals l i v) j []) eq ∙ ap (λ (xs : List (List ℕ)). slice_index_or xs l []) (with_word_is f.locals l i v) ∙
+                get_or-set_same f.locals l (slice_set (slice_index_or f.locals l []) i v) [] inside ∙ ap (λ xs. slice_set xs i v) was.0 ∙ ap (λ (q : List ℕ × List ℕ). q.0) same,
+            ap (λ j. slice_index_or (slice_set s.arrays l (slice_set gs i v)) j []) eq ∙ get_or-set_same s.arrays l (slice_set gs i v) [] inside_code ∙ ap (λ (q : List ℕ × List ℕ). q.1) same,
+          )
         where
           some_same : Some both1 ≡ Some both → both1 ≡ both
           some_same q = ap (λ (o : Option (List ℕ × List ℕ)). unwrapped o) q
@@ -325,9 +339,10 @@ module _ (p : Program) (setting : Setting) (frame : code_world.Frame) (own local
 
       held_here : (k : ℕ) (both : List ℕ × List ℕ) → only l both1 k ≡ Some both → (k ≡ l) ⊎ (k ≡ l → ⊥) → (slice_index_or f.locals k [] ≡ both.0) × (slice_index_or (slice_set s.arrays l gs') k [] ≡ both.1)
       held_here k both e (inl eq) =
-          let same : both1 ≡ both = some_same (sym (ap (only l both1) eq ∙ only_here l both1) ∙ e) in
-          (ap (λ j. slice_index_or f.locals j []) eq ∙ (h.untouched l (ws, gs) (only_here l (ws, gs))).0 ∙ ap (λ (q : List ℕ × List ℕ). q.0) same,
-          ap (λ j. slice_index_or (slice_set s.arrays l gs') j []) eq ∙ get_or-set_same s.arrays l gs' [] inside_code ∙ ap (λ (q : List ℕ × List ℕ). q.1) same)
+          let same : both1 ≡ both = some_same (sym (ap (only l both1) eq ∙ only_here l both1) ∙ e) in (
+            ap (λ j. slice_index_or f.locals j []) eq ∙ (h.untouched l (ws, gs) (only_here l (ws, gs))).0 ∙ ap (λ (q : List ℕ × List ℕ). q.0) same,
+            ap (λ j. slice_index_or (slice_set s.arrays l gs') j []) eq ∙ get_or-set_same s.arrays l gs' [] inside_code ∙ ap (λ (q : List ℕ × List ℕ). q.1) same,
+          )
         where
           some_same : Some both1 ≡ Some both → both1 ≡ both
           some_same q = ap (λ (o : Option (List ℕ × List ℕ)). unwrapped o) q

@@ -163,9 +163,10 @@ module _ (p : Program) (setting : Setting) (frame : code_world.Frame) (function 
         each = λ k lk skalar. h.each k lk skalar ∙ word_is f.locals k 0 ∙ sym (ap (λ xs. slice_index xs 0) (get_or-set_other f.locals l k (slice_set ws i v) [] (λ eq. isa.1.0 (ap sizes (sym eq) ∙ skalar.0)))) ∙
             sym (word_is (with_word f.locals l i v) k 0 ∙ ap (λ (xs : List (List ℕ)). slice_index (slice_index_or xs k []) 0) (with_word_is f.locals l i v));
         elements = λ k lk arr. by k lk arr (cases_eq k l) ∙ sym (ap (λ (xs : List (List ℕ)). slice_index_or xs k []) (with_word_is f.locals l i v));
-        untouched = λ k both e. let ne : k ≡ l → ⊥ = λ eq. held_is_none (sym isa.1.1 ∙ ap held (sym eq) ∙ e) in
-            (ap (λ (xs : List (List ℕ)). slice_index_or xs k []) (with_word_is f.locals l i v) ∙ get_or-set_other f.locals l k (slice_set ws i v) [] ne ∙ (h.untouched k both e).0,
-            get_or-set_other s.arrays l k (slice_set (slice_index_or s.arrays l []) i v) [] ne ∙ (h.untouched k both e).1);
+        untouched = λ k both e. let ne : k ≡ l → ⊥ = λ eq. held_is_none (sym isa.1.1 ∙ ap held (sym eq) ∙ e) in (
+          ap (λ (xs : List (List ℕ)). slice_index_or xs k []) (with_word_is f.locals l i v) ∙ get_or-set_other f.locals l k (slice_set ws i v) [] ne ∙ (h.untouched k both e).0,
+          get_or-set_other s.arrays l k (slice_set (slice_index_or s.arrays l []) i v) [] ne ∙ (h.untouched k both e).1,
+        );
         words = λ k lk. ap (λ (xs : List (List ℕ)). length (slice_index_or xs k [])) (with_word_is f.locals l i v) ∙ long k lk (cases_eq k l);
         size = ap (λ (xs : List (List ℕ)). length xs) (with_word_is f.locals l i v) ∙ length-set f.locals l (slice_set ws i v) ∙ h.size;
         above = h.above;

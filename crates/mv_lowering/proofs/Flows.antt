@@ -1,10 +1,9 @@
 -- Each form of statement: if its parts are lowered correctly, so is the whole.
-use Rattle.std.proofs.Common.{◌≡◌, ℕ, zero, suc, ◌+◌, ◌*◌, ◌<◌, ◌≤◌, Bool, true, false, cond, eqb, List, [], ◌∷◌, ◌++◌, map, max, Option, Some, None, refl, sym, ◌∙◌, subst, ap, arith}
+use Rattle.std.proofs.Common.{◌≡◌, ℕ, zero, suc, ◌+◌, ◌*◌, ◌≤◌, Bool, true, false, cond, eqb, List, [], ◌∷◌, ◌++◌, map, Option, Some, None, refl, sym, ◌∙◌, subst, ap, arith}
 use Rattle.mv_ir.specs.declared.tree.Tree.{Tree}
 use Rattle.mv_ir.specs.declared.stm.Stm.{Stm}
 use Rattle.mv_ir.specs.declared.stm.Stm.TheOpen as stm
 use Rattle.mv_ast.specs.declared.program.Program.{Program}
-use Rattle.mv_ast.specs.declared.world.Stop.{Stop}
 use Rattle.mv_ast.specs.declared.world.Stop.TheVariants.{Unfinished}
 use Rattle.mv_ast.specs.Worlds.{World, Outcome, Came, Stopped, after, and_then, bind, give, stop, counted}
 use Rattle.mv_meaning.specs.declared.state.Frame.{Frame}
@@ -24,7 +23,6 @@ use Rattle.mv_lowering.specs.Statements as statements
 use Rattle.mv_lowering.specs.Correct as c
 use Rattle.mv_lowering.specs.Correct.{ran}
 use Rattle.mv_lowering.proofs.Running as run
-use Rattle.mv_lowering.proofs.Sequences as sequences
 
 -- what follows a part of a turn: it goes on where the part goes on or continues
 abbrev pub through : Flow → Evaluation Flow → Evaluation Flow
@@ -61,14 +59,40 @@ module _ (p : Program) (setting : Setting) (frame : code_world.Frame) (own local
   -- what a state shows doesn't depend on the bound
   pub at_no_bound : (b : Bound) (f : Frame) (w : World) (s : State) → statements.Shows p setting frame own locals sizes room void b f w s → Shows f w s
   at_no_bound b f w s h = record {
-    world = h.world; depth = h.depth; live = h.live; function = h.function; switches = h.switches; each = h.each; elements = h.elements; untouched = h.untouched; words = h.words;
-    size = h.size; above = h.above; below = h.below; temps = h.temps; arrays = h.arrays; globals = h.globals;
+    world = h.world;
+    depth = h.depth;
+    live = h.live;
+    function = h.function;
+    switches = h.switches;
+    each = h.each;
+    elements = h.elements;
+    untouched = h.untouched;
+    words = h.words;
+    size = h.size;
+    above = h.above;
+    below = h.below;
+    temps = h.temps;
+    arrays = h.arrays;
+    globals = h.globals;
   }
 
   pub at_bound : (b : Bound) (f : Frame) (w : World) (s : State) → Shows f w s → statements.Shows p setting frame own locals sizes room void b f w s
   at_bound b f w s h = record {
-    world = h.world; depth = h.depth; live = h.live; function = h.function; switches = h.switches; each = h.each; elements = h.elements; untouched = h.untouched; words = h.words;
-    size = h.size; above = h.above; below = h.below; temps = h.temps; arrays = h.arrays; globals = h.globals;
+    world = h.world;
+    depth = h.depth;
+    live = h.live;
+    function = h.function;
+    switches = h.switches;
+    each = h.each;
+    elements = h.elements;
+    untouched = h.untouched;
+    words = h.words;
+    size = h.size;
+    above = h.above;
+    below = h.below;
+    temps = h.temps;
+    arrays = h.arrays;
+    globals = h.globals;
   }
 
   -- ---- runs that go on

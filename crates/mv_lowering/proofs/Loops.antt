@@ -1,9 +1,9 @@
 -- The three kinds of loops, at every bound.
-use Rattle.std.proofs.Common.{◌≡◌, ℕ, zero, suc, ◌+◌, ◌*◌, ◌<◌, ◌≤◌, Bool, true, false, cond, eqb, List, [], ◌∷◌, ◌++◌, Option, refl, sym, ◌∙◌, subst, ap, arith}
+use Rattle.std.proofs.Common.{◌≡◌, ℕ, ◌+◌, ◌≤◌, Bool, true, false, cond, eqb, List, [], ◌∷◌, ◌++◌, Option, refl, ◌∙◌, arith}
 use Rattle.mv_ir.specs.declared.stm.Stm.{Stm}
 use Rattle.mv_ir.specs.declared.stm.Stm.TheOpen as stm
 use Rattle.mv_ast.specs.declared.program.Program.{Program}
-use Rattle.mv_ast.specs.Worlds.{World, Outcome, Came, Stopped, after, and_then, bind, give, stop, counted}
+use Rattle.mv_ast.specs.Worlds.{World, bind, give}
 use Rattle.mv_meaning.specs.declared.state.Frame.{Frame}
 use Rattle.mv_meaning.specs.declared.state.Flow.{Flow}
 use Rattle.mv_meaning.specs.declared.state.Flow.TheVariants.{Goes, Breaks, Continues, Returns}
@@ -15,7 +15,7 @@ use Rattle.mv_ir.specs.Outcome as ir
 use Rattle.mv_ir.proofs.Keeping.{one_meaning}
 use Rattle.mv_lowering.specs.Lowered.{Lowering}
 use Rattle.mv_lowering.specs.Statements.{Jumps, in_body, break, enclosed, test_and_body, out_of, turn_out}
-use Rattle.mv_lowering.proofs.Sequences.{after_zero, under, assoc, given}
+use Rattle.mv_lowering.proofs.Sequences.{under, assoc, given}
 use Rattle.mv_lowering.proofs.Flows as flows
 use Rattle.mv_lowering.proofs.Flows.{through}
 

@@ -1,12 +1,12 @@
 -- `switch`: the tests of its labels, and its arms with their fall through.
-use Rattle.std.proofs.Common.{◌≡◌, ℕ, zero, suc, ◌+◌, ◌*◌, ◌<◌, ◌≤◌, Bool, true, false, cond, eqb, List, [], ◌∷◌, ◌++◌, length, drop, max, Option, Some, refl, sym, ◌∙◌, subst, ap, arith, append_assoc, map, None}
+use Rattle.std.proofs.Common.{◌≡◌, ℕ, zero, suc, ◌+◌, ◌*◌, ◌<◌, ◌≤◌, Bool, true, false, cond, eqb, List, [], ◌∷◌, ◌++◌, length, drop, Option, Some, refl, sym, ◌∙◌, subst, ap, arith, append_assoc, map, None}
 use Rattle.std.specs.Prelude.{slice_index}
 use Rattle.std.proofs.lemmas.List.{get_or-set_same}
 use Rattle.mv_ir.specs.declared.tree.Tree.{Tree}
 use Rattle.mv_ir.specs.declared.stm.Stm.{Stm}
 use Rattle.mv_ir.specs.declared.stm.Stm.TheOpen as stm
 use Rattle.mv_ast.specs.declared.program.Program.{Program}
-use Rattle.mv_ast.specs.Worlds.{World, Outcome, Came, Stopped, after, and_then, bind, give, counted}
+use Rattle.mv_ast.specs.Worlds.{World, Outcome, Came, Stopped, after, and_then, bind}
 use Rattle.mv_meaning.specs.declared.state.Frame.{Frame}
 use Rattle.mv_meaning.specs.declared.state.Flow.{Flow}
 use Rattle.mv_meaning.specs.declared.state.Flow.TheVariants.{Goes, Breaks, Continues, Returns}
@@ -17,10 +17,10 @@ use Rattle.mv_ir.specs.Outcome.{State, Returned, Next, Leaves, Ends, Run, Bound,
 use Rattle.mv_ir.specs.Outcome as ir
 use Rattle.mv_ir.specs.Trees.{nodes, flag}
 use Rattle.mv_ir.specs.Trees as ir_tree
-use Rattle.mv_ir.specs.Meaning.{code_meaning, meaning, with_temp}
+use Rattle.mv_ir.specs.Meaning.{meaning, with_temp}
 use Rattle.mv_ir.proofs.Keeping.{map_append, in_order_append, one_meaning}
 use Rattle.mv_lowering.specs.Lowered.{Lowering, number, temp, binary, set, choose}
-use Rattle.mv_lowering.specs.Statements.{Jumps, LoweredArm, raised, in_arm, break, enclosed, test_labels, test_arms, arm_place, nested, arms_top, lower_switch, out_of}
+use Rattle.mv_lowering.specs.Statements.{Jumps, LoweredArm, raised, in_arm, break, enclosed, test_labels, test_arms, arm_place, nested, lower_switch, out_of}
 use Rattle.mv_lowering.specs.Correct as c
 use Rattle.mv_lowering.specs.Correct.{ran}
 use Rattle.mv_lowering.proofs.Running as run

@@ -1,5 +1,5 @@
 -- The lowering of statements (C11 6.8): a fold that gives, for each, its code where it stands.
-use Rattle.std.specs.Prelude.{ℕ, Bool, true, false, not, ◌&&◌, ◌||◌, List, [], map, length, Option, Some, None, cond, nat_eq, nat_lt, nat_le}
+use Rattle.std.specs.Prelude.{ℕ, Bool, true, not, ◌&&◌, ◌||◌, map, length, Option, Some, None, nat_eq, nat_lt, nat_le}
 use Rattle.mv_ast.specs.declared.program.Program.{Program}
 use Rattle.mv_ast.specs.declared.program.Expr.{Expr}
 use Rattle.mv_ast.specs.declared.program.Stmt.{Stmt, Stmt-F, fold-Stmt}
@@ -9,7 +9,7 @@ use Rattle.mv_ast.specs.Counts.{words_of_size}
 use Rattle.mv_ast.specs.Names.{any_of, names_local}
 use Rattle.mv_lowering.specs.Lowered.{Lowering, lower_number}
 use Rattle.mv_lowering.specs.Lower.{lower_expr, is_well_named, all_of}
-use Rattle.mv_lowering.specs.Statements.{Code, Placed, LoweredArm, in_sequence, lower_express, lower_return, lower_end, lower_break, lower_continue, lower_if, lower_while, lower_do, lower_for, lower_clear, lower_switch}
+use Rattle.mv_lowering.specs.Statements.{Placed, LoweredArm, in_sequence, lower_express, lower_return, lower_end, lower_break, lower_continue, lower_if, lower_while, lower_do, lower_for, lower_clear, lower_switch}
 
 -- an expression that may be left out, in whose place a value stands then
 abbrev pub lower_optional : ℕ → Option Expr → Lowering

@@ -1,14 +1,21 @@
-//! The lowering of the source's expressions to intermediate code, as a definition, and that it is right.
+//! The lowering of the source's expressions and statements to intermediate code, as a definition, and that it is right.
 //!
-//! An expression is lowered, from the first free temporary on, to statements and a tree for its value at their end; `specs/Lowered.antt` and
-//! `specs/Lower.antt` say to which. Evaluation is left to right, traps come before stores, and a place is evaluated once.
+//! An expression is lowered, from the first free temporary on, to statements and a tree for its value at their end (`specs/Lowered.antt`,
+//! `specs/Lower.antt`); a statement to statements, by where control leads from it (`specs/Statements.antt`, `specs/LowerStatements.antt`).
+//! Evaluation is left to right, traps come before stores, and a place is evaluated once.
 #![tactic(auto)]
 
-ghost use Rattle.mv_lowering.specs.Law.{ExpressionsAreRight, ExpressionsAreShallow};
+ghost use Rattle.mv_lowering.specs.Law.{ExpressionsAreRight, ExpressionsAreShallow, StatementsAreRight};
 
 /// Lowered expressions do what they mean: with the same value, effects and traps, at a cost, together with that of
 /// keeping the value, of at most 100 for one of work (C11 6.5). And no tree of theirs is deeper than 4.
 pub fn expressions_are_right()
     ensures right { ExpressionsAreRight }
     ensures shallow { ExpressionsAreShallow }
+{}
+
+/// Lowered statements do what they mean, at every bound and at a cost of at most 100 for one of work (C11 6.8): blocks,
+/// declarations with their values, choices, the three kinds of loops, `switch` with fall through, and every way for control to leave.
+pub fn statements_are_right()
+    ensures { StatementsAreRight }
 {}
