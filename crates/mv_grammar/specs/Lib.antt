@@ -3,3 +3,10 @@ pub mod Language
 pub mod Reader
 pub mod Expressions
 pub mod ExpressionReader
+pub mod Declarations
+pub mod DeclarationReader
+pub mod Statements
+pub mod StatementReader
+pub mod Units
+pub mod UnitReader
+pub mod Reading
