@@ -190,3 +190,21 @@ go_on_give (Ends (Some x) s) = refl
 
 pub none_at_end : (test : Terminal → Bool) (ts : List Terminal) → ts ≡ [] → next test ts ≡ false
 none_at_end test ts e = ap (next test) e
+
+-- a phrase, another, and a third: grouped from the right
+pub regrouped : {X Y Z : Type 0} (f : X → List Terminal → Read Y) (fin : Y → List Terminal → Read Z) (read : Read X) → go_on fin (go_on f read) ≡ go_on (λ x r. go_on fin (f x r)) read
+regrouped f fin Deep = refl
+regrouped f fin (Ends None s) = refl
+regrouped f fin (Ends (Some x) s) = refl
+
+pub choice_true : {B Y : Type 0} {view : B → Y × List Terminal} {r : Result B Fault} (v : Bool) (one two : Read Y)
+    → v ≡ true → Gives view r one → Gives view r (cond v one two)
+choice_true {view = view} {r = r} v one two h k = subst (λ z. Gives view r (cond z one two)) (sym h) k
+
+-- a phrase that was read, with its place
+pub marked_gives : {A X : Type 0} {view : A → X × List Terminal} {a : A} (ts : List Terminal) (p : List Terminal → Read X)
+    → Gives view (Ok a) (p ts) → Gives (λ (b : A). ((place_of ts, (view b).0), (view b).1)) (Ok a) (R.marked p ts)
+marked_gives {view = view} {a = a} ts p h = record { told = marked_ok view a ts (p ts) h.told }
+
+pub same_read : {A X : Type 0} {view : A → X × List Terminal} {r : Result A Fault} {one two : Read X} → one ≡ two → Gives view r one → Gives view r two
+same_read {view = view} {r = r} e h = subst (λ z. Gives view r z) e h

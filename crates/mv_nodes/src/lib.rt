@@ -5,4 +5,5 @@ pub mod fault;
 pub mod keywords;
 pub mod marks;
 pub mod nodes;
+pub mod specifiers;
 pub mod tokens;

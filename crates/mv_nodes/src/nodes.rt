@@ -1,6 +1,6 @@
 //! The nodes of expressions. A node is boxed where it is made, so that a function that gives it up
 //! has one call to drop it.
-ghost use Rattle.std.specs.Prelude.{◌≡◌, IfOk};
+ghost use Rattle.std.specs.Prelude.{◌≡◌, [], ◌∷◌, ◌++◌, IfOk, OnOk};
 ghost use Rattle.mv_grammar.specs.Expressions.{node_at};
 ghost use Rattle.mv_ast.specs.declared.unit.What.TheVariants as what;
 
@@ -151,4 +151,12 @@ pub fn cast(
 {
     let what = What::Cast(specs, operand);
     Boxed::new(alloc, Node { place, what })
+}
+
+/// Puts a node at the end of a list.
+pub fn append(list: &mut List<Node>, node: Boxed<Node>) -> Result<(), AllocError>
+    ensures { OnOk result (list.new ≡ list.old ++ node ∷ []) }
+{
+    list.push(node.into_inner())?;
+    Ok(())
 }
