@@ -136,7 +136,7 @@ direct E P =
     (token is_name >>= λ t. optional (extent E) >>= λ n. give (declarator_of t.place (Some t.spelling) (array_shape n)))
     or ((token is_name >>= λ t. parameter_list P >>= λ ps. give (declarator_of t.place (Some t.spelling) (shape.Function ps)))
     or (token (is_mark 0) >>= λ t. token (is_mark 14) >>= λ _. constant >>= λ c. token is_name >>= λ name. optional (extent E) >>= λ n. token (is_mark 1) >>= λ _.
-        parameter_list P >>= λ ps. give (declarator_of t.place (Some name.spelling) (pointer_shape c n ps))))
+    parameter_list P >>= λ ps. give (declarator_of t.place (Some name.spelling) (pointer_shape c n ps))))
 
 abbrev pub with_attribute : Expressions → Declarator → Declarator → List Terminal → Type 0
 with_attribute E d = attribute E >>= λ m. give (attributed d m)
@@ -152,7 +152,7 @@ abbrev pub parameter_name : Parameters → Specs → Param → List Terminal →
 parameter_name P s =
     (token is_name >>= λ t. give (param_of s (declarator_of t.place (Some t.spelling) shape.Plain)))
     or ((token (is_mark 0) >>= λ t. token (is_mark 14) >>= λ _. constant >>= λ c. optional (token is_name) >>= λ name. token (is_mark 1) >>= λ _.
-        parameter_list P >>= λ ps. give (param_of s (declarator_of t.place (spelling_of name) (shape.Pointer c ps))))
+    parameter_list P >>= λ ps. give (param_of s (declarator_of t.place (spelling_of name) (shape.Pointer c ps))))
     or give (param_of s (declarator_of (place_of_specs s) None shape.Plain)))
 
 -- param = specs [NAME | "(" "*" ["const"] [NAME] ")" "(" params ")"]
