@@ -1,5 +1,5 @@
 -- How the answers of the parser's functions follow from those of the functions that they call.
-use Rattle.std.proofs.Common.{◌≡◌, ℕ, zero, suc, ◌+◌, ◌-◌, ◌<◌, Bool, true, false, cond, Option, Some, None, Result, Ok, Err, List, [], ◌∷◌, ◌++◌, length, refl, sym, ap, subst, ◌∙◌, arith}
+use Rattle.std.proofs.Common.{◌≡◌, ℕ, zero, suc, Bool, true, false, cond, Some, None, Result, Ok, Err, List, [], ◌∷◌, length, refl, sym, ap, subst, ◌∙◌}
 use Rattle.mv_ast.specs.declared.place.Place.{Place}
 use Rattle.mv_grammar.specs.Terminals.{Terminal}
 use Rattle.mv_nodes.specs.declared.fault.Fault.{Fault}
@@ -7,7 +7,7 @@ use Rattle.mv_nodes.specs.declared.fault.Fault.TheVariants.{Memory, Syntax}
 use Rattle.mv_grammar.specs.Language.{place_of}
 use Rattle.mv_grammar.specs.Reader as R
 use Rattle.mv_grammar.specs.Reader.{Read, Ends, Deep, next, go_on}
-use Rattle.mv_nodes.specs.Gives.{Gives, Told, Takes, Fails, IsTaken}
+use Rattle.mv_nodes.specs.Gives.{Gives, Told, IsTaken}
 
 memory_told : {A X : Type 0} (view : A → X × List Terminal) (read : Read X) → Told view (Err Memory) read
 memory_told view Deep = tt
@@ -30,7 +30,7 @@ pub then_ok : {A B X Y : Type 0} {view : A → X × List Terminal} {view2 : B �
     → Gives view (Ok a) read → Gives view2 r (f (view a).0 (view a).1) → Gives view2 r (go_on f read)
 then_ok {view = view} {view2 = view2} {a = a} {r = r} {read = read} f h k = record { told = then_ok_told view view2 a r read f h.told k.told }
 
-then_err_told : {A B X Y : Type 0} (view : A → X × List Terminal) (view2 : B → Y × List Terminal) (e : Fault) (read : Read X) (f : X → List Terminal → Read Y)
+pub then_err_told : {A B X Y : Type 0} (view : A → X × List Terminal) (view2 : B → Y × List Terminal) (e : Fault) (read : Read X) (f : X → List Terminal → Read Y)
     → Told view (Err e) read → Told view2 (Err e) (go_on f read)
 then_err_told view view2 e Deep f h = tt
 then_err_told view view2 Memory (Ends None s) f h = tt
@@ -65,10 +65,10 @@ placed_err {A} {B} {X} {Y} {view} {view2} {e} {ts} p f h =
 
 -- a token
 
-taken_next : (test : Terminal → Bool) (ts : List Terminal) (t : Terminal) (rest : List Terminal) → IsTaken test ts t rest → next test ts ≡ true
+pub taken_next : (test : Terminal → Bool) (ts : List Terminal) (t : Terminal) (rest : List Terminal) → IsTaken test ts t rest → next test ts ≡ true
 taken_next test ts t rest h = ap (next test) h.whole ∙ h.kind
 
-token_read : (test : Terminal → Bool) (ts : List Terminal) (t : Terminal) (rest : List Terminal) → IsTaken test ts t rest → R.token test ts ≡ Ends (Some t) rest
+pub token_read : (test : Terminal → Bool) (ts : List Terminal) (t : Terminal) (rest : List Terminal) → IsTaken test ts t rest → R.token test ts ≡ Ends (Some t) rest
 token_read test ts t rest h = ap (R.token test) h.whole ∙ ap (λ v. cond v (Ends (Some t) rest) (Ends None (t ∷ rest))) h.kind
 
 pub token_ok : {B Y : Type 0} {view : B → Y × List Terminal} {r : Result B Fault} {test : Terminal → Bool} {ts : List Terminal} {t : Terminal} {rest : List Terminal} (f : Terminal → List Terminal → Read Y)
@@ -208,3 +208,15 @@ marked_gives {view = view} {a = a} ts p h = record { told = marked_ok view a ts 
 
 pub same_read : {A X : Type 0} {view : A → X × List Terminal} {r : Result A Fault} {one two : Read X} → one ≡ two → Gives view r one → Gives view r two
 same_read {view = view} {r = r} e h = subst (λ z. Gives view r z) e h
+
+-- a choice before something more
+
+pub then_no : {B X Y : Type 0} {view : B → Y × List Terminal} {r : Result B Fault} (f : X → List Terminal → Read Y) (v : Bool) (one two : Read X)
+    → v ≡ false → Gives view r (go_on f two) → Gives view r (go_on f (cond v one two))
+then_no {view = view} {r = r} f v one two h k = subst (λ z. Gives view r (go_on f (cond z one two))) (sym h) k
+
+pub then_taken : {B X Y : Type 0} {view : B → Y × List Terminal} {r : Result B Fault} {test : Terminal → Bool} {ts : List Terminal} {t : Terminal} {rest : List Terminal} (f : X → List Terminal → Read Y) (g : Terminal → List Terminal → Read X) (two : Read X)
+    → IsTaken test ts t rest → Gives view r (go_on f (g t rest)) → Gives view r (go_on f (cond (next test ts) (go_on g (R.token test ts)) two))
+then_taken {view = view} {r = r} {test = test} {ts = ts} {t = t} {rest = rest} f g two h k =
+    subst (λ z. Gives view r (go_on f (cond z (go_on g (R.token test ts)) two))) (sym (taken_next test ts t rest h))
+    (subst (λ z. Gives view r (go_on f (go_on g z))) (sym (token_read test ts t rest h)) k)

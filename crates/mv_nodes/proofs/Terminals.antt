@@ -1,5 +1,5 @@
 -- A list of tokens has as many terminals.
-use Rattle.std.proofs.Common.{◌≡◌, ◌∙◌, ℕ, suc, Bool, true, false, Err, List, [], ◌∷◌, length, refl, sym, ap, subst}
+use Rattle.std.proofs.Common.{◌≡◌, ◌∙◌, ℕ, suc, Bool, true, false, Err, List, [], ◌∷◌, length, refl, ap, subst}
 use Rattle.std.specs.Prelude.{◌&&◌}
 use Rattle.mv_ast.specs.declared.token.Token.{Token}
 use Rattle.mv_grammar.specs.Terminals.{Terminal, terminals}

@@ -1,5 +1,5 @@
 -- What a function of the parser answers, against what reading takes.
-use Rattle.std.specs.Prelude.{◌≡◌, ℕ, Bool, true, false, Option, Some, None, Result, Ok, Err, List, ◌∷◌, length, MatchOption}
+use Rattle.std.specs.Prelude.{◌≡◌, Bool, true, Some, None, Result, Ok, Err, List, ◌∷◌, length}
 use Rattle.mv_grammar.specs.Terminals.{Terminal}
 use Rattle.mv_grammar.specs.Reader.{Read, Ends, Deep, next_two}
 use Rattle.mv_nodes.specs.declared.fault.Fault.{Fault}

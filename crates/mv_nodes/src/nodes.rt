@@ -153,10 +153,20 @@ pub fn cast(
     Boxed::new(alloc, Node { place, what })
 }
 
-/// Puts a node at the end of a list.
-pub fn append(list: &mut List<Node>, node: Boxed<Node>) -> Result<(), AllocError>
-    ensures { OnOk result (list.new ≡ list.old ++ node ∷ []) }
+/// Puts a boxed item at the end of a list.
+pub fn append<T: Drop>(list: &mut List<T>, item: Boxed<T>) -> Result<(), AllocError>
+    ensures { OnOk result (list.new ≡ list.old ++ item ∷ []) }
 {
-    list.push(node.into_inner())?;
+    list.push(item.into_inner())?;
     Ok(())
+}
+
+/// A node that may be there.
+pub fn unboxed(node: Option<Boxed<Node>>) -> Option<Node>
+    ensures { result ≡ node }
+{
+    match node {
+        Some(node) => Some(node.into_inner()),
+        None => None,
+    }
 }

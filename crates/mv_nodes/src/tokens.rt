@@ -7,7 +7,7 @@ ghost use Rattle.mv_nodes.specs.Gives.{Gives, IsTaken, IsTakenBefore};
 
 use crate::fault::Fault;
 use crate::keywords::{ATTRIBUTE, CONST, ENUM, STATIC};
-use crate::marks::{CLOSE_BLOCK, OPEN, MINUS_MINUS, PLUS_PLUS};
+use crate::marks::{CLOSE_BLOCK, MINUS_MINUS, OPEN, PLUS_PLUS};
 use mv_ast::place::Place;
 use mv_ast::token::{Piece, Token};
 use mv_num::text::Text;
@@ -350,6 +350,17 @@ pub fn expect_name(tokens: &[Token]) -> Result<(&Token, &[Token]), Fault>
     }
 }
 
+/// The first token, which has to be a string.
+pub fn expect_string(tokens: &[Token]) -> Result<(&Token, &[Token]), Fault>
+    ensures reads { (text : List ℕ) → Gives (λ x. (terminal text x.0.now, terminals text x.1.now)) result (token is_string (terminals text tokens.now)) }
+    ensures shorter { IfOk result (λ x. length x.1.now < length tokens.now) }
+{
+    match next_string(tokens) {
+        Some(taken) => Ok(taken),
+        None => Err(Fault::Syntax(tokens.len())),
+    }
+}
+
 /// The first token, which has to be `++` or `--`.
 pub fn expect_step(tokens: &[Token]) -> Result<(&Token, &[Token]), Fault>
     ensures reads { (text : List ℕ) → Gives (λ x. (terminal text x.0.now, terminals text x.1.now)) result (token is_step (terminals text tokens.now)) }
@@ -361,12 +372,58 @@ pub fn expect_step(tokens: &[Token]) -> Result<(&Token, &[Token]), Fault>
     }
 }
 
-/// The text of a token in the source.
-pub fn text_of(alloc: Global, text: &[u8], token: &Token) -> Result<Text, AllocError>
-    ensures { IfOk result (λ bytes. bytes ≡ (terminal text.now token.now).spelling) }
+/// The first token, which has to be the name of the attribute.
+pub fn expect_multiverse<'a>(
+    text: &[u8],
+    tokens: &'a [Token],
+) -> Result<(&'a Token, &'a [Token]), Fault>
+    ensures reads { Gives (λ x. (terminal text.now x.0.now, terminals text.now x.1.now)) result (token is_multiverse (terminals text.now tokens.now)) }
+    ensures shorter { IfOk result (λ x. length x.1.now < length tokens.now) }
+{
+    match next_multiverse(text, tokens) {
+        Some(taken) => Ok(taken),
+        None => Err(Fault::Syntax(tokens.len())),
+    }
+}
+
+fn next_multiverse<'a>(text: &[u8], tokens: &'a [Token]) -> Option<(&'a Token, &'a [Token])>
+    ensures next { MatchOption result (next is_multiverse (terminals text.now tokens.now) ≡ false) (λ x. IsTaken is_multiverse (terminals text.now tokens.now) (terminal text.now x.0.now) (terminals text.now x.1.now)) }
+    ensures shorter { IfSome result (λ x. length x.1.now < length tokens.now) }
+{
+    match tokens {
+        [token, rest @ ..] => {
+            if names_multiverse(text, token) {
+                Some((token, rest))
+            } else {
+                None
+            }
+        }
+        [] => None,
+    }
+}
+
+fn names_multiverse(text: &[u8], token: &Token) -> bool
+    ensures { result ≡ is_multiverse (terminal text.now token.now) }
+{
+    match token.what {
+        Piece::Name => spelling(text, token) == "multiverse".as_bytes(),
+        _ => false,
+    }
+}
+
+// The bytes of a token in the source.
+fn spelling<'a>(text: &'a [u8], token: &Token) -> &'a [u8]
+    ensures { result.now ≡ (terminal text.now token.now).spelling }
 {
     let from = (token.start as usize).min(text.len());
     let rest = &text[from..];
     let count = (token.stop.saturating_sub(token.start) as usize).min(rest.len());
-    Text::new(alloc, &rest[..count])
+    &rest[..count]
+}
+
+/// The text of a token in the source.
+pub fn text_of(alloc: Global, text: &[u8], token: &Token) -> Result<Text, AllocError>
+    ensures { IfOk result (λ bytes. bytes ≡ (terminal text.now token.now).spelling) }
+{
+    Text::new(alloc, spelling(text, token))
 }
