@@ -1,5 +1,5 @@
 -- The reading of expressions, unfolded by one step.
-use Rattle.std.proofs.Common.{◌≡◌, ℕ, zero, suc, ◌-◌, ◌<◌, Result, List, refl, sym, ap, arith}
+use Rattle.std.proofs.Common.{◌≡◌, ℕ, zero, suc, ◌-◌, ◌<◌, Result, List, sym, ap, arith}
 use Rattle.mv_ast.specs.declared.place.Place.{Place}
 use Rattle.mv_ast.specs.declared.unit.Node.{Node}
 use Rattle.mv_nodes.specs.declared.fault.Fault.{Fault}

@@ -10,18 +10,16 @@ use crate::type_name::type_name;
 use mv_ast::place::Place;
 use mv_ast::token::{Piece, Token};
 use mv_ast::unit::Node;
-use mv_num::boxed::Boxed;
-use mv_num::kind::Kind;
-use mv_num::list::List;
 use mv_nodes::fault::Fault;
-use mv_nodes::marks::{
-    CLOSE, CLOSE_INDEX, COLON, COMMA, OPEN, OPEN_INDEX, PLUS_PLUS, QUESTION,
-};
+use mv_nodes::marks::{CLOSE, CLOSE_INDEX, COLON, COMMA, OPEN, OPEN_INDEX, PLUS_PLUS, QUESTION};
 use mv_nodes::nodes;
 use mv_nodes::tokens::{
     expect_mark, expect_step, mark_of, next_cast, next_mark, next_name, next_number, next_rank,
     next_sign, next_step, place_of, text_of,
 };
+use mv_num::boxed::Boxed;
+use mv_num::kind::Kind;
+use mv_num::list::List;
 use std::alloc::Global;
 
 /// The rank of what stands after an operand.

@@ -3,4 +3,6 @@
 #![tactic(auto)]
 
 pub mod expression;
+#[cfg(test)]
+mod tests;
 mod type_name;

@@ -1,16 +1,13 @@
 -- Each function's answer, put together from those of its calls in the order of the code.
-use Rattle.std.proofs.Common.{◌≡◌, ℕ, ◌<◌, ◌+◌, ◌-◌, length, refl, sym, ap, subst, ◌∙◌, arith, rules, Result, Ok, Err, List, [], ◌∷◌, ◌++◌}
+use Rattle.std.proofs.Common.{◌-◌, refl, sym, ap, ◌∙◌, arith, [], ◌∷◌, ◌++◌}
 use Rattle.std.proofs.lemmas.Result.{err_from_is_err_and}
-use Rattle.mv_ast.specs.declared.unit.Node.{Node}
-use Rattle.mv_ast.specs.declared.place.Place.{Place}
 use Rattle.mv_ast.specs.declared.unit.What.TheVariants as w
-use Rattle.mv_grammar.specs.Terminals.{terminal, terminals, mark, is_mark, is_rank}
+use Rattle.mv_grammar.specs.Terminals.{terminal, terminals, mark}
 use Rattle.mv_grammar.specs.Reader as reader
 use Rattle.mv_grammar.specs.Reader.{go_on}
 use Rattle.mv_grammar.specs.Expressions.{Assign, Cond, Cast, Unary, node_at, joined}
 use Rattle.mv_grammar.specs.ExpressionReader as model
-use Rattle.mv_nodes.specs.Gives.{Gives}
-use Rattle.mv_nodes.proofs.Answers.{Loops, given_ok, then_ok, then_err, placed_ok, placed_err, token_ok, choice_yes, choice_no, choice_true, loop_begins, loop_begins_at, loop_goes_on, loop_stops, loop_fails, loops_at, skipped, regrouped, err_any, ok_any}
+use Rattle.mv_nodes.proofs.Answers.{given_ok, then_ok, then_err, placed_ok, placed_err, token_ok, choice_yes, choice_no, choice_true, loop_begins, loop_begins_at, loop_goes_on, loop_stops, loop_fails, loops_at, skipped, regrouped, err_any, ok_any}
 use Rattle.mv_expressions.proofs.Levels.{bounded, level_opens, level_zero}
 use Rattle.mv_expressions.proofs.expression.+expression.Goals as goal
 

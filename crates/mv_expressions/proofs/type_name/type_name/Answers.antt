@@ -1,13 +1,11 @@
-use Rattle.std.proofs.Common.{◌≡◌, ◌<◌, ℕ, length, refl, sym, ap, ◌∙◌, arith, subst}
+use Rattle.std.proofs.Common.{refl, sym, ap, ◌∙◌, arith}
 use Rattle.std.proofs.lemmas.Result.{err_from_is_err_and}
 use Rattle.mv_ast.specs.declared.unit.Specs.{Specs}
 use Rattle.mv_grammar.specs.Terminals.{terminals}
-use Rattle.mv_grammar.specs.Language.{place_of}
 use Rattle.mv_grammar.specs.Reader as reader
 use Rattle.mv_grammar.specs.Expressions.{no_specs, specs_at}
 use Rattle.mv_grammar.specs.ExpressionReader as model
-use Rattle.mv_nodes.specs.Gives.{Gives}
-use Rattle.mv_nodes.proofs.Answers.{Loops, given_ok, loop_begins, loop_goes_on, loop_stops, loop_fails, loops_at, regrouped, go_on_give, marked_gives, err_any, ok_any, same_read}
+use Rattle.mv_nodes.proofs.Answers.{given_ok, loop_begins, loop_goes_on, loop_stops, loop_fails, loops_at, regrouped, go_on_give, marked_gives, err_any, ok_any, same_read}
 use Rattle.mv_expressions.proofs.type_name.type_name.Goals as goal
 
 pub loop-specs-init : goal.loop-specs-init

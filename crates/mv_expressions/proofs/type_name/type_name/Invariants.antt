@@ -1,4 +1,4 @@
-use Rattle.std.proofs.Common.{◌≡◌, ◌<◌, ℕ, length}
+use Rattle.std.proofs.Common.{◌<◌, ℕ, length}
 use Rattle.mv_ast.specs.declared.unit.Specs.{Specs}
 use Rattle.mv_grammar.specs.Terminals.{terminals, is_type_part}
 use Rattle.mv_grammar.specs.Reader as reader
