@@ -26,29 +26,29 @@ fn piece_of(byte: u8) -> Piece {
     }
 }
 
-fn add_tokens(tokens: &mut List<Token>, bytes: &[u8]) -> Result<(), AllocError> {
+/// Adds tokens from a column on, and gives the column behind them.
+fn add_tokens(tokens: &mut List<Token>, bytes: &[u8], first: u32) -> Result<u32, AllocError> {
+    let mut column = first;
     for byte in bytes {
-        let place = Place {
-            line: 1,
-            column: (tokens.len() as u32).wrapping_add(1),
-        };
         let token = Token {
-            place,
+            place: Place { line: 1, column },
             start: 0,
             stop: 0,
             what: piece_of(*byte),
         };
         tokens.push(token)?;
+        column = column.wrapping_add(1);
     }
-    Ok(())
+    Ok(column)
 }
 
 /// The column of the first token that is too deep, and 0 where none is.
 fn column_of(alloc: Global, parts: &[(&str, u32)]) -> Result<u32, AllocError> {
     let mut tokens = List::new(alloc);
+    let mut column = 1u32;
     for (text, times) in parts {
         for _ in 0..*times {
-            add_tokens(&mut tokens, text.as_bytes())?;
+            column = add_tokens(&mut tokens, text.as_bytes(), column)?;
         }
     }
     let found = first_too_deep(alloc, tokens.as_slice())?;

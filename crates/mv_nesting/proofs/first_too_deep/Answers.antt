@@ -1,4 +1,4 @@
-use Rattle.std.proofs.Common.{◌≡◌, ℕ, ◌<◌, ◌≤◌, ap, ◌∙◌, arith}
+use Rattle.std.proofs.Common.{◌<◌, ◌≤◌, ap, ◌∙◌, arith}
 use Rattle.mv_nesting.specs.Nesting.{after_piece, level_of}
 use Rattle.mv_nesting.proofs.Levels.{here, later, shallow}
 use Rattle.mv_nesting.proofs.first_too_deep.Goals as goal

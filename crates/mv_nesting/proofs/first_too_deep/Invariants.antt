@@ -1,5 +1,5 @@
 -- What is still to be told of all tokens is told by those that are left.
-use Rattle.std.proofs.Common.{◌≡◌, ◌≤◌, All, ℕ, length}
+use Rattle.std.proofs.Common.{◌≤◌, All, length}
 use Rattle.mv_ast.specs.declared.place.Place.{Place}
 use Rattle.mv_nesting.specs.Nesting.{IsFirstAbove, levels, levels_from, level_of}
 use Rattle.mv_nesting.proofs.first_too_deep.Given as goal
