@@ -1,6 +1,6 @@
 -- A look-up in a map is a look-up in the plain list of its names.
-use Rattle.std.proofs.Common.{◌≡◌, ℕ, refl, List, [], ◌∷◌, Option, Some, None, Bool, true, false, nat_eq, if◌then◌else◌, cond}
-use Rattle.std.proofs.Common.{◌++◌, ap, option_to_list}
+use Rattle.std.proofs.Common.{◌≡◌, ℕ, refl, List, [], ◌∷◌, Some, None, Bool, true, false, nat_eq, if◌then◌else◌}
+use Rattle.std.proofs.Common.{◌++◌, ap}
 use Rattle.indexmap.specs.IndexMap.{insert_entry}
 use Rattle.mv_scope.specs.Scopes.{last_block, before_last}
 use Rattle.std.specs.Cmp.Lexicographic.{pointwise}

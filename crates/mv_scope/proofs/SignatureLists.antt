@@ -1,5 +1,5 @@
 -- How the tests on signatures go along their lists.
-use Rattle.std.proofs.Common.{◌≡◌, ◌<◌, ◌≤◌, ◌+◌, ℕ, Bool, true, false, refl, ap, suc, List, [], ◌∷◌, ◌++◌, length, if◌then◌else◌, arith}
+use Rattle.std.proofs.Common.{◌≡◌, ◌<◌, ◌≤◌, ◌+◌, Bool, true, false, refl, ap, suc, List, [], ◌∷◌, ◌++◌, length, if◌then◌else◌, arith}
 use Rattle.mv_ast.specs.declared.program.Signature.{Signature}
 use Rattle.mv_scope.specs.Conversions.{same_signature}
 use Rattle.mv_scope.specs.Signatures.{place_of, with_signature}

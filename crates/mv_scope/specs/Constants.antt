@@ -2,9 +2,9 @@
 use Rattle.std.specs.Prelude.{ℕ, Bool, true, false, ◌&&◌, ◌||◌, not, nat_eq, if◌then◌else◌, Option, Some, None}
 use Rattle.mv_ast.specs.declared.program.CType.{CType}
 use Rattle.mv_ast.specs.declared.program.Expr.{Expr, Expr-F, fold-Expr}
-use Rattle.mv_ast.specs.declared.program.Form.{Form, Form-F}
+use Rattle.mv_ast.specs.declared.program.Form.{Form-F}
 use Rattle.mv_ast.specs.declared.program.Form.TheOpen as form
-use Rattle.mv_ast.specs.declared.program.Target.{Target, Target-F}
+use Rattle.mv_ast.specs.declared.program.Target.{Target-F}
 use Rattle.mv_ast.specs.Operators.{unary_value, binary_value, converted, as_word}
 use Rattle.mv_scope.specs.Conversions.{is_integer, is_pointer, same_type}
 
