@@ -9,6 +9,5 @@ pub mod meaning;
 pub mod scope;
 pub mod signatures;
 pub mod space;
-
 #[cfg(test)]
 mod tests;

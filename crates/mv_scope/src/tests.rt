@@ -95,7 +95,10 @@ const USUAL: [(Kind, Kind, Kind); 5] = [
 #[test]
 fn operands_meet_in_a_type(rt: HostRuntime) -> Result<(), Fail> {
     for (s, t, both) in USUAL.iter() {
-        assert_eq!(rt; usual(CType::Scalar(*s), CType::Scalar(*t)), CType::Scalar(*both));
+        assert_eq!(rt;
+            usual(CType::Scalar(*s), CType::Scalar(*t)),
+            CType::Scalar(*both)
+        );
     }
     let byte = Expr {
         ctype: CType::Scalar(Kind::UChar),

@@ -10,8 +10,8 @@ returns c =
     let meaning = c.args.meaning in
     let entries = c.self.inside.names.entries in
     let fresh : named key.items (names_of entries) ≡ None =
-        ap (λ n. named n (names_of entries)) c.in_ok-key.ensures.items ∙
-        (ap (λ b. named c.args.name.now b) c.self.view_is ∙ c.requires) in
+    ap (λ n. named n (names_of entries)) c.in_ok-key.ensures.items ∙
+    (ap (λ b. named c.args.name.now b) c.self.view_is ∙ c.requires) in
     ap (λ es. names_of es) c.in_ok-insert.ensures.entries ∙
     (added key meaning entries fresh ∙
     (ap (λ b. b ++ (key.items, meaning) ∷ []) c.self.view_is ∙
