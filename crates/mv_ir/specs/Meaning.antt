@@ -171,8 +171,8 @@ entry_state contents body args w =
 -- what a body's end gives: the end of its code returns no value
 abbrev pub body_end : Outcome → End
 body_end (Next s) = Returned None s.world
-body_end (Leaves n s) = Stuck
-body_end (Restarts n s) = Stuck
+body_end (Leaves n s) = Returned None s.world
+body_end (Restarts n s) = Returned None s.world
 body_end (Ends e) = e
 
 -- what a body does of its arguments, in a frame with these contents, at a bound

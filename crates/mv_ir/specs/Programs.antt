@@ -5,7 +5,7 @@ use Rattle.mv_ast.specs.declared.program.Function.{Function}
 use Rattle.mv_ast.specs.declared.world.Action.{Action}
 use Rattle.mv_ast.specs.declared.world.Binding.{Binding}
 use Rattle.mv_ast.specs.declared.world.Event.{Event}
-use Rattle.mv_ast.specs.Starts.{first_world}
+use Rattle.mv_ast.specs.Starts.{first_world_under}
 use Rattle.mv_ir.specs.declared.body.Body.{Body}
 use Rattle.mv_ir.specs.declared.body.IrProgram.{IrProgram}
 use Rattle.mv_ir.specs.World.{World, Setting}
@@ -41,7 +41,7 @@ code_of ir = code_from 0 ir.program.functions ir.bodies
 
 -- ---- what a program does
 
--- how a program ends; code that calls what is no function, or leaves what is no block, has no meaning
+-- how a program ends; code that calls what is no function has no meaning
 pub data Ending : Type 0 where
   Exited : ℕ → Ending
   Trapped : ℕ → Ending
@@ -85,14 +85,14 @@ call_of_main setting codes None bound w = record { cost = 0; end = outcome.Stuck
 call_of_main setting codes (Some main) bound w = program_meaning setting codes main bound w
 
 -- the first world as the code sees it
-abbrev pub start : IrProgram → List ℕ → List Action → World
-start ir input actions = seen (first_world ir.program input actions)
+abbrev pub start : List ℕ → IrProgram → List ℕ → List Action → World
+start numbers ir input actions = seen (first_world_under ir.program numbers input actions)
 
 abbrev pub run_of_main : List ℕ → IrProgram → List ℕ → List Action → ℕ → Call
 run_of_main numbers ir input actions bound =
-    call_of_main (setting_of numbers ir.program) (code_of ir) (slice_get (code_of ir) ir.program.main) bound (start ir input actions)
+    call_of_main (setting_of numbers ir.program) (code_of ir) (slice_get (code_of ir) ir.program.main) bound (start numbers ir input actions)
 
 -- The meaning of a program under a numbering and at a bound, on an input and with the operator's actions.
 abbrev pub ir_meaning : (numbers : List ℕ) → IrProgram → (input : List ℕ) → (actions : List Action) → (bound : ℕ) → Execution
 ir_meaning numbers ir input actions bound =
-    let c = run_of_main numbers ir input actions bound in execution_of (start ir input actions) c.cost c.end
+    let c = run_of_main numbers ir input actions bound in execution_of (start numbers ir input actions) c.cost c.end

@@ -18,9 +18,9 @@ use Rattle.mv_meaning.specs.declared.state.Frame.{Frame}
 use Rattle.mv_meaning.specs.declared.state.Flow.{Flow}
 use Rattle.mv_meaning.specs.declared.state.Flow.TheVariants.{Goes, Breaks, Continues, Returns}
 use Rattle.mv_meaning.specs.declared.meant.End.TheVariants.{Exit}
-use Rattle.mv_ast.specs.Starts.{first_words, first_world}
+use Rattle.mv_ast.specs.Starts.{first_words, first_world, renumbered, renumbered_at, first_words_under, first_world_under}
 use Rattle.mv_meaning.specs.Meaning.{Context, returned_value, frame_of, deeper, popped, back_in, call_of, flow_of_all, Evaluation, context_at, context_with, end_of_stop, meant_by, meaning_of, run_of_main, mean}
-use Rattle.mv_numbering.specs.Numberings.{renumbered, renumbered_at, first_words_under, first_world_under, Admits, meaning_in, meaning_under}
+use Rattle.mv_numbering.specs.Numberings.{Admits, meaning_in, meaning_under}
 use Rattle.mv_numbering.specs.Typing.{IsInteger, IsTypedFunction, IsFirstValue, local_types, parameter_types}
 use Rattle.mv_numbering.proofs.Numbers.{Distinguishes}
 use Rattle.mv_numbering.proofs.Alike.{Setting, Same, SameWords, SameObjects, SameValues, same_null, same_integer, words_null}

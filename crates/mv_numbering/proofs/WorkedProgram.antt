@@ -15,7 +15,7 @@ use Rattle.mv_ast.specs.declared.program.Target.{Target, roll-Target, out-Target
 use Rattle.mv_ast.specs.declared.program.Stmt.{Stmt, roll-Stmt, every_made-Stmt}
 use Rattle.mv_ast.specs.declared.program.Stmt.TheOpen as stmt
 use Rattle.mv_ast.specs.declared.program.Arm.{Arm, every-Arm}
-use Rattle.mv_numbering.specs.Numberings.{first_words_under}
+use Rattle.mv_ast.specs.Starts.{first_words_under}
 use Rattle.mv_numbering.proofs.Constants.{comes_number}
 use Rattle.mv_numbering.specs.Typing.{IsNull, IsFirstValue, HasType, LvalueHasType, HasTypedParts, IsTypedExpr, IsTypedStmt, IsTypedFunction, IsFunctionOf, IsTyped}
 
