@@ -32,7 +32,7 @@ use Rattle.mv_lowering.proofs.Flows as flows
 
 -- ---- lists of statements
 
-in_order_both : (xs ys : List (Evaluation Flow)) (f : Frame) (w : World) → in_order (xs ++ ys) f w ≡ bind (in_order xs) (λ flow. then_on flow (in_order ys)) f w
+pub in_order_both : (xs ys : List (Evaluation Flow)) (f : Frame) (w : World) → in_order (xs ++ ys) f w ≡ bind (in_order xs) (λ flow. then_on flow (in_order ys)) f w
 in_order_both [] ys f w = sym (given Goes (λ flow. then_on flow (in_order ys)) f w)
 in_order_both (x ∷ xs) ys f w =
     under (x f w) (λ flow. then_on flow (in_order (xs ++ ys))) (λ flow. bind (then_on flow (in_order xs)) (λ fl. then_on fl (in_order ys))) (by (λ f1 w1. in_order_both xs ys f1 w1)) ∙

@@ -1,0 +1,5 @@
+pub mod Agreement
+pub mod Leaves
+pub mod AgreedExpressions
+pub mod StatementInduction
+pub mod AgreedStatements
