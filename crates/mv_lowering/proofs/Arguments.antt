@@ -297,16 +297,14 @@ module _ (p : Program) (setting : Setting) (frame : code_world.Frame) (began : L
         kept = show.kept_temp p setting frame began function locals sizes held floor scratch temps bound n (with_world s (c.seen w2)) v;
         paid = omega (arith, a.paid, nodes_temp n);
       }
-  call_shown void n g t trees vs f w s (Stopped why w2 work) le lt h ev eg e a =
-      let callee = c.level bound g vs frame.depth frame.live (c.seen w) in
-      record {
-        cost = price t trees + callee.cost;
-        runs = λ ne.
-            enters (place_of_result void n) t g trees vs f w s h ev eg e ∙
-            ap (λ (x : End). c.ran (price t trees + callee.cost) (call_end (place_of_result void n) s x)) (a.ends ne) ∙
-            ap (λ (x : ir.Outcome). c.ran (price t trees + callee.cost) x) (ends (place_of_result void n) why);
-        paid = omega (arith, a.paid);
-      }
+  call_shown void n g t trees vs f w s (Stopped why w2 work) le lt h ev eg e a = record {
+    cost = price t trees + a.cost;
+    runs = λ ne.
+        enters (place_of_result void n) t g trees vs f w s h ev eg e ∙
+        ap (λ (x : Call). spend (price t trees) (made_call (place_of_result void n) s x)) (a.ends ne) ∙
+        ap (λ (x : ir.Outcome). c.ran (price t trees + a.cost) x) (ends (place_of_result void n) why);
+    paid = omega (arith, a.paid);
+  }
     where
       ends : (result : Option ℕ) (x : Stop) → call_end result s (c.end_of x (c.seen w2)) ≡ Ends (c.end_of x (c.seen w2))
       ends None (stops.Trapped code) = refl

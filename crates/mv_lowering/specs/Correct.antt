@@ -193,8 +193,9 @@ module _ (p : Program) (setting : Setting) (frame : code_world.Frame) (began : L
     pub paid : c.cost ≤ 20 + 100 * work
 
   pub record CallHalted (c : Call) (why : Stop) (w2 : World) (work : ℕ) : Type 0 where
-    pub ends : is_astray why ≡ false → c.end ≡ end_of why (seen w2)
-    pub paid : c.cost ≤ 20 + 100 * work
+    pub cost : ℕ
+    pub ends : is_astray why ≡ false → c ≡ record { cost = cost; end = end_of why (seen w2) }
+    pub paid : cost ≤ 20 + 100 * work
 
   abbrev pub CallShown : Bool → Call → Frame → World → Outcome Frame ℕ → Type 0
   CallShown void c f w (Came v f2 w2 work) = CallReached void c v f f2 w w2 work
