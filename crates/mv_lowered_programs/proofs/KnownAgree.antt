@@ -11,7 +11,7 @@ use Rattle.mv_ast.specs.declared.world.Action.{Action}
 use Rattle.mv_ast.specs.declared.world.Action.TheVariants.{Skip, Flip}
 use Rattle.mv_ast.specs.declared.world.Binding.{Binding}
 use Rattle.mv_ast.specs.Counts.{patchable}
-use Rattle.mv_ast.specs.Plans.{Answered, attributed_functions, attributed_before, bindings_after, bound_from, is_addressed, is_commit, rebound, switch_global, with_word, binding_value, bound_value}
+use Rattle.mv_ast.specs.Plans.{Answered, attributed_functions, attributed_before, bindings_after, bound_from, is_addressed, is_commit, rebound, switch_global, with_word, binding_value, bound_value, acted, polled}
 use Rattle.mv_ast.specs.Worlds.{World, Outcome}
 use Rattle.mv_meaning.specs.declared.state.Frame.{Frame}
 use Rattle.mv_meaning.specs.Meaning.{byte_of, put_byte, answered}
@@ -37,12 +37,10 @@ same_reads p frame own before after lively pinned g = by (slice_get p.functions 
     read bs z x = cond z (binding_value p x (slice_get bs (attributed_before p.functions own)) g) None
 
     flagged : (x : Function) (z : Bool) → x.attributed ≡ z → slice_get p.functions own ≡ Some x → read after z x ≡ read before z x
-    unfolding read
     flagged x true q e = ap (λ bs. read bs true x) (pinned (lively x e q))
     flagged x false q e = refl
 
     by : (o : Option Function) → slice_get p.functions own ≡ o → bound_value p after own o g ≡ bound_value p before own o g
-    unfolding read
     by None e = refl
     by (Some x) e = flagged x x.attributed refl e
 
@@ -120,6 +118,14 @@ module _ (p : Program) (numbers : List ℕ) (frame : code_world.Frame) (began : 
   abbrev polled_as : Bool → World → Answered
   polled_as free w = if free then acted_as w.actions free w else record { answer = 0; world = w }
 
+  acted_is : (actions : List Action) (w : World) → acted p actions w ≡ acted_as actions (nat_eq w.live 0) w
+  acted_is [] w = refl
+  acted_is (Skip ∷ rest) w = refl
+  acted_is (Flip s v ∷ rest) w = refl
+
+  polled_is : (w : World) → polled p w ≡ polled_as (nat_eq w.live 0) w
+  polled_is w = ap (λ a. if nat_eq w.live 0 then a else record { answer = 0; world = w }) (acted_is w.actions w)
+
   abbrev source_poll : Answered → Frame → World → Outcome Frame ℕ
   source_poll a f w = answered (if nat_eq a.answer 1 then 1 + patchable p else 0) a f w
 
@@ -162,8 +168,10 @@ module _ (p : Program) (numbers : List ℕ) (frame : code_world.Frame) (began : 
   known_agrees Getchar = λ vs f w hf hl. taken w.input f w
   known_agrees Putchar = λ vs f w hf hl. put (unwrap_or (slice_get vs 0) 0) f w
   known_agrees Poll = λ vs f w hf hl.
-      both_tests f w (λ x y. Shown (poll_answer p (if x then acted_as w.actions x (seen_from 0 frame.live (seen w)) else record { answer = 0; world = seen_from 0 frame.live (seen w) })) f w (source_poll (if y then acted_as w.actions y w else record { answer = 0; world = w }) f w)) hl
-      (polled_shown (nat_eq w.live 0) f w refl hl)
+      let there = seen_from 0 frame.live (seen w) in
+      subst (λ a. Shown (poll_answer p a) f w (source_poll (polled p w) f w)) (sym (polled_is there))
+      (subst (λ a. Shown (poll_answer p (polled_as (nat_eq frame.live 0) there)) f w (source_poll a f w)) (sym (polled_is w))
+      (both_tests f w (λ x y. Shown (poll_answer p (polled_as x there)) f w (source_poll (polled_as y w) f w)) hl (polled_shown (nat_eq w.live 0) f w refl hl)))
   known_agrees (Plan code index) = λ vs f w hf hl.
       both_tests f w (λ x y. Shown (at_cost (patch_cost p) (carried code index x (seen_from 0 frame.live (seen w)))) f w (answered (1 + patchable p) (carried code index y w) f w)) hl
       (ordered_shown code index (nat_eq w.live 0) f w refl hl)

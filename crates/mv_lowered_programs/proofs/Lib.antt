@@ -3,3 +3,7 @@ pub mod Leaves
 pub mod AgreedExpressions
 pub mod StatementInduction
 pub mod AgreedStatements
+pub mod KnownAgree
+pub mod Entry
+pub mod Contexts
+pub mod Knot
