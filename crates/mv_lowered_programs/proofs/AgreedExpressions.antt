@@ -12,7 +12,7 @@ use Rattle.mv_ast.specs.declared.program.Target.{Target, Target-F, roll-Target, 
 use Rattle.mv_ast.specs.declared.world.Stop.{Stop}
 use Rattle.mv_ast.specs.declared.world.Stop.TheVariants.{Trapped}
 use Rattle.mv_ast.specs.Operators.{converted, unary_value, binary_value}
-use Rattle.mv_ast.specs.Worlds.{bind, give, counted}
+use Rattle.mv_ast.specs.Worlds.{bind, give}
 use Rattle.mv_meaning.specs.declared.state.Lvalue.{Lvalue}
 use Rattle.mv_meaning.specs.declared.state.Lvalue.TheVariants as lvalue
 use Rattle.mv_meaning.specs.Meaning.{Evaluation, Context, Denotation, read_lvalue, store_lvalue, global_element, local_element, value_or_trap, unless_zero, truth_of, values_of, known_value, call_at, call_through, target_lvalue, form_value, expr_denotation, form_of, lvalue_of, denotation_of, value_of}

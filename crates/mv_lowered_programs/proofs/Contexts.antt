@@ -1,17 +1,15 @@
 -- At each bound what is around an evaluation keeps what declared locals hold.
-use Rattle.std.proofs.Common.{◌≡◌, ℕ, zero, suc, ◌<◌, Bool, true, false, List, [], map, refl, Option, Some, None}
+use Rattle.std.proofs.Common.{◌≡◌, ℕ, zero, suc, ◌<◌, Bool, false, List, refl, Option, Some, None}
 use Rattle.std.specs.Prelude.{slice_get}
 use Rattle.mv_ast.specs.declared.program.CType.{CType}
 use Rattle.mv_ast.specs.declared.program.Program.{Program}
 use Rattle.mv_ast.specs.declared.program.Function.{Function}
-use Rattle.mv_ast.specs.declared.program.Stmt.{Stmt}
 use Rattle.mv_ast.specs.declared.world.Stop.{Stop}
 use Rattle.mv_ast.specs.declared.world.Stop.TheVariants.{Trapped, Unfinished}
-use Rattle.mv_ast.specs.Worlds.{World, Outcome, Came, Stopped, stop}
+use Rattle.mv_ast.specs.Worlds.{World, Outcome, Came, Stopped}
 use Rattle.mv_meaning.specs.declared.state.Frame.{Frame}
 use Rattle.mv_meaning.specs.declared.state.Flow.{Flow}
 use Rattle.mv_meaning.specs.Meaning.{Evaluation, Context, context_with, call_of, back_in, flow_of_all, frame_of, deeper}
-use Rattle.mv_lowered_programs.specs.Jumps.{stmt_jumps}
 use Rattle.mv_lowered_programs.specs.Scopes.{Scope, with_declared, stmt_scoped}
 use Rattle.mv_lowered_programs.specs.WellFormed.{parameters, IsWellFormedFunction}
 use Rattle.mv_lowered_programs.proofs.Agreement.{Agree, agree_refl, AlikeOutcome, alike_stop}

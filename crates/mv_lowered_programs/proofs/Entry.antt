@@ -1,6 +1,6 @@
 -- A function's frame when it begins, whatever it holds.
-use Rattle.std.proofs.Common.{◌≡◌, ℕ, zero, suc, ◌+◌, ◌-◌, ◌<◌, ◌≤◌, ◌⊎◌, inl, inr, Bool, true, false, cond, eqb, List, [], ◌∷◌, ◌++◌, map, length, take, drop, replicate, max, Option, Some, None, refl, sym, ◌∙◌, subst, ap, arith}
-use Rattle.std.specs.Prelude.{All, slice_index, slice_index_or, slice_get, count_by, zip}
+use Rattle.std.proofs.Common.{◌≡◌, ℕ, zero, suc, ◌+◌, ◌-◌, ◌<◌, ◌≤◌, ◌⊎◌, inl, inr, Bool, true, false, cond, eqb, List, [], ◌∷◌, ◌++◌, map, length, take, drop, replicate, Option, Some, None, refl, sym, ◌∙◌, ap, arith}
+use Rattle.std.specs.Prelude.{All, slice_index, slice_index_or, slice_get, zip}
 use Rattle.std.proofs.lemmas.Bool.{cases_lt, ltb-true}
 use Rattle.std.proofs.lemmas.List.Sums.{sum_by-cons}
 use Rattle.std.proofs.lemmas.List.{length-append, length-map, length-drop, length-replicate}
@@ -9,21 +9,20 @@ use Rattle.mv_ast.specs.declared.program.Function.{Function}
 use Rattle.mv_ast.specs.declared.program.Local.{Local}
 use Rattle.mv_ast.specs.declared.world.Binding.{Binding}
 use Rattle.mv_ast.specs.Counts.{words_of_size}
-use Rattle.mv_ast.specs.Plans.{attributed_before, switch_global, value_among, binding_value, bound_value, word_at}
+use Rattle.mv_ast.specs.Plans.{attributed_before, switch_global, value_among, binding_value, bound_value}
 use Rattle.mv_ast.specs.Worlds.{World}
 use Rattle.mv_meaning.specs.declared.state.Frame.{Frame}
 use Rattle.mv_meaning.specs.Meaning.{frame_of, deeper}
 use Rattle.mv_ir.specs.World as code_world
 use Rattle.mv_ir.specs.Outcome.{State}
 use Rattle.mv_ir.specs.Trees.{found}
-use Rattle.mv_ir.specs.Meaning.{Contents, first_items, first_temps, first_arrays, entry_state}
+use Rattle.mv_ir.specs.Meaning.{Contents, first_items, first_arrays, entry_state}
 use Rattle.mv_ir.specs.Levels.{Code, read_under, switches_read, one_if, frame_of_call}
 use Rattle.mv_ir.specs.Programs.{setting_of, place_if, next_place, code_from, code_of}
-use Rattle.mv_lowering.specs.Correct as c
 use Rattle.mv_lowering.specs.Correct.{seen}
-use Rattle.mv_lowering.specs.Lower.{global_words, is_void}
+use Rattle.mv_lowering.specs.Lower.{global_words}
 use Rattle.mv_lowering.specs.Statements as statements
-use Rattle.mv_lowering.specs.Functions.{size_of_local, size_in, elements_of, array_sizes, lower_body, lower_function, lower_program}
+use Rattle.mv_lowering.specs.Functions.{size_in, elements_of, array_sizes, lower_function, lower_program}
 use Rattle.mv_lowering.proofs.Forms.{word_is}
 use Rattle.mv_lowered_programs.specs.WellFormed.{parameters, IsWellFormedFunction}
 use Rattle.mv_lowered_programs.proofs.Agreement.{Agree}
@@ -99,10 +98,10 @@ local_words (suc n) [] (v ∷ vs) l e le lt = absurd (omega (arith, lt))
 local_words (suc n) (x ∷ ls) (v ∷ vs) zero e le lt = absurd (omega (arith, le))
 local_words (suc n) (x ∷ ls) (v ∷ vs) (suc l) e le lt = local_words n ls vs l (omega (arith, e)) (omega (arith, le)) (omega (arith, lt))
 
-all_head : {A : Type 0} (P : A → Type 0) (x : A) (xs : List A) → All P (x ∷ xs) → P x
+pub all_head : {A : Type 0} (P : A → Type 0) (x : A) (xs : List A) → All P (x ∷ xs) → P x
 all_head P x xs h = h 0 x (omega arith)
 
-all_tail : {A : Type 0} (P : A → Type 0) (x : A) (xs : List A) → All P (x ∷ xs) → All P xs
+pub all_tail : {A : Type 0} (P : A → Type 0) (x : A) (xs : List A) → All P (x ∷ xs) → All P xs
 all_tail P x xs h k d lt = h (suc k) d (omega (arith, lt))
 
 scalar_at : (n : ℕ) (ls : List Local) (l : ℕ) → All (λ (x : Local). x.size ≡ None) (take n ls) → l < n → size_in ls l ≡ None

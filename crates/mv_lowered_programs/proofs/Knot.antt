@@ -1,30 +1,29 @@
 -- All functions at once, by induction on the bound.
-use Rattle.std.proofs.Common.{◌≡◌, ℕ, zero, suc, ◌+◌, ◌*◌, ◌<◌, ◌≤◌, Bool, true, false, cond, eqb, List, [], ◌∷◌, ◌++◌, map, length, Option, Some, None, refl, sym, ◌∙◌, subst, ap, arith}
-use Rattle.std.specs.Prelude.{slice_get, slice_index_or, nat_eq, ◌&&◌}
+use Rattle.std.proofs.Common.{◌≡◌, ℕ, zero, suc, ◌+◌, ◌*◌, ◌<◌, ◌≤◌, Bool, true, false, List, [], ◌∷◌, ◌++◌, map, length, Option, Some, None, refl, sym, ◌∙◌, subst, ap, arith}
+use Rattle.std.specs.Prelude.{slice_get, nat_eq}
 use Rattle.std.proofs.lemmas.Bool.{eqb-true}
 use Rattle.mv_ast.specs.declared.program.Program.{Program}
 use Rattle.mv_ast.specs.declared.program.Function.{Function}
 use Rattle.mv_ast.specs.declared.world.Binding.{Binding}
 use Rattle.mv_ast.specs.declared.world.Stop.{Stop}
 use Rattle.mv_ast.specs.declared.world.Stop.TheVariants as stops
-use Rattle.mv_ast.specs.Plans.{same_truth, attributed_before, switch_global}
+use Rattle.mv_ast.specs.Plans.{same_truth, attributed_before}
 use Rattle.mv_ast.specs.Worlds.{World, Outcome, Came, Stopped, stop}
 use Rattle.mv_meaning.specs.declared.state.Frame.{Frame}
 use Rattle.mv_meaning.specs.declared.state.Flow.{Flow}
 use Rattle.mv_meaning.specs.declared.state.Flow.TheVariants.{Goes, Breaks, Continues, Returns}
-use Rattle.mv_meaning.specs.Meaning.{flow_of_all, frame_of, deeper, popped, back_in, call_of, returned_value}
+use Rattle.mv_meaning.specs.Meaning.{flow_of_all, frame_of, deeper, back_in, call_of, returned_value}
 use Rattle.mv_ir.specs.declared.stm.Stm.{Stm}
 use Rattle.mv_ir.specs.declared.stm.Stm.TheOpen as stm
 use Rattle.mv_ir.specs.World as code_world
 use Rattle.mv_ir.specs.Outcome.{State, End, Returned, Next, Leaves, Ends, Run, Bound, Calls, Call, spend, then_do}
 use Rattle.mv_ir.specs.Outcome as ir
-use Rattle.mv_ir.specs.Trees.{nodes}
 use Rattle.mv_ir.specs.Meaning.{code_meaning, meaning, Contents, entry_state, body_end, body_from, cleared}
 use Rattle.mv_ir.specs.Levels.{Code, one_if, called, levels}
 use Rattle.mv_ir.specs.Programs.{setting_of, place_if, code_of}
 use Rattle.mv_ir.proofs.Keeping.{map_append, in_order_append, one_meaning}
 use Rattle.mv_lowering.specs.Lowered.{number}
-use Rattle.mv_lowering.specs.Lower.{is_void, takes, is_callable, global_words}
+use Rattle.mv_lowering.specs.Lower.{is_void, takes}
 use Rattle.mv_lowering.specs.Statements as statements
 use Rattle.mv_lowering.specs.Statements.{return_with, out_of}
 use Rattle.mv_lowering.specs.Functions.{size_in, lower_body, lower_function, lower_program, outermost, ending}
@@ -37,15 +36,13 @@ use Rattle.mv_lowering.proofs.Expressions.{no, split}
 use Rattle.mv_lowering.proofs.AllStatements.{body_correct}
 use Rattle.mv_lowered_programs.specs.Scopes.{Scope}
 use Rattle.mv_lowered_programs.specs.WellFormed.{parameters, IsWellFormedFunction}
+use Rattle.mv_lowered_programs.specs.Laws.{HasGlobals}
 use Rattle.mv_lowered_programs.proofs.Agreement.{Agree, AlikeOutcome, alike_stop}
 use Rattle.mv_lowered_programs.proofs.Leaves as leaves
 use Rattle.mv_lowered_programs.proofs.AgreedStatements.{Leads}
 use Rattle.mv_lowered_programs.proofs.Contexts.{function_flows, steady_at}
 use Rattle.mv_lowered_programs.proofs.KnownAgree.{OwnIsLive, same_reads, known_agrees}
 use Rattle.mv_lowered_programs.proofs.Entry.{entry_frame, frame_for, code_for, code_is, shows_entry, agrees}
-
-abbrev pub HasGlobals : Program → World → Type 0
-HasGlobals p w = (x : ℕ) → length (slice_index_or w.globals x []) ≡ global_words p x
 
 abbrev pub call_from : Run → Call
 call_from r = record { cost = r.cost; end = body_end r.outcome }
@@ -196,7 +193,7 @@ module _ (p : Program) (numbers : List ℕ) (formed : (f : ℕ) (g : Function) �
   strays_keep scope = alike_stop Any {A = ℕ} (Agree scope) (leaves.Kept p Any any_trap scope {A = ℕ}) astray tt
 
   -- a function's body, whatever its frame holds when it begins, in some frame that goes with it
-  body_does : (j : ℕ) → ((i : ℕ) → i ≤ j → Agreed i) → (f : ℕ) (g : Function) → slice_get p.functions f ≡ Some g → (inner : code_world.Frame) → OwnIsLive p inner f → (contents : Contents) (vs : List ℕ) → length vs ≡ g.params → (began w : World) →
+  pub body_does : (j : ℕ) → ((i : ℕ) → i ≤ j → Agreed i) → (f : ℕ) (g : Function) → slice_get p.functions f ≡ Some g → (inner : code_world.Frame) → OwnIsLive p inner f → (contents : Contents) (vs : List ℕ) → length vs ≡ g.params → (began w : World) →
       statements.Shows p (setting_of numbers p) inner began.bindings f (length g.locals) (size_in g.locals) (lower_function p g).temps (is_void g.result) [] (entry_frame p f g (entry_state contents (lower_function p g) vs (seen w))) w (entry_state contents (lower_function p g) vs (seen w)) →
       Agree (parameters g) (entry_frame p f g (entry_state contents (lower_function p g) vs (seen w))) (frame_of f g vs) →
       BodyDoes p (is_void g.result) inner.live began (body_from (setting_of numbers p) inner contents (lower_function p g) vs (below j) (seen w)) (flow_of_all p (strict_context p numbers j) g.body (frame_of f g vs) w)

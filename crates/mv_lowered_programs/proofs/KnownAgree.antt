@@ -1,5 +1,5 @@
 -- The known functions do in the code what they do in the source.
-use Rattle.std.proofs.Common.{◌≡◌, ℕ, zero, suc, ◌+◌, ◌-◌, ◌*◌, ◌^◌, ◌<◌, ◌≤◌, Bool, true, false, cond, eqb, List, [], ◌∷◌, ◌++◌, length, Option, Some, None, refl, sym, ◌∙◌, subst, ap, arith, if◌then◌else◌, nat_eq}
+use Rattle.std.proofs.Common.{◌≡◌, ℕ, zero, suc, ◌+◌, ◌-◌, ◌^◌, ◌<◌, Bool, true, false, cond, List, [], ◌∷◌, length, Option, Some, None, refl, sym, ◌∙◌, subst, ap, arith, if◌then◌else◌, nat_eq}
 use Rattle.std.specs.Prelude.{unwrap_or, slice_get, slice_set, slice_index_or}
 use Rattle.std.proofs.lemmas.Bool.{eqb-true}
 use Rattle.std.proofs.lemmas.List.{length-set}
@@ -21,7 +21,6 @@ use Rattle.mv_ir.specs.Programs.{setting_of}
 use Rattle.mv_ir.specs.KnownFunctions.{next_byte, written, patch_cost, at_cost, poll_answer, seen_from}
 use Rattle.mv_lowering.specs.Correct as c
 use Rattle.mv_lowering.specs.Correct.{seen}
-use Rattle.mv_lowering.proofs.Expressions.{no}
 use Rattle.mv_lowering.proofs.Forms.{with_word_is}
 
 -- a frame of an attributed function is among the live ones

@@ -1,26 +1,22 @@
 -- Reads, stores, elements, known functions and calls in two frames that hold the same in some locals.
-use Rattle.std.proofs.Common.{◌≡◌, ℕ, zero, suc, ◌<◌, Bool, true, false, List, [], ◌∷◌, length, replicate, refl, sym, ◌∙◌, ap, subst, arith, Option, Some, None, if◌then◌else◌, nat_eq, nat_lt, slice_get}
+use Rattle.std.proofs.Common.{◌≡◌, ℕ, zero, suc, ◌<◌, true, List, [], ◌∷◌, length, refl, sym, ◌∙◌, ap, subst, arith, Option, Some, None, nat_eq, nat_lt, slice_get}
 use Rattle.std.specs.Prelude.{slice_index, slice_index_or, slice_set, unwrap_or}
 use Rattle.std.proofs.lemmas.List.{length-set}
 use Rattle.mv_ast.specs.declared.program.CType.{CType}
 use Rattle.mv_ast.specs.declared.program.Program.{Program}
 use Rattle.mv_ast.specs.declared.program.Known.{Known}
 use Rattle.mv_ast.specs.declared.program.Known.TheVariants.{Getchar, Putchar, Poll, Plan}
-use Rattle.mv_ast.specs.declared.program.Stmt.{Stmt}
 use Rattle.mv_ast.specs.declared.world.Stop.{Stop}
-use Rattle.mv_ast.specs.declared.world.Stop.TheVariants.{Trapped, Unfinished}
+use Rattle.mv_ast.specs.declared.world.Stop.TheVariants.{Trapped}
 use Rattle.mv_ast.specs.Numbering.{function_of_number}
 use Rattle.mv_ast.specs.Plans.{bound_value, word_at, with_word, words_or_none}
 use Rattle.mv_ast.specs.Worlds.{World, give, stop}
 use Rattle.mv_meaning.specs.declared.state.Frame.{Frame}
 use Rattle.mv_meaning.specs.declared.state.Lvalue.{Lvalue}
 use Rattle.mv_meaning.specs.declared.state.Lvalue.TheVariants as lvalue
-use Rattle.mv_meaning.specs.declared.state.Flow.{Flow}
-use Rattle.mv_meaning.specs.declared.state.Flow.TheVariants.{Goes, Breaks, Continues, Returns}
 use Rattle.mv_meaning.specs.Meaning.{Evaluation, Context, value_in, read_lvalue, store_lvalue, element_below, global_element, local_element, byte_of, known_value, value_or_trap, call_at, call_numbered, call_through}
 use Rattle.mv_lowering.proofs.Forms.{words_is, word_is, with_word_is}
-use Rattle.mv_lowered_programs.specs.Scopes.{Scope, with_declared, stmt_scoped}
-use Rattle.mv_lowered_programs.specs.Jumps.{stmt_jumps}
+use Rattle.mv_lowered_programs.specs.Scopes.{Scope}
 use Rattle.mv_lowered_programs.proofs.Agreement.{Agree, Post, Alike, AlikeOutcome, alike_give, alike_stop, alike_either}
 
 -- ---- one local changed

@@ -7,3 +7,4 @@ pub mod KnownAgree
 pub mod Entry
 pub mod Contexts
 pub mod Knot
+pub mod Programs

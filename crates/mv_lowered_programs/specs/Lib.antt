@@ -1,3 +1,4 @@
 pub mod Jumps
 pub mod Scopes
 pub mod WellFormed
+pub mod Laws

@@ -1,5 +1,5 @@
 -- Well-formed programs: what a checked program is, beside its types.
-use Rattle.std.specs.Prelude.{◌≡◌, ℕ, ◌≤◌, All, Bool, true, false, length, map, take, Option, Some, None, nat_lt, slice_get}
+use Rattle.std.specs.Prelude.{◌≡◌, ℕ, ◌≤◌, All, true, false, length, map, take, Some, None, nat_lt, slice_get}
 use Rattle.mv_ast.specs.declared.program.Program.{Program}
 use Rattle.mv_ast.specs.declared.program.Function.{Function}
 use Rattle.mv_ast.specs.Counts.{words_of_size}
