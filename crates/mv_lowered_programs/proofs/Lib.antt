@@ -8,3 +8,4 @@ pub mod Entry
 pub mod Contexts
 pub mod Knot
 pub mod Programs
+pub mod WorkedProgram
