@@ -1,5 +1,5 @@
 -- Whole programs: the lowered one does what the source means.
-use Rattle.std.proofs.Common.{◌≡◌, ℕ, zero, suc, ◌-◌, ◌<◌, ◌≤◌, Bool, true, false, cond, List, [], ◌∷◌, map, length, replicate, Option, Some, None, refl, sym, ◌∙◌, subst, ap, arith}
+use Rattle.std.proofs.Common.{◌≡◌, ℕ, zero, suc, ◌-◌, ◌<◌, Bool, true, false, cond, List, [], ◌∷◌, map, length, replicate, Option, Some, None, refl, sym, ◌∙◌, subst, ap, arith}
 use Rattle.std.specs.Prelude.{All, IsTrue, slice_get, slice_index_or, ◌&&◌, take}
 use Rattle.std.proofs.lemmas.Bool.{ne_eqb, eq-eqb}
 use Rattle.std.proofs.lemmas.List.{length-append, length-map, length-take, length-replicate}
@@ -37,7 +37,7 @@ use Rattle.mv_lowering.specs.Law.{fits_call, strict_context}
 use Rattle.mv_lowering.specs.Statements as statements
 use Rattle.mv_lowering.specs.Functions.{size_in, lower_function, lower_program}
 use Rattle.mv_lowering.proofs.Expressions.{no}
-use Rattle.mv_lowered_programs.specs.WellFormed.{parameters, IsWellFormed, IsWellFormedFunction}
+use Rattle.mv_lowered_programs.specs.WellFormed.{parameters, IsWellFormed, IsWellFormedFunction, IsWellFormedGlobal}
 use Rattle.mv_lowered_programs.specs.Laws.{HasGlobals, IsExecution}
 use Rattle.mv_lowered_programs.specs.Scopes.{Scope}
 use Rattle.mv_lowered_programs.proofs.Agreement.{agree_refl, AlikeOutcome}
@@ -50,14 +50,14 @@ use Rattle.mv_lowered_programs.proofs.Knot.{BodyDoes, codes, body_does, all_agre
 
 -- ---- the first world
 
-first_count : (numbers : List ℕ) (gs : List Global) (x : ℕ) → All (λ (g : Global). length g.first ≤ words_of_size g.size) gs →
+first_count : (numbers : List ℕ) (gs : List Global) (x : ℕ) → All IsWellFormedGlobal gs →
     length (slice_index_or (map (first_words_under numbers) gs) x []) ≡ words_of_global (slice_get gs x)
 first_count numbers [] x h = refl
 first_count numbers (g ∷ gs) zero h =
-    let given = all_head (λ (g : Global). length g.first ≤ words_of_size g.size) g gs h in
+    let given = (all_head IsWellFormedGlobal g gs h).given in
     length-map (first_words g) (renumbered_at g.ctype numbers) ∙ length-append g.first (replicate (words_of_size g.size - length g.first) 0) ∙
     omega (arith, given, length-replicate {A = ℕ} (words_of_size g.size - length g.first) 0)
-first_count numbers (g ∷ gs) (suc x) h = first_count numbers gs x (all_tail (λ (g : Global). length g.first ≤ words_of_size g.size) g gs h)
+first_count numbers (g ∷ gs) (suc x) h = first_count numbers gs x (all_tail IsWellFormedGlobal g gs h)
 
 -- ---- functions that fit
 
@@ -137,7 +137,7 @@ module _ (p : Program) (numbers : List ℕ) (formed : IsWellFormed p) (numbering
   no_arguments = sym formed.typed.entry.bare
 
   globals : HasGlobals p first
-  globals x = first_count numbers p.globals x formed.given
+  globals x = first_count numbers p.globals x formed.globals
 
   -- `main` isn't attributed
   unbound : (x : ℕ) → None ≡ bound_value p first.bindings p.main (slice_get p.functions p.main) x

@@ -1,5 +1,5 @@
 -- The program `int f(int a) { int b = a; while (b) { if (a) break; b = 0; } return b; } int main(void) { return f(3); }` is well formed.
-use Rattle.std.proofs.Common.{◌≡◌, ℕ, zero, suc, Bool, false, [], ◌∷◌, List, refl, sym, subst, ap, arith, Option, Some, None}
+use Rattle.std.proofs.Common.{◌≡◌, ℕ, ◌+◌, ◌≤◌, zero, suc, Bool, false, [], ◌∷◌, List, length, refl, sym, subst, ap, arith, Option, Some, None}
 use Rattle.std.specs.Prelude.{slice_get}
 use Rattle.std.proofs.lemmas.List.Elements.{All-nil, All-cons}
 use Rattle.mv_num.specs.declared.kind.Kind.TheVariants.{Int}
@@ -11,10 +11,14 @@ use Rattle.mv_ast.specs.declared.program.Function.{Function}
 use Rattle.mv_ast.specs.declared.program.Expr.{Expr, Expr-F, roll-Expr, every_made-Expr, fold-roll-Expr}
 use Rattle.mv_ast.specs.declared.program.Form.{Form, Form-F, map-Form, roll-Form, out-Form, out-roll-Form, every-Form, every_made-Form, fold-Form, fold-roll-Form}
 use Rattle.mv_ast.specs.declared.program.Form.TheOpen as form
-use Rattle.mv_ast.specs.declared.program.Target.{Target, Target-F, map-Target, fold-roll-Target, roll-Target, out-Target, out-roll-Target, every-Target, every_made-Target}
+use Rattle.mv_ast.specs.declared.program.Target.{Target, fold-Target, Target-F, map-Target, fold-roll-Target, roll-Target, out-Target, out-roll-Target, every-Target, every_made-Target}
 use Rattle.mv_ast.specs.declared.program.Stmt.{Stmt, Stmt-F, map-Stmt, roll-Stmt, every_made-Stmt, fold-roll-Stmt}
 use Rattle.mv_ast.specs.declared.program.Stmt.TheOpen as stmt
-use Rattle.mv_ast.specs.declared.program.Arm.{Arm}
+use Rattle.mv_ast.specs.declared.program.Arm.{Arm, Arm-F, fold-Arm}
+use Rattle.mv_ast.specs.Counts.{words_of_size, form_sum, target_sum, one_more_than, expr_nodes, stmt_sum, arm_sum, own_nodes, stmt_nodes}
+use Rattle.mv_lowered_programs.specs.Named.{all_layer, all_arm_layer, all_expressions, form_calls_known, target_in_parts, calls_known}
+use Rattle.mv_lowered_programs.specs.WellFormed.{program_nodes}
+use Rattle.std.specs.Prelude.{All}
 use Rattle.mv_numbering.specs.Typing.{HasType, LvalueHasType, HasTypedParts, IsTypedExpr, IsTypedAt, local_types, IsTypedStmt, IsTypedFunction}
 use Rattle.mv_ast.specs.Names.{names_local, form_names, target_names, inner_names, target_names_local}
 use Rattle.mv_lowering.specs.Lower.{names_form, names_target, names_layer, is_well_named, form_is_well_named, target_is_well_named}
@@ -114,6 +118,62 @@ module _ (l : ℕ) where
   target_names_at : (x : Target-F Form Target Expr) → target_names_local l (roll-Target x) ≡ target_names l (map-Target Form Target Expr Bool Bool Bool form_local (target_names_local l) (names_local l) x)
   target_names_at x = fold-roll-Target Bool Bool Bool form_names (target_names l) inner_names x
 
+-- known functions
+module _ (p : Program) where
+  abbrev form_known : Form → Bool
+  form_known = fold-Form Bool Bool Bool (form_calls_known p) target_in_parts layer_in
+
+  abbrev target_known : Target → Bool
+  target_known = fold-Target Bool Bool Bool (form_calls_known p) target_in_parts layer_in
+
+  known_at : (x : Expr-F Form Target Expr) → calls_known p (roll-Expr x) ≡ form_known x.what
+  known_at x = fold-roll-Expr Bool Bool Bool (form_calls_known p) target_in_parts layer_in x
+
+  form_known_at : (x : Form-F Form Target Expr) → form_known (roll-Form x) ≡ form_calls_known p (map-Form Form Target Expr Bool Bool Bool form_known target_known (calls_known p) x)
+  form_known_at x = fold-roll-Form Bool Bool Bool (form_calls_known p) target_in_parts layer_in x
+
+  target_known_at : (x : Target-F Form Target Expr) → target_known (roll-Target x) ≡ target_in_parts (map-Target Form Target Expr Bool Bool Bool form_known target_known (calls_known p) x)
+  target_known_at x = fold-roll-Target Bool Bool Bool (form_calls_known p) target_in_parts layer_in x
+
+module _ (holds : Expr → Bool) where
+  abbrev all_arm : Arm → Bool
+  all_arm = fold-Arm Bool Bool (all_layer holds) all_arm_layer
+
+  all_at : (x : Stmt-F Stmt Arm) → all_expressions holds (roll-Stmt x) ≡ all_layer holds (map-Stmt Stmt Arm Bool Bool (all_expressions holds) all_arm x)
+  all_at x = fold-roll-Stmt Bool Bool (all_layer holds) all_arm_layer x
+
+-- counts
+abbrev form_nodes : Form → ℕ
+form_nodes = fold-Form ℕ ℕ ℕ form_sum target_sum one_more_than
+
+abbrev target_nodes : Target → ℕ
+target_nodes = fold-Target ℕ ℕ ℕ form_sum target_sum one_more_than
+
+expr_nodes_at : (x : Expr-F Form Target Expr) → expr_nodes (roll-Expr x) ≡ 1 + form_nodes x.what
+expr_nodes_at x = fold-roll-Expr ℕ ℕ ℕ form_sum target_sum one_more_than x
+
+form_nodes_at : (x : Form-F Form Target Expr) → form_nodes (roll-Form x) ≡ form_sum (map-Form Form Target Expr ℕ ℕ ℕ form_nodes target_nodes expr_nodes x)
+form_nodes_at x = fold-roll-Form ℕ ℕ ℕ form_sum target_sum one_more_than x
+
+target_nodes_at : (x : Target-F Form Target Expr) → target_nodes (roll-Target x) ≡ target_sum (map-Target Form Target Expr ℕ ℕ ℕ form_nodes target_nodes expr_nodes x)
+target_nodes_at x = fold-roll-Target ℕ ℕ ℕ form_sum target_sum one_more_than x
+
+abbrev labels : Arm-F ℕ ℕ → ℕ
+labels a = length a.labels
+
+abbrev stmt_layer : Stmt-F ℕ ℕ → ℕ
+stmt_layer = stmt_sum expr_nodes own_nodes labels
+
+abbrev arm_layer : Arm-F ℕ ℕ → ℕ
+arm_layer = arm_sum expr_nodes own_nodes labels
+
+stmt_nodes_at : (x : Stmt-F Stmt Arm) → stmt_nodes (roll-Stmt x) ≡ stmt_layer (map-Stmt Stmt Arm ℕ ℕ stmt_nodes (fold-Arm ℕ ℕ stmt_layer arm_layer) x)
+stmt_nodes_at x = fold-roll-Stmt ℕ ℕ stmt_layer arm_layer x
+
+-- two functions; `f` has two locals, six statements, a given value and six expressions, `main` a statement and two expressions
+counted : program_nodes program ≡ 20
+counted = simp (stmt_nodes_at, expr_nodes_at, form_nodes_at, target_nodes_at) refl
+
 -- ---- the conditions
 
 f_formed : IsWellFormedFunction program 0 f
@@ -123,6 +183,8 @@ f_formed = record {
   named = simp (stmt_named_at, named_at, form_named_at, target_named_at, names_at, form_names_at, target_names_at) refl;
   declared = simp (scoped_at, declared_at, form_declared_at, target_declared_at) refl;
   jumps = simp (jumps_at) refl;
+  known = simp (all_at, known_at, form_known_at, target_known_at) refl;
+  switches = λ e. absurd (cc);
 }
 
 main_formed : IsWellFormedFunction program 1 main
@@ -132,6 +194,8 @@ main_formed = record {
   named = simp (stmt_named_at, named_at, form_named_at) refl;
   declared = simp (scoped_at, declared_at, form_declared_at) refl;
   jumps = simp (jumps_at) refl;
+  known = simp (all_at, known_at, form_known_at) refl;
+  switches = λ e. absurd (cc);
 }
 
 -- ---- the types
@@ -231,6 +295,23 @@ worked_program = record {
     entry = record { main = main; defined = refl; bare = refl; result = tt };
   };
   functions = formed;
-  given = All-nil _;
+  globals = All-nil _;
+  switches = All-nil _;
   entry = λ g e. let same : main ≡ g = cc in ap (λ (x : Function). x.attributed) (sym same);
+  limits = record {
+    functions = omega arith;
+    globals = omega arith;
+    parameters = All-cons (λ (g : Function). g.params ≤ 8) f (main ∷ []) (omega arith) (All-cons (λ (g : Function). g.params ≤ 8) main [] (omega arith) (All-nil _));
+    pointed_parameters = All-nil _;
+    switches = omega arith;
+    domains = All-nil _;
+    own_switches = All-nil _;
+    assignments = All-nil _;
+    global_elements = All-nil _;
+    local_elements =
+        All-cons (λ (g : Function). All (λ (l : Local). words_of_size l.size ≤ 262144) g.locals) f (main ∷ [])
+        (All-cons (λ (l : Local). words_of_size l.size ≤ 262144) an_int (an_int ∷ []) (omega arith) (All-cons (λ (l : Local). words_of_size l.size ≤ 262144) an_int [] (omega arith) (All-nil _)))
+        (All-cons (λ (g : Function). All (λ (l : Local). words_of_size l.size ≤ 262144) g.locals) main [] (All-nil _) (All-nil _));
+    nodes = omega (arith, counted);
+  };
 }
