@@ -1,5 +1,5 @@
 -- All functions at once, by induction on the bound.
-use Rattle.std.proofs.Common.{◌≡◌, ℕ, zero, suc, ◌+◌, ◌*◌, ◌<◌, ◌≤◌, Bool, true, false, List, [], ◌∷◌, ◌++◌, map, length, Option, Some, None, refl, sym, ◌∙◌, subst, ap, arith}
+use Rattle.std.proofs.Common.{inl, inr, ◌≡◌, ℕ, zero, suc, ◌+◌, ◌*◌, ◌<◌, ◌≤◌, Bool, true, false, List, [], ◌∷◌, ◌++◌, map, length, Option, Some, None, refl, sym, ◌∙◌, subst, ap, arith}
 use Rattle.std.specs.Prelude.{slice_get, nat_eq}
 use Rattle.std.proofs.lemmas.Bool.{eqb-true}
 use Rattle.mv_ast.specs.declared.program.Program.{Program}
@@ -37,10 +37,11 @@ use Rattle.mv_lowering.proofs.AllStatements.{body_correct}
 use Rattle.mv_lowered_programs.specs.Scopes.{Scope}
 use Rattle.mv_lowered_programs.specs.WellFormed.{parameters, IsWellFormedFunction}
 use Rattle.mv_lowered_programs.specs.Laws.{HasGlobals}
-use Rattle.mv_lowered_programs.proofs.Agreement.{Agree, AlikeOutcome, alike_stop}
+use Rattle.mv_lowered_programs.proofs.Agreement.{Agree, AlikeOutcome}
 use Rattle.mv_lowered_programs.proofs.Leaves as leaves
 use Rattle.mv_lowered_programs.proofs.AgreedStatements.{Leads}
-use Rattle.mv_lowered_programs.proofs.Contexts.{function_flows, steady_at}
+use Rattle.mv_lowered_programs.proofs.Contexts.{function_flows}
+use Rattle.mv_lowered_programs.proofs.Pairs.{Nothing, steady_same}
 use Rattle.mv_lowered_programs.proofs.KnownAgree.{OwnIsLive, same_reads, known_agrees}
 use Rattle.mv_lowered_programs.proofs.Entry.{entry_frame, frame_for, code_for, code_is, shows_entry, agrees}
 
@@ -71,17 +72,18 @@ BodyDoes p void live before x (Stopped why left work) = BodyHalted x why left wo
 abbrev pub Any : Stop → Type 0
 Any why = Unit {0}
 
-any_trap : (n : ℕ) → n < 256 → Any (stops.Trapped n)
+pub any_trap : (n : ℕ) → n < 256 → Any (stops.Trapped n)
 any_trap n lt = tt
 
 -- the frames don't matter
-same_body : (p : Program) (void : Bool) (live : ℕ) (before : World) (x : Call) (scope inner : Scope) (b c : Bool) (o q : Outcome Frame Flow) → AlikeOutcome Any Flow (Leads scope inner b c) o q →
+same_body : (p : Program) (void : Bool) (live : ℕ) (before : World) (x : Call) (scope inner : Scope) (b c : Bool) (o q : Outcome Frame Flow) → AlikeOutcome Nothing Any Flow (Leads scope inner b c) o q →
     BodyDoes p void live before x o → BodyDoes p void live before x q
 same_body p void live before x scope inner b c (Came flow f w n) (Came flow' f' w' n') h k =
     subst (λ (y : Flow). BodyReturned p void live before x y w' n') h.value (subst (λ (y : World). BodyReturned p void live before x flow y n') h.world (subst (λ y. BodyReturned p void live before x flow w y) h.work k))
 same_body p void live before x scope inner b c (Came flow f w n) (Stopped why w' n') h k = absurd h
 same_body p void live before x scope inner b c (Stopped why w n) (Came flow' f' w' n') h k = absurd h
-same_body p void live before x scope inner b c (Stopped why w n) (Stopped why' w' n') h k =
+same_body p void live before x scope inner b c (Stopped why w n) (Stopped why' w' n') (inl h) k = absurd h
+same_body p void live before x scope inner b c (Stopped why w n) (Stopped why' w' n') (inr h) k =
     subst (λ (y : Stop). BodyHalted x y w' n') h.why (subst (λ (y : World). BodyHalted x why y n') h.world (subst (λ y. BodyHalted x why w y) h.work k))
 
 contrary : {A : Type 0} → false ≡ true → A
@@ -95,7 +97,7 @@ Stays (Came Continues f w work) = ⊥
 Stays (Came (Returns v) f w work) = Unit {0}
 Stays (Stopped why w work) = Unit {0}
 
-stays : (scope inner : Scope) (o q : Outcome Frame Flow) → AlikeOutcome Any Flow (Leads scope inner false false) o q → Stays o
+stays : (scope inner : Scope) (o q : Outcome Frame Flow) → AlikeOutcome Nothing Any Flow (Leads scope inner false false) o q → Stays o
 stays scope inner (Came Goes f w n) (Came b f' w' n') h = tt
 stays scope inner (Came Breaks f w n) (Came b f' w' n') h = contrary h.frames.0
 stays scope inner (Came Continues f w n) (Came b f' w' n') h = contrary h.frames.0
@@ -189,8 +191,8 @@ module _ (p : Program) (numbers : List ℕ) (formed : (f : ℕ) (g : Function) �
   strict zero = record { numbers_are = refl; lets_are = refl; stray_is = refl }
   strict (suc k) = record { numbers_are = refl; lets_are = refl; stray_is = refl }
 
-  strays_keep : (scope : Scope) → leaves.Keeps p Any any_trap scope {A = ℕ} (stop astray)
-  strays_keep scope = alike_stop Any {A = ℕ} (Agree scope) (leaves.Kept p Any any_trap scope {A = ℕ}) astray tt
+  strays_keep : (scope : Scope) → leaves.Keeps p Nothing Any any_trap scope {A = ℕ} (λ z. stop astray)
+  strays_keep scope = leaves.keeps_stop p Nothing Any any_trap scope astray tt
 
   -- a function's body, whatever its frame holds when it begins, in some frame that goes with it
   pub body_does : (j : ℕ) → ((i : ℕ) → i ≤ j → Agreed i) → (f : ℕ) (g : Function) → slice_get p.functions f ≡ Some g → (inner : code_world.Frame) → OwnIsLive p inner f → (contents : Contents) (vs : List ℕ) → length vs ≡ g.params → (began w : World) →
@@ -207,7 +209,7 @@ module _ (p : Program) (numbers : List ℕ) (formed : (f : ℕ) (g : Function) �
       let body = flow_of_all p (strict_context p numbers j) g.body in
       let h = formed f g here in
       let alike =
-      function_flows p formed Any any_trap tt (strict_context p numbers j) (steady_at p formed Any any_trap tt numbers (fits_call p) (stop astray) strays_keep j) f g h from (frame_of f g vs) w same in
+      function_flows p formed Nothing Any any_trap tt (λ z. strict_context p numbers j) (steady_same p formed Any any_trap tt numbers (fits_call p) (stop astray) strays_keep j) f g h from (frame_of f g vs) w same in
       let shown =
       body_correct p (setting_of numbers p) inner began.bindings f n sizes room void j calls (strict_context p numbers) (omega arith) strict (λ s. refl) (λ k s. refl)
       (λ i up held floor scratch. subst (λ l. c.CallsAgree p (setting_of numbers p) inner began.bindings f n sizes held floor scratch room l (strict_context p numbers i)) (sym (same_levels i)) (ih i up inner began.bindings f n sizes held floor scratch room lively))

@@ -1,5 +1,5 @@
 -- Reads, stores, elements, known functions and calls in two frames that hold the same in some locals.
-use Rattle.std.proofs.Common.{◌≡◌, ℕ, zero, suc, ◌<◌, true, List, [], ◌∷◌, length, refl, sym, ◌∙◌, ap, subst, arith, Option, Some, None, nat_eq, nat_lt, slice_get}
+use Rattle.std.proofs.Common.{◌≡◌, ℕ, zero, suc, ◌<◌, Bool, false, true, List, [], ◌∷◌, length, refl, sym, ◌∙◌, ap, subst, arith, Option, Some, None, nat_eq, nat_lt, slice_get}
 use Rattle.std.specs.Prelude.{slice_index, slice_index_or, slice_set, unwrap_or}
 use Rattle.std.proofs.lemmas.List.{length-set}
 use Rattle.mv_ast.specs.declared.program.CType.{CType}
@@ -17,7 +17,7 @@ use Rattle.mv_meaning.specs.declared.state.Lvalue.TheVariants as lvalue
 use Rattle.mv_meaning.specs.Meaning.{Evaluation, Context, value_in, read_lvalue, store_lvalue, element_below, global_element, local_element, byte_of, known_value, value_or_trap, call_at, call_numbered, call_through}
 use Rattle.mv_lowering.proofs.Forms.{words_is, word_is, with_word_is}
 use Rattle.mv_lowered_programs.specs.Scopes.{Scope}
-use Rattle.mv_lowered_programs.proofs.Agreement.{Agree, Post, Alike, AlikeOutcome, alike_give, alike_stop, alike_either}
+use Rattle.mv_lowered_programs.proofs.Agreement.{Agree, Post, Alike, AlikeOutcome, alike_give, alike_stop, alike_either, alike_by}
 
 -- ---- one local changed
 
@@ -63,16 +63,19 @@ stored scope l i v f g there h =
     (agree_changed scope scope l us vs f g (length-set (slice_index_or f.locals l []) i v ∙ h.sizes l ∙ sym (length-set (slice_index_or g.locals l []) i v)) h
     (λ k q e. ap (λ ws. slice_set ws i v) (h.words l there)) (λ k q ne. q)))
 
-module _ (p : Program) (fine : Stop → Type 0) (traps : (n : ℕ) → n < 256 → fine (Trapped n)) (scope : Scope) where
+module _ (p : Program) (lost fine : Stop → Type 0) (traps : (n : ℕ) → n < 256 → fine (Trapped n)) (scope : Scope) where
   abbrev pub Kept : {A : Type 0} → Post A
   Kept a = Agree scope
 
   -- evaluations that keep what is in scope
-  abbrev pub Keeps : {A : Type 0} → Evaluation A → Type 0
-  Keeps {A} d = Alike fine (Agree scope) (Kept {A = A}) d
+  abbrev pub Keeps : {A : Type 0} → (Bool → Evaluation A) → Type 0
+  Keeps {A} d = Alike lost fine (Agree scope) (Kept {A = A}) d
 
-  pub keeps_give : {A : Type 0} (a : A) → Keeps (give a)
-  keeps_give {A = A} a = alike_give fine (Agree scope) (Kept {A = A}) a (λ f g h. h)
+  pub keeps_give : {A : Type 0} (a : A) → Keeps (λ z. give a)
+  keeps_give {A = A} a = alike_give lost fine (Agree scope) (Kept {A = A}) a (λ f g h. h)
+
+  pub keeps_stop : (s : Stop) → fine s → Keeps {A = ℕ} (λ z. stop s)
+  keeps_stop s h = alike_stop lost fine {A = ℕ} (Agree scope) (Kept {A = ℕ}) s h
 
   -- ---- lvalues
 
@@ -87,37 +90,38 @@ module _ (p : Program) (fine : Stop → Type 0) (traps : (n : ℕ) → n < 256 �
   same_value (lvalue.Global n i) f g w k h = ap (λ fn. unwrap_or (bound_value p w.bindings fn (slice_get p.functions fn) n) (word_at w.globals n i)) h.function
   same_value (lvalue.Local l i) f g w k h = word_is f.locals l i ∙ ap (λ ws. slice_index ws i) (h.words l k) ∙ sym (word_is g.locals l i)
 
-  pub keeps_read : (s : Lvalue) → InScope s → Keeps (read_lvalue p s)
+  pub keeps_read : (s : Lvalue) → InScope s → Keeps (λ z. read_lvalue p s)
   keeps_read s k f g w h = record { value = same_value s f g w k h; world = refl; work = refl; frames = h }
 
-  pub keeps_store : (s : Lvalue) (v : ℕ) → InScope s → Keeps (store_lvalue s v)
+  pub keeps_store : (s : Lvalue) (v : ℕ) → InScope s → Keeps (λ z. store_lvalue s v)
   keeps_store (lvalue.Global n i) v k f g w h = record { value = refl; world = refl; work = refl; frames = h }
   keeps_store (lvalue.Local l i) v k f g w h = record { value = refl; world = refl; work = refl; frames = stored scope l i v f g k h }
 
-  below_found : (size i : ℕ) (at : ℕ → Lvalue) → InScope (at i) → Alike fine (Agree scope) Found (element_below size i at)
+  below_found : (size i : ℕ) (at : ℕ → Lvalue) → InScope (at i) → Alike lost fine (Agree scope) Found (λ z. element_below size i at)
   below_found size i at k =
-      alike_either fine (Agree scope) Found (nat_lt i size) (give (at i)) (stop (Trapped 2)) (alike_give fine (Agree scope) Found (at i) (λ f g h. (k, h))) (alike_stop fine (Agree scope) Found (Trapped 2) (traps 2 (omega arith)))
+      alike_either lost fine (Agree scope) Found (nat_lt i size) (λ z. give (at i)) (λ z. stop (Trapped 2)) (alike_give lost fine (Agree scope) Found (at i) (λ f g h. (k, h)))
+      (alike_stop lost fine (Agree scope) Found (Trapped 2) (traps 2 (omega arith)))
 
-  pub found_global : (n i : ℕ) → Alike fine (Agree scope) Found (global_element n i)
+  pub found_global : (n i : ℕ) → Alike lost fine (Agree scope) Found (λ z. global_element n i)
   found_global n i f g w h = below_found (length (words_or_none (slice_get w.globals n))) i (lvalue.Global n) tt f g w h
 
-  pub found_local : (l i : ℕ) → scope l ≡ true → Alike fine (Agree scope) Found (local_element l i)
+  pub found_local : (l i : ℕ) → scope l ≡ true → Alike lost fine (Agree scope) Found (λ z. local_element l i)
   found_local l i k f g w h =
-      subst (λ size. AlikeOutcome fine Lvalue Found (local_element l i f w) (element_below size i (lvalue.Local l) g w))
+      subst (λ size. AlikeOutcome lost fine Lvalue Found (local_element l i f w) (element_below size i (lvalue.Local l) g w))
       (ap length (words_is f.locals l) ∙ h.sizes l ∙ sym (ap length (words_is g.locals l)))
       (below_found (length (words_or_none (slice_get f.locals l))) i (lvalue.Local l) k f g w h)
 
-  pub keeps_trap : (o : Option ℕ) → Keeps (value_or_trap o)
-  keeps_trap None = alike_stop fine (Agree scope) (Kept {A = ℕ}) (Trapped 1) (traps 1 (omega arith))
+  pub keeps_trap : (o : Option ℕ) → Keeps (λ z. value_or_trap o)
+  keeps_trap None = keeps_stop (Trapped 1) (traps 1 (omega arith))
   keeps_trap (Some v) = keeps_give v
 
   -- ---- known functions
 
-  byte_keeps : (bytes : List ℕ) → Keeps (byte_of bytes)
+  byte_keeps : (bytes : List ℕ) → Keeps (λ z. byte_of bytes)
   byte_keeps [] f g w h = record { value = refl; world = refl; work = refl; frames = h }
   byte_keeps (c ∷ rest) f g w h = record { value = refl; world = refl; work = refl; frames = h }
 
-  pub keeps_known : (k : Known) (vs : List ℕ) → Keeps (known_value p k vs)
+  pub keeps_known : (k : Known) (vs : List ℕ) → Keeps (λ z. known_value p k vs)
   keeps_known Getchar vs f g w h = byte_keeps w.input f g w h
   keeps_known Putchar vs f g w h = record { value = refl; world = refl; work = refl; frames = h }
   keeps_known Poll vs f g w h = record { value = refl; world = refl; work = refl; frames = h }
@@ -125,16 +129,20 @@ module _ (p : Program) (fine : Stop → Type 0) (traps : (n : ℕ) → n < 256 �
 
   -- ---- calls
 
-  module _ (context : Context) (calls : (n : ℕ) (vs : List ℕ) → Keeps (context.call n vs)) (stray : Keeps context.stray) where
-    pub keeps_call : (n : ℕ) (vs : List ℕ) → Keeps (call_at context n vs)
-    keeps_call n vs f g w h =
-        alike_either fine (Agree scope) (Kept {A = ℕ}) (nat_lt w.depth 512) (context.call n vs) (stop (Trapped 4)) (calls n vs) (alike_stop fine (Agree scope) (Kept {A = ℕ}) (Trapped 4) (traps 4 (omega arith))) f g w h
+  -- the calls of two contexts that number functions alike
+  pub record SteadyCalls (context : Bool → Context) : Type 0 where
+    pub numbers : (context false).numbers ≡ (context true).numbers
+    pub calls : (n : ℕ) (vs : List ℕ) → Keeps (λ z. (context z).call n vs)
+    pub numbered : (t : CType) (o : Option ℕ) (vs : List ℕ) → Keeps (λ z. call_numbered (context z) t o vs)
 
-    keeps_numbered : (t : CType) (o : Option ℕ) (vs : List ℕ) → Keeps (call_numbered context t o vs)
-    keeps_numbered t None vs = stray
-    keeps_numbered t (Some n) vs = alike_either fine (Agree scope) (Kept {A = ℕ}) (context.lets t n (length vs)) (call_at context n vs) context.stray (keeps_call n vs) stray
+  pub keeps_call : (context : Bool → Context) → ((n : ℕ) (vs : List ℕ) → Keeps (λ z. (context z).call n vs)) → (n : ℕ) (vs : List ℕ) → Keeps (λ z. call_at (context z) n vs)
+  keeps_call context calls n vs f g w h =
+      alike_either lost fine (Agree scope) (Kept {A = ℕ}) (nat_lt w.depth 512) (λ z. (context z).call n vs) (λ z. stop (Trapped 4)) (calls n vs) (keeps_stop (Trapped 4) (traps 4 (omega arith))) f g w h
 
-    pub keeps_through : (t : CType) (v : ℕ) (vs : List ℕ) → Keeps (call_through context t v vs)
-    keeps_through t v vs =
-        alike_either fine (Agree scope) (Kept {A = ℕ}) (nat_eq v 0) (stop (Trapped 3)) (call_numbered context t (function_of_number context.numbers v) vs)
-        (alike_stop fine (Agree scope) (Kept {A = ℕ}) (Trapped 3) (traps 3 (omega arith))) (keeps_numbered t (function_of_number context.numbers v) vs)
+  pub keeps_through : (context : Bool → Context) → SteadyCalls context → (t : CType) (v : ℕ) (vs : List ℕ) → Keeps (λ z. call_through (context z) t v vs)
+  keeps_through context steady t v vs =
+      let f = function_of_number (context true).numbers v in
+      alike_either lost fine (Agree scope) (Kept {A = ℕ}) (nat_eq v 0) (λ z. stop (Trapped 3)) (λ z. call_numbered (context z) t (function_of_number (context z).numbers v) vs)
+      (keeps_stop (Trapped 3) (traps 3 (omega arith)))
+      (alike_by lost fine (Agree scope) (Kept {A = ℕ}) (λ z. call_numbered (context z) t (function_of_number (context z).numbers v) vs) (λ z. call_numbered (context z) t f vs)
+      refl (ap (λ ns. call_numbered (context false) t (function_of_number ns v) vs) steady.numbers) (steady.numbered t f vs))

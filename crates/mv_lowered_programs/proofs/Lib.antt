@@ -6,6 +6,7 @@ pub mod AgreedStatements
 pub mod KnownAgree
 pub mod Entry
 pub mod Contexts
+pub mod Pairs
 pub mod Knot
 pub mod Programs
 pub mod WorkedProgram

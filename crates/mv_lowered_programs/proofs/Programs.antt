@@ -1,5 +1,5 @@
 -- Whole programs: the lowered one does what the source means.
-use Rattle.std.proofs.Common.{◌≡◌, ℕ, zero, suc, ◌-◌, ◌<◌, Bool, true, false, cond, List, [], ◌∷◌, map, length, replicate, Option, Some, None, refl, sym, ◌∙◌, subst, ap, arith}
+use Rattle.std.proofs.Common.{inl, inr, ◌≡◌, ℕ, zero, suc, ◌-◌, ◌<◌, Bool, true, false, cond, List, [], ◌∷◌, map, length, replicate, Option, Some, None, refl, sym, ◌∙◌, subst, ap, arith}
 use Rattle.std.specs.Prelude.{All, IsTrue, slice_get, slice_index_or, ◌&&◌, take}
 use Rattle.std.proofs.lemmas.Bool.{ne_eqb, eq-eqb}
 use Rattle.std.proofs.lemmas.List.{length-append, length-map, length-take, length-replicate}
@@ -43,7 +43,8 @@ use Rattle.mv_lowered_programs.specs.Scopes.{Scope}
 use Rattle.mv_lowered_programs.proofs.Agreement.{agree_refl, AlikeOutcome}
 use Rattle.mv_lowered_programs.proofs.Leaves as leaves
 use Rattle.mv_lowered_programs.proofs.AgreedStatements.{Leads}
-use Rattle.mv_lowered_programs.proofs.Contexts.{function_flows, steady_at}
+use Rattle.mv_lowered_programs.proofs.Contexts.{function_flows}
+use Rattle.mv_lowered_programs.proofs.Pairs.{Nothing, steady_same}
 use Rattle.mv_lowered_programs.proofs.KnownAgree.{OwnIsLive}
 use Rattle.mv_lowered_programs.proofs.Entry.{all_head, all_tail, entry_frame, code_is, shows_entry, agrees}
 use Rattle.mv_lowered_programs.proofs.Knot.{BodyDoes, codes, body_does, all_agreed}
@@ -91,20 +92,21 @@ NotAstray why = is_astray why ≡ false
 trap_not_astray : (n : ℕ) → n < 256 → NotAstray (stops.Trapped n)
 trap_not_astray n lt = ne_eqb n 256 (λ e. absurd (omega (arith, lt, e)))
 
-same_stop : (n : ℕ) (o : Outcome Frame Flow) (scope inner : Scope) (b c : Bool) → AlikeOutcome NotAstray Flow (Leads scope inner b c) o o → (meaning_of o).«end» ≡ Trap n → NotAstray (stops.Trapped n)
+same_stop : (n : ℕ) (o : Outcome Frame Flow) (scope inner : Scope) (b c : Bool) → AlikeOutcome Nothing NotAstray Flow (Leads scope inner b c) o o → (meaning_of o).«end» ≡ Trap n → NotAstray (stops.Trapped n)
 same_stop n (Came flow f w work) scope inner b c h e = absurd (cc)
-same_stop n (Stopped (stops.Trapped m) w work) scope inner b c h e =
+same_stop n (Stopped (stops.Trapped m) w work) scope inner b c (inl h) e = absurd h
+same_stop n (Stopped (stops.Trapped m) w work) scope inner b c (inr h) e =
     let same : m ≡ n = cc in
     subst (λ k. NotAstray (stops.Trapped k)) same h.may
 same_stop n (Stopped stops.Unfinished w work) scope inner b c h e = absurd (cc)
 
-stops_there : (why : Stop) (w : World) (work : ℕ) (o : Outcome Frame Flow) (scope inner : Scope) (b c : Bool) → AlikeOutcome NotAstray Flow (Leads scope inner b c) o o → meaning_of (Stopped why w work) ≡ meaning_of o → NotAstray why
+stops_there : (why : Stop) (w : World) (work : ℕ) (o : Outcome Frame Flow) (scope inner : Scope) (b c : Bool) → AlikeOutcome Nothing NotAstray Flow (Leads scope inner b c) o o → meaning_of (Stopped why w work) ≡ meaning_of o → NotAstray why
 stops_there (stops.Trapped n) w work o scope inner b c h e = same_stop n o scope inner b c h (sym (ap (λ (m : Meant). m.«end») e))
 stops_there stops.Unfinished w work o scope inner b c h e = refl
 
 -- ---- a run
 
-executed_is : (p : Program) (first : code_world.World) (void : Bool) (before : World) (x : Call) (o q : Outcome Frame Flow) (scope inner : Scope) (b c : Bool) → void ≡ false → AlikeOutcome NotAstray Flow (Leads scope inner b c) q q → meaning_of o ≡ meaning_of q →
+executed_is : (p : Program) (first : code_world.World) (void : Bool) (before : World) (x : Call) (o q : Outcome Frame Flow) (scope inner : Scope) (b c : Bool) → void ≡ false → AlikeOutcome Nothing NotAstray Flow (Leads scope inner b c) q q → meaning_of o ≡ meaning_of q →
     BodyDoes p void 0 before x o → IsExecution (meaning_of o) (execution_of first x.cost x.end)
 executed_is p first void before x (Came flow f w work) q scope inner b c nv k e h =
     subst (λ (y : Call). IsExecution (meaning_of (Came flow f w work)) (execution_of first y.cost y.end)) (sym (h.ends ∙ ap (λ z. record { cost = h.cost; end = Returned (result_of z (returned_value flow)) (seen w) }) nv))
@@ -193,12 +195,12 @@ module _ (p : Program) (numbers : List ℕ) (formed : IsWellFormed p) (numbering
   abbrev all_reached : CType → ℕ → ℕ → Bool
   all_reached t f n = true
 
-  zero_keeps : (scope : Scope) → leaves.Keeps p NotAstray trap_not_astray scope {A = ℕ} (give 0)
-  zero_keeps scope = leaves.keeps_give p NotAstray trap_not_astray scope {A = ℕ} 0
+  zero_keeps : (scope : Scope) → leaves.Keeps p Nothing NotAstray trap_not_astray scope {A = ℕ} (λ z. give 0)
+  zero_keeps scope = leaves.keeps_give p Nothing NotAstray trap_not_astray scope {A = ℕ} 0
 
-  plain_stops : AlikeOutcome NotAstray Flow (Leads (parameters main) (parameters main) false false) (came (context_at p numbers bound)) (came (context_at p numbers bound))
+  plain_stops : AlikeOutcome Nothing NotAstray Flow (Leads (parameters main) (parameters main) false false) (came (context_at p numbers bound)) (came (context_at p numbers bound))
   plain_stops =
-      function_flows p formed.functions NotAstray trap_not_astray refl (context_at p numbers bound) (steady_at p formed.functions NotAstray trap_not_astray refl numbers all_reached (give 0) zero_keeps bound) p.main main (formed.functions p.main main here)
+      function_flows p formed.functions Nothing NotAstray trap_not_astray refl (λ z. context_at p numbers bound) (steady_same p formed.functions NotAstray trap_not_astray refl numbers all_reached (give 0) zero_keeps bound) p.main main (formed.functions p.main main here)
       (frame_of p.main main []) (frame_of p.main main []) first (agree_refl (parameters main) (frame_of p.main main []))
 
   pub program_is_right : IsExecution (mean p input actions bound) (ir_meaning numbers (lower_program p) input actions bound)

@@ -10,7 +10,7 @@ use Rattle.mv_meaning.specs.declared.state.Frame.{Frame}
 use Rattle.mv_meaning.specs.declared.meant.Meant.{Meant}
 use Rattle.mv_meaning.specs.declared.meant.End.{End}
 use Rattle.mv_meaning.specs.declared.meant.End.TheVariants.{Exit, Trap, More}
-use Rattle.mv_meaning.specs.Meaning.{call_of, mean}
+use Rattle.mv_meaning.specs.Meaning.{call_of, context_at, mean}
 use Rattle.mv_numbering.specs.Numberings.{IsNumbering}
 use Rattle.mv_ir.specs.World as code_world
 use Rattle.mv_ir.specs.Outcome.{Returned, Call}
@@ -30,24 +30,30 @@ abbrev pub HasGlobals : Program → World → Type 0
 HasGlobals p w = (x : ℕ) → length (slice_index_or w.globals x []) ≡ global_words p x
 
 -- A call in the code is one in the source: it returns the same value, or none where the function is void, or stops in the same way, with the same world,
--- at a cost of at most 20 and 100 for one of work. Where the source goes astray nothing is said.
+-- at a cost of at most 20 and 100 for one of work.
 abbrev pub IsCall : Bool → Call → Outcome Frame ℕ → Type 0
 IsCall void c (Came v frame w work) = (c.end ≡ Returned (result_of void v) (seen w)) × (c.cost ≤ 20 + 100 * work)
-IsCall void c (Stopped why w work) = is_astray why ≡ false → (c.end ≡ end_of why (seen w)) × (c.cost ≤ 20 + 100 * work)
+IsCall void c (Stopped why w work) = (c.end ≡ end_of why (seen w)) × (c.cost ≤ 20 + 100 * work)
+
+-- whether an evaluation comes to a call through a pointer that reaches no function that fits
+abbrev pub goes_astray : Outcome Frame ℕ → Bool
+goes_astray (Came v frame w work) = false
+goes_astray (Stopped why w work) = is_astray why
 
 -- in a frame of a function that is called in a world
 abbrev pub callee_frame : Program → ℕ → Function → World → code_world.Frame
 callee_frame p f g w = frame_of_call (place_if g.attributed (attributed_before p.functions f)) (lower_function p g).switches w.depth w.live (seen w)
 
 -- At each bound, under each numbering, in each world and whatever its frame holds when it begins, a lowered function of a well-formed program does what
--- the source's does, callees included, where calls through pointers reach only functions that fit.
+-- the source's does, callees included, where no call through a pointer goes astray.
 abbrev pub FunctionsAreRight : Type 0
 FunctionsAreRight =
     (p : Program) (numbers : List ℕ) (bound f : ℕ) (g : Function) → IsWellFormed p → slice_get p.functions f ≡ Some g →
     (contents : Contents) (vs : List ℕ) (frame : Frame) (w : World) → length vs ≡ g.params → HasGlobals p w →
+    goes_astray (call_of p (strict_context p numbers bound) f (Some g) vs frame w) ≡ false →
     IsCall (is_void g.result)
     (body_from (setting_of numbers p) (callee_frame p f g w) contents (lower_function p g) vs (levels (setting_of numbers p) (code_of (lower_program p)) bound) (seen w))
-    (call_of p (strict_context p numbers bound) f (Some g) vs frame w)
+    (call_of p (context_at p numbers bound) f (Some g) vs frame w)
 
 -- ---- programs
 
