@@ -159,9 +159,6 @@ module _ (p : Program) where
   live_is true n live = refl
   live_is false n live = refl
 
-  pub live_above : (n live : ℕ) → live ≤ live + one_if (place_if true n)
-  live_above n live = omega arith
-
   -- ---- the frame
 
   abbrev pub entry_frame : ℕ → Function → State → Frame

@@ -86,9 +86,6 @@ same_body p void live before x scope inner b c (Stopped why w n) (Stopped why' w
 same_body p void live before x scope inner b c (Stopped why w n) (Stopped why' w' n') (inr h) k =
     subst (λ (y : Stop). BodyHalted x y w' n') h.why (subst (λ (y : World). BodyHalted x why y n') h.world (subst (λ y. BodyHalted x why w y) h.work k))
 
-contrary : {A : Type 0} → false ≡ true → A
-contrary e = no e
-
 -- no jump leads out
 abbrev Stays : Outcome Frame Flow → Type 0
 Stays (Came Goes f w work) = Unit {0}
@@ -99,8 +96,8 @@ Stays (Stopped why w work) = Unit {0}
 
 stays : (scope inner : Scope) (o q : Outcome Frame Flow) → AlikeOutcome Nothing Any Flow (Leads scope inner false false) o q → Stays o
 stays scope inner (Came Goes f w n) (Came b f' w' n') h = tt
-stays scope inner (Came Breaks f w n) (Came b f' w' n') h = contrary h.frames.0
-stays scope inner (Came Continues f w n) (Came b f' w' n') h = contrary h.frames.0
+stays scope inner (Came Breaks f w n) (Came b f' w' n') h = no h.frames.0
+stays scope inner (Came Continues f w n) (Came b f' w' n') h = no h.frames.0
 stays scope inner (Came (Returns v) f w n) (Came b f' w' n') h = tt
 stays scope inner (Came a f w n) (Stopped why' w' n') h = absurd h
 stays scope inner (Stopped why w n) q h = tt

@@ -53,16 +53,13 @@ stored_lengths (x ∷ xs) (suc l) (suc k) i v = stored_lengths xs l k i v
 
 module _ (p : Program) (numbers : List ℕ) (frame : code_world.Frame) (began : List Binding) (own locals : ℕ) (sizes : ℕ → Option ℕ) (held : ℕ → Option (List ℕ × List ℕ)) (floor : ℕ) (scratch : ℕ → ℕ) (room : ℕ) (bound : Bound)
     (lively : OwnIsLive p frame own) where
-  abbrev Reached : code_world.Answer → ℕ → Frame → Frame → World → World → ℕ → Type 0
-  Reached = c.KnownReached p (setting_of numbers p) frame began own locals sizes held floor scratch room bound
-
   abbrev Shown : code_world.Answer → Frame → World → Outcome Frame ℕ → Type 0
   Shown = c.KnownShown p (setting_of numbers p) frame began own locals sizes held floor scratch room bound
 
   abbrev Unmoved : Frame → Frame → World → World → Type 0
   Unmoved = c.Unmoved p (setting_of numbers p) frame began own locals sizes held floor scratch room bound
 
-  -- the bindings are as before
+  -- nothing is changed
   unmoved : (f : Frame) (w : World) → Unmoved f f w w
   unmoved f w = record { globals = λ g. refl; frame_same = refl; depth = refl; live = refl; pinned = λ lt. refl; switches = λ g. refl }
 
@@ -160,8 +157,8 @@ module _ (p : Program) (numbers : List ℕ) (frame : code_world.Frame) (began : 
   polled_shown false f w e q = record { value = refl; world = refl; unmoved = unmoved f w; paid = omega arith }
 
   -- the tests of the two sides are one
-  both_tests : (f : Frame) (w : World) (R : Bool → Bool → Type 0) → w.live ≡ frame.live → R (nat_eq w.live 0) (nat_eq w.live 0) → R (nat_eq frame.live 0) (nat_eq w.live 0)
-  both_tests f w R q h = subst (λ n. R (nat_eq n 0) (nat_eq w.live 0)) q h
+  both_tests : (w : World) (R : Bool → Bool → Type 0) → w.live ≡ frame.live → R (nat_eq w.live 0) (nat_eq w.live 0) → R (nat_eq frame.live 0) (nat_eq w.live 0)
+  both_tests w R q h = subst (λ n. R (nat_eq n 0) (nat_eq w.live 0)) q h
 
   pub known_agrees : (k : Known) → c.KnownAgrees p (setting_of numbers p) frame began own locals sizes held floor scratch room bound k
   known_agrees Getchar = λ vs f w hf hl. taken w.input f w
@@ -170,7 +167,7 @@ module _ (p : Program) (numbers : List ℕ) (frame : code_world.Frame) (began : 
       let there = seen_from 0 frame.live (seen w) in
       subst (λ a. Shown (poll_answer p a) f w (source_poll (polled p w) f w)) (sym (polled_is there))
       (subst (λ a. Shown (poll_answer p (polled_as (nat_eq frame.live 0) there)) f w (source_poll a f w)) (sym (polled_is w))
-      (both_tests f w (λ x y. Shown (poll_answer p (polled_as x there)) f w (source_poll (polled_as y w) f w)) hl (polled_shown (nat_eq w.live 0) f w refl hl)))
+      (both_tests w (λ x y. Shown (poll_answer p (polled_as x there)) f w (source_poll (polled_as y w) f w)) hl (polled_shown (nat_eq w.live 0) f w refl hl)))
   known_agrees (Plan code index) = λ vs f w hf hl.
-      both_tests f w (λ x y. Shown (at_cost (patch_cost p) (carried code index x (seen_from 0 frame.live (seen w)))) f w (answered (1 + patchable p) (carried code index y w) f w)) hl
+      both_tests w (λ x y. Shown (at_cost (patch_cost p) (carried code index x (seen_from 0 frame.live (seen w)))) f w (answered (1 + patchable p) (carried code index y w) f w)) hl
       (ordered_shown code index (nat_eq w.live 0) f w refl hl)
