@@ -4,3 +4,4 @@ pub mod Correct
 pub mod Law
 pub mod Statements
 pub mod LowerStatements
+pub mod Functions
