@@ -1,0 +1,36 @@
+-- Lists of names in which each stands once.
+use Rattle.std.specs.Prelude.{ℕ, Bool, List, [], ◌∷◌, ◌++◌, map, fold, Option, filter, position, nat_eq, if◌then◌else◌}
+use Rattle.std.specs.List.{list_any}
+use Rattle.std.specs.Cmp.Lexicographic.{pointwise}
+use Rattle.std.specs.declared.vec.Vec.{Vec}
+use Rattle.std.specs.declared.alloc.Global.{Global}
+
+abbrev pub same_name : List ℕ → List ℕ → Bool
+same_name = pointwise nat_eq
+
+abbrev pub is_among : List ℕ → List (List ℕ) → Bool
+is_among name = list_any (same_name name)
+
+-- a name goes last, unless it is there already
+abbrev pub with_name : List (List ℕ) → List ℕ → List (List ℕ)
+with_name names name = if is_among name names then names else names ++ name ∷ []
+
+-- the names that are added in this order to some that are there
+abbrev pub with_names : List (List ℕ) → List (List ℕ) → List (List ℕ)
+with_names = fold with_name
+
+-- each name once, in order of first appearance
+abbrev pub each_once : List (List ℕ) → List (List ℕ)
+each_once = with_names []
+
+-- the place of a name
+abbrev pub place_of : List ℕ → List (List ℕ) → Option ℕ
+place_of name names = position (same_name name) names
+
+-- the names that the keys of a set hold
+abbrev pub names_of : List (Vec ℕ Global) → List (List ℕ)
+names_of = map (λ k. k.items)
+
+-- those of some names that stand among others
+abbrev pub among : List (List ℕ) → List (List ℕ) → List (List ℕ)
+among others names = each_once (filter (λ n. is_among n others) names)
