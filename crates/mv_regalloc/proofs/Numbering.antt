@@ -50,11 +50,11 @@ begins_not xs at h ne = by (any xs) refl
     by true k = let s = first_sum 0 xs k in ap (λ c. c && eqb (first_from 0 xs) at) k ∙ ne_eqb (first_from 0 xs) at (λ f. ne (omega (arith, s, h, f)))
     by false k = ap (λ c. c && eqb (first_from 0 xs) at) k
 
-both_left : (a b : Bool) → (a && b) ≡ true → a ≡ true
+pub both_left : (a b : Bool) → (a && b) ≡ true → a ≡ true
 both_left true b h = refl
 both_left false b h = h
 
-both_right : (a b : Bool) → (a && b) ≡ true → b ≡ true
+pub both_right : (a b : Bool) → (a && b) ≡ true → b ≡ true
 both_right true b h = h
 both_right false b h = let e : false ≡ true = h in absurd cc
 
@@ -71,13 +71,13 @@ module _ (marks : ℕ → List Bool) (n : ℕ) (s : Spans) (h : AreSpansOf marks
   abbrev At : ℕ → ℕ → Interval
   At t first = interval t first (s.positions - slice_index s.ends t - 1)
 
-  span_at : (t first : ℕ) → t < n → any (marks t) ≡ true → first_from 0 (marks t) ≡ first → At t first ≡ span marks t
+  pub span_at : (t first : ℕ) → t < n → any (marks t) ≡ true → first_from 0 (marks t) ≡ first → At t first ≡ span marks t
   span_at t first l a f =
       let e = end_of t l a in
       let last : s.positions - slice_index s.ends t - 1 ≡ last_from 0 (marks t) = omega (arith, e) in
       ap (λ k. interval t k (s.positions - slice_index s.ends t - 1)) (sym f) ∙ ap (interval t (first_from 0 (marks t))) last
 
-  before_end : (t first : ℕ) → t < n → any (marks t) ≡ true → first_from 0 (marks t) ≡ first → first < s.positions - slice_index s.ends t
+  pub before_end : (t first : ℕ) → t < n → any (marks t) ≡ true → first_from 0 (marks t) ≡ first → first < s.positions - slice_index s.ends t
   before_end t first l a f = let e = end_of t l a in let o = first_last 0 (marks t) a in omega (arith, e, o, f)
 
   -- ---- parameters
@@ -100,43 +100,6 @@ module _ (marks : ℕ → List Bool) (n : ℕ) (s : Spans) (h : AreSpansOf marks
         subst (λ j. Tracks (given marks j) ends numbers) next
         (subst (λ d. Tracks d ends numbers) (given_placed marks k (zero_of (marks k) marked))
         (subst (λ x. Tracks (placed (given marks k) x ∷ given marks k) ends numbers) (span_at k 0 low (some_of (marks k) marked) (zero_of (marks k) marked)) t))
-
-  -- ---- the others
-
-  module _ (at a t : ℕ) (low : a ≤ t) (high : t < n) (here : at < s.positions) where
-    abbrev before : List Interval
-    before = beginning marks at (range a (t - a))
-
-    scan_more : (done : List Placed) (xs : List Interval) → beginning marks at (t ∷ []) ≡ xs → scan done (beginning marks at (range a (t + 1 - a))) ≡ scan (scan done before) xs
-    scan_more done xs e =
-        let m : t + 1 - a ≡ suc (t - a) = omega (arith, low) in
-        let f : a + (t - a) ≡ t = omega (arith, low) in
-        ap (λ k. scan done (beginning marks at (range a k))) m ∙ ap (scan done) (beginning_more marks at a (t - a) ∙ ap (λ k. before ++ beginning marks at (k ∷ [])) f ∙ ap (λ l. before ++ l) e) ∙ scan_append done before xs
-
-    test_of : slice_index s.begins t ≡ s.positions - at → (any (marks t) && eqb (first_from 0 (marks t)) at) ≡ true
-    test_of e =
-        let p = h.positions t in
-        begins_test (marks t) at (omega (arith, p, here)) (let b = h.begins t high in omega (arith, b, p, e))
-
-    pub at_before : slice_index s.begins t ≡ s.positions - at → at < s.positions - slice_index s.ends t
-    at_before e =
-        let test = test_of e in
-        before_end t at high (both_left _ _ test) (eqb-true (first_from 0 (marks t)) at (both_right (any (marks t)) (eqb (first_from 0 (marks t)) at) test))
-
-    pub at_placed : slice_index s.begins t ≡ s.positions - at → (done : List Placed) (ends numbers : List ℕ) → Tracks (placed (scan done before) (At t at) ∷ scan done before) ends numbers → Tracks (scan done (beginning marks at (range a (t + 1 - a)))) ends numbers
-    at_placed e done ends numbers k =
-        let test = test_of e in
-        let first = eqb-true (first_from 0 (marks t)) at (both_right (any (marks t)) (eqb (first_from 0 (marks t)) at) test) in
-        let list : beginning marks at (t ∷ []) ≡ span marks t ∷ [] = ap (λ c. cond c (span marks t ∷ []) []) test in
-        subst (λ d. Tracks d ends numbers) (sym (scan_more done (span marks t ∷ []) list))
-        (subst (λ x. Tracks (placed (scan done before) x ∷ scan done before) ends numbers) (span_at t at high (both_left _ _ test) first) k)
-
-    pub at_passed : (slice_index s.begins t ≡ s.positions - at → ⊥) → (done : List Placed) (ends numbers : List ℕ) → Tracks (scan done before) ends numbers → Tracks (scan done (beginning marks at (range a (t + 1 - a)))) ends numbers
-    at_passed ne done ends numbers k =
-        let p = h.positions t in
-        let test = begins_not (marks t) at (omega (arith, p, here)) (λ e. ne (let b = h.begins t high in omega (arith, b, p, e))) in
-        let list : beginning marks at (t ∷ []) ≡ [] = ap (λ c. cond c (span marks t ∷ []) []) test in
-        subst (λ d. Tracks d ends numbers) (sym (scan_more done [] list)) k
 
 -- ---- one position
 

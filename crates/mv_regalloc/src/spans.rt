@@ -5,8 +5,10 @@ ghost use Rattle.mv_ir.specs.Live.{mark_at, all_marks};
 ghost use Rattle.mv_regalloc.specs.Rows.{sets, with_reads, either_bits, put_bit, live_before, rows_in_order, stm_rows};
 ghost use Rattle.mv_regalloc.specs.Spanned.{Adds, AreSpansOf, with_params};
 
-use crate::bits::{has, join, put, read_tree, set};
-use crate::live::{Levels, live_loop, live_stm};
+use crate::levels::Levels;
+use crate::live::{live_loop, live_stm};
+use crate::live_set::LiveSet;
+use crate::reads::read_tree;
 use mv_ir::body::Body;
 use mv_ir::stm::Stm;
 use mv_ir::tree::Tree;
@@ -29,27 +31,29 @@ fn zeros(alloc: Global, count: usize) -> Result<List<u64>, AllocError>
 }
 
 // Puts a value at each place that a row marks.
-fn put_marked(items: &mut List<u64>, row: &List<bool>, value: u64)
+fn put_marked(items: &mut List<u64>, row: &LiveSet, value: u64)
     ensures length { length items.new ≡ length items.old }
     ensures items { (t : ℕ) → t < length items.old →
         slice_index items.new t ≡ cond (mark_at row.now t) value (slice_index items.old t) }
 {
-    for place in 0..items.len() {
-        if has(row, place) {
+    for place in row.places() {
+        let place = *place as usize;
+        if place < items.len() {
             items.set(place, value);
         }
     }
 }
 
 // Puts a value at each place that a row marks and where the other list has 0.
-fn put_first(items: &mut List<u64>, others: &List<u64>, row: &List<bool>, value: u64)
+fn put_first(items: &mut List<u64>, others: &List<u64>, row: &LiveSet, value: u64)
     ensures length { length items.new ≡ length items.old }
     ensures items { (t : ℕ) → t < length items.old →
         slice_index items.new t ≡
         cond (mark_at row.now t && eqb (slice_index others.now t) 0) value (slice_index items.old t) }
 {
-    for place in 0..items.len() {
-        if has(row, place) && is_zero(others, place) {
+    for place in row.places() {
+        let place = *place as usize;
+        if place < items.len() && is_zero(others, place) {
             items.set(place, value);
         }
     }
@@ -67,7 +71,7 @@ fn is_zero(items: &List<u64>, place: usize) -> bool
 impl Spans {
     /// One position more before the others, at which a row marks temporaries. A body's positions are fewer than
     /// 2^64, since each takes memory.
-    pub fn mark(&mut self, row: &List<bool>) -> Result<(), AllocError>
+    pub fn mark(&mut self, row: &LiveSet) -> Result<(), AllocError>
         ensures { OnOk result (Adds (row.now ∷ []) self.old self.new) }
     {
         let behind = self.positions;
@@ -86,12 +90,13 @@ impl Spans {
 pub fn mark_code(
     alloc: Global,
     code: &List<Stm>,
-    bits: &mut List<bool>,
-    levels: &Levels,
+    bits: &mut LiveSet,
+    levels: &mut Levels,
     spans: &mut Spans,
 ) -> Result<(), AllocError>
-    ensures live { OnOk result (bits.new ≡ live_before (map stm_rows code.now) (sets levels.now bits.old)) }
-    ensures rows { OnOk result (Adds (rows_in_order (map stm_rows code.now) (sets levels.now bits.old)) spans.old spans.new) }
+    ensures live { OnOk result (bits.new ≡ live_before (map stm_rows code.now) (sets levels.old bits.old)) }
+    ensures rows { OnOk result (Adds (rows_in_order (map stm_rows code.now) (sets levels.old bits.old)) spans.old spans.new) }
+    ensures levels { OnOk result (levels.new ≡ levels.old) }
 {
     let stms = code.as_slice();
     for done in 0..stms.len() {
@@ -105,12 +110,13 @@ pub fn mark_code(
 fn mark_stm(
     alloc: Global,
     stm: &Stm,
-    bits: &mut List<bool>,
-    levels: &Levels,
+    bits: &mut LiveSet,
+    levels: &mut Levels,
     spans: &mut Spans,
 ) -> Result<(), AllocError>
-    ensures live { OnOk result (bits.new ≡ (stm_rows stm.now).live (sets levels.now bits.old)) }
-    ensures rows { OnOk result (Adds ((stm_rows stm.now).rows (sets levels.now bits.old)) spans.old spans.new) }
+    ensures live { OnOk result (bits.new ≡ (stm_rows stm.now).live (sets levels.old bits.old)) }
+    ensures rows { OnOk result (Adds ((stm_rows stm.now).rows (sets levels.old bits.old)) spans.old spans.new) }
+    ensures levels { OnOk result (levels.new ≡ levels.old) }
 {
     match stm {
         Stm::Set(t, _) => mark_plain(alloc, stm, Some(*t), bits, levels, spans),
@@ -140,20 +146,22 @@ fn mark_stm(
 fn mark_loop(
     alloc: Global,
     code: &List<Stm>,
-    bits: &mut List<bool>,
-    levels: &Levels,
+    bits: &mut LiveSet,
+    levels: &mut Levels,
     spans: &mut Spans,
 ) -> Result<(), AllocError>
-    ensures live { OnOk result (bits.new ≡ (stm_rows (Stm.Loop code.now)).live (sets levels.now bits.old)) }
+    ensures live { OnOk result (bits.new ≡ (stm_rows (Stm.Loop code.now)).live (sets levels.old bits.old)) }
     ensures rows { OnOk result (
-        Adds ((stm_rows (Stm.Loop code.now)).rows (sets levels.now bits.old)) spans.old spans.new
+        Adds ((stm_rows (Stm.Loop code.now)).rows (sets levels.old bits.old)) spans.old spans.new
         ) }
+    ensures levels { OnOk result (levels.new ≡ levels.old) }
 {
     let behind = bits.copied(alloc)?;
     live_loop(alloc, code, bits, levels)?;
-    let inner = levels.inside(alloc, &behind, bits)?;
+    levels.enter(alloc, &behind, bits)?;
     let mut within = bits.copied(alloc)?;
-    mark_code(alloc, code, &mut within, &inner, spans)?;
+    mark_code(alloc, code, &mut within, levels, spans)?;
+    levels.leave();
     spans.mark(bits)
 }
 
@@ -162,34 +170,37 @@ fn mark_loop(
 fn mark_block(
     alloc: Global,
     code: &List<Stm>,
-    bits: &mut List<bool>,
-    levels: &Levels,
+    bits: &mut LiveSet,
+    levels: &mut Levels,
     spans: &mut Spans,
 ) -> Result<(), AllocError>
-    ensures live { OnOk result (bits.new ≡ (stm_rows (Stm.Block code.now)).live (sets levels.now bits.old)) }
+    ensures live { OnOk result (bits.new ≡ (stm_rows (Stm.Block code.now)).live (sets levels.old bits.old)) }
     ensures rows { OnOk result (
-        Adds ((stm_rows (Stm.Block code.now)).rows (sets levels.now bits.old)) spans.old spans.new
+        Adds ((stm_rows (Stm.Block code.now)).rows (sets levels.old bits.old)) spans.old spans.new
         ) }
+    ensures levels { OnOk result (levels.new ≡ levels.old) }
 {
-    let inner = levels.inside(alloc, bits, &levels.none)?;
-    mark_code(alloc, code, bits, &inner, spans)?;
+    let none = levels.none(alloc)?;
+    levels.enter(alloc, bits, &none)?;
+    mark_code(alloc, code, bits, levels, spans)?;
+    levels.leave();
     spans.mark(bits)
 }
 
 // The position of an `If`, from what is live before its two lists.
 fn mark_test(
     test: &Tree,
-    bits: &mut List<bool>,
-    others: &List<bool>,
+    bits: &mut LiveSet,
+    others: &LiveSet,
     spans: &mut Spans,
 ) -> Result<(), AllocError>
-    ensures live { bits.new ≡ with_reads test.now (either_bits bits.old others.now) }
+    ensures live { OnOk result (bits.new ≡ with_reads test.now (either_bits bits.old others.now)) }
     ensures rows { OnOk result (
         Adds (with_reads test.now (either_bits bits.old others.now) ∷ []) spans.old spans.new
         ) }
 {
-    join(bits, others);
-    read_tree(bits, test);
+    bits.join(others)?;
+    read_tree(bits, test)?;
     spans.mark(bits)
 }
 
@@ -198,35 +209,31 @@ fn mark_plain(
     alloc: Global,
     stm: &Stm,
     written: Option<u32>,
-    bits: &mut List<bool>,
-    levels: &Levels,
+    bits: &mut LiveSet,
+    levels: &mut Levels,
     spans: &mut Spans,
 ) -> Result<(), AllocError>
-    ensures live { OnOk result (bits.new ≡ (stm_rows stm.now).live (sets levels.now bits.old)) }
+    ensures live { OnOk result (bits.new ≡ (stm_rows stm.now).live (sets levels.old bits.old)) }
     ensures rows { OnOk result (
-        Adds (put_bit written true ((stm_rows stm.now).live (sets levels.now bits.old)) ∷ []) spans.old spans.new
+        Adds (put_bit written true ((stm_rows stm.now).live (sets levels.old bits.old)) ∷ []) spans.old spans.new
         ) }
+    ensures levels { OnOk result (levels.new ≡ levels.old) }
 {
     live_stm(alloc, stm, bits, levels)?;
     let mut row = bits.copied(alloc)?;
-    put(&mut row, written, true);
+    row.insert_some(written)?;
     spans.mark(&row)
-}
-
-fn no_bits(alloc: Global, count: usize) -> Result<List<bool>, AllocError>
-    ensures { IfOk result (λ bits. bits ≡ replicate count false) }
-{
-    Ok(List::from_vec(vec![in alloc; false; count]?))
 }
 
 // The parameters are there at the start.
 #[tactic(auto, using(crate::proofs::Adding::params_more))]
-fn set_params(bits: &mut List<bool>, params: u32)
-    ensures { bits.new ≡ with_params params bits.old }
+fn set_params(bits: &mut LiveSet, params: u32) -> Result<(), AllocError>
+    ensures { OnOk result (bits.new ≡ with_params params bits.old) }
 {
     for param in 0..params {
-        set(bits, param, true);
+        bits.insert(param)?;
     }
+    Ok(())
 }
 
 /// The spans of a body's temporaries.
@@ -239,14 +246,10 @@ pub fn spans_of(alloc: Global, body: &Body) -> Result<Spans, AllocError>
         begins: zeros(alloc, temps)?,
         ends: zeros(alloc, temps)?,
     };
-    let mut bits = no_bits(alloc, temps)?;
-    let levels = Levels {
-        none: no_bits(alloc, temps)?,
-        leaves: List::new(alloc),
-        restarts: List::new(alloc),
-    };
-    mark_code(alloc, &body.code, &mut bits, &levels, &mut spans)?;
-    set_params(&mut bits, body.params);
+    let mut bits = LiveSet::none(alloc, temps);
+    let mut levels = Levels::new(alloc, temps);
+    mark_code(alloc, &body.code, &mut bits, &mut levels, &mut spans)?;
+    set_params(&mut bits, body.params)?;
     spans.mark(&bits)?;
     Ok(spans)
 }

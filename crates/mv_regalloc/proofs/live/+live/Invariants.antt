@@ -3,4 +3,7 @@ use Rattle.mv_regalloc.specs.Rows.{sets, live_before, stm_rows}
 use Rattle.mv_regalloc.proofs.live.+live.Given as goal
 
 abbrev pub invariant-live_code-loop-done : goal.invariant-live_code-loop-done
-invariant-live_code-loop-done l = l.bits ≡ live_before (map stm_rows (drop (length l.code - l.done) l.code)) (sets l.levels l.fn.bits)
+invariant-live_code-loop-done l = record {
+  live : l.bits ≡ live_before (map stm_rows (drop (length l.code - l.done) l.code)) (sets l.fn.levels l.fn.bits);
+  levels : l.levels ≡ l.fn.levels;
+}
