@@ -95,7 +95,7 @@ module _ (ps : List (ℕ × ℕ)) where
       record {
         temps = temps_kept ps b r ep et ec h.temps;
         params = subst (λ n. n ≤ 8) (sym ep) h.params;
-        targets = ap (λ c. all_around (map stm_targets c) []) ec ∙ ap (λ ts. all_around ts []) (blind_all ps stm_targets layer_targets targets_roll targets_blind b.code) ∙ h.targets;
+        targets = ap (λ c. all_around (map stm_targets c) (false ∷ [])) ec ∙ ap (λ ts. all_around ts (false ∷ [])) (blind_all ps stm_targets layer_targets targets_roll targets_blind b.code) ∙ h.targets;
         named =
             ap (λ rooms. all_true (map (is_there rooms r.arrays) (named r.code))) er ∙
             ap (λ sizes. all_true (map (is_there b.rooms sizes) (named r.code))) ea ∙

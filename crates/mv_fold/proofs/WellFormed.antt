@@ -273,7 +273,7 @@ folded_well_formed b needed temps less w =
     record {
       temps = temps w.temps;
       params = w.params;
-      targets = kept.targets [] w.targets;
+      targets = kept.targets (false ∷ []) w.targets;
       named = kept.named (is_there b.rooms b.arrays) w.named;
       read = true_all (has_room b.rooms) _ (λ g c. true_of (has_room b.rooms) _ w.read g (less.scalars g c));
       arguments = kept.arguments w.arguments;

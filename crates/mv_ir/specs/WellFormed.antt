@@ -86,10 +86,11 @@ stm_arguments = fold-Stm Bool layer_arguments
 
 -- ---- bodies
 
+-- The function itself counts as the outermost block: to leave it is to end without a value.
 pub record IsWellFormed (b : Body) : Type 0 where
   pub temps : HasTemps b
   pub params : b.params ≤ 8
-  pub targets : all_around (map stm_targets b.code) [] ≡ true
+  pub targets : all_around (map stm_targets b.code) (false ∷ []) ≡ true
   pub named : all_true (map (is_there b.rooms b.arrays) (named b.code)) ≡ true
   pub read : all_true (map (has_room b.rooms) (scalars_read b.code)) ≡ true
   pub arguments : all_true (map stm_arguments b.code) ≡ true

@@ -52,6 +52,7 @@ next_kept others ks i k lt e =
   where
     before : List (List ℕ)
     before = filter (λ n. is_among n others) (take i (names_of ks))
+
     by : (b : Bool) → each_once (before ++ (if b then k.items ∷ [] else [])) ≡ (if b then with_name (each_once before) k.items else each_once before)
     by true = fold-append with_name [] before (k.items ∷ [])
     by false = fold-append with_name [] before []

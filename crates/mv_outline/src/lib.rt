@@ -4,3 +4,5 @@
 
 pub mod names;
 pub mod outline;
+#[cfg(test)]
+mod tests;

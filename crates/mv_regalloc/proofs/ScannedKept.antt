@@ -1,5 +1,5 @@
 -- A whole body whose temporaries are renamed by the scan means the same.
-use Rattle.std.proofs.Common.{arith, ◌≡◌, ℕ, ◌-◌, ◌<◌, ◌≤◌, Bool, true, List, [], map, ap, refl, sym, ◌∙◌, subst, ◌⊎◌, inl, inr}
+use Rattle.std.proofs.Common.{arith, ◌≡◌, ℕ, ◌-◌, ◌<◌, ◌≤◌, Bool, true, false, List, [], ◌∷◌, map, ap, refl, sym, ◌∙◌, subst, ◌⊎◌, inl, inr}
 use Rattle.std.specs.Prelude.{slice_index}
 use Rattle.std.proofs.lemmas.Bool.{cases_lt}
 use Rattle.mv_ir.specs.declared.body.Body.{Body}
@@ -92,7 +92,7 @@ module _ (b : Body) (has : HasTemps b) where
           well_formed = λ w. record {
             temps = has_temps c n b f;
             params = w.params;
-            targets = ap (λ l. all_around l []) (same_targets c b.code) ∙ w.targets;
+            targets = ap (λ l. all_around l (false ∷ [])) (same_targets c b.code) ∙ w.targets;
             named = ap (λ l. all_true (map (is_there b.rooms b.arrays) l)) (same_named c b.code) ∙ w.named;
             read = ap (λ l. all_true (map (has_room b.rooms) l)) (same_scalars c b.code) ∙ w.read;
             arguments = ap all_true (same_arguments c b.code) ∙ w.arguments;
