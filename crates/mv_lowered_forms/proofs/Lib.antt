@@ -1,3 +1,5 @@
 pub mod Rules
 pub mod Plain
 pub mod Given
+pub mod Operators
+pub mod Expressions
