@@ -70,10 +70,10 @@ form_nodes = fold-Form ℕ ℕ ℕ form_sum target_sum one_more_than
 abbrev pub target_nodes : Target → ℕ
 target_nodes = fold-Target ℕ ℕ ℕ form_sum target_sum one_more_than
 
-sum_cons : (n : ℕ) (ns : List ℕ) → sum (n ∷ ns) ≡ n + sum ns
+pub sum_cons : (n : ℕ) (ns : List ℕ) → sum (n ∷ ns) ≡ n + sum ns
 sum_cons n ns = sum_by-cons (λ x. x) n ns
 
-sum_append : (ms ns : List ℕ) → sum (ms ++ ns) ≡ sum ms + sum ns
+pub sum_append : (ms ns : List ℕ) → sum (ms ++ ns) ≡ sum ms + sum ns
 sum_append ms ns = sum_by-append (λ x. x) ms ns
 
 module _ (globals : Globals) (locals : ℕ) (sizes : ℕ → Option ℕ) (room : ℕ) (direct : ℕ → ℕ) (through : ℕ) (declared : ℕ → Bool)

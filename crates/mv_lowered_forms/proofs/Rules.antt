@@ -14,6 +14,7 @@ use Rattle.mv_ir.specs.Live.{Flow, layer_flow, flow, any_reads, plain, goes_next
 use Rattle.mv_ir.specs.WellFormed.{layer_targets, stm_targets, layer_named, stm_named, layer_arguments, stm_arguments}
 use Rattle.mv_ir.proofs.Induction.{Each}
 use Rattle.mv_lowering.specs.Lowered.{temp, global, choose}
+use Rattle.mv_lowering.specs.Statements.{return_with, break, repeat, enclosed}
 use Rattle.mv_lowered_forms.specs.Calls.{layer_weight, stm_weight}
 
 -- what code may name and read, and the weights of its calls
@@ -76,3 +77,10 @@ pub record Rules (a : Allowed) (B : ℕ → ℕ → ℕ → List Tree → List S
   pub chain : {s t k s' t' k' : ℕ} {xs ys : List Stm} {ts us vs : List Tree} → B s t k ts xs us → B s' t' k' us ys vs → B (s + s') (t + t') (k + k') ts (xs ++ ys) vs
   pub beside : {s t k : ℕ} {xs : List Stm} {ts us : List Tree} (rest : List Tree) → B s t k ts xs us → B s t k (ts ++ rest) xs (us ++ rest)
   pub weaken : {s t k s' t' k' : ℕ} {xs : List Stm} {ts us : List Tree} → s ≤ s' → t ≤ t' → k ≡ k' → B s t k ts xs us → B s' t' k' ts xs us
+
+-- the rules of what jumps and of what encloses other code
+pub record BlockRules (B : ℕ → ℕ → ℕ → List Tree → List Stm → List Tree → Type 0) : Type 0 where
+  pub block : {s t k : ℕ} {ts : List Tree} {xs : List Stm} → B s t k ts xs [] → B (s + 1) t k ts (enclosed xs ∷ []) []
+  pub turns : {s t k : ℕ} {xs : List Stm} → B s t k [] xs [] → B (s + 1) t k [] (repeat xs ∷ []) []
+  pub leaves : (n : ℕ) → B 1 0 0 [] (break n ∷ []) []
+  pub returns : (v : Tree) → B 1 0 0 (v ∷ []) (return_with v ∷ []) []

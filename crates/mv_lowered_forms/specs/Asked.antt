@@ -103,6 +103,10 @@ abbrev pub bare_arms : List ArmScope → ℕ
 bare_arms [] = 0
 bare_arms (a ∷ arms) = cond a.is_bare (suc (bare_arms arms)) (bare_arms arms)
 
+abbrev pub is_empty : List ℕ → Bool
+is_empty [] = true
+is_empty (l ∷ ls) = false
+
 -- a statement that declares nothing
 abbrev pub declaring_nothing : ((ℕ → Bool) → Bool) → Scope
 declaring_nothing within = record { within = within; behind = λ declared. declared }
@@ -134,10 +138,6 @@ module _ (globals : Globals) (locals : ℕ) (sizes : ℕ → Option ℕ) where
   stmt_scope_layer stmt.Break = declaring_nothing (λ d. true)
   stmt_scope_layer stmt.Continue = declaring_nothing (λ d. true)
   stmt_scope_layer (stmt.Return e) = declaring_nothing (optional_within e)
-
-  abbrev pub is_empty : List ℕ → Bool
-  is_empty [] = true
-  is_empty (l ∷ ls) = false
 
   abbrev pub arm_scope_layer : Arm-F Scope ArmScope → ArmScope
   arm_scope_layer a = record { is_bare = is_empty a.labels; within = all_within a.body }
