@@ -5,3 +5,5 @@ pub mod Operators
 pub mod Expressions
 pub mod StatementInduction
 pub mod Statements
+pub mod Counted
+pub mod Named

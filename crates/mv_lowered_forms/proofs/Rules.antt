@@ -1,6 +1,6 @@
 -- What code is made of. A relation between code, the trees of values that are still to be used before and behind it, and counts holds
 -- of all lowered expressions where it obeys these rules.
-use Rattle.std.proofs.Common.{◌≡◌, ℕ, ◌+◌, ◌≤◌, Bool, true, false, List, [], ◌∷◌, ◌++◌, Option, Some, None}
+use Rattle.std.proofs.Common.{◌≡◌, ℕ, ◌+◌, ◌≤◌, Bool, true, false, List, [], ◌∷◌, ◌++◌, map, Option, Some, None}
 use Rattle.mv_ir.specs.declared.tree.Tree.{Tree}
 use Rattle.mv_ir.specs.declared.stm.Array.{Array}
 use Rattle.mv_ir.specs.declared.stm.Array.TheVariants as array
@@ -29,8 +29,7 @@ pub record Allowed : Type 0 where
 
 -- the global scalars that some trees read
 abbrev pub all_read : List Tree → List ℕ
-all_read [] = []
-all_read (t ∷ ts) = tree_reads t ++ all_read ts
+all_read ts = joined (map tree_reads ts)
 
 abbrev pub AllMay : (ℕ → Bool) → List ℕ → Type 0
 AllMay may = Each (λ g. may g ≡ true)
