@@ -7,3 +7,5 @@ pub mod StatementInduction
 pub mod Statements
 pub mod Counted
 pub mod Named
+pub mod Flowing
+pub mod Unused
