@@ -4,6 +4,8 @@ pub mod Given
 pub mod Operators
 pub mod Expressions
 pub mod StatementInduction
+pub mod Paid
+pub mod Clears
 pub mod Statements
 pub mod Counted
 pub mod Named

@@ -24,7 +24,8 @@ use Rattle.mv_lowered_forms.specs.Asked.{Globals, Scope, ArmScope, all_within, a
 use Rattle.mv_lowered_forms.specs.Calls.{expr_weight, stmt_weight, arm_weight}
 use Rattle.mv_lowered_forms.proofs.Rules.{Allowed, Rules, BlockRules, Covers}
 use Rattle.mv_lowered_forms.proofs.Plain.{plain_set, plain_write, plain_zero, covers_self, covers_number, covers_none, covers_before, covers_binary, covers_twice, covers_swap, covers_then}
-use Rattle.mv_lowered_forms.proofs.Given as given
+use Rattle.mv_lowered_forms.proofs.Paid as paying
+use Rattle.mv_lowered_forms.proofs.Clears as clears
 use Rattle.mv_lowered_forms.proofs.Expressions as exprs
 use Rattle.mv_lowered_forms.proofs.Expressions.{allowed, is_used, scratch_used, local_used, expr_paid, sum_cons, sum_append}
 use Rattle.mv_lowered_forms.proofs.StatementInduction as source
@@ -47,25 +48,17 @@ module _ (globals : Globals) (locals : ℕ) (sizes : ℕ → Option ℕ) (void :
   abbrev weight : Expr → ℕ
   weight = expr_weight direct through
 
-  -- what a lowering gives between statements
-  pub record ValuePaid (n k : ℕ) (l : Lowering) : Type 0 where
-    pub statements : ℕ
-    pub nodes : ℕ
-    pub made : B statements nodes k [] (l locals).code ((l locals).tree ∷ [])
-    pub few_statements : statements + 1 ≤ 8 * n
-    pub few_nodes : nodes + 1 ≤ 12 * n
+  abbrev ValuePaid : ℕ → ℕ → Lowering → Type 0
+  ValuePaid = paying.ValuePaid locals B
 
-  pub record CodePaid (n k : ℕ) (code : List Stm) : Type 0 where
-    pub statements : ℕ
-    pub nodes : ℕ
-    pub made : B statements nodes k [] code []
-    pub few_statements : statements ≤ 8 * n
-    pub few_nodes : nodes ≤ 12 * n
+  abbrev CodePaid : ℕ → ℕ → List Stm → Type 0
+  CodePaid = paying.CodePaid locals B
 
   value : (declared : ℕ → Bool) (e : Expr) → is_within globals locals sizes declared e ≡ true → (lower_expr e locals).top ≤ room → ValuePaid (expr_nodes e) (weight e) (lower_expr e)
-  value declared e b top =
-      let p = expr_paid globals locals sizes room direct through declared B (rules declared) e b in
-      record { statements = p.statements; nodes = p.nodes; made = p.gives locals (omega arith) top; few_statements = p.few_statements; few_nodes = p.few_nodes }
+  value declared = clears.value globals locals sizes room direct through declared B (rules declared)
+
+  dropped : {s t k : ℕ} {xs : List Stm} {ts us : List Tree} → B s t k ts xs us → B s t k ts xs []
+  dropped = clears.dropped globals locals sizes room direct through all B r
 
   code_as : {n k n' k' : ℕ} {xs : List Stm} → n ≤ n' → k ≡ k' → CodePaid n k xs → CodePaid n' k' xs
   code_as le e p = record {
@@ -74,7 +67,7 @@ module _ (globals : Globals) (locals : ℕ) (sizes : ℕ → Option ℕ) (void :
   }
 
   one_more : {n k : ℕ} {xs : List Stm} (s t : ℕ) → B s t k [] xs [] → s ≤ 8 * n → t ≤ 12 * n → CodePaid n k xs
-  one_more s t h ls lt = record { statements = s; nodes = t; made = h; few_statements = ls; few_nodes = lt }
+  one_more = paying.paid locals B
 
   nothing : CodePaid 0 0 []
   nothing = one_more 0 0 (r.retree (covers_none [])) (omega arith) (omega arith)
@@ -84,10 +77,6 @@ module _ (globals : Globals) (locals : ℕ) (sizes : ℕ → Option ℕ) (void :
     statements = p.statements + q.statements; nodes = p.nodes + q.nodes; made = r.chain p.made q.made;
     few_statements = omega (arith, p.few_statements, q.few_statements); few_nodes = omega (arith, p.few_nodes, q.few_nodes);
   }
-
-  -- trees that aren't used any more
-  dropped : {s t k : ℕ} {xs : List Stm} {ts us : List Tree} → B s t k ts xs us → B s t k ts xs []
-  dropped {us = us} h = r.weaken (omega arith) (omega arith) refl (given.retreed a B r locals room scratch (covers_none us) h)
 
   -- ---- lists
 
@@ -110,66 +99,6 @@ module _ (globals : Globals) (locals : ℕ) (sizes : ℕ → Option ℕ) (void :
       let n = sum_cons (stmt_nodes s) (map stmt_nodes body) in
       let k = sum_cons (stmt_weight direct through s) (map (stmt_weight direct through) body) in
       code_as (omega (arith, n)) (sym k) (in_turn (h.0 declared bs.0 j (omega (arith, top))) (all_paid body h.1 (scope.behind declared) bs.1 j (omega (arith, top))))
-
-  -- ---- declarations
-
-  module _ (l : ℕ) (is_local : nat_lt l locals ≡ true) (size : Option ℕ) (is_size : sizes l ≡ size) where
-    word_paid : (i : ℕ) (v : Tree) → B 1 1 0 (v ∷ []) (store_word size l i v ∷ []) []
-    word_paid i v = by size is_size
-      where
-        by : (z : Option ℕ) → sizes l ≡ z → B 1 1 0 (v ∷ []) (store_word z l i v ∷ []) []
-        by None e = dropped (r.does (plain_set a l v (local_used locals sizes room l is_local (ap is_scalar e))))
-        by (Some n) e = r.chain (r.retree (covers_before [] (number i ∷ []) (v ∷ []) 1 (covers_number i))) (r.does (plain_write a (array.Local l) (number i) v is_local))
-
-    clear_paid : B 1 2 0 [] (clear_words size l ∷ []) []
-    clear_paid = by size is_size
-      where
-        by : (z : Option ℕ) → sizes l ≡ z → B 1 2 0 [] (clear_words z l ∷ []) []
-        by None e = r.weaken (omega arith) (omega arith) refl (dropped (r.chain (r.retree (covers_number 0)) (r.does (plain_set a l (number 0) (local_used locals sizes room l is_local (ap is_scalar e))))))
-        by (Some n) e = r.weaken (omega arith) (omega arith) refl (r.does (plain_zero a l is_local))
-
-    zeros_paid : (i n : ℕ) → B n (2 * n) 0 [] (store_zeros size l i n) []
-    zeros_paid i zero = r.retree (covers_none [])
-    zeros_paid i (suc n) =
-        r.weaken (omega arith) (omega arith) (omega arith) (r.chain (r.retree (covers_number 0)) (r.chain (word_paid i (number 0)) (zeros_paid (suc i) n)))
-
-    stores_paid : (declared : ℕ → Bool) (i : ℕ) (es : List Expr) → all_exprs_within globals locals sizes es declared ≡ true → values_top locals (map lower_expr es) ≤ room →
-        CodePaid (sum (map expr_nodes es)) (sum (map weight es)) (store_values locals size l i (map lower_expr es))
-    stores_paid declared i [] b top = nothing
-    stores_paid declared i (e ∷ es) b top =
-        let bs = split (is_within globals locals sizes declared e) (all_exprs_within globals locals sizes es declared) b in
-        let p = value declared e bs.0 (omega (arith, top)) in
-        let q = stores_paid declared (suc i) es bs.1 (omega (arith, top)) in
-        let n = sum_cons (expr_nodes e) (map expr_nodes es) in
-        let k = sum_cons (weight e) (map weight es) in
-        record {
-          statements = p.statements + (1 + q.statements);
-          nodes = p.nodes + (1 + q.nodes);
-          made = r.weaken (omega arith) (omega arith) (omega (arith, k)) (r.chain p.made (r.chain (word_paid i (lower_expr e locals).tree) q.made));
-          few_statements = omega (arith, p.few_statements, q.few_statements, n);
-          few_nodes = omega (arith, p.few_nodes, q.few_nodes, n);
-        }
-
-    -- where zeros are stored one by one, they are fewer than the values
-    cleared : (itself : Bool) (declared : ℕ → Bool) (es : List Expr) (j : Jumps) → all_exprs_within globals locals sizes es declared ≡ true → values_top locals (map lower_expr es) ≤ room →
-        CodePaid (1 + length es + sum (map expr_nodes es)) (sum (map weight es)) (lower_clear locals size l itself (map lower_expr es) j).code
-    cleared itself declared es j b top = by (itself || nat_le (8 * words_of_size size) (92 * (words_of_size size - length (map lower_expr es)))) refl
-      where
-        by : (z : Bool) → (itself || nat_le (8 * words_of_size size) (92 * (words_of_size size - length (map lower_expr es)))) ≡ z →
-            CodePaid (1 + length es + sum (map expr_nodes es)) (sum (map weight es))
-            (cond z (clear_words size l ∷ store_values locals size l 0 (map lower_expr es))
-            (store_values locals size l 0 (map lower_expr es) ++ store_zeros size l (length (map lower_expr es)) (words_of_size size - length (map lower_expr es))))
-        by true e =
-            let p = stores_paid declared 0 es b top in
-            one_more (1 + p.statements) (2 + p.nodes) (r.weaken (omega arith) (omega arith) (omega arith) (r.chain clear_paid p.made)) (omega (arith, p.few_statements)) (omega (arith, p.few_nodes))
-        by false e =
-            let p = stores_paid declared 0 es b top in
-            let words = words_of_size size in
-            let long = length-map es lower_expr in
-            let d = words - length (map lower_expr es) in
-            let few = leb-false (8 * words) (92 * d) (or_parts itself (nat_le (8 * words) (92 * d)) e).1 in
-            one_more (p.statements + d) (p.nodes + 2 * d) (r.weaken (omega arith) (omega arith) (omega arith) (r.chain p.made (zeros_paid (length (map lower_expr es)) d)))
-            (omega (arith, p.few_statements, few, long)) (omega (arith, p.few_nodes, few, long))
 
   -- ---- `switch`
 
@@ -308,7 +237,7 @@ module _ (globals : Globals) (locals : ℕ) (sizes : ℕ → Option ℕ) (void :
       let itself = any_of (map (names_local l) values) in
       let known = cond itself (with_local l declared) declared in
       let bs = split (nat_lt l locals) (all_exprs_within globals locals sizes values known) b in
-      code_as (omega arith) (omega arith) (cleared l bs.0 (sizes l) refl itself known values j bs.1 top)
+      code_as (omega arith) (omega arith) (clears.cleared globals locals sizes room direct through known B (rules known) l bs.0 (sizes l) refl itself values j bs.1 top)
   layer (stmt.Express e) h declared b j top =
       let p = value declared e b top in
       one_more p.statements p.nodes (r.weaken (omega arith) (omega arith) (omega arith) (dropped p.made)) (omega (arith, p.few_statements)) (omega (arith, p.few_nodes))
