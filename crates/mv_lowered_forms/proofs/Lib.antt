@@ -11,3 +11,5 @@ pub mod Counted
 pub mod Named
 pub mod Flowing
 pub mod Unused
+pub mod Passing
+pub mod Whole
