@@ -13,3 +13,4 @@ pub mod Flowing
 pub mod Unused
 pub mod Passing
 pub mod Whole
+pub mod ExpressionTops
