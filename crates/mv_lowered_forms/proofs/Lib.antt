@@ -14,3 +14,4 @@ pub mod Unused
 pub mod Passing
 pub mod Whole
 pub mod ExpressionTops
+pub mod StatementTops
