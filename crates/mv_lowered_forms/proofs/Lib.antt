@@ -15,3 +15,4 @@ pub mod Passing
 pub mod Whole
 pub mod ExpressionTops
 pub mod StatementTops
+pub mod Shallow
