@@ -16,3 +16,4 @@ pub mod Whole
 pub mod ExpressionTops
 pub mod StatementTops
 pub mod Shallow
+pub mod Targets
