@@ -17,3 +17,7 @@ pub mod ExpressionTops
 pub mod StatementTops
 pub mod Shallow
 pub mod Targets
+pub mod Functions
+pub mod SameCounts
+pub mod Rooms
+pub mod Intervals

@@ -39,15 +39,15 @@ true_append [] ys h k = k
 true_append (true ∷ xs) ys h k = true_append xs ys h k
 true_append (false ∷ xs) ys h k = h
 
-module _ (a : Allowed) where
+module _ (may_read may_find : ℕ → Bool) (may_name : Array → Bool) where
   abbrev MayRead : List ℕ → Type 0
-  MayRead = AllMay a.scalars
+  MayRead = AllMay may_read
 
   abbrev MayFind : List ℕ → Type 0
-  MayFind = AllMay a.arrays
+  MayFind = AllMay may_find
 
   abbrev MayName : List Array → Type 0
-  MayName = Each (λ r. a.named r ≡ true)
+  MayName = Each (λ r. may_name r ≡ true)
 
   -- code that reads only what it may where the trees before it do
   pub record Named (s t k : ℕ) (ts : List Tree) (xs : List Stm) (us : List Tree) : Type 0 where
@@ -68,20 +68,20 @@ module _ (a : Allowed) where
   result_reads (Some t) = temp_reads t
 
   read_all_append : (xs ys : List Tree) → MayRead (all_read xs) → MayRead (all_read ys) → MayRead (all_read (xs ++ ys))
-  read_all_append xs ys h k = subst MayRead (sym (read_append xs ys)) (both (λ g. a.scalars g ≡ true) (all_read xs) (all_read ys) h k)
+  read_all_append xs ys h k = subst MayRead (sym (read_append xs ys)) (both (λ g. may_read g ≡ true) (all_read xs) (all_read ys) h k)
 
   first_reads : (xs ys : List Tree) → MayRead (all_read (xs ++ ys)) → MayRead (all_read xs)
-  first_reads xs ys h = each_first (λ g. a.scalars g ≡ true) (all_read xs) (all_read ys) (subst MayRead (read_append xs ys) h)
+  first_reads xs ys h = each_first (λ g. may_read g ≡ true) (all_read xs) (all_read ys) (subst MayRead (read_append xs ys) h)
 
   last_reads : (xs ys : List Tree) → MayRead (all_read (xs ++ ys)) → MayRead (all_read ys)
-  last_reads xs ys h = each_last (λ g. a.scalars g ≡ true) (all_read xs) (all_read ys) (subst MayRead (read_append xs ys) h)
+  last_reads xs ys h = each_last (λ g. may_read g ≡ true) (all_read xs) (all_read ys) (subst MayRead (read_append xs ys) h)
 
   chained : {s t k s' t' k' m n l : ℕ} {xs ys : List Stm} {ts us vs : List Tree} → Named s t k ts xs us → Named s' t' k' us ys vs → Named m n l ts (xs ++ ys) vs
   chained {xs = xs} {ys = ys} h h' = record {
     scalars = λ e. subst (λ z. MayRead (all_read z)) (sym (trees_append xs ys)) (read_all_append (trees xs) (trees ys) (h.scalars e) (h'.scalars (h.left e)));
     left = λ e. h'.left (h.left e);
-    arrays = subst MayFind (sym (ap joined (map_append stm_arrays xs ys) ∙ joined_append (map stm_arrays xs) (map stm_arrays ys))) (both (λ g. a.arrays g ≡ true) (arrays_read xs) (arrays_read ys) h.arrays h'.arrays);
-    named = subst MayName (sym (ap joined (map_append stm_named xs ys) ∙ joined_append (map stm_named xs) (map stm_named ys))) (both (λ r. a.named r ≡ true) (named xs) (named ys) h.named h'.named);
+    arrays = subst MayFind (sym (ap joined (map_append stm_arrays xs ys) ∙ joined_append (map stm_arrays xs) (map stm_arrays ys))) (both (λ g. may_find g ≡ true) (arrays_read xs) (arrays_read ys) h.arrays h'.arrays);
+    named = subst MayName (sym (ap joined (map_append stm_named xs ys) ∙ joined_append (map stm_named xs) (map stm_named ys))) (both (λ r. may_name r ≡ true) (named xs) (named ys) h.named h'.named);
     arguments = ap all_true (map_append stm_arguments xs ys) ∙ true_append (map stm_arguments xs) (map stm_arguments ys) h.arguments h'.arguments;
   }
 
@@ -89,31 +89,9 @@ module _ (a : Allowed) where
   chosen {ys = ys} {zs = zs} x h h' = record {
     scalars = λ e. subst (λ z. MayRead (all_read z)) (sym (trees_one (stm.If x ys zs))) (read_all_append (x ∷ []) (trees ys ++ trees zs) e (read_all_append (trees ys) (trees zs) (h.scalars tt) (h'.scalars tt)));
     left = λ e. h.left tt;
-    arrays = subst MayFind (sym (arrays_one (stm.If x ys zs))) (both (λ g. a.arrays g ≡ true) (arrays_read ys) (arrays_read zs) h.arrays h'.arrays);
-    named = subst MayName (sym (named_one (stm.If x ys zs))) (both (λ r. a.named r ≡ true) (named ys) (named zs) h.named h'.named);
+    arrays = subst MayFind (sym (arrays_one (stm.If x ys zs))) (both (λ g. may_find g ≡ true) (arrays_read ys) (arrays_read zs) h.arrays h'.arrays);
+    named = subst MayName (sym (named_one (stm.If x ys zs))) (both (λ r. may_name r ≡ true) (named ys) (named zs) h.named h'.named);
     arguments = arguments_one (stm.If x ys zs) ∙ and_from (all_true (map stm_arguments ys)) (all_true (map stm_arguments zs)) h.arguments h'.arguments;
-  }
-
-  pub named_rules : Rules a Named
-  named_rules = record {
-    local = λ l h k. record { scalars = λ e. tt; left = λ e. temp_reads l; arrays = tt; named = tt; arguments = refl };
-    scalar = λ g h. record { scalars = λ e. tt; left = λ e. subst (λ l. MayRead (l ++ [])) (sym (reads_roll (tree.Global g))) (h, tt); arrays = tt; named = tt; arguments = refl };
-    retree = λ {m} {ts} {us} c. record { scalars = λ e. tt; left = c.scalars a.scalars; arrays = tt; named = tt; arguments = refl };
-    does = λ {c} {x} {reads} {writes} p. record {
-      scalars = λ e. subst (λ z. MayRead (all_read z)) (sym (trees_one x ∙ p.trees)) e;
-      left = λ e. result_reads writes;
-      arrays = subst MayFind (sym (arrays_one x)) p.arrays;
-      named = subst MayName (sym (named_one x)) p.named;
-      arguments = arguments_one x ∙ p.arguments;
-    };
-    choose = λ {s} {t} {k} {s'} {t'} {k'} {ys} {zs} {us} x h h'. chosen x h h';
-    chain = λ {s} {t} {k} {s'} {t'} {k'} {xs} {ys} {ts} {us} {vs} h h'. chained h h';
-    beside = λ {s} {t} {k} {xs} {ts} {us} rest h. record {
-      scalars = λ e. h.scalars (first_reads ts rest e);
-      left = λ e. read_all_append us rest (h.left (first_reads ts rest e)) (last_reads ts rest e);
-      arrays = h.arrays; named = h.named; arguments = h.arguments;
-    };
-    weaken = λ {s} {t} {k} {s'} {t'} {k'} {xs} {ts} {us} ls lt e h. record { scalars = h.scalars; left = h.left; arrays = h.arrays; named = h.named; arguments = h.arguments };
   }
 
   enclosing : {s t k m n l : ℕ} {ts : List Tree} {xs : List Stm} (x : Stm-F Stm) → trees (roll-Stm x ∷ []) ≡ trees xs → arrays_read (roll-Stm x ∷ []) ≡ arrays_read xs → named (roll-Stm x ∷ []) ≡ named xs →
@@ -145,3 +123,26 @@ module _ (a : Allowed) where
       arguments = arguments_one (stm.Return v);
     };
   }
+
+-- the rules for what may be named and read
+pub named_rules : (a : Allowed) → Rules a (Named a.scalars a.arrays a.named)
+named_rules a = record {
+  local = λ l h k. record { scalars = λ e. tt; left = λ e. temp_reads a.scalars a.arrays a.named l; arrays = tt; named = tt; arguments = refl };
+  scalar = λ g h. record { scalars = λ e. tt; left = λ e. subst (λ l. MayRead a.scalars a.arrays a.named (l ++ [])) (sym (reads_roll (tree.Global g))) (h, tt); arrays = tt; named = tt; arguments = refl };
+  retree = λ {m} {ts} {us} c. record { scalars = λ e. tt; left = c.scalars a.scalars; arrays = tt; named = tt; arguments = refl };
+  does = λ {c} {x} {reads} {writes} p. record {
+    scalars = λ e. subst (λ z. MayRead a.scalars a.arrays a.named (all_read z)) (sym (trees_one x ∙ p.trees)) e;
+    left = λ e. result_reads a.scalars a.arrays a.named writes;
+    arrays = subst (MayFind a.scalars a.arrays a.named) (sym (arrays_one x)) p.arrays;
+    named = subst (MayName a.scalars a.arrays a.named) (sym (named_one x)) p.named;
+    arguments = arguments_one x ∙ p.arguments;
+  };
+  choose = λ {s} {t} {k} {s'} {t'} {k'} {ys} {zs} {us} x h h'. chosen a.scalars a.arrays a.named x h h';
+  chain = λ {s} {t} {k} {s'} {t'} {k'} {xs} {ys} {ts} {us} {vs} h h'. chained a.scalars a.arrays a.named h h';
+  beside = λ {s} {t} {k} {xs} {ts} {us} rest h. record {
+    scalars = λ e. h.scalars (first_reads a.scalars a.arrays a.named ts rest e);
+    left = λ e. read_all_append a.scalars a.arrays a.named us rest (h.left (first_reads a.scalars a.arrays a.named ts rest e)) (last_reads a.scalars a.arrays a.named ts rest e);
+    arrays = h.arrays; named = h.named; arguments = h.arguments;
+  };
+  weaken = λ {s} {t} {k} {s'} {t'} {k'} {xs} {ts} {us} ls lt e h. record { scalars = h.scalars; left = h.left; arrays = h.arrays; named = h.named; arguments = h.arguments };
+}

@@ -33,7 +33,7 @@ quiet_block r q = record { next = q.next; leaves = quiet_place r.next r.leaves q
 quiet_loop : (r : Around) (start : Bool) → start ≡ false → IsQuiet r → IsQuiet (around_loop r start)
 quiet_loop r start e q = record { next = e; leaves = quiet_place r.next r.leaves q.next q.leaves; restarts = quiet_place start r.restarts e q.restarts }
 
-module _ (a : Allowed) (u : ℕ) where
+module _ (u : ℕ) where
   -- neither live nor marked in code, where the trees before it don't read it; nor read by the trees behind
   pub record Unused (s t k : ℕ) (ts : List Tree) (xs : List Stm) (us : List Tree) : Type 0 where
     pub left : any_reads u ts ≡ false → any_reads u us ≡ false
@@ -83,7 +83,7 @@ module _ (a : Allowed) (u : ℕ) where
       dead_here : any_reads u reads ≡ false → (r : Around) → IsQuiet r → (any_reads u reads || (not (is writes u) && on r)) ≡ false
       dead_here h r q = or_from (any_reads u reads) (not (is writes u) && on r) h (and_right (not (is writes u)) (on r) (quiet r q))
 
-  module _ (unused : a.temps u ≡ false) where
+  module _ (a : Allowed) (unused : a.temps u ≡ false) where
     writes_another : (w : Option ℕ) → IsAllowed a w → is w u ≡ false
     writes_another None h = refl
     writes_another (Some t) h = another a.temps t u h unused

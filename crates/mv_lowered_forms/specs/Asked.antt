@@ -206,6 +206,7 @@ function_leads may_end g = all_lead (map stmt_leads g.body) (in_function may_end
 pub record IsAsked (p : Program) (globals : Globals) (g : Function) : Type 0 where
   pub params : g.params ≤ 8
   pub params_are_locals : g.params ≤ length g.locals
+  pub params_are_scalars : (l : ℕ) → l < g.params → is_scalar (size_in g.locals l) ≡ true
   pub there : (k : ℕ) → globals.there k ≡ true → k < length p.globals
   pub scalars : (k : ℕ) → globals.scalars k ≡ true → k < length p.globals
   pub within : all_within (scopes_of globals g) (λ l. nat_lt l g.params) ≡ true

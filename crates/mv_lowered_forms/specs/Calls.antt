@@ -1,5 +1,5 @@
 -- Counts of calls, in code and in the source, where each direct call of a function and each call through a pointer has a weight.
-use Rattle.std.specs.Prelude.{ℕ, ◌+◌, List, map, sum}
+use Rattle.std.specs.Prelude.{ℕ, ◌+◌, List, map, sum, if◌then◌else◌, slice_get}
 use Rattle.mv_ir.specs.declared.stm.Callee.{Callee}
 use Rattle.mv_ir.specs.declared.stm.Callee.TheVariants as callee
 use Rattle.mv_ir.specs.declared.stm.Stm.{Stm}
@@ -7,6 +7,7 @@ use Rattle.mv_ir.specs.declared.stm.Stm.TheOpen.{Stm-F}
 use Rattle.mv_ir.specs.declared.stm.Stm.TheOpen as stm
 use Rattle.mv_ir.specs.declared.stm.Stm.TheFolds.{fold-Stm}
 use Rattle.mv_ir.specs.Measures.{total}
+use Rattle.mv_ast.specs.declared.program.Program.{Program}
 use Rattle.mv_ast.specs.declared.program.Function.{Function}
 use Rattle.mv_ast.specs.declared.program.Expr.{Expr, fold-Expr}
 use Rattle.mv_ast.specs.declared.program.Form.{Form, Form-F, fold-Form}
@@ -14,7 +15,7 @@ use Rattle.mv_ast.specs.declared.program.Form.TheOpen as form
 use Rattle.mv_ast.specs.declared.program.Target.{Target, fold-Target}
 use Rattle.mv_ast.specs.declared.program.Stmt.{Stmt}
 use Rattle.mv_ast.specs.declared.program.Arm.{Arm}
-use Rattle.mv_ast.specs.Counts.{form_sum, target_sum, inner_calls, stmt_total, arm_total}
+use Rattle.mv_ast.specs.Counts.{is_attributed, form_sum, target_sum, inner_calls, stmt_total, arm_total}
 
 module _ (direct : ℕ → ℕ) (through : ℕ) where
   -- ---- in code
@@ -65,3 +66,11 @@ module _ (direct : ℕ → ℕ) (through : ℕ) where
   -- of the calls in a function
   abbrev pub function_weight : Function → ℕ
   function_weight g = sum (map stmt_weight g.body)
+
+-- one for each call
+abbrev pub each_once : ℕ → ℕ
+each_once f = 1
+
+-- one for each direct call of an attributed function
+abbrev pub attributed_once : Program → ℕ → ℕ
+attributed_once p f = if is_attributed (slice_get p.functions f) then 1 else 0
