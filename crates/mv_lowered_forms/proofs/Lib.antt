@@ -21,3 +21,4 @@ pub mod Functions
 pub mod SameCounts
 pub mod Rooms
 pub mod Intervals
+pub mod Bodies
