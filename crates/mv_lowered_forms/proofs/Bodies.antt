@@ -1,41 +1,37 @@
 -- The form of a lowered function's body.
-use Rattle.std.proofs.Common.{◌≡◌, ℕ, zero, suc, ◌+◌, ◌*◌, ◌<◌, ◌≤◌, Bool, true, false, cond, not, ltb, ◌&&◌, ◌||◌, List, [], ◌∷◌, ◌++◌, map, length, max, Option, Some, None, refl, sym, ◌∙◌, ap, subst, arith, ◌⊎◌, inl, inr}
-use Rattle.std.specs.Prelude.{sum, nat_lt}
-use Rattle.std.proofs.lemmas.Bool.{ltb-true, lt-ltb, or_from, or_parts, cases_lt}
+use Rattle.std.proofs.Common.{◌≡◌, ℕ, ◌+◌, ◌*◌, ◌<◌, ◌≤◌, Bool, true, false, not, ltb, ◌&&◌, ◌||◌, List, [], ◌∷◌, map, length, Option, None, refl, sym, ◌∙◌, ap, arith, ◌⊎◌, inl, inr}
+use Rattle.std.specs.Prelude.{nat_lt}
+use Rattle.std.proofs.lemmas.Bool.{ltb-true, lt-ltb, or_from, cases_lt}
 use Rattle.std.proofs.lemmas.List.{length-map}
-use Rattle.mv_ir.specs.declared.tree.Tree.{Tree}
 use Rattle.mv_ir.specs.declared.tree.Tree.TheOpen as tree
-use Rattle.mv_ir.specs.declared.stm.Stm.{Stm}
 use Rattle.mv_ir.specs.declared.stm.Stm.TheOpen as stm
 use Rattle.mv_ir.specs.declared.body.Body.{Body}
-use Rattle.mv_ir.specs.Measures.{total, trees, scalars_read, arrays_read, statements, calls, tree_nodes, deepest}
-use Rattle.mv_ir.specs.Live.{Around, any_reads, with_after, nowhere, live_at_start, all_marks, mark_at, any, plain, IsWhole, HasTemps, most_intervals}
-use Rattle.mv_ir.specs.WellFormed.{all_true, all_around, stm_targets, is_there, has_room, named, stm_arguments, IsWellFormed}
+use Rattle.mv_ir.specs.Measures.{trees, scalars_read, arrays_read, statements, tree_nodes, deepest}
+use Rattle.mv_ir.specs.Live.{any_reads, with_after, nowhere, live_at_start, all_marks, any, plain, HasTemps}
+use Rattle.mv_ir.specs.WellFormed.{all_true, is_there, has_room, named, IsWellFormed}
 use Rattle.mv_ir.proofs.Induction.{Each}
 use Rattle.mv_ir.proofs.Rolls.{depth_roll, flow_roll, reads_temp_roll}
 use Rattle.mv_ast.specs.declared.program.Program.{Program}
 use Rattle.mv_ast.specs.declared.program.Function.{Function}
-use Rattle.mv_ast.specs.Counts.{nodes, depth, declared_words, greatest, stmt_depth}
+use Rattle.mv_ast.specs.Counts.{nodes, depth}
 use Rattle.mv_lowering.specs.Lowered.{number}
 use Rattle.mv_lowering.specs.Lower.{is_scalar, is_void}
-use Rattle.mv_lowering.specs.Statements.{Jumps, return_with}
-use Rattle.mv_lowering.specs.Functions.{size_in, elements_of, array_sizes, lower_body, outermost, ending, lower_function_code, lower_function}
-use Rattle.mv_lowering.proofs.Depths.{Shallow, ShallowCode, both_parts}
+use Rattle.mv_lowering.specs.Functions.{size_in, elements_of, array_sizes, lower_body, outermost, ending, lower_function}
+use Rattle.mv_lowering.proofs.Depths.{ShallowCode, both_parts}
 use Rattle.mv_lowering.proofs.Expressions.{no}
-use Rattle.mv_lowered_forms.specs.Asked.{Globals, Around as Leading, all_within, scopes_of, in_function, function_leads, IsAsked}
-use Rattle.mv_lowered_forms.specs.Calls.{code_weight, function_weight, each_once, attributed_once}
+use Rattle.mv_lowered_forms.specs.Asked.{Globals, in_function, function_leads, IsAsked}
+use Rattle.mv_lowered_forms.specs.Calls.{each_once, attributed_once}
 use Rattle.mv_lowered_forms.specs.Law.{IsFit, CallsAsOften, IsSmall}
-use Rattle.mv_lowered_forms.proofs.Rules.{AllMay}
 use Rattle.mv_lowered_forms.proofs.Expressions as limits
 use Rattle.mv_lowered_forms.proofs.Expressions.{allowed, is_used, sum_cons}
 use Rattle.mv_lowered_forms.proofs.Counted.{Counted, counted_rules, counted_blocks}
 use Rattle.mv_lowered_forms.proofs.Named.{Named, named_rules, named_blocks}
 use Rattle.mv_lowered_forms.proofs.Unused.{Unused, IsQuiet, unused_rules, unused_blocks}
-use Rattle.mv_lowered_forms.proofs.Flowing.{live_at, marks_at, live_append, live_one, reads_one, any_append, not_true}
+use Rattle.mv_lowered_forms.proofs.Flowing.{live_at, marks_at, live_append, live_one, reads_one}
 use Rattle.mv_lowered_forms.proofs.Functions.{room_of, body_nodes, FunctionPaid, function_paid}
-use Rattle.mv_lowered_forms.proofs.Whole.{body_dead, IsShut}
+use Rattle.mv_lowered_forms.proofs.Whole.{body_dead}
 use Rattle.mv_lowered_forms.proofs.Shallow.{body_shallow, shallow_return, deepest_up}
-use Rattle.mv_lowered_forms.proofs.Targets.{HasTargets, targets_append, targets_one, code_targets, Leads}
+use Rattle.mv_lowered_forms.proofs.Targets.{HasTargets, targets_append, targets_one, code_targets}
 use Rattle.mv_lowered_forms.proofs.StatementTops.{body_top}
 use Rattle.mv_lowered_forms.proofs.Rooms.{scalars_have_rooms, named_are_there}
 use Rattle.mv_lowered_forms.proofs.Intervals.{marked_none, few_intervals, total_is}

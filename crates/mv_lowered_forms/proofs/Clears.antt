@@ -1,34 +1,24 @@
 -- Lowered declarations of locals are made of code that obeys the rules.
-use Rattle.std.proofs.Common.{◌≡◌, ℕ, zero, suc, ◌+◌, ◌-◌, ◌*◌, ◌<◌, ◌≤◌, Bool, true, false, cond, List, [], ◌∷◌, ◌++◌, map, length, max, Option, Some, None, refl, sym, ◌∙◌, ap, subst, arith}
-use Rattle.std.specs.Prelude.{◌&&◌, ◌||◌, not, nat_lt, nat_le, sum, option_to_list}
-use Rattle.std.proofs.lemmas.Bool.{ltb-true, leb-true, leb-false, or_parts}
+use Rattle.std.proofs.Common.{◌≡◌, ℕ, zero, suc, ◌+◌, ◌-◌, ◌*◌, ◌<◌, ◌≤◌, Bool, true, false, cond, List, [], ◌∷◌, ◌++◌, map, length, Option, Some, None, refl, ap, arith}
+use Rattle.std.specs.Prelude.{◌||◌, nat_lt, nat_le, sum}
+use Rattle.std.proofs.lemmas.Bool.{leb-false, or_parts}
 use Rattle.std.proofs.lemmas.List.{length-map}
 use Rattle.mv_ir.specs.declared.tree.Tree.{Tree}
-use Rattle.mv_ir.specs.declared.stm.Array.{Array}
 use Rattle.mv_ir.specs.declared.stm.Array.TheVariants as array
 use Rattle.mv_ir.specs.declared.stm.Stm.{Stm}
-use Rattle.mv_ir.proofs.Induction.{Each}
-use Rattle.mv_ir.proofs.Keeping.{map_append}
 use Rattle.mv_ast.specs.declared.program.Expr.{Expr}
-use Rattle.mv_ast.specs.declared.program.Stmt.{Stmt, Stmt-F, roll-Stmt, map-Stmt, fold-roll-Stmt}
-use Rattle.mv_ast.specs.declared.program.Stmt.TheOpen as stmt
-use Rattle.mv_ast.specs.declared.program.Arm.{Arm, Arm-F, roll-Arm, map-Arm, fold-roll-Arm}
-use Rattle.mv_ast.specs.Counts.{expr_nodes, stmt_sum, arm_sum, arm_total, own_nodes, stmt_nodes, words_of_size}
-use Rattle.mv_ast.specs.Names.{any_of, names_local}
-use Rattle.mv_lowering.specs.Lowered.{Lowering, number, temp, binary, set}
+use Rattle.mv_ast.specs.Counts.{expr_nodes, words_of_size}
+use Rattle.mv_lowering.specs.Lowered.{Lowering, number}
 use Rattle.mv_lowering.specs.Lower.{lower_expr, is_scalar}
-use Rattle.mv_lowering.specs.Statements.{Jumps, Placed, LoweredArm, in_body, in_arm, in_sequence, store_word, clear_words, store_zeros, store_values, values_top, lower_clear, test_labels, test_arms, arm_place, nested, arms_top, lower_switch, break, enclosed, repeat, return_with, test_and_body}
-use Rattle.mv_lowering.specs.LowerStatements.{lower_optional, lower_stmt_layer, lower_arm_layer, lower_stmt, lower_arm}
+use Rattle.mv_lowering.specs.Statements.{Jumps, store_word, clear_words, store_zeros, store_values, values_top, lower_clear}
 use Rattle.mv_lowering.proofs.Expressions.{split}
-use Rattle.mv_lowered_forms.specs.Asked.{Globals, Scope, ArmScope, all_within, all_behind, arms_within, bare_arms, with_local, is_within, all_exprs_within, optional_within, is_empty, stmt_scope_layer, arm_scope_layer, stmt_scope, arm_scope}
-use Rattle.mv_lowered_forms.specs.Calls.{expr_weight, stmt_weight, arm_weight}
-use Rattle.mv_lowered_forms.proofs.Rules.{Allowed, Rules, BlockRules, Covers}
-use Rattle.mv_lowered_forms.proofs.Plain.{plain_set, plain_write, plain_zero, covers_self, covers_number, covers_none, covers_before, covers_binary, covers_twice, covers_swap, covers_then}
+use Rattle.mv_lowered_forms.specs.Asked.{Globals, is_within, all_exprs_within}
+use Rattle.mv_lowered_forms.specs.Calls.{expr_weight}
+use Rattle.mv_lowered_forms.proofs.Rules.{Allowed, Rules}
+use Rattle.mv_lowered_forms.proofs.Plain.{plain_set, plain_write, plain_zero, covers_number, covers_none, covers_before}
 use Rattle.mv_lowered_forms.proofs.Given as given
 use Rattle.mv_lowered_forms.proofs.Paid as paying
-use Rattle.mv_lowered_forms.proofs.Expressions as exprs
-use Rattle.mv_lowered_forms.proofs.Expressions.{allowed, is_used, scratch_used, local_used, expr_paid, sum_cons, sum_append}
-use Rattle.mv_lowered_forms.proofs.StatementInduction as source
+use Rattle.mv_lowered_forms.proofs.Expressions.{allowed, scratch_used, local_used, expr_paid, sum_cons}
 
 module _ (globals : Globals) (locals : ℕ) (sizes : ℕ → Option ℕ) (room : ℕ) (direct : ℕ → ℕ) (through : ℕ) (declared : ℕ → Bool)
     (B : ℕ → ℕ → ℕ → List Tree → List Stm → List Tree → Type 0) (r : Rules (allowed globals locals sizes room direct through declared) B) where

@@ -1,5 +1,5 @@
 -- Counts of statements, tree nodes and calls obey the rules.
-use Rattle.std.proofs.Common.{◌≡◌, ℕ, zero, suc, ◌+◌, ◌≤◌, Bool, true, false, List, [], ◌∷◌, ◌++◌, map, Option, Some, None, refl, sym, ◌∙◌, ap, arith, append-nil}
+use Rattle.std.proofs.Common.{◌≡◌, ℕ, suc, ◌+◌, ◌≤◌, List, [], ◌∷◌, ◌++◌, map, Option, Some, None, refl, sym, ◌∙◌, ap, arith, append-nil}
 use Rattle.mv_ir.specs.declared.tree.Tree.{Tree}
 use Rattle.mv_ir.specs.declared.tree.Tree.TheOpen as tree
 use Rattle.mv_ir.specs.declared.stm.Stm.{Stm}
@@ -7,15 +7,13 @@ use Rattle.mv_ir.specs.declared.stm.Stm.TheOpen.{Stm-F}
 use Rattle.mv_ir.specs.declared.stm.Stm.TheOpen as stm
 use Rattle.mv_ir.specs.declared.stm.Stm.TheViews.{roll-Stm}
 use Rattle.mv_ir.specs.declared.stm.Stm.TheFolds.{map-Stm, fold-roll-Stm}
-use Rattle.mv_ir.specs.Trees.{nodes, nodes_of_all}
+use Rattle.mv_ir.specs.Trees.{nodes_of_all}
 use Rattle.mv_ir.specs.Measures.{total, joined, layer_trees, stm_trees, trees, stm_size, statements}
 use Rattle.mv_ir.proofs.Keeping.{map_append}
 use Rattle.mv_ir.proofs.Lists.{joined_append}
 use Rattle.mv_ir.proofs.Rolls.{nodes_roll, trees_roll, size_roll}
-use Rattle.mv_lowering.specs.Lowered.{temp, global, choose}
-use Rattle.mv_lowering.specs.Statements.{return_with, break, repeat, enclosed}
 use Rattle.mv_lowered_forms.specs.Calls.{layer_weight, stm_weight, code_weight}
-use Rattle.mv_lowered_forms.proofs.Rules.{Allowed, Rules, BlockRules, IsPlain, Covers, result, one_for}
+use Rattle.mv_lowered_forms.proofs.Rules.{Allowed, Rules, BlockRules, IsPlain, result, one_for}
 use Rattle.mv_lowered_forms.proofs.Plain.{nodes_append}
 
 total_append : (ms ns : List ℕ) → total (ms ++ ns) ≡ total ms + total ns

@@ -1,12 +1,11 @@
 -- From the first free temporary on, an expression's code takes at most eight for each level of its depth.
-use Rattle.std.proofs.Common.{◌≡◌, ℕ, zero, suc, ◌+◌, ◌*◌, ◌<◌, ◌≤◌, Bool, true, false, cond, List, [], ◌∷◌, ◌++◌, map, length, max, Option, refl, sym, ◌∙◌, ap, subst, arith}
-use Rattle.std.specs.Prelude.{◌&&◌, not, nat_lt, nat_eq}
+use Rattle.std.proofs.Common.{◌≡◌, ℕ, ◌+◌, ◌*◌, ◌≤◌, Bool, true, false, cond, List, [], ◌∷◌, ◌++◌, map, length, max, Option, sym, ◌∙◌, ap, subst, arith}
+use Rattle.std.specs.Prelude.{◌&&◌, nat_lt, nat_eq}
 use Rattle.std.proofs.lemmas.Bool.{ltb-true, eqb-true}
 use Rattle.std.proofs.lemmas.List.{length-map, length-append}
 use Rattle.mv_ir.specs.declared.tree.Tree.{Tree}
 use Rattle.mv_ir.specs.WellFormed.{known_arguments}
 use Rattle.mv_ir.proofs.Induction.{Each, each_append}
-use Rattle.mv_ir.proofs.Keeping.{map_append}
 use Rattle.mv_ast.specs.declared.program.CType.{CType}
 use Rattle.mv_ast.specs.declared.program.Known.{Known}
 use Rattle.mv_ast.specs.declared.program.Known.TheVariants.{Getchar, Putchar, Poll, Plan}
@@ -15,7 +14,7 @@ use Rattle.mv_ast.specs.declared.program.Form.{Form, Form-F, fold-Form, fold-rol
 use Rattle.mv_ast.specs.declared.program.Form.TheOpen as form
 use Rattle.mv_ast.specs.declared.program.Target.{Target, Target-F, fold-Target, fold-roll-Target, map-Target, roll-Target}
 use Rattle.mv_ast.specs.Counts.{greatest, form_greatest, target_greatest, one_more_than, expr_depth}
-use Rattle.mv_lowering.specs.Lowered.{Lowered, Lowering, is_low, is_empty, kept_if, binary, first, second, lower_number, lower_function, lower_local, lower_global, lower_one, lower_two, lower_division, lower_all, lower_element}
+use Rattle.mv_lowering.specs.Lowered.{Lowered, Lowering, is_low, is_empty, kept_if, binary, first, second, lower_local, lower_global, lower_one, lower_two, lower_division, lower_all, lower_element}
 use Rattle.mv_lowering.specs.Lower.{Part, Place, InLocal, InGlobal, Element, quotient_number, remainder_number, bit_tree, lower_operator, lower_product, lower_binary, lower_changed, lower_change, lower_after, lower_read, lower_set, unary_tree, converted_tree, place_of_layer, lower_form, lower_layer, form_lowering, place_of, part_of, lower_expr}
 use Rattle.mv_lowering.proofs.SourceInduction.{FormChildren, TargetChildren, expr_ind}
 use Rattle.mv_lowering.proofs.Expressions.{split}
@@ -231,7 +230,7 @@ module _ (globals : Globals) (locals : ℕ) (sizes : ℕ → Option ℕ) (declar
       let few = ltb-true (length (map within args)) 9 bs.0 in
       let d = max (greatest (map expr_depth args)) (expr_depth e) in
       let k = all_top d (lowers args ++ lower_expr e ∷ []) (omega (arith, h.1.deep))
-          (each_append (Top d) (lowers args) (lower_expr e ∷ []) (each_top args h.0 cs.0 d (omega arith)) (higher (expr_depth e) d (lower_expr e) (omega arith) (h.1.top cs.1), tt)) n in
+      (each_append (Top d) (lowers args) (lower_expr e ∷ []) (each_top args h.0 cs.0 d (omega arith)) (higher (expr_depth e) d (lower_expr e) (omega arith) (h.1.top cs.1), tt)) n in
       omega (arith, k, few, lowers_length args, length-append (lowers args) (lower_expr e ∷ []), greatest_append (map expr_depth args) (expr_depth e ∷ []))
   layer (form.Known f args) h b c n =
       let bs = split (nat_eq (length (map within args)) (known_arguments f)) (all_of (map within args)) b in
@@ -270,9 +269,10 @@ module _ (globals : Globals) (locals : ℕ) (sizes : ℕ → Option ℕ) (declar
       let place = fold-roll-Target (CType → Lowering) Place Part lower_form place_of_layer lower_layer x in
       let tested = fold-roll-Target Bool Access Bool (form_names_only globals locals sizes declared) (target_access globals locals sizes declared) (inner_names_only globals locals sizes declared) x in
       let deep = fold-roll-Target ℕ ℕ ℕ form_greatest target_greatest one_more_than x in
-      let k = target_layer x h in
-      (λ b. subst (λ z. PlaceTop z (target_depth (roll-Target x))) (sym place) (subst (PlaceTop (placed x)) (sym deep) (k.0 (sym (ap (λ (z : Access). z.read) tested) ∙ b))),
-      λ b. subst (λ z. PlaceTop z (target_depth (roll-Target x))) (sym place) (subst (PlaceTop (placed x)) (sym deep) (k.1 (sym (ap (λ (z : Access). z.stored) tested) ∙ b))))
+      let k = target_layer x h in (
+        λ b. subst (λ z. PlaceTop z (target_depth (roll-Target x))) (sym place) (subst (PlaceTop (placed x)) (sym deep) (k.0 (sym (ap (λ (z : Access). z.read) tested) ∙ b))),
+        λ b. subst (λ z. PlaceTop z (target_depth (roll-Target x))) (sym place) (subst (PlaceTop (placed x)) (sym deep) (k.1 (sym (ap (λ (z : Access). z.stored) tested) ∙ b))),
+      )
 
   expr_step : (x : Expr-F Form Target Expr) → P x.what → ExprTop (roll-Expr x)
   expr_step x h =

@@ -1,5 +1,5 @@
 -- Lowered expressions are made of code that obeys the rules, with at most 8 statements and 12 tree nodes for each node of the source.
-use Rattle.std.proofs.Common.{◌≡◌, ℕ, zero, suc, ◌+◌, ◌*◌, ◌<◌, ◌≤◌, Bool, true, false, cond, List, [], ◌∷◌, ◌++◌, map, length, max, Option, Some, None, refl, sym, ◌∙◌, ap, subst, arith}
+use Rattle.std.proofs.Common.{◌≡◌, ℕ, ◌+◌, ◌*◌, ◌<◌, ◌≤◌, Bool, true, false, List, [], ◌∷◌, ◌++◌, map, length, Option, refl, sym, ◌∙◌, ap, subst, arith}
 use Rattle.std.specs.Prelude.{◌&&◌, ◌||◌, not, nat_lt, nat_eq, sum}
 use Rattle.std.proofs.lemmas.Bool.{ltb-true, lt-ltb, and_from, or_left, or_right}
 use Rattle.std.proofs.lemmas.List.{length-map}
@@ -21,10 +21,10 @@ use Rattle.mv_ast.specs.Counts.{form_sum, target_sum, one_more_than, inner_calls
 use Rattle.mv_lowering.specs.Lowered.{Lowering, lower_number, lower_function, lower_one, lower_through, lower_both, lower_either, lower_choice, lower_local, lower_global, lower_element, temp}
 use Rattle.mv_lowering.specs.Lower.{Part, Place, InLocal, InGlobal, Element, all_of, is_scalar, place_of_layer, lower_read, lower_set, lower_binary, lower_changed, lower_change, next_tree, lower_after, is_void, lower_form, lower_layer, form_lowering, place_of, part_of, lower_expr, unary_tree, converted_tree}
 use Rattle.mv_lowering.proofs.SourceInduction.{FormChildren, TargetChildren, expr_ind}
-use Rattle.mv_lowering.proofs.Expressions.{split, no}
+use Rattle.mv_lowering.proofs.Expressions.{split}
 use Rattle.mv_lowered_forms.specs.Asked.{Globals, Access, local_access, target_access, form_names_only, inner_names_only, form_is_within, target_is_within, is_within}
-use Rattle.mv_lowered_forms.specs.Calls.{own_weight, form_weights, form_weight, target_weight, expr_weight}
-use Rattle.mv_lowered_forms.proofs.Rules.{Allowed, Rules, Covers, AllMay}
+use Rattle.mv_lowered_forms.specs.Calls.{form_weights, form_weight, target_weight, expr_weight}
+use Rattle.mv_lowered_forms.proofs.Rules.{Allowed, Rules, AllMay}
 use Rattle.mv_lowered_forms.proofs.Plain.{covers_none}
 use Rattle.mv_lowered_forms.proofs.Given as given
 use Rattle.mv_lowered_forms.proofs.Operators as operators
@@ -138,22 +138,28 @@ module _ (globals : Globals) (locals : ℕ) (sizes : ℕ → Option ℕ) (room :
 
   read_paid : (x : Place) (access : Access) (n k : ℕ) → PlacePaid x access n k → access.read ≡ true → Paid (1 + n) k (lower_read x)
   read_paid (InLocal l) access n k h e = record {
-    statements = 0; nodes = 1;
+    statements = 0;
+    nodes = 1;
     gives = subst (λ m. Gives 0 1 m (lower_local l)) (sym h.free) (given.gives_local a B rules locals room scratch l (h.read e) (h.used e));
-    few_statements = omega arith; few_nodes = omega arith;
+    few_statements = omega arith;
+    few_nodes = omega arith;
   }
   read_paid (InGlobal g) access n k h e = record {
-    statements = 0; nodes = 1;
+    statements = 0;
+    nodes = 1;
     gives = subst (λ m. Gives 0 1 m (lower_global g)) (sym h.free) (given.gives_global a B rules locals room scratch g (h.read e));
-    few_statements = omega arith; few_nodes = omega arith;
+    few_statements = omega arith;
+    few_nodes = omega arith;
   }
   read_paid (Element r i) access n k h e =
       let el = h.read e in
       let index = el.index in
       record {
-        statements = index.statements + 1; nodes = index.nodes + 1;
+        statements = index.statements + 1;
+        nodes = index.nodes + 1;
         gives = given.gives_read_element a B rules locals room scratch r i el.named el.read index.gives;
-        few_statements = omega (arith, index.few_statements); few_nodes = omega (arith, index.few_nodes);
+        few_statements = omega (arith, index.few_statements);
+        few_nodes = omega (arith, index.few_nodes);
       }
 
   same_weight : {s t k k' : ℕ} (l : Lowering) → k ≡ k' → Gives s t k l → Gives s t k' l
@@ -161,70 +167,88 @@ module _ (globals : Globals) (locals : ℕ) (sizes : ℕ → Option ℕ) (room :
 
   set_paid : (x : Place) (access : Access) (n k n' k' : ℕ) (v : Lowering) → PlacePaid x access n k → access.stored ≡ true → Paid n' k' v → Paid (1 + (n + n')) (k + k') (lower_set x v)
   set_paid (InLocal l) access n k n' k' v h e p = record {
-    statements = p.statements + 1; nodes = p.nodes + 1;
+    statements = p.statements + 1;
+    nodes = p.nodes + 1;
     gives = same_weight (lower_set (InLocal l) v) (omega (arith, h.free)) (given.gives_set_local a B rules locals room scratch l v (h.stored e) p.gives);
-    few_statements = omega (arith, p.few_statements); few_nodes = omega (arith, p.few_nodes);
+    few_statements = omega (arith, p.few_statements);
+    few_nodes = omega (arith, p.few_nodes);
   }
   set_paid (InGlobal g) access n k n' k' v h e p = record {
-    statements = p.statements + 2; nodes = p.nodes + 2;
+    statements = p.statements + 2;
+    nodes = p.nodes + 2;
     gives = same_weight (lower_set (InGlobal g) v) (omega (arith, h.free)) (given.gives_set_global a B rules locals room scratch g v (h.stored e) p.gives);
-    few_statements = omega (arith, p.few_statements); few_nodes = omega (arith, p.few_nodes);
+    few_statements = omega (arith, p.few_statements);
+    few_nodes = omega (arith, p.few_nodes);
   }
   set_paid (Element r i) access n k n' k' v h e p =
       let el = h.stored e in
       let index = el.index in
       record {
-        statements = index.statements + p.statements + 4; nodes = index.nodes + p.nodes + 5;
+        statements = index.statements + p.statements + 4;
+        nodes = index.nodes + p.nodes + 5;
         gives = λ m le top. given.gives_set_element a B rules locals room scratch r i v m el.named index.gives le top
             (rules.weaken (omega arith) (omega arith) (omega arith) (rules.chain (rules.retree (covers_none (temp (m + 1) ∷ []))) (p.gives (m + 2) (omega (arith, le)) (omega (arith, top)))));
-        few_statements = omega (arith, index.few_statements, p.few_statements); few_nodes = omega (arith, index.few_nodes, p.few_nodes);
+        few_statements = omega (arith, index.few_statements, p.few_statements);
+        few_nodes = omega (arith, index.few_nodes, p.few_nodes);
       }
 
   change_paid : (op : ℕ) (kind c : CType) (x : Place) (access : Access) (n k n' k' : ℕ) (v : Lowering) → PlacePaid x access n k → access.read ≡ true → access.stored ≡ true → Paid n' k' v →
       Paid (1 + (n + n')) (k + k') (lower_change op kind c x v)
   change_paid op kind c (InLocal l) access n k n' k' v h e d p = record {
-    statements = p.statements + 0 + 3 + 1 + 1; nodes = p.nodes + 1 + 4 + 3 + 1;
+    statements = p.statements + 0 + 3 + 1 + 1;
+    nodes = p.nodes + 1 + 4 + 3 + 1;
     gives = same_weight (lower_change op kind c (InLocal l) v) (omega (arith, h.free))
         (given.gives_set_local a B rules locals room scratch l _ (h.stored d) (operators.gives_changed a B rules locals room scratch op kind c (lower_local l) v (given.gives_local a B rules locals room scratch l (h.read e) (h.used e)) p.gives));
-    few_statements = omega (arith, p.few_statements); few_nodes = omega (arith, p.few_nodes);
+    few_statements = omega (arith, p.few_statements);
+    few_nodes = omega (arith, p.few_nodes);
   }
   change_paid op kind c (InGlobal g) access n k n' k' v h e d p = record {
-    statements = p.statements + 0 + 3 + 1 + 2; nodes = p.nodes + 1 + 4 + 3 + 2;
+    statements = p.statements + 0 + 3 + 1 + 2;
+    nodes = p.nodes + 1 + 4 + 3 + 2;
     gives = same_weight (lower_change op kind c (InGlobal g) v) (omega (arith, h.free))
         (given.gives_set_global a B rules locals room scratch g _ (h.stored d) (operators.gives_changed a B rules locals room scratch op kind c (lower_global g) v (given.gives_global a B rules locals room scratch g (h.read e)) p.gives));
-    few_statements = omega (arith, p.few_statements); few_nodes = omega (arith, p.few_nodes);
+    few_statements = omega (arith, p.few_statements);
+    few_nodes = omega (arith, p.few_nodes);
   }
   change_paid op kind c (Element r i) access n k n' k' v h e d p =
       let el = h.read e in
       let index = el.index in
       record {
-        statements = index.statements + (p.statements + 1 + 3 + 1) + 4; nodes = index.nodes + (p.nodes + 1 + 4 + 3) + 5;
+        statements = index.statements + (p.statements + 1 + 3 + 1) + 4;
+        nodes = index.nodes + (p.nodes + 1 + 4 + 3) + 5;
         gives = λ m le top. rules.weaken (omega arith) (omega arith) (omega arith)
             (given.gives_set_element a B rules locals room scratch r i (lower_changed op kind c (lower_element r (m + 1)) v) m el.named index.gives le top
             (operators.gives_changed a B rules locals room scratch op kind c (lower_element r (m + 1)) v (given.gives_element a B rules locals room scratch r (m + 1) el.named el.read) p.gives (m + 2) (omega (arith, le)) (omega (arith, top))));
-        few_statements = omega (arith, index.few_statements, p.few_statements); few_nodes = omega (arith, index.few_nodes, p.few_nodes);
+        few_statements = omega (arith, index.few_statements, p.few_statements);
+        few_nodes = omega (arith, index.few_nodes, p.few_nodes);
       }
 
   after_paid : (up : Bool) (c : CType) (x : Place) (access : Access) (n k : ℕ) → PlacePaid x access n k → access.read ≡ true → access.stored ≡ true → Paid (1 + n) k (lower_after up c x)
   after_paid up c (InLocal l) access n k h e d = record {
-    statements = 2; nodes = 7;
+    statements = 2;
+    nodes = 7;
     gives = same_weight (lower_after up c (InLocal l)) (sym h.free)
         (λ m le top. given.gives_local_after a B rules locals room scratch l (λ i. next_tree up c (temp i)) (h.read e) (h.used e) (on_next up c) m le (omega (arith, top)));
-    few_statements = omega arith; few_nodes = omega arith;
+    few_statements = omega arith;
+    few_nodes = omega arith;
   }
   after_paid up c (InGlobal g) access n k h e d = record {
-    statements = 2; nodes = 7;
+    statements = 2;
+    nodes = 7;
     gives = same_weight (lower_after up c (InGlobal g)) (sym h.free)
         (λ m le top. given.gives_global_after a B rules locals room scratch g (λ i. next_tree up c (temp i)) (h.read e) (h.stored d) (on_next up c) m le (omega (arith, top)));
-    few_statements = omega arith; few_nodes = omega arith;
+    few_statements = omega arith;
+    few_nodes = omega arith;
   }
   after_paid up c (Element r i) access n k h e d =
       let el = h.read e in
       let index = el.index in
       record {
-        statements = index.statements + 3; nodes = index.nodes + 7;
+        statements = index.statements + 3;
+        nodes = index.nodes + 7;
         gives = λ m le top. given.gives_element_after a B rules locals room scratch r i (λ i. next_tree up c (temp i)) el.named el.read (on_next up c) index.gives m le top;
-        few_statements = omega (arith, index.few_statements); few_nodes = omega (arith, index.few_nodes);
+        few_statements = omega (arith, index.few_statements);
+        few_nodes = omega (arith, index.few_nodes);
       }
 
   -- ---- the fold
@@ -266,37 +290,47 @@ module _ (globals : Globals) (locals : ℕ) (sizes : ℕ → Option ℕ) (room :
 
   one_paid : {n k : ℕ} (f : Tree → Tree) (x : Lowering) → given.OnOne f → Paid n k x → Paid (1 + n) k (lower_one f x)
   one_paid f x on p = record {
-    statements = p.statements + 1; nodes = p.nodes + 3;
+    statements = p.statements + 1;
+    nodes = p.nodes + 3;
     gives = given.gives_one a B rules locals room scratch f x on p.gives;
-    few_statements = omega (arith, p.few_statements); few_nodes = omega (arith, p.few_nodes);
+    few_statements = omega (arith, p.few_statements);
+    few_nodes = omega (arith, p.few_nodes);
   }
 
   binary_paid : {n k n' k' : ℕ} (op : ℕ) (c : CType) (x y : Lowering) → Paid n k x → Paid n' k' y → Paid (1 + (n + n')) (k + k') (lower_binary false op c x y)
   binary_paid op c x y p q = record {
-    statements = p.statements + q.statements + 3; nodes = p.nodes + q.nodes + 4;
+    statements = p.statements + q.statements + 3;
+    nodes = p.nodes + q.nodes + 4;
     gives = operators.gives_binary a B rules locals room scratch false op c x y p.gives q.gives;
-    few_statements = omega (arith, p.few_statements, q.few_statements); few_nodes = omega (arith, p.few_nodes, q.few_nodes);
+    few_statements = omega (arith, p.few_statements, q.few_statements);
+    few_nodes = omega (arith, p.few_nodes, q.few_nodes);
   }
 
   both_paid : {n k n' k' : ℕ} (x y : Lowering) → Paid n k x → Paid n' k' y → Paid (1 + (n + n')) (k + k') (lower_both x y)
   both_paid x y p q = record {
-    statements = p.statements + q.statements + 4; nodes = p.nodes + q.nodes + 6;
+    statements = p.statements + q.statements + 4;
+    nodes = p.nodes + q.nodes + 6;
     gives = given.gives_both a B rules locals room scratch x y p.gives q.gives;
-    few_statements = omega (arith, p.few_statements, q.few_statements); few_nodes = omega (arith, p.few_nodes, q.few_nodes);
+    few_statements = omega (arith, p.few_statements, q.few_statements);
+    few_nodes = omega (arith, p.few_nodes, q.few_nodes);
   }
 
   either_paid : {n k n' k' : ℕ} (x y : Lowering) → Paid n k x → Paid n' k' y → Paid (1 + (n + n')) (k + k') (lower_either x y)
   either_paid x y p q = record {
-    statements = p.statements + q.statements + 4; nodes = p.nodes + q.nodes + 6;
+    statements = p.statements + q.statements + 4;
+    nodes = p.nodes + q.nodes + 6;
     gives = given.gives_either a B rules locals room scratch x y p.gives q.gives;
-    few_statements = omega (arith, p.few_statements, q.few_statements); few_nodes = omega (arith, p.few_nodes, q.few_nodes);
+    few_statements = omega (arith, p.few_statements, q.few_statements);
+    few_nodes = omega (arith, p.few_nodes, q.few_nodes);
   }
 
   choice_paid : {n k n1 k1 n2 k2 : ℕ} (z x y : Lowering) → Paid n k z → Paid n1 k1 x → Paid n2 k2 y → Paid (1 + (n + (n1 + n2))) (k + (k1 + k2)) (lower_choice z x y)
   choice_paid z x y r p q = record {
-    statements = r.statements + p.statements + q.statements + 3; nodes = r.nodes + p.nodes + q.nodes + 2;
+    statements = r.statements + p.statements + q.statements + 3;
+    nodes = r.nodes + p.nodes + q.nodes + 2;
     gives = given.gives_choice a B rules locals room scratch z x y r.gives p.gives q.gives;
-    few_statements = omega (arith, r.few_statements, p.few_statements, q.few_statements); few_nodes = omega (arith, r.few_nodes, p.few_nodes, q.few_nodes);
+    few_statements = omega (arith, r.few_statements, p.few_statements, q.few_statements);
+    few_nodes = omega (arith, r.few_nodes, p.few_nodes, q.few_nodes);
   }
 
   leaf_paid : (l : Lowering) → Gives 0 1 0 l → Paid 1 0 l
@@ -305,9 +339,11 @@ module _ (globals : Globals) (locals : ℕ) (sizes : ℕ → Option ℕ) (room :
   -- a call of what several lowerings give, with a weight of its own
   call_paid : {n k : ℕ} (w : ℕ) (l : Lowering) (ls : List Lowering) (p : AllPaid n k ls) → Gives (p.statements + 1) (p.nodes + 1) (k + w) l → Paid (1 + n) (w + k) l
   call_paid w l ls p h = record {
-    statements = p.statements + 1; nodes = p.nodes + 1;
+    statements = p.statements + 1;
+    nodes = p.nodes + 1;
     gives = same_weight l (omega arith) h;
-    few_statements = omega (arith, p.few_statements); few_nodes = omega (arith, p.few_nodes);
+    few_statements = omega (arith, p.few_statements);
+    few_nodes = omega (arith, p.few_nodes);
   }
 
   abbrev counts : Form-F Form Target Expr → Form-F ℕ ℕ ℕ

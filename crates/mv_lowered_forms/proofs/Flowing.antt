@@ -1,15 +1,14 @@
 -- Where a temporary is live and marked in code that is made of code.
-use Rattle.std.proofs.Common.{◌≡◌, ℕ, zero, suc, Bool, true, false, not, eqb, ◌&&◌, ◌||◌, List, [], ◌∷◌, ◌++◌, map, Option, Some, None, refl, sym, ◌∙◌, ap, subst, append_assoc}
-use Rattle.std.proofs.lemmas.Bool.{eqb-true, or_from, or_parts, and_left, and_right, eq-eqb}
+use Rattle.std.proofs.Common.{◌≡◌, ℕ, Bool, true, false, eqb, ◌||◌, List, [], ◌∷◌, ◌++◌, map, refl, sym, ◌∙◌, ap, append_assoc}
+use Rattle.std.proofs.lemmas.Bool.{eqb-true}
 use Rattle.mv_ir.specs.declared.tree.Tree.{Tree}
 use Rattle.mv_ir.specs.declared.tree.Tree.TheOpen as tree
 use Rattle.mv_ir.specs.declared.stm.Stm.{Stm}
 use Rattle.mv_ir.specs.declared.stm.Stm.TheOpen.{Stm-F}
-use Rattle.mv_ir.specs.declared.stm.Stm.TheOpen as stm
 use Rattle.mv_ir.specs.declared.stm.Stm.TheViews.{roll-Stm}
-use Rattle.mv_ir.specs.Live.{reads_temp, any_reads, is, Around, Flow, with_after, live_in_order, marks_in_order, plain, goes_next, flow, any}
+use Rattle.mv_ir.specs.Live.{reads_temp, any_reads, Around, Flow, with_after, live_in_order, marks_in_order, flow, any}
 use Rattle.mv_ir.proofs.Keeping.{map_append}
-use Rattle.mv_ir.proofs.Rolls.{reads_temp_roll, flow_roll}
+use Rattle.mv_ir.proofs.Rolls.{reads_temp_roll}
 use Rattle.mv_lowering.proofs.Expressions.{no}
 use Rattle.mv_lowering.specs.Lowered.{temp, global}
 

@@ -1,14 +1,12 @@
 -- The code of a whole function obeys the rules.
-use Rattle.std.proofs.Common.{◌≡◌, ℕ, zero, suc, ◌+◌, ◌*◌, ◌<◌, ◌≤◌, Bool, true, false, cond, List, [], ◌∷◌, ◌++◌, map, length, max, Option, Some, None, refl, sym, ◌∙◌, ap, subst, arith, append-nil}
+use Rattle.std.proofs.Common.{◌≡◌, ℕ, ◌+◌, ◌*◌, ◌≤◌, Bool, true, false, List, [], ◌++◌, map, length, max, refl, sym, subst, arith, append-nil}
 use Rattle.std.specs.Prelude.{sum, nat_lt}
 use Rattle.mv_ir.specs.declared.tree.Tree.{Tree}
 use Rattle.mv_ir.specs.declared.stm.Stm.{Stm}
-use Rattle.mv_ir.specs.Live.{Around, nowhere}
 use Rattle.mv_ast.specs.declared.program.Function.{Function}
 use Rattle.mv_ast.specs.Counts.{stmt_nodes}
 use Rattle.mv_lowering.specs.Lowered.{number}
 use Rattle.mv_lowering.specs.Lower.{is_void}
-use Rattle.mv_lowering.specs.Statements.{return_with}
 use Rattle.mv_lowering.specs.Functions.{size_in, lower_body, outermost, ending, lower_function_code}
 use Rattle.mv_lowered_forms.specs.Asked.{Globals, all_within, scopes_of}
 use Rattle.mv_lowered_forms.specs.Calls.{function_weight}
@@ -44,7 +42,9 @@ module _ (globals : Globals) (g : Function) (direct : ℕ → ℕ) (through : �
   function_paid b =
       let p = statements.body_paid globals (length g.locals) (size_in g.locals) (is_void g.result) (room_of g) direct through B rules blocks g.body (λ l. nat_lt l g.params) b outermost (omega arith) in
       record {
-        statements = p.statements + 1; nodes = p.nodes + 1;
+        statements = p.statements + 1;
+        nodes = p.nodes + 1;
         made = ended (is_void g.result) p.made;
-        few_statements = omega (arith, p.few_statements); few_nodes = omega (arith, p.few_nodes);
+        few_statements = omega (arith, p.few_statements);
+        few_nodes = omega (arith, p.few_nodes);
       }

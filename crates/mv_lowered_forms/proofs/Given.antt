@@ -1,5 +1,5 @@
 -- How lowered expressions are made of code that obeys the rules.
-use Rattle.std.proofs.Common.{◌≡◌, ℕ, zero, suc, ◌+◌, ◌<◌, ◌≤◌, Bool, true, false, cond, ◌&&◌, List, [], ◌∷◌, ◌++◌, map, length, max, Option, Some, None, refl, sym, ◌∙◌, ap, subst, arith, append_assoc, append-nil}
+use Rattle.std.proofs.Common.{◌≡◌, ℕ, suc, ◌+◌, ◌<◌, ◌≤◌, Bool, true, false, cond, ◌&&◌, List, [], ◌∷◌, ◌++◌, length, Option, Some, None, refl, sym, ◌∙◌, ap, subst, arith, append_assoc, append-nil}
 use Rattle.std.specs.Prelude.{nat_lt, nat_eq}
 use Rattle.std.proofs.lemmas.List.{length-append}
 use Rattle.mv_ast.specs.declared.program.Known.{Known}
@@ -14,7 +14,7 @@ use Rattle.mv_ir.specs.declared.stm.Callee.{Callee}
 use Rattle.mv_ir.specs.declared.stm.Callee.TheVariants as callee
 use Rattle.mv_ir.specs.Measures.{array_read}
 use Rattle.mv_ir.specs.WellFormed.{known_arguments}
-use Rattle.mv_lowering.specs.Lowered.{Lowered, Lowering, Arguments, number, temp, unary, global, set, set_global, divide, choose, check, read, write, call, known, truth, truth_in, is_empty, is_low, kept_if, first, second, lower_number, lower_local, lower_global, lower_function, lower_one, lower_two, lower_division, lower_both, lower_either, lower_choice, lower_set_local, lower_set_global, lower_all, place_of_result, result_tree, lower_call_to, lower_call, but_last, last_of, lower_through, lower_known, index_in, lower_element, lower_read_element, lower_set_element}
+use Rattle.mv_lowering.specs.Lowered.{Lowered, Lowering, Arguments, number, temp, unary, global, set, set_global, divide, choose, read, write, truth, truth_in, is_empty, is_low, kept_if, first, second, lower_number, lower_local, lower_global, lower_function, lower_one, lower_two, lower_division, lower_both, lower_either, lower_choice, lower_set_local, lower_set_global, lower_all, lower_call_to, lower_call, but_last, last_of, lower_through, lower_known, index_in, lower_element, lower_read_element, lower_set_element}
 use Rattle.mv_lowered_forms.proofs.Rules.{Allowed, Rules, Covers, IsPlain, IsAllowed, AllMay, result, one_for}
 use Rattle.mv_lowered_forms.proofs.Plain.{plain_set, plain_set_global, plain_divide, plain_check, plain_read, plain_write, plain_call, plain_through, plain_known, covers_unary, covers_number, covers_function, covers_none, covers_self, covers_then, covers_before, covers_swap, covers_twice}
 

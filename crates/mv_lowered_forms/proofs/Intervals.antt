@@ -1,8 +1,7 @@
 -- How many intervals lie over one position, and how many words the arrays have.
-use Rattle.std.proofs.Common.{◌≡◌, ℕ, zero, suc, ◌+◌, ◌*◌, ◌<◌, ◌≤◌, Bool, true, false, cond, List, [], ◌∷◌, ◌++◌, map, length, max, Option, Some, None, refl, sym, ◌∙◌, ap, subst, arith, ◌⊎◌, inl, inr}
-use Rattle.std.specs.Prelude.{◌||◌, ◌&&◌, not, nat_lt, sum, slice_get}
-use Rattle.std.proofs.lemmas.Bool.{or_from, or_parts, and_right, lt-ltb, cases_lt}
-use Rattle.std.proofs.lemmas.List.Sums.{sum_by-cons}
+use Rattle.std.proofs.Common.{◌≡◌, ℕ, zero, suc, ◌+◌, ◌<◌, ◌≤◌, Bool, true, false, cond, List, [], ◌∷◌, ◌++◌, map, length, Option, Some, None, refl, sym, ◌∙◌, ap, subst, arith, ◌⊎◌, inl, inr}
+use Rattle.std.specs.Prelude.{◌||◌, ◌&&◌, not, nat_lt, sum}
+use Rattle.std.proofs.lemmas.Bool.{or_parts, and_right, lt-ltb, cases_lt}
 use Rattle.mv_ir.specs.declared.body.Body.{Body}
 use Rattle.mv_ir.specs.Measures.{total}
 use Rattle.mv_ir.specs.Live.{any, filled, mark_at, all_marks, interval, count_at, below, greatest_up_to, marks_length, most_intervals}
@@ -10,7 +9,7 @@ use Rattle.mv_ir.proofs.Keeping.{map_append}
 use Rattle.mv_ast.specs.declared.program.Local.{Local}
 use Rattle.mv_ast.specs.Counts.{words_of_size}
 use Rattle.mv_lowering.specs.Lower.{is_scalar}
-use Rattle.mv_lowering.specs.Functions.{size_of_local, size_in, elements_of, array_sizes}
+use Rattle.mv_lowering.specs.Functions.{size_in, elements_of, array_sizes}
 use Rattle.mv_lowered_forms.proofs.Expressions.{is_used, sum_cons}
 
 -- ---- marks
@@ -115,7 +114,7 @@ module _ (ls : List Local) (room : ℕ) where
       most_intervals b + sum (array_sizes ls) + length ls ≤ sum (map (λ l. words_of_size l.size) ls) + room
   few_intervals b temps le unused =
       let each = greatest_within (marks_length (all_marks b 0)) (sum_below room used_word) (λ i. count_at i (map (interval b) (below b.temps)))
-          (λ i. subst (λ n. count_at i (map (interval b) (below n)) ≤ sum_below room used_word) (sym temps) (counted_below (interval b) used_word i room (λ t. marked i t))) in
+      (λ i. subst (λ n. count_at i (map (interval b) (below n)) ≤ sum_below room used_word) (sym temps) (counted_below (interval b) used_word i room (λ t. marked i t))) in
       let behind = sum_behind used_word (length ls) room at_most_one le in
       let locals = sum_less (length ls) used_word (λ t. scalar_word (size_in ls t)) used_local in
       omega (arith, each, behind, locals, words_of_locals ls)

@@ -1,5 +1,5 @@
 -- What code reads and names, and how many arguments its calls have, obey the rules.
-use Rattle.std.proofs.Common.{◌≡◌, ℕ, zero, suc, ◌+◌, ◌≤◌, Bool, true, false, ◌&&◌, List, [], ◌∷◌, ◌++◌, map, Option, Some, None, refl, sym, ◌∙◌, ap, subst, append-nil, append_assoc}
+use Rattle.std.proofs.Common.{◌≡◌, ℕ, Bool, true, false, ◌&&◌, List, [], ◌∷◌, ◌++◌, map, Option, Some, None, refl, sym, ◌∙◌, ap, subst, append-nil}
 use Rattle.std.proofs.lemmas.Bool.{and_from}
 use Rattle.mv_ir.specs.declared.tree.Tree.{Tree}
 use Rattle.mv_ir.specs.declared.tree.Tree.TheOpen as tree
@@ -9,15 +9,14 @@ use Rattle.mv_ir.specs.declared.stm.Stm.TheOpen.{Stm-F}
 use Rattle.mv_ir.specs.declared.stm.Stm.TheOpen as stm
 use Rattle.mv_ir.specs.declared.stm.Stm.TheViews.{roll-Stm}
 use Rattle.mv_ir.specs.declared.stm.Stm.TheFolds.{map-Stm}
-use Rattle.mv_ir.specs.Measures.{joined, stm_trees, trees, tree_reads, scalars_read, layer_arrays, stm_arrays, arrays_read}
+use Rattle.mv_ir.specs.Measures.{joined, trees, scalars_read, layer_arrays, stm_arrays, arrays_read}
 use Rattle.mv_ir.specs.WellFormed.{all_true, layer_named, stm_named, named, layer_arguments, stm_arguments}
 use Rattle.mv_ir.proofs.Induction.{Each, each_append}
 use Rattle.mv_ir.proofs.Keeping.{map_append}
 use Rattle.mv_ir.proofs.Lists.{joined_append}
 use Rattle.mv_ir.proofs.Rolls.{reads_roll, arrays_roll, named_roll, arguments_roll}
-use Rattle.mv_lowering.specs.Lowered.{temp, global, choose}
-use Rattle.mv_lowering.specs.Statements.{return_with, break, repeat, enclosed}
-use Rattle.mv_lowered_forms.proofs.Rules.{Allowed, Rules, BlockRules, IsPlain, Covers, AllMay, all_read, result}
+use Rattle.mv_lowering.specs.Lowered.{temp, choose}
+use Rattle.mv_lowered_forms.proofs.Rules.{Allowed, Rules, BlockRules, AllMay, all_read, result}
 use Rattle.mv_lowered_forms.proofs.Plain.{read_append, each_first, each_last}
 use Rattle.mv_lowered_forms.proofs.Counted.{trees_append, trees_one}
 
@@ -142,7 +141,9 @@ named_rules a = record {
   beside = λ {s} {t} {k} {xs} {ts} {us} rest h. record {
     scalars = λ e. h.scalars (first_reads a.scalars a.arrays a.named ts rest e);
     left = λ e. read_all_append a.scalars a.arrays a.named us rest (h.left (first_reads a.scalars a.arrays a.named ts rest e)) (last_reads a.scalars a.arrays a.named ts rest e);
-    arrays = h.arrays; named = h.named; arguments = h.arguments;
+    arrays = h.arrays;
+    named = h.named;
+    arguments = h.arguments;
   };
   weaken = λ {s} {t} {k} {s'} {t'} {k'} {xs} {ts} {us} ls lt e h. record { scalars = h.scalars; left = h.left; arrays = h.arrays; named = h.named; arguments = h.arguments };
 }

@@ -1,5 +1,5 @@
 -- The source's operators put at most two nodes on their operands, and read no more than these.
-use Rattle.std.proofs.Common.{◌≡◌, ℕ, ◌+◌, ◌<◌, ◌≤◌, Bool, true, false, cond, List, [], ◌∷◌, ◌++◌, arith}
+use Rattle.std.proofs.Common.{◌≡◌, ℕ, ◌+◌, ◌<◌, ◌≤◌, Bool, true, false, cond, List, [], ◌∷◌, arith}
 use Rattle.std.specs.Prelude.{nat_eq, nat_lt}
 use Rattle.mv_ir.specs.declared.tree.Tree.{Tree}
 use Rattle.mv_ir.specs.declared.stm.Stm.{Stm}
@@ -7,7 +7,7 @@ use Rattle.mv_ast.specs.declared.program.CType.{CType}
 use Rattle.mv_ast.specs.declared.program.CType.TheVariants.{Void, Scalar, Pointer}
 use Rattle.mv_ast.specs.Operators.{is_unsigned}
 use Rattle.mv_lowering.specs.Lowered.{Lowering, number, temp, unary, binary, lower_division}
-use Rattle.mv_lowering.specs.Lower.{narrowed, unary_tree, converted_tree, less_tree, bit_tree, quotient_number, remainder_number, lower_operator, lower_product, lower_binary, lower_changed, next_tree}
+use Rattle.mv_lowering.specs.Lower.{unary_tree, converted_tree, less_tree, bit_tree, quotient_number, remainder_number, lower_operator, lower_product, lower_binary, lower_changed, next_tree}
 use Rattle.mv_lowered_forms.proofs.Rules.{Allowed, Rules, Covers}
 use Rattle.mv_lowered_forms.proofs.Plain.{covers_unary, covers_narrowed, covers_binary, covers_number, covers_none, covers_self, covers_then, covers_before, covers_swap}
 use Rattle.mv_lowered_forms.proofs.Given as given

@@ -1,16 +1,16 @@
 -- A temporary that isn't declared is not live before code of an expression, unless it is live behind it.
-use Rattle.std.proofs.Common.{◌≡◌, ℕ, zero, suc, ◌+◌, Bool, true, false, not, eqb, ◌&&◌, ◌||◌, List, [], ◌∷◌, ◌++◌, map, Option, Some, None, refl, sym, ◌∙◌, ap, subst}
+use Rattle.std.proofs.Common.{◌≡◌, ℕ, Bool, true, false, not, ◌&&◌, ◌||◌, List, [], ◌∷◌, ◌++◌, Option, Some, None, refl, sym, ◌∙◌, ap}
 use Rattle.std.proofs.lemmas.Bool.{or_from, or_parts, and_right, and_left}
 use Rattle.mv_ir.specs.declared.tree.Tree.{Tree}
 use Rattle.mv_ir.specs.declared.stm.Stm.{Stm}
 use Rattle.mv_ir.specs.declared.stm.Stm.TheOpen.{Stm-F}
 use Rattle.mv_ir.specs.declared.stm.Stm.TheOpen as stm
 use Rattle.mv_ir.specs.declared.stm.Stm.TheViews.{roll-Stm}
-use Rattle.mv_ir.specs.Live.{reads_temp, any_reads, is, Around, Flow, with_after, plain, goes_next, flow}
+use Rattle.mv_ir.specs.Live.{reads_temp, any_reads, is, Around, with_after, plain, goes_next, flow}
 use Rattle.mv_ir.proofs.Rolls.{flow_roll}
-use Rattle.mv_lowering.specs.Lowered.{temp, global, choose}
+use Rattle.mv_lowering.specs.Lowered.{choose}
 use Rattle.mv_lowering.proofs.Expressions.{no}
-use Rattle.mv_lowered_forms.proofs.Rules.{Allowed, Rules, IsPlain, Covers, result}
+use Rattle.mv_lowered_forms.proofs.Rules.{Allowed, Rules, result}
 use Rattle.mv_lowered_forms.proofs.Plain.{any_append as reads_append}
 use Rattle.mv_lowered_forms.proofs.Flowing.{live_at, live_append, live_one, temp_reads, global_reads, another}
 

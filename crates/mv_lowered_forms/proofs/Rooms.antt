@@ -1,8 +1,7 @@
 -- Each global that a function's code names has a room.
-use Rattle.std.proofs.Common.{◌≡◌, ℕ, zero, suc, ◌+◌, ◌<◌, ◌≤◌, Bool, true, false, cond, List, [], ◌∷◌, ◌++◌, map, length, Option, Some, None, refl, sym, ◌∙◌, ap, subst, arith}
-use Rattle.std.specs.Prelude.{◌||◌, ◌&&◌, nat_eq, nat_lt}
+use Rattle.std.proofs.Common.{◌≡◌, ℕ, suc, ◌+◌, ◌<◌, ◌≤◌, Bool, true, false, cond, List, [], ◌∷◌, map, length, refl, sym, ◌∙◌, ap, arith}
+use Rattle.std.specs.Prelude.{nat_eq, nat_lt}
 use Rattle.std.proofs.lemmas.Bool.{eqb-true, eq-eqb, and_from, or_left, or_right}
-use Rattle.std.proofs.lemmas.List.{length-map}
 use Rattle.mv_ir.specs.declared.stm.Array.{Array}
 use Rattle.mv_ir.specs.declared.stm.Array.TheVariants as array
 use Rattle.mv_ir.specs.declared.stm.Stm.{Stm}
@@ -17,7 +16,6 @@ use Rattle.mv_lowering.specs.Functions.{names_global, address_behind, rooms_from
 use Rattle.mv_lowering.proofs.Expressions.{no}
 use Rattle.mv_lowered_forms.specs.Asked.{Globals}
 use Rattle.mv_lowered_forms.proofs.Rules.{AllMay}
-use Rattle.mv_lowered_forms.proofs.Plain.{or_either}
 use Rattle.mv_lowered_forms.proofs.Expressions as limits
 
 -- ---- rooms

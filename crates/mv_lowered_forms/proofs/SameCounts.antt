@@ -1,7 +1,6 @@
 -- The weights of calls are the counts of calls.
-use Rattle.std.proofs.Common.{◌≡◌, ℕ, ◌+◌, Bool, true, false, cond, List, map, refl, sym, ap, ◌∙◌}
-use Rattle.std.specs.Prelude.{sum, slice_get}
-use Rattle.mv_ir.specs.declared.stm.Callee.{Callee}
+use Rattle.std.proofs.Common.{◌≡◌, ℕ, List, map, refl, ap}
+use Rattle.std.specs.Prelude.{sum}
 use Rattle.mv_ir.specs.declared.stm.Callee.TheVariants as callee
 use Rattle.mv_ir.specs.declared.stm.Stm.{Stm}
 use Rattle.mv_ir.specs.declared.stm.Stm.TheOpen.{Stm-F}
@@ -11,13 +10,12 @@ use Rattle.mv_ir.specs.Measures.{total, layer_calls, stm_calls, calls}
 use Rattle.mv_ir.proofs.Rolls.{same_functions}
 use Rattle.mv_ast.specs.declared.program.Program.{Program}
 use Rattle.mv_ast.specs.declared.program.Function.{Function}
-use Rattle.mv_ast.specs.declared.program.Expr.{Expr, fold-Expr}
+use Rattle.mv_ast.specs.declared.program.Expr.{fold-Expr}
 use Rattle.mv_ast.specs.declared.program.Form.{Form-F}
 use Rattle.mv_ast.specs.declared.program.Form.TheOpen as form
-use Rattle.mv_ast.specs.declared.program.Stmt.{Stmt}
 use Rattle.mv_ast.specs.Counts.{form_sum, target_sum, inner_calls, is_attributed, own_calls, form_calls, expr_calls, stmt_total}
 use Rattle.mv_ast.specs.Counts as counts
-use Rattle.mv_lowered_forms.specs.Calls.{callee_weight, layer_weight, stm_weight, code_weight, own_weight, form_weights, expr_weight, function_weight, each_once, attributed_once}
+use Rattle.mv_lowered_forms.specs.Calls.{layer_weight, stm_weight, code_weight, form_weights, function_weight, each_once, attributed_once}
 
 same_layers : (x : Stm-F ℕ) → layer_weight each_once 1 x ≡ layer_calls x
 same_layers (stm.Set t v) = refl

@@ -1,5 +1,5 @@
 -- No tree in lowered statements is deeper than 4.
-use Rattle.std.proofs.Common.{◌≡◌, ℕ, zero, suc, ◌+◌, ◌-◌, ◌*◌, ◌≤◌, Bool, true, false, cond, List, [], ◌∷◌, ◌++◌, map, length, max, Option, Some, None, refl, sym, ◌∙◌, ap, subst, arith}
+use Rattle.std.proofs.Common.{ℕ, zero, suc, ◌-◌, ◌*◌, ◌≤◌, Bool, true, false, cond, List, [], ◌∷◌, ◌++◌, map, length, Option, Some, None, sym, subst, arith}
 use Rattle.std.specs.Prelude.{◌||◌, nat_le}
 use Rattle.mv_ir.specs.declared.tree.Tree.{Tree}
 use Rattle.mv_ir.specs.declared.tree.Tree.TheOpen as tree
@@ -9,7 +9,6 @@ use Rattle.mv_ir.specs.declared.stm.Stm.TheOpen.{Stm-F}
 use Rattle.mv_ir.specs.declared.stm.Stm.TheOpen as stm
 use Rattle.mv_ir.specs.declared.stm.Stm.TheViews.{roll-Stm}
 use Rattle.mv_ir.specs.declared.stm.Stm.TheFolds.{map-Stm}
-use Rattle.mv_ir.specs.Trees.{depth}
 use Rattle.mv_ir.specs.Measures.{layer_trees, stm_trees, deepest_of}
 use Rattle.mv_ir.proofs.Induction.{Each}
 use Rattle.mv_ir.proofs.Rolls.{depth_roll}
@@ -21,7 +20,7 @@ use Rattle.mv_ast.specs.Counts.{words_of_size}
 use Rattle.mv_ast.specs.Names.{any_of, names_local}
 use Rattle.mv_lowering.specs.Lowered.{Lowering, number, temp, binary, set, choose}
 use Rattle.mv_lowering.specs.Lower.{lower_expr}
-use Rattle.mv_lowering.specs.Statements.{Jumps, Placed, LoweredArm, in_body, in_arm, in_sequence, store_word, clear_words, store_zeros, store_values, lower_clear, test_labels, test_arms, arm_place, nested, lower_switch, break, enclosed, repeat, return_with, test_and_body}
+use Rattle.mv_lowering.specs.Statements.{Jumps, Placed, LoweredArm, in_body, in_arm, in_sequence, store_word, clear_words, store_zeros, store_values, lower_clear, test_labels, test_arms, arm_place, nested, break, enclosed, repeat, return_with, test_and_body}
 use Rattle.mv_lowering.specs.LowerStatements.{lower_optional, lower_stmt_layer, lower_arm_layer, lower_stmt, lower_arm}
 use Rattle.mv_lowering.proofs.Depths.{Shallow, ShallowCode, ShallowLowered, both_parts, shallow_set, shallow_choose}
 use Rattle.mv_lowering.proofs.ExpressionDepths.{expr_shallow}

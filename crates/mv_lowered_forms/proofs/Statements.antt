@@ -1,33 +1,29 @@
 -- Lowered statements are made of code that obeys the rules, with at most 8 statements and 12 tree nodes for each node of the source.
-use Rattle.std.proofs.Common.{◌≡◌, ℕ, zero, suc, ◌+◌, ◌-◌, ◌*◌, ◌<◌, ◌≤◌, Bool, true, false, cond, List, [], ◌∷◌, ◌++◌, map, length, max, Option, Some, None, refl, sym, ◌∙◌, ap, subst, arith}
-use Rattle.std.specs.Prelude.{◌&&◌, ◌||◌, not, nat_lt, nat_le, sum, option_to_list}
-use Rattle.std.proofs.lemmas.Bool.{ltb-true, leb-true, leb-false, or_parts}
-use Rattle.std.proofs.lemmas.List.{length-map}
+use Rattle.std.proofs.Common.{◌≡◌, ℕ, suc, ◌+◌, ◌*◌, ◌<◌, ◌≤◌, Bool, true, cond, List, [], ◌∷◌, ◌++◌, map, length, Option, Some, None, refl, sym, ◌∙◌, ap, subst, arith}
+use Rattle.std.specs.Prelude.{◌&&◌, nat_lt, sum, option_to_list}
+use Rattle.std.proofs.lemmas.Bool.{ltb-true}
 use Rattle.mv_ir.specs.declared.tree.Tree.{Tree}
-use Rattle.mv_ir.specs.declared.stm.Array.{Array}
-use Rattle.mv_ir.specs.declared.stm.Array.TheVariants as array
 use Rattle.mv_ir.specs.declared.stm.Stm.{Stm}
 use Rattle.mv_ir.proofs.Induction.{Each}
 use Rattle.mv_ir.proofs.Keeping.{map_append}
 use Rattle.mv_ast.specs.declared.program.Expr.{Expr}
 use Rattle.mv_ast.specs.declared.program.Stmt.{Stmt, Stmt-F, roll-Stmt, map-Stmt, fold-roll-Stmt}
 use Rattle.mv_ast.specs.declared.program.Stmt.TheOpen as stmt
-use Rattle.mv_ast.specs.declared.program.Arm.{Arm, Arm-F, roll-Arm, map-Arm, fold-roll-Arm}
-use Rattle.mv_ast.specs.Counts.{expr_nodes, stmt_sum, arm_sum, arm_total, own_nodes, stmt_nodes, words_of_size}
+use Rattle.mv_ast.specs.declared.program.Arm.{Arm, Arm-F, roll-Arm, fold-roll-Arm}
+use Rattle.mv_ast.specs.Counts.{expr_nodes, stmt_sum, arm_sum, arm_total, own_nodes, stmt_nodes}
 use Rattle.mv_ast.specs.Names.{any_of, names_local}
-use Rattle.mv_lowering.specs.Lowered.{Lowering, number, temp, binary, set}
-use Rattle.mv_lowering.specs.Lower.{lower_expr, is_scalar}
-use Rattle.mv_lowering.specs.Statements.{Jumps, Placed, LoweredArm, in_body, in_arm, in_sequence, store_word, clear_words, store_zeros, store_values, values_top, lower_clear, test_labels, test_arms, arm_place, nested, arms_top, lower_switch, break, enclosed, repeat, return_with, test_and_body}
+use Rattle.mv_lowering.specs.Lowered.{Lowering, number, temp, binary}
+use Rattle.mv_lowering.specs.Lower.{lower_expr}
+use Rattle.mv_lowering.specs.Statements.{Jumps, Placed, LoweredArm, in_body, in_arm, in_sequence, test_labels, test_arms, arm_place, nested, arms_top, lower_switch, break, enclosed, test_and_body}
 use Rattle.mv_lowering.specs.LowerStatements.{lower_optional, lower_stmt_layer, lower_arm_layer, lower_stmt, lower_arm}
 use Rattle.mv_lowering.proofs.Expressions.{split}
 use Rattle.mv_lowered_forms.specs.Asked.{Globals, Scope, ArmScope, all_within, all_behind, arms_within, bare_arms, with_local, is_within, all_exprs_within, optional_within, is_empty, stmt_scope_layer, arm_scope_layer, stmt_scope, arm_scope}
 use Rattle.mv_lowered_forms.specs.Calls.{expr_weight, stmt_weight, arm_weight}
-use Rattle.mv_lowered_forms.proofs.Rules.{Allowed, Rules, BlockRules, Covers}
-use Rattle.mv_lowered_forms.proofs.Plain.{plain_set, plain_write, plain_zero, covers_self, covers_number, covers_none, covers_before, covers_binary, covers_twice, covers_swap, covers_then}
+use Rattle.mv_lowered_forms.proofs.Rules.{Allowed, Rules, BlockRules}
+use Rattle.mv_lowered_forms.proofs.Plain.{plain_set, covers_self, covers_number, covers_none, covers_before, covers_binary, covers_twice, covers_swap}
 use Rattle.mv_lowered_forms.proofs.Paid as paying
 use Rattle.mv_lowered_forms.proofs.Clears as clears
-use Rattle.mv_lowered_forms.proofs.Expressions as exprs
-use Rattle.mv_lowered_forms.proofs.Expressions.{allowed, is_used, scratch_used, local_used, expr_paid, sum_cons, sum_append}
+use Rattle.mv_lowered_forms.proofs.Expressions.{allowed, scratch_used, sum_cons, sum_append}
 use Rattle.mv_lowered_forms.proofs.StatementInduction as source
 
 module _ (globals : Globals) (locals : ℕ) (sizes : ℕ → Option ℕ) (void : Bool) (room : ℕ) (direct : ℕ → ℕ) (through : ℕ)
@@ -62,8 +58,11 @@ module _ (globals : Globals) (locals : ℕ) (sizes : ℕ → Option ℕ) (void :
 
   code_as : {n k n' k' : ℕ} {xs : List Stm} → n ≤ n' → k ≡ k' → CodePaid n k xs → CodePaid n' k' xs
   code_as le e p = record {
-    statements = p.statements; nodes = p.nodes; made = r.weaken (omega arith) (omega arith) e p.made;
-    few_statements = omega (arith, le, p.few_statements); few_nodes = omega (arith, le, p.few_nodes);
+    statements = p.statements;
+    nodes = p.nodes;
+    made = r.weaken (omega arith) (omega arith) e p.made;
+    few_statements = omega (arith, le, p.few_statements);
+    few_nodes = omega (arith, le, p.few_nodes);
   }
 
   one_more : {n k : ℕ} {xs : List Stm} (s t : ℕ) → B s t k [] xs [] → s ≤ 8 * n → t ≤ 12 * n → CodePaid n k xs
@@ -74,8 +73,11 @@ module _ (globals : Globals) (locals : ℕ) (sizes : ℕ → Option ℕ) (void :
 
   in_turn : {n k n' k' : ℕ} {xs ys : List Stm} → CodePaid n k xs → CodePaid n' k' ys → CodePaid (n + n') (k + k') (xs ++ ys)
   in_turn p q = record {
-    statements = p.statements + q.statements; nodes = p.nodes + q.nodes; made = r.chain p.made q.made;
-    few_statements = omega (arith, p.few_statements, q.few_statements); few_nodes = omega (arith, p.few_nodes, q.few_nodes);
+    statements = p.statements + q.statements;
+    nodes = p.nodes + q.nodes;
+    made = r.chain p.made q.made;
+    few_statements = omega (arith, p.few_statements, q.few_statements);
+    few_nodes = omega (arith, p.few_nodes, q.few_nodes);
   }
 
   -- ---- lists

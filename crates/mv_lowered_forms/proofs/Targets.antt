@@ -1,6 +1,6 @@
 -- The jumps of lowered code have targets.
-use Rattle.std.proofs.Common.{◌≡◌, ℕ, zero, suc, ◌+◌, ◌-◌, ◌*◌, ◌<◌, ◌≤◌, Bool, true, false, cond, List, [], ◌∷◌, ◌++◌, map, length, max, Option, Some, None, refl, sym, ◌∙◌, ap, subst, arith, append_assoc}
-use Rattle.std.specs.Prelude.{◌&&◌, ◌||◌, nat_lt}
+use Rattle.std.proofs.Common.{◌≡◌, ℕ, zero, suc, ◌+◌, ◌<◌, ◌≤◌, Bool, true, false, cond, List, [], ◌∷◌, ◌++◌, map, length, Option, Some, None, refl, sym, ◌∙◌, ap, subst, arith}
+use Rattle.std.specs.Prelude.{◌&&◌, nat_lt}
 use Rattle.std.proofs.lemmas.Bool.{lt-ltb, and_from}
 use Rattle.mv_ir.specs.declared.tree.Tree.{Tree}
 use Rattle.mv_ir.specs.declared.stm.Stm.{Stm}
@@ -19,11 +19,11 @@ use Rattle.mv_ast.specs.declared.program.Arm.{Arm, Arm-F, roll-Arm, fold-roll-Ar
 use Rattle.mv_ast.specs.Names.{any_of, names_local}
 use Rattle.mv_lowering.specs.Lowered.{Lowering, number, temp, binary, set, choose}
 use Rattle.mv_lowering.specs.Lower.{lower_expr}
-use Rattle.mv_lowering.specs.Statements.{Jumps, Placed, LoweredArm, in_body, in_arm, raised, in_sequence, test_labels, test_arms, arm_place, nested, lower_clear, lower_switch, values_top, break, enclosed, repeat, return_with, test_and_body}
+use Rattle.mv_lowering.specs.Statements.{Jumps, Placed, LoweredArm, in_body, in_arm, raised, in_sequence, test_labels, test_arms, arm_place, nested, values_top, break, enclosed, repeat, return_with, test_and_body}
 use Rattle.mv_lowering.specs.LowerStatements.{lower_optional, lower_stmt_layer, lower_arm_layer, lower_stmt, lower_arm}
 use Rattle.mv_lowering.proofs.Expressions.{split}
 use Rattle.mv_lowered_forms.specs.Asked.{Globals, Scope, ArmScope, all_within, all_behind, arms_within, bare_arms, with_local, is_within, all_exprs_within, optional_within, stmt_scope_layer, arm_scope_layer, stmt_scope, arm_scope, Around, all_lead, in_loop, in_switch, stmt_leads_layer, arm_leads_layer, stmt_leads, arm_leads}
-use Rattle.mv_lowered_forms.proofs.Rules.{Allowed, Rules, IsPlain}
+use Rattle.mv_lowered_forms.proofs.Rules.{Allowed, Rules}
 use Rattle.mv_lowered_forms.proofs.Expressions.{allowed}
 use Rattle.mv_lowered_forms.proofs.Clears as clears
 use Rattle.mv_lowered_forms.proofs.StatementInduction as source

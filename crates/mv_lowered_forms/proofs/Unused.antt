@@ -1,16 +1,16 @@
 -- A temporary that no tree reads and no statement writes is live and marked nowhere.
-use Rattle.std.proofs.Common.{◌≡◌, ℕ, zero, suc, Bool, true, false, not, eqb, ◌&&◌, ◌||◌, List, [], ◌∷◌, ◌++◌, map, Option, Some, None, refl, sym, ◌∙◌, ap, subst}
+use Rattle.std.proofs.Common.{◌≡◌, ℕ, zero, suc, Bool, true, false, not, ◌&&◌, ◌||◌, List, [], ◌∷◌, ◌++◌, map, Option, Some, None, refl, sym, ◌∙◌}
 use Rattle.std.proofs.lemmas.Bool.{or_from, or_parts, and_right}
 use Rattle.mv_ir.specs.declared.tree.Tree.{Tree}
 use Rattle.mv_ir.specs.declared.stm.Stm.{Stm}
 use Rattle.mv_ir.specs.declared.stm.Stm.TheOpen.{Stm-F}
 use Rattle.mv_ir.specs.declared.stm.Stm.TheOpen as stm
 use Rattle.mv_ir.specs.declared.stm.Stm.TheViews.{roll-Stm}
-use Rattle.mv_ir.specs.Live.{reads_temp, any_reads, is, at_place, Around, Flow, with_after, around_block, around_loop, live_in_order, marks_in_order, live_at_loop, plain, goes_next, layer_flow, flow, any}
+use Rattle.mv_ir.specs.Live.{reads_temp, any_reads, is, at_place, Around, with_after, around_block, around_loop, live_at_loop, plain, goes_next, flow, any}
 use Rattle.mv_ir.proofs.Rolls.{flow_roll}
-use Rattle.mv_lowering.specs.Lowered.{temp, global, choose}
-use Rattle.mv_lowering.specs.Statements.{return_with, break, repeat, enclosed}
-use Rattle.mv_lowered_forms.proofs.Rules.{Allowed, Rules, BlockRules, IsPlain, IsAllowed, Covers, result}
+use Rattle.mv_lowering.specs.Lowered.{choose}
+use Rattle.mv_lowering.specs.Statements.{repeat, enclosed}
+use Rattle.mv_lowered_forms.proofs.Rules.{Allowed, Rules, BlockRules, IsAllowed, result}
 use Rattle.mv_lowered_forms.proofs.Plain.{any_append as reads_append}
 use Rattle.mv_lowered_forms.proofs.Flowing.{live_at, marks_at, live_append, marked_append, any_append, live_one, marked_one, temp_reads, global_reads, another, not_true}
 

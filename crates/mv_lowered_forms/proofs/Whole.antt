@@ -1,33 +1,30 @@
 -- A scalar local that isn't declared, and a free temporary, are live before no statement behind and around which they aren't.
-use Rattle.std.proofs.Common.{◌≡◌, ℕ, zero, suc, ◌+◌, ◌-◌, ◌*◌, ◌<◌, ◌≤◌, Bool, true, false, cond, not, eqb, ◌&&◌, ◌||◌, List, [], ◌∷◌, ◌++◌, map, length, max, Option, Some, None, refl, sym, ◌∙◌, ap, subst, arith, append_assoc}
+use Rattle.std.proofs.Common.{◌≡◌, ℕ, zero, suc, ◌+◌, ◌-◌, ◌*◌, ◌≤◌, Bool, true, false, cond, not, eqb, ◌&&◌, ◌||◌, List, [], ◌∷◌, ◌++◌, map, length, Option, Some, None, refl, sym, ◌∙◌, ap, subst, arith, append_assoc}
 use Rattle.std.specs.Prelude.{nat_lt, nat_le, nat_eq}
-use Rattle.std.proofs.lemmas.Bool.{or_from, or_parts, and_right, and_left, eqb-true, eq-eqb, ltb-true, leb-false}
+use Rattle.std.proofs.lemmas.Bool.{or_from, and_right, and_left, eqb-true, eq-eqb}
 use Rattle.mv_ir.specs.declared.tree.Tree.{Tree}
 use Rattle.mv_ir.specs.declared.tree.Tree.TheOpen as tree
 use Rattle.mv_ir.specs.declared.stm.Stm.{Stm}
 use Rattle.mv_ir.specs.declared.stm.Stm.TheOpen.{Stm-F}
 use Rattle.mv_ir.specs.declared.stm.Stm.TheOpen as stm
-use Rattle.mv_ir.specs.declared.stm.Stm.TheViews.{roll-Stm}
-use Rattle.mv_ir.specs.Live.{reads_temp, any_reads, is, at_place, Around, Flow, with_after, around_block, around_loop, live_at_loop, plain, flow}
+use Rattle.mv_ir.specs.Live.{reads_temp, any_reads, at_place, Around, with_after, around_block, around_loop, plain}
 use Rattle.mv_ir.proofs.Induction.{Each}
 use Rattle.mv_ir.proofs.Rolls.{flow_roll, reads_temp_roll}
 use Rattle.mv_ast.specs.declared.program.Expr.{Expr}
 use Rattle.mv_ast.specs.declared.program.Stmt.{Stmt, Stmt-F, roll-Stmt, map-Stmt, fold-roll-Stmt}
 use Rattle.mv_ast.specs.declared.program.Stmt.TheOpen as stmt
-use Rattle.mv_ast.specs.declared.program.Arm.{Arm, Arm-F, roll-Arm, map-Arm, fold-roll-Arm}
-use Rattle.mv_ast.specs.Counts.{words_of_size}
+use Rattle.mv_ast.specs.declared.program.Arm.{Arm, Arm-F, roll-Arm, fold-roll-Arm}
 use Rattle.mv_ast.specs.Names.{any_of, names_local}
 use Rattle.mv_lowering.specs.Lowered.{Lowering, number, temp, binary, set, choose}
 use Rattle.mv_lowering.specs.Lower.{lower_expr, is_scalar}
-use Rattle.mv_lowering.specs.Statements.{Jumps, Placed, LoweredArm, in_body, in_arm, raised, in_sequence, store_word, clear_words, store_zeros, store_values, values_top, lower_clear, test_labels, test_arms, arm_place, nested, arms_top, lower_switch, break, enclosed, repeat, return_with, test_and_body}
+use Rattle.mv_lowering.specs.Statements.{Jumps, Placed, LoweredArm, in_body, in_arm, raised, in_sequence, store_zeros, store_values, values_top, lower_clear, test_labels, test_arms, arm_place, nested, arms_top, lower_switch, break, enclosed, repeat, return_with, test_and_body}
 use Rattle.mv_lowering.specs.LowerStatements.{lower_optional, lower_stmt_layer, lower_arm_layer, lower_stmt, lower_arm}
 use Rattle.mv_lowering.proofs.Expressions.{split, no}
 use Rattle.mv_lowered_forms.specs.Asked.{Globals, Scope, ArmScope, all_within, all_behind, arms_within, bare_arms, with_local, is_within, all_exprs_within, optional_within, stmt_scope_layer, arm_scope_layer, stmt_scope, arm_scope}
 use Rattle.mv_lowered_forms.proofs.Rules.{Allowed}
-use Rattle.mv_lowered_forms.proofs.Plain.{covers_number}
 use Rattle.mv_lowered_forms.proofs.Expressions.{allowed}
 use Rattle.mv_lowered_forms.proofs.Clears as clears
-use Rattle.mv_lowered_forms.proofs.Flowing.{live_at, live_append, live_one, reads_one, temp_reads}
+use Rattle.mv_lowered_forms.proofs.Flowing.{live_at, live_append, live_one, reads_one}
 use Rattle.mv_lowered_forms.proofs.Passing as passing
 use Rattle.mv_lowered_forms.proofs.StatementInduction as source
 
@@ -222,8 +219,8 @@ module _ (globals : Globals) (locals : ℕ) (sizes : ℕ → Option ℕ) (void :
       let body = ((lower_arm locals sizes void arm).body (in_arm m j)).code in
       nested_dead arms h.1 declared bs.1 k j (omega (arith, top)) (enclosed inner ∷ body)
       (λ r q. front_dead (enclosed inner) body r
-          (h.0 declared bs.0 k (in_arm m j) (omega (arith, top)) r (record { leave = q.inner m (omega arith); again = q.again; around = q.around }) q.next)
-          (block_dead inner (with_after r false) (dead (around_block (with_after r false)) (deeper m j (with_after r false) (deep_after m j r q))))) rr qq
+      (h.0 declared bs.0 k (in_arm m j) (omega (arith, top)) r (record { leave = q.inner m (omega arith); again = q.again; around = q.around }) q.next)
+      (block_dead inner (with_after r false) (dead (around_block (with_after r false)) (deeper m j (with_after r false) (deep_after m j r q))))) rr qq
 
   module _ (apart : eqb locals u ≡ false) where
     test_reads : (l : ℕ) → reads_temp u (binary 11 (temp locals) (number l)) ≡ false
@@ -257,9 +254,9 @@ module _ (globals : Globals) (locals : ℕ) (sizes : ℕ → Option ℕ) (void :
       let t = (lower_expr e locals).tree in
       then_dead (lower_expr e locals).code (set locals t ∷ enclosed (nested inner ls j) ∷ []) t (value declared e be k (omega (arith, top))) r
       (λ reads.
-          live_append u (set locals t ∷ []) (enclosed (nested inner ls j) ∷ []) r ∙
-          live_one u (stm.Set locals t) (plain u (t ∷ []) (Some locals) (λ r. r.next)) (with_after r (live_at u (enclosed (nested inner ls j) ∷ []) r)) (flow_roll u (stm.Set locals t)) ∙
-          or_from (any_reads u (t ∷ [])) (not (eqb locals u) && live_at u (enclosed (nested inner ls j) ∷ []) r) (reads_one u t ∙ reads) (by (eqb locals u) refl))
+      live_append u (set locals t ∷ []) (enclosed (nested inner ls j) ∷ []) r ∙
+      live_one u (stm.Set locals t) (plain u (t ∷ []) (Some locals) (λ r. r.next)) (with_after r (live_at u (enclosed (nested inner ls j) ∷ []) r)) (flow_roll u (stm.Set locals t)) ∙
+      or_from (any_reads u (t ∷ [])) (not (eqb locals u) && live_at u (enclosed (nested inner ls j) ∷ []) r) (reads_one u t ∙ reads) (by (eqb locals u) refl))
     where
       ls : List LoweredArm
       ls = arms_lowered arms
@@ -346,11 +343,11 @@ module _ (globals : Globals) (locals : ℕ) (sizes : ℕ → Option ℕ) (void :
       live_append u (lowered first j).code (repeat turn ∷ []) r ∙
       all_dead first h.0 declared b0.0 k j (omega (arith, top)) (with_after r (live_at u (repeat turn ∷ []) r)) (shut_after j r (live_at u (repeat turn ∷ []) r) q)
       (λ out.
-          loop_dead turn r
-          (both_dead (test_and_body locals (lower_optional 1 test) (enclosed code ∷ [])) (lower_optional 0 step locals).code r1 ((optional 0 step inside b2.0 out (omega (arith, top))).passes r1 refl)
-          (λ r' same n'. test_dead (lower_optional 1 test) (enclosed code ∷ []) r' (optional 1 test inside b1.0 out (omega (arith, top))) (ap (λ (f : ℕ → Bool). f 0) same ∙ n k)
-              (block_dead code r' (within_dead body h.1 inside b2.1 out (in_body j) (omega (arith, top)) (around_block r')
-              (record { leave = ap (λ (f : ℕ → Bool). f 0) same ∙ n k; again = n'; around = ap (λ (f : ℕ → Bool). f (suc j.around)) same ∙ q.around }) n')))))
+      loop_dead turn r
+      (both_dead (test_and_body locals (lower_optional 1 test) (enclosed code ∷ [])) (lower_optional 0 step locals).code r1 ((optional 0 step inside b2.0 out (omega (arith, top))).passes r1 refl)
+      (λ r' same n'. test_dead (lower_optional 1 test) (enclosed code ∷ []) r' (optional 1 test inside b1.0 out (omega (arith, top))) (ap (λ (f : ℕ → Bool). f 0) same ∙ n k)
+      (block_dead code r' (within_dead body h.1 inside b2.1 out (in_body j) (omega (arith, top)) (around_block r')
+      (record { leave = ap (λ (f : ℕ → Bool). f 0) same ∙ n k; again = n'; around = ap (λ (f : ℕ → Bool). f (suc j.around)) same ∙ q.around }) n')))))
     where
       inside : ℕ → Bool
       inside = all_behind (scopes first) declared

@@ -1,6 +1,6 @@
 -- What is asked of a function so that its code is well formed and whole: what its statements name is there, each local is named
 -- where it is declared, and no call has more than eight arguments.
-use Rattle.std.specs.Prelude.{ℕ, suc, ◌<◌, ◌≤◌, ◌≡◌, Bool, true, false, cond, not, ◌&&◌, ◌||◌, List, [], ◌∷◌, map, length, sum, Option, Some, None, nat_eq, nat_lt, nat_le}
+use Rattle.std.specs.Prelude.{ℕ, suc, ◌<◌, ◌≤◌, ◌≡◌, Bool, true, false, cond, not, ◌&&◌, ◌||◌, List, [], ◌∷◌, map, length, Option, Some, None, nat_eq, nat_lt}
 use Rattle.mv_ast.specs.declared.program.Function.{Function}
 use Rattle.mv_ast.specs.declared.program.Program.{Program}
 use Rattle.mv_ast.specs.declared.program.Expr.{Expr, Expr-F, fold-Expr}

@@ -1,5 +1,5 @@
 -- What is proved of the form of lowered functions.
-use Rattle.std.specs.Prelude.{◌≡◌, ℕ, ◌+◌, ◌*◌, ◌^◌, ◌≤◌, Bool, true, false, List, [], ◌∷◌, map, length}
+use Rattle.std.specs.Prelude.{◌≡◌, ℕ, ◌+◌, ◌*◌, ◌^◌, ◌≤◌, true, false, [], ◌∷◌, map, length}
 use Rattle.mv_ir.specs.declared.body.Body.{Body}
 use Rattle.mv_ir.specs.Measures.{total, scalars_read, arrays_read, statements, calls, tree_nodes, deepest}
 use Rattle.mv_ir.specs.Live.{IsWhole, HasTemps, most_intervals}
