@@ -162,10 +162,10 @@ module _ (p : Program) (globals : Globals) (g : Function) (asked : IsAsked p glo
     counted = λ direct through. (counting direct through).made.weight;
   }
 
-  few_statements : statements b.code ≤ 8 * body_nodes g + 1
+  few_statements : statements b.code ≤ 6 * body_nodes g + 1
   few_statements = let c = counting none 0 in omega (arith, c.made.statements, c.few_statements)
 
-  few_nodes : tree_nodes b.code ≤ 12 * body_nodes g + 1
+  few_nodes : tree_nodes b.code ≤ 10 * body_nodes g + 1
   few_nodes = let c = counting none 0 in omega (arith, c.made.nodes, c.few_nodes)
 
   top_within : (lower_body g).top ≤ locals + 8 * depth g

@@ -1,4 +1,4 @@
--- Lowered expressions are made of code that obeys the rules, with at most 8 statements and 12 tree nodes for each node of the source.
+-- Lowered expressions are made of code that obeys the rules, with at most 6 statements and 10 tree nodes for each node of the source.
 use Rattle.std.proofs.Common.{◌≡◌, ℕ, ◌+◌, ◌*◌, ◌<◌, ◌≤◌, Bool, true, false, List, [], ◌∷◌, ◌++◌, map, length, Option, refl, sym, ◌∙◌, ap, subst, arith}
 use Rattle.std.specs.Prelude.{◌&&◌, ◌||◌, not, nat_lt, nat_eq, sum}
 use Rattle.std.proofs.lemmas.Bool.{ltb-true, lt-ltb, and_from, or_left, or_right}
@@ -90,20 +90,20 @@ module _ (globals : Globals) (locals : ℕ) (sizes : ℕ → Option ℕ) (room :
   abbrev GivesFrom : List Tree → ℕ → ℕ → ℕ → Lowering → Type 0
   GivesFrom = given.GivesFrom a B rules locals room scratch
 
-  -- A lowering that takes from what so many nodes pay, and leaves one statement and one node to put it away.
+  -- A lowering that takes from what so many nodes pay, and leaves three statements and three nodes, of which one of each pays for putting it away.
   pub record Paid (n k : ℕ) (l : Lowering) : Type 0 where
     pub statements : ℕ
     pub nodes : ℕ
     pub gives : Gives statements nodes k l
-    pub few_statements : statements + 1 ≤ 8 * n
-    pub few_nodes : nodes + 1 ≤ 12 * n
+    pub few_statements : statements + 3 ≤ 6 * n
+    pub few_nodes : nodes + 3 ≤ 10 * n
 
   pub record AllPaid (n k : ℕ) (ls : List Lowering) : Type 0 where
     pub statements : ℕ
     pub nodes : ℕ
     pub give : given.AllGive a B rules locals room scratch statements nodes k ls
-    pub few_statements : statements ≤ 8 * n
-    pub few_nodes : nodes ≤ 12 * n
+    pub few_statements : statements ≤ 6 * n
+    pub few_nodes : nodes ≤ 10 * n
 
   -- ---- places
 

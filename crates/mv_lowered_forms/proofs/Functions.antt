@@ -28,8 +28,8 @@ module _ (globals : Globals) (g : Function) (direct : ℕ → ℕ) (through : �
     pub statements : ℕ
     pub nodes : ℕ
     pub made : B statements nodes (function_weight direct through g) [] (lower_function_code g).code []
-    pub few_statements : statements ≤ 8 * body_nodes g + 1
-    pub few_nodes : nodes ≤ 12 * body_nodes g + 1
+    pub few_statements : statements ≤ 6 * body_nodes g + 1
+    pub few_nodes : nodes ≤ 10 * body_nodes g + 1
 
   abbrev none : ℕ → Bool
   none l = false

@@ -1,4 +1,4 @@
--- Lowered statements are made of code that obeys the rules, with at most 8 statements and 12 tree nodes for each node of the source.
+-- Lowered statements are made of code that obeys the rules, with at most 6 statements and 10 tree nodes for each node of the source.
 use Rattle.std.proofs.Common.{◌≡◌, ℕ, suc, ◌+◌, ◌*◌, ◌<◌, ◌≤◌, Bool, true, cond, List, [], ◌∷◌, ◌++◌, map, length, Option, Some, None, refl, sym, ◌∙◌, ap, subst, arith}
 use Rattle.std.specs.Prelude.{◌&&◌, nat_lt, sum, option_to_list}
 use Rattle.std.proofs.lemmas.Bool.{ltb-true}
@@ -65,7 +65,7 @@ module _ (globals : Globals) (locals : ℕ) (sizes : ℕ → Option ℕ) (void :
     few_nodes = omega (arith, le, p.few_nodes);
   }
 
-  one_more : {n k : ℕ} {xs : List Stm} (s t : ℕ) → B s t k [] xs [] → s ≤ 8 * n → t ≤ 12 * n → CodePaid n k xs
+  one_more : {n k : ℕ} {xs : List Stm} (s t : ℕ) → B s t k [] xs [] → s ≤ 6 * n → t ≤ 10 * n → CodePaid n k xs
   one_more = paying.paid locals B
 
   nothing : CodePaid 0 0 []
@@ -147,8 +147,8 @@ module _ (globals : Globals) (locals : ℕ) (sizes : ℕ → Option ℕ) (void :
     pub statements : ℕ
     pub nodes : ℕ
     pub made : (ts : List Tree) → B s t k ts inner [] → B (s + statements) (t + nodes) (k + sum (map (arm_weight direct through) arms)) ts code []
-    pub few_statements : statements + 8 * labels_of (arms_lowered arms) ≤ 8 * sum (map arm_nodes arms) + length arms
-    pub few_nodes : nodes + 12 * labels_of (arms_lowered arms) ≤ 12 * sum (map arm_nodes arms)
+    pub few_statements : statements + 6 * labels_of (arms_lowered arms) ≤ 6 * sum (map arm_nodes arms) + length arms
+    pub few_nodes : nodes + 10 * labels_of (arms_lowered arms) ≤ 10 * sum (map arm_nodes arms)
 
   arms_paid : (arms : List Arm) → Each A arms → (declared : ℕ → Bool) → arms_within (map (arm_scope globals locals sizes) arms) declared ≡ true → (j : Jumps) → arms_top locals (arms_lowered arms) j ≤ room →
       (inner : List Stm) (s t k : ℕ) → ArmsPaid arms inner s t k (nested inner (arms_lowered arms) j)
@@ -219,8 +219,8 @@ module _ (globals : Globals) (locals : ℕ) (sizes : ℕ → Option ℕ) (void :
     statements : ℕ
     nodes : ℕ
     made : B statements nodes (sum (map weight (option_to_list e))) [] (l locals).code ((l locals).tree ∷ [])
-    few_statements : statements ≤ 8 * sum (map expr_nodes (option_to_list e))
-    few_nodes : nodes ≤ 12 * sum (map expr_nodes (option_to_list e)) + 1
+    few_statements : statements ≤ 6 * sum (map expr_nodes (option_to_list e))
+    few_nodes : nodes ≤ 10 * sum (map expr_nodes (option_to_list e)) + 1
 
   optional_paid : (v : ℕ) (e : Option Expr) (declared : ℕ → Bool) → optional_within globals locals sizes e declared ≡ true → (lower_optional v e locals).top ≤ room → OptionalPaid e (lower_optional v e)
   optional_paid v None declared b top = record { statements = 0; nodes = 1; made = r.retree (covers_number v); few_statements = omega arith; few_nodes = omega arith }

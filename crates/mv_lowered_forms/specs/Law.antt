@@ -57,8 +57,8 @@ LoweredReadNoMore =
 pub record IsSmall (g : Function) (b : Body) : Type 0 where
   pub temps : b.temps ≤ length g.locals + 8 * depth g
   pub frame : most_intervals b + total b.arrays ≤ declared_words g + 8 * depth g
-  pub statements : statements b.code ≤ 8 * nodes g + 1
-  pub tree_nodes : tree_nodes b.code ≤ 12 * nodes g + 1
+  pub statements : statements b.code ≤ 6 * nodes g + 1
+  pub tree_nodes : tree_nodes b.code ≤ 10 * nodes g + 1
 
 abbrev pub LoweredAreSmall : Type 0
 LoweredAreSmall = (p : Program) (globals : Globals) (g : Function) → IsAsked p globals g → IsSmall g (lower_function p g)
