@@ -6,7 +6,7 @@ use Rattle.std.proofs.lemmas.List.{length-map}
 use Rattle.mv_ir.specs.declared.tree.Tree.TheOpen as tree
 use Rattle.mv_ir.specs.declared.stm.Stm.TheOpen as stm
 use Rattle.mv_ir.specs.declared.body.Body.{Body}
-use Rattle.mv_ir.specs.Measures.{trees, scalars_read, arrays_read, statements, tree_nodes, deepest}
+use Rattle.mv_ir.specs.Measures.{trees, scalars_read, arrays_read, statements, tree_nodes, deepest, calls}
 use Rattle.mv_ir.specs.Live.{any_reads, with_after, nowhere, live_at_start, all_marks, any, plain, HasTemps}
 use Rattle.mv_ir.specs.WellFormed.{all_true, is_there, has_room, named, IsWellFormed}
 use Rattle.mv_ir.proofs.Induction.{Each}
@@ -163,10 +163,13 @@ module _ (p : Program) (globals : Globals) (g : Function) (asked : IsAsked p glo
   }
 
   few_statements : statements b.code ≤ 6 * body_nodes g + 1
-  few_statements = let c = counting none 0 in omega (arith, c.made.statements, c.few_statements)
+  few_statements = let c = counting none 0 in omega (arith, c.made.units, c.few_units)
 
-  few_nodes : tree_nodes b.code ≤ 10 * body_nodes g + 1
+  few_nodes : tree_nodes b.code ≤ 9 * body_nodes g + 1
   few_nodes = let c = counting none 0 in omega (arith, c.made.nodes, c.few_nodes)
+
+  few_words : 5 * (statements b.code + 3 * calls b.code) + 2 * tree_nodes b.code ≤ 40 * body_nodes g + 7
+  few_words = let c = counting none 0 in omega (arith, c.made.units, c.made.nodes, c.few_words)
 
   top_within : (lower_body g).top ≤ locals + 8 * depth g
   top_within = body_top globals locals sizes (is_void g.result) g.body params asked.within outermost
@@ -177,6 +180,7 @@ module _ (p : Program) (globals : Globals) (g : Function) (asked : IsAsked p glo
     frame = omega (arith, few_intervals g.locals (room_of g) b refl (omega arith) unmarked, total_is (array_sizes g.locals), top_within);
     statements = omega (arith, few_statements);
     tree_nodes = omega (arith, few_nodes);
+    words = omega (arith, few_words);
   }
 
   -- ---- well-formed bodies

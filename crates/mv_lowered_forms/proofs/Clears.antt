@@ -40,7 +40,7 @@ module _ (globals : Globals) (locals : ℕ) (sizes : ℕ → Option ℕ) (room :
   pub value : (e : Expr) → is_within globals locals sizes declared e ≡ true → (lower_expr e locals).top ≤ room → ValuePaid (expr_nodes e) (weight e) (lower_expr e)
   value e b top =
       let p = expr_paid globals locals sizes room direct through declared B r e b in
-      record { statements = p.statements; nodes = p.nodes; made = p.gives locals (omega arith) top; few_statements = p.few_statements; few_nodes = p.few_nodes }
+      record { units = p.units; nodes = p.nodes; made = p.gives locals (omega arith) top; few_units = p.few_units; few_nodes = p.few_nodes; few_words = p.few_words }
 
   -- trees that aren't used any more
   pub dropped : {s t k : ℕ} {xs : List Stm} {ts us : List Tree} → B s t k ts xs us → B s t k ts xs []
@@ -68,7 +68,7 @@ module _ (globals : Globals) (locals : ℕ) (sizes : ℕ → Option ℕ) (room :
 
     stores_paid : (i : ℕ) (es : List Expr) → all_exprs_within globals locals sizes es declared ≡ true → values_top locals (map lower_expr es) ≤ room →
         CodePaid (sum (map expr_nodes es)) (sum (map weight es)) (store_values locals size l i (map lower_expr es))
-    stores_paid i [] b top = paying.paid locals B 0 0 (r.retree (covers_none [])) (omega arith) (omega arith)
+    stores_paid i [] b top = paying.paid locals B 0 0 (r.retree (covers_none [])) (omega arith) (omega arith) (omega arith)
     stores_paid i (e ∷ es) b top =
         let bs = split (is_within globals locals sizes declared e) (all_exprs_within globals locals sizes es declared) b in
         let p = value e bs.0 (omega (arith, top)) in
@@ -76,11 +76,11 @@ module _ (globals : Globals) (locals : ℕ) (sizes : ℕ → Option ℕ) (room :
         let n = sum_cons (expr_nodes e) (map expr_nodes es) in
         let k = sum_cons (weight e) (map weight es) in
         record {
-          statements = p.statements + (1 + q.statements);
+          units = p.units + (1 + q.units);
           nodes = p.nodes + (1 + q.nodes);
           made = r.weaken (omega arith) (omega arith) (omega (arith, k)) (r.chain p.made (r.chain (word_paid i (lower_expr e locals).tree) q.made));
-          few_statements = omega (arith, p.few_statements, q.few_statements, n);
-          few_nodes = omega (arith, p.few_nodes, q.few_nodes, n);
+          few_units = omega (arith, p.few_units, q.few_units, n);
+          few_nodes = omega (arith, p.few_nodes, q.few_nodes, n); few_words = omega (arith, p.few_words, q.few_words, n);
         }
 
     -- where zeros are stored one by one, they are fewer than the values
@@ -94,12 +94,12 @@ module _ (globals : Globals) (locals : ℕ) (sizes : ℕ → Option ℕ) (room :
             (store_values locals size l 0 (map lower_expr es) ++ store_zeros size l (length (map lower_expr es)) (words_of_size size - length (map lower_expr es))))
         by true e =
             let p = stores_paid 0 es b top in
-            paying.paid locals B (1 + p.statements) (2 + p.nodes) (r.weaken (omega arith) (omega arith) (omega arith) (r.chain clear_paid p.made)) (omega (arith, p.few_statements)) (omega (arith, p.few_nodes))
+            paying.paid locals B (1 + p.units) (2 + p.nodes) (r.weaken (omega arith) (omega arith) (omega arith) (r.chain clear_paid p.made)) (omega (arith, p.few_units)) (omega (arith, p.few_nodes)) (omega (arith, p.few_words))
         by false e =
             let p = stores_paid 0 es b top in
             let words = words_of_size size in
             let long = length-map es lower_expr in
             let d = words - length (map lower_expr es) in
             let few = leb-false (8 * words) (92 * d) (or_parts itself (nat_le (8 * words) (92 * d)) e).1 in
-            paying.paid locals B (p.statements + d) (p.nodes + 2 * d) (r.weaken (omega arith) (omega arith) (omega arith) (r.chain p.made (zeros_paid (length (map lower_expr es)) d)))
-            (omega (arith, p.few_statements, few, long)) (omega (arith, p.few_nodes, few, long))
+            paying.paid locals B (p.units + d) (p.nodes + 2 * d) (r.weaken (omega arith) (omega arith) (omega arith) (r.chain p.made (zeros_paid (length (map lower_expr es)) d)))
+            (omega (arith, p.few_units, few, long)) (omega (arith, p.few_nodes, few, long)) (omega (arith, p.few_words, few, long))

@@ -25,11 +25,12 @@ body_nodes g = sum (map stmt_nodes g.body)
 module _ (globals : Globals) (g : Function) (direct : ℕ → ℕ) (through : ℕ) (B : ℕ → ℕ → ℕ → List Tree → List Stm → List Tree → Type 0)
     (rules : (declared : ℕ → Bool) → Rules (allowed globals (length g.locals) (size_in g.locals) (room_of g) direct through declared) B) (blocks : BlockRules B) where
   pub record FunctionPaid : Type 0 where
-    pub statements : ℕ
+    pub units : ℕ
     pub nodes : ℕ
-    pub made : B statements nodes (function_weight direct through g) [] (lower_function_code g).code []
-    pub few_statements : statements ≤ 6 * body_nodes g + 1
-    pub few_nodes : nodes ≤ 10 * body_nodes g + 1
+    pub made : B units nodes (function_weight direct through g) [] (lower_function_code g).code []
+    pub few_units : units ≤ 6 * body_nodes g + 1
+    pub few_nodes : nodes ≤ 9 * body_nodes g + 1
+    pub few_words : 5 * units + 2 * nodes ≤ 40 * body_nodes g + 7
 
   abbrev none : ℕ → Bool
   none l = false
@@ -42,9 +43,9 @@ module _ (globals : Globals) (g : Function) (direct : ℕ → ℕ) (through : �
   function_paid b =
       let p = statements.body_paid globals (length g.locals) (size_in g.locals) (is_void g.result) (room_of g) direct through B rules blocks g.body (λ l. nat_lt l g.params) b outermost (omega arith) in
       record {
-        statements = p.statements + 1;
+        units = p.units + 1;
         nodes = p.nodes + 1;
         made = ended (is_void g.result) p.made;
-        few_statements = omega (arith, p.few_statements);
-        few_nodes = omega (arith, p.few_nodes);
+        few_units = omega (arith, p.few_units);
+        few_nodes = omega (arith, p.few_nodes); few_words = omega (arith, p.few_words);
       }

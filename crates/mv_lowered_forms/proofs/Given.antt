@@ -15,6 +15,7 @@ use Rattle.mv_ir.specs.declared.stm.Callee.TheVariants as callee
 use Rattle.mv_ir.specs.Measures.{array_read}
 use Rattle.mv_ir.specs.WellFormed.{known_arguments}
 use Rattle.mv_lowering.specs.Lowered.{Lowered, Lowering, Arguments, number, temp, unary, global, set, set_global, divide, choose, read, write, truth, truth_in, is_empty, is_low, kept_if, first, second, lower_number, lower_local, lower_global, lower_function, lower_one, lower_two, lower_division, lower_both, lower_either, lower_choice, lower_set_local, lower_set_global, lower_all, lower_call_to, lower_call, but_last, last_of, lower_through, lower_known, index_in, lower_element, lower_read_element, lower_set_element}
+use Rattle.mv_lowering.proofs.Expressions.{no}
 use Rattle.mv_lowered_forms.proofs.Rules.{Allowed, Rules, Covers, IsPlain, IsAllowed, AllMay, result, one_for}
 use Rattle.mv_lowered_forms.proofs.Plain.{plain_set, plain_set_global, plain_divide, plain_check, plain_read, plain_write, plain_call, plain_through, plain_known, covers_unary, covers_number, covers_function, covers_none, covers_self, covers_then, covers_before, covers_swap, covers_twice}
 
@@ -70,8 +71,8 @@ module _ (a : Allowed) (B : ℕ → ℕ → ℕ → List Tree → List Stm → L
       subst (λ x. B s (t + m) k ts x vs) (append-nil xs) (rules.weaken (omega arith) (omega arith) (omega arith) (rules.chain h (rules.retree c)))
 
   -- a plain statement behind code
-  pub done : {s t k c : ℕ} {xs : List Stm} {ts : List Tree} {x : Stm-F Stm} {reads : List Tree} {writes : Option ℕ} (rest : List Tree) → IsPlain a x reads writes c → B s t k ts xs (reads ++ rest) →
-      B (s + 1) (t + one_for writes) (k + c) ts (xs ++ roll-Stm x ∷ []) (result writes ++ rest)
+  pub done : {s t k c u : ℕ} {xs : List Stm} {ts : List Tree} {x : Stm-F Stm} {reads : List Tree} {writes : Option ℕ} (rest : List Tree) → IsPlain a x reads writes c u → B s t k ts xs (reads ++ rest) →
+      B (s + u) (t + one_for writes) (k + c) ts (xs ++ roll-Stm x ∷ []) (result writes ++ rest)
   done rest p h = rules.chain h (rules.beside rest (rules.does p))
 
   -- a statement that sets a free temporary
@@ -112,32 +113,56 @@ module _ (a : Allowed) (B : ℕ → ℕ → ℕ → List Tree → List Stm → L
   pub gives_function : (f : ℕ) → Gives 0 1 0 (lower_function f)
   gives_function f n le top = rules.retree (covers_function f)
 
-  pub gives_one : {s t k : ℕ} {ts : List Tree} (f : Tree → Tree) (x : Lowering) → OnOne f → GivesFrom ts s t k x → GivesFrom ts (s + 1) (t + 3) k (lower_one f x)
+  pub gives_one : {s t k m : ℕ} {ts : List Tree} (f : Tree → Tree) (x : Lowering) → ((y : Tree) → Covers (y ∷ []) (f y ∷ []) m) → GivesFrom ts s t k x → GivesFrom ts (s + 1) (t + 1 + m) k (lower_one f x)
   gives_one f x op h n le top =
       let keep = is_low (x n).tree in
       let y = kept_if keep n (x n) in
-      rules.weaken (omega arith) (omega arith) refl (retreed (op y.tree) (kept keep n (x n) le top (h n le (omega (arith, top, kept_top keep n (x n))))))
+      retreed (op y.tree) (kept keep n (x n) le top (h n le (omega (arith, top, kept_top keep n (x n)))))
 
-  -- two operands, of which the second one may find trees
-  operands : {s t k s' t' k' : ℕ} {ts : List Tree} (x y : Lowering) → Gives s t k x → GivesFrom ts s' t' k' y → (n : ℕ) → locals ≤ n → (first x y n).top ≤ room → (second y n).top ≤ room →
-      B (s + s' + 2) (t + t' + 2) (k + k') ts ((first x y n).code ++ (second y n).code) ((first x y n).tree ∷ (second y n).tree ∷ [])
+  -- what is low isn't put away
+  stays : {s t k : ℕ} {ts : List Tree} (keep : Bool) (n : ℕ) (l : Lowered) → keep ≡ true → B s t k ts l.code (l.tree ∷ []) → B s t k ts (kept_if keep n l).code ((kept_if keep n l).tree ∷ [])
+  stays true n l e h = h
+  stays false n l e h = no e
+
+  abbrev pub AlwaysLow : Lowering → Type 0
+  AlwaysLow x = (n : ℕ) → is_low (x n).tree ≡ true
+
+  pub gives_low : {s t k m : ℕ} {ts : List Tree} (f : Tree → Tree) (x : Lowering) → AlwaysLow x → ((y : Tree) → Covers (y ∷ []) (f y ∷ []) m) → GivesFrom ts s t k x → GivesFrom ts s (t + m) k (lower_one f x)
+  gives_low f x low op h n le top =
+      let keep = is_low (x n).tree in
+      let y = kept_if keep n (x n) in
+      retreed (op y.tree) (stays keep n (x n) (low n) (h n le (omega (arith, top, kept_top keep n (x n)))))
+
+  -- the second of two operands, which may find trees
+  abbrev pub SecondGives : List Tree → ℕ → ℕ → ℕ → Lowering → Type 0
+  SecondGives ts s t k y = (n : ℕ) → locals ≤ n → (second y n).top ≤ room → B s t k ts (second y n).code ((second y n).tree ∷ [])
+
+  pub second_gives : {s t k : ℕ} {ts : List Tree} (y : Lowering) → GivesFrom ts s t k y → SecondGives ts (s + 1) (t + 1) k y
+  second_gives y h n le top =
+      let keep = is_low (y (n + 1)).tree in
+      kept keep (n + 1) (y (n + 1)) (omega (arith, le)) top (h (n + 1) (omega (arith, le)) (omega (arith, top, kept_top keep (n + 1) (y (n + 1)))))
+
+  pub second_stays : {s t k : ℕ} {ts : List Tree} (y : Lowering) → AlwaysLow y → GivesFrom ts s t k y → SecondGives ts s t k y
+  second_stays y low h n le top =
+      let keep = is_low (y (n + 1)).tree in
+      stays keep (n + 1) (y (n + 1)) (low (n + 1)) (h (n + 1) (omega (arith, le)) (omega (arith, top, kept_top keep (n + 1) (y (n + 1)))))
+
+  operands : {s t k s' t' k' : ℕ} {ts : List Tree} (x y : Lowering) → Gives s t k x → SecondGives ts s' t' k' y → (n : ℕ) → locals ≤ n → (first x y n).top ≤ room → (second y n).top ≤ room →
+      B (s + 1 + s') (t + 1 + t') (k + k') ts ((first x y n).code ++ (second y n).code) ((first x y n).tree ∷ (second y n).tree ∷ [])
   operands x y hx hy n le topx topy =
-      let keepy = is_low (y (n + 1)).tree in
-      let keepx = is_empty (second y n).code && is_low (x n).tree in
-      rules.weaken (omega arith) (omega arith) refl
-      (join (kept keepx n (x n) le topx (hx n le (omega (arith, topx, kept_top keepx n (x n)))))
-      (kept keepy (n + 1) (y (n + 1)) (omega (arith, le)) topy (hy (n + 1) (omega (arith, le)) (omega (arith, topy, kept_top keepy (n + 1) (y (n + 1)))))))
+      let keep = is_empty (second y n).code && is_low (x n).tree in
+      join (kept keep n (x n) le topx (hx n le (omega (arith, topx, kept_top keep n (x n))))) (hy n le topy)
 
-  pub gives_two : {s t k s' t' k' : ℕ} {ts : List Tree} (f : Tree → Tree → Tree) (x y : Lowering) → OnTwo f → Gives s t k x → GivesFrom ts s' t' k' y → GivesFrom ts (s + s' + 3) (t + t' + 4) (k + k') (lower_two f x y)
+  pub gives_two : {s t k s' t' k' : ℕ} {ts : List Tree} (f : Tree → Tree → Tree) (x y : Lowering) → OnTwo f → Gives s t k x → SecondGives ts s' t' k' y → GivesFrom ts (s + s' + 1) (t + t' + 3) (k + k') (lower_two f x y)
   gives_two f x y op hx hy n le top =
       rules.weaken (omega arith) (omega arith) refl
       (retreed (op (first x y n).tree (second y n).tree) (operands x y hx hy n le (omega (arith, top)) (omega (arith, top))))
 
-  pub gives_division : {s t k s' t' k' : ℕ} {ts : List Tree} (turned : Bool) (o : ℕ) (x y : Lowering) → Gives s t k x → GivesFrom ts s' t' k' y → GivesFrom ts (s + s' + 3) (t + t' + 4) (k + k') (lower_division turned o x y)
+  pub gives_division : {s t k s' t' k' : ℕ} {ts : List Tree} (turned : Bool) (o : ℕ) (x y : Lowering) → Gives s t k x → SecondGives ts s' t' k' y → GivesFrom ts (s + s' + 2) (t + t' + 2) (k + k') (lower_division turned o x y)
   gives_division {s} {t} {k} {s'} {t'} {k'} {ts} turned o x y hx hy n le top =
       let u = first x y n in
       let v = second y n in
-      subst (λ c. B (s + s' + 3) (t + t' + 4) (k + k') ts c (temp n ∷ [])) (append_assoc u.code v.code (divide n o (cond turned v.tree u.tree) (cond turned u.tree v.tree) ∷ []))
+      subst (λ c. B (s + s' + 2) (t + t' + 2) (k + k') ts c (temp n ∷ [])) (append_assoc u.code v.code (divide n o (cond turned v.tree u.tree) (cond turned u.tree v.tree) ∷ []))
       (rules.weaken (omega arith) (omega arith) (omega arith)
       (done [] (plain_divide a n o (cond turned v.tree u.tree) (cond turned u.tree v.tree) (scratch n le (omega (arith, top))))
       (retreed (covers_turned turned u.tree v.tree) (operands x y hx hy n le (omega (arith, top)) (omega (arith, top))))))
@@ -196,20 +221,20 @@ module _ (a : Allowed) (B : ℕ → ℕ → ℕ → List Tree → List Stm → L
       join (kept keep n (l n) le (omega (arith, top)) (h n le (omega (arith, top, kept_top keep n (l n))))) (hs (n + 1) (omega (arith, le)) (omega (arith, top)))
 
   called : {s t k c : ℕ} (void : Bool) (f : Callee) (all : Arguments) (args reads : List Tree) (n : ℕ) → locals ≤ n → n < room →
-      ((w : Option ℕ) → IsAllowed a w → IsPlain a (stm.Call w f args) reads w c) → B s t k [] all.code reads →
-      B (s + 1) (t + 1) (k + c) [] (lower_call_to void f all args n).code ((lower_call_to void f all args n).tree ∷ [])
+      ((w : Option ℕ) → IsAllowed a w → IsPlain a (stm.Call w f args) reads w c 4) → B s t k [] all.code reads →
+      B (s + 4) (t + 1) (k + c) [] (lower_call_to void f all args n).code ((lower_call_to void f all args n).tree ∷ [])
   called {s} {t} {k} {c} true f all args reads n le lt p h =
       retreed (covers_number 0) (rules.weaken (omega arith) (omega arith) refl (done [] (p None tt) (subst (λ ts. B s t k [] all.code ts) (sym (append-nil reads)) h)))
   called {s} {t} {k} {c} false f all args reads n le lt p h =
       done [] (p (Some n) (scratch n le lt)) (subst (λ ts. B s t k [] all.code ts) (sym (append-nil reads)) h)
 
-  pub gives_call : {s t k : ℕ} (void : Bool) (f : ℕ) (ls : List Lowering) → nat_lt (length ls) 9 ≡ true → AllGive s t k ls → Gives (s + 1) (t + 1) (k + a.direct f) (lower_call void f ls)
+  pub gives_call : {s t k : ℕ} (void : Bool) (f : ℕ) (ls : List Lowering) → nat_lt (length ls) 9 ≡ true → AllGive s t k ls → Gives (s + 4) (t + 1) (k + a.direct f) (lower_call void f ls)
   gives_call void f ls few h n le top =
       let all = lower_all ls n in
       called void (callee.Direct f) all all.trees all.trees n le (omega (arith, top))
       (λ w may. plain_call a w f all.trees may (subst (λ m. nat_lt m 9 ≡ true) (sym (trees_length ls n)) few)) (h n le (omega (arith, top)))
 
-  pub gives_through : {s t k : ℕ} (void : Bool) (ls : List Lowering) (l : Lowering) → nat_lt (length ls) 9 ≡ true → AllGive s t k (ls ++ l ∷ []) → Gives (s + 1) (t + 1) (k + a.through) (lower_through void ls l)
+  pub gives_through : {s t k : ℕ} (void : Bool) (ls : List Lowering) (l : Lowering) → nat_lt (length ls) 9 ≡ true → AllGive s t k (ls ++ l ∷ []) → Gives (s + 4) (t + 1) (k + a.through) (lower_through void ls l)
   gives_through {s} {t} {k} void ls l few h n le top =
       let all = lower_all (ls ++ l ∷ []) n in
       let long = trees_length (ls ++ l ∷ []) n ∙ length-append ls (l ∷ []) in
@@ -218,7 +243,7 @@ module _ (a : Allowed) (B : ℕ → ℕ → ℕ → List Tree → List Stm → L
       (λ w may. plain_through a w (last_of all.trees) (but_last all.trees) may (subst (λ m. nat_lt m 9 ≡ true) (sym (last_length all.trees (length ls) long)) few))
       (rules.weaken (omega arith) (omega arith) refl (retreed turned (h n le (omega (arith, top)))))
 
-  pub gives_known : {s t k : ℕ} (f : Known) (ls : List Lowering) → nat_eq (length ls) (known_arguments f) ≡ true → AllGive s t k ls → Gives (s + 1) (t + 1) k (lower_known f ls)
+  pub gives_known : {s t k : ℕ} (f : Known) (ls : List Lowering) → nat_eq (length ls) (known_arguments f) ≡ true → AllGive s t k ls → Gives (s + 4) (t + 1) k (lower_known f ls)
   gives_known {s} {t} {k} f ls as_many h n le top =
       let all = lower_all ls n in
       rules.weaken (omega arith) (omega arith) (omega arith)
@@ -268,14 +293,14 @@ module _ (a : Allowed) (B : ℕ → ℕ → ℕ → List Tree → List Stm → L
   old_and_new n x c = rules.retree (covers_then (temp n ∷ []) (temp n ∷ temp n ∷ []) (x ∷ temp n ∷ []) 1 3 (covers_twice n) (covers_before (temp n ∷ []) (x ∷ []) (temp n ∷ []) 3 c))
 
   pub gives_local_after : (l : ℕ) (next : ℕ → Tree) → a.declared l ≡ true → a.temps l ≡ true → Steps next → (n : ℕ) → locals ≤ n → n < room →
-      B 2 7 0 [] (set n (temp l) ∷ set l (next n) ∷ []) (temp n ∷ [])
+      B 2 6 0 [] (set n (temp l) ∷ set l (next n) ∷ []) (temp n ∷ [])
   gives_local_after l next h k c n le lt =
       let put = rules.chain (rules.local l h k) (rules.does (plain_set a n (temp l) (scratch n le lt))) in
-      let changed = rules.chain (rules.beside (temp n ∷ []) (rules.does (plain_set a l (next n) k))) (rules.retree (covers_before (temp l ∷ []) [] (temp n ∷ []) 0 (covers_none (temp l ∷ [])))) in
+      let changed = rules.beside (temp n ∷ []) (rules.drops (plain_set a l (next n) k)) in
       rules.weaken (omega arith) (omega arith) (omega arith) (rules.chain put (rules.chain (old_and_new n (next n) (c n)) changed))
 
   pub gives_global_after : (g : ℕ) (next : ℕ → Tree) → a.scalars g ≡ true → a.named (array.Global g) ≡ true → Steps next → (n : ℕ) → locals ≤ n → n < room →
-      B 2 7 0 [] (set n (global g) ∷ set_global g (next n) ∷ []) (temp n ∷ [])
+      B 2 6 0 [] (set n (global g) ∷ set_global g (next n) ∷ []) (temp n ∷ [])
   gives_global_after g next h k c n le lt =
       let put = rules.chain (rules.scalar g h) (rules.does (plain_set a n (global g) (scratch n le lt))) in
       let changed = rules.beside (temp n ∷ []) (rules.does (plain_set_global a g (next n) k)) in

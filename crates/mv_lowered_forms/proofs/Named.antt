@@ -129,9 +129,16 @@ named_rules a = record {
   local = λ l h k. record { scalars = λ e. tt; left = λ e. temp_reads a.scalars a.arrays a.named l; arrays = tt; named = tt; arguments = refl };
   scalar = λ g h. record { scalars = λ e. tt; left = λ e. subst (λ l. MayRead a.scalars a.arrays a.named (l ++ [])) (sym (reads_roll (tree.Global g))) (h, tt); arrays = tt; named = tt; arguments = refl };
   retree = λ {m} {ts} {us} c. record { scalars = λ e. tt; left = c.scalars a.scalars; arrays = tt; named = tt; arguments = refl };
-  does = λ {c} {x} {reads} {writes} p. record {
+  does = λ {c} {v} {x} {reads} {writes} p. record {
     scalars = λ e. subst (λ z. MayRead a.scalars a.arrays a.named (all_read z)) (sym (trees_one x ∙ p.trees)) e;
     left = λ e. result_reads a.scalars a.arrays a.named writes;
+    arrays = subst (MayFind a.scalars a.arrays a.named) (sym (arrays_one x)) p.arrays;
+    named = subst (MayName a.scalars a.arrays a.named) (sym (named_one x)) p.named;
+    arguments = arguments_one x ∙ p.arguments;
+  };
+  drops = λ {c} {v} {x} {reads} {writes} p. record {
+    scalars = λ e. subst (λ z. MayRead a.scalars a.arrays a.named (all_read z)) (sym (trees_one x ∙ p.trees)) e;
+    left = λ e. tt;
     arrays = subst (MayFind a.scalars a.arrays a.named) (sym (arrays_one x)) p.arrays;
     named = subst (MayName a.scalars a.arrays a.named) (sym (named_one x)) p.named;
     arguments = arguments_one x ∙ p.arguments;

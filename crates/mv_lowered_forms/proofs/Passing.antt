@@ -58,7 +58,8 @@ module _ (a : Allowed) (u : ℕ) where
     local = λ l h k. record { passes = λ e r q. q; writes = λ e v r. no (sym (temp_reads u l ∙ another a.declared l u h undeclared) ∙ v) };
     scalar = λ g h. record { passes = λ e r q. q; writes = λ e v r. no (sym (global_reads u g) ∙ v) };
     retree = λ {m} {ts} {us} c. record { passes = λ e r q. q; writes = λ e v r. no (sym e ∙ c.temps u v) };
-    does = λ {c} {x} {reads} {writes} p. done x reads writes (flow_roll u x ∙ p.flows u);
+    does = λ {c} {v} {x} {reads} {writes} p. done x reads writes (flow_roll u x ∙ p.flows u);
+    drops = λ {c} {v} {x} {reads} {writes} p. record { passes = (done {m = 0} {n = 0} {l = 0} x reads writes (flow_roll u x ∙ p.flows u)).passes; writes = λ e w. no w };
     choose = λ {s} {t} {k} {s'} {t'} {k'} {ys} {zs} {us} x h h'. chosen x h h';
     chain = λ {s} {t} {k} {s'} {t'} {k'} {xs} {ys} {ts} {us} {vs} h h'. chained h h';
     beside = λ {s} {t} {k} {xs} {ts} {us} rest h. record {

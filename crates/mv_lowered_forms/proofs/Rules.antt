@@ -1,6 +1,6 @@
 -- What code is made of. A relation between code, the trees of values that are still to be used before and behind it, and counts holds
 -- of all lowered expressions where it obeys these rules.
-use Rattle.std.proofs.Common.{◌≡◌, ℕ, ◌+◌, ◌≤◌, Bool, true, List, [], ◌∷◌, ◌++◌, map, Option, Some, None}
+use Rattle.std.proofs.Common.{◌*◌, ◌≡◌, ℕ, ◌+◌, ◌≤◌, Bool, true, List, [], ◌∷◌, ◌++◌, map, Option, Some, None}
 use Rattle.mv_ir.specs.declared.tree.Tree.{Tree}
 use Rattle.mv_ir.specs.declared.stm.Array.{Array}
 use Rattle.mv_ir.specs.declared.stm.Stm.{Stm}
@@ -8,7 +8,7 @@ use Rattle.mv_ir.specs.declared.stm.Stm.TheOpen.{Stm-F}
 use Rattle.mv_ir.specs.declared.stm.Stm.TheViews.{roll-Stm}
 use Rattle.mv_ir.specs.declared.stm.Stm.TheFolds.{map-Stm}
 use Rattle.mv_ir.specs.Trees.{nodes_of_all}
-use Rattle.mv_ir.specs.Measures.{joined, layer_trees, stm_trees, tree_reads, layer_arrays, stm_arrays, layer_size, stm_size}
+use Rattle.mv_ir.specs.Measures.{joined, layer_trees, stm_trees, tree_reads, layer_arrays, stm_arrays, layer_size, stm_size, layer_calls, stm_calls}
 use Rattle.mv_ir.specs.Live.{Flow, layer_flow, flow, any_reads, plain, goes_next}
 use Rattle.mv_ir.specs.WellFormed.{layer_targets, stm_targets, layer_named, stm_named, layer_arguments, stm_arguments}
 use Rattle.mv_ir.proofs.Induction.{Each}
@@ -52,11 +52,12 @@ abbrev pub one_for : Option ℕ → ℕ
 one_for None = 0
 one_for (Some t) = 1
 
--- a statement without others in it that goes on, with what it reads, what it writes, and the weight of its call
-pub record IsPlain (a : Allowed) (x : Stm-F Stm) (reads : List Tree) (writes : Option ℕ) (weight : ℕ) : Type 0 where
+-- a statement without others in it that goes on, with what it reads, what it writes, the weight of its call, and what it
+-- counts as, where a call is as much as four other statements
+pub record IsPlain (a : Allowed) (x : Stm-F Stm) (reads : List Tree) (writes : Option ℕ) (weight measure : ℕ) : Type 0 where
   pub flows : (t : ℕ) → layer_flow t (map-Stm Stm Flow (flow t) x) ≡ plain t reads writes goes_next
   pub trees : layer_trees (map-Stm Stm (List Tree) stm_trees x) ≡ reads
-  pub size : layer_size (map-Stm Stm ℕ stm_size x) ≡ 1
+  pub units : layer_size (map-Stm Stm ℕ stm_size x) + 3 * layer_calls (map-Stm Stm ℕ stm_calls x) ≤ measure
   pub calls : layer_weight a.direct a.through (map-Stm Stm ℕ (stm_weight a.direct a.through) x) ≡ weight
   pub arguments : layer_arguments (map-Stm Stm Bool stm_arguments x) ≡ true
   pub targets : (around : List Bool) → layer_targets (map-Stm Stm (List Bool → Bool) stm_targets x) around ≡ true
@@ -64,13 +65,14 @@ pub record IsPlain (a : Allowed) (x : Stm-F Stm) (reads : List Tree) (writes : O
   pub arrays : Each (λ g. a.arrays g ≡ true) (layer_arrays (map-Stm Stm (List ℕ) stm_arrays x))
   pub written : IsAllowed a writes
 
--- The rules. B has counts of statements, of tree nodes and of the calls' weights, the trees that code finds to be used, the code, and the
+-- The rules. B has counts of units, of tree nodes and of the calls' weights, the trees that code finds to be used, the code, and the
 -- trees that it leaves.
 pub record Rules (a : Allowed) (B : ℕ → ℕ → ℕ → List Tree → List Stm → List Tree → Type 0) : Type 0 where
   pub local : (l : ℕ) → a.declared l ≡ true → a.temps l ≡ true → B 0 1 0 [] [] (temp l ∷ [])
   pub scalar : (g : ℕ) → a.scalars g ≡ true → B 0 1 0 [] [] (global g ∷ [])
   pub retree : {m : ℕ} {ts us : List Tree} → Covers ts us m → B 0 m 0 ts [] us
-  pub does : {c : ℕ} {x : Stm-F Stm} {reads : List Tree} {writes : Option ℕ} → IsPlain a x reads writes c → B 1 (one_for writes) c reads (roll-Stm x ∷ []) (result writes)
+  pub does : {c v : ℕ} {x : Stm-F Stm} {reads : List Tree} {writes : Option ℕ} → IsPlain a x reads writes c v → B v (one_for writes) c reads (roll-Stm x ∷ []) (result writes)
+  pub drops : {c v : ℕ} {x : Stm-F Stm} {reads : List Tree} {writes : Option ℕ} → IsPlain a x reads writes c v → B v 0 c reads (roll-Stm x ∷ []) []
   pub choose : {s t k s' t' k' : ℕ} {ys zs : List Stm} {us : List Tree} (x : Tree) → B s t k [] ys us → B s' t' k' [] zs us → B (s + s' + 1) (t + t') (k + k') (x ∷ []) (choose x ys zs ∷ []) us
   pub chain : {s t k s' t' k' : ℕ} {xs ys : List Stm} {ts us vs : List Tree} → B s t k ts xs us → B s' t' k' us ys vs → B (s + s') (t + t') (k + k') ts (xs ++ ys) vs
   pub beside : {s t k : ℕ} {xs : List Stm} {ts us : List Tree} (rest : List Tree) → B s t k ts xs us → B s t k (ts ++ rest) xs (us ++ rest)

@@ -1,4 +1,4 @@
--- Lowered statements are made of code that obeys the rules, with at most 6 statements and 10 tree nodes for each node of the source.
+-- Lowered statements are made of code that obeys the rules, with bounds on units and tree nodes for each node of the source.
 use Rattle.std.proofs.Common.{◌≡◌, ℕ, suc, ◌+◌, ◌*◌, ◌<◌, ◌≤◌, Bool, true, cond, List, [], ◌∷◌, ◌++◌, map, length, Option, Some, None, refl, sym, ◌∙◌, ap, subst, arith}
 use Rattle.std.specs.Prelude.{◌&&◌, nat_lt, sum, option_to_list}
 use Rattle.std.proofs.lemmas.Bool.{ltb-true}
@@ -58,26 +58,26 @@ module _ (globals : Globals) (locals : ℕ) (sizes : ℕ → Option ℕ) (void :
 
   code_as : {n k n' k' : ℕ} {xs : List Stm} → n ≤ n' → k ≡ k' → CodePaid n k xs → CodePaid n' k' xs
   code_as le e p = record {
-    statements = p.statements;
+    units = p.units;
     nodes = p.nodes;
     made = r.weaken (omega arith) (omega arith) e p.made;
-    few_statements = omega (arith, le, p.few_statements);
-    few_nodes = omega (arith, le, p.few_nodes);
+    few_units = omega (arith, le, p.few_units);
+    few_nodes = omega (arith, le, p.few_nodes); few_words = omega (arith, le, p.few_words);
   }
 
-  one_more : {n k : ℕ} {xs : List Stm} (s t : ℕ) → B s t k [] xs [] → s ≤ 6 * n → t ≤ 10 * n → CodePaid n k xs
+  one_more : {n k : ℕ} {xs : List Stm} (s t : ℕ) → B s t k [] xs [] → s ≤ 6 * n → t ≤ 9 * n → 5 * s + 2 * t ≤ 40 * n → CodePaid n k xs
   one_more = paying.paid locals B
 
   nothing : CodePaid 0 0 []
-  nothing = one_more 0 0 (r.retree (covers_none [])) (omega arith) (omega arith)
+  nothing = one_more 0 0 (r.retree (covers_none [])) (omega arith) (omega arith) (omega arith)
 
   in_turn : {n k n' k' : ℕ} {xs ys : List Stm} → CodePaid n k xs → CodePaid n' k' ys → CodePaid (n + n') (k + k') (xs ++ ys)
   in_turn p q = record {
-    statements = p.statements + q.statements;
+    units = p.units + q.units;
     nodes = p.nodes + q.nodes;
     made = r.chain p.made q.made;
-    few_statements = omega (arith, p.few_statements, q.few_statements);
-    few_nodes = omega (arith, p.few_nodes, q.few_nodes);
+    few_units = omega (arith, p.few_units, q.few_units);
+    few_nodes = omega (arith, p.few_nodes, q.few_nodes); few_words = omega (arith, p.few_words, q.few_words);
   }
 
   -- ---- lists
@@ -144,28 +144,29 @@ module _ (globals : Globals) (locals : ℕ) (sizes : ℕ → Option ℕ) (void :
 
   -- the arms behind some code: each takes a block and its own statements
   pub record ArmsPaid (arms : List Arm) (inner : List Stm) (s t k : ℕ) (code : List Stm) : Type 0 where
-    pub statements : ℕ
+    pub units : ℕ
     pub nodes : ℕ
-    pub made : (ts : List Tree) → B s t k ts inner [] → B (s + statements) (t + nodes) (k + sum (map (arm_weight direct through) arms)) ts code []
-    pub few_statements : statements + 6 * labels_of (arms_lowered arms) ≤ 6 * sum (map arm_nodes arms) + length arms
-    pub few_nodes : nodes + 10 * labels_of (arms_lowered arms) ≤ 10 * sum (map arm_nodes arms)
+    pub made : (ts : List Tree) → B s t k ts inner [] → B (s + units) (t + nodes) (k + sum (map (arm_weight direct through) arms)) ts code []
+    pub few_units : units + 6 * labels_of (arms_lowered arms) ≤ 6 * sum (map arm_nodes arms) + length arms
+    pub few_nodes : nodes + 9 * labels_of (arms_lowered arms) ≤ 9 * sum (map arm_nodes arms)
+    pub few_words : 5 * units + 2 * nodes + 40 * labels_of (arms_lowered arms) ≤ 40 * sum (map arm_nodes arms) + 5 * length arms
 
   arms_paid : (arms : List Arm) → Each A arms → (declared : ℕ → Bool) → arms_within (map (arm_scope globals locals sizes) arms) declared ≡ true → (j : Jumps) → arms_top locals (arms_lowered arms) j ≤ room →
       (inner : List Stm) (s t k : ℕ) → ArmsPaid arms inner s t k (nested inner (arms_lowered arms) j)
-  arms_paid [] h declared b j top inner s t k = record { statements = 0; nodes = 0; made = λ ts x. r.weaken (omega arith) (omega arith) (omega arith) x; few_statements = omega arith; few_nodes = omega arith }
+  arms_paid [] h declared b j top inner s t k = record { units = 0; nodes = 0; made = λ ts x. r.weaken (omega arith) (omega arith) (omega arith) x; few_units = omega arith; few_nodes = omega arith; few_words = omega arith }
   arms_paid (arm ∷ arms) h declared b j top inner s t k =
       let bs = split ((arm_scope globals locals sizes arm).within declared) (arms_within (map (arm_scope globals locals sizes) arms) declared) b in
       let l = lower_arm locals sizes void arm in
       let p = h.0.body declared bs.0 (in_arm (length (arms_lowered arms)) j) (omega (arith, top)) in
-      let rest = arms_paid arms h.1 declared bs.1 j (omega (arith, top)) (enclosed inner ∷ (l.body (in_arm (length (arms_lowered arms)) j)).code) (s + 1 + p.statements) (t + p.nodes) (k + h.0.weight) in
+      let rest = arms_paid arms h.1 declared bs.1 j (omega (arith, top)) (enclosed inner ∷ (l.body (in_arm (length (arms_lowered arms)) j)).code) (s + 1 + p.units) (t + p.nodes) (k + h.0.weight) in
       let n = sum_cons (arm_nodes arm) (map arm_nodes arms) in
       let w = sum_cons (arm_weight direct through arm) (map (arm_weight direct through) arms) in
       record {
-        statements = 1 + p.statements + rest.statements;
+        units = 1 + p.units + rest.units;
         nodes = p.nodes + rest.nodes;
         made = λ ts x. r.weaken (omega arith) (omega arith) (omega (arith, w, h.0.weighs)) (rest.made ts (r.chain (blocks.block x) p.made));
-        few_statements = omega (arith, p.few_statements, rest.few_statements, n, h.0.nodes);
-        few_nodes = omega (arith, p.few_nodes, rest.few_nodes, n, h.0.nodes);
+        few_units = omega (arith, p.few_units, rest.few_units, n, h.0.nodes);
+        few_nodes = omega (arith, p.few_nodes, rest.few_nodes, n, h.0.nodes); few_words = omega (arith, p.few_words, rest.few_words, n, h.0.nodes);
       }
 
   -- all arms but those without a label have one
@@ -189,10 +190,10 @@ module _ (globals : Globals) (locals : ℕ) (sizes : ℕ → Option ℕ) (void :
       let q = arms_paid arms h declared b j (omega (arith, top)) inner (2 * labels_of ls + (0 + 1)) (3 * labels_of ls + (0 + 0)) (0 + (0 + 0)) in
       let labelled = arms_labelled arms h in
       let one = ltb-true (bare_arms (map (arm_scope globals locals sizes) arms)) 2 few in
-      one_more (p.statements + (1 + (2 * labels_of ls + (0 + 1) + q.statements + 1))) (p.nodes + (1 + (3 * labels_of ls + (0 + 0) + q.nodes)))
+      one_more (p.units + (1 + (2 * labels_of ls + (0 + 1) + q.units + 1))) (p.nodes + (1 + (3 * labels_of ls + (0 + 0) + q.nodes)))
       (r.weaken (omega arith) (omega arith) (omega arith)
       (r.chain p.made (r.chain (r.does (plain_set a locals (lower_expr e locals).tree (scratch locals (omega arith) (omega (arith, top))))) (blocks.block (q.made (temp locals ∷ []) tested)))))
-      (omega (arith, p.few_statements, q.few_statements, labelled, one)) (omega (arith, p.few_nodes, q.few_nodes))
+      (omega (arith, p.few_units, q.few_units, labelled, one)) (omega (arith, p.few_nodes, q.few_nodes)) (omega (arith, p.few_words, q.few_words, labelled, one))
 
   -- ---- each form
 
@@ -216,17 +217,18 @@ module _ (globals : Globals) (locals : ℕ) (sizes : ℕ → Option ℕ) (void :
 
   -- an expression that may be left out
   record OptionalPaid (e : Option Expr) (l : Lowering) : Type 0 where
-    statements : ℕ
+    units : ℕ
     nodes : ℕ
-    made : B statements nodes (sum (map weight (option_to_list e))) [] (l locals).code ((l locals).tree ∷ [])
-    few_statements : statements ≤ 6 * sum (map expr_nodes (option_to_list e))
-    few_nodes : nodes ≤ 10 * sum (map expr_nodes (option_to_list e)) + 1
+    made : B units nodes (sum (map weight (option_to_list e))) [] (l locals).code ((l locals).tree ∷ [])
+    few_units : units ≤ 6 * sum (map expr_nodes (option_to_list e))
+    few_nodes : nodes ≤ 9 * sum (map expr_nodes (option_to_list e)) + 1
+    few_words : 5 * units + 2 * nodes ≤ 40 * sum (map expr_nodes (option_to_list e)) + 2
 
   optional_paid : (v : ℕ) (e : Option Expr) (declared : ℕ → Bool) → optional_within globals locals sizes e declared ≡ true → (lower_optional v e locals).top ≤ room → OptionalPaid e (lower_optional v e)
-  optional_paid v None declared b top = record { statements = 0; nodes = 1; made = r.retree (covers_number v); few_statements = omega arith; few_nodes = omega arith }
+  optional_paid v None declared b top = record { units = 0; nodes = 1; made = r.retree (covers_number v); few_units = omega arith; few_nodes = omega arith; few_words = omega arith }
   optional_paid v (Some e) declared b top =
       let p = value declared e b top in
-      record { statements = p.statements; nodes = p.nodes; made = r.weaken (omega arith) (omega arith) (omega arith) p.made; few_statements = omega (arith, p.few_statements); few_nodes = omega (arith, p.few_nodes) }
+      record { units = p.units; nodes = p.nodes; made = r.weaken (omega arith) (omega arith) (omega arith) p.made; few_units = omega (arith, p.few_units); few_nodes = omega (arith, p.few_nodes); few_words = omega (arith, p.few_words) }
 
   -- the turn of a loop: a test that leaves it, and some code where it doesn't
   test_paid : {s t k s' t' k' : ℕ} {body : List Stm} (l : Lowering) → B s' t' k' [] (l locals).code ((l locals).tree ∷ []) → B s t k [] body [] → B (s' + (s + 1 + 1)) (t' + t) (k' + k) [] (test_and_body locals l body) []
@@ -242,7 +244,7 @@ module _ (globals : Globals) (locals : ℕ) (sizes : ℕ → Option ℕ) (void :
       code_as (omega arith) (omega arith) (clears.cleared globals locals sizes room direct through known B (rules known) l bs.0 (sizes l) refl itself values j bs.1 top)
   layer (stmt.Express e) h declared b j top =
       let p = value declared e b top in
-      one_more p.statements p.nodes (r.weaken (omega arith) (omega arith) (omega arith) (dropped p.made)) (omega (arith, p.few_statements)) (omega (arith, p.few_nodes))
+      one_more p.units p.nodes (r.weaken (omega arith) (omega arith) (omega arith) (dropped p.made)) (omega (arith, p.few_units)) (omega (arith, p.few_nodes)) (omega (arith, p.few_words))
   layer (stmt.If e yes_part no_part) h declared b j top =
       let bs = split (is_within globals locals sizes declared e) (all_within (scopes yes_part) declared && all_within (scopes no_part) declared) b in
       let cs = split (all_within (scopes yes_part) declared) (all_within (scopes no_part) declared) bs.1 in
@@ -251,23 +253,23 @@ module _ (globals : Globals) (locals : ℕ) (sizes : ℕ → Option ℕ) (void :
       let other = all_paid no_part h.1 declared cs.1 j (omega (arith, top)) in
       let n = sum_append (map stmt_nodes yes_part) (map stmt_nodes no_part) in
       let w = sum_append (map (stmt_weight direct through) yes_part) (map (stmt_weight direct through) no_part) in
-      one_more (p.statements + (yes.statements + other.statements + 1)) (p.nodes + (yes.nodes + other.nodes))
+      one_more (p.units + (yes.units + other.units + 1)) (p.nodes + (yes.nodes + other.nodes))
       (r.weaken (omega arith) (omega arith) (omega (arith, w)) (r.chain p.made (r.choose (lower_expr e locals).tree yes.made other.made)))
-      (omega (arith, p.few_statements, yes.few_statements, other.few_statements, n)) (omega (arith, p.few_nodes, yes.few_nodes, other.few_nodes, n))
+      (omega (arith, p.few_units, yes.few_units, other.few_units, n)) (omega (arith, p.few_nodes, yes.few_nodes, other.few_nodes, n)) (omega (arith, p.few_words, yes.few_words, other.few_words, n))
   layer (stmt.While e body) h declared b j top =
       let bs = split (is_within globals locals sizes declared e) (all_within (scopes body) declared) b in
       let p = value declared e bs.0 (omega (arith, top)) in
       let q = all_paid body h declared bs.1 (in_body j) (omega (arith, top)) in
-      one_more (p.statements + (q.statements + 1 + 1 + 1) + 1) (p.nodes + q.nodes)
+      one_more (p.units + (q.units + 1 + 1 + 1) + 1) (p.nodes + q.nodes)
       (r.weaken (omega arith) (omega arith) (omega arith) (blocks.turns (test_paid (lower_expr e) p.made (blocks.block q.made))))
-      (omega (arith, p.few_statements, q.few_statements)) (omega (arith, p.few_nodes, q.few_nodes))
+      (omega (arith, p.few_units, q.few_units)) (omega (arith, p.few_nodes, q.few_nodes)) (omega (arith, p.few_words, q.few_words))
   layer (stmt.Do body e) h declared b j top =
       let bs = split (is_within globals locals sizes declared e) (all_within (scopes body) declared) b in
       let p = value declared e bs.0 (omega (arith, top)) in
       let q = all_paid body h declared bs.1 (in_body j) (omega (arith, top)) in
-      one_more (q.statements + 1 + (p.statements + (0 + 1 + 1)) + 1) (q.nodes + (p.nodes + 0))
+      one_more (q.units + 1 + (p.units + (0 + 1 + 1)) + 1) (q.nodes + (p.nodes + 0))
       (r.weaken (omega arith) (omega arith) (omega arith) (blocks.turns (r.chain (blocks.block q.made) (test_paid (lower_expr e) p.made (r.retree (covers_none []))))))
-      (omega (arith, p.few_statements, q.few_statements)) (omega (arith, p.few_nodes, q.few_nodes))
+      (omega (arith, p.few_units, q.few_units)) (omega (arith, p.few_nodes, q.few_nodes)) (omega (arith, p.few_words, q.few_words))
   layer (stmt.For first test step body) h declared b j top =
       let inside = all_behind (scopes first) declared in
       let may_test = optional_within globals locals sizes test inside in
@@ -283,22 +285,22 @@ module _ (globals : Globals) (locals : ℕ) (sizes : ℕ → Option ℕ) (void :
       let w = sum_append (map (stmt_weight direct through) first) (map (stmt_weight direct through) body) in
       let n' = ap sum (map_append expr_nodes (option_to_list test) (option_to_list step)) ∙ sum_append (map expr_nodes (option_to_list test)) (map expr_nodes (option_to_list step)) in
       let w' = ap sum (map_append weight (option_to_list test) (option_to_list step)) ∙ sum_append (map weight (option_to_list test)) (map weight (option_to_list step)) in
-      one_more (begun.statements + (tested.statements + (turn.statements + 1 + 1 + 1) + stepped.statements + 1)) (begun.nodes + (tested.nodes + turn.nodes + stepped.nodes))
+      one_more (begun.units + (tested.units + (turn.units + 1 + 1 + 1) + stepped.units + 1)) (begun.nodes + (tested.nodes + turn.nodes + stepped.nodes))
       (r.weaken (omega arith) (omega arith) (omega (arith, w, w'))
       (r.chain begun.made (blocks.turns (r.chain (test_paid (lower_optional 1 test) tested.made (blocks.block turn.made)) (dropped stepped.made)))))
-      (omega (arith, begun.few_statements, tested.few_statements, stepped.few_statements, turn.few_statements, n, n'))
-      (omega (arith, begun.few_nodes, tested.few_nodes, stepped.few_nodes, turn.few_nodes, n, n'))
+      (omega (arith, begun.few_units, tested.few_units, stepped.few_units, turn.few_units, n, n'))
+      (omega (arith, begun.few_nodes, tested.few_nodes, stepped.few_nodes, turn.few_nodes, n, n')) (omega (arith, begun.few_words, tested.few_words, stepped.few_words, turn.few_words, n, n'))
   layer (stmt.Switch e arms) h declared b j top =
       let bs = split (is_within globals locals sizes declared e) (nat_lt (bare_arms (map (arm_scope globals locals sizes) arms)) 2 && arms_within (map (arm_scope globals locals sizes) arms) declared) b in
       let cs = split (nat_lt (bare_arms (map (arm_scope globals locals sizes) arms)) 2) (arms_within (map (arm_scope globals locals sizes) arms) declared) bs.1 in
       code_as (omega arith) (omega arith) (switch_paid e arms h declared bs.0 cs.0 cs.1 j top)
-  layer stmt.Break h declared b j top = one_more 1 0 (r.weaken (omega arith) (omega arith) (omega arith) (blocks.leaves j.leave)) (omega arith) (omega arith)
-  layer stmt.Continue h declared b j top = one_more 1 0 (r.weaken (omega arith) (omega arith) (omega arith) (blocks.leaves j.again)) (omega arith) (omega arith)
-  layer (stmt.Return None) h declared b j top = one_more 1 0 (r.weaken (omega arith) (omega arith) (omega arith) (blocks.leaves j.around)) (omega arith) (omega arith)
+  layer stmt.Break h declared b j top = one_more 1 0 (r.weaken (omega arith) (omega arith) (omega arith) (blocks.leaves j.leave)) (omega arith) (omega arith) (omega arith)
+  layer stmt.Continue h declared b j top = one_more 1 0 (r.weaken (omega arith) (omega arith) (omega arith) (blocks.leaves j.again)) (omega arith) (omega arith) (omega arith)
+  layer (stmt.Return None) h declared b j top = one_more 1 0 (r.weaken (omega arith) (omega arith) (omega arith) (blocks.leaves j.around)) (omega arith) (omega arith) (omega arith)
   layer (stmt.Return (Some e)) h declared b j top =
       let p = value declared e b top in
-      one_more (p.statements + 1) (p.nodes + 0) (r.weaken (omega arith) (omega arith) (omega arith) (r.chain p.made (blocks.returns (lower_expr e locals).tree)))
-      (omega (arith, p.few_statements)) (omega (arith, p.few_nodes))
+      one_more (p.units + 1) (p.nodes + 0) (r.weaken (omega arith) (omega arith) (omega arith) (r.chain p.made (blocks.returns (lower_expr e locals).tree)))
+      (omega (arith, p.few_units)) (omega (arith, p.few_nodes)) (omega (arith, p.few_words))
 
   stmt_step : (x : Stmt-F Stmt Arm) → source.Children S A x → S (roll-Stmt x)
   stmt_step x h declared b j =

@@ -62,7 +62,8 @@ jumpless_rules a = record {
   local = λ l h k. record { targets = λ r. refl };
   scalar = λ g h. record { targets = λ r. refl };
   retree = λ {m} {ts} {us} c. record { targets = λ r. refl };
-  does = λ {c} {x} {reads} {writes} p. record { targets = λ r. targets_one r x (p.targets r) };
+  does = λ {c} {v} {x} {reads} {writes} p. record { targets = λ r. targets_one r x (p.targets r) };
+  drops = λ {c} {v} {x} {reads} {writes} p. record { targets = λ r. targets_one r x (p.targets r) };
   choose = λ {s} {t} {k} {s'} {t'} {k'} {ys} {zs} {us} x h h'. record { targets = λ r. choose_targets r x ys zs (h.targets r) (h'.targets r) };
   chain = λ {s} {t} {k} {s'} {t'} {k'} {xs} {ys} {ts} {us} {vs} h h'. record { targets = λ r. targets_append r xs ys (h.targets r) (h'.targets r) };
   beside = λ {s} {t} {k} {xs} {ts} {us} rest h. record { targets = h.targets };

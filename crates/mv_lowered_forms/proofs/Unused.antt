@@ -97,8 +97,10 @@ module _ (u : ℕ) where
       local = λ l h k. record { left = λ e. temp_reads u l ∙ another a.temps l u k unused; dead = λ e r q. q.next; bare = λ e r q. refl };
       scalar = λ g h. record { left = λ e. global_reads u g; dead = λ e r q. q.next; bare = λ e r q. refl };
       retree = λ {m} {ts} {us} c. record { left = reads_less ts us (c.temps u); dead = λ e r q. q.next; bare = λ e r q. refl };
-      does = λ {c} {x} {reads} {writes} p.
+      does = λ {c} {v} {x} {reads} {writes} p.
           alone x reads writes goes_next (flow_roll u x ∙ p.flows u) (writes_another writes p.written) (λ r q. q.next) (result_another writes p.written);
+      drops = λ {c} {v} {x} {reads} {writes} p.
+          alone x reads writes goes_next (flow_roll u x ∙ p.flows u) (writes_another writes p.written) (λ r q. q.next) refl;
       choose = λ {s} {t} {k} {s'} {t'} {k'} {ys} {zs} {us} x h h'. chosen x h h';
       chain = λ {s} {t} {k} {s'} {t'} {k'} {xs} {ys} {ts} {us} {vs} h h'. chained h h';
       beside = λ {s} {t} {k} {xs} {ts} {us} rest h. record {

@@ -53,12 +53,14 @@ LoweredReadNoMore =
     (p : Program) (globals : Globals) (g : Function) → IsAsked p globals g →
     (all_true (map globals.scalars (scalars_read (lower_function p g).code)) ≡ true) × (all_true (map globals.arrays (arrays_read (lower_function p g).code)) ≡ true)
 
--- The sizes of a body are bounded by those of the source: its frame by the declared words and the depth, its code by the nodes.
+-- The sizes of a body are bounded by those of the source: its frame by the declared words and the depth, its code by the nodes. `words` says that a node
+-- of the source takes at most forty words where a statement takes at most five, a call twenty, and a tree node two.
 pub record IsSmall (g : Function) (b : Body) : Type 0 where
   pub temps : b.temps ≤ length g.locals + 8 * depth g
   pub frame : most_intervals b + total b.arrays ≤ declared_words g + 8 * depth g
+  pub words : 5 * (statements b.code + 3 * calls b.code) + 2 * tree_nodes b.code ≤ 40 * nodes g + 7
   pub statements : statements b.code ≤ 6 * nodes g + 1
-  pub tree_nodes : tree_nodes b.code ≤ 10 * nodes g + 1
+  pub tree_nodes : tree_nodes b.code ≤ 9 * nodes g + 1
 
 abbrev pub LoweredAreSmall : Type 0
 LoweredAreSmall = (p : Program) (globals : Globals) (g : Function) → IsAsked p globals g → IsSmall g (lower_function p g)
