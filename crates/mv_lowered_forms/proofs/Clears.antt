@@ -80,7 +80,8 @@ module _ (globals : Globals) (locals : ℕ) (sizes : ℕ → Option ℕ) (room :
           nodes = p.nodes + (1 + q.nodes);
           made = r.weaken (omega arith) (omega arith) (omega (arith, k)) (r.chain p.made (r.chain (word_paid i (lower_expr e locals).tree) q.made));
           few_units = omega (arith, p.few_units, q.few_units, n);
-          few_nodes = omega (arith, p.few_nodes, q.few_nodes, n); few_words = omega (arith, p.few_words, q.few_words, n);
+          few_nodes = omega (arith, p.few_nodes, q.few_nodes, n);
+          few_words = omega (arith, p.few_words, q.few_words, n);
         }
 
     -- where zeros are stored one by one, they are fewer than the values

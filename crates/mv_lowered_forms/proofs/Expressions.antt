@@ -144,14 +144,16 @@ module _ (globals : Globals) (locals : ℕ) (sizes : ℕ → Option ℕ) (room :
     nodes = 1;
     gives = subst (λ m. Gives 0 1 m (lower_local l)) (sym h.free) (given.gives_local a B rules locals room scratch l (h.read e) (h.used e));
     few_units = omega arith;
-    few_nodes = omega arith; few_words = omega arith;
+    few_nodes = omega arith;
+    few_words = omega arith;
   }
   read_paid (InGlobal g) access n k h e = record {
     units = 0;
     nodes = 1;
     gives = subst (λ m. Gives 0 1 m (lower_global g)) (sym h.free) (given.gives_global a B rules locals room scratch g (h.read e));
     few_units = omega arith;
-    few_nodes = omega arith; few_words = omega arith;
+    few_nodes = omega arith;
+    few_words = omega arith;
   }
   read_paid (Element r i) access n k h e =
       let el = h.read e in
@@ -161,7 +163,8 @@ module _ (globals : Globals) (locals : ℕ) (sizes : ℕ → Option ℕ) (room :
         nodes = index.nodes + 1;
         gives = given.gives_read_element a B rules locals room scratch r i el.named el.read index.gives;
         few_units = omega (arith, index.few_units);
-        few_nodes = omega (arith, index.few_nodes); few_words = omega (arith, index.few_words);
+        few_nodes = omega (arith, index.few_nodes);
+        few_words = omega (arith, index.few_words);
       }
 
   same_weight : {s t k k' : ℕ} (l : Lowering) → k ≡ k' → Gives s t k l → Gives s t k' l
@@ -173,14 +176,16 @@ module _ (globals : Globals) (locals : ℕ) (sizes : ℕ → Option ℕ) (room :
     nodes = p.nodes + 1;
     gives = same_weight (lower_set (InLocal l) v) (omega (arith, h.free)) (given.gives_set_local a B rules locals room scratch l v (h.stored e) p.gives);
     few_units = omega (arith, p.few_units);
-    few_nodes = omega (arith, p.few_nodes); few_words = omega (arith, p.few_words);
+    few_nodes = omega (arith, p.few_nodes);
+    few_words = omega (arith, p.few_words);
   }
   set_paid (InGlobal g) access n k n' k' v h e p = record {
     units = p.units + 2;
     nodes = p.nodes + 2;
     gives = same_weight (lower_set (InGlobal g) v) (omega (arith, h.free)) (given.gives_set_global a B rules locals room scratch g v (h.stored e) p.gives);
     few_units = omega (arith, p.few_units);
-    few_nodes = omega (arith, p.few_nodes); few_words = omega (arith, p.few_words);
+    few_nodes = omega (arith, p.few_nodes);
+    few_words = omega (arith, p.few_words);
   }
   set_paid (Element r i) access n k n' k' v h e p =
       let el = h.stored e in
@@ -191,7 +196,8 @@ module _ (globals : Globals) (locals : ℕ) (sizes : ℕ → Option ℕ) (room :
         gives = λ m le top. given.gives_set_element a B rules locals room scratch r i v m el.named index.gives le top
             (rules.weaken (omega arith) (omega arith) (omega arith) (rules.chain (rules.retree (covers_none (temp (m + 1) ∷ []))) (p.gives (m + 2) (omega (arith, le)) (omega (arith, top)))));
         few_units = omega (arith, index.few_units, p.few_units);
-        few_nodes = omega (arith, index.few_nodes, p.few_nodes); few_words = omega (arith, index.few_words, p.few_words);
+        few_nodes = omega (arith, index.few_nodes, p.few_nodes);
+        few_words = omega (arith, index.few_words, p.few_words);
       }
 
   change_paid : (op : ℕ) (kind c : CType) (x : Place) (access : Access) (n k n' k' : ℕ) (v : Lowering) → PlacePaid x access n k → access.read ≡ true → access.stored ≡ true → Paid n' k' v →
@@ -202,7 +208,8 @@ module _ (globals : Globals) (locals : ℕ) (sizes : ℕ → Option ℕ) (room :
     gives = same_weight (lower_change op kind c (InLocal l) v) (omega (arith, h.free))
         (given.gives_set_local a B rules locals room scratch l _ (h.stored d) (operators.gives_changed a B rules locals room scratch op kind c (lower_local l) v (given.second_stays a B rules locals room scratch (lower_local l) (λ m. temp_low l) (given.gives_local a B rules locals room scratch l (h.read e) (h.used e))) p.gives));
     few_units = omega (arith, p.few_units);
-    few_nodes = omega (arith, p.few_nodes); few_words = omega (arith, p.few_words);
+    few_nodes = omega (arith, p.few_nodes);
+    few_words = omega (arith, p.few_words);
   }
   change_paid op kind c (InGlobal g) access n k n' k' v h e d p = record {
     units = p.units + 0 + 2 + 2;
@@ -210,7 +217,8 @@ module _ (globals : Globals) (locals : ℕ) (sizes : ℕ → Option ℕ) (room :
     gives = same_weight (lower_change op kind c (InGlobal g) v) (omega (arith, h.free))
         (given.gives_set_global a B rules locals room scratch g _ (h.stored d) (operators.gives_changed a B rules locals room scratch op kind c (lower_global g) v (given.second_stays a B rules locals room scratch (lower_global g) (λ m. global_low g) (given.gives_global a B rules locals room scratch g (h.read e))) p.gives));
     few_units = omega (arith, p.few_units);
-    few_nodes = omega (arith, p.few_nodes); few_words = omega (arith, p.few_words);
+    few_nodes = omega (arith, p.few_nodes);
+    few_words = omega (arith, p.few_words);
   }
   change_paid op kind c (Element r i) access n k n' k' v h e d p =
       let el = h.read e in
@@ -222,7 +230,8 @@ module _ (globals : Globals) (locals : ℕ) (sizes : ℕ → Option ℕ) (room :
             (given.gives_set_element a B rules locals room scratch r i (lower_changed op kind c (lower_element r (m + 1)) v) m el.named index.gives le top
             (operators.gives_changed a B rules locals room scratch op kind c (lower_element r (m + 1)) v (given.second_stays a B rules locals room scratch (lower_element r (m + 1)) temp_low (given.gives_element a B rules locals room scratch r (m + 1) el.named el.read)) p.gives (m + 2) (omega (arith, le)) (omega (arith, top))));
         few_units = omega (arith, index.few_units, p.few_units);
-        few_nodes = omega (arith, index.few_nodes, p.few_nodes); few_words = omega (arith, index.few_words, p.few_words);
+        few_nodes = omega (arith, index.few_nodes, p.few_nodes);
+        few_words = omega (arith, index.few_words, p.few_words);
       }
 
   after_paid : (up : Bool) (c : CType) (x : Place) (access : Access) (n k : ℕ) → PlacePaid x access n k → access.read ≡ true → access.stored ≡ true → Paid (1 + n) k (lower_after up c x)
@@ -232,7 +241,8 @@ module _ (globals : Globals) (locals : ℕ) (sizes : ℕ → Option ℕ) (room :
     gives = same_weight (lower_after up c (InLocal l)) (sym h.free)
         (λ m le top. given.gives_local_after a B rules locals room scratch l (λ i. next_tree up c (temp i)) (h.read e) (h.used e) (on_next up c) m le (omega (arith, top)));
     few_units = omega arith;
-    few_nodes = omega arith; few_words = omega arith;
+    few_nodes = omega arith;
+    few_words = omega arith;
   }
   after_paid up c (InGlobal g) access n k h e d = record {
     units = 2;
@@ -240,7 +250,8 @@ module _ (globals : Globals) (locals : ℕ) (sizes : ℕ → Option ℕ) (room :
     gives = same_weight (lower_after up c (InGlobal g)) (sym h.free)
         (λ m le top. given.gives_global_after a B rules locals room scratch g (λ i. next_tree up c (temp i)) (h.read e) (h.stored d) (on_next up c) m le (omega (arith, top)));
     few_units = omega arith;
-    few_nodes = omega arith; few_words = omega arith;
+    few_nodes = omega arith;
+    few_words = omega arith;
   }
   after_paid up c (Element r i) access n k h e d =
       let el = h.read e in
@@ -250,7 +261,8 @@ module _ (globals : Globals) (locals : ℕ) (sizes : ℕ → Option ℕ) (room :
         nodes = index.nodes + 7;
         gives = λ m le top. given.gives_element_after a B rules locals room scratch r i (λ i. next_tree up c (temp i)) el.named el.read (on_next up c) index.gives m le top;
         few_units = omega (arith, index.few_units);
-        few_nodes = omega (arith, index.few_nodes); few_words = omega (arith, index.few_words);
+        few_nodes = omega (arith, index.few_nodes);
+        few_words = omega (arith, index.few_words);
       }
 
   -- ---- the fold
@@ -283,7 +295,8 @@ module _ (globals : Globals) (locals : ℕ) (sizes : ℕ → Option ℕ) (room :
         give = subst (λ m. given.AllGive a B rules locals room scratch (x.units + 1 + xs.units) (x.nodes + 1 + xs.nodes) m (map (λ (x : Part). x.lower) (map part_of (e ∷ es)))) (sym (sum_cons (weight e) (map weight es)))
             (given.more_give a B rules locals room scratch (lower_expr e) (map (λ (x : Part). x.lower) (map part_of es)) x.gives xs.give);
         few_units = omega (arith, x.few_units, xs.few_units, n);
-        few_nodes = omega (arith, x.few_nodes, xs.few_nodes, n); few_words = omega (arith, x.few_words, xs.few_words, n);
+        few_nodes = omega (arith, x.few_nodes, xs.few_nodes, n);
+        few_words = omega (arith, x.few_words, xs.few_words, n);
       }
 
   -- of so many nodes or more, and of so much weight
@@ -296,7 +309,8 @@ module _ (globals : Globals) (locals : ℕ) (sizes : ℕ → Option ℕ) (room :
     nodes = p.nodes + 1 + 2;
     gives = given.gives_one a B rules locals room scratch f x on p.gives;
     few_units = omega (arith, p.few_units);
-    few_nodes = omega (arith, p.few_nodes); few_words = omega (arith, p.few_words);
+    few_nodes = omega (arith, p.few_nodes);
+    few_words = omega (arith, p.few_words);
   }
 
   binary_paid : {n k n' k' : ℕ} (op : ℕ) (c : CType) (x y : Lowering) → Paid n k x → Paid n' k' y → Paid (1 + (n + n')) (k + k') (lower_binary false op c x y)
@@ -305,7 +319,8 @@ module _ (globals : Globals) (locals : ℕ) (sizes : ℕ → Option ℕ) (room :
     nodes = p.nodes + (q.nodes + 1) + 3;
     gives = operators.gives_binary a B rules locals room scratch false op c x y p.gives (given.second_gives a B rules locals room scratch y q.gives);
     few_units = omega (arith, p.few_units, q.few_units);
-    few_nodes = omega (arith, p.few_nodes, q.few_nodes); few_words = omega (arith, p.few_words, q.few_words);
+    few_nodes = omega (arith, p.few_nodes, q.few_nodes);
+    few_words = omega (arith, p.few_words, q.few_words);
   }
 
   both_paid : {n k n' k' : ℕ} (x y : Lowering) → Paid n k x → Paid n' k' y → Paid (1 + (n + n')) (k + k') (lower_both x y)
@@ -314,7 +329,8 @@ module _ (globals : Globals) (locals : ℕ) (sizes : ℕ → Option ℕ) (room :
     nodes = p.nodes + q.nodes + 6;
     gives = given.gives_both a B rules locals room scratch x y p.gives q.gives;
     few_units = omega (arith, p.few_units, q.few_units);
-    few_nodes = omega (arith, p.few_nodes, q.few_nodes); few_words = omega (arith, p.few_words, q.few_words);
+    few_nodes = omega (arith, p.few_nodes, q.few_nodes);
+    few_words = omega (arith, p.few_words, q.few_words);
   }
 
   either_paid : {n k n' k' : ℕ} (x y : Lowering) → Paid n k x → Paid n' k' y → Paid (1 + (n + n')) (k + k') (lower_either x y)
@@ -323,7 +339,8 @@ module _ (globals : Globals) (locals : ℕ) (sizes : ℕ → Option ℕ) (room :
     nodes = p.nodes + q.nodes + 6;
     gives = given.gives_either a B rules locals room scratch x y p.gives q.gives;
     few_units = omega (arith, p.few_units, q.few_units);
-    few_nodes = omega (arith, p.few_nodes, q.few_nodes); few_words = omega (arith, p.few_words, q.few_words);
+    few_nodes = omega (arith, p.few_nodes, q.few_nodes);
+    few_words = omega (arith, p.few_words, q.few_words);
   }
 
   choice_paid : {n k n1 k1 n2 k2 : ℕ} (z x y : Lowering) → Paid n k z → Paid n1 k1 x → Paid n2 k2 y → Paid (1 + (n + (n1 + n2))) (k + (k1 + k2)) (lower_choice z x y)
@@ -332,7 +349,8 @@ module _ (globals : Globals) (locals : ℕ) (sizes : ℕ → Option ℕ) (room :
     nodes = r.nodes + p.nodes + q.nodes + 2;
     gives = given.gives_choice a B rules locals room scratch z x y r.gives p.gives q.gives;
     few_units = omega (arith, r.few_units, p.few_units, q.few_units);
-    few_nodes = omega (arith, r.few_nodes, p.few_nodes, q.few_nodes); few_words = omega (arith, r.few_words, p.few_words, q.few_words);
+    few_nodes = omega (arith, r.few_nodes, p.few_nodes, q.few_nodes);
+    few_words = omega (arith, r.few_words, p.few_words, q.few_words);
   }
 
   leaf_paid : (l : Lowering) → Gives 0 1 0 l → Paid 1 0 l
@@ -345,7 +363,8 @@ module _ (globals : Globals) (locals : ℕ) (sizes : ℕ → Option ℕ) (room :
     nodes = p.nodes + 1;
     gives = same_weight l (omega arith) h;
     few_units = omega (arith, p.few_units);
-    few_nodes = omega (arith, p.few_nodes); few_words = omega (arith, p.few_words);
+    few_nodes = omega (arith, p.few_nodes);
+    few_words = omega (arith, p.few_words);
   }
 
   abbrev counts : Form-F Form Target Expr → Form-F ℕ ℕ ℕ

@@ -47,5 +47,6 @@ module _ (globals : Globals) (g : Function) (direct : ℕ → ℕ) (through : �
         nodes = p.nodes + 1;
         made = ended (is_void g.result) p.made;
         few_units = omega (arith, p.few_units);
-        few_nodes = omega (arith, p.few_nodes); few_words = omega (arith, p.few_words);
+        few_nodes = omega (arith, p.few_nodes);
+        few_words = omega (arith, p.few_words);
       }

@@ -62,7 +62,8 @@ module _ (globals : Globals) (locals : ℕ) (sizes : ℕ → Option ℕ) (void :
     nodes = p.nodes;
     made = r.weaken (omega arith) (omega arith) e p.made;
     few_units = omega (arith, le, p.few_units);
-    few_nodes = omega (arith, le, p.few_nodes); few_words = omega (arith, le, p.few_words);
+    few_nodes = omega (arith, le, p.few_nodes);
+    few_words = omega (arith, le, p.few_words);
   }
 
   one_more : {n k : ℕ} {xs : List Stm} (s t : ℕ) → B s t k [] xs [] → s ≤ 6 * n → t ≤ 9 * n → 5 * s + 2 * t ≤ 40 * n → CodePaid n k xs
@@ -77,7 +78,8 @@ module _ (globals : Globals) (locals : ℕ) (sizes : ℕ → Option ℕ) (void :
     nodes = p.nodes + q.nodes;
     made = r.chain p.made q.made;
     few_units = omega (arith, p.few_units, q.few_units);
-    few_nodes = omega (arith, p.few_nodes, q.few_nodes); few_words = omega (arith, p.few_words, q.few_words);
+    few_nodes = omega (arith, p.few_nodes, q.few_nodes);
+    few_words = omega (arith, p.few_words, q.few_words);
   }
 
   -- ---- lists
@@ -166,7 +168,8 @@ module _ (globals : Globals) (locals : ℕ) (sizes : ℕ → Option ℕ) (void :
         nodes = p.nodes + rest.nodes;
         made = λ ts x. r.weaken (omega arith) (omega arith) (omega (arith, w, h.0.weighs)) (rest.made ts (r.chain (blocks.block x) p.made));
         few_units = omega (arith, p.few_units, rest.few_units, n, h.0.nodes);
-        few_nodes = omega (arith, p.few_nodes, rest.few_nodes, n, h.0.nodes); few_words = omega (arith, p.few_words, rest.few_words, n, h.0.nodes);
+        few_nodes = omega (arith, p.few_nodes, rest.few_nodes, n, h.0.nodes);
+        few_words = omega (arith, p.few_words, rest.few_words, n, h.0.nodes);
       }
 
   -- all arms but those without a label have one
