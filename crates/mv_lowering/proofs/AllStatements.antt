@@ -9,6 +9,7 @@ use Rattle.mv_ir.specs.World as code_world
 use Rattle.mv_ir.specs.Outcome.{Returned, Leaves, Ends, Bound, Calls}
 use Rattle.mv_ir.proofs.Induction.{Each}
 use Rattle.mv_ast.specs.declared.program.Program.{Program}
+use Rattle.mv_ast.specs.declared.world.Binding.{Binding}
 use Rattle.mv_ast.specs.declared.program.Known.{Known}
 use Rattle.mv_ast.specs.declared.program.Expr.{Expr}
 use Rattle.mv_ast.specs.declared.program.Stmt.{Stmt, Stmt-F, roll-Stmt, out-roll-Stmt, map-Stmt, ind-Stmt, fold-roll-Stmt}
@@ -38,34 +39,34 @@ use Rattle.mv_lowering.proofs.Switches as switches
 use Rattle.mv_lowering.proofs.Clears as clears
 use Rattle.mv_lowering.proofs.Clears.{Held, none, only, only_there}
 
-module _ (p : Program) (setting : Setting) (frame : code_world.Frame) (own locals : ℕ) (sizes : ℕ → Option ℕ) (room : ℕ) (void : Bool)
+module _ (p : Program) (setting : Setting) (frame : code_world.Frame) (began : List Binding) (own locals : ℕ) (sizes : ℕ → Option ℕ) (room : ℕ) (void : Bool)
     (limit : ℕ) (calls : ℕ → Calls) (context : ℕ → Context) (fits : locals ≤ room)
     (strict : (k : ℕ) → c.IsStrict p setting.numbers (context k))
     (first_loop : (s : Stmt) → (context zero).loop s ≡ stop Unfinished)
     (next_loop : (k : ℕ) (s : Stmt) → (context (suc k)).loop s ≡ flow_of p (context k) s)
-    (agree : (k : ℕ) → k ≤ limit → (held : Held) (floor : ℕ) (scratch : ℕ → ℕ) → c.CallsAgree p setting frame own locals sizes held floor scratch room (levels calls k) (context k))
-    (knows : (k : ℕ) (held : Held) (floor : ℕ) (scratch : ℕ → ℕ) (known : Known) → c.KnownAgrees p setting frame own locals sizes held floor scratch room (levels calls k) known) where
+    (agree : (k : ℕ) → k ≤ limit → (held : Held) (floor : ℕ) (scratch : ℕ → ℕ) → c.CallsAgree p setting frame began own locals sizes held floor scratch room (levels calls k) (context k))
+    (knows : (k : ℕ) (held : Held) (floor : ℕ) (scratch : ℕ → ℕ) (known : Known) → c.KnownAgrees p setting frame began own locals sizes held floor scratch room (levels calls k) known) where
   abbrev at : ℕ → Bound
   at k = levels calls k
 
   abbrev FlowCorrect : Jumps → ℕ → Evaluation Flow → List Stm → Type 0
-  FlowCorrect j k = flows.FlowCorrect p setting frame own locals sizes room void (out_of void j) 0 (at k)
+  FlowCorrect j k = flows.FlowCorrect p setting frame began own locals sizes room void (out_of void j) 0 (at k)
 
   -- ---- expressions
 
   value_at : (held : Held) (free : ℕ → Bool) → ((l : ℕ) → free l ≡ true → held l ≡ None) → (k : ℕ) → k ≤ limit → (e : Expr) → is_well_named p own locals sizes free e ≡ true →
-      c.Correct p setting frame own locals sizes held locals (λ k. 0) room (at k) (value_of p (context k) e) (lower_expr e)
-  value_at held free frees k up e b = expr_correct p setting frame own locals sizes held room (at k) free frees (context k) fits (strict k) (agree k up held) (knows k held) e b locals (λ k. 0)
+      c.Correct p setting frame began own locals sizes held locals (λ k. 0) room (at k) (value_of p (context k) e) (lower_expr e)
+  value_at held free frees k up e b = expr_correct p setting frame began own locals sizes held room (at k) free frees (context k) fits (strict k) (agree k up held) (knows k held) e b locals (λ k. 0)
 
-  value : (k : ℕ) → k ≤ limit → (e : Expr) → named p own locals sizes void e ≡ true → flows.CorrectFor p setting frame own locals sizes room void (at k) 0 (value_of p (context k) e) (lower_expr e)
+  value : (k : ℕ) → k ≤ limit → (e : Expr) → named p own locals sizes void e ≡ true → flows.CorrectFor p setting frame began own locals sizes room void (at k) 0 (value_of p (context k) e) (lower_expr e)
   value k up e b = value_at none (λ l. true) (λ l q. refl) k up e b
 
-  optional : (k : ℕ) → k ≤ limit → (v : ℕ) (e : Option Expr) → named_option p own locals sizes void e ≡ true → flows.CorrectFor p setting frame own locals sizes room void (at k) 14 (optional_value p (context k) v e) (lower_optional v e)
-  optional k up v None b = forms.correct_number p setting frame own locals sizes none locals (λ k. 0) room (at k) v
-  optional k up v (Some e) b = show.with_more p setting frame own locals sizes none locals (λ k. 0) room (at k) 0 14 (value_of p (context k) e) (lower_expr e) (omega arith) (value k up e b)
+  optional : (k : ℕ) → k ≤ limit → (v : ℕ) (e : Option Expr) → named_option p own locals sizes void e ≡ true → flows.CorrectFor p setting frame began own locals sizes room void (at k) 14 (optional_value p (context k) v e) (lower_optional v e)
+  optional k up v None b = forms.correct_number p setting frame began own locals sizes none locals (λ k. 0) room (at k) v
+  optional k up v (Some e) b = show.with_more p setting frame began own locals sizes none locals (λ k. 0) room (at k) 0 14 (value_of p (context k) e) (lower_expr e) (omega arith) (value k up e b)
 
   values_at : (held : Held) (free : ℕ → Bool) → ((l : ℕ) → free l ≡ true → held l ≡ None) → (k : ℕ) → k ≤ limit → (es : List Expr) → all_of (map (is_well_named p own locals sizes free) es) ≡ true →
-      clears.AllAt p setting frame own locals sizes room void held (at k) (map (value_of p (context k)) es) (map lower_expr es)
+      clears.AllAt p setting frame began own locals sizes room void held (at k) (map (value_of p (context k)) es) (map lower_expr es)
   values_at held free frees k up [] b = tt
   values_at held free frees k up (e ∷ es) b =
       let bs = split (is_well_named p own locals sizes free e) (all_of (map (is_well_named p own locals sizes free) es)) b in
@@ -95,11 +96,11 @@ module _ (p : Program) (setting : Setting) (frame : code_world.Frame) (own local
   formed body = all_of (map (stmt_is_well_formed p own locals sizes void) body)
 
   all_correct : (body : List Stmt) → Each S body → formed body ≡ true → (j : Jumps) → (lowered body j).top ≤ room → (k : ℕ) → k ≤ limit → FlowCorrect j k (flow_of_all p (context k) body) (lowered body j).code
-  all_correct [] h b j le k up = flows.nothing_to_do p setting frame own locals sizes room void j (at k)
+  all_correct [] h b j le k up = flows.nothing_to_do p setting frame began own locals sizes room void j (at k)
   all_correct (s ∷ body) h b j le k up =
       let bs = split (stmt_is_well_formed p own locals sizes void s) (formed body) b in
-      (λ f w st sh. flows.more p setting frame own locals sizes room void (out_of void j) (0 + 0) 0 (flows.code p setting frame own locals sizes room void (lowered (s ∷ body) j).code (at k) st) (flow_of_all p (context k) (s ∷ body) f w) (omega arith)
-      (flows.in_turn p setting frame own locals sizes room void j (at k) 0 0 (flow_of p (context k) s) (flow_of_all p (context k) body) (lower_stmt locals sizes void s j).code (lowered body j).code
+      (λ f w st sh. flows.more p setting frame began own locals sizes room void (out_of void j) (0 + 0) 0 (flows.code p setting frame began own locals sizes room void (lowered (s ∷ body) j).code (at k) st) (flow_of_all p (context k) (s ∷ body) f w) (omega arith)
+      (flows.in_turn p setting frame began own locals sizes room void j (at k) 0 0 (flow_of p (context k) s) (flow_of_all p (context k) body) (lower_stmt locals sizes void s j).code (lowered body j).code
       (h.0 bs.0 j (omega (arith, le)) k up) (all_correct body h.1 bs.1 j (omega (arith, le)) k up) f w st sh))
 
   abbrev Children : Stmt-F Stmt Arm → Type 0
@@ -139,12 +140,12 @@ module _ (p : Program) (setting : Setting) (frame : code_world.Frame) (own local
 
   -- a loop, from what a turn of it is, where the loop is the whole statement
   looped : (j : Jumps) (whole : Stmt) (xs : List Stm) (mt rest : ℕ → Evaluation Flow) →
-      ((k : ℕ) → k ≤ limit → flows.FlowCorrect p setting frame own locals sizes room void (turn_out void j) 92 (at k) (mt k) xs) →
+      ((k : ℕ) → k ≤ limit → flows.FlowCorrect p setting frame began own locals sizes room void (turn_out void j) 92 (at k) (mt k) xs) →
       ((k : ℕ) (f : Frame) (w : World) → rest k f w ≡ bind (mt k) (λ flow. after_body flow (loop_of k whole)) f w) →
       ((k : ℕ) (f : Frame) (w : World) → flow_of p (context k) whole f w ≡ counted 1 (rest k) f w) →
-      (k : ℕ) → k ≤ limit → flows.FlowCorrect p setting frame own locals sizes room void (out_of void j) 100 (at k) (rest k) (repeat xs ∷ [])
+      (k : ℕ) → k ≤ limit → flows.FlowCorrect p setting frame began own locals sizes room void (out_of void j) 100 (at k) (rest k) (repeat xs ∷ [])
   looped j whole xs mt rest turns is again k up =
-      flows.loop_correct p setting frame own locals sizes room void j limit calls mt rest xs turns
+      flows.loop_correct p setting frame began own locals sizes room void j limit calls mt rest xs turns
       (λ f w. is zero f w ∙ ap (λ (l : Evaluation Flow). bind (mt zero) (λ flow. after_body flow l) f w) (first_loop whole))
       (λ i f w. is (suc i) f w ∙ after_same (mt (suc i)) (loop_of (suc i) whole) (counted 1 (rest i)) f w (λ f1 w1. ap (λ (l : Evaluation Flow). l f1 w1) (next_loop i whole) ∙ again i f1 w1)) k up
 
@@ -157,14 +158,14 @@ module _ (p : Program) (setting : Setting) (frame : code_world.Frame) (own local
   tests = map-Stmt Stmt Arm Bool Bool (stmt_is_well_formed p own locals sizes void) (arm_is_well_formed p own locals sizes void)
 
   -- the statement is counted, and does this
-  counts : (j : Jumps) (k : ℕ) (s : Stmt) (m : Evaluation Flow) (xs : List Stm) → flow_of p (context k) s ≡ counted 1 m → flows.FlowCorrect p setting frame own locals sizes room void (out_of void j) 100 (at k) m xs → FlowCorrect j k (flow_of p (context k) s) xs
-  counts j k s m xs e h = subst (λ (d : Evaluation Flow). FlowCorrect j k d xs) (sym e) (flows.counted_once p setting frame own locals sizes room void (out_of void j) (at k) m xs h)
+  counts : (j : Jumps) (k : ℕ) (s : Stmt) (m : Evaluation Flow) (xs : List Stm) → flow_of p (context k) s ≡ counted 1 m → flows.FlowCorrect p setting frame began own locals sizes room void (out_of void j) 100 (at k) m xs → FlowCorrect j k (flow_of p (context k) s) xs
+  counts j k s m xs e h = subst (λ (d : Evaluation Flow). FlowCorrect j k d xs) (sym e) (flows.counted_once p setting frame began own locals sizes room void (out_of void j) (at k) m xs h)
 
-  raise : (j : Jumps) (credit credit' : ℕ) (b : Bound) (m : Evaluation Flow) (xs : List Stm) → credit ≤ credit' → flows.FlowCorrect p setting frame own locals sizes room void (out_of void j) credit b m xs → flows.FlowCorrect p setting frame own locals sizes room void (out_of void j) credit' b m xs
-  raise j credit credit' b m xs le h f w s sh = flows.more p setting frame own locals sizes room void (out_of void j) credit credit' (flows.code p setting frame own locals sizes room void xs b s) (m f w) le (h f w s sh)
+  raise : (j : Jumps) (credit credit' : ℕ) (b : Bound) (m : Evaluation Flow) (xs : List Stm) → credit ≤ credit' → flows.FlowCorrect p setting frame began own locals sizes room void (out_of void j) credit b m xs → flows.FlowCorrect p setting frame began own locals sizes room void (out_of void j) credit' b m xs
+  raise j credit credit' b m xs le h f w s sh = flows.more p setting frame began own locals sizes room void (out_of void j) credit credit' (flows.code p setting frame began own locals sizes room void xs b s) (m f w) le (h f w s sh)
 
   arms_correct : (arms : List Arm) → Each A arms → all_of (map (arm_is_well_formed p own locals sizes void) arms) ≡ true → (j : Jumps) → arms_top locals (map (lower_arm locals sizes void) arms) j ≤ room → (k : ℕ) → k ≤ limit →
-      switches.ArmsCorrect p setting frame own locals sizes room void (at k) j (map (arm_of p (context k)) arms) (map (lower_arm locals sizes void) arms)
+      switches.ArmsCorrect p setting frame began own locals sizes room void (at k) j (map (arm_of p (context k)) arms) (map (lower_arm locals sizes void) arms)
   arms_correct [] h b j le k up = tt
   arms_correct (a ∷ arms) h b j le k up =
       let bs = split (arm_is_well_formed p own locals sizes void a) (all_of (map (arm_is_well_formed p own locals sizes void) arms)) b in
@@ -185,7 +186,7 @@ module _ (p : Program) (setting : Setting) (frame : code_world.Frame) (own local
       let b1 = split (nat_le (length values) (words_of_size (sizes l))) (all && (itself || others)) b0.1 in
       let b2 = split all (itself || others) b1.1 in
       counts j k (roll-Stmt x) (clear_local l itself (map (value_of p (context k)) values)) (lower_stmt_layer locals sizes void (blocks x) j).code (flow_of-Clear p (context k) (roll-Stmt x) l values (out-roll-Stmt x))
-      (clears.clear_correct p setting frame own locals sizes room void j (at k) l itself (map (value_of p (context k)) values) (map lower_expr values) (ltb-true l locals b0.0) fits
+      (clears.clear_correct p setting frame began own locals sizes room void j (at k) l itself (map (value_of p (context k)) values) (map lower_expr values) (ltb-true l locals b0.0) fits
       (length-map values (value_of p (context k)) ∙ sym (length-map values lower_expr))
       (subst (λ n. n ≤ words_of_size (sizes l)) (sym (length-map values lower_expr)) (leb-true (length values) (words_of_size (sizes l)) b1.0)) le
       (values_at none (λ l. true) (λ l q. refl) k up values b2.0)
@@ -197,14 +198,14 @@ module _ (p : Program) (setting : Setting) (frame : code_world.Frame) (own local
   layer (stmt.Express e) h b j le k up =
       let x : Stmt-F Stmt Arm = stmt.Express e in
       counts j k (roll-Stmt x) (bind (value_of p (context k) e) (λ v. give Goes)) (lower_stmt_layer locals sizes void (blocks x) j).code (flow_of-Express p (context k) (roll-Stmt x) e (out-roll-Stmt x))
-      (flows.effect p setting frame own locals sizes room void (out_of void j) Goes (at k) 100 0 (value_of p (context k) e) (lower_expr e) (λ s. refl) (λ q. refl) (omega arith) le (value k up e b))
+      (flows.effect p setting frame began own locals sizes room void (out_of void j) Goes (at k) 100 0 (value_of p (context k) e) (lower_expr e) (λ s. refl) (λ q. refl) (omega arith) le (value k up e b))
   layer (stmt.If e yes_part no_part) h b j le k up =
       let x : Stmt-F Stmt Arm = stmt.If e yes_part no_part in
       let bs = split (named p own locals sizes void e) (formed yes_part && formed no_part) b in
       let cs = split (formed yes_part) (formed no_part) bs.1 in
       counts j k (roll-Stmt x) (bind (value_of p (context k) e) (λ v. unless_zero v (flow_of_all p (context k) no_part) (flow_of_all p (context k) yes_part))) (lower_stmt_layer locals sizes void (blocks x) j).code (flow_of-If p (context k) (roll-Stmt x) e yes_part no_part (out-roll-Stmt x))
       (raise j (0 + 0) 100 (at k) (bind (value_of p (context k) e) (λ v. unless_zero v (flow_of_all p (context k) no_part) (flow_of_all p (context k) yes_part))) (lower_stmt_layer locals sizes void (blocks x) j).code (omega arith)
-      (flows.tested p setting frame own locals sizes room void (out_of void j) (at k) 0 0 (value_of p (context k) e) (flow_of_all p (context k) yes_part) (flow_of_all p (context k) no_part) (lower_expr e) (lowered yes_part j).code (lowered no_part j).code (omega (arith, le)) (value k up e bs.0)
+      (flows.tested p setting frame began own locals sizes room void (out_of void j) (at k) 0 0 (value_of p (context k) e) (flow_of_all p (context k) yes_part) (flow_of_all p (context k) no_part) (lower_expr e) (lowered yes_part j).code (lowered no_part j).code (omega (arith, le)) (value k up e bs.0)
       (all_correct yes_part h.0 cs.0 j (omega (arith, le)) k up) (all_correct no_part h.1 cs.1 j (omega (arith, le)) k up)))
   layer (stmt.While e body) h b j le k up =
       let x : Stmt-F Stmt Arm = stmt.While e body in
@@ -215,8 +216,8 @@ module _ (p : Program) (setting : Setting) (frame : code_world.Frame) (own local
       let rest : ℕ → Evaluation Flow = λ i. bind (me i) (λ v. unless_zero v (give Goes) (bind (mb i) (λ flow. after_body flow (loop_of i (roll-Stmt x))))) in
       counts j k (roll-Stmt x) (rest k) (lower_stmt_layer locals sizes void (blocks x) j).code (flow_of-While p (context k) (roll-Stmt x) e body (out-roll-Stmt x))
       (looped j (roll-Stmt x) turn (λ i. while_turn (me i) (mb i)) rest
-      (λ i lim f w s sh. flows.more p setting frame own locals sizes room void (turn_out void j) (8 + 0) 92 (flows.code p setting frame own locals sizes room void turn (at i) s) (while_turn (me i) (mb i) f w) (omega arith)
-      (loops.while_correct p setting frame own locals sizes room void j (at i) 0 (me i) (mb i) (lower_expr e) (lowered body (in_body j)).code (omega (arith, le)) (value i lim e bs.0) (all_correct body h bs.1 (in_body j) (omega (arith, le)) i lim) f w s sh))
+      (λ i lim f w s sh. flows.more p setting frame began own locals sizes room void (turn_out void j) (8 + 0) 92 (flows.code p setting frame began own locals sizes room void turn (at i) s) (while_turn (me i) (mb i) f w) (omega arith)
+      (loops.while_correct p setting frame began own locals sizes room void j (at i) 0 (me i) (mb i) (lower_expr e) (lowered body (in_body j)).code (omega (arith, le)) (value i lim e bs.0) (all_correct body h bs.1 (in_body j) (omega (arith, le)) i lim) f w s sh))
       (λ i f w. sym (while_same (me i) (mb i) (loop_of i (roll-Stmt x)) f w))
       (λ i f w. ap (λ (m : Evaluation Flow). m f w) (flow_of-While p (context i) (roll-Stmt x) e body (out-roll-Stmt x))) k up)
   layer (stmt.Do body e) h b j le k up =
@@ -227,7 +228,7 @@ module _ (p : Program) (setting : Setting) (frame : code_world.Frame) (own local
       let rest : ℕ → Evaluation Flow = λ i. bind (mb i) (λ flow. after_body flow (bind (me i) (λ v. unless_zero v (give Goes) (loop_of i (roll-Stmt x))))) in
       counts j k (roll-Stmt x) (rest k) (lower_stmt_layer locals sizes void (blocks x) j).code (flow_of-Do p (context k) (roll-Stmt x) body e (out-roll-Stmt x))
       (looped j (roll-Stmt x) (enclosed (lowered body (in_body j)).code ∷ test_and_body locals (lower_expr e) []) (λ i. do_turn (mb i) (me i)) rest
-      (λ i lim. loops.do_correct p setting frame own locals sizes room void j (at i) (me i) (mb i) (lower_expr e) (lowered body (in_body j)).code (omega (arith, le)) (value i lim e bs.0) (all_correct body h bs.1 (in_body j) (omega (arith, le)) i lim))
+      (λ i lim. loops.do_correct p setting frame began own locals sizes room void j (at i) (me i) (mb i) (lower_expr e) (lowered body (in_body j)).code (omega (arith, le)) (value i lim e bs.0) (all_correct body h bs.1 (in_body j) (omega (arith, le)) i lim))
       (λ i f w. sym (do_same (mb i) (me i) (loop_of i (roll-Stmt x)) f w))
       (λ i f w. ap (λ (m : Evaluation Flow). m f w) (flow_of-Do p (context i) (roll-Stmt x) body e (out-roll-Stmt x))) k up)
   layer (stmt.For first test step body) h b j le k up =
@@ -243,9 +244,9 @@ module _ (p : Program) (setting : Setting) (frame : code_world.Frame) (own local
       let rest : ℕ → Evaluation Flow = λ i. bind (me i) (λ v. unless_zero v (give Goes) (bind (mb i) (λ flow. after_body flow (bind (ms i) (λ _. loop_of i (roll-Stmt again)))))) in
       counts j k (roll-Stmt x) (bind (flow_of_all p (context k) first) (λ begun. then_on begun (rest k))) (lower_stmt_layer locals sizes void (blocks x) j).code (flow_of-For p (context k) (roll-Stmt x) first test step body (out-roll-Stmt x))
       (raise j (100 + 0) 100 (at k) (bind (flow_of_all p (context k) first) (λ begun. then_on begun (rest k))) (lower_stmt_layer locals sizes void (blocks x) j).code (omega arith)
-      (flows.in_turn p setting frame own locals sizes room void j (at k) 0 100 (flow_of_all p (context k) first) (rest k) (lowered first j).code (repeat turn ∷ []) (all_correct first h.0 b0.0 j (omega (arith, le)) k up)
+      (flows.in_turn p setting frame began own locals sizes room void j (at k) 0 100 (flow_of_all p (context k) first) (rest k) (lowered first j).code (repeat turn ∷ []) (all_correct first h.0 b0.0 j (omega (arith, le)) k up)
       (looped j (roll-Stmt again) turn (λ i. for_turn (me i) (mb i) (ms i)) rest
-      (λ i lim. loops.for_correct p setting frame own locals sizes room void j (at i) (me i) (ms i) (mb i) (lower_optional 1 test) (lower_optional 0 step) (lowered body (in_body j)).code (omega (arith, le)) (omega (arith, le)) (optional i lim 1 test b1.0) (optional i lim 0 step b2.0) (all_correct body h.1 b2.1 (in_body j) (omega (arith, le)) i lim))
+      (λ i lim. loops.for_correct p setting frame began own locals sizes room void j (at i) (me i) (ms i) (mb i) (lower_optional 1 test) (lower_optional 0 step) (lowered body (in_body j)).code (omega (arith, le)) (omega (arith, le)) (optional i lim 1 test b1.0) (optional i lim 0 step b2.0) (all_correct body h.1 b2.1 (in_body j) (omega (arith, le)) i lim))
       (λ i f w. sym (for_same (me i) (mb i) (ms i) (loop_of i (roll-Stmt again)) f w))
       (λ i f w. ap (λ (m : Evaluation Flow). m f w) (flow_of-For p (context i) (roll-Stmt again) [] test step body (out-roll-Stmt again)) ∙ counted_given (rest i) f w) k up)))
     where
@@ -255,23 +256,23 @@ module _ (p : Program) (setting : Setting) (frame : code_world.Frame) (own local
       let x : Stmt-F Stmt Arm = stmt.Switch e arms in
       let bs = split (named p own locals sizes void e) (all_of (map (arm_is_well_formed p own locals sizes void) arms)) b in
       counts j k (roll-Stmt x) (bind (value_of p (context k) e) (λ v. switch_flow v (map (arm_of p (context k)) arms))) (lower_stmt_layer locals sizes void (blocks x) j).code (flow_of-Switch p (context k) (roll-Stmt x) e arms (out-roll-Stmt x))
-      (switches.switch_correct p setting frame own locals sizes room void j (at k) (value_of p (context k) e) (lower_expr e) (map (arm_of p (context k)) arms) (map (lower_arm locals sizes void) arms) (omega (arith, le)) (omega (arith, le)) (value k up e bs.0) (arms_correct arms h bs.1 j (omega (arith, le)) k up))
+      (switches.switch_correct p setting frame began own locals sizes room void j (at k) (value_of p (context k) e) (lower_expr e) (map (arm_of p (context k)) arms) (map (lower_arm locals sizes void) arms) (omega (arith, le)) (omega (arith, le)) (value k up e bs.0) (arms_correct arms h bs.1 j (omega (arith, le)) k up))
   layer stmt.Break h b j le k up =
       let x : Stmt-F Stmt Arm = stmt.Break in
-      counts j k (roll-Stmt x) (give Breaks) (lower_stmt_layer locals sizes void (blocks x) j).code (flow_of-Break p (context k) (roll-Stmt x) (out-roll-Stmt x)) (flows.leaves p setting frame own locals sizes room void j (at k) j.leave Breaks (λ s. refl) refl)
+      counts j k (roll-Stmt x) (give Breaks) (lower_stmt_layer locals sizes void (blocks x) j).code (flow_of-Break p (context k) (roll-Stmt x) (out-roll-Stmt x)) (flows.leaves p setting frame began own locals sizes room void j (at k) j.leave Breaks (λ s. refl) refl)
   layer stmt.Continue h b j le k up =
       let x : Stmt-F Stmt Arm = stmt.Continue in
-      counts j k (roll-Stmt x) (give Continues) (lower_stmt_layer locals sizes void (blocks x) j).code (flow_of-Continue p (context k) (roll-Stmt x) (out-roll-Stmt x)) (flows.leaves p setting frame own locals sizes room void j (at k) j.again Continues (λ s. refl) refl)
+      counts j k (roll-Stmt x) (give Continues) (lower_stmt_layer locals sizes void (blocks x) j).code (flow_of-Continue p (context k) (roll-Stmt x) (out-roll-Stmt x)) (flows.leaves p setting frame began own locals sizes room void j (at k) j.again Continues (λ s. refl) refl)
   layer (stmt.Return None) h b j le k up =
       let x : Stmt-F Stmt Arm = stmt.Return None in
       counts j k (roll-Stmt x) (bind (give 0) (λ v. give (Returns v))) (lower_stmt_layer locals sizes void (blocks x) j).code (flow_of-Return p (context k) (roll-Stmt x) None (out-roll-Stmt x))
-      (flows.comes_to p setting frame own locals sizes room void (out_of void j) 100 (at k) (give (Returns 0)) (bind (give 0) (λ v. give (Returns v))) (lower_stmt_layer locals sizes void (blocks x) j).code (λ f w. sym (given 0 (λ v. give (Returns v)) f w))
-      (flows.leaves p setting frame own locals sizes room void j (at k) j.around (Returns 0) (λ s. ap (λ z. cond z (Leaves j.around s) (Ends (Returned (Some 0) s.world))) b) refl))
+      (flows.comes_to p setting frame began own locals sizes room void (out_of void j) 100 (at k) (give (Returns 0)) (bind (give 0) (λ v. give (Returns v))) (lower_stmt_layer locals sizes void (blocks x) j).code (λ f w. sym (given 0 (λ v. give (Returns v)) f w))
+      (flows.leaves p setting frame began own locals sizes room void j (at k) j.around (Returns 0) (λ s. ap (λ z. cond z (Leaves j.around s) (Ends (Returned (Some 0) s.world))) b) refl))
   layer (stmt.Return (Some e)) h b j le k up =
       let x : Stmt-F Stmt Arm = stmt.Return (Some e) in
       let bs = split (not void) (named p own locals sizes void e) b in
       counts j k (roll-Stmt x) (bind (value_of p (context k) e) (λ v. give (Returns v))) (lower_stmt_layer locals sizes void (blocks x) j).code (flow_of-Return p (context k) (roll-Stmt x) (Some e) (out-roll-Stmt x))
-      (flows.returns p setting frame own locals sizes room void j (at k) (value_of p (context k) e) (lower_expr e) (denied void bs.0) le (value k up e bs.1))
+      (flows.returns p setting frame began own locals sizes room void j (at k) (value_of p (context k) e) (lower_expr e) (denied void bs.0) le (value k up e bs.1))
 
   stmt_step : (x : Stmt-F Stmt Arm) → Children x → S (roll-Stmt x)
   stmt_step x h b j =

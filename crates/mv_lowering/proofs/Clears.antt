@@ -8,6 +8,7 @@ use Rattle.mv_ir.specs.declared.stm.Stm.{Stm}
 use Rattle.mv_ir.specs.declared.stm.Stm.TheOpen as stm
 use Rattle.mv_ir.specs.declared.stm.Array.TheVariants as array
 use Rattle.mv_ast.specs.declared.program.Program.{Program}
+use Rattle.mv_ast.specs.declared.world.Binding.{Binding}
 use Rattle.mv_ast.specs.Counts.{words_of_size}
 use Rattle.mv_ast.specs.Plans.{word_at, with_word}
 use Rattle.mv_ast.specs.Worlds.{World, Outcome, Came, Stopped, after, and_then, bind, give}
@@ -78,30 +79,31 @@ same_lists [] (y ∷ ys) e h = absurd (omega (arith, e))
 same_lists (x ∷ xs) [] e h = absurd (omega (arith, e))
 same_lists (x ∷ xs) (y ∷ ys) e h = ap (λ z. z ∷ xs) (h 0 (omega arith)) ∙ ap (λ l. y ∷ l) (same_lists xs ys (omega (arith, e)) (λ i lt. h (suc i) (omega (arith, lt))))
 
-module _ (p : Program) (setting : Setting) (frame : code_world.Frame) (own locals : ℕ) (sizes : ℕ → Option ℕ) (room : ℕ) (void : Bool) where
+module _ (p : Program) (setting : Setting) (frame : code_world.Frame) (began : List Binding) (own locals : ℕ) (sizes : ℕ → Option ℕ) (room : ℕ) (void : Bool) where
   abbrev FlowShown : (Flow → State → ir.Outcome) → ℕ → Run → Outcome Frame Flow → Type 0
-  FlowShown = flows.FlowShown p setting frame own locals sizes room void
+  FlowShown = flows.FlowShown p setting frame began own locals sizes room void
 
   abbrev ShowsAt : Held → Frame → World → State → Type 0
-  ShowsAt held = c.Shows p setting frame own locals sizes held locals (λ k. 0) room []
+  ShowsAt held = c.Shows p setting frame began own locals sizes held locals (λ k. 0) room []
 
   abbrev Shows : Frame → World → State → Type 0
-  Shows = flows.Shows p setting frame own locals sizes room void
+  Shows = flows.Shows p setting frame began own locals sizes room void
 
   abbrev CorrectAt : Held → Bound → Evaluation ℕ → Lowering → Type 0
-  CorrectAt held b = c.Correct p setting frame own locals sizes held locals (λ k. 0) room b
+  CorrectAt held b = c.Correct p setting frame began own locals sizes held locals (λ k. 0) room b
 
   abbrev code : List Stm → Bound → State → Run
-  code = flows.code p setting frame own locals sizes room void
+  code = flows.code p setting frame began own locals sizes room void
 
   joined : (xs ys : List Stm) (b : Bound) (s : State) → code (xs ++ ys) b s ≡ then_do (code xs b s) (code ys b)
   joined xs ys b s = ap (λ l. ir.in_order l b s) (map_append (meaning setting frame) xs ys) ∙ in_order_append (map (meaning setting frame) xs) (map (meaning setting frame) ys) b s
 
-  rebound : (held : Held) (b b' : Bound) (f : Frame) (w : World) (s : State) → c.Shows p setting frame own locals sizes held locals (λ k. 0) room b f w s → c.Shows p setting frame own locals sizes held locals (λ k. 0) room b' f w s
+  rebound : (held : Held) (b b' : Bound) (f : Frame) (w : World) (s : State) → c.Shows p setting frame began own locals sizes held locals (λ k. 0) room b f w s → c.Shows p setting frame began own locals sizes held locals (λ k. 0) room b' f w s
   rebound held b b' f w s h = record {
     world = h.world;
     depth = h.depth;
     live = h.live;
+    pinned = h.pinned;
     function = h.function;
     switches = h.switches;
     each = h.each;
@@ -125,6 +127,7 @@ module _ (p : Program) (setting : Setting) (frame : code_world.Frame) (own local
     world = h.world;
     depth = h.depth;
     live = h.live;
+    pinned = h.pinned;
     function = h.function;
     switches = h.switches;
     each = λ k lk sc. let ne = apart k sc.1 in
@@ -175,6 +178,7 @@ module _ (p : Program) (setting : Setting) (frame : code_world.Frame) (own local
     world = h.world;
     depth = h.depth;
     live = h.live;
+    pinned = h.pinned;
     function = h.function;
     switches = h.switches;
     each = λ k lk sc. let ne = apart k sc.1 in
@@ -236,6 +240,7 @@ module _ (p : Program) (setting : Setting) (frame : code_world.Frame) (own local
     world = h.world;
     depth = h.depth;
     live = h.live;
+    pinned = h.pinned;
     function = h.function;
     switches = h.switches;
     each = λ k lk sc. by_each k lk sc.0 (cases_eq k l);
@@ -267,6 +272,7 @@ module _ (p : Program) (setting : Setting) (frame : code_world.Frame) (own local
     world = h.world;
     depth = h.depth;
     live = h.live;
+    pinned = h.pinned;
     function = h.function;
     switches = h.switches;
     each = λ k lk q. sym (word_is (with_word f.locals l 0 v) k 0 ∙ ap (λ (xs : List (List ℕ)). slice_index (slice_index_or xs k []) 0) (with_word_is f.locals l 0 v) ∙ by_each k lk q.0 (cases_eq k l));
@@ -314,6 +320,7 @@ module _ (p : Program) (setting : Setting) (frame : code_world.Frame) (own local
     world = h.world;
     depth = h.depth;
     live = h.live;
+    pinned = h.pinned;
     function = h.function;
     switches = h.switches;
     each = λ k lk sc. h.each k lk (sc.0, only_there l (ws, gs) k (apart k sc.1));
@@ -356,15 +363,15 @@ module _ (p : Program) (setting : Setting) (frame : code_world.Frame) (own local
 
   -- an expression and then the rest, while a local is being declared
   behind_at : (held : Held) (out : Flow → State → ir.Outcome) (b : Bound) (credit : ℕ) (s : State) (xs rest : List Stm) (t : Tree) (o : Outcome Frame ℕ) (next : ℕ → Evaluation Flow) →
-      c.Shown p setting frame own locals sizes held locals (λ k. 0) room b 11 0 locals s xs t o →
-      ((v : ℕ) (f : Frame) (w : World) (work : ℕ) (r : c.Reached p setting frame own locals sizes held locals (λ k. 0) room b 11 0 locals s xs t v f w work) → FlowShown out (credit + (3 * nodes t + 11)) (code rest b r.state) (next v f w)) →
+      c.Shown p setting frame began own locals sizes held locals (λ k. 0) room b 11 0 locals s xs t o →
+      ((v : ℕ) (f : Frame) (w : World) (work : ℕ) (r : c.Reached p setting frame began own locals sizes held locals (λ k. 0) room b 11 0 locals s xs t v f w work) → FlowShown out (credit + (3 * nodes t + 11)) (code rest b r.state) (next v f w)) →
       FlowShown out (credit + 0) (code (xs ++ rest) b s) (and_then o next)
   behind_at held out b credit s xs rest t (Came v f w work) next h k =
-      flows.spent p setting frame own locals sizes room void out credit 0 h.cost work (code rest b h.state) (code (xs ++ rest) b s) (next v f w)
+      flows.spent p setting frame began own locals sizes room void out credit 0 h.cost work (code rest b h.state) (code (xs ++ rest) b s) (next v f w)
       (joined xs rest b s ∙ ap (λ r. then_do r (code rest b)) h.runs) (3 * nodes t + 11) (omega (arith, h.paid)) (k v f w work h)
   behind_at held out b credit s xs rest t (Stopped why w work) next h k = record {
     cost = h.cost;
-    runs = λ ne. run.runs_stop p setting frame own locals sizes held locals (λ k. 0) room b xs rest s (c.end_of why (c.seen w)) h.cost (h.runs ne);
+    runs = λ ne. run.runs_stop p setting frame began own locals sizes held locals (λ k. 0) room b xs rest s (c.end_of why (c.seen w)) h.cost (h.runs ne);
     paid = omega (arith, h.paid);
   }
 
@@ -376,31 +383,31 @@ module _ (p : Program) (setting : Setting) (frame : code_world.Frame) (own local
 
   -- one store and then the rest
   one_store : (j : Jumps) (b : Bound) (l i v : ℕ) (size : Option ℕ) (t : Tree) (rest : List Stm) (f : Frame) (w : World) (s : State) (next : Evaluation Flow) → sizes l ≡ size → l < locals → locals ≤ room → i < words_of_size size →
-      Shows f w s → c.val p setting frame own locals sizes none locals (λ k. 0) room b t s ≡ v →
+      Shows f w s → c.val p setting frame began own locals sizes none locals (λ k. 0) room b t s ≡ v →
       ((f1 : Frame) (s1 : State) → Shows f1 w s1 → f1 ≡ record f { locals = with_word f.locals l i v } → FlowShown (out_of void j) 0 (code rest b s1) (next f1 w)) →
       FlowShown (out_of void j) (0 + (3 * nodes t + 11)) (code (store_word size l i t ∷ rest) b s) (bind (store_lvalue (lvalue.Local l i) v) (λ _. next) f w)
   one_store j b l i v None t rest f w s next sz lt le inside h e k =
-      let x = c.val p setting frame own locals sizes none locals (λ k. 0) room b t s in
+      let x = c.val p setting frame began own locals sizes none locals (λ k. 0) room b t s in
       let f1 : Frame = record f { locals = with_word f.locals l i v } in
       let zero_is : i ≡ 0 = omega (arith, inside) in
-      let sh : Shows f1 w (with_temp s l x) = subst (λ n. Shows (record f { locals = with_word f.locals l n v }) w (with_temp s l x)) (sym zero_is) (forms.shows_local p setting frame own locals sizes none locals (λ k. 0) room [] l v x f w s lt le (sz, refl) e h) in
+      let sh : Shows f1 w (with_temp s l x) = subst (λ n. Shows (record f { locals = with_word f.locals l n v }) w (with_temp s l x)) (sym zero_is) (forms.shows_local p setting frame began own locals sizes none locals (λ k. 0) room [] l v x f w s lt le (sz, refl) e h) in
       subst (λ (o : Outcome Frame Flow). FlowShown (out_of void j) (0 + (3 * nodes t + 11)) (code (set l t ∷ rest) b s) o) (sym (after_zero (next f1 w)))
-      (flows.more p setting frame own locals sizes room void (out_of void j) (0 + (8 + 3 * nodes t)) (0 + (3 * nodes t + 11)) (code (set l t ∷ rest) b s) (next f1 w) (omega arith)
-      (flows.priced p setting frame own locals sizes room void (out_of void j) 0 (8 + 3 * nodes t) (code rest b (with_temp s l x)) (code (set l t ∷ rest) b s) (next f1 w)
-      (joined (set l t ∷ []) rest b s ∙ ap (λ q. then_do q (code rest b)) (run.runs_set p setting frame own locals sizes none locals (λ k. 0) room b l t s)) (k f1 (with_temp s l x) sh refl)))
+      (flows.more p setting frame began own locals sizes room void (out_of void j) (0 + (8 + 3 * nodes t)) (0 + (3 * nodes t + 11)) (code (set l t ∷ rest) b s) (next f1 w) (omega arith)
+      (flows.priced p setting frame began own locals sizes room void (out_of void j) 0 (8 + 3 * nodes t) (code rest b (with_temp s l x)) (code (set l t ∷ rest) b s) (next f1 w)
+      (joined (set l t ∷ []) rest b s ∙ ap (λ q. then_do q (code rest b)) (run.runs_set p setting frame began own locals sizes none locals (λ k. 0) room b l t s)) (k f1 (with_temp s l x) sh refl)))
   one_store j b l i v (Some n) t rest f w s next sz lt le inside h e k =
       let isa : (l < locals) × IsArrayLocal sizes none l = (lt, ((λ q. some_none (sym sz ∙ q)), refl)) in
       let s1 = with_elements (array.Local l) s (slice_set (elements (array.Local l) s) i v) in
       let f1 : Frame = record f { locals = with_word f.locals l i v } in
-      let hb = flows.at_bound p setting frame own locals sizes room void b f w s h in
+      let hb = flows.at_bound p setting frame began own locals sizes room void b f w s h in
       let cost = 8 + 3 * (nodes (number i) + nodes t) in
       subst (λ (o : Outcome Frame Flow). FlowShown (out_of void j) (0 + (3 * nodes t + 11)) (code (write (array.Local l) (number i) t ∷ rest) b s) o) (sym (after_zero (next f1 w)))
-      (flows.more p setting frame own locals sizes room void (out_of void j) (0 + cost) (0 + (3 * nodes t + 11)) (code (write (array.Local l) (number i) t ∷ rest) b s) (next f1 w) (omega (arith, nodes_number i))
-      (flows.priced p setting frame own locals sizes room void (out_of void j) 0 cost (code rest b s1) (code (write (array.Local l) (number i) t ∷ rest) b s) (next f1 w)
+      (flows.more p setting frame began own locals sizes room void (out_of void j) (0 + cost) (0 + (3 * nodes t + 11)) (code (write (array.Local l) (number i) t ∷ rest) b s) (next f1 w) (omega (arith, nodes_number i))
+      (flows.priced p setting frame began own locals sizes room void (out_of void j) 0 cost (code rest b s1) (code (write (array.Local l) (number i) t ∷ rest) b s) (next f1 w)
       (joined (write (array.Local l) (number i) t ∷ []) rest b s ∙ ap (λ q. then_do q (code rest b))
-      (elements_proofs.runs_written p setting frame own locals sizes none locals (λ k. 0) room b (array.Local l) (number i) t i v f w s isa hb (run.val_number p setting frame own locals sizes none locals (λ k. 0) room b i s) e
+      (elements_proofs.runs_written p setting frame began own locals sizes none locals (λ k. 0) room b (array.Local l) (number i) t i v f w s isa hb (run.val_number p setting frame began own locals sizes none locals (λ k. 0) room b i s) e
       (subst (λ z. i < words_of_size z) (sym sz) inside)))
-      (k f1 s1 (flows.at_no_bound p setting frame own locals sizes room void b f1 w s1 (elements_proofs.shows_array p setting frame own locals sizes none locals (λ k. 0) room b l i v f w s isa hb)) refl)))
+      (k f1 s1 (flows.at_no_bound p setting frame began own locals sizes room void b f1 w s1 (elements_proofs.shows_array p setting frame began own locals sizes none locals (λ k. 0) room b l i v f w s isa hb)) refl)))
     where
       some_none : Some n ≡ None → ⊥
       some_none q = subst Is q tt
@@ -417,22 +424,22 @@ module _ (p : Program) (setting : Setting) (frame : code_world.Frame) (own local
   stores j b l i (m ∷ ms) (x ∷ ls) f w s lt le inside fits hs h =
       let e = x locals in
       let rest = store_values locals (sizes l) l (suc i) ls in
-      flows.behind p setting frame own locals sizes room void (out_of void j) b 0 0 locals s e.code (store_word (sizes l) l i e.tree ∷ rest) e.tree (m f w) (λ v. bind (store_lvalue (lvalue.Local l i) v) (λ _. put_values l (suc i) ms)) (hs.0 locals f w s (omega arith) (omega (arith, fits)) (flows.at_bound p setting frame own locals sizes room void b f w s h))
+      flows.behind p setting frame began own locals sizes room void (out_of void j) b 0 0 locals s e.code (store_word (sizes l) l i e.tree ∷ rest) e.tree (m f w) (λ v. bind (store_lvalue (lvalue.Local l i) v) (λ _. put_values l (suc i) ms)) (hs.0 locals f w s (omega arith) (omega (arith, fits)) (flows.at_bound p setting frame began own locals sizes room void b f w s h))
       (λ v f1 w1 work r.
-      one_store j b l i v (sizes l) e.tree rest f1 w1 r.state (put_values l (suc i) ms) refl lt le (omega (arith, inside)) (flows.at_no_bound p setting frame own locals sizes room void b f1 w1 r.state r.shows) r.value
+      one_store j b l i v (sizes l) e.tree rest f1 w1 r.state (put_values l (suc i) ms) refl lt le (omega (arith, inside)) (flows.at_no_bound p setting frame began own locals sizes room void b f1 w1 r.state r.shows) r.value
       (λ f2 s2 h2 same. stores j b l (suc i) ms ls f2 w1 s2 lt le (omega (arith, inside)) (omega (arith, fits)) hs.1 h2))
 
   -- all words become 0
   clears : (j : Jumps) (b : Bound) (l : ℕ) (size : Option ℕ) (f : Frame) (w : World) (s : State) → sizes l ≡ size → l < locals → locals ≤ room → Shows f w s →
       FlowShown (out_of void j) (8 + 8 * words_of_size size) (code (clear_words size l ∷ []) b s) (give Goes (record f { locals = slice_set f.locals l (replicate (words_of_size size) 0) }) w)
   clears j b l None f w s sz lt le h =
-      let x = c.val p setting frame own locals sizes none locals (λ k. 0) room b (number 0) s in
+      let x = c.val p setting frame began own locals sizes none locals (λ k. 0) room b (number 0) s in
       record {
         state = with_temp s l x;
         cost = 8 + 3 * nodes (number 0);
-        runs = run.runs_set p setting frame own locals sizes none locals (λ k. 0) room b l (number 0) s;
+        runs = run.runs_set p setting frame began own locals sizes none locals (λ k. 0) room b l (number 0) s;
         shows = subst (λ (ls : List (List ℕ)). Shows (record f { locals = ls }) w (with_temp s l x)) (with_word_is f.locals l 0 0 ∙ ap (λ ws. slice_set f.locals l ws) (one_word (slice_index_or f.locals l []) 0 (h.words l lt ∙ ap words_of_size sz)))
-            (forms.shows_local p setting frame own locals sizes none locals (λ k. 0) room [] l 0 x f w s lt le (sz, refl) (run.val_number p setting frame own locals sizes none locals (λ k. 0) room b 0 s) h);
+            (forms.shows_local p setting frame began own locals sizes none locals (λ k. 0) room [] l 0 x f w s lt le (sz, refl) (run.val_number p setting frame began own locals sizes none locals (λ k. 0) room b 0 s) h);
         nothing = λ q. refl;
         paid = omega (arith, nodes_number 0);
       }
@@ -503,14 +510,14 @@ module _ (p : Program) (setting : Setting) (frame : code_world.Frame) (own local
   all_of_it n ws gs h = same_lists ws gs (h.source_long ∙ sym h.code_long) (λ i lt. h.before i (subst (λ m. i < m) h.source_long lt))
 
   -- a write of a word, where the code's words of the local are known
-  writes : (b : Bound) (l i v n : ℕ) (gs : List ℕ) (t : Tree) (s : State) → slice_index_or s.arrays l [] ≡ gs → length gs ≡ n → i < n → c.val p setting frame own locals sizes none locals (λ k. 0) room b t s ≡ v →
+  writes : (b : Bound) (l i v n : ℕ) (gs : List ℕ) (t : Tree) (s : State) → slice_index_or s.arrays l [] ≡ gs → length gs ≡ n → i < n → c.val p setting frame began own locals sizes none locals (λ k. 0) room b t s ≡ v →
       code (write (array.Local l) (number i) t ∷ []) b s ≡ ran (8 + 3 * (nodes (number i) + nodes t)) (Next (with_elements (array.Local l) s (slice_set gs i v)))
   writes b l i v n gs t s eg long lt ev =
-      let V : Tree → State → ℕ = c.val p setting frame own locals sizes none locals (λ k. 0) room b in
+      let V : Tree → State → ℕ = c.val p setting frame began own locals sizes none locals (λ k. 0) room b in
       let cost = 8 + 3 * (nodes (number i) + nodes t) in
-      run.runs_write p setting frame own locals sizes none locals (λ k. 0) room b (array.Local l) (number i) t s ∙
+      run.runs_write p setting frame began own locals sizes none locals (λ k. 0) room b (array.Local l) (number i) t s ∙
       ap (λ (xs : List ℕ). ran cost (cond (ltb (V (number i) s) (length xs)) (Next (with_elements (array.Local l) s (slice_set xs (V (number i) s) (V t s)))) (traps 2 s))) eg ∙
-      ap (λ k. ran cost (cond (ltb k (length gs)) (Next (with_elements (array.Local l) s (slice_set gs k (V t s)))) (traps 2 s))) (run.val_number p setting frame own locals sizes none locals (λ k. 0) room b i s) ∙
+      ap (λ k. ran cost (cond (ltb k (length gs)) (Next (with_elements (array.Local l) s (slice_set gs k (V t s)))) (traps 2 s))) (run.val_number p setting frame began own locals sizes none locals (λ k. 0) room b i s) ∙
       ap (λ z. ran cost (cond z (Next (with_elements (array.Local l) s (slice_set gs i (V t s)))) (traps 2 s))) (lt-ltb i (length gs) (subst (λ m. i < m) (sym long) lt)) ∙
       ap (λ k. ran cost (Next (with_elements (array.Local l) s (slice_set gs i k)))) ev
 
@@ -524,10 +531,10 @@ module _ (p : Program) (setting : Setting) (frame : code_world.Frame) (own local
       let rest = store_zeros (Some n) l (suc i) m in
       let s1 = with_elements (array.Local l) s (slice_set gs i 0) in
       let cost = 8 + 3 * (nodes (number i) + nodes (number 0)) in
-      flows.more p setting frame own locals sizes room void (out_of void j) (14 * m + cost) (14 * suc m) (code (write (array.Local l) (number i) (number 0) ∷ rest) b s) (give Goes f w) (omega (arith, nodes_number i, nodes_number 0))
-      (flows.priced p setting frame own locals sizes room void (out_of void j) (14 * m) cost (code rest b s1) (code (write (array.Local l) (number i) (number 0) ∷ rest) b s) (give Goes f w)
+      flows.more p setting frame began own locals sizes room void (out_of void j) (14 * m + cost) (14 * suc m) (code (write (array.Local l) (number i) (number 0) ∷ rest) b s) (give Goes f w) (omega (arith, nodes_number i, nodes_number 0))
+      (flows.priced p setting frame began own locals sizes room void (out_of void j) (14 * m) cost (code rest b s1) (code (write (array.Local l) (number i) (number 0) ∷ rest) b s) (give Goes f w)
       (joined (write (array.Local l) (number i) (number 0) ∷ []) rest b s ∙ ap (λ q. then_do q (code rest b))
-      (writes b l i 0 n gs (number 0) s (sh.untouched l (ws, gs) (only_here l (ws, gs))).1 h.code_long (omega (arith, e)) (run.val_number p setting frame own locals sizes none locals (λ k. 0) room b 0 s)))
+      (writes b l i 0 n gs (number 0) s (sh.untouched l (ws, gs) (only_here l (ws, gs))).1 h.code_long (omega (arith, e)) (run.val_number p setting frame began own locals sizes none locals (λ k. 0) room b 0 s)))
       (zeros j b l n (suc i) m ws (slice_set gs i 0) f w s1 apart lt (omega (arith, e)) (one_zero n i ws gs (omega (arith, e)) h) (recoded l ws gs (slice_set gs i 0) f w s lt sh)))
 
   -- the values, and then those words
@@ -545,7 +552,7 @@ module _ (p : Program) (setting : Setting) (frame : code_world.Frame) (own local
       let rest = store_values locals (Some n) l (suc i) ls ++ store_zeros (Some n) l k m in
       subst (λ (xs : List Stm). FlowShown (out_of void j) (14 * m) (code xs b s) (bind q (λ v. bind (store_lvalue (lvalue.Local l i) v) (λ _. put_values l (suc i) ms)) f w))
       (sym (append_assoc e.code (write (array.Local l) (number i) e.tree ∷ store_values locals (Some n) l (suc i) ls) (store_zeros (Some n) l k m)))
-      (flows.more p setting frame own locals sizes room void (out_of void j) (14 * m + 0) (14 * m) (code (e.code ++ (write (array.Local l) (number i) e.tree ∷ rest)) b s) (bind q (λ v. bind (store_lvalue (lvalue.Local l i) v) (λ _. put_values l (suc i) ms)) f w) (omega arith)
+      (flows.more p setting frame began own locals sizes room void (out_of void j) (14 * m + 0) (14 * m) (code (e.code ++ (write (array.Local l) (number i) e.tree ∷ rest)) b s) (bind q (λ v. bind (store_lvalue (lvalue.Local l i) v) (λ _. put_values l (suc i) ms)) f w) (omega arith)
       (behind_at (only l (ws, gs)) (out_of void j) b (14 * m) s e.code (write (array.Local l) (number i) e.tree ∷ rest) e.tree (q f w) (λ v. bind (store_lvalue (lvalue.Local l i) v) (λ _. put_values l (suc i) ms))
       ((hs (ws, gs)).0 locals f w s (omega arith) (omega (arith, fits)) (rebound (only l (ws, gs)) [] b f w s sh))
       (λ v f1 w1 work r.
@@ -554,8 +561,8 @@ module _ (p : Program) (setting : Setting) (frame : code_world.Frame) (own local
       let s2 = with_elements (array.Local l) r.state (slice_set gs i v) in
       let cost = 8 + 3 * (nodes (number i) + nodes e.tree) in
       subst (λ (o : Outcome Frame Flow). FlowShown (out_of void j) (14 * m + (3 * nodes e.tree + 11)) (code (write (array.Local l) (number i) e.tree ∷ rest) b r.state) o) (sym (after_zero (put_values l (suc i) ms f2 w1)))
-      (flows.more p setting frame own locals sizes room void (out_of void j) (14 * m + cost) (14 * m + (3 * nodes e.tree + 11)) (code (write (array.Local l) (number i) e.tree ∷ rest) b r.state) (put_values l (suc i) ms f2 w1) (omega (arith, nodes_number i))
-      (flows.priced p setting frame own locals sizes room void (out_of void j) (14 * m) cost (code rest b s2) (code (write (array.Local l) (number i) e.tree ∷ rest) b r.state) (put_values l (suc i) ms f2 w1)
+      (flows.more p setting frame began own locals sizes room void (out_of void j) (14 * m + cost) (14 * m + (3 * nodes e.tree + 11)) (code (write (array.Local l) (number i) e.tree ∷ rest) b r.state) (put_values l (suc i) ms f2 w1) (omega (arith, nodes_number i))
+      (flows.priced p setting frame began own locals sizes room void (out_of void j) (14 * m) cost (code rest b s2) (code (write (array.Local l) (number i) e.tree ∷ rest) b r.state) (put_values l (suc i) ms f2 w1)
       (joined (write (array.Local l) (number i) e.tree ∷ []) rest b r.state ∙ ap (λ z. then_do z (code rest b))
       (writes b l i v n gs e.tree r.state (sh1.untouched l (ws, gs) (only_here l (ws, gs))).1 h.code_long (omega (arith, ek, en)) r.value))
       (fills j b l n (suc i) k m ms ls (slice_set ws i v) (slice_set gs i v) f2 w1 s2 apart lt (omega (arith, ek)) en (omega (arith, fits)) (λ both. (hs both).1) (one_further n i v ws gs (omega (arith, ek, en)) h)
@@ -569,11 +576,11 @@ module _ (p : Program) (setting : Setting) (frame : code_world.Frame) (own local
       behind_at (only l both) (out_of void j) b 0 s e.code (set l e.tree ∷ []) e.tree (m f w) (λ v. bind (store_lvalue (lvalue.Local l 0) v) (λ _. put_values l 1 []))
       (cm locals f w s (omega arith) fits (rebound (only l both) [] b f w s sh))
       (λ v f1 w1 work r.
-      let y = c.val p setting frame own locals sizes (only l both) locals (λ k. 0) room b e.tree r.state in
+      let y = c.val p setting frame began own locals sizes (only l both) locals (λ k. 0) room b e.tree r.state in
       record {
         state = with_temp r.state l y;
         cost = 8 + 3 * nodes e.tree;
-        runs = run.runs_set p setting frame own locals sizes (only l both) locals (λ k. 0) room b l e.tree r.state;
+        runs = run.runs_set p setting frame began own locals sizes (only l both) locals (λ k. 0) room b l e.tree r.state;
         shows = scalar_declared l v y both f1 w1 r.state lt le sz r.value (rebound (only l both) b [] f1 w1 r.state r.shows);
         nothing = λ q. refl;
         paid = omega arith;
@@ -589,8 +596,8 @@ module _ (p : Program) (setting : Setting) (frame : code_world.Frame) (own local
       let f1 : Frame = record f { locals = slice_set f.locals l (replicate n 0) } in
       let r = clears j b l (sizes l) f w s refl lt le h in
       let rest = store_values locals (sizes l) l 0 ls in
-      flows.more p setting frame own locals sizes room void (out_of void j) (0 + r.cost) (8 + 8 * n) (code (clear_words (sizes l) l ∷ rest) b s) (put_values l 0 ms f1 w) (omega (arith, r.paid))
-      (flows.priced p setting frame own locals sizes room void (out_of void j) 0 r.cost (code rest b r.state) (code (clear_words (sizes l) l ∷ rest) b s) (put_values l 0 ms f1 w)
+      flows.more p setting frame began own locals sizes room void (out_of void j) (0 + r.cost) (8 + 8 * n) (code (clear_words (sizes l) l ∷ rest) b s) (put_values l 0 ms f1 w) (omega (arith, r.paid))
+      (flows.priced p setting frame began own locals sizes room void (out_of void j) 0 r.cost (code rest b r.state) (code (clear_words (sizes l) l ∷ rest) b s) (put_values l 0 ms f1 w)
       (joined (clear_words (sizes l) l ∷ []) rest b s ∙ ap (λ q. then_do q (code rest b)) r.runs)
       (stores j b l 0 ms ls f1 w r.state lt le (omega (arith, inside)) fits hs r.shows))
 
@@ -626,7 +633,7 @@ module _ (p : Program) (setting : Setting) (frame : code_world.Frame) (own local
       let f1 : Frame = record f { locals = slice_set f.locals l zs } in
       let e = x locals in
       subst (λ (xs : List Stm). FlowShown (out_of void j) (14 * (1 - 1)) (code xs b s) (put_values l 0 (m ∷ []) f1 w)) (sym (append_assoc e.code (set l e.tree ∷ []) []))
-      (flows.more p setting frame own locals sizes room void (out_of void j) 0 (14 * (1 - 1)) (code (e.code ++ (set l e.tree ∷ [])) b s) (put_values l 0 (m ∷ []) f1 w) (omega arith)
+      (flows.more p setting frame began own locals sizes room void (out_of void j) 0 (14 * (1 - 1)) (code (e.code ++ (set l e.tree ∷ [])) b s) (put_values l 0 (m ∷ []) f1 w) (omega arith)
       (fills_scalar j b l m x (zs, gs) f1 w s sz lt le (omega (arith, fits)) (hs (zs, gs)).0 (hidden l zs f w s lt (ap words_of_size (sym sz)) h)))
 
   not_cheap : (n k : ℕ) → nat_le (8 * n) (92 * (n - k)) ≡ false → 0 < k
@@ -645,7 +652,7 @@ module _ (p : Program) (setting : Setting) (frame : code_world.Frame) (own local
 
   pub clear_correct : (j : Jumps) (b : Bound) (l : ℕ) (names_itself : Bool) (ms : List (Evaluation ℕ)) (ls : List Lowering) → l < locals → locals ≤ room → length ms ≡ length ls → length ls ≤ words_of_size (sizes l) → values_top locals ls ≤ room →
       AllAt none b ms ls → (names_itself ≡ false → (both : List ℕ × List ℕ) → AllAt (only l both) b ms ls) →
-      flows.FlowCorrect p setting frame own locals sizes room void (out_of void j) 100 b (clear_local l names_itself ms) (lower_clear locals (sizes l) l names_itself ls j).code
+      flows.FlowCorrect p setting frame began own locals sizes room void (out_of void j) 100 b (clear_local l names_itself ms) (lower_clear locals (sizes l) l names_itself ls j).code
   clear_correct j b l names_itself ms ls lt le same inside fits all others f w s h =
       subst (λ k. FlowShown (out_of void j) 100 (code (lower_clear locals (sizes l) l names_itself ls j).code b s) (after (cond names_itself k (k - length ms)) (put_values l 0 ms (record f { locals = slice_set f.locals l (replicate k 0) }) w))) (sym size_is)
       (subst (λ k. FlowShown (out_of void j) 100 (code (lower_clear locals (sizes l) l names_itself ls j).code b s) (after (cond names_itself n (n - k)) (put_values l 0 ms f1 w))) (sym same)
@@ -664,14 +671,14 @@ module _ (p : Program) (setting : Setting) (frame : code_world.Frame) (own local
           FlowShown (out_of void j) 100 (code (cond (z || c) (clear_words (sizes l) l ∷ store_values locals (sizes l) l 0 ls) (store_values locals (sizes l) l 0 ls ++ store_zeros (sizes l) l (length ls) (n - length ls))) b s)
           (after (cond z n (n - length ls)) (put_values l 0 ms f1 w))
       by true c e free =
-          flows.paid_by p setting frame own locals sizes room void (out_of void j) 100 n _ (put_values l 0 ms f1 w)
-          (flows.more p setting frame own locals sizes room void (out_of void j) (8 + 8 * n) (100 + 100 * n) _ (put_values l 0 ms f1 w) (omega arith)
+          flows.paid_by p setting frame began own locals sizes room void (out_of void j) 100 n _ (put_values l 0 ms f1 w)
+          (flows.more p setting frame began own locals sizes room void (out_of void j) (8 + 8 * n) (100 + 100 * n) _ (put_values l 0 ms f1 w) (omega arith)
           (cleared_first j b l ms ls f w s lt le inside fits all h))
       by false true e free =
-          flows.paid_by p setting frame own locals sizes room void (out_of void j) 100 (n - length ls) _ (put_values l 0 ms f1 w)
-          (flows.more p setting frame own locals sizes room void (out_of void j) (8 + 8 * n) (100 + 100 * (n - length ls)) _ (put_values l 0 ms f1 w) (omega (arith, leb-true (8 * n) (92 * (n - length ls)) e))
+          flows.paid_by p setting frame began own locals sizes room void (out_of void j) 100 (n - length ls) _ (put_values l 0 ms f1 w)
+          (flows.more p setting frame began own locals sizes room void (out_of void j) (8 + 8 * n) (100 + 100 * (n - length ls)) _ (put_values l 0 ms f1 w) (omega (arith, leb-true (8 * n) (92 * (n - length ls)) e))
           (cleared_first j b l ms ls f w s lt le inside fits all h))
       by false false e free =
-          flows.paid_by p setting frame own locals sizes room void (out_of void j) 100 (n - length ls) _ (put_values l 0 ms f1 w)
-          (flows.more p setting frame own locals sizes room void (out_of void j) (14 * (n - length ls)) (100 + 100 * (n - length ls)) _ (put_values l 0 ms f1 w) (omega arith)
+          flows.paid_by p setting frame began own locals sizes room void (out_of void j) 100 (n - length ls) _ (put_values l 0 ms f1 w)
+          (flows.more p setting frame began own locals sizes room void (out_of void j) (14 * (n - length ls)) (100 + 100 * (n - length ls)) _ (put_values l 0 ms f1 w) (omega arith)
           (values_first j b l (sizes l) ms ls f w s refl lt le inside (not_cheap n (length ls) e) fits (free refl) h))

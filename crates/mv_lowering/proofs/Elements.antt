@@ -56,21 +56,21 @@ words_in (array.Local l) f w = slice_index_or f.locals l []
 abbrev pub next_value : Bool → CType → ℕ → ℕ
 next_value up t old = converted t (cond up (add old 1) (sub old 1))
 
-module _ (p : Program) (setting : Setting) (frame : code_world.Frame) (function locals : ℕ) (sizes : ℕ → Option ℕ) (held : ℕ → Option (List ℕ × List ℕ)) (floor : ℕ) (scratch : ℕ → ℕ) (temps : ℕ) (bound : Bound) where
+module _ (p : Program) (setting : Setting) (frame : code_world.Frame) (began : List Binding) (function locals : ℕ) (sizes : ℕ → Option ℕ) (held : ℕ → Option (List ℕ × List ℕ)) (floor : ℕ) (scratch : ℕ → ℕ) (temps : ℕ) (bound : Bound) where
   abbrev V : Tree → State → ℕ
-  V = c.val p setting frame function locals sizes held floor scratch temps bound
+  V = c.val p setting frame began function locals sizes held floor scratch temps bound
 
   abbrev R : List Stm → State → ir.Outcome → ℕ → Type 0
-  R = c.Runs p setting frame function locals sizes held floor scratch temps bound
+  R = c.Runs p setting frame began function locals sizes held floor scratch temps bound
 
   abbrev Shows : Frame → World → State → Type 0
-  Shows = c.Shows p setting frame function locals sizes held floor scratch temps bound
+  Shows = c.Shows p setting frame began function locals sizes held floor scratch temps bound
 
   abbrev Shown : (due credit n : ℕ) → State → List Stm → Tree → Outcome Frame ℕ → Type 0
-  Shown = c.Shown p setting frame function locals sizes held floor scratch temps bound
+  Shown = c.Shown p setting frame began function locals sizes held floor scratch temps bound
 
   abbrev CorrectFor : ℕ → Evaluation ℕ → Lowering → Type 0
-  CorrectFor = c.CorrectFor p setting frame function locals sizes held floor scratch temps bound
+  CorrectFor = c.CorrectFor p setting frame began function locals sizes held floor scratch temps bound
 
   -- a global that isn't read as a switch in this frame, or a local that is an array
   abbrev pub IsArray : Array → Type 0
@@ -117,18 +117,18 @@ module _ (p : Program) (setting : Setting) (frame : code_world.Frame) (function 
       record {
         state = with_temp s n x;
         cost = 8 + 3 * nodes i;
-        runs = run.runs_read p setting frame function locals sizes held floor scratch temps bound n a i s ∙ ap (λ q. c.ran (8 + 3 * nodes i) (cond q (Next (with_temp s n x)) (traps 2 s))) (test_is a i k f w s true isa h ek e);
-        shows = show.shows_temp p setting frame function locals sizes held floor scratch temps bound f w s n x le h;
+        runs = run.runs_read p setting frame began function locals sizes held floor scratch temps bound n a i s ∙ ap (λ q. c.ran (8 + 3 * nodes i) (cond q (Next (with_temp s n x)) (traps 2 s))) (test_is a i k f w s true isa h ek e);
+        shows = show.shows_temp p setting frame began function locals sizes held floor scratch temps bound f w s n x le h;
         value =
-            run.val_temp p setting frame function locals sizes held floor scratch temps bound n (with_temp s n x) ∙ get_or-set_same s.temps n x 0 (subst (λ j. n < j) (sym h.temps) lt) ∙
+            run.val_temp p setting frame began function locals sizes held floor scratch temps bound n (with_temp s n x) ∙ get_or-set_same s.temps n x 0 (subst (λ j. n < j) (sym h.temps) lt) ∙
             ap (λ j. slice_index (elements a s) j) ek ∙ ap (λ xs. slice_index xs k) (elements_are a f w s isa h) ∙ sym (value_is a k f w s isa h);
-        kept = show.kept_temp p setting frame function locals sizes held floor scratch temps bound n s x;
+        kept = show.kept_temp p setting frame began function locals sizes held floor scratch temps bound n s x;
         paid = omega (arith, enough, nodes_temp n);
       }
   read_at credit n k a i f w s false enough isa le lt h ek e = record {
     cost = 8 + 3 * nodes i;
     runs = λ ne.
-        run.runs_read p setting frame function locals sizes held floor scratch temps bound n a i s ∙ ap (λ q. c.ran (8 + 3 * nodes i) (cond q (Next (with_temp s n (slice_index (elements a s) (V i s)))) (traps 2 s))) (test_is a i k f w s false isa h ek e) ∙
+        run.runs_read p setting frame began function locals sizes held floor scratch temps bound n a i s ∙ ap (λ q. c.ran (8 + 3 * nodes i) (cond q (Next (with_temp s n (slice_index (elements a s) (V i s)))) (traps 2 s))) (test_is a i k f w s false isa h ek e) ∙
         ap (λ q. c.ran (8 + 3 * nodes i) (Ends (c.end_of (Trapped 2) q))) h.world;
     paid = omega (arith, enough);
   }
@@ -137,7 +137,7 @@ module _ (p : Program) (setting : Setting) (frame : code_world.Frame) (function 
       CorrectFor (k + 11) (bind mi (λ v. bind (element_of a v) (read_lvalue p))) (lower_read_element a li)
   correct_read_element k a mi li isa ci n f w s le fits h =
       let i = li n in
-      show.follow p setting frame function locals sizes held floor scratch temps bound 11 (k + 11) 11 11 k n n s i.code (read n a i.tree ∷ []) (temp n) i.tree (mi f w) (λ v. bind (element_of a v) (read_lvalue p)) (omega arith) (omega arith)
+      show.follow p setting frame began function locals sizes held floor scratch temps bound 11 (k + 11) 11 11 k n n s i.code (read n a i.tree ∷ []) (temp n) i.tree (mi f w) (λ v. bind (element_of a v) (read_lvalue p)) (omega arith) (omega arith)
       (ci n f w s le (omega (arith, fits)) h)
       (λ v f1 w1 work r.
       subst (λ (o : Outcome Frame Lvalue). Shown 11 (11 + (3 * nodes i.tree + 11)) n r.state (read n a i.tree ∷ []) (temp n) (and_then o (read_lvalue p))) (sym (element_is a v f1 w1 r.state isa r.shows))
@@ -146,7 +146,7 @@ module _ (p : Program) (setting : Setting) (frame : code_world.Frame) (function 
   -- an element whose index a temporary holds
   pub correct_element : (at k : ℕ) (a : Array) → IsArray a → locals ≤ at → at < floor → scratch at ≡ k → k < size_in a → CorrectFor 25 (read_lvalue p (lvalue_in a k)) (lower_element a at)
   correct_element at k a isa low high ek lt n f w s le fits h =
-      read_at 25 n k a (temp at) f w s true (omega (arith, nodes_temp at)) isa le (omega (arith, fits)) h (run.val_temp p setting frame function locals sizes held floor scratch temps bound at s ∙ h.below at low high ∙ ek) (lt-ltb k (size_in a) lt)
+      read_at 25 n k a (temp at) f w s true (omega (arith, nodes_temp at)) isa le (omega (arith, fits)) h (run.val_temp p setting frame began function locals sizes held floor scratch temps bound at s ∙ h.below at low high ∙ ek) (lt-ltb k (size_in a) lt)
 
   -- ---- stores
 
@@ -158,6 +158,7 @@ module _ (p : Program) (setting : Setting) (frame : code_world.Frame) (function 
         world = h.world;
         depth = h.depth;
         live = h.live;
+        pinned = h.pinned;
         function = h.function;
         switches = h.switches;
         each = λ k lk skalar. h.each k lk skalar ∙ word_is f.locals k 0 ∙ sym (ap (λ xs. slice_index xs 0) (get_or-set_other f.locals l k (slice_set ws i v) [] (λ eq. isa.1.0 (ap sizes (sym eq) ∙ skalar.0)))) ∙
@@ -202,7 +203,7 @@ module _ (p : Program) (setting : Setting) (frame : code_world.Frame) (function 
   pub runs_written : (a : Array) (i tv : Tree) (v u : ℕ) (f : Frame) (w : World) (s : State) → IsArray a → Shows f w s → V i s ≡ v → V tv s ≡ u → v < size_in a →
       R (write a i tv ∷ []) s (Next (with_elements a s (slice_set (elements a s) v u))) (8 + 3 * (nodes i + nodes tv))
   runs_written a i tv v u f w s isa h ev eu lt =
-      run.runs_write p setting frame function locals sizes held floor scratch temps bound a i tv s ∙
+      run.runs_write p setting frame began function locals sizes held floor scratch temps bound a i tv s ∙
       ap (λ q. c.ran (8 + 3 * (nodes i + nodes tv)) (cond q (Next (with_elements a s (slice_set (elements a s) (V i s) (V tv s)))) (traps 2 s))) (test_is a i v f w s true isa h ev (lt-ltb v (size_in a) lt)) ∙
       ap (λ j. c.ran (8 + 3 * (nodes i + nodes tv)) (Next (with_elements a s (slice_set (elements a s) j (V tv s))))) ev ∙
       ap (λ j. c.ran (8 + 3 * (nodes i + nodes tv)) (Next (with_elements a s (slice_set (elements a s) v j)))) eu
@@ -216,8 +217,8 @@ module _ (p : Program) (setting : Setting) (frame : code_world.Frame) (function 
         state = s1;
         cost = 8 + 3 * (nodes i + nodes tv);
         runs = runs_written (array.Global g) i tv v u f w s isa h ev eu lt;
-        shows = forms.shows_global p setting frame function locals sizes held floor scratch temps bound g v u u f w s refl h;
-        value = run.val_temp p setting frame function locals sizes held floor scratch temps bound m s1 ∙ er;
+        shows = forms.shows_global p setting frame began function locals sizes held floor scratch temps bound g v u u f w s refl h;
+        value = run.val_temp p setting frame began function locals sizes held floor scratch temps bound m s1 ∙ er;
         kept = λ j lk kn. refl;
         paid = omega (arith, enough, nodes_temp m);
       }
@@ -228,7 +229,7 @@ module _ (p : Program) (setting : Setting) (frame : code_world.Frame) (function 
         cost = 8 + 3 * (nodes i + nodes tv);
         runs = runs_written (array.Local l) i tv v u f w s isa h ev eu lt;
         shows = shows_array l v u f w s isa h;
-        value = run.val_temp p setting frame function locals sizes held floor scratch temps bound m s1 ∙ er;
+        value = run.val_temp p setting frame began function locals sizes held floor scratch temps bound m s1 ∙ er;
         kept = λ j lk kn. refl;
         paid = omega (arith, enough, nodes_temp m);
       }
@@ -245,11 +246,11 @@ module _ (p : Program) (setting : Setting) (frame : code_world.Frame) (function 
       let s1 = with_temp s n x in
       let first_is : slice_index s1.temps n ≡ u = get_or-set_same s.temps n x 0 (subst (λ j. n < j) (sym h.temps) (omega (arith, room))) ∙ eu in
       subst (λ (o : Outcome Frame ℕ). Shown 11 (25 + (3 * nodes t + 11)) n s (set n t ∷ write a (temp (n + 1)) (temp n) ∷ []) (temp n) o) (store_gives a v u f w)
-      (show.more_credit p setting frame function locals sizes held floor scratch temps bound 11 11 (28 + (8 + 3 * nodes t)) (25 + (3 * nodes t + 11)) n n s (set n t ∷ write a (temp (n + 1)) (temp n) ∷ []) (temp n) (and_then (store_lvalue (lvalue_in a v) u f w) (λ new. give u)) (omega arith) (omega arith) (omega arith)
-      (control.after_step p setting frame function locals sizes held floor scratch temps bound 11 28 n (8 + 3 * nodes t) s s1 (set n t ∷ []) (write a (temp (n + 1)) (temp n) ∷ []) (temp n) (and_then (store_lvalue (lvalue_in a v) u f w) (λ new. give u)) (run.runs_set p setting frame function locals sizes held floor scratch temps bound n t s) (show.kept_temp p setting frame function locals sizes held floor scratch temps bound n s x)
-      (written 11 28 n n u v u a (temp (n + 1)) (temp n) f w s1 isa (show.shows_temp p setting frame function locals sizes held floor scratch temps bound f w s n x le h)
-      (run.val_temp p setting frame function locals sizes held floor scratch temps bound (n + 1) s1 ∙ get_or-set_other s.temps n (n + 1) x 0 (λ e. absurd (omega (arith, e))) ∙ ev)
-      (run.val_temp p setting frame function locals sizes held floor scratch temps bound n s1 ∙ first_is) lt first_is (omega (arith, nodes_temp n, nodes_temp (n + 1))))))
+      (show.more_credit p setting frame began function locals sizes held floor scratch temps bound 11 11 (28 + (8 + 3 * nodes t)) (25 + (3 * nodes t + 11)) n n s (set n t ∷ write a (temp (n + 1)) (temp n) ∷ []) (temp n) (and_then (store_lvalue (lvalue_in a v) u f w) (λ new. give u)) (omega arith) (omega arith) (omega arith)
+      (control.after_step p setting frame began function locals sizes held floor scratch temps bound 11 28 n (8 + 3 * nodes t) s s1 (set n t ∷ []) (write a (temp (n + 1)) (temp n) ∷ []) (temp n) (and_then (store_lvalue (lvalue_in a v) u f w) (λ new. give u)) (run.runs_set p setting frame began function locals sizes held floor scratch temps bound n t s) (show.kept_temp p setting frame began function locals sizes held floor scratch temps bound n s x)
+      (written 11 28 n n u v u a (temp (n + 1)) (temp n) f w s1 isa (show.shows_temp p setting frame began function locals sizes held floor scratch temps bound f w s n x le h)
+      (run.val_temp p setting frame began function locals sizes held floor scratch temps bound (n + 1) s1 ∙ get_or-set_other s.temps n (n + 1) x 0 (λ e. absurd (omega (arith, e))) ∙ ev)
+      (run.val_temp p setting frame began function locals sizes held floor scratch temps bound n s1 ∙ first_is) lt first_is (omega (arith, nodes_temp n, nodes_temp (n + 1))))))
 
   -- the test of an index, and then the rest
   checked : (due credit n k : ℕ) (a : Array) (i : Tree) (rest : List Stm) (t : Tree) (f : Frame) (w : World) (s : State) (next : Lvalue → Evaluation ℕ) (z : Bool) → IsArray a → Shows f w s → V i s ≡ k → ltb k (size_in a) ≡ z →
@@ -257,25 +258,25 @@ module _ (p : Program) (setting : Setting) (frame : code_world.Frame) (function 
       Shown due (credit + (8 + 3 * nodes i)) n s (check a i ∷ rest) t (and_then (cond z (give (lvalue_in a k)) (stop (Trapped 2)) f w) next)
   checked due credit n k a i rest t f w s next true isa h ek e rest_shown =
       subst (λ (o : Outcome Frame ℕ). Shown due (credit + (8 + 3 * nodes i)) n s (check a i ∷ rest) t o) (sym (sequences.after_zero (next (lvalue_in a k) f w)))
-      (control.within p setting frame function locals sizes held floor scratch temps bound due credit n (8 + 3 * nodes i) s rest (check a i ∷ rest) t (next (lvalue_in a k) f w)
-      (λ o j r. run.runs_append p setting frame function locals sizes held floor scratch temps bound (check a i ∷ []) rest s s o (8 + 3 * nodes i) j
-      (run.runs_check p setting frame function locals sizes held floor scratch temps bound a i s ∙ ap (λ q. c.ran (8 + 3 * nodes i) (cond q (Next s) (traps 2 s))) (test_is a i k f w s true isa h ek e)) r)
+      (control.within p setting frame began function locals sizes held floor scratch temps bound due credit n (8 + 3 * nodes i) s rest (check a i ∷ rest) t (next (lvalue_in a k) f w)
+      (λ o j r. run.runs_append p setting frame began function locals sizes held floor scratch temps bound (check a i ∷ []) rest s s o (8 + 3 * nodes i) j
+      (run.runs_check p setting frame began function locals sizes held floor scratch temps bound a i s ∙ ap (λ q. c.ran (8 + 3 * nodes i) (cond q (Next s) (traps 2 s))) (test_is a i k f w s true isa h ek e)) r)
       (rest_shown refl))
   checked due credit n k a i rest t f w s next false isa h ek e rest_shown = record {
     cost = 8 + 3 * nodes i;
     runs = λ ne.
-        run.runs_stop p setting frame function locals sizes held floor scratch temps bound (check a i ∷ []) rest s _ (8 + 3 * nodes i)
-        (run.runs_check p setting frame function locals sizes held floor scratch temps bound a i s ∙ ap (λ q. c.ran (8 + 3 * nodes i) (cond q (Next s) (traps 2 s))) (test_is a i k f w s false isa h ek e) ∙
+        run.runs_stop p setting frame began function locals sizes held floor scratch temps bound (check a i ∷ []) rest s _ (8 + 3 * nodes i)
+        (run.runs_check p setting frame began function locals sizes held floor scratch temps bound a i s ∙ ap (λ q. c.ran (8 + 3 * nodes i) (cond q (Next s) (traps 2 s))) (test_is a i k f w s false isa h ek e) ∙
         ap (λ q. c.ran (8 + 3 * nodes i) (Ends (c.end_of (Trapped 2) q))) h.world);
     paid = omega arith;
   }
 
   -- what is correct where more temporaries are in use
   abbrev pub Above : (n : ℕ) → (ℕ → ℕ) → ℕ → Evaluation ℕ → Lowering → Type 0
-  Above n kept = c.CorrectFor p setting frame function locals sizes held n kept temps bound
+  Above n kept = c.CorrectFor p setting frame began function locals sizes held n kept temps bound
 
   lower_floor : (credit n : ℕ) (s : State) (code : List Stm) (t : Tree) (o : Outcome Frame ℕ) (f0 : Frame) (w0 : World) → floor ≤ n → Shows f0 w0 s →
-      c.Shown p setting frame function locals sizes held n (λ k. slice_index s.temps k) temps bound 11 credit n s code t o → Shown 11 credit n s code t o
+      c.Shown p setting frame began function locals sizes held n (λ k. slice_index s.temps k) temps bound 11 credit n s code t o → Shown 11 credit n s code t o
   lower_floor credit n s code t (Came v f w work) f0 w0 le h r = record {
     state = r.state;
     cost = r.cost;
@@ -284,6 +285,7 @@ module _ (p : Program) (setting : Setting) (frame : code_world.Frame) (function 
       world = r.shows.world;
       depth = r.shows.depth;
       live = r.shows.live;
+      pinned = r.shows.pinned;
       function = r.shows.function;
       switches = r.shows.switches;
       each = r.shows.each;
@@ -303,11 +305,12 @@ module _ (p : Program) (setting : Setting) (frame : code_world.Frame) (function 
   }
   lower_floor credit n s code t (Stopped why w work) f0 w0 le h r = record { cost = r.cost; runs = r.runs; paid = r.paid }
 
-  raise_floor : (n : ℕ) (f : Frame) (w : World) (s : State) → floor ≤ n → Shows f w s → c.Shows p setting frame function locals sizes held n (λ k. slice_index s.temps k) temps bound f w s
+  raise_floor : (n : ℕ) (f : Frame) (w : World) (s : State) → floor ≤ n → Shows f w s → c.Shows p setting frame began function locals sizes held n (λ k. slice_index s.temps k) temps bound f w s
   raise_floor n f w s le h = record {
     world = h.world;
     depth = h.depth;
     live = h.live;
+    pinned = h.pinned;
     function = h.function;
     switches = h.switches;
     each = h.each;
@@ -331,18 +334,18 @@ module _ (p : Program) (setting : Setting) (frame : code_world.Frame) (function 
       let x = lv n (n + 2) in
       let last = set n x.tree ∷ write a (temp (n + 1)) (temp n) ∷ [] in
       let rest = check a (temp (n + 1)) ∷ (x.code ++ last) in
-      show.follow p setting frame function locals sizes held floor scratch temps bound 11 (ki + (kv + 39)) (kv + 39) 0 ki n n s (i.code ++ set (n + 1) i.tree ∷ []) rest (temp n) (temp (n + 1)) (mi f w) (λ v. bind (element_of a v) (λ at. bind (mv at) (store_lvalue at))) (omega arith) (omega arith)
-      (show.put_at p setting frame function locals sizes held floor scratch temps bound ki n (n + 1) s i (mi f w) (omega arith) (omega (arith, le)) (omega (arith, fits)) (ci n f w s le (omega (arith, fits)) h))
+      show.follow p setting frame began function locals sizes held floor scratch temps bound 11 (ki + (kv + 39)) (kv + 39) 0 ki n n s (i.code ++ set (n + 1) i.tree ∷ []) rest (temp n) (temp (n + 1)) (mi f w) (λ v. bind (element_of a v) (λ at. bind (mv at) (store_lvalue at))) (omega arith) (omega arith)
+      (show.put_at p setting frame began function locals sizes held floor scratch temps bound ki n (n + 1) s i (mi f w) (omega arith) (omega (arith, le)) (omega (arith, fits)) (ci n f w s le (omega (arith, fits)) h))
       (λ v f1 w1 work r.
       subst (λ (o : Outcome Frame Lvalue). Shown 11 (kv + 39 + (3 * nodes (temp (n + 1)) + 0)) n r.state rest (temp n) (and_then o (λ at. bind (mv at) (store_lvalue at)))) (sym (element_is a v f1 w1 r.state isa r.shows))
-      (show.more_credit p setting frame function locals sizes held floor scratch temps bound 11 11 (kv + 25 + (8 + 3 * nodes (temp (n + 1)))) (kv + 39 + (3 * nodes (temp (n + 1)) + 0)) n n r.state rest (temp n)
+      (show.more_credit p setting frame began function locals sizes held floor scratch temps bound 11 11 (kv + 25 + (8 + 3 * nodes (temp (n + 1)))) (kv + 39 + (3 * nodes (temp (n + 1)) + 0)) n n r.state rest (temp n)
       (and_then (cond (ltb v (size_in a)) (give (lvalue_in a v)) (stop (Trapped 2)) f1 w1) (λ at. bind (mv at) (store_lvalue at))) (omega (arith, nodes_temp (n + 1))) (omega (arith, nodes_temp (n + 1))) (omega (arith, nodes_temp (n + 1)))
       (checked 11 (kv + 25) n v a (temp (n + 1)) (x.code ++ last) (temp n) f1 w1 r.state (λ at. bind (mv at) (store_lvalue at)) (ltb v (size_in a)) isa r.shows r.value refl
       (λ inside.
       let kept : ℕ → ℕ = λ k. slice_index r.state.temps k in
-      let index_is : kept (n + 1) ≡ v = sym (run.val_temp p setting frame function locals sizes held floor scratch temps bound (n + 1) r.state) ∙ r.value in
+      let index_is : kept (n + 1) ≡ v = sym (run.val_temp p setting frame began function locals sizes held floor scratch temps bound (n + 1) r.state) ∙ r.value in
       let lt : v < size_in a = ltb-true v (size_in a) inside in
-      show.follow p setting frame function locals sizes held floor scratch temps bound 11 (kv + 25) 25 11 kv n (n + 2) r.state x.code last (temp n) x.tree (mv (lvalue_in a v) f1 w1) (store_lvalue (lvalue_in a v)) (omega arith) (omega arith)
+      show.follow p setting frame began function locals sizes held floor scratch temps bound 11 (kv + 25) 25 11 kv n (n + 2) r.state x.code last (temp n) x.tree (mv (lvalue_in a v) f1 w1) (store_lvalue (lvalue_in a v)) (omega arith) (omega arith)
       (lower_floor kv (n + 2) r.state x.code x.tree (mv (lvalue_in a v) f1 w1) f1 w1 (omega (arith, le)) r.shows
       (cv n v kept le (omega (arith, le, r.shows.above)) index_is lt (n + 2) f1 w1 r.state (omega arith) (omega (arith, fits)) (raise_floor (n + 2) f1 w1 r.state (omega (arith, le)) r.shows)))
       (λ u f2 w2 work2 r2.
@@ -354,11 +357,11 @@ module _ (p : Program) (setting : Setting) (frame : code_world.Frame) (function 
   next_nodes up t n = omega (arith, converted_nodes t (binary (cond up 0 1) (temp n) (number 1)), nodes_binary (cond up 0 1) (temp n) (number 1), nodes_temp n, nodes_number 1)
 
   next_is : (up : Bool) (t : CType) (n old : ℕ) (s : State) → slice_index s.temps n ≡ old → V (next_tree up t (temp n)) s ≡ next_value up t old
-  next_is up t n old s e = operators.converted_same p setting frame function locals sizes held floor scratch temps bound t (binary (cond up 0 1) (temp n) (number 1)) s ∙ ap (converted t) (by up)
+  next_is up t n old s e = operators.converted_same p setting frame began function locals sizes held floor scratch temps bound t (binary (cond up 0 1) (temp n) (number 1)) s ∙ ap (converted t) (by up)
     where
       by : (z : Bool) → V (binary (cond z 0 1) (temp n) (number 1)) s ≡ cond z (add old 1) (sub old 1)
-      by true = operators.add_same p setting frame function locals sizes held floor scratch temps bound (temp n) (number 1) s ∙ ap (λ k. add k (V (number 1) s)) (run.val_temp p setting frame function locals sizes held floor scratch temps bound n s ∙ e) ∙ ap (λ k. add old k) (run.val_number p setting frame function locals sizes held floor scratch temps bound 1 s)
-      by false = operators.sub_same p setting frame function locals sizes held floor scratch temps bound (temp n) (number 1) s ∙ ap (λ k. sub k (V (number 1) s)) (run.val_temp p setting frame function locals sizes held floor scratch temps bound n s ∙ e) ∙ ap (λ k. sub old k) (run.val_number p setting frame function locals sizes held floor scratch temps bound 1 s)
+      by true = operators.add_same p setting frame began function locals sizes held floor scratch temps bound (temp n) (number 1) s ∙ ap (λ k. add k (V (number 1) s)) (run.val_temp p setting frame began function locals sizes held floor scratch temps bound n s ∙ e) ∙ ap (λ k. add old k) (run.val_number p setting frame began function locals sizes held floor scratch temps bound 1 s)
+      by false = operators.sub_same p setting frame began function locals sizes held floor scratch temps bound (temp n) (number 1) s ∙ ap (λ k. sub k (V (number 1) s)) (run.val_temp p setting frame began function locals sizes held floor scratch temps bound n s ∙ e) ∙ ap (λ k. sub old k) (run.val_number p setting frame began function locals sizes held floor scratch temps bound 1 s)
 
   -- the old value, and then a store of the next one
   abbrev Stepped : Bool → CType → Lvalue → Evaluation ℕ
@@ -369,18 +372,18 @@ module _ (p : Program) (setting : Setting) (frame : code_world.Frame) (function 
       let old = word_at f.locals l 0 in
       let x = V (temp l) s in
       let s1 = with_temp s n x in
-      let h1 = show.shows_temp p setting frame function locals sizes held floor scratch temps bound f w s n x le h in
+      let h1 = show.shows_temp p setting frame began function locals sizes held floor scratch temps bound f w s n x le h in
       let next = next_tree up t (temp n) in
       let y = V next s1 in
-      let old_is : x ≡ old = run.val_temp p setting frame function locals sizes held floor scratch temps bound l s ∙ h.each l lt sc in
+      let old_is : x ≡ old = run.val_temp p setting frame began function locals sizes held floor scratch temps bound l s ∙ h.each l lt sc in
       let put : slice_index s1.temps n ≡ old = get_or-set_same s.temps n x 0 (subst (λ j. n < j) (sym h.temps) (omega (arith, fits))) ∙ old_is in
       record {
         state = with_temp s1 l y;
         cost = (8 + 3 * nodes (temp l)) + (8 + 3 * nodes next);
-        runs = run.runs_append p setting frame function locals sizes held floor scratch temps bound (set n (temp l) ∷ []) (set l next ∷ []) s s1 (Next (with_temp s1 l y)) _ _ (run.runs_set p setting frame function locals sizes held floor scratch temps bound n (temp l) s) (run.runs_set p setting frame function locals sizes held floor scratch temps bound l next s1);
-        shows = forms.shows_local p setting frame function locals sizes held floor scratch temps bound l (next_value up t old) y f w s1 lt room sc (next_is up t n old s1 put) h1;
-        value = run.val_temp p setting frame function locals sizes held floor scratch temps bound n (with_temp s1 l y) ∙ get_or-set_other s1.temps l n y 0 (λ e. absurd (omega (arith, e, lt, le, h.above))) ∙ put;
-        kept = λ j low high. get_or-set_other s1.temps l j y 0 (λ e. absurd (omega (arith, e, lt, low, h.above))) ∙ show.kept_temp p setting frame function locals sizes held floor scratch temps bound n s x j low high;
+        runs = run.runs_append p setting frame began function locals sizes held floor scratch temps bound (set n (temp l) ∷ []) (set l next ∷ []) s s1 (Next (with_temp s1 l y)) _ _ (run.runs_set p setting frame began function locals sizes held floor scratch temps bound n (temp l) s) (run.runs_set p setting frame began function locals sizes held floor scratch temps bound l next s1);
+        shows = forms.shows_local p setting frame began function locals sizes held floor scratch temps bound l (next_value up t old) y f w s1 lt room sc (next_is up t n old s1 put) h1;
+        value = run.val_temp p setting frame began function locals sizes held floor scratch temps bound n (with_temp s1 l y) ∙ get_or-set_other s1.temps l n y 0 (λ e. absurd (omega (arith, e, lt, le, h.above))) ∙ put;
+        kept = λ j low high. get_or-set_other s1.temps l j y 0 (λ e. absurd (omega (arith, e, lt, low, h.above))) ∙ show.kept_temp p setting frame began function locals sizes held floor scratch temps bound n s x j low high;
         paid = omega (arith, nodes_temp l, nodes_temp n, next_nodes up t n);
       }
 
@@ -389,18 +392,18 @@ module _ (p : Program) (setting : Setting) (frame : code_world.Frame) (function 
       let old = value_in p (lvalue.Global g 0) f w in
       let x = V (global g) s in
       let s1 = with_temp s n x in
-      let h1 = show.shows_temp p setting frame function locals sizes held floor scratch temps bound f w s n x le h in
+      let h1 = show.shows_temp p setting frame began function locals sizes held floor scratch temps bound f w s n x le h in
       let next = next_tree up t (temp n) in
       let y = V next s1 in
       let s2 = with_world s1 (with_global s1.world g (slice_set (slice_index_or s1.world.globals g []) 0 y)) in
-      let put : slice_index s1.temps n ≡ old = get_or-set_same s.temps n x 0 (subst (λ j. n < j) (sym h.temps) (omega (arith, fits))) ∙ forms.global_value p setting frame function locals sizes held floor scratch temps bound g f w s h in
+      let put : slice_index s1.temps n ≡ old = get_or-set_same s.temps n x 0 (subst (λ j. n < j) (sym h.temps) (omega (arith, fits))) ∙ forms.global_value p setting frame began function locals sizes held floor scratch temps bound g f w s h in
       record {
         state = s2;
         cost = (8 + 3 * nodes (global g)) + (8 + 3 * nodes next);
-        runs = run.runs_append p setting frame function locals sizes held floor scratch temps bound (set n (global g) ∷ []) (set_global g next ∷ []) s s1 (Next s2) _ _ (run.runs_set p setting frame function locals sizes held floor scratch temps bound n (global g) s) (run.runs_set_global p setting frame function locals sizes held floor scratch temps bound g next s1);
-        shows = forms.shows_global p setting frame function locals sizes held floor scratch temps bound g 0 (next_value up t old) y f w s1 (next_is up t n old s1 put) h1;
-        value = run.val_temp p setting frame function locals sizes held floor scratch temps bound n s2 ∙ put;
-        kept = λ j low high. show.kept_temp p setting frame function locals sizes held floor scratch temps bound n s x j low high;
+        runs = run.runs_append p setting frame began function locals sizes held floor scratch temps bound (set n (global g) ∷ []) (set_global g next ∷ []) s s1 (Next s2) _ _ (run.runs_set p setting frame began function locals sizes held floor scratch temps bound n (global g) s) (run.runs_set_global p setting frame began function locals sizes held floor scratch temps bound g next s1);
+        shows = forms.shows_global p setting frame began function locals sizes held floor scratch temps bound g 0 (next_value up t old) y f w s1 (next_is up t n old s1 put) h1;
+        value = run.val_temp p setting frame began function locals sizes held floor scratch temps bound n s2 ∙ put;
+        kept = λ j low high. show.kept_temp p setting frame began function locals sizes held floor scratch temps bound n s x j low high;
         paid = omega (arith, nodes_global g, nodes_temp n, next_nodes up t n);
       }
 
@@ -412,7 +415,7 @@ module _ (p : Program) (setting : Setting) (frame : code_world.Frame) (function 
       let i = temp (n + 1) in
       let next = next_tree up t (temp n) in
       let last = write a i next ∷ [] in
-      let vi : V i s ≡ k = run.val_temp p setting frame function locals sizes held floor scratch temps bound (n + 1) s ∙ ek in
+      let vi : V i s ≡ k = run.val_temp p setting frame began function locals sizes held floor scratch temps bound (n + 1) s ∙ ek in
       let x = slice_index (elements a s) (V i s) in
       let s1 = with_temp s n x in
       let x_is : x ≡ old = ap (λ j. slice_index (elements a s) j) vi ∙ ap (λ xs. slice_index xs k) (elements_are a f w s isa h) ∙ sym (value_is a k f w s isa h) in
@@ -420,15 +423,15 @@ module _ (p : Program) (setting : Setting) (frame : code_world.Frame) (function 
       let index_stays : slice_index s1.temps (n + 1) ≡ k = get_or-set_other s.temps n (n + 1) x 0 (λ eq. absurd (omega (arith, eq))) ∙ ek in
       subst (λ (o : Outcome Frame ℕ). Shown 11 (40 + (8 + 3 * nodes i)) n s (read n a i ∷ last) (temp n) o)
       (sym (sequences.after_zero (Stepped up t (lvalue_in a k) f w) ∙ sequences.after_zero (and_then (store_lvalue (lvalue_in a k) (next_value up t old) f w) (λ new. give old))))
-      (control.after_step p setting frame function locals sizes held floor scratch temps bound 11 40 n (8 + 3 * nodes i) s s1 (read n a i ∷ []) last (temp n) (and_then (store_lvalue (lvalue_in a k) (next_value up t old) f w) (λ new. give old))
-      (run.runs_read p setting frame function locals sizes held floor scratch temps bound n a i s ∙ ap (λ q. c.ran (8 + 3 * nodes i) (cond q (Next s1) (traps 2 s))) (test_is a i k f w s true isa h vi e))
-      (show.kept_temp p setting frame function locals sizes held floor scratch temps bound n s x)
-      (written 11 40 n n old k (next_value up t old) a i next f w s1 isa (show.shows_temp p setting frame function locals sizes held floor scratch temps bound f w s n x le h) (run.val_temp p setting frame function locals sizes held floor scratch temps bound (n + 1) s1 ∙ index_stays) (next_is up t n old s1 put) (ltb-true k (size_in a) e) put
+      (control.after_step p setting frame began function locals sizes held floor scratch temps bound 11 40 n (8 + 3 * nodes i) s s1 (read n a i ∷ []) last (temp n) (and_then (store_lvalue (lvalue_in a k) (next_value up t old) f w) (λ new. give old))
+      (run.runs_read p setting frame began function locals sizes held floor scratch temps bound n a i s ∙ ap (λ q. c.ran (8 + 3 * nodes i) (cond q (Next s1) (traps 2 s))) (test_is a i k f w s true isa h vi e))
+      (show.kept_temp p setting frame began function locals sizes held floor scratch temps bound n s x)
+      (written 11 40 n n old k (next_value up t old) a i next f w s1 isa (show.shows_temp p setting frame began function locals sizes held floor scratch temps bound f w s n x le h) (run.val_temp p setting frame began function locals sizes held floor scratch temps bound (n + 1) s1 ∙ index_stays) (next_is up t n old s1 put) (ltb-true k (size_in a) e) put
       (omega (arith, nodes_temp (n + 1), next_nodes up t n))))
   after_read n k up t a f w s false isa le room h ek e = record {
     cost = 8 + 3 * nodes (temp (n + 1));
-    runs = λ ne. run.runs_stop p setting frame function locals sizes held floor scratch temps bound (read n a (temp (n + 1)) ∷ []) (write a (temp (n + 1)) (next_tree up t (temp n)) ∷ []) s _ (8 + 3 * nodes (temp (n + 1)))
-        (run.runs_read p setting frame function locals sizes held floor scratch temps bound n a (temp (n + 1)) s ∙ ap (λ q. c.ran (8 + 3 * nodes (temp (n + 1))) (cond q (Next (with_temp s n (slice_index (elements a s) (V (temp (n + 1)) s)))) (traps 2 s))) (test_is a (temp (n + 1)) k f w s false isa h (run.val_temp p setting frame function locals sizes held floor scratch temps bound (n + 1) s ∙ ek) e) ∙
+    runs = λ ne. run.runs_stop p setting frame began function locals sizes held floor scratch temps bound (read n a (temp (n + 1)) ∷ []) (write a (temp (n + 1)) (next_tree up t (temp n)) ∷ []) s _ (8 + 3 * nodes (temp (n + 1)))
+        (run.runs_read p setting frame began function locals sizes held floor scratch temps bound n a (temp (n + 1)) s ∙ ap (λ q. c.ran (8 + 3 * nodes (temp (n + 1))) (cond q (Next (with_temp s n (slice_index (elements a s) (V (temp (n + 1)) s)))) (traps 2 s))) (test_is a (temp (n + 1)) k f w s false isa h (run.val_temp p setting frame began function locals sizes held floor scratch temps bound (n + 1) s ∙ ek) e) ∙
         ap (λ q. c.ran (8 + 3 * nodes (temp (n + 1))) (Ends (c.end_of (Trapped 2) q))) h.world);
     paid = omega (arith, nodes_temp (n + 1));
   }
@@ -438,10 +441,10 @@ module _ (p : Program) (setting : Setting) (frame : code_world.Frame) (function 
   correct_after_element ki up t a mi li isa ci n f w s le fits h =
       let i = li n in
       let rest = read n a (temp (n + 1)) ∷ write a (temp (n + 1)) (next_tree up t (temp n)) ∷ [] in
-      show.follow p setting frame function locals sizes held floor scratch temps bound 11 (ki + 60) 60 0 ki n n s (i.code ++ set (n + 1) i.tree ∷ []) rest (temp n) (temp (n + 1)) (mi f w) (λ v. bind (element_of a v) (Stepped up t)) (omega arith) (omega arith)
-      (show.put_at p setting frame function locals sizes held floor scratch temps bound ki n (n + 1) s i (mi f w) (omega arith) (omega (arith, le)) (omega (arith, fits)) (ci n f w s le (omega (arith, fits)) h))
+      show.follow p setting frame began function locals sizes held floor scratch temps bound 11 (ki + 60) 60 0 ki n n s (i.code ++ set (n + 1) i.tree ∷ []) rest (temp n) (temp (n + 1)) (mi f w) (λ v. bind (element_of a v) (Stepped up t)) (omega arith) (omega arith)
+      (show.put_at p setting frame began function locals sizes held floor scratch temps bound ki n (n + 1) s i (mi f w) (omega arith) (omega (arith, le)) (omega (arith, fits)) (ci n f w s le (omega (arith, fits)) h))
       (λ v f1 w1 work r.
       subst (λ (o : Outcome Frame Lvalue). Shown 11 (60 + (3 * nodes (temp (n + 1)) + 0)) n r.state rest (temp n) (and_then o (Stepped up t))) (sym (element_is a v f1 w1 r.state isa r.shows))
-      (show.more_credit p setting frame function locals sizes held floor scratch temps bound 11 11 (40 + (8 + 3 * nodes (temp (n + 1)))) (60 + (3 * nodes (temp (n + 1)) + 0)) n n r.state rest (temp n)
+      (show.more_credit p setting frame began function locals sizes held floor scratch temps bound 11 11 (40 + (8 + 3 * nodes (temp (n + 1)))) (60 + (3 * nodes (temp (n + 1)) + 0)) n n r.state rest (temp n)
       (and_then (cond (ltb v (size_in a)) (give (lvalue_in a v)) (stop (Trapped 2)) f1 w1) (Stepped up t)) (omega arith) (omega arith) (omega arith)
-      (after_read n v up t a f1 w1 r.state (ltb v (size_in a)) isa le (omega (arith, fits)) r.shows (sym (run.val_temp p setting frame function locals sizes held floor scratch temps bound (n + 1) r.state) ∙ r.value) refl)))
+      (after_read n v up t a f1 w1 r.state (ltb v (size_in a)) isa le (omega (arith, fits)) r.shows (sym (run.val_temp p setting frame began function locals sizes held floor scratch temps bound (n + 1) r.state) ∙ r.value) refl)))

@@ -4,6 +4,7 @@ use Rattle.mv_ir.specs.declared.tree.Tree.{Tree}
 use Rattle.mv_ir.specs.declared.stm.Stm.{Stm}
 use Rattle.mv_ir.specs.declared.stm.Stm.TheOpen as stm
 use Rattle.mv_ast.specs.declared.program.Program.{Program}
+use Rattle.mv_ast.specs.declared.world.Binding.{Binding}
 use Rattle.mv_ast.specs.declared.world.Stop.TheVariants.{Unfinished}
 use Rattle.mv_ast.specs.Worlds.{World, Outcome, Came, Stopped, after, and_then, bind, give, stop, counted}
 use Rattle.mv_meaning.specs.declared.state.Frame.{Frame}
@@ -31,37 +32,38 @@ through Breaks next = give Breaks
 through Continues next = next
 through (Returns v) next = give (Returns v)
 
-module _ (p : Program) (setting : Setting) (frame : code_world.Frame) (own locals : ℕ) (sizes : ℕ → Option ℕ) (room : ℕ) (void : Bool) where
+module _ (p : Program) (setting : Setting) (frame : code_world.Frame) (began : List Binding) (own locals : ℕ) (sizes : ℕ → Option ℕ) (room : ℕ) (void : Bool) where
   abbrev Out : Type 0
   Out = Flow → State → ir.Outcome
 
   abbrev pub FlowShown : Out → ℕ → Run → Outcome Frame Flow → Type 0
-  FlowShown = statements.FlowShown p setting frame own locals sizes room void
+  FlowShown = statements.FlowShown p setting frame began own locals sizes room void
 
   abbrev pub FlowCorrect : Out → ℕ → Bound → Evaluation Flow → List Stm → Type 0
-  FlowCorrect = statements.FlowCorrect p setting frame own locals sizes room void
+  FlowCorrect = statements.FlowCorrect p setting frame began own locals sizes room void
 
   abbrev pub Shows : Frame → World → State → Type 0
-  Shows = statements.Shows p setting frame own locals sizes room void []
+  Shows = statements.Shows p setting frame began own locals sizes room void []
 
   abbrev pub CorrectFor : Bound → ℕ → Evaluation ℕ → Lowering → Type 0
-  CorrectFor b = c.CorrectFor p setting frame own locals sizes (λ l. None) locals (λ k. 0) room b
+  CorrectFor b = c.CorrectFor p setting frame began own locals sizes (λ l. None) locals (λ k. 0) room b
 
   abbrev Reached : Bound → (due credit n : ℕ) → State → List Stm → Tree → ℕ → Frame → World → ℕ → Type 0
-  Reached b = c.Reached p setting frame own locals sizes (λ l. None) locals (λ k. 0) room b
+  Reached b = c.Reached p setting frame began own locals sizes (λ l. None) locals (λ k. 0) room b
 
   abbrev Shown : Bound → (due credit n : ℕ) → State → List Stm → Tree → Outcome Frame ℕ → Type 0
-  Shown b = c.Shown p setting frame own locals sizes (λ l. None) locals (λ k. 0) room b
+  Shown b = c.Shown p setting frame began own locals sizes (λ l. None) locals (λ k. 0) room b
 
   abbrev pub code : List Stm → Bound → State → Run
   code xs bound s = code_meaning setting frame xs bound s
 
   -- what a state shows doesn't depend on the bound
-  pub at_no_bound : (b : Bound) (f : Frame) (w : World) (s : State) → statements.Shows p setting frame own locals sizes room void b f w s → Shows f w s
+  pub at_no_bound : (b : Bound) (f : Frame) (w : World) (s : State) → statements.Shows p setting frame began own locals sizes room void b f w s → Shows f w s
   at_no_bound b f w s h = record {
     world = h.world;
     depth = h.depth;
     live = h.live;
+    pinned = h.pinned;
     function = h.function;
     switches = h.switches;
     each = h.each;
@@ -76,11 +78,12 @@ module _ (p : Program) (setting : Setting) (frame : code_world.Frame) (own local
     globals = h.globals;
   }
 
-  pub at_bound : (b : Bound) (f : Frame) (w : World) (s : State) → Shows f w s → statements.Shows p setting frame own locals sizes room void b f w s
+  pub at_bound : (b : Bound) (f : Frame) (w : World) (s : State) → Shows f w s → statements.Shows p setting frame began own locals sizes room void b f w s
   at_bound b f w s h = record {
     world = h.world;
     depth = h.depth;
     live = h.live;
+    pinned = h.pinned;
     function = h.function;
     switches = h.switches;
     each = h.each;
@@ -141,7 +144,7 @@ module _ (p : Program) (setting : Setting) (frame : code_world.Frame) (own local
       (joined xs rest b s ∙ ap (λ r. then_do r (code rest b)) h.runs) (3 * nodes t + 11) (omega (arith, h.paid)) (k v f w work h)
   behind out b credit before n s xs rest t (Stopped why w work) next h k = record {
     cost = h.cost;
-    runs = λ ne. run.runs_stop p setting frame own locals sizes (λ l. None) locals (λ k. 0) room b xs rest s (c.end_of why (c.seen w)) h.cost (h.runs ne);
+    runs = λ ne. run.runs_stop p setting frame began own locals sizes (λ l. None) locals (λ k. 0) room b xs rest s (c.end_of why (c.seen w)) h.cost (h.runs ne);
     paid = omega (arith, h.paid);
   }
 
@@ -198,15 +201,15 @@ module _ (p : Program) (setting : Setting) (frame : code_world.Frame) (own local
 
   -- ---- choices
 
-  pub chosen : (out : Out) (b : Bound) (v : ℕ) (t : Tree) (xs ys : List Stm) (f : Frame) (w : World) (s : State) (zero_way other_way : Evaluation Flow) (z : Bool) (credit : ℕ) → eqb v 0 ≡ z → c.val p setting frame own locals sizes (λ l. None) locals (λ k. 0) room b t s ≡ v →
+  pub chosen : (out : Out) (b : Bound) (v : ℕ) (t : Tree) (xs ys : List Stm) (f : Frame) (w : World) (s : State) (zero_way other_way : Evaluation Flow) (z : Bool) (credit : ℕ) → eqb v 0 ≡ z → c.val p setting frame began own locals sizes (λ l. None) locals (λ k. 0) room b t s ≡ v →
       (z ≡ true → FlowShown out credit (code ys b s) (zero_way f w)) → (z ≡ false → FlowShown out credit (code xs b s) (other_way f w)) →
       FlowShown out (credit + (8 + 3 * nodes t)) (code (choose t xs ys ∷ []) b s) (cond z zero_way other_way f w)
   chosen out b v t xs ys f w s zero_way other_way true credit e ev hz ho =
       priced out credit (8 + 3 * nodes t) (code ys b s) (code (choose t xs ys ∷ []) b s) (zero_way f w)
-      (run.if_runs p setting frame own locals sizes (λ l. None) locals (λ k. 0) room b t xs ys s ∙ ap (λ q. spend (8 + 3 * nodes t) (cond q (code ys b s) (code xs b s))) (ap (λ j. eqb j 0) ev ∙ e)) (hz refl)
+      (run.if_runs p setting frame began own locals sizes (λ l. None) locals (λ k. 0) room b t xs ys s ∙ ap (λ q. spend (8 + 3 * nodes t) (cond q (code ys b s) (code xs b s))) (ap (λ j. eqb j 0) ev ∙ e)) (hz refl)
   chosen out b v t xs ys f w s zero_way other_way false credit e ev hz ho =
       priced out credit (8 + 3 * nodes t) (code xs b s) (code (choose t xs ys ∷ []) b s) (other_way f w)
-      (run.if_runs p setting frame own locals sizes (λ l. None) locals (λ k. 0) room b t xs ys s ∙ ap (λ q. spend (8 + 3 * nodes t) (cond q (code ys b s) (code xs b s))) (ap (λ j. eqb j 0) ev ∙ e)) (ho refl)
+      (run.if_runs p setting frame began own locals sizes (λ l. None) locals (λ k. 0) room b t xs ys s ∙ ap (λ q. spend (8 + 3 * nodes t) (cond q (code ys b s) (code xs b s))) (ap (λ j. eqb j 0) ev ∙ e)) (ho refl)
 
   -- an expression, and a choice by its value
   pub tested : (out : Out) (b : Bound) (credit before : ℕ) (me : Evaluation ℕ) (my mn : Evaluation Flow) (le : Lowering) (xs ys : List Stm) → (le locals).top ≤ room → CorrectFor b before me le →

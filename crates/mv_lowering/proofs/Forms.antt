@@ -7,6 +7,7 @@ use Rattle.std.proofs.lemmas.Bool.{cases_eq, cases_lt}
 use Rattle.mv_ir.specs.declared.tree.Tree.{Tree}
 use Rattle.mv_ir.specs.declared.stm.Stm.{Stm}
 use Rattle.mv_ast.specs.declared.program.Program.{Program}
+use Rattle.mv_ast.specs.declared.world.Binding.{Binding}
 use Rattle.mv_ast.specs.Counts.{words_of_size}
 use Rattle.mv_ast.specs.Plans.{word_at, with_word, words_or_none, global_read, bound_value}
 use Rattle.mv_ast.specs.declared.world.Stop.TheVariants.{Trapped}
@@ -54,37 +55,37 @@ read_is : (o : Option ℕ) (m : ℕ) → read_as o m ≡ unwrap_or o m
 read_is None m = refl
 read_is (Some v) m = refl
 
-module _ (p : Program) (setting : Setting) (frame : code_world.Frame) (function locals : ℕ) (sizes : ℕ → Option ℕ) (held : ℕ → Option (List ℕ × List ℕ)) (floor : ℕ) (scratch : ℕ → ℕ) (temps : ℕ) (bound : Bound) where
+module _ (p : Program) (setting : Setting) (frame : code_world.Frame) (began : List Binding) (function locals : ℕ) (sizes : ℕ → Option ℕ) (held : ℕ → Option (List ℕ × List ℕ)) (floor : ℕ) (scratch : ℕ → ℕ) (temps : ℕ) (bound : Bound) where
   abbrev V : Tree → State → ℕ
-  V = c.val p setting frame function locals sizes held floor scratch temps bound
+  V = c.val p setting frame began function locals sizes held floor scratch temps bound
 
   abbrev Shows : Frame → World → State → Type 0
-  Shows = c.Shows p setting frame function locals sizes held floor scratch temps bound
+  Shows = c.Shows p setting frame began function locals sizes held floor scratch temps bound
 
   abbrev Shown : (due credit n : ℕ) → State → List Stm → Tree → Outcome Frame ℕ → Type 0
-  Shown = c.Shown p setting frame function locals sizes held floor scratch temps bound
+  Shown = c.Shown p setting frame began function locals sizes held floor scratch temps bound
 
   abbrev CorrectFor : ℕ → Evaluation ℕ → Lowering → Type 0
-  CorrectFor = c.CorrectFor p setting frame function locals sizes held floor scratch temps bound
+  CorrectFor = c.CorrectFor p setting frame began function locals sizes held floor scratch temps bound
 
   -- ---- without parts
 
   pub correct_number : (v : ℕ) → CorrectFor 14 (give v) (lower_number v)
   correct_number v n f w s le fits h =
-      show.done p setting frame function locals sizes held floor scratch temps bound 11 14 n s (number v) v f w h (run.val_number p setting frame function locals sizes held floor scratch temps bound v s) (omega (arith, nodes_number v))
+      show.done p setting frame began function locals sizes held floor scratch temps bound 11 14 n s (number v) v f w h (run.val_number p setting frame began function locals sizes held floor scratch temps bound v s) (omega (arith, nodes_number v))
 
   pub correct_function : (g : ℕ) → CorrectFor 14 (give (slice_index setting.numbers g)) (lower_function g)
   correct_function g n f w s le fits h =
-      show.done p setting frame function locals sizes held floor scratch temps bound 11 14 n s (lowered.function g) (slice_index setting.numbers g) f w h (run.val_function p setting frame function locals sizes held floor scratch temps bound g s) (omega (arith, nodes_function g))
+      show.done p setting frame began function locals sizes held floor scratch temps bound 11 14 n s (lowered.function g) (slice_index setting.numbers g) f w h (run.val_function p setting frame began function locals sizes held floor scratch temps bound g s) (omega (arith, nodes_function g))
 
   pub correct_local : (l : ℕ) → l < locals → IsScalar sizes held l → CorrectFor 14 (read_lvalue p (lvalue.Local l 0)) (lower_local l)
   correct_local l lt sc n f w s le fits h =
-      show.done p setting frame function locals sizes held floor scratch temps bound 11 14 n s (temp l) (word_at f.locals l 0) f w h (run.val_temp p setting frame function locals sizes held floor scratch temps bound l s ∙ h.each l lt sc) (omega (arith, nodes_temp l))
+      show.done p setting frame began function locals sizes held floor scratch temps bound 11 14 n s (temp l) (word_at f.locals l 0) f w h (run.val_temp p setting frame began function locals sizes held floor scratch temps bound l s ∙ h.each l lt sc) (omega (arith, nodes_temp l))
 
   -- a global's value is what the frame reads it as
   pub global_value : (g : ℕ) (f : Frame) (w : World) (s : State) → Shows f w s → V (global g) s ≡ global_read p w f.function g 0
   global_value g f w s h =
-      run.val_global p setting frame function locals sizes held floor scratch temps bound g s ∙
+      run.val_global p setting frame began function locals sizes held floor scratch temps bound g s ∙
       ap (λ (x : code_world.World). read_as (found frame.bound g) (ir_tree.scalar x.globals g)) h.world ∙
       ap (λ m. read_as (found frame.bound g) m) (sym (word_is w.globals g 0)) ∙
       ap (λ o. read_as o (word_at w.globals g 0)) (h.switches g) ∙
@@ -93,7 +94,7 @@ module _ (p : Program) (setting : Setting) (frame : code_world.Frame) (function 
 
   pub correct_global : (g : ℕ) → CorrectFor 14 (read_lvalue p (lvalue.Global g 0)) (lower_global g)
   correct_global g n f w s le fits h =
-      show.done p setting frame function locals sizes held floor scratch temps bound 11 14 n s (global g) (global_read p w f.function g 0) f w h (global_value g f w s h) (omega (arith, nodes_global g))
+      show.done p setting frame began function locals sizes held floor scratch temps bound 11 14 n s (global g) (global_read p w f.function g 0) f w h (global_value g f w s h) (omega (arith, nodes_global g))
 
   -- ---- operators
 
@@ -103,11 +104,11 @@ module _ (p : Program) (setting : Setting) (frame : code_world.Frame) (function 
   correct_one total k extra t op ma la enough same size ca n f w s le fits h =
       let keep = is_low (la n).tree in
       let x = kept_if keep n (la n) in
-      show.without_nil p setting frame function locals sizes held floor scratch temps bound 11 total n s x.code (t x.tree) (bind ma (λ v. give (op v)) f w)
-      (show.follow p setting frame function locals sizes held floor scratch temps bound 11 total (3 * extra + 11) 0 k n n s x.code [] (t x.tree) x.tree (ma f w) (λ v. give (op v)) (omega arith) enough
-      (show.kept_shown p setting frame function locals sizes held floor scratch temps bound k keep n s (la n) (ma f w) le fits (ca n f w s le (show.kept_top p setting frame function locals sizes held floor scratch temps bound keep n (la n) fits) h))
+      show.without_nil p setting frame began function locals sizes held floor scratch temps bound 11 total n s x.code (t x.tree) (bind ma (λ v. give (op v)) f w)
+      (show.follow p setting frame began function locals sizes held floor scratch temps bound 11 total (3 * extra + 11) 0 k n n s x.code [] (t x.tree) x.tree (ma f w) (λ v. give (op v)) (omega arith) enough
+      (show.kept_shown p setting frame began function locals sizes held floor scratch temps bound k keep n s (la n) (ma f w) le fits (ca n f w s le (show.kept_top p setting frame began function locals sizes held floor scratch temps bound keep n (la n) fits) h))
       (λ v f1 w1 work r.
-      show.done p setting frame function locals sizes held floor scratch temps bound 11 (3 * extra + 11 + (3 * nodes x.tree + 0)) n r.state (t x.tree) (op v) f1 w1 r.shows (same x.tree r.state ∙ ap op r.value) (omega (arith, size x.tree))))
+      show.done p setting frame began function locals sizes held floor scratch temps bound 11 (3 * extra + 11 + (3 * nodes x.tree + 0)) n r.state (t x.tree) (op v) f1 w1 r.shows (same x.tree r.state ∙ ap op r.value) (omega (arith, size x.tree))))
 
   pub correct_two : (total ka kb extra : ℕ) (t : Tree → Tree → Tree) (op : ℕ → ℕ → Option ℕ) (value : ℕ → ℕ → ℕ) (ma mb : Evaluation ℕ) (la lb : Lowering) → ka + (kb + (3 * extra + 11)) ≤ total →
       ((x y : ℕ) → op x y ≡ Some (value x y)) →
@@ -119,10 +120,10 @@ module _ (p : Program) (setting : Setting) (frame : code_world.Frame) (function 
       let next : ℕ → ℕ → Evaluation ℕ = λ a b. value_or_trap (op a b) in
       let credit = 3 * extra + 11 + (3 * nodes x.tree + 3 * nodes y.tree) in
       subst (λ l. Shown 11 total n s (x.code ++ l) (t x.tree y.tree) (bind ma (λ a. bind mb (next a)) f w)) (append-nil y.code)
-      (show.two p setting frame function locals sizes held floor scratch temps bound 11 total (3 * extra + 11) ka kb n f w s ma mb la lb [] (t x.tree y.tree) next enough le fits h ca cb
+      (show.two p setting frame began function locals sizes held floor scratch temps bound 11 total (3 * extra + 11) ka kb n f w s ma mb la lb [] (t x.tree y.tree) next enough le fits h ca cb
       (λ a b f2 w2 s2 h2 ea eb.
       subst (λ o. Shown 11 credit n s2 [] (t x.tree y.tree) (value_or_trap o f2 w2)) (sym (all a b))
-      (show.done p setting frame function locals sizes held floor scratch temps bound 11 credit n s2 (t x.tree y.tree) (value a b) f2 w2 h2
+      (show.done p setting frame began function locals sizes held floor scratch temps bound 11 credit n s2 (t x.tree y.tree) (value a b) f2 w2 h2
       (same x.tree y.tree s2 ∙ ap (λ k. value k (V y.tree s2)) ea ∙ ap (λ k. value a k) eb) (omega (arith, size x.tree y.tree)))))
 
   -- ---- division
@@ -132,7 +133,7 @@ module _ (p : Program) (setting : Setting) (frame : code_world.Frame) (function 
   divided n o a b x y f w s true le lt h ea eb e = record {
     cost = 8 + 3 * (nodes x + nodes y);
     runs = λ ne.
-        run.runs_divide p setting frame function locals sizes held floor scratch temps bound n o x y s ∙
+        run.runs_divide p setting frame began function locals sizes held floor scratch temps bound n o x y s ∙
         ap (λ q. c.ran (8 + 3 * (nodes x + nodes y)) (cond q (traps 1 s) (Next (with_temp s n (ir_tree.divide o (V x s) (V y s)))))) (ap (λ k. eqb k 0) eb ∙ e) ∙
         ap (λ q. c.ran (8 + 3 * (nodes x + nodes y)) (Ends (c.end_of (Trapped 1) q))) h.world;
     paid = omega arith;
@@ -143,13 +144,13 @@ module _ (p : Program) (setting : Setting) (frame : code_world.Frame) (function 
         state = with_temp s n v;
         cost = 8 + 3 * (nodes x + nodes y);
         runs =
-            run.runs_divide p setting frame function locals sizes held floor scratch temps bound n o x y s ∙
+            run.runs_divide p setting frame began function locals sizes held floor scratch temps bound n o x y s ∙
             ap (λ q. c.ran (8 + 3 * (nodes x + nodes y)) (cond q (traps 1 s) (Next (with_temp s n v)))) (ap (λ k. eqb k 0) eb ∙ e);
-        shows = show.shows_temp p setting frame function locals sizes held floor scratch temps bound f w s n v le h;
+        shows = show.shows_temp p setting frame began function locals sizes held floor scratch temps bound f w s n v le h;
         value =
-            run.val_temp p setting frame function locals sizes held floor scratch temps bound n (with_temp s n v) ∙ get_or-set_same s.temps n v 0 (subst (λ k. n < k) (sym h.temps) lt) ∙
+            run.val_temp p setting frame began function locals sizes held floor scratch temps bound n (with_temp s n v) ∙ get_or-set_same s.temps n v 0 (subst (λ k. n < k) (sym h.temps) lt) ∙
             ap (λ k. ir_tree.divide o k (V y s)) ea ∙ ap (λ k. ir_tree.divide o a k) eb;
-        kept = show.kept_temp p setting frame function locals sizes held floor scratch temps bound n s v;
+        kept = show.kept_temp p setting frame began function locals sizes held floor scratch temps bound n s v;
         paid = omega (arith, nodes_temp n);
       }
 
@@ -159,7 +160,7 @@ module _ (p : Program) (setting : Setting) (frame : code_world.Frame) (function 
       Shown 11 (22 + (3 * nodes x + 3 * nodes y)) n s (divide n o (cond turned y x) (cond turned x y) ∷ []) (temp n) (value_or_trap (cond turned (op b a) (op a b)) f w)
   turned_either_way true n o a b x y f w s op is le lt h ea eb =
       subst (λ q. Shown 11 (22 + (3 * nodes x + 3 * nodes y)) n s (divide n o y x ∷ []) (temp n) (value_or_trap q f w)) (sym (is b a))
-      (show.more_credit p setting frame function locals sizes held floor scratch temps bound 11 11 (22 + (3 * nodes y + 3 * nodes x)) (22 + (3 * nodes x + 3 * nodes y)) n n s (divide n o y x ∷ []) (temp n) (value_or_trap (cond (eqb a 0) None (Some (ir_tree.divide o b a))) f w) (omega arith) (omega arith) (omega arith)
+      (show.more_credit p setting frame began function locals sizes held floor scratch temps bound 11 11 (22 + (3 * nodes y + 3 * nodes x)) (22 + (3 * nodes x + 3 * nodes y)) n n s (divide n o y x ∷ []) (temp n) (value_or_trap (cond (eqb a 0) None (Some (ir_tree.divide o b a))) f w) (omega arith) (omega arith) (omega arith)
       (divided n o b a y x f w s (eqb a 0) le lt h eb ea refl))
   turned_either_way false n o a b x y f w s op is le lt h ea eb =
       subst (λ q. Shown 11 (22 + (3 * nodes x + 3 * nodes y)) n s (divide n o x y ∷ []) (temp n) (value_or_trap q f w)) (sym (is a b))
@@ -172,7 +173,7 @@ module _ (p : Program) (setting : Setting) (frame : code_world.Frame) (function 
       let x = first la lb n in
       let y = second lb n in
       let next : ℕ → ℕ → Evaluation ℕ = λ a b. value_or_trap (cond turned (op b a) (op a b)) in
-      show.two p setting frame function locals sizes held floor scratch temps bound 11 total 22 ka kb n f w s ma mb la lb (divide n o (cond turned y.tree x.tree) (cond turned x.tree y.tree) ∷ []) (temp n) next enough le (omega (arith, fits)) h ca cb
+      show.two p setting frame began function locals sizes held floor scratch temps bound 11 total 22 ka kb n f w s ma mb la lb (divide n o (cond turned y.tree x.tree) (cond turned x.tree y.tree) ∷ []) (temp n) next enough le (omega (arith, fits)) h ca cb
       (λ a b f2 w2 s2 h2 ea eb.
       turned_either_way turned n o a b x.tree y.tree f2 w2 s2 op is le (omega (arith, fits)) h2 ea eb)
 
@@ -185,6 +186,7 @@ module _ (p : Program) (setting : Setting) (frame : code_world.Frame) (function 
         world = h.world;
         depth = h.depth;
         live = h.live;
+        pinned = h.pinned;
         function = h.function;
         switches = h.switches;
         each = λ k lk skalar. sym (word_is (with_word f.locals l 0 v) k 0 ∙ ap (λ (xs : List (List ℕ)). slice_index (slice_index_or xs k []) 0) (with_word_is f.locals l 0 v) ∙ by k lk skalar (cases_eq k l));
@@ -226,16 +228,16 @@ module _ (p : Program) (setting : Setting) (frame : code_world.Frame) (function 
       CorrectFor (k + 11) (bind ma (store_lvalue (lvalue.Local l 0))) (lower_set_local l la)
   correct_set_local k l ma la lt room sc ca n f w s le fits h =
       let a = la n in
-      show.follow p setting frame function locals sizes held floor scratch temps bound 11 (k + 11) 11 11 k n n s a.code (set l a.tree ∷ []) (temp l) a.tree (ma f w) (store_lvalue (lvalue.Local l 0)) (omega arith) (omega arith)
+      show.follow p setting frame began function locals sizes held floor scratch temps bound 11 (k + 11) 11 11 k n n s a.code (set l a.tree ∷ []) (temp l) a.tree (ma f w) (store_lvalue (lvalue.Local l 0)) (omega arith) (omega arith)
       (ca n f w s le fits h)
       (λ v f1 w1 work r.
       let x = V a.tree r.state in
       record {
         state = with_temp r.state l x;
         cost = 8 + 3 * nodes a.tree;
-        runs = run.runs_set p setting frame function locals sizes held floor scratch temps bound l a.tree r.state;
+        runs = run.runs_set p setting frame began function locals sizes held floor scratch temps bound l a.tree r.state;
         shows = shows_local l v x f1 w1 r.state lt room sc r.value r.shows;
-        value = run.val_temp p setting frame function locals sizes held floor scratch temps bound l (with_temp r.state l x) ∙ get_or-set_same r.state.temps l x 0 (subst (λ j. l < j) (sym r.shows.temps) (omega (arith, lt, room))) ∙ r.value;
+        value = run.val_temp p setting frame began function locals sizes held floor scratch temps bound l (with_temp r.state l x) ∙ get_or-set_same r.state.temps l x 0 (subst (λ j. l < j) (sym r.shows.temps) (omega (arith, lt, room))) ∙ r.value;
         kept = λ j lk kn. get_or-set_other r.state.temps l j x 0 (λ e. absurd (omega (arith, lk, lt, e, r.shows.above)));
         paid = omega (arith, nodes_temp l);
       })
@@ -250,6 +252,7 @@ module _ (p : Program) (setting : Setting) (frame : code_world.Frame) (function 
         ap (λ (l : List (List ℕ)). with_globals l) (sym (with_word_is w.globals g i v));
     depth = h.depth;
     live = h.live;
+    pinned = h.pinned;
     function = h.function;
     switches = h.switches;
     each = h.each;
@@ -279,17 +282,17 @@ module _ (p : Program) (setting : Setting) (frame : code_world.Frame) (function 
       CorrectFor (k + 22) (bind ma (store_lvalue (lvalue.Global g 0))) (lower_set_global g la)
   correct_set_global k g ma la ca n f w s le fits h =
       let a = kept_if false n (la n) in
-      show.follow p setting frame function locals sizes held floor scratch temps bound 11 (k + 22) 22 0 k n n s a.code (set_global g a.tree ∷ []) a.tree a.tree (ma f w) (store_lvalue (lvalue.Global g 0)) (omega arith) (omega arith)
-      (show.kept_shown p setting frame function locals sizes held floor scratch temps bound k false n s (la n) (ma f w) le fits (ca n f w s le (show.kept_top p setting frame function locals sizes held floor scratch temps bound false n (la n) fits) h))
+      show.follow p setting frame began function locals sizes held floor scratch temps bound 11 (k + 22) 22 0 k n n s a.code (set_global g a.tree ∷ []) a.tree a.tree (ma f w) (store_lvalue (lvalue.Global g 0)) (omega arith) (omega arith)
+      (show.kept_shown p setting frame began function locals sizes held floor scratch temps bound k false n s (la n) (ma f w) le fits (ca n f w s le (show.kept_top p setting frame began function locals sizes held floor scratch temps bound false n (la n) fits) h))
       (λ v f1 w1 work r.
       let x = V a.tree r.state in
       let s1 = with_world r.state (with_global r.state.world g (slice_set (slice_index_or r.state.world.globals g []) 0 x)) in
       record {
         state = s1;
         cost = 8 + 3 * nodes a.tree;
-        runs = run.runs_set_global p setting frame function locals sizes held floor scratch temps bound g a.tree r.state;
+        runs = run.runs_set_global p setting frame began function locals sizes held floor scratch temps bound g a.tree r.state;
         shows = shows_global g 0 v x f1 w1 r.state r.value r.shows;
-        value = run.val_temp p setting frame function locals sizes held floor scratch temps bound n s1 ∙ sym (run.val_temp p setting frame function locals sizes held floor scratch temps bound n r.state) ∙ r.value;
+        value = run.val_temp p setting frame began function locals sizes held floor scratch temps bound n s1 ∙ sym (run.val_temp p setting frame began function locals sizes held floor scratch temps bound n r.state) ∙ r.value;
         kept = λ j lk kn. refl;
         paid = omega (arith, nodes_temp n);
       })

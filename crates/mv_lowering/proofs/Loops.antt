@@ -3,6 +3,7 @@ use Rattle.std.proofs.Common.{◌≡◌, ℕ, ◌+◌, ◌≤◌, Bool, true, fa
 use Rattle.mv_ir.specs.declared.stm.Stm.{Stm}
 use Rattle.mv_ir.specs.declared.stm.Stm.TheOpen as stm
 use Rattle.mv_ast.specs.declared.program.Program.{Program}
+use Rattle.mv_ast.specs.declared.world.Binding.{Binding}
 use Rattle.mv_ast.specs.Worlds.{World, bind, give}
 use Rattle.mv_meaning.specs.declared.state.Frame.{Frame}
 use Rattle.mv_meaning.specs.declared.state.Flow.{Flow}
@@ -104,15 +105,15 @@ after_same m next next' f w e = under (m f w) (λ flow. after_body flow next) (�
     by Continues f1 w1 = e f1 w1
     by (Returns v) f1 w1 = refl
 
-module _ (p : Program) (setting : Setting) (frame : code_world.Frame) (own locals : ℕ) (sizes : ℕ → Option ℕ) (room : ℕ) (void : Bool) where
+module _ (p : Program) (setting : Setting) (frame : code_world.Frame) (began : List Binding) (own locals : ℕ) (sizes : ℕ → Option ℕ) (room : ℕ) (void : Bool) where
   abbrev FlowCorrect : (Flow → State → ir.Outcome) → ℕ → Bound → Evaluation Flow → List Stm → Type 0
-  FlowCorrect = flows.FlowCorrect p setting frame own locals sizes room void
+  FlowCorrect = flows.FlowCorrect p setting frame began own locals sizes room void
 
   abbrev CorrectFor : Bound → ℕ → Evaluation ℕ → Lowering → Type 0
-  CorrectFor = flows.CorrectFor p setting frame own locals sizes room void
+  CorrectFor = flows.CorrectFor p setting frame began own locals sizes room void
 
   raise : (out : Flow → State → ir.Outcome) (k k' : ℕ) (b : Bound) (m : Evaluation Flow) (xs : List Stm) → k ≤ k' → FlowCorrect out k b m xs → FlowCorrect out k' b m xs
-  raise out k k' b m xs le h f w s sh = flows.more p setting frame own locals sizes room void out k k' (flows.code p setting frame own locals sizes room void xs b s) (m f w) le (h f w s sh)
+  raise out k k' b m xs le h f w s sh = flows.more p setting frame began own locals sizes room void out k k' (flows.code p setting frame began own locals sizes room void xs b s) (m f w) le (h f w s sh)
 
   leaves_loop : (j : Jumps) (b : Bound) → FlowCorrect (turn_out void j) 8 b (give Breaks) (break 0 ∷ [])
   leaves_loop j b f w s h = record { state = s; cost = 8; runs = one_meaning setting frame (stm.Break 0) b s; shows = h; nothing = λ q. refl; paid = omega arith }
@@ -124,20 +125,20 @@ module _ (p : Program) (setting : Setting) (frame : code_world.Frame) (own local
   pub while_correct : (j : Jumps) (b : Bound) (before : ℕ) (me : Evaluation ℕ) (mb : Evaluation Flow) (le : Lowering) (body : List Stm) → (le locals).top ≤ room → CorrectFor b before me le →
       FlowCorrect (out_of void (in_body j)) 0 b mb body → FlowCorrect (turn_out void j) (8 + before) b (while_turn me mb) (test_and_body locals le (enclosed body ∷ []))
   while_correct j b before me mb le body fits ce cb =
-      flows.tested p setting frame own locals sizes room void (turn_out void j) b 8 before me mb (give Breaks) le (enclosed body ∷ []) (break 0 ∷ []) fits ce
-      (raise (turn_out void j) 0 8 b mb (enclosed body ∷ []) (omega arith) (flows.in_block p setting frame own locals sizes room void j b mb body cb)) (leaves_loop j b)
+      flows.tested p setting frame began own locals sizes room void (turn_out void j) b 8 before me mb (give Breaks) le (enclosed body ∷ []) (break 0 ∷ []) fits ce
+      (raise (turn_out void j) 0 8 b mb (enclosed body ∷ []) (omega arith) (flows.in_block p setting frame began own locals sizes room void j b mb body cb)) (leaves_loop j b)
 
   pub do_correct : (j : Jumps) (b : Bound) (me : Evaluation ℕ) (mb : Evaluation Flow) (le : Lowering) (body : List Stm) → (le locals).top ≤ room → CorrectFor b 0 me le →
       FlowCorrect (out_of void (in_body j)) 0 b mb body → FlowCorrect (turn_out void j) 92 b (do_turn mb me) (enclosed body ∷ test_and_body locals le [])
   do_correct j b me mb le body fits ce cb =
       raise (turn_out void j) ((8 + 0) + 0) 92 b (do_turn mb me) ((enclosed body ∷ []) ++ test_and_body locals le []) (omega arith)
-      (flows.in_two_parts p setting frame own locals sizes room void j b 0 (8 + 0) mb (test_turn me) (enclosed body ∷ []) (test_and_body locals le []) (flows.in_block p setting frame own locals sizes room void j b mb body cb)
-      (flows.tested p setting frame own locals sizes room void (turn_out void j) b 8 0 me (give Goes) (give Breaks) le [] (break 0 ∷ []) fits ce (goes_on j b) (leaves_loop j b)))
+      (flows.in_two_parts p setting frame began own locals sizes room void j b 0 (8 + 0) mb (test_turn me) (enclosed body ∷ []) (test_and_body locals le []) (flows.in_block p setting frame began own locals sizes room void j b mb body cb)
+      (flows.tested p setting frame began own locals sizes room void (turn_out void j) b 8 0 me (give Goes) (give Breaks) le [] (break 0 ∷ []) fits ce (goes_on j b) (leaves_loop j b)))
 
   pub for_correct : (j : Jumps) (b : Bound) (me ms : Evaluation ℕ) (mb : Evaluation Flow) (le ls : Lowering) (body : List Stm) → (le locals).top ≤ room → (ls locals).top ≤ room → CorrectFor b 14 me le → CorrectFor b 14 ms ls →
       FlowCorrect (out_of void (in_body j)) 0 b mb body → FlowCorrect (turn_out void j) 92 b (for_turn me mb ms) (test_and_body locals le (enclosed body ∷ []) ++ (ls locals).code)
   for_correct j b me ms mb le ls body fits fits_step ce cs cb =
       raise (turn_out void j) (14 + (8 + 14)) 92 b (for_turn me mb ms) (test_and_body locals le (enclosed body ∷ []) ++ (ls locals).code) (omega arith)
-      (flows.in_two_parts p setting frame own locals sizes room void j b (8 + 14) 14 (while_turn me mb) (bind ms (λ _. give Goes)) (test_and_body locals le (enclosed body ∷ [])) (ls locals).code
+      (flows.in_two_parts p setting frame began own locals sizes room void j b (8 + 14) 14 (while_turn me mb) (bind ms (λ _. give Goes)) (test_and_body locals le (enclosed body ∷ [])) (ls locals).code
       (while_correct j b 14 me mb le body fits ce cb)
-      (flows.effect p setting frame own locals sizes room void (turn_out void j) Goes b 14 14 ms ls (λ s. refl) (λ q. refl) (omega arith) fits_step cs))
+      (flows.effect p setting frame began own locals sizes room void (turn_out void j) Goes b 14 14 ms ls (λ s. refl) (λ q. refl) (omega arith) fits_step cs))

@@ -5,6 +5,7 @@ use Rattle.mv_num.specs.Words as word
 use Rattle.mv_ir.specs.declared.tree.Tree.{Tree}
 use Rattle.mv_ir.specs.declared.tree.Tree.TheOpen as tree
 use Rattle.mv_ast.specs.declared.program.Program.{Program}
+use Rattle.mv_ast.specs.declared.world.Binding.{Binding}
 use Rattle.mv_ast.specs.declared.program.CType.{CType}
 use Rattle.mv_ast.specs.declared.program.CType.TheVariants.{Void, Scalar, Pointer}
 use Rattle.mv_ast.specs.Operators.{is_unsigned, is_less, as_word, converted, unary_value, bit_value}
@@ -54,16 +55,16 @@ converted_nodes (Pointer signature) a = omega arith
 
 -- ---- values
 
-module _ (p : Program) (setting : Setting) (frame : code_world.Frame) (function locals : ℕ) (sizes : ℕ → Option ℕ) (held : ℕ → Option (List ℕ × List ℕ)) (floor : ℕ) (scratch : ℕ → ℕ) (temps : ℕ) (bound : Bound) where
+module _ (p : Program) (setting : Setting) (frame : code_world.Frame) (began : List Binding) (function locals : ℕ) (sizes : ℕ → Option ℕ) (held : ℕ → Option (List ℕ × List ℕ)) (floor : ℕ) (scratch : ℕ → ℕ) (temps : ℕ) (bound : Bound) where
   abbrev V : Tree → State → ℕ
-  V = c.val p setting frame function locals sizes held floor scratch temps bound
+  V = c.val p setting frame began function locals sizes held floor scratch temps bound
 
   same_if : (z : Bool) (x y : Tree) (v u : ℕ) (s : State) → V x s ≡ v → V y s ≡ u → V (cond z x y) s ≡ cond z v u
   same_if true x y v u s h k = h
   same_if false x y v u s h k = k
 
   abbrev B : (o : ℕ) (a b : Tree) (s : State) → V (binary o a b) s ≡ ir_tree.binary o (V a s) (V b s)
-  B o a b s = run.val_binary p setting frame function locals sizes held floor scratch temps bound o a b s
+  B o a b s = run.val_binary p setting frame began function locals sizes held floor scratch temps bound o a b s
 
   less_value : (t : CType) (a b : Tree) (s : State) → V (less_tree t a b) s ≡ as_word (is_less t (V a s) (V b s))
   unfolding ir_tree.binary
@@ -76,7 +77,7 @@ module _ (p : Program) (setting : Setting) (frame : code_world.Frame) (function 
   not_less : (t : CType) (a b : Tree) (s : State) → V (unary 2 (less_tree t a b)) s ≡ as_word (not (is_less t (V a s) (V b s)))
   unfolding ir_tree.unary
   not_less t a b s =
-      run.val_unary p setting frame function locals sizes held floor scratch temps bound 2 (less_tree t a b) s ∙ ap (ir_tree.unary 2) (less_value t a b s) ∙ by (is_less t (V a s) (V b s))
+      run.val_unary p setting frame began function locals sizes held floor scratch temps bound 2 (less_tree t a b) s ∙ ap (ir_tree.unary 2) (less_value t a b s) ∙ by (is_less t (V a s) (V b s))
     where
       by : (z : Bool) → ir_tree.unary 2 (as_word z) ≡ as_word (not z)
       by true = refl
@@ -94,12 +95,12 @@ module _ (p : Program) (setting : Setting) (frame : code_world.Frame) (function 
   pub unary_same : (op : ℕ) (a : Tree) (s : State) → V (unary_tree op a) s ≡ unary_value op (V a s)
   unfolding unary_value ir_tree.unary ir_tree.binary
   unary_same op a s =
-      same_if (nat_eq op 10) _ _ _ _ s (B 5 a (number 4294967295) s ∙ ap (λ k. ir_tree.binary 5 (V a s) k) (run.val_number p setting frame function locals sizes held floor scratch temps bound 4294967295 s))
-      (same_if (nat_eq op 11) _ _ _ _ s (run.val_unary p setting frame function locals sizes held floor scratch temps bound 2 a s)
-      (same_if (nat_eq op 13) _ _ _ _ s (run.val_unary p setting frame function locals sizes held floor scratch temps bound 0 a s) refl))
+      same_if (nat_eq op 10) _ _ _ _ s (B 5 a (number 4294967295) s ∙ ap (λ k. ir_tree.binary 5 (V a s) k) (run.val_number p setting frame began function locals sizes held floor scratch temps bound 4294967295 s))
+      (same_if (nat_eq op 11) _ _ _ _ s (run.val_unary p setting frame began function locals sizes held floor scratch temps bound 2 a s)
+      (same_if (nat_eq op 13) _ _ _ _ s (run.val_unary p setting frame began function locals sizes held floor scratch temps bound 0 a s) refl))
 
   pub converted_same : (t : CType) (a : Tree) (s : State) → V (converted_tree t a) s ≡ converted t (V a s)
-  converted_same Void a s = run.val_number p setting frame function locals sizes held floor scratch temps bound 0 s
+  converted_same Void a s = run.val_number p setting frame began function locals sizes held floor scratch temps bound 0 s
   converted_same (Scalar kind) a s = ap (λ (v : ir_tree.Value). v s.temps s.world.globals) (value_roll setting.numbers frame.bound (tree.Narrow kind a))
   converted_same (Pointer signature) a s = refl
 

@@ -8,6 +8,7 @@ use Rattle.mv_ir.specs.declared.stm.Stm.TheOpen as stm
 use Rattle.mv_ir.specs.declared.stm.Array.{Array}
 use Rattle.mv_ir.specs.declared.stm.Callee.{Callee}
 use Rattle.mv_ast.specs.declared.program.Program.{Program}
+use Rattle.mv_ast.specs.declared.world.Binding.{Binding}
 use Rattle.mv_ast.specs.declared.program.Known.{Known}
 use Rattle.mv_ir.specs.World.{Setting}
 use Rattle.mv_ir.specs.World as code_world
@@ -22,12 +23,12 @@ use Rattle.mv_lowering.specs.Lowered as lowered
 use Rattle.mv_lowering.specs.Lowered.{number, temp, global, unary, binary, set, set_global, divide, choose, check, read, write, call, known}
 use Rattle.mv_lowering.specs.Correct.{ran, val, Runs}
 
-module _ (p : Program) (setting : Setting) (frame : code_world.Frame) (function locals : ℕ) (sizes : ℕ → Option ℕ) (held : ℕ → Option (List ℕ × List ℕ)) (floor : ℕ) (scratch : ℕ → ℕ) (temps : ℕ) (bound : Bound) where
+module _ (p : Program) (setting : Setting) (frame : code_world.Frame) (began : List Binding) (function locals : ℕ) (sizes : ℕ → Option ℕ) (held : ℕ → Option (List ℕ × List ℕ)) (floor : ℕ) (scratch : ℕ → ℕ) (temps : ℕ) (bound : Bound) where
   abbrev R : List Stm → State → ir.Outcome → ℕ → Type 0
-  R = Runs p setting frame function locals sizes held floor scratch temps bound
+  R = Runs p setting frame began function locals sizes held floor scratch temps bound
 
   abbrev V : Tree → State → ℕ
-  V = val p setting frame function locals sizes held floor scratch temps bound
+  V = val p setting frame began function locals sizes held floor scratch temps bound
 
   joined : (xs ys : List Stm) (s : State) → code_meaning setting frame (xs ++ ys) bound s ≡ then_do (code_meaning setting frame xs bound s) (code_meaning setting frame ys bound)
   joined xs ys s = ap (λ l. in_order l bound s) (map_append (meaning setting frame) xs ys) ∙ in_order_append (map (meaning setting frame) xs) (map (meaning setting frame) ys) bound s

@@ -5,6 +5,7 @@ use Rattle.std.proofs.lemmas.List.{get_or-set_same, get_or-set_other, length-set
 use Rattle.mv_ir.specs.declared.tree.Tree.{Tree}
 use Rattle.mv_ir.specs.declared.stm.Stm.{Stm}
 use Rattle.mv_ast.specs.declared.program.Program.{Program}
+use Rattle.mv_ast.specs.declared.world.Binding.{Binding}
 use Rattle.mv_ast.specs.declared.world.Stop.{Stop}
 use Rattle.mv_ast.specs.Worlds.{World, Outcome, Came, Stopped, after, and_then, bind, give, counted}
 use Rattle.mv_meaning.specs.declared.state.Frame.{Frame}
@@ -20,33 +21,33 @@ use Rattle.mv_lowering.specs.Correct as c
 use Rattle.mv_lowering.proofs.Running as run
 use Rattle.mv_lowering.proofs.Running.{nodes_temp}
 
-module _ (p : Program) (setting : Setting) (frame : code_world.Frame) (function locals : ℕ) (sizes : ℕ → Option ℕ) (held : ℕ → Option (List ℕ × List ℕ)) (floor : ℕ) (scratch : ℕ → ℕ) (temps : ℕ) (bound : Bound) where
+module _ (p : Program) (setting : Setting) (frame : code_world.Frame) (began : List Binding) (function locals : ℕ) (sizes : ℕ → Option ℕ) (held : ℕ → Option (List ℕ × List ℕ)) (floor : ℕ) (scratch : ℕ → ℕ) (temps : ℕ) (bound : Bound) where
   abbrev V : Tree → State → ℕ
-  V = c.val p setting frame function locals sizes held floor scratch temps bound
+  V = c.val p setting frame began function locals sizes held floor scratch temps bound
 
   abbrev R : List Stm → State → ir.Outcome → ℕ → Type 0
-  R = c.Runs p setting frame function locals sizes held floor scratch temps bound
+  R = c.Runs p setting frame began function locals sizes held floor scratch temps bound
 
   abbrev Shows : Frame → World → State → Type 0
-  Shows = c.Shows p setting frame function locals sizes held floor scratch temps bound
+  Shows = c.Shows p setting frame began function locals sizes held floor scratch temps bound
 
   abbrev Kept : ℕ → State → State → Type 0
-  Kept = c.Kept p setting frame function locals sizes held floor scratch temps bound
+  Kept = c.Kept p setting frame began function locals sizes held floor scratch temps bound
 
   abbrev Reached : (due credit n : ℕ) → State → List Stm → Tree → ℕ → Frame → World → ℕ → Type 0
-  Reached = c.Reached p setting frame function locals sizes held floor scratch temps bound
+  Reached = c.Reached p setting frame began function locals sizes held floor scratch temps bound
 
   abbrev Halted : ℕ → State → List Stm → Stop → World → ℕ → Type 0
-  Halted = c.Halted p setting frame function locals sizes held floor scratch temps bound
+  Halted = c.Halted p setting frame began function locals sizes held floor scratch temps bound
 
   abbrev Shown : (due credit n : ℕ) → State → List Stm → Tree → Outcome Frame ℕ → Type 0
-  Shown = c.Shown p setting frame function locals sizes held floor scratch temps bound
+  Shown = c.Shown p setting frame began function locals sizes held floor scratch temps bound
 
   abbrev Correct : Evaluation ℕ → Lowering → Type 0
-  Correct = c.Correct p setting frame function locals sizes held floor scratch temps bound
+  Correct = c.Correct p setting frame began function locals sizes held floor scratch temps bound
 
   abbrev CorrectFor : ℕ → Evaluation ℕ → Lowering → Type 0
-  CorrectFor = c.CorrectFor p setting frame function locals sizes held floor scratch temps bound
+  CorrectFor = c.CorrectFor p setting frame began function locals sizes held floor scratch temps bound
 
   -- ---- a temporary that is no local
 
@@ -55,6 +56,7 @@ module _ (p : Program) (setting : Setting) (frame : code_world.Frame) (function 
     world = k.world;
     depth = k.depth;
     live = k.live;
+    pinned = k.pinned;
     function = k.function;
     switches = k.switches;
     each = λ l le sc. get_or-set_other s.temps n l v 0 (λ e. absurd (omega (arith, h, le, e, k.above))) ∙ k.each l le sc;
@@ -113,7 +115,7 @@ module _ (p : Program) (setting : Setting) (frame : code_world.Frame) (function 
   then_rest due total credit d c1 n n1 s code rest t t1 v f w work r (Came v2 f2 w2 work2) le enough h = record {
     state = h.state;
     cost = r.cost + h.cost;
-    runs = run.runs_append p setting frame function locals sizes held floor scratch temps bound code rest s r.state (Next h.state) r.cost h.cost r.runs h.runs;
+    runs = run.runs_append p setting frame began function locals sizes held floor scratch temps bound code rest s r.state (Next h.state) r.cost h.cost r.runs h.runs;
     shows = h.shows;
     value = h.value;
     kept = λ i a b. h.kept i a b ∙ r.kept i a (omega (arith, le, b));
@@ -121,7 +123,7 @@ module _ (p : Program) (setting : Setting) (frame : code_world.Frame) (function 
   }
   then_rest due total credit d c1 n n1 s code rest t t1 v f w work r (Stopped why w2 work2) le enough h = record {
     cost = r.cost + h.cost;
-    runs = λ ne. run.runs_append p setting frame function locals sizes held floor scratch temps bound code rest s r.state (Ends (c.end_of why (c.seen w2))) r.cost h.cost r.runs (h.runs ne);
+    runs = λ ne. run.runs_append p setting frame began function locals sizes held floor scratch temps bound code rest s r.state (Ends (c.end_of why (c.seen w2))) r.cost h.cost r.runs (h.runs ne);
     paid = omega (arith, enough, h.paid, r.paid);
   }
 
@@ -133,7 +135,7 @@ module _ (p : Program) (setting : Setting) (frame : code_world.Frame) (function 
       then_rest due total credit d c1 n n1 s code rest t t1 v f w work h (next v f w) le enough (k v f w work h)
   follow due total credit d c1 n n1 s code rest t t1 (Stopped why w work) next le enough h k = record {
     cost = h.cost;
-    runs = λ ne. run.runs_stop p setting frame function locals sizes held floor scratch temps bound code rest s (c.end_of why (c.seen w)) h.cost (h.runs ne);
+    runs = λ ne. run.runs_stop p setting frame began function locals sizes held floor scratch temps bound code rest s (c.end_of why (c.seen w)) h.cost (h.runs ne);
     paid = omega (arith, enough, h.paid);
   }
 
@@ -142,7 +144,7 @@ module _ (p : Program) (setting : Setting) (frame : code_world.Frame) (function 
   done due credit n s t v f w h e le = record {
     state = s;
     cost = 0;
-    runs = run.runs_nil p setting frame function locals sizes held floor scratch temps bound s;
+    runs = run.runs_nil p setting frame began function locals sizes held floor scratch temps bound s;
     shows = h;
     value = e;
     kept = kept_refl n s;
@@ -161,15 +163,15 @@ module _ (p : Program) (setting : Setting) (frame : code_world.Frame) (function 
       record {
         state = with_temp r.state at x;
         cost = r.cost + (8 + 3 * nodes l.tree);
-        runs = run.runs_append p setting frame function locals sizes held floor scratch temps bound l.code (set at l.tree ∷ []) s r.state _ r.cost _ r.runs (run.runs_set p setting frame function locals sizes held floor scratch temps bound at l.tree r.state);
+        runs = run.runs_append p setting frame began function locals sizes held floor scratch temps bound l.code (set at l.tree ∷ []) s r.state _ r.cost _ r.runs (run.runs_set p setting frame began function locals sizes held floor scratch temps bound at l.tree r.state);
         shows = shows_temp f w r.state at x le r.shows;
-        value = run.val_temp p setting frame function locals sizes held floor scratch temps bound at (with_temp r.state at x) ∙ get_or-set_same r.state.temps at x 0 (subst (λ k. at < k) (sym r.shows.temps) lt) ∙ r.value;
+        value = run.val_temp p setting frame began function locals sizes held floor scratch temps bound at (with_temp r.state at x) ∙ get_or-set_same r.state.temps at x 0 (subst (λ k. at < k) (sym r.shows.temps) lt) ∙ r.value;
         kept = kept_trans n at s r.state (with_temp r.state at x) up r.kept (kept_temp at r.state x);
         paid = omega (arith, r.paid, nodes_temp at);
       }
   put_away credit n at s l (Stopped why w work) up le lt h = record {
     cost = h.cost;
-    runs = λ ne. run.runs_stop p setting frame function locals sizes held floor scratch temps bound l.code (set at l.tree ∷ []) s _ h.cost (h.runs ne);
+    runs = λ ne. run.runs_stop p setting frame began function locals sizes held floor scratch temps bound l.code (set at l.tree ∷ []) s _ h.cost (h.runs ne);
     paid = h.paid;
   }
 
@@ -190,7 +192,7 @@ module _ (p : Program) (setting : Setting) (frame : code_world.Frame) (function 
   pub lasts : (keep : Bool) (n : ℕ) (l : Lowered) (s s1 : State) → floor ≤ n → (keep ≡ true → s ≡ s1) → Kept (n + 1) s s1 → V (kept_if keep n l).tree s1 ≡ V (kept_if keep n l).tree s
   lasts true n l s s1 le e k = ap (V l.tree) (sym (e refl))
   lasts false n l s s1 le e k =
-      run.val_temp p setting frame function locals sizes held floor scratch temps bound n s1 ∙ k n le (omega arith) ∙ sym (run.val_temp p setting frame function locals sizes held floor scratch temps bound n s)
+      run.val_temp p setting frame began function locals sizes held floor scratch temps bound n s1 ∙ k n le (omega arith) ∙ sym (run.val_temp p setting frame began function locals sizes held floor scratch temps bound n s)
 
   -- ---- two operands
 
@@ -223,7 +225,7 @@ module _ (p : Program) (setting : Setting) (frame : code_world.Frame) (function 
       (λ y f2 w2 work2 r2.
       more_credit due due (credit + (3 * nodes (first la lb n).tree + 3 * nodes (second lb n).tree)) (credit + 3 * nodes (first la lb n).tree + (3 * nodes (second lb n).tree + 0)) n n r2.state rest t (next x y f2 w2) (omega arith) (omega arith) (omega arith)
       (k x y f2 w2 r2.state r2.shows
-      (lasts keep n (la n) r1.state r2.state le (λ e. run.runs_nowhere p setting frame function locals sizes held floor scratch temps bound (second lb n).code r1.state r2.state r2.cost (empty (second lb n).code (is_low (la n).tree) e) r2.runs) r2.kept ∙ r1.value)
+      (lasts keep n (la n) r1.state r2.state le (λ e. run.runs_nowhere p setting frame began function locals sizes held floor scratch temps bound (second lb n).code r1.state r2.state r2.cost (empty (second lb n).code (is_low (la n).tree) e) r2.runs) r2.kept ∙ r1.value)
       r2.value)))
 
   -- ---- work that pays

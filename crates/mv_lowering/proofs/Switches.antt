@@ -6,6 +6,7 @@ use Rattle.mv_ir.specs.declared.tree.Tree.{Tree}
 use Rattle.mv_ir.specs.declared.stm.Stm.{Stm}
 use Rattle.mv_ir.specs.declared.stm.Stm.TheOpen as stm
 use Rattle.mv_ast.specs.declared.program.Program.{Program}
+use Rattle.mv_ast.specs.declared.world.Binding.{Binding}
 use Rattle.mv_ast.specs.Worlds.{World, Outcome, Came, Stopped, after, and_then, bind}
 use Rattle.mv_meaning.specs.declared.state.Frame.{Frame}
 use Rattle.mv_meaning.specs.declared.state.Flow.{Flow}
@@ -31,7 +32,7 @@ use Rattle.mv_lowering.proofs.Flows as flows
 
 -- ---- lists of statements
 
-in_order_both : (xs ys : List (Evaluation Flow)) (f : Frame) (w : World) → in_order (xs ++ ys) f w ≡ bind (in_order xs) (λ flow. then_on flow (in_order ys)) f w
+pub in_order_both : (xs ys : List (Evaluation Flow)) (f : Frame) (w : World) → in_order (xs ++ ys) f w ≡ bind (in_order xs) (λ flow. then_on flow (in_order ys)) f w
 in_order_both [] ys f w = sym (given Goes (λ flow. then_on flow (in_order ys)) f w)
 in_order_both (x ∷ xs) ys f w =
     under (x f w) (λ flow. then_on flow (in_order (xs ++ ys))) (λ flow. bind (then_on flow (in_order xs)) (λ fl. then_on fl (in_order ys))) (by (λ f1 w1. in_order_both xs ys f1 w1)) ∙
@@ -92,18 +93,18 @@ abbrev lowered_labels : List LoweredArm → List ℕ
 lowered_labels [] = []
 lowered_labels (a ∷ arms) = a.labels ++ lowered_labels arms
 
-module _ (p : Program) (setting : Setting) (frame : code_world.Frame) (own locals : ℕ) (sizes : ℕ → Option ℕ) (room : ℕ) (void : Bool) where
+module _ (p : Program) (setting : Setting) (frame : code_world.Frame) (began : List Binding) (own locals : ℕ) (sizes : ℕ → Option ℕ) (room : ℕ) (void : Bool) where
   abbrev FlowShown : (Flow → State → ir.Outcome) → ℕ → Run → Outcome Frame Flow → Type 0
-  FlowShown = flows.FlowShown p setting frame own locals sizes room void
+  FlowShown = flows.FlowShown p setting frame began own locals sizes room void
 
   abbrev FlowCorrect : (Flow → State → ir.Outcome) → ℕ → Bound → Evaluation Flow → List Stm → Type 0
-  FlowCorrect = flows.FlowCorrect p setting frame own locals sizes room void
+  FlowCorrect = flows.FlowCorrect p setting frame began own locals sizes room void
 
   abbrev Shows : Frame → World → State → Type 0
-  Shows = flows.Shows p setting frame own locals sizes room void
+  Shows = flows.Shows p setting frame began own locals sizes room void
 
   abbrev code : List Stm → Bound → State → Run
-  code = flows.code p setting frame own locals sizes room void
+  code = flows.code p setting frame began own locals sizes room void
 
   joined : (xs ys : List Stm) (b : Bound) (s : State) → code (xs ++ ys) b s ≡ then_do (code xs b s) (code ys b)
   joined xs ys b s = ap (λ l. ir.in_order l b s) (map_append (meaning setting frame) xs ys) ∙ in_order_append (map (meaning setting frame) xs) (map (meaning setting frame) ys) b s
@@ -111,14 +112,14 @@ module _ (p : Program) (setting : Setting) (frame : code_world.Frame) (own local
   -- ---- the tests
 
   abbrev V : Bound → Tree → State → ℕ
-  V b = c.val p setting frame own locals sizes (λ l. None) locals (λ k. 0) room b
+  V b = c.val p setting frame began own locals sizes (λ l. None) locals (λ k. 0) room b
 
   test_value : (b : Bound) (n l v : ℕ) (s : State) → slice_index s.temps n ≡ v → V b (binary 11 (temp n) (number l)) s ≡ flag (eqb v l)
   unfolding ir_tree.binary
   test_value b n l v s e =
-      run.val_binary p setting frame own locals sizes (λ l. None) locals (λ k. 0) room b 11 (temp n) (number l) s ∙
-      ap (λ x. flag (eqb x (V b (number l) s))) (run.val_temp p setting frame own locals sizes (λ l. None) locals (λ k. 0) room b n s ∙ e) ∙
-      ap (λ x. flag (eqb v x)) (run.val_number p setting frame own locals sizes (λ l. None) locals (λ k. 0) room b l s)
+      run.val_binary p setting frame began own locals sizes (λ l. None) locals (λ k. 0) room b 11 (temp n) (number l) s ∙
+      ap (λ x. flag (eqb x (V b (number l) s))) (run.val_temp p setting frame began own locals sizes (λ l. None) locals (λ k. 0) room b n s ∙ e) ∙
+      ap (λ x. flag (eqb v x)) (run.val_number p setting frame began own locals sizes (λ l. None) locals (λ k. 0) room b l s)
 
   test_nodes : (n l : ℕ) → nodes (binary 11 (temp n) (number l)) ≡ 3
   test_nodes n l = omega (arith, nodes_binary 11 (temp n) (number l), nodes_temp n, nodes_number l)
@@ -126,7 +127,7 @@ module _ (p : Program) (setting : Setting) (frame : code_world.Frame) (own local
   one_test : (b : Bound) (n i l v : ℕ) (s : State) → slice_index s.temps n ≡ v →
       code (choose (binary 11 (temp n) (number l)) (break i ∷ []) [] ∷ []) b s ≡ cond (eqb v l) (ran 25 (Leaves i s)) (ran 17 (Next s))
   one_test b n i l v s e =
-      run.if_runs p setting frame own locals sizes (λ l. None) locals (λ k. 0) room b (binary 11 (temp n) (number l)) (break i ∷ []) [] s ∙
+      run.if_runs p setting frame began own locals sizes (λ l. None) locals (λ k. 0) room b (binary 11 (temp n) (number l)) (break i ∷ []) [] s ∙
       ap (λ k. spend (8 + 3 * k) (cond (eqb (V b (binary 11 (temp n) (number l)) s) 0) (code [] b s) (code (break i ∷ []) b s))) (test_nodes n l) ∙
       ap (λ x. spend 17 (cond (eqb x 0) (ran 0 (Next s)) (code (break i ∷ []) b s))) (test_value b n l v s e) ∙
       ap (λ r. spend 17 (cond (eqb (flag (eqb v l)) 0) (ran 0 (Next s)) r)) (one_meaning setting frame (stm.Break i) b s) ∙ by (eqb v l)
@@ -255,8 +256,8 @@ module _ (p : Program) (setting : Setting) (frame : code_world.Frame) (own local
   falls j credit b (d ∷ ds) (l ∷ ls) inner s o h k =
       subst (λ (q : Outcome Frame Flow). FlowShown (out_in zero j) credit (code (nested (enclosed inner ∷ (l.body (in_arm (length ls) j)).code) ls j) b s) q) (falls_same o d.body (bodies_of ds))
       (falls j credit b ds ls (enclosed inner ∷ (l.body (in_arm (length ls) j)).code) s (and_then o (λ flow. then_on flow (in_order d.body))) h.3
-      (flows.more p setting frame own locals sizes room void (out_in (length ls) j) (0 + credit) credit (code (enclosed inner ∷ (l.body (in_arm (length ls) j)).code) b s) (and_then o (λ flow. then_on flow (in_order d.body))) (omega arith)
-      (flows.then_next p setting frame own locals sizes room void (in_arm (length ls) j) b credit 0 s (enclosed inner ∷ []) (l.body (in_arm (length ls) j)).code (in_order d.body) o (in_one_block j (length ls) credit b inner s o k) h.2)))
+      (flows.more p setting frame began own locals sizes room void (out_in (length ls) j) (0 + credit) credit (code (enclosed inner ∷ (l.body (in_arm (length ls) j)).code) b s) (and_then o (λ flow. then_on flow (in_order d.body))) (omega arith)
+      (flows.then_next p setting frame began own locals sizes room void (in_arm (length ls) j) b credit 0 s (enclosed inner ∷ []) (l.body (in_arm (length ls) j)).code (in_order d.body) o (in_one_block j (length ls) credit b inner s o k) h.2)))
 
   -- into the arm at a place, or behind all
   enters : (j : Jumps) (b : Bound) (ds : List ArmDenotation) (ls : List LoweredArm) (inner : List Stm) (s s1 : State) (f : Frame) (w : World) (cost at : ℕ) → ArmsCorrect b j ds ls → Shows f w s1 →
@@ -277,8 +278,8 @@ module _ (p : Program) (setting : Setting) (frame : code_world.Frame) (own local
       (subst (λ (q : Outcome Frame Flow). FlowShown (out_in zero j) cost (code (nested (enclosed inner ∷ body) ls j) b s) q)
       (falls_same start d.body (bodies_of ds) ∙ after_zero (in_order (d.body ++ bodies_of ds) f w))
       (falls j cost b ds ls (enclosed inner ∷ body) s all h.3
-      (flows.more p setting frame own locals sizes room void (out_in (length ls) j) (0 + cost) cost (code (enclosed inner ∷ body) b s) all (omega arith)
-      (flows.then_next p setting frame own locals sizes room void (in_arm (length ls) j) b cost 0 s (enclosed inner ∷ []) body (in_order d.body) start here h.2))))
+      (flows.more p setting frame began own locals sizes room void (out_in (length ls) j) (0 + cost) cost (code (enclosed inner ∷ body) b s) all (omega arith)
+      (flows.then_next p setting frame began own locals sizes room void (in_arm (length ls) j) b cost 0 s (enclosed inner ∷ []) body (in_order d.body) start here h.2))))
   enters j b (d ∷ ds) (l ∷ ls) inner s s1 f w cost (suc at) h sh e le =
       let body = (l.body (in_arm (length ls) j)).code in
       enters j b ds ls (enclosed inner ∷ body) s s1 f w cost at h.3 sh
@@ -361,9 +362,9 @@ module _ (p : Program) (setting : Setting) (frame : code_world.Frame) (own local
       entered : (pick : ArmDenotation → Bool) (lowered : LoweredArm → Bool) (cost : ℕ) → picks pick lowered ds ls → code inner b s ≡ ran cost (Leaves (arm_place lowered 0 ls) s) → cost ≤ 17 * t.labels + 8 →
           FlowShown (out_of void j) 8 (code (enclosed (nested inner ls j) ∷ []) b s) (after t.labels (and_then (in_order (bodies_from pick ds) f w) after_switch))
       entered pick lowered cost picked r le =
-          flows.paid_by p setting frame own locals sizes room void (out_of void j) 8 t.labels (code (enclosed (nested inner ls j) ∷ []) b s) (and_then (in_order (bodies_from pick ds) f w) after_switch)
+          flows.paid_by p setting frame began own locals sizes room void (out_of void j) 8 t.labels (code (enclosed (nested inner ls j) ∷ []) b s) (and_then (in_order (bodies_from pick ds) f w) after_switch)
           (subst (λ (bodies : List (Evaluation Flow)). FlowShown (out_of void j) (8 + 100 * t.labels) (code (enclosed (nested inner ls j) ∷ []) b s) (and_then (in_order bodies f w) after_switch)) (picked_is pick lowered ds ls picked)
-          (flows.more p setting frame own locals sizes room void (out_of void j) cost (8 + 100 * t.labels) (code (enclosed (nested inner ls j) ∷ []) b s) (and_then (in_order (bodies_of (drop (arm_place lowered 0 ls) ds)) f w) after_switch) (omega (arith, le))
+          (flows.more p setting frame began own locals sizes room void (out_of void j) cost (8 + 100 * t.labels) (code (enclosed (nested inner ls j) ∷ []) b s) (and_then (in_order (bodies_of (drop (arm_place lowered 0 ls) ds)) f w) after_switch) (omega (arith, le))
           (enters j b ds ls inner s s f w cost (arm_place lowered 0 ls) h sh r (place_within lowered ls))))
 
       by : (z : Bool) → t.found ≡ z → FlowShown (out_of void j) 8 (code (enclosed (nested inner ls j) ∷ []) b s) (arrived t)
@@ -377,18 +378,18 @@ module _ (p : Program) (setting : Setting) (frame : code_world.Frame) (own local
           (tests ∙ ap (λ z. cond z (ran (17 * t.labels + 8) (Leaves (arm_place (hits v) 0 ls) s)) (spend (17 * t.labels) (code (break (arm_place (λ a. a.other) 0 ls) ∷ []) b s))) q ∙
           ap (λ r. spend (17 * t.labels) r) (one_meaning setting frame (stm.Break (arm_place (λ a. a.other) 0 ls)) b s)) (omega arith))
 
-  pub switch_correct : (j : Jumps) (b : Bound) (me : Evaluation ℕ) (le : Lowering) (ds : List ArmDenotation) (ls : List LoweredArm) → (le locals).top ≤ room → locals + 1 ≤ room → flows.CorrectFor p setting frame own locals sizes room void b 0 me le → ArmsCorrect b j ds ls →
+  pub switch_correct : (j : Jumps) (b : Bound) (me : Evaluation ℕ) (le : Lowering) (ds : List ArmDenotation) (ls : List LoweredArm) → (le locals).top ≤ room → locals + 1 ≤ room → flows.CorrectFor p setting frame began own locals sizes room void b 0 me le → ArmsCorrect b j ds ls →
       FlowCorrect (out_of void j) 100 b (bind me (λ v. switch_flow v ds)) (lower_switch locals le ls j).code
   switch_correct j b me le ds ls fits room_for ce h f w s sh =
       let e = le locals in
       let rest = enclosed (nested (test_arms locals 0 ls ++ break (arm_place (λ a. a.other) 0 ls) ∷ []) ls j) ∷ [] in
-      flows.behind p setting frame own locals sizes room void (out_of void j) b 100 0 locals s e.code (set locals e.tree ∷ rest) e.tree (me f w) (λ v. switch_flow v ds) (ce locals f w s (omega arith) fits (flows.at_bound p setting frame own locals sizes room void b f w s sh))
+      flows.behind p setting frame began own locals sizes room void (out_of void j) b 100 0 locals s e.code (set locals e.tree ∷ rest) e.tree (me f w) (λ v. switch_flow v ds) (ce locals f w s (omega arith) fits (flows.at_bound p setting frame began own locals sizes room void b f w s sh))
       (λ v f1 w1 work r.
-      let x = c.val p setting frame own locals sizes (λ l. None) locals (λ k. 0) room b e.tree r.state in
+      let x = c.val p setting frame began own locals sizes (λ l. None) locals (λ k. 0) room b e.tree r.state in
       let s1 = with_temp r.state locals x in
-      let shown = flows.at_no_bound p setting frame own locals sizes room void b f1 w1 r.state r.shows in
-      flows.more p setting frame own locals sizes room void (out_of void j) (8 + (8 + 3 * nodes e.tree)) (100 + (3 * nodes e.tree + 11)) (code (set locals e.tree ∷ rest) b r.state) (switch_flow v ds f1 w1) (omega arith)
-      (flows.priced p setting frame own locals sizes room void (out_of void j) 8 (8 + 3 * nodes e.tree) (code rest b s1) (code (set locals e.tree ∷ rest) b r.state) (switch_flow v ds f1 w1)
-      (joined (set locals e.tree ∷ []) rest b r.state ∙ ap (λ q. then_do q (code rest b)) (run.runs_set p setting frame own locals sizes (λ l. None) locals (λ k. 0) room b locals e.tree r.state))
-      (arrives j b ds ls locals v f1 w1 s1 h (show.shows_temp p setting frame own locals sizes (λ l. None) locals (λ k. 0) room [] f1 w1 r.state locals x (omega arith) shown)
+      let shown = flows.at_no_bound p setting frame began own locals sizes room void b f1 w1 r.state r.shows in
+      flows.more p setting frame began own locals sizes room void (out_of void j) (8 + (8 + 3 * nodes e.tree)) (100 + (3 * nodes e.tree + 11)) (code (set locals e.tree ∷ rest) b r.state) (switch_flow v ds f1 w1) (omega arith)
+      (flows.priced p setting frame began own locals sizes room void (out_of void j) 8 (8 + 3 * nodes e.tree) (code rest b s1) (code (set locals e.tree ∷ rest) b r.state) (switch_flow v ds f1 w1)
+      (joined (set locals e.tree ∷ []) rest b r.state ∙ ap (λ q. then_do q (code rest b)) (run.runs_set p setting frame began own locals sizes (λ l. None) locals (λ k. 0) room b locals e.tree r.state))
+      (arrives j b ds ls locals v f1 w1 s1 h (show.shows_temp p setting frame began own locals sizes (λ l. None) locals (λ k. 0) room [] f1 w1 r.state locals x (omega arith) shown)
       (get_or-set_same r.state.temps locals x 0 (subst (λ k. locals < k) (sym r.shows.temps) (omega (arith, room_for))) ∙ r.value))))

@@ -9,6 +9,7 @@ use Rattle.mv_ir.specs.Outcome as ir
 use Rattle.mv_ir.specs.Trees.{value, nodes, nodes_of_all, found}
 use Rattle.mv_ir.specs.Meaning.{code_meaning}
 use Rattle.mv_ast.specs.declared.program.Program.{Program}
+use Rattle.mv_ast.specs.declared.world.Binding.{Binding}
 use Rattle.mv_ast.specs.declared.world.Stop.{Stop}
 use Rattle.mv_ast.specs.declared.world.Stop.TheVariants as stop
 use Rattle.mv_ast.specs.Worlds as worlds
@@ -71,9 +72,9 @@ IsScalar sizes held l = (sizes l ≡ None) × (held l ≡ None)
 abbrev pub IsArrayLocal : (ℕ → Option ℕ) → (ℕ → Option (List ℕ × List ℕ)) → ℕ → Type 0
 IsArrayLocal sizes held l = (sizes l ≡ None → ⊥) × (held l ≡ None)
 
--- The source has so many locals; each is a scalar, or an array where it has a size. Of a local that is being declared
+-- When the frame began the bindings were those given. The source has so many locals; each is a scalar, or an array where it has a size. Of a local that is being declared
 -- the source has some words and the code others. The temporaries behind those of the locals and up to the floor are in use, and hold these values.
-module _ (p : Program) (setting : Setting) (frame : code_world.Frame) (own locals : ℕ) (sizes : ℕ → Option ℕ) (held : ℕ → Option (List ℕ × List ℕ)) (floor : ℕ) (scratch : ℕ → ℕ) (room : ℕ) (bound : Bound) where
+module _ (p : Program) (setting : Setting) (frame : code_world.Frame) (began : List Binding) (own locals : ℕ) (sizes : ℕ → Option ℕ) (held : ℕ → Option (List ℕ × List ℕ)) (floor : ℕ) (scratch : ℕ → ℕ) (room : ℕ) (bound : Bound) where
   -- a tree's value
   abbrev pub val : Tree → State → ℕ
   val t s = value setting.numbers frame.bound t s.temps s.world.globals
@@ -83,11 +84,12 @@ module _ (p : Program) (setting : Setting) (frame : code_world.Frame) (own local
   Runs code s o c = code_meaning setting frame code bound s ≡ ran c o
 
   -- The code's state shows the source's frame and world: each scalar stands in the temporary of its number, each array in the array of its
-  -- number, and each object has the number of words that it is declared with.
+  -- number, and each object has the number of words that it is declared with. Where an attributed frame is live, the bindings are those at the frame's start.
   pub record Shows (f : Frame) (w : World) (s : State) : Type 0 where
     pub world : s.world ≡ seen w
     pub depth : w.depth ≡ frame.depth
     pub live : w.live ≡ frame.live
+    pub pinned : 0 < frame.live → w.bindings ≡ began
     pub function : f.function ≡ own
     pub switches : (g : ℕ) → found frame.bound g ≡ bound_value p w.bindings own (slice_get p.functions own) g
     pub each : (l : ℕ) → l < locals → IsScalar sizes held l → slice_index s.temps l ≡ word_at f.locals l 0
@@ -159,12 +161,13 @@ module _ (p : Program) (setting : Setting) (frame : code_world.Frame) (own local
 
   -- ---- what calls do
 
-  -- a call leaves the caller's frame as it was, with the values that its switches are read as, and no object gets another size
+  -- a call leaves the caller's frame as it was, with the values that its switches are read as, all bindings where an attributed frame is live, and no object gets another size
   pub record Unmoved (f f2 : Frame) (w w2 : World) : Type 0 where
     pub globals : (g : ℕ) → length (slice_index_or w2.globals g []) ≡ length (slice_index_or w.globals g [])
     pub frame_same : f2 ≡ f
     pub depth : w2.depth ≡ w.depth
     pub live : w2.live ≡ w.live
+    pub pinned : 0 < frame.live → w2.bindings ≡ w.bindings
     pub switches : (g : ℕ) → bound_value p w2.bindings own (slice_get p.functions own) g ≡ bound_value p w.bindings own (slice_get p.functions own) g
 
   pub record KnownReached (a : code_world.Answer) (v : ℕ) (f f2 : Frame) (w w2 : World) (work : ℕ) : Type 0 where
@@ -190,8 +193,9 @@ module _ (p : Program) (setting : Setting) (frame : code_world.Frame) (own local
     pub paid : c.cost ≤ 20 + 100 * work
 
   pub record CallHalted (c : Call) (why : Stop) (w2 : World) (work : ℕ) : Type 0 where
-    pub ends : is_astray why ≡ false → c.end ≡ end_of why (seen w2)
-    pub paid : c.cost ≤ 20 + 100 * work
+    pub cost : ℕ
+    pub ends : is_astray why ≡ false → c ≡ record { cost = cost; end = end_of why (seen w2) }
+    pub paid : cost ≤ 20 + 100 * work
 
   abbrev pub CallShown : Bool → Call → Frame → World → Outcome Frame ℕ → Type 0
   CallShown void c f w (Came v f2 w2 work) = CallReached void c v f f2 w w2 work
@@ -201,4 +205,5 @@ module _ (p : Program) (setting : Setting) (frame : code_world.Frame) (own local
   abbrev pub CallsAgree : Context → Type 0
   CallsAgree context =
       (g : ℕ) (void : Bool) (vs : List ℕ) (f : Frame) (w : World) → is_callable p g (length vs) void ≡ true → f.function ≡ own → w.depth ≡ frame.depth → w.live ≡ frame.live →
+      ((x : ℕ) → length (slice_index_or w.globals x []) ≡ global_words p x) →
       CallShown void (level bound g vs frame.depth frame.live (seen w)) f w (context.call g vs f w)

@@ -6,6 +6,7 @@ use Rattle.mv_ast.specs.declared.program.Stmt.{Stmt}
 use Rattle.mv_ast.specs.Worlds.{stop}
 use Rattle.mv_ast.specs.declared.program.Known.{Known}
 use Rattle.mv_ast.specs.declared.program.Program.{Program}
+use Rattle.mv_ast.specs.declared.world.Binding.{Binding}
 use Rattle.mv_ir.specs.World.{Setting}
 use Rattle.mv_ir.specs.World as code_world
 use Rattle.mv_ir.specs.Outcome.{Bound, Calls}
@@ -21,12 +22,12 @@ use Rattle.mv_lowering.specs.LowerStatements.{lower_stmt, stmt_is_well_formed}
 -- the functions that it calls and the known functions do so, and a call through a pointer reaches only functions that fit.
 abbrev pub ExpressionsAreRight : Type 0
 ExpressionsAreRight =
-    (p : Program) (setting : Setting) (frame : code_world.Frame) (function locals : ℕ) (sizes : ℕ → Option ℕ) (held : ℕ → Option (List ℕ × List ℕ)) (temps : ℕ) (bound : Bound) (free : ℕ → Bool) (context : Context) →
+    (p : Program) (setting : Setting) (frame : code_world.Frame) (began : List Binding) (function locals : ℕ) (sizes : ℕ → Option ℕ) (held : ℕ → Option (List ℕ × List ℕ)) (temps : ℕ) (bound : Bound) (free : ℕ → Bool) (context : Context) →
     ((l : ℕ) → free l ≡ true → held l ≡ None) → locals ≤ temps → IsStrict p setting.numbers context →
-    ((floor : ℕ) (scratch : ℕ → ℕ) → CallsAgree p setting frame function locals sizes held floor scratch temps bound context) →
-    ((floor : ℕ) (scratch : ℕ → ℕ) (known : Known) → KnownAgrees p setting frame function locals sizes held floor scratch temps bound known) →
+    ((floor : ℕ) (scratch : ℕ → ℕ) → CallsAgree p setting frame began function locals sizes held floor scratch temps bound context) →
+    ((floor : ℕ) (scratch : ℕ → ℕ) (known : Known) → KnownAgrees p setting frame began function locals sizes held floor scratch temps bound known) →
     (e : Expr) → is_well_named p function locals sizes free e ≡ true →
-    (floor : ℕ) (scratch : ℕ → ℕ) → Correct p setting frame function locals sizes held floor scratch temps bound (value_of p context e) (lower_expr e)
+    (floor : ℕ) (scratch : ℕ → ℕ) → Correct p setting frame began function locals sizes held floor scratch temps bound (value_of p context e) (lower_expr e)
 
 -- No tree of a lowered expression is deeper than 4.
 abbrev pub ExpressionsAreShallow : Type 0
@@ -44,12 +45,12 @@ strict_context p numbers = context_with p numbers (fits_call p) (stop astray)
 -- mean: where up to that limit the functions that they call and the known functions do so.
 abbrev pub StatementsAreRight : Type 0
 StatementsAreRight =
-    (p : Program) (setting : Setting) (frame : code_world.Frame) (function locals : ℕ) (sizes : ℕ → Option ℕ) (temps : ℕ) (void : Bool) (limit : ℕ) (calls : ℕ → Calls) →
+    (p : Program) (setting : Setting) (frame : code_world.Frame) (began : List Binding) (function locals : ℕ) (sizes : ℕ → Option ℕ) (temps : ℕ) (void : Bool) (limit : ℕ) (calls : ℕ → Calls) →
     locals ≤ temps →
     ((k : ℕ) → k ≤ limit → (held : ℕ → Option (List ℕ × List ℕ)) (floor : ℕ) (scratch : ℕ → ℕ) →
-    CallsAgree p setting frame function locals sizes held floor scratch temps (levels calls k) (strict_context p setting.numbers k)) →
-    ((k : ℕ) (held : ℕ → Option (List ℕ × List ℕ)) (floor : ℕ) (scratch : ℕ → ℕ) (known : Known) → KnownAgrees p setting frame function locals sizes held floor scratch temps (levels calls k) known) →
+    CallsAgree p setting frame began function locals sizes held floor scratch temps (levels calls k) (strict_context p setting.numbers k)) →
+    ((k : ℕ) (held : ℕ → Option (List ℕ × List ℕ)) (floor : ℕ) (scratch : ℕ → ℕ) (known : Known) → KnownAgrees p setting frame began function locals sizes held floor scratch temps (levels calls k) known) →
     (body : List Stmt) → all_of (map (stmt_is_well_formed p function locals sizes void) body) ≡ true → (jumps : Jumps) →
     (in_sequence locals (map (lower_stmt locals sizes void) body) jumps).top ≤ temps → (k : ℕ) → k ≤ limit →
-    FlowCorrect p setting frame function locals sizes temps void (out_of void jumps) 0 (levels calls k) (flow_of_all p (strict_context p setting.numbers k) body)
+    FlowCorrect p setting frame began function locals sizes temps void (out_of void jumps) 0 (levels calls k) (flow_of_all p (strict_context p setting.numbers k) body)
     (in_sequence locals (map (lower_stmt locals sizes void) body) jumps).code

@@ -11,6 +11,7 @@ use Rattle.mv_ir.specs.Outcome.{State, Returned, Next, Leaves, Ends, Run, Bound,
 use Rattle.mv_ir.specs.Outcome as ir
 use Rattle.mv_ir.specs.Meaning.{code_meaning}
 use Rattle.mv_ast.specs.declared.program.Program.{Program}
+use Rattle.mv_ast.specs.declared.world.Binding.{Binding}
 use Rattle.mv_ast.specs.declared.world.Stop.{Stop}
 use Rattle.mv_ast.specs.Counts.{words_of_size}
 use Rattle.mv_ast.specs.Worlds.{World, Outcome, Came, Stopped}
@@ -210,9 +211,9 @@ abbrev pub levels : (ℕ → Calls) → ℕ → Bound
 levels calls zero = []
 levels calls (suc k) = calls k ∷ levels calls k
 
-module _ (p : Program) (setting : Setting) (frame : code_world.Frame) (own locals : ℕ) (sizes : ℕ → Option ℕ) (room : ℕ) (void : Bool) where
+module _ (p : Program) (setting : Setting) (frame : code_world.Frame) (began : List Binding) (own locals : ℕ) (sizes : ℕ → Option ℕ) (room : ℕ) (void : Bool) where
   abbrev pub Shows : Bound → Frame → World → State → Type 0
-  Shows bound = c.Shows p setting frame own locals sizes (λ l. None) locals (λ k. 0) room bound
+  Shows bound = c.Shows p setting frame began own locals sizes (λ l. None) locals (λ k. 0) room bound
 
   pub record FlowReached (out : Flow → State → ir.Outcome) (credit : ℕ) (r : Run) (flow : Flow) (f : Frame) (w : World) (work : ℕ) : Type 0 where
     pub state : State

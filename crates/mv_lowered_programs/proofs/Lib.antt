@@ -1,0 +1,12 @@
+pub mod Agreement
+pub mod Leaves
+pub mod AgreedExpressions
+pub mod StatementInduction
+pub mod AgreedStatements
+pub mod KnownAgree
+pub mod Entry
+pub mod Contexts
+pub mod Pairs
+pub mod Knot
+pub mod Programs
+pub mod WorkedProgram
