@@ -1,0 +1,76 @@
+-- Counts of calls, in code and in the source, where each direct call of a function and each call through a pointer has a weight.
+use Rattle.std.specs.Prelude.{ℕ, ◌+◌, List, map, sum, if◌then◌else◌, slice_get}
+use Rattle.mv_ir.specs.declared.stm.Callee.{Callee}
+use Rattle.mv_ir.specs.declared.stm.Callee.TheVariants as callee
+use Rattle.mv_ir.specs.declared.stm.Stm.{Stm}
+use Rattle.mv_ir.specs.declared.stm.Stm.TheOpen.{Stm-F}
+use Rattle.mv_ir.specs.declared.stm.Stm.TheOpen as stm
+use Rattle.mv_ir.specs.declared.stm.Stm.TheFolds.{fold-Stm}
+use Rattle.mv_ir.specs.Measures.{total}
+use Rattle.mv_ast.specs.declared.program.Program.{Program}
+use Rattle.mv_ast.specs.declared.program.Function.{Function}
+use Rattle.mv_ast.specs.declared.program.Expr.{Expr, fold-Expr}
+use Rattle.mv_ast.specs.declared.program.Form.{Form, Form-F, fold-Form}
+use Rattle.mv_ast.specs.declared.program.Form.TheOpen as form
+use Rattle.mv_ast.specs.declared.program.Target.{Target, fold-Target}
+use Rattle.mv_ast.specs.declared.program.Stmt.{Stmt}
+use Rattle.mv_ast.specs.declared.program.Arm.{Arm}
+use Rattle.mv_ast.specs.Counts.{is_attributed, form_sum, target_sum, inner_calls, stmt_total, arm_total}
+
+module _ (direct : ℕ → ℕ) (through : ℕ) where
+  -- ---- in code
+
+  abbrev pub callee_weight : Callee → ℕ
+  callee_weight (callee.Direct f) = direct f
+  callee_weight (callee.Through t) = through
+
+  abbrev pub layer_weight : Stm-F ℕ → ℕ
+  layer_weight (stm.If t a b) = total a + total b
+  layer_weight (stm.Loop b) = total b
+  layer_weight (stm.Block b) = total b
+  layer_weight (stm.Call r f args) = callee_weight f
+  layer_weight _ = 0
+
+  unfoldable pub stm_weight : Stm → ℕ
+  stm_weight = fold-Stm ℕ layer_weight
+
+  -- of the call statements in some code
+  abbrev pub code_weight : List Stm → ℕ
+  code_weight code = total (map stm_weight code)
+
+  -- ---- in the source
+
+  abbrev pub own_weight : {A B C : Type 0} → Form-F A B C → ℕ
+  own_weight (form.Direct f args) = direct f
+  own_weight (form.Through args callee) = through
+  own_weight _ = 0
+
+  abbrev pub form_weights : Form-F ℕ ℕ ℕ → ℕ
+  form_weights f = own_weight f + form_sum f
+
+  abbrev pub form_weight : Form → ℕ
+  form_weight = fold-Form ℕ ℕ ℕ form_weights target_sum inner_calls
+
+  abbrev pub target_weight : Target → ℕ
+  target_weight = fold-Target ℕ ℕ ℕ form_weights target_sum inner_calls
+
+  abbrev pub expr_weight : Expr → ℕ
+  expr_weight = fold-Expr ℕ ℕ ℕ form_weights target_sum inner_calls
+
+  abbrev pub stmt_weight : Stmt → ℕ
+  stmt_weight = stmt_total expr_weight (λ s. 0) (λ a. 0)
+
+  abbrev pub arm_weight : Arm → ℕ
+  arm_weight = arm_total expr_weight (λ s. 0) (λ a. 0)
+
+  -- of the calls in a function
+  abbrev pub function_weight : Function → ℕ
+  function_weight g = sum (map stmt_weight g.body)
+
+-- one for each call
+abbrev pub each_once : ℕ → ℕ
+each_once f = 1
+
+-- one for each direct call of an attributed function
+abbrev pub attributed_once : Program → ℕ → ℕ
+attributed_once p f = if is_attributed (slice_get p.functions f) then 1 else 0
