@@ -28,12 +28,12 @@ pub fn attribute<'a>(
     ensures shorter { IfOk result (λ x. length x.1.now < length tokens.now) }
 {
     let (first, rest) = expect_keyword(tokens, ATTRIBUTE)?;
-    let (_, rest) = expect_mark(rest, OPEN)?;
-    let (_, rest) = expect_mark(rest, OPEN)?;
-    let (_, rest) = expect_multiverse(text, rest)?;
+    let (_, outer) = expect_mark(rest, OPEN)?;
+    let (_, inner) = expect_mark(outer, OPEN)?;
+    let (_, rest) = expect_multiverse(text, inner)?;
     let (values, rest) = domain_if_any(alloc, text, rest)?;
-    let (_, rest) = expect_mark(rest, CLOSE)?;
-    let (_, rest) = expect_mark(rest, CLOSE)?;
+    let (_, outer) = expect_mark(rest, CLOSE)?;
+    let (_, rest) = expect_mark(outer, CLOSE)?;
     let place = first.place;
     Ok((Mark { place, values }, rest))
 }
