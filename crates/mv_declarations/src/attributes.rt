@@ -1,5 +1,5 @@
 //! The one attribute, `__attribute__ ((multiverse))`.
-ghost use Rattle.std.specs.Prelude.{◌≡◌, ◌<◌, ◌≤◌, ℕ, length, IfOk};
+ghost use Rattle.std.specs.Prelude.{◌<◌, ◌≤◌, ℕ, length, IfOk};
 ghost use Rattle.mv_grammar.specs.Terminals.{terminals, is_mark};
 ghost use Rattle.mv_grammar.specs.Expressions.{Cond};
 ghost use Rattle.mv_grammar.specs.Reader.{optional, comma_list};

@@ -1,5 +1,5 @@
 //! Declarators (C11 6.7.6), with their attributes and their initial values.
-ghost use Rattle.std.specs.Prelude.{◌≡◌, ◌<◌, ◌≤◌, ℕ, length, IfOk};
+ghost use Rattle.std.specs.Prelude.{◌<◌, ◌≤◌, ℕ, length, IfOk};
 ghost use Rattle.mv_grammar.specs.Terminals.{terminal, terminals, is_mark};
 ghost use Rattle.mv_grammar.specs.Reader.{optional, comma_list};
 ghost use Rattle.mv_grammar.specs.ExpressionReader.{read};

@@ -1,5 +1,5 @@
 //! Enums (C11 6.7.2.2).
-ghost use Rattle.std.specs.Prelude.{◌≡◌, ◌<◌, ◌≤◌, ℕ, length, IfOk};
+ghost use Rattle.std.specs.Prelude.{◌<◌, ◌≤◌, ℕ, length, IfOk};
 ghost use Rattle.mv_grammar.specs.Terminals.{terminal, terminals};
 ghost use Rattle.mv_grammar.specs.Reader.{braced_list};
 ghost use Rattle.mv_grammar.specs.ExpressionReader.{read};

@@ -1,13 +1,13 @@
 //! The nodes of declarations. A node is boxed where it is made, so that a function that gives it up
 //! has one call to drop it.
-ghost use Rattle.std.specs.Prelude.{◌≡◌, Some, IfOk};
+ghost use Rattle.std.specs.Prelude.{◌≡◌, IfOk};
 ghost use Rattle.mv_ast.specs.declared.unit.Initial.TheVariants as initial;
 ghost use Rattle.mv_grammar.specs.Terminals.{terminal};
 ghost use Rattle.mv_grammar.specs.Declarations as grammar;
 
 use mv_ast::place::Place;
 use mv_ast::token::Token;
-use mv_ast::unit::{Declarator, EnumSpec, Initial, Mark, Member, Node, Param, Shape, Specs};
+use mv_ast::unit::{Declarator, Initial, Mark, Member, Node, Param, Shape, Specs};
 use mv_nodes::nodes::unboxed;
 use mv_nodes::tokens::text_of;
 use mv_num::boxed::Boxed;

@@ -1,5 +1,5 @@
 //! The specifiers of a declaration (C11 6.7.1 to 6.7.3).
-ghost use Rattle.std.specs.Prelude.{◌≡◌, ◌<◌, ℕ, length, IfOk};
+ghost use Rattle.std.specs.Prelude.{◌<◌, ℕ, length, IfOk};
 ghost use Rattle.mv_grammar.specs.Terminals.{terminals};
 ghost use Rattle.mv_grammar.specs.ExpressionReader.{read};
 ghost use Rattle.mv_grammar.specs.DeclarationReader as model;

@@ -1,10 +1,10 @@
 -- Each function's answer, put together from those of its calls in the order of the code.
-use Rattle.std.proofs.Common.{refl, sym, ap, ◌∙◌, arith}
+use Rattle.std.proofs.Common.{refl, sym, arith}
 use Rattle.std.proofs.lemmas.Result.{err_from_is_err_and}
 use Rattle.mv_grammar.specs.Terminals.{terminals}
 use Rattle.mv_grammar.specs.ExpressionReader.{read}
 use Rattle.mv_grammar.specs.DeclarationReader as model
-use Rattle.mv_nodes.proofs.Answers.{given_ok, then_ok, then_err, token_ok, choice_yes, choice_no, loop_stops, loops_at, regrouped, same_read}
+use Rattle.mv_nodes.proofs.Answers.{given_ok, then_ok, then_err, choice_yes, loop_stops, loops_at}
 use Rattle.mv_nodes.proofs.Lists.{comma_begins, comma_goes_on, comma_fails}
 use Rattle.mv_declarations.proofs.Bounds.{bounded}
 use Rattle.mv_declarations.proofs.parameters.+parameters.Goals as goal
