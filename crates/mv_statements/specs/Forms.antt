@@ -12,8 +12,8 @@ abbrev pub ended : ℕ → Line → LineReader
 ended m line = token (is_mark m) >>= λ _. give line
 
 -- a label, a jump or an expression
-abbrev pub jump : Readers → LineReader
-jump E =
+abbrev pub leaf : Readers → LineReader
+leaf E =
     choice (is_keyword 2) (case E)
     (choice (is_keyword 6) (word 6 8 a.Default)
     (choice (is_keyword 1) (word 1 6 a.Break)

@@ -64,6 +64,6 @@ pub fn first_clause<'a>(
     }
     let place = place_of(tokens);
     let (value, rest) = value(alloc, text, tokens, SEMICOLON)?;
-    let line = lines::express_if(alloc, place, value)?;
+    let line = lines::first_expression(alloc, place, value)?;
     Ok((line, rest))
 }

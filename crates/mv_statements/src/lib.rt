@@ -3,7 +3,7 @@
 #![tactic(auto)]
 
 mod clauses;
-mod jumps;
+mod leaves;
 mod lines;
 mod local;
 pub mod statement;

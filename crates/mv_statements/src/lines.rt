@@ -21,7 +21,7 @@ pub fn block(alloc: Global, place: Place, lines: List<Line>) -> Result<Boxed<Lin
 }
 
 /// A declaration, at the place of its specifiers.
-pub fn declare(
+pub fn declaration(
     alloc: Global,
     specs: Specs,
     names: List<Declarator>,
@@ -34,7 +34,7 @@ pub fn declare(
 }
 
 /// An expression and its semicolon, or the semicolon alone.
-pub fn express(
+pub fn expression(
     alloc: Global,
     place: Place,
     value: Option<Boxed<Node>>,
@@ -45,8 +45,8 @@ pub fn express(
     Boxed::new(alloc, Line { place, what })
 }
 
-/// The same, and nothing for the semicolon alone.
-pub fn express_if(
+/// What a `for` begins with: the same, and nothing for the semicolon alone.
+pub fn first_expression(
     alloc: Global,
     place: Place,
     value: Option<Boxed<Node>>,
@@ -55,7 +55,7 @@ pub fn express_if(
 {
     match value {
         Some(value) => {
-            let line = express(alloc, place, Some(value))?;
+            let line = expression(alloc, place, Some(value))?;
             Ok(Some(line))
         }
         None => Ok(None),
@@ -63,7 +63,7 @@ pub fn express_if(
 }
 
 /// `if`, with what stands behind its `else`.
-pub fn choose(
+pub fn if_statement(
     alloc: Global,
     place: Place,
     test: Boxed<Node>,
@@ -77,7 +77,7 @@ pub fn choose(
 }
 
 /// `while`
-pub fn repeat_while(
+pub fn while_statement(
     alloc: Global,
     place: Place,
     test: Boxed<Node>,
@@ -90,7 +90,7 @@ pub fn repeat_while(
 }
 
 /// `do`
-pub fn repeat_do(
+pub fn do_statement(
     alloc: Global,
     place: Place,
     body: Boxed<Line>,
@@ -103,7 +103,7 @@ pub fn repeat_do(
 }
 
 /// `for`
-pub fn repeat_for(
+pub fn for_statement(
     alloc: Global,
     place: Place,
     first: Option<Boxed<Line>>,
@@ -118,7 +118,7 @@ pub fn repeat_for(
 }
 
 /// `switch`
-pub fn switch(
+pub fn switch_statement(
     alloc: Global,
     place: Place,
     tested: Boxed<Node>,
@@ -131,7 +131,11 @@ pub fn switch(
 }
 
 /// `case`
-pub fn case(alloc: Global, place: Place, value: Boxed<Node>) -> Result<Boxed<Line>, AllocError>
+pub fn case_label(
+    alloc: Global,
+    place: Place,
+    value: Boxed<Node>,
+) -> Result<Boxed<Line>, AllocError>
     ensures { IfOk result (λ line. line ≡ line_at place (act.Case value)) }
 {
     let what = Act::Case(value.into_inner());
@@ -139,7 +143,7 @@ pub fn case(alloc: Global, place: Place, value: Boxed<Node>) -> Result<Boxed<Lin
 }
 
 /// `default`
-pub fn default(alloc: Global, place: Place) -> Result<Boxed<Line>, AllocError>
+pub fn default_label(alloc: Global, place: Place) -> Result<Boxed<Line>, AllocError>
     ensures { IfOk result (λ line. line ≡ line_at place act.Default) }
 {
     let what = Act::Default;
@@ -147,7 +151,7 @@ pub fn default(alloc: Global, place: Place) -> Result<Boxed<Line>, AllocError>
 }
 
 /// `break`
-pub fn leave(alloc: Global, place: Place) -> Result<Boxed<Line>, AllocError>
+pub fn break_statement(alloc: Global, place: Place) -> Result<Boxed<Line>, AllocError>
     ensures { IfOk result (λ line. line ≡ line_at place act.Break) }
 {
     let what = Act::Break;
@@ -155,7 +159,7 @@ pub fn leave(alloc: Global, place: Place) -> Result<Boxed<Line>, AllocError>
 }
 
 /// `continue`
-pub fn go_on(alloc: Global, place: Place) -> Result<Boxed<Line>, AllocError>
+pub fn continue_statement(alloc: Global, place: Place) -> Result<Boxed<Line>, AllocError>
     ensures { IfOk result (λ line. line ≡ line_at place act.Continue) }
 {
     let what = Act::Continue;
@@ -163,7 +167,7 @@ pub fn go_on(alloc: Global, place: Place) -> Result<Boxed<Line>, AllocError>
 }
 
 /// `return`
-pub fn give(
+pub fn return_statement(
     alloc: Global,
     place: Place,
     value: Option<Boxed<Node>>,

@@ -27,6 +27,6 @@ pub fn local<'a>(
     let (specs, rest) = specs(alloc, text, tokens)?;
     let (names, rest) = declared_list(alloc, text, rest)?;
     let (_, rest) = expect_mark(rest, SEMICOLON)?;
-    let line = lines::declare(alloc, specs, names)?;
+    let line = lines::declaration(alloc, specs, names)?;
     Ok((line, rest))
 }

@@ -6,7 +6,7 @@ ghost use Rattle.mv_grammar.specs.StatementReader as model;
 ghost use Rattle.mv_nodes.specs.Gives.{Gives};
 
 use crate::clauses::{condition, first_clause, value};
-use crate::jumps::jump;
+use crate::leaves::leaf;
 use crate::lines;
 use crate::local::local;
 use mv_ast::place::Place;
@@ -64,7 +64,7 @@ pub fn statement<'a>(
     if let Some((first, rest)) = next_keyword(tokens, SWITCH) {
         return switch_rest(alloc, text, first.place, rest);
     }
-    jump(alloc, text, tokens)
+    leaf(alloc, text, tokens)
 }
 
 // What stands behind the `{` of a block.
@@ -120,11 +120,11 @@ fn if_rest<'a>(
     let (test, rest) = condition(alloc, text, tokens)?;
     let (first, rest) = statement(alloc, text, rest)?;
     let Some((_, after)) = next_keyword(rest, ELSE) else {
-        let line = lines::choose(alloc, place, test, first, None)?;
+        let line = lines::if_statement(alloc, place, test, first, None)?;
         return Ok((line, rest));
     };
     let (second, rest) = statement(alloc, text, after)?;
-    let line = lines::choose(alloc, place, test, first, Some(second))?;
+    let line = lines::if_statement(alloc, place, test, first, Some(second))?;
     Ok((line, rest))
 }
 
@@ -141,7 +141,7 @@ fn while_rest<'a>(
 {
     let (test, rest) = condition(alloc, text, tokens)?;
     let (body, rest) = statement(alloc, text, rest)?;
-    let line = lines::repeat_while(alloc, place, test, body)?;
+    let line = lines::while_statement(alloc, place, test, body)?;
     Ok((line, rest))
 }
 
@@ -160,7 +160,7 @@ fn do_rest<'a>(
     let (_, rest) = expect_keyword(rest, WHILE)?;
     let (test, rest) = condition(alloc, text, rest)?;
     let (_, rest) = expect_mark(rest, SEMICOLON)?;
-    let line = lines::repeat_do(alloc, place, body, test)?;
+    let line = lines::do_statement(alloc, place, body, test)?;
     Ok((line, rest))
 }
 
@@ -180,7 +180,7 @@ fn for_rest<'a>(
     let (test, rest) = value(alloc, text, rest, SEMICOLON)?;
     let (step, rest) = value(alloc, text, rest, CLOSE)?;
     let (body, rest) = statement(alloc, text, rest)?;
-    let line = lines::repeat_for(alloc, place, first, test, step, body)?;
+    let line = lines::for_statement(alloc, place, first, test, step, body)?;
     Ok((line, rest))
 }
 
@@ -197,6 +197,6 @@ fn switch_rest<'a>(
 {
     let (tested, rest) = condition(alloc, text, tokens)?;
     let (body, rest) = statement(alloc, text, rest)?;
-    let line = lines::switch(alloc, place, tested, body)?;
+    let line = lines::switch_statement(alloc, place, tested, body)?;
     Ok((line, rest))
 }

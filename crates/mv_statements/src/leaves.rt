@@ -1,5 +1,4 @@
-//! The statements that hold no other statement: labels, jumps and expressions (C11 6.8.1, 6.8.3,
-//! 6.8.6).
+//! The statements that hold no other: labels, jumps and expressions (C11 6.8.1, 6.8.3, 6.8.6).
 ghost use Rattle.std.specs.Prelude.{◌≡◌, ◌<◌, ℕ, List, length, IfOk};
 ghost use Rattle.mv_grammar.specs.Terminals.{terminals};
 ghost use Rattle.mv_grammar.specs.ExpressionReader.{read};
@@ -21,34 +20,38 @@ use mv_num::boxed::Boxed;
 use std::alloc::Global;
 
 /// A statement that holds no other.
-pub fn jump<'a>(
+pub fn leaf<'a>(
     alloc: Global,
     text: &[u8],
     tokens: &'a [Token],
 ) -> Result<(Boxed<Line>, &'a [Token]), Fault>
-    ensures reads { (n : ℕ) → Gives (λ x. (x.0, terminals text.now x.1.now)) result (forms.jump (read n) (terminals text.now tokens.now)) }
+    ensures reads { (n : ℕ) → Gives (λ x. (x.0, terminals text.now x.1.now)) result (forms.leaf (read n) (terminals text.now tokens.now)) }
     ensures shorter { IfOk result (λ x. length x.1.now < length tokens.now) }
 {
     if let Some((first, rest)) = next_keyword(tokens, CASE) {
-        return case_label(alloc, text, first.place, rest);
+        return case_rest(alloc, text, first.place, rest);
     }
     if let Some((first, rest)) = next_keyword(tokens, DEFAULT) {
-        return ended(lines::default(alloc, first.place)?, COLON, rest);
+        return ended(lines::default_label(alloc, first.place)?, COLON, rest);
     }
     if let Some((first, rest)) = next_keyword(tokens, BREAK) {
-        return ended(lines::leave(alloc, first.place)?, SEMICOLON, rest);
+        return ended(lines::break_statement(alloc, first.place)?, SEMICOLON, rest);
     }
     if let Some((first, rest)) = next_keyword(tokens, CONTINUE) {
-        return ended(lines::go_on(alloc, first.place)?, SEMICOLON, rest);
+        return ended(
+            lines::continue_statement(alloc, first.place)?,
+            SEMICOLON,
+            rest,
+        );
     }
     if let Some((first, rest)) = next_keyword(tokens, RETURN) {
-        return return_value(alloc, text, first.place, rest);
+        return return_rest(alloc, text, first.place, rest);
     }
-    simple(alloc, text, tokens)
+    expression_statement(alloc, text, tokens)
 }
 
 // What stands behind `case`.
-fn case_label<'a>(
+fn case_rest<'a>(
     alloc: Global,
     text: &[u8],
     place: Place,
@@ -59,7 +62,7 @@ fn case_label<'a>(
 {
     let (value, rest) = conditional(alloc, text, tokens)?;
     let (_, rest) = expect_mark(rest, COLON)?;
-    let line = lines::case(alloc, place, value)?;
+    let line = lines::case_label(alloc, place, value)?;
     Ok((line, rest))
 }
 
@@ -77,7 +80,7 @@ fn ended<'a>(
 }
 
 // What stands behind `return`.
-fn return_value<'a>(
+fn return_rest<'a>(
     alloc: Global,
     text: &[u8],
     place: Place,
@@ -87,12 +90,12 @@ fn return_value<'a>(
     ensures shorter { IfOk result (λ x. length x.1.now < length tokens.now) }
 {
     let (value, rest) = value(alloc, text, tokens, SEMICOLON)?;
-    let line = lines::give(alloc, place, value)?;
+    let line = lines::return_statement(alloc, place, value)?;
     Ok((line, rest))
 }
 
 // An expression or nothing, and a semicolon.
-fn simple<'a>(
+fn expression_statement<'a>(
     alloc: Global,
     text: &[u8],
     tokens: &'a [Token],
@@ -102,6 +105,6 @@ fn simple<'a>(
 {
     let place = place_of(tokens);
     let (value, rest) = value(alloc, text, tokens, SEMICOLON)?;
-    let line = lines::express(alloc, place, value)?;
+    let line = lines::expression(alloc, place, value)?;
     Ok((line, rest))
 }
