@@ -1,10 +1,10 @@
 -- Levels are all within the limit, or there is one first token that is too deep.
-use Rattle.std.proofs.Common.{◌≡◌, ℕ, suc, ◌<◌, ◌≤◌, List, [], ◌∷◌, ◌⊎◌, inl, inr, length, drop, slice_index, All, refl, sym, ap, subst, ◌∙◌, arith}
+use Rattle.std.proofs.Common.{◌≡◌, ℕ, suc, ◌<◌, ◌≤◌, List, [], ◌∷◌, ◌⊎◌, inl, inr, length, drop, slice_index, refl, sym, ap, ◌∙◌, arith}
 use Rattle.std.proofs.lemmas.Bool.{cases_lt}
 use Rattle.mv_ast.specs.declared.place.Place.{Place}
 use Rattle.mv_ast.specs.declared.token.Token.{Token}
 use Rattle.mv_ast.specs.declared.token.Tokens.{Tokens}
-use Rattle.mv_nesting.specs.Nesting.{Pairs, IsFirstAbove, after_piece, goes_on, level_of, levels_from, levels, start, place_of}
+use Rattle.mv_nesting.specs.Nesting.{Pairs, after_piece, goes_on, levels_from, levels, start, place_of}
 use Rattle.mv_parser.specs.Verdict.{IsShallow, IsTooDeep}
 
 length_levels : (s : Pairs) (ts : List Token) → length (levels_from s ts) ≡ length ts
