@@ -1,0 +1,18 @@
+use Rattle.std.proofs.Common.{ℕ, ◌≤◌, List, length}
+use Rattle.mv_ast.specs.declared.unit.Declarator.{Declarator}
+use Rattle.mv_grammar.specs.Terminals.{terminals, is_mark}
+use Rattle.mv_grammar.specs.Reader as reader
+use Rattle.mv_grammar.specs.ExpressionReader.{read}
+use Rattle.mv_grammar.specs.DeclarationReader.{declared, params}
+use Rattle.mv_nodes.proofs.Answers.{Loops}
+use Rattle.mv_parser.specs.Items.{declared_from}
+use Rattle.mv_parser.proofs.items.declared_from.Given as goal
+
+abbrev pub invariant-loop-after : goal.invariant-loop-after
+invariant-loop-after l = record {
+  reads : (n : ℕ) → Loops (declared_from n l.fn.first (terminals l.text l.tokens)) (is_mark 7) (reader.comma_pushed (declared n (read n) (params n))) (λ (xs : List Declarator) r. reader.give xs r) l.names (terminals l.text l.rest);
+  shorter : length l.rest ≤ length l.tokens;
+}
+
+abbrev pub decreases-loop-after : goal.decreases-loop-after
+decreases-loop-after l = length l.rest

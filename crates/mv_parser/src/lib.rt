@@ -1,0 +1,41 @@
+//! The parser: reads the tokens of a source as a translation unit (C11 6.9).
+//!
+//! It reads by recursion, so tokens that are nested too deep are refused before the grammar is
+//! looked at.
+#![tactic(auto)]
+
+ghost use Rattle.std.specs.Prelude.{◌≡◌, IfOk, IfErr};
+ghost use Rattle.mv_ast.specs.declared.place.Place.{Place};
+ghost use Rattle.mv_ast.specs.declared.unit.Unit as unit;
+ghost use Rattle.mv_lexer.specs.Reading.{AreTokens};
+ghost use Rattle.mv_grammar.specs.Reading as grammar;
+ghost use Rattle.mv_reading.specs.Texts.{ReadsAs};
+ghost use Rattle.mv_parser.specs.Verdict as spec;
+
+pub mod error;
+mod items;
+#[cfg(test)]
+mod tests;
+mod verdict;
+
+use crate::error::ParseError;
+use mv_ast::token::Tokens;
+use mv_ast::unit::Unit;
+use std::alloc::Global;
+
+/// The translation unit that the tokens of a text are, or why they are refused.
+///
+/// `Nesting` comes before all else. `Syntax` has the place where the tokens break off, as of the
+/// first token that doesn't belong there, or of the end.
+pub fn parse(alloc: Global, text: &[u8], tokens: &Tokens) -> Result<Unit, ParseError>
+    requires { AreTokens text.now tokens.now.items tokens.now.end }
+    // Each answer has its cause.
+    ensures ok { IfOk result (λ u. spec.IsAccepted text.now tokens.now u) }
+    ensures err { IfErr result (λ e. spec.IsCause text.now tokens.now e) }
+    // And each cause has its answer, unless memory is wanting.
+    ensures all_units { (u : unit.Unit) → ReadsAs text.now u → spec.IsShallow tokens.now → spec.HasUnit result u }
+    ensures all_nestings { (place : Place) → spec.IsTooDeep tokens.now place → spec.HasNesting result place }
+    ensures all_breaks { (place : Place) → spec.IsShallow tokens.now → grammar.BreaksAt text.now tokens.now place → spec.HasSyntax result place }
+{
+    verdict::judge(alloc, text, tokens)
+}
