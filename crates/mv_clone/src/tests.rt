@@ -1,6 +1,6 @@
 //! Small bodies under assignments of their switches, and the order of assignments. The values are worked out by hand.
 
-ghost use Rattle.std.specs.Prelude.{◌≡◌, true, slice_get, IfOk};
+ghost use Rattle.std.specs.Prelude.{◌≡◌, ◌∷◌, [], true, slice_get};
 ghost use Rattle.mv_ast.specs.Counts.{is_attributed};
 
 use crate::assignments::assignments;
@@ -13,90 +13,102 @@ use mv_num::boxed::Boxed;
 use mv_num::list::List;
 use mv_num::text::Text;
 use std::alloc::{AllocError, Global};
-use std::test::Fail;
+use std::process::Abort;
 
-fn list(alloc: Global, numbers: &[u32]) -> Result<List<u32>, AllocError>
-    ensures { IfOk result (λ l. l ≡ numbers.now) }
-{
+fn list(alloc: Global, numbers: &[u32]) -> Result<List<u32>, AllocError> {
     Ok(List::from_vec(Vec::from_slice(alloc, numbers)?))
 }
 
-fn code(alloc: Global, stm: Stm) -> Result<List<Stm>, AllocError> {
-    let mut code = List::new(alloc);
-    code.push(stm)?;
-    Ok(code)
-}
-
-fn sum(alloc: Global, a: Tree, b: Tree) -> Result<Tree, AllocError> {
-    Ok(Tree::Binary(0, Boxed::new(alloc, a)?, Boxed::new(alloc, b)?))
+fn push<T: Drop>(rt: &impl Abort, list: &mut List<T>, item: T) {
+    list.push(item).expect(rt, "memory");
 }
 
 // An attributed function.
-fn function(alloc: Global, switches: &[u32]) -> Result<Function, AllocError>
-    ensures { IfOk result (λ f. f.attributed ≡ true) }
+fn function(rt: &impl Abort, alloc: Global, switches: &[u32]) -> Function
+    ensures { result.attributed ≡ true }
 {
-    Ok(Function {
-        name: Text::new(alloc, b"f")?,
+    Function {
+        name: Text::new(alloc, b"f").expect(rt, "memory"),
         attributed: true,
         result: CType::Void,
         params: 0,
         locals: List::new(alloc),
-        switches: list(alloc, switches)?,
+        switches: list(alloc, switches).expect(rt, "memory"),
         body: List::new(alloc),
-    })
+    }
+}
+
+fn switch(rt: &impl Abort, alloc: Global, values: &[u32]) -> Switch {
+    Switch {
+        global: 0,
+        values: list(alloc, values).expect(rt, "memory"),
+    }
+}
+
+// A list of one item.
+fn single<T: Drop>(rt: &impl Abort, alloc: Global, item: T) -> List<T>
+    ensures { result ≡ item ∷ [] }
+{
+    let mut list = List::new(alloc);
+    list.push(item).expect(rt, "memory");
+    list
 }
 
 // A program of one attributed function, with switches of the domains (0, 1), (5, 3) and (8).
-fn program(alloc: Global, switches: &[u32]) -> Result<Program, AllocError>
-    ensures { IfOk result (λ p. is_attributed (slice_get p.functions 0) ≡ true) }
+fn program(rt: &impl Abort, alloc: Global, switches: &[u32]) -> Program
+    ensures { is_attributed (slice_get result.functions 0) ≡ true }
 {
-    let mut functions = List::new(alloc);
-    functions.push(function(alloc, switches)?)?;
+    let functions = single(rt, alloc, function(rt, alloc, switches));
     let mut domains = List::new(alloc);
-    for values in [&[0, 1][..], &[5, 3][..], &[8][..]] {
-        domains.push(Switch {
-            global: 0,
-            values: list(alloc, values)?,
-        })?;
-    }
-    Ok(Program {
+    push(rt, &mut domains, switch(rt, alloc, &[0, 1]));
+    push(rt, &mut domains, switch(rt, alloc, &[5, 3]));
+    push(rt, &mut domains, switch(rt, alloc, &[8]));
+    Program {
         signatures: List::new(alloc),
         globals: List::new(alloc),
         functions,
         switches: domains,
         main: 0,
-    })
+    }
+}
+
+// The values of the assignments of a function that depends on these switches, in order.
+fn values(alloc: Global, program: &Program) -> Result<String, AllocError>
+    requires { is_attributed (slice_get program.now.functions 0) ≡ true }
+{
+    let mut found = Vec::new(alloc);
+    for assignment in assignments(alloc, program, 0)?.as_slice() {
+        found.push(Vec::from_slice(alloc, assignment.values.as_slice())?)?;
+    }
+    format!(in alloc; "{found:?}")
 }
 
 #[test]
-fn the_last_switch_changes_fastest(rt: HostRuntime) -> Result<(), Fail> {
-    let alloc = rt.alloc();
+fn the_last_switch_changes_fastest(rt: HostRuntime) {
     for (switches, expected) in [
         (&[][..], "[[]]"),
         (&[0, 1][..], "[[0, 5], [0, 3], [1, 5], [1, 3]]"),
         (&[1, 2][..], "[[5, 8], [3, 8]]"),
     ] {
-        let program = program(alloc, switches)?;
-        let mut found = Vec::new(alloc);
-        for assignment in assignments(alloc, &program, 0)?.as_slice() {
-            found.push(Vec::from_slice(alloc, assignment.values.as_slice())?)?;
-        }
-        assert_eq!(rt; format!(in alloc; "{found:?}")?.as_str(), expected);
+        let program = program(&rt, rt.alloc(), switches);
+        let found = values(rt.alloc(), &program).expect(&rt, "memory");
+        assert_eq!(rt; found.as_str(), expected);
     }
-    Ok(())
+}
+
+fn boxed(rt: &impl Abort, alloc: Global, tree: Tree) -> Boxed<Tree> {
+    Boxed::new(alloc, tree).expect(rt, "memory")
 }
 
 // `if (s) return s + g; f(s);` where s is the switch 3 and g another global.
-fn choice(alloc: Global) -> Result<List<Stm>, AllocError> {
-    let returned = Stm::Return(sum(alloc, Tree::Global(3), Tree::Global(4))?);
-    let mut arguments = List::new(alloc);
-    arguments.push(Tree::Global(3))?;
-    let mut all = code(
-        alloc,
-        Stm::If(Tree::Global(3), code(alloc, returned)?, List::new(alloc)),
-    )?;
-    all.push(Stm::Call(None, Callee::Direct(1), arguments))?;
-    Ok(all)
+fn choice(rt: &impl Abort, alloc: Global) -> List<Stm> {
+    let a = boxed(rt, alloc, Tree::Global(3));
+    let sum = Tree::Binary(0, a, boxed(rt, alloc, Tree::Global(4)));
+    let yes = single(rt, alloc, Stm::Return(sum));
+    let mut all = single(rt, alloc, Stm::If(Tree::Global(3), yes, List::new(alloc)));
+    let arguments = single(rt, alloc, Tree::Global(3));
+    push(rt, &mut all, Stm::Call(None, Callee::Direct(1), arguments));
+    all
 }
 
 // Whether a tree is the sum of the number 7 and the global 4.
@@ -125,23 +137,19 @@ fn is_bound_choice(all: &[Stm]) -> bool {
 }
 
 #[test]
-fn reads_of_the_switch_become_its_value(rt: HostRuntime) -> Result<(), Fail> {
+fn reads_of_the_switch_become_its_value(rt: HostRuntime) {
     let alloc = rt.alloc();
-    let mut switches = List::new(alloc);
-    switches.push(3)?;
-    let mut values = List::new(alloc);
-    values.push(7)?;
     let body = Body {
         params: 0,
         temps: 1,
-        arrays: list(alloc, &[4])?,
-        code: choice(alloc)?,
+        arrays: single(&rt, alloc, 4),
+        code: choice(&rt, alloc),
         rooms: List::new(alloc),
         marked: List::new(alloc),
-        switches,
+        switches: single(&rt, alloc, 3),
     };
-    let bound = bind(alloc, &body, &Assignment { values })?;
+    let values = single(&rt, alloc, 7);
+    let bound = bind(alloc, &body, &Assignment { values }).expect(&rt, "memory");
     assert!(rt; is_bound_choice(bound.code.as_slice()));
     assert_eq!(rt; bound.arrays.as_slice(), &[4][..]);
-    Ok(())
 }
