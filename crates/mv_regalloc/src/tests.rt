@@ -14,6 +14,7 @@ use mv_num::boxed::Boxed;
 use mv_num::kind::Kind;
 use mv_num::list::List;
 use std::alloc::{AllocError, Global};
+use std::process::Abort;
 
 fn body(alloc: Global, params: u32, temps: u32, code: List<Stm>) -> Body {
     Body {
@@ -27,8 +28,17 @@ fn body(alloc: Global, params: u32, temps: u32, code: List<Stm>) -> Body {
     }
 }
 
-fn sum(alloc: Global, a: Tree, b: Tree) -> Result<Tree, AllocError> {
-    Ok(Tree::Binary(0, Boxed::new(alloc, a)?, Boxed::new(alloc, b)?))
+fn boxed(rt: &impl Abort, alloc: Global, tree: Tree) -> Boxed<Tree> {
+    Boxed::new(alloc, tree).expect(rt, "memory")
+}
+
+fn sum(rt: &impl Abort, alloc: Global, a: Tree, b: Tree) -> Tree {
+    let a = boxed(rt, alloc, a);
+    Tree::Binary(0, a, boxed(rt, alloc, b))
+}
+
+fn push(rt: &impl Abort, code: &mut List<Stm>, stm: Stm) {
+    code.push(stm).expect(rt, "memory");
 }
 
 /// The numbers of a body's temporaries, and none where it has fewer temporaries than parameters.
@@ -43,23 +53,30 @@ fn numbered(alloc: Global, body: &Body) -> Result<Numbering, AllocError> {
 /// Position by position, with the start as position 0:
 /// 1 `t1 = t0`, 2 `t2 = 0`, 3 loop, 4 `if (t1) {} else` 5 leave, 6 `t3 = t1 + 1`, 7 `t2 = t2 + t3`, 8 `t4 = 9`,
 /// 9 `t1 = t1 + t1`, 10 back, and behind the loop 11 `t3 = t2`, 12 `return t3`.
-fn carried_round(alloc: Global) -> Result<Body, AllocError> {
+fn carried_round(rt: &impl Abort, alloc: Global) -> Body {
     let mut leave = List::new(alloc);
-    leave.push(Stm::Break(0))?;
+    push(rt, &mut leave, Stm::Break(0));
     let mut inner = List::new(alloc);
-    inner.push(Stm::If(Tree::Temp(1), List::new(alloc), leave))?;
-    inner.push(Stm::Set(3, sum(alloc, Tree::Temp(1), Tree::Number(1))?))?;
-    inner.push(Stm::Set(2, sum(alloc, Tree::Temp(2), Tree::Temp(3))?))?;
-    inner.push(Stm::Set(4, Tree::Number(9)))?;
-    inner.push(Stm::Set(1, sum(alloc, Tree::Temp(1), Tree::Temp(1))?))?;
-    inner.push(Stm::Back(0))?;
+    push(
+        rt,
+        &mut inner,
+        Stm::If(Tree::Temp(1), List::new(alloc), leave),
+    );
+    let next = sum(rt, alloc, Tree::Temp(1), Tree::Number(1));
+    push(rt, &mut inner, Stm::Set(3, next));
+    let all = sum(rt, alloc, Tree::Temp(2), Tree::Temp(3));
+    push(rt, &mut inner, Stm::Set(2, all));
+    push(rt, &mut inner, Stm::Set(4, Tree::Number(9)));
+    let twice = sum(rt, alloc, Tree::Temp(1), Tree::Temp(1));
+    push(rt, &mut inner, Stm::Set(1, twice));
+    push(rt, &mut inner, Stm::Back(0));
     let mut code = List::new(alloc);
-    code.push(Stm::Set(1, Tree::Temp(0)))?;
-    code.push(Stm::Set(2, Tree::Number(0)))?;
-    code.push(Stm::Loop(inner))?;
-    code.push(Stm::Set(3, Tree::Temp(2)))?;
-    code.push(Stm::Return(Tree::Temp(3)))?;
-    Ok(body(alloc, 1, 5, code))
+    push(rt, &mut code, Stm::Set(1, Tree::Temp(0)));
+    push(rt, &mut code, Stm::Set(2, Tree::Number(0)));
+    push(rt, &mut code, Stm::Loop(inner));
+    push(rt, &mut code, Stm::Set(3, Tree::Temp(2)));
+    push(rt, &mut code, Stm::Return(Tree::Temp(3)));
+    body(alloc, 1, 5, code)
 }
 
 // The intervals are 0 to 1, 1 to 10 (round the loop, read at 4), 2 to 11, 6 to 12 and 8 to 8.
@@ -67,7 +84,7 @@ fn carried_round(alloc: Global) -> Result<Body, AllocError> {
 #[test]
 fn loop_with_a_value_carried_round(rt: HostRuntime) {
     let alloc = rt.alloc();
-    let body = carried_round(alloc).expect(&rt, "memory");
+    let body = carried_round(&rt, alloc);
     let spans = spans_of(alloc, &body).expect(&rt, "memory");
     assert_eq!(rt; spans.positions, 13);
     assert_eq!(rt; spans.begins.as_slice(), &[13, 12, 11, 7, 5][..]);
@@ -82,9 +99,9 @@ fn loop_with_a_value_carried_round(rt: HostRuntime) {
 fn parameters_keep_their_places(rt: HostRuntime) {
     let alloc = rt.alloc();
     let mut code = List::new(alloc);
-    code.push(Stm::Set(4, Tree::Temp(2))).expect(&rt, "memory");
-    code.push(Stm::Set(3, Tree::Temp(4))).expect(&rt, "memory");
-    code.push(Stm::Return(Tree::Temp(3))).expect(&rt, "memory");
+    push(&rt, &mut code, Stm::Set(4, Tree::Temp(2)));
+    push(&rt, &mut code, Stm::Set(3, Tree::Temp(4)));
+    push(&rt, &mut code, Stm::Return(Tree::Temp(3)));
     let body = body(alloc, 3, 5, code);
     let numbering = numbered(alloc, &body).expect(&rt, "memory");
     assert_eq!(rt; numbering.numbers.as_slice(), &[0, 1, 2, 1, 0][..]);
@@ -163,49 +180,74 @@ fn note_stm(stm: &Stm, temps: &mut List<u32>) -> Result<(), AllocError> {
     }
 }
 
-fn one_tree(alloc: Global, tree: Tree) -> Result<List<Tree>, AllocError> {
+fn one_tree(rt: &impl Abort, alloc: Global, temp: u32) -> List<Tree> {
     let mut trees = List::new(alloc);
-    trees.push(tree)?;
-    Ok(trees)
+    trees.push(Tree::Temp(temp)).expect(rt, "memory");
+    trees
+}
+
+/// A loop round a choice, with the temporaries 8 to 10 in written order.
+fn round(rt: &impl Abort, alloc: Global) -> List<Stm> {
+    let mut yes = List::new(alloc);
+    let narrowed = Tree::Narrow(Kind::SChar, boxed(rt, alloc, Tree::Temp(9)));
+    push(rt, &mut yes, Stm::SetGlobal(0, narrowed));
+    push(rt, &mut yes, Stm::Break(0));
+    let mut no = List::new(alloc);
+    push(rt, &mut no, Stm::Check(Array::Local(0), Tree::Temp(10)));
+    push(rt, &mut no, Stm::Back(0));
+    let mut round = List::new(alloc);
+    push(rt, &mut round, Stm::If(Tree::Temp(8), yes, no));
+    round
 }
 
 /// Each kind of statement, with the temporaries 0 to 21 in written order.
-fn each_kind(alloc: Global) -> Result<List<Stm>, AllocError> {
-    let mut yes = List::new(alloc);
-    yes.push(Stm::SetGlobal(
-        0,
-        Tree::Narrow(Kind::SChar, Boxed::new(alloc, Tree::Temp(9))?),
-    ))?;
-    yes.push(Stm::Break(0))?;
-    let mut no = List::new(alloc);
-    no.push(Stm::Check(Array::Local(0), Tree::Temp(10)))?;
-    no.push(Stm::Back(0))?;
-    let mut round = List::new(alloc);
-    round.push(Stm::If(Tree::Temp(8), yes, no))?;
+fn each_kind(rt: &impl Abort, alloc: Global) -> List<Stm> {
     let mut block = List::new(alloc);
-    block.push(Stm::Zero(0))?;
-    block.push(Stm::Read(11, Array::Global(1), Tree::Temp(12)))?;
+    push(rt, &mut block, Stm::Zero(0));
+    push(
+        rt,
+        &mut block,
+        Stm::Read(11, Array::Global(1), Tree::Temp(12)),
+    );
     let mut code = List::new(alloc);
-    code.push(Stm::Set(0, sum(alloc, Tree::Temp(1), Tree::Temp(2))?))?;
-    code.push(Stm::Divide(3, 0, Tree::Temp(4), Tree::Temp(5)))?;
-    code.push(Stm::Write(Array::Local(0), Tree::Temp(6), Tree::Temp(7)))?;
-    code.push(Stm::Loop(round))?;
-    code.push(Stm::Block(block))?;
-    let args = one_tree(alloc, Tree::Temp(15))?;
-    code.push(Stm::Call(Some(13), Callee::Through(Tree::Temp(14)), args))?;
-    let args = one_tree(alloc, Tree::Temp(17))?;
-    code.push(Stm::Call(Some(16), Callee::Direct(0), args))?;
-    let args = one_tree(alloc, Tree::Temp(19))?;
-    code.push(Stm::Known(Some(18), Known::Putchar, args))?;
-    code.push(Stm::Known(None, Known::Putchar, one_tree(alloc, Tree::Temp(20))?))?;
-    code.push(Stm::Return(Tree::Unary(0, Boxed::new(alloc, Tree::Temp(21))?)))?;
-    Ok(code)
+    let added = sum(rt, alloc, Tree::Temp(1), Tree::Temp(2));
+    push(rt, &mut code, Stm::Set(0, added));
+    push(
+        rt,
+        &mut code,
+        Stm::Divide(3, 0, Tree::Temp(4), Tree::Temp(5)),
+    );
+    push(
+        rt,
+        &mut code,
+        Stm::Write(Array::Local(0), Tree::Temp(6), Tree::Temp(7)),
+    );
+    push(rt, &mut code, Stm::Loop(round(rt, alloc)));
+    push(rt, &mut code, Stm::Block(block));
+    let args = one_tree(rt, alloc, 15);
+    push(
+        rt,
+        &mut code,
+        Stm::Call(Some(13), Callee::Through(Tree::Temp(14)), args),
+    );
+    let args = one_tree(rt, alloc, 17);
+    push(rt, &mut code, Stm::Call(Some(16), Callee::Direct(0), args));
+    let args = one_tree(rt, alloc, 19);
+    push(rt, &mut code, Stm::Known(Some(18), Known::Putchar, args));
+    push(
+        rt,
+        &mut code,
+        Stm::Known(None, Known::Putchar, one_tree(rt, alloc, 20)),
+    );
+    let returned = Tree::Unary(0, boxed(rt, alloc, Tree::Temp(21)));
+    push(rt, &mut code, Stm::Return(returned));
+    code
 }
 
 #[test]
 fn each_kind_of_statement_is_renamed(rt: HostRuntime) {
     let alloc = rt.alloc();
-    let code = each_kind(alloc).expect(&rt, "memory");
+    let code = each_kind(&rt, alloc);
     let body = body(alloc, 0, 22, code);
     let numbers = [
         40, 41, 42, 43, 44, 45, 46, 47, 48, 49, 50, 51, 52, 53, 54, 55, 56, 57, 58, 59, 60, 61,
@@ -218,18 +260,22 @@ fn each_kind_of_statement_is_renamed(rt: HostRuntime) {
 }
 
 /// A body of so many statements, each temporary read by the next statement but 400.
-fn long(alloc: Global, count: u32) -> Result<Body, AllocError> {
+fn long(rt: &impl Abort, alloc: Global, count: u32) -> Body {
     let mut code = List::new(alloc);
     for i in 0..count {
-        code.push(Stm::Set(i % 500, Tree::Temp((i % 500 + 100) % 500)))?;
+        push(
+            rt,
+            &mut code,
+            Stm::Set(i % 500, Tree::Temp((i % 500 + 100) % 500)),
+        );
     }
-    Ok(body(alloc, 0, 500, code))
+    body(alloc, 0, 500, code)
 }
 
 #[test]
 fn long_body(rt: HostRuntime) {
     let alloc = rt.alloc();
-    let body = long(alloc, 10_000).expect(&rt, "memory");
+    let body = long(&rt, alloc, 10_000);
     let numbering = numbered(alloc, &body).expect(&rt, "memory");
     assert_eq!(rt; numbering.used, 500);
 }
