@@ -65,13 +65,13 @@ takes_count signatures x n = is_pointer (type_of x) && nat_eq n (length (params_
 
 -- the values of arguments, each converted to its parameter's type
 abbrev pub passed : List CType → List Seen → List Expr
-passed [] args = []
-passed (t ∷ ts) [] = []
+passed ts [] = []
+passed [] (a ∷ args) = []
 passed (t ∷ ts) (a ∷ args) = converted_to t (value_of a) ∷ passed ts args
 
 abbrev pub all_convert : List CType → List Seen → Bool
-all_convert [] args = true
-all_convert (t ∷ ts) [] = true
+all_convert ts [] = true
+all_convert [] (a ∷ args) = true
 all_convert (t ∷ ts) (a ∷ args) = converts (value_of a) t && all_convert ts args
 
 -- the number that the argument of a commit or revert names

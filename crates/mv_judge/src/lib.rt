@@ -3,6 +3,7 @@
 #![tactic(auto)]
 
 mod breaches;
+mod calls;
 pub mod constant;
 pub mod error;
 mod forms;
