@@ -21,7 +21,6 @@ use std::alloc::{AllocError, Global};
 
 const INT: CType = CType::Scalar(Kind::Int);
 
-
 // The types of the parameters of the function that a pointer of this type leads to.
 fn params_of(signatures: &[Signature], t: CType) -> &[CType]
     ensures { result.now ≡ params_of (pointed signatures.now t) }
@@ -53,13 +52,7 @@ fn known_arity(known: Known) -> usize
     match known {
         Known::Getchar | Known::Poll => 0,
         Known::Putchar => 1,
-        Known::Plan(code, _) => {
-            if code < 2 {
-                0
-            } else {
-                1
-            }
-        }
+        Known::Plan(code, _) => { if code < 2 { 0 } else { 1 } }
     }
 }
 
