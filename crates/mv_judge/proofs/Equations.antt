@@ -1,5 +1,6 @@
--- The equations of the judgement where a part isn't an expression: a call's arguments, and the type of a cast.
+-- The equations of the judgement: one for each form of expression, from what `out` opens it as.
 use Rattle.std.proofs.Common.{◌≡◌, ℕ, Bool, List, [], ◌∷◌, map, Option, Some, None, is_none, refl, sym, ◌∙◌, ap}
+use Rattle.mv_num.specs.declared.kind.Kind.{Kind}
 use Rattle.mv_ast.specs.declared.place.Place.{Place}
 use Rattle.mv_ast.specs.declared.program.CType.{CType}
 use Rattle.mv_ast.specs.declared.unit.Node.{Node, out-Node, fold_out-Node}
@@ -17,7 +18,7 @@ use Rattle.mv_judge.specs.Judged.{Judged, and_then}
 use Rattle.mv_judge.specs.TypeNames.{is_undeclared, undeclared_enum, judged_type, type_of}
 use Rattle.mv_judge.specs.Calls.{argument_use}
 use Rattle.mv_judge.specs.Breaches.{by_itself}
-use Rattle.mv_judge.specs.Judgements.{Judges, Parts, cast_use, what_step, enum_step, mark_step, member_step, node_step, specs_step, judgement, judgements}
+use Rattle.mv_judge.specs.Judgements.{Judges, Parts, cast_use, operand_use, what_step, enum_step, mark_step, member_step, node_step, specs_step, judgement, judgements}
 
 -- the steps of the judgement's fold, in their order
 module _ (scope : Scope) where
@@ -74,6 +75,54 @@ module _ (scope : Scope) (n : Node) (u : Use) where
       ap (λ j. j u) (fold_out-Node (Place → Judges) Bool (Unit {0}) (Unit {0}) Judges (Judged CType) (what_step scope) (enum_step scope) mark_step member_step (node_step scope) specs_step n) ∙
       (ap (λ j. j (out-Node n).place u) (fold_out-What (Place → Judges) Bool (Unit {0}) (Unit {0}) Judges (Judged CType) (what_step scope) (enum_step scope) mark_step member_step (node_step scope) specs_step (out-Node n).what) ∙
       ap (λ y. what_step scope (layer_of y) (out-Node n).place u) h)
+
+  pub judged-Number : (m : ℕ) (k : Kind) → out-What (out-Node n).what ≡ what.Number m k → judgement scope n u ≡ by_itself scope (out-Node n).place u (what.Number m k)
+  unfolding layer_of
+  judged-Number m k h = judged _ h
+
+  pub judged-Name : (name : List ℕ) → out-What (out-Node n).what ≡ what.Name name → judgement scope n u ≡ by_itself scope (out-Node n).place u (what.Name name)
+  unfolding layer_of
+  judged-Name name h = judged _ h
+
+  pub judged-Unary : (op : ℕ) (a : Node) → out-What (out-Node n).what ≡ what.Unary op a →
+      judgement scope n u ≡ and_then (judgement scope a (operand_use op)) (λ x. by_itself scope (out-Node n).place u (what.Unary op x))
+  unfolding layer_of
+  judged-Unary op a h = judged _ h
+
+  pub judged-Binary : (op : ℕ) (a b : Node) → out-What (out-Node n).what ≡ what.Binary op a b →
+      judgement scope n u ≡
+      and_then (judgement scope a «use».Value) (λ x. and_then (judgement scope b «use».Value) (λ y. by_itself scope (out-Node n).place u (what.Binary op x y)))
+  unfolding layer_of
+  judged-Binary op a b h = judged _ h
+
+  pub judged-Choose : (c a b : Node) → out-What (out-Node n).what ≡ what.Choose c a b →
+      judgement scope n u ≡
+      and_then (judgement scope c «use».Value) (λ x. and_then (judgement scope a «use».Value) (λ y. and_then (judgement scope b «use».Value) (λ z.
+      by_itself scope (out-Node n).place u (what.Choose x y z))))
+  unfolding layer_of
+  judged-Choose c a b h = judged _ h
+
+  pub judged-Assign : (op : ℕ) (a b : Node) → out-What (out-Node n).what ≡ what.Assign op a b →
+      judgement scope n u ≡
+      and_then (judgement scope a «use».Place) (λ x. and_then (judgement scope b «use».Value) (λ y. by_itself scope (out-Node n).place u (what.Assign op x y)))
+  unfolding layer_of
+  judged-Assign op a b h = judged _ h
+
+  pub judged-Before : (up : Bool) (a : Node) → out-What (out-Node n).what ≡ what.Before up a →
+      judgement scope n u ≡ and_then (judgement scope a «use».Place) (λ x. by_itself scope (out-Node n).place u (what.Before up x))
+  unfolding layer_of
+  judged-Before up a h = judged _ h
+
+  pub judged-After : (up : Bool) (a : Node) → out-What (out-Node n).what ≡ what.After up a →
+      judgement scope n u ≡ and_then (judgement scope a «use».Place) (λ x. by_itself scope (out-Node n).place u (what.After up x))
+  unfolding layer_of
+  judged-After up a h = judged _ h
+
+  pub judged-Index : (a i : Node) → out-What (out-Node n).what ≡ what.Index a i →
+      judgement scope n u ≡
+      and_then (judgement scope a «use».Base) (λ x. and_then (judgement scope i «use».Value) (λ y. by_itself scope (out-Node n).place u (what.Index x y)))
+  unfolding layer_of
+  judged-Index a i h = judged _ h
 
   pub judged-Call : (f : Node) (args : List Node) → out-What (out-Node n).what ≡ what.Call f args →
       judgement scope n u ≡

@@ -1,3 +1,3 @@
-mod Equations
+pub mod Equations
 mod Passing
 mod Steps

@@ -125,10 +125,10 @@ abbrev pub is_uncalled : Use → Seen → Bool
 is_uncalled «use».Callee x = false
 is_uncalled _ x = is_known x
 
--- or a cast goes to `void` inside an expression or from a pointer
+-- or a cast goes to `void` inside an expression, or to an integer from a pointer
 abbrev pub is_wrong_cast : Use → CType → CType → Bool
-is_wrong_cast «use».Effect t s = not (is_void t) && is_pointer s
-is_wrong_cast _ t s = is_void t || is_pointer s
+is_wrong_cast «use».Effect t s = not (is_void t) && not (is_integer s)
+is_wrong_cast _ t s = is_void t || not (is_integer s)
 
 abbrev pub breaks_20 : Scope → Use → Layer → Bool
 breaks_20 scope u (what.Name name) = is_uncalled u (seen_name (meaning_of scope name))

@@ -296,13 +296,13 @@ pub fn index(
     concluded(place, breaches, seen)
 }
 
-// Whether a cast from a type goes to one where it may not.
+// Whether a cast goes to `void` inside an expression, or to an integer from a pointer.
 fn is_wrong_cast(used: Use, to: CType, from: CType) -> bool
     ensures { result ≡ is_wrong_cast used to from }
 {
     match used {
-        Use::Effect => !is_void(to) && is_pointer(from),
-        _ => is_void(to) || is_pointer(from),
+        Use::Effect => !is_void(to) && !is_integer(from),
+        _ => is_void(to) || !is_integer(from),
     }
 }
 
