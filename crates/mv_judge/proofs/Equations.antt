@@ -1,5 +1,5 @@
 -- The equations of the judgement: one for each form of expression, from what `out` opens it as.
-use Rattle.std.proofs.Common.{◌≡◌, ℕ, Bool, List, [], ◌∷◌, map, Option, Some, None, is_none, refl, sym, ◌∙◌, ap}
+use Rattle.std.proofs.Common.{◌≡◌, ℕ, Bool, List, [], ◌∷◌, map, Option, Some, None, is_none, refl, ◌∙◌, ap}
 use Rattle.mv_num.specs.declared.kind.Kind.{Kind}
 use Rattle.mv_ast.specs.declared.place.Place.{Place}
 use Rattle.mv_ast.specs.declared.program.CType.{CType}
@@ -11,7 +11,6 @@ use Rattle.mv_ast.specs.declared.unit.Mark.{Mark, fold-Mark}
 use Rattle.mv_ast.specs.declared.unit.Member.{Member, fold-Member}
 use Rattle.mv_ast.specs.declared.unit.Specs.{Specs, out-Specs, fold-Specs, fold_out-Specs}
 use Rattle.mv_scope.specs.declared.scope.Scope.{Scope}
-use Rattle.mv_judge.specs.declared.seen.Seen.{Seen}
 use Rattle.mv_judge.specs.declared.seen.Use.{Use}
 use Rattle.mv_judge.specs.declared.seen.Use.TheVariants as «use»
 use Rattle.mv_judge.specs.Judged.{Judged, and_then}

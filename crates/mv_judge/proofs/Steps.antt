@@ -1,8 +1,8 @@
 -- How the judgement on a whole comes from those on its parts.
-use Rattle.std.proofs.Common.{◌≡◌, refl, sym, ap, ◌∙◌, subst, Ok, Err, Result}
+use Rattle.std.proofs.Common.{◌≡◌, refl, sym, subst, Ok, Err, Result}
 use Rattle.mv_judge.specs.declared.error.RuleError.{RuleError}
 use Rattle.mv_judge.specs.declared.error.RuleError.TheVariants as error
-use Rattle.mv_judge.specs.Judged.{Judged, Good, Broken, and_then, Shows, IsJudged}
+use Rattle.mv_judge.specs.Judged.{Judged, and_then, Shows, IsJudged}
 
 module _ {A B : Type 0} (j : Judged A) (next : A → Judged B) where
   -- a part that breaks no rule

@@ -1,5 +1,5 @@
 -- What an expression is, given what its parts are (C11 6.5).
-use Rattle.std.specs.Prelude.{ℕ, Bool, true, false, ◌||◌, ◌-◌, nat_eq, nat_lt, if◌then◌else◌, List, Option, Some, None}
+use Rattle.std.specs.Prelude.{ℕ, Bool, ◌||◌, ◌-◌, nat_eq, nat_lt, if◌then◌else◌, Option, Some, None}
 use Rattle.mv_ast.specs.declared.program.CType.{CType}
 use Rattle.mv_ast.specs.declared.program.CType.TheVariants.{Scalar}
 use Rattle.mv_ast.specs.declared.program.Expr.{Expr}

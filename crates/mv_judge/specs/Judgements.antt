@@ -1,5 +1,5 @@
 -- The judgement on an expression: its parts first, in their order, and then the node by itself.
-use Rattle.std.specs.Prelude.{ℕ, Bool, nat_eq, if◌then◌else◌, List, map, Option, is_none}
+use Rattle.std.specs.Prelude.{ℕ, Bool, if◌then◌else◌, List, map, is_none}
 use Rattle.mv_ast.specs.declared.place.Place.{Place}
 use Rattle.mv_ast.specs.declared.program.CType.{CType}
 use Rattle.mv_ast.specs.declared.program.Expr.{Expr}

@@ -10,7 +10,6 @@ use Rattle.mv_scope.specs.declared.meaning.Storage.{Storage}
 use Rattle.mv_scope.specs.declared.meaning.Storage.TheVariants as storage
 use Rattle.mv_scope.specs.declared.meaning.Elements.{Elements}
 use Rattle.mv_scope.specs.declared.meaning.Variable.{Variable}
-use Rattle.mv_scope.specs.declared.meaning.Routine.{Routine}
 use Rattle.mv_scope.specs.declared.meaning.Meaning.{Meaning}
 use Rattle.mv_scope.specs.declared.meaning.Meaning.TheVariants as meaning
 use Rattle.mv_scope.specs.Conversions.{int, typed}
