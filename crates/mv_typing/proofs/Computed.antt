@@ -111,18 +111,18 @@ module _ (p : Program) where
     both a b o k l h =
         let s = from_test (computed a) (truth (computed b)) (Some 0) v (sym (computed_is e (form.Both a b) o) ∙ h) in
         elim s.2 [
-          inl t ↦
+          | inl t ↦
               let u = from_one (computed b) (λ n. as_word (not (nat_eq n 0))) v t.1 in
               subst (λ x. ComesTo p e x) (sym (truth_is u.0) ∙ u.2) (comes_both p e a b s.0 u.0 o (k s.0 s.1) (l u.0 u.1) t.0)
-        | inr t ↦ let q : 0 ≡ v = cc (t.1) in subst (λ x. ComesTo p e x) q (comes_no p e a b s.0 o (k s.0 s.1) t.0)
+          | inr t ↦ let q : 0 ≡ v = cc (t.1) in subst (λ x. ComesTo p e x) q (comes_no p e a b s.0 o (k s.0 s.1) t.0)
         ]
 
     either : (a b : Expr) → out-Form e.what ≡ form.Either a b → ExprComes a → ExprComes b → computed e ≡ Some v → ComesTo p e v
     either a b o k l h =
         let s = from_test (computed a) (Some 1) (truth (computed b)) v (sym (computed_is e (form.Either a b) o) ∙ h) in
         elim s.2 [
-          inl t ↦ let q : 1 ≡ v = cc (t.1) in subst (λ x. ComesTo p e x) q (comes_yes p e a b s.0 o (k s.0 s.1) t.0)
-        | inr t ↦
+          | inl t ↦ let q : 1 ≡ v = cc (t.1) in subst (λ x. ComesTo p e x) q (comes_yes p e a b s.0 o (k s.0 s.1) t.0)
+          | inr t ↦
               let u = from_one (computed b) (λ n. as_word (not (nat_eq n 0))) v t.1 in
               subst (λ x. ComesTo p e x) (sym (truth_is u.0) ∙ u.2) (comes_either p e a b s.0 u.0 o (k s.0 s.1) (l u.0 u.1) t.0)
         ]
@@ -131,8 +131,8 @@ module _ (p : Program) where
     choose c a b o j k l h =
         let s = from_test (computed c) (computed a) (computed b) v (sym (computed_is e (form.Choose c a b) o) ∙ h) in
         elim s.2 [
-          inl t ↦ comes_first p e c a b s.0 v o (j s.0 s.1) (k v t.1) t.0
-        | inr t ↦ comes_second p e c a b s.0 v o (j s.0 s.1) (l v t.1) t.0
+          | inl t ↦ comes_first p e c a b s.0 v o (j s.0 s.1) (k v t.1) t.0
+          | inr t ↦ comes_second p e c a b s.0 v o (j s.0 s.1) (l v t.1) t.0
         ]
 
   by_form : (y : Form-F F T E) (e : Expr) → out-Form e.what ≡ below y → ExprComes e
