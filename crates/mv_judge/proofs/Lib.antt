@@ -1,0 +1,3 @@
+pub mod Equations
+mod Passing
+mod Steps

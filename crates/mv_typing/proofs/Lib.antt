@@ -1,0 +1,8 @@
+mod CallForms
+mod Computed
+mod Converted
+mod Forms
+mod Kept
+mod Made
+mod Sound
+mod Types

@@ -1,0 +1,76 @@
+-- What tests on types say.
+use Rattle.std.proofs.Common.{◌≡◌, ℕ, ◌⊎◌, inl, inr, Bool, true, false, not, ◌&&◌, ◌||◌, refl, sym, ◌∙◌, ap, nat_eq, if◌then◌else◌, arith}
+use Rattle.mv_num.specs.declared.kind.Kind.{Kind}
+use Rattle.mv_num.specs.declared.kind.Kind.TheVariants as kind
+use Rattle.mv_ast.specs.declared.program.CType.{CType}
+use Rattle.mv_ast.specs.declared.program.CType.TheVariants.{Void, Scalar, Pointer}
+use Rattle.mv_scope.specs.Conversions.{kind_number, same_type, is_integer, is_pointer, promotion, usual, int, unsigned}
+use Rattle.mv_numbering.specs.Typing.{IsInteger}
+
+pub and_true : (a b : Bool) → (a && b) ≡ true → (a ≡ true) × (b ≡ true)
+and_true true b h = (refl, h)
+and_true false b h = absurd (cc)
+
+pub or_true : (a b : Bool) → (a || b) ≡ true → (a ≡ true) ⊎ (b ≡ true)
+or_true true b h = inl refl
+or_true false b h = inr h
+
+pub or_false : (a b : Bool) → (a || b) ≡ false → (a ≡ false) × (b ≡ false)
+or_false true b h = absurd (cc)
+or_false false b h = (refl, h)
+
+pub not_false : (a : Bool) → not a ≡ false → a ≡ true
+not_false true h = refl
+not_false false h = absurd (cc)
+
+kind_of : ℕ → Kind
+kind_of n =
+    if nat_eq n 0 then kind.Bool else if nat_eq n 1 then kind.SChar else if nat_eq n 2 then kind.UChar else if nat_eq n 3 then kind.Short
+    else if nat_eq n 4 then kind.UShort else if nat_eq n 5 then kind.Int else kind.UInt
+
+kind_back : (k : Kind) → kind_of (kind_number k) ≡ k
+unfolding kind_of
+kind_back kind.Bool = refl
+kind_back kind.SChar = refl
+kind_back kind.UChar = refl
+kind_back kind.Short = refl
+kind_back kind.UShort = refl
+kind_back kind.Int = refl
+kind_back kind.UInt = refl
+
+pub same_number : (m n : ℕ) → nat_eq m n ≡ true → m ≡ n
+same_number m n h = grind (arith, h)
+
+pub same_is : (s t : CType) → same_type s t ≡ true → s ≡ t
+same_is Void Void h = refl
+same_is (Scalar k) (Scalar l) h =
+    ap Scalar (sym (kind_back k) ∙ (ap kind_of (same_number (kind_number k) (kind_number l) h) ∙ kind_back l))
+same_is (Pointer s) (Pointer t) h = ap Pointer (same_number s t h)
+same_is Void (Scalar l) h = absurd (cc)
+same_is Void (Pointer t) h = absurd (cc)
+same_is (Scalar k) Void h = absurd (cc)
+same_is (Scalar k) (Pointer t) h = absurd (cc)
+same_is (Pointer s) Void h = absurd (cc)
+same_is (Pointer s) (Scalar l) h = absurd (cc)
+
+pub integer_is : (t : CType) → is_integer t ≡ true → IsInteger t
+integer_is Void h = absurd (cc)
+integer_is (Scalar k) h = tt
+integer_is (Pointer s) h = absurd (cc)
+
+pub pointer_is : (t : CType) → is_pointer t ≡ true → (s : ℕ) × (t ≡ Pointer s)
+pointer_is Void h = absurd (cc)
+pointer_is (Scalar k) h = absurd (cc)
+pointer_is (Pointer s) h = (s, refl)
+
+pub promotion_integer : (t : CType) → IsInteger t → IsInteger (promotion t)
+promotion_integer Void h = absurd h
+promotion_integer (Scalar k) h = tt
+promotion_integer (Pointer s) h = absurd h
+
+pub usual_integer : (s t : CType) → IsInteger (usual s t)
+usual_integer s t = by (same_type s unsigned || same_type t unsigned)
+  where
+    by : (b : Bool) → IsInteger (if b then unsigned else int)
+    by true = tt
+    by false = tt
