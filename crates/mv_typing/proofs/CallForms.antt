@@ -1,26 +1,26 @@
 -- Calls that keep the rules are well typed.
-use Rattle.std.proofs.Common.{◌≡◌, ℕ, Bool, true, false, ◌&&◌, refl, sym, ◌∙◌, ap, subst, Option, Some, None, nat_eq, slice_get, List, [], ◌∷◌, map, length, suc}
+use Rattle.std.proofs.Common.{◌≡◌, ℕ, true, ◌&&◌, refl, sym, ◌∙◌, ap, subst, Option, Some, None, nat_eq, slice_get, List, [], ◌∷◌, length}
 use Rattle.std.specs.Prelude.{All}
 use Rattle.std.proofs.lemmas.List.Elements.{All-nil, All-cons}
 use Rattle.mv_ast.specs.declared.program.CType.{CType}
-use Rattle.mv_ast.specs.declared.program.CType.TheVariants.{Void, Scalar, Pointer}
+use Rattle.mv_ast.specs.declared.program.CType.TheVariants.{Pointer}
 use Rattle.mv_ast.specs.declared.program.Program.{Program}
 use Rattle.mv_ast.specs.declared.program.Function.{Function}
 use Rattle.mv_ast.specs.declared.program.Signature.{Signature}
 use Rattle.mv_ast.specs.declared.program.Known.{Known}
 use Rattle.mv_ast.specs.declared.program.Known.TheVariants as known
-use Rattle.mv_ast.specs.declared.program.Expr.{Expr, Expr-F, out-Expr, every_here-Expr}
+use Rattle.mv_ast.specs.declared.program.Expr.{Expr, out-Expr, every_here-Expr}
 use Rattle.mv_ast.specs.declared.program.Form.{Form, Form-F, out-Form}
 use Rattle.mv_ast.specs.declared.program.Form.TheVariants as form
 use Rattle.mv_ast.specs.declared.program.Form.TheOpen as open_form
 use Rattle.mv_ast.specs.declared.program.Target.{Target}
-use Rattle.mv_scope.specs.Conversions.{is_pointer, int, typed, converted_to}
+use Rattle.mv_scope.specs.Conversions.{is_pointer, int, typed}
 use Rattle.mv_scope.specs.Constants.{converts}
 use Rattle.mv_judge.specs.declared.seen.Seen.{Seen}
 use Rattle.mv_judge.specs.declared.seen.Seen.TheVariants as seen
 use Rattle.mv_judge.specs.Seen.{value_of}
 use Rattle.mv_judge.specs.Calls.{pointed, params_of, result_of, known_params, known_arity, callee_params, takes_count, passed, all_convert, named_index, function_form, named_function, direct_or_through, with_index, called_with, call_of}
-use Rattle.mv_numbering.specs.Typing.{IsInteger, types_of, parameter_types, IsFunctionOf, HasType, IsTypedExpr}
+use Rattle.mv_numbering.specs.Typing.{IsInteger, types_of, HasType, IsTypedExpr}
 use Rattle.mv_typing.specs.Soundness.{IsListed}
 use Rattle.mv_typing.proofs.Types.{and_true, same_number, pointer_is}
 use Rattle.mv_typing.proofs.Converted.{converted_type, converted_typed, converts_is}

@@ -1,17 +1,17 @@
 -- Conversions that the rules allow are well typed.
-use Rattle.std.proofs.Common.{◌≡◌, ℕ, ◌⊎◌, inl, inr, Bool, true, false, ◌&&◌, ◌||◌, refl, sym, ◌∙◌, ap, subst, Option, Some, None, nat_eq, if◌then◌else◌, arith}
+use Rattle.std.proofs.Common.{◌≡◌, ℕ, ◌⊎◌, inl, inr, Bool, true, false, ◌&&◌, ◌||◌, refl, sym, ◌∙◌, ap, subst, Option, Some, None, if◌then◌else◌}
 use Rattle.mv_ast.specs.declared.program.CType.{CType}
 use Rattle.mv_ast.specs.declared.program.CType.TheVariants.{Void, Scalar, Pointer}
 use Rattle.mv_ast.specs.declared.program.Program.{Program}
 use Rattle.mv_ast.specs.declared.program.Function.{Function}
 use Rattle.mv_ast.specs.declared.program.Expr.{Expr}
 use Rattle.mv_ast.specs.declared.program.Form.TheVariants as form
-use Rattle.mv_scope.specs.Conversions.{same_type, is_integer, is_pointer, promotion, usual, typed, converted_to}
+use Rattle.mv_scope.specs.Conversions.{same_type, is_integer, is_pointer, usual, typed, converted_to}
 use Rattle.mv_scope.specs.Constants.{is_constant, computed, constant_value, is_zero, is_null, converts}
 use Rattle.mv_judge.specs.Found.{common_type}
 use Rattle.mv_judge.specs.Rules.{are_integers, meet}
-use Rattle.mv_numbering.specs.Typing.{IsInteger, IsNull, ComesTo, ConvertsTo, IsTypedExpr}
-use Rattle.mv_typing.proofs.Types.{and_true, or_true, same_is, same_number, integer_is, pointer_is, promotion_integer, usual_integer}
+use Rattle.mv_numbering.specs.Typing.{IsInteger, IsNull, ConvertsTo, IsTypedExpr}
+use Rattle.mv_typing.proofs.Types.{and_true, or_true, same_is, same_number, integer_is, pointer_is, usual_integer}
 use Rattle.mv_typing.proofs.Computed.{comes}
 use Rattle.mv_typing.proofs.Made.{convert_made}
 

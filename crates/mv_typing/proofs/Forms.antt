@@ -1,5 +1,5 @@
 -- What a form is found to be is well typed where its parts are and it keeps the rules: operators, assignments, objects.
-use Rattle.std.proofs.Common.{◌≡◌, ℕ, ◌⊎◌, inl, inr, Bool, true, false, not, ◌&&◌, ◌||◌, refl, sym, ◌∙◌, ap, subst, Option, Some, None, is_none, nat_eq, if◌then◌else◌, slice_get, List}
+use Rattle.std.proofs.Common.{◌≡◌, ℕ, ◌⊎◌, inl, inr, Bool, true, false, ◌&&◌, ◌||◌, refl, sym, ◌∙◌, ap, subst, Option, Some, nat_eq, if◌then◌else◌, List}
 use Rattle.mv_ast.specs.declared.program.CType.{CType}
 use Rattle.mv_ast.specs.declared.program.CType.TheVariants.{Void, Scalar, Pointer}
 use Rattle.mv_ast.specs.declared.program.Program.{Program}
@@ -7,24 +7,22 @@ use Rattle.mv_ast.specs.declared.program.Function.{Function}
 use Rattle.mv_ast.specs.declared.program.Signature.{Signature}
 use Rattle.mv_ast.specs.declared.program.Expr.{Expr}
 use Rattle.mv_ast.specs.declared.program.Form.TheVariants as form
-use Rattle.mv_ast.specs.declared.program.Target.{Target, out-Target}
-use Rattle.mv_ast.specs.declared.program.Target.TheVariants as target
+use Rattle.mv_ast.specs.declared.program.Target.{out-Target}
 use Rattle.mv_ast.specs.declared.program.Target.TheVariants.{outs-Global, outs-Local, outs-GlobalAt, outs-LocalAt}
 use Rattle.mv_scope.specs.declared.meaning.Storage.{Storage}
 use Rattle.mv_scope.specs.declared.meaning.Storage.TheVariants as storage
 use Rattle.mv_scope.specs.declared.meaning.Elements.{Elements}
-use Rattle.mv_scope.specs.Conversions.{same_type, is_integer, is_pointer, promotion, promoted, usual, int, typed, converted_to}
-use Rattle.mv_scope.specs.Constants.{converts}
+use Rattle.mv_scope.specs.Conversions.{is_integer, is_pointer, promotion, promoted, usual, int, typed, converted_to}
 use Rattle.mv_judge.specs.declared.seen.Object.{Object}
 use Rattle.mv_judge.specs.declared.seen.Seen.{Seen}
 use Rattle.mv_judge.specs.declared.seen.Seen.TheVariants as seen
 use Rattle.mv_judge.specs.Seen.{value_of, no_value, object_at, element_at, number_or_zero}
-use Rattle.mv_judge.specs.Found.{is_shift, is_equality, is_comparison, is_both, is_either, compound_operator, common_type, left_type, right_type, result_type, computed_of, unary_of, binary_of, choose_of, change_of, assign_to}
+use Rattle.mv_judge.specs.Found.{is_shift, is_equality, is_comparison, is_both, is_either, common_type, left_type, right_type, result_type, computed_of, unary_of, binary_of, choose_of, change_of}
 use Rattle.mv_judge.specs.Rules.{are_integers, is_scalar, meet, takes_one, takes_two}
 use Rattle.mv_numbering.specs.Typing.{IsInteger, ConvertsTo, LvalueHasType, IsFunctionOf, IsTypedExpr, TakesTwo}
 use Rattle.mv_typing.specs.Soundness.{IsListed, IsStored}
 use Rattle.mv_typing.proofs.Types.{and_true, or_true, same_number, integer_is, promotion_integer, usual_integer}
-use Rattle.mv_typing.proofs.Converted.{converted_type, converted_typed, converts_is, integer_converts, Meets, integers_meet, meet_is}
+use Rattle.mv_typing.proofs.Converted.{converted_type, converted_typed, integer_converts, Meets, meet_is}
 use Rattle.mv_typing.proofs.Made.{TypedTarget, unary_made, number_made, function_made, read_made, binary_made, both_made, either_made, choose_made, set_made, change_made, after_made, global_made, local_made, global_at_made, local_at_made}
 
 module _ (p : Program) (f : Function) (signatures : List Signature) where

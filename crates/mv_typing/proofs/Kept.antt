@@ -1,5 +1,5 @@
 -- A good judgement: what its parts are, and which rules were kept.
-use Rattle.std.proofs.Common.{◌≡◌, ℕ, Bool, true, false, refl, Option, Some, None, List, [], ◌∷◌, map, if◌then◌else◌}
+use Rattle.std.proofs.Common.{◌≡◌, ℕ, Bool, true, false, refl, Option, None}
 use Rattle.mv_ast.specs.declared.place.Place.{Place}
 use Rattle.mv_judge.specs.declared.breaches.Breaches.{Breaches}
 use Rattle.mv_judge.specs.declared.seen.Seen.{Seen}

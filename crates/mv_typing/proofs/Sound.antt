@@ -1,5 +1,5 @@
 -- By induction over the expression: what keeps the rules is well typed.
-use Rattle.std.proofs.Common.{◌≡◌, ℕ, Bool, true, false, not, ◌&&◌, ◌||◌, refl, sym, ◌∙◌, ap, subst, Option, Some, None, is_none, nat_eq, if◌then◌else◌, List, [], ◌∷◌, map, length, slice_get}
+use Rattle.std.proofs.Common.{◌≡◌, ℕ, Bool, true, false, not, ◌&&◌, ◌||◌, refl, sym, ◌∙◌, ap, subst, Option, Some, None, is_none, nat_eq, if◌then◌else◌, List, [], ◌∷◌, map, length}
 use Rattle.mv_num.specs.declared.kind.Kind.{Kind}
 use Rattle.mv_num.specs.declared.kind.Kind.TheVariants.{Int}
 use Rattle.mv_ast.specs.declared.place.Place.{Place}
@@ -12,35 +12,35 @@ use Rattle.mv_ast.specs.declared.program.Form.TheVariants as form
 use Rattle.mv_ast.specs.declared.unit.Node.{Node, Node-F, roll-Node, out-Node, map-Node, ind-Node}
 use Rattle.mv_ast.specs.declared.unit.What.{What, What-F, roll-What, out-What, out-roll-What, map-What}
 use Rattle.mv_ast.specs.declared.unit.What.TheOpen as what
-use Rattle.mv_ast.specs.declared.unit.EnumSpec.{EnumSpec, EnumSpec-F, roll-EnumSpec, map-EnumSpec}
-use Rattle.mv_ast.specs.declared.unit.Mark.{Mark, Mark-F, roll-Mark, map-Mark}
-use Rattle.mv_ast.specs.declared.unit.Member.{Member, Member-F, roll-Member, map-Member}
-use Rattle.mv_ast.specs.declared.unit.Specs.{Specs, Specs-F, roll-Specs, out-Specs, map-Specs}
+use Rattle.mv_ast.specs.declared.unit.EnumSpec.{EnumSpec}
+use Rattle.mv_ast.specs.declared.unit.Mark.{Mark}
+use Rattle.mv_ast.specs.declared.unit.Member.{Member}
+use Rattle.mv_ast.specs.declared.unit.Specs.{Specs, out-Specs}
 use Rattle.mv_scope.specs.declared.meaning.Meaning.{Meaning}
 use Rattle.mv_scope.specs.declared.meaning.Meaning.TheVariants as meaning
 use Rattle.mv_scope.specs.declared.scope.Scope.{Scope}
-use Rattle.mv_scope.specs.Conversions.{is_integer, is_pointer, is_void, int, typed, converted_to}
+use Rattle.mv_scope.specs.Conversions.{is_integer, int, typed, converted_to}
 use Rattle.mv_scope.specs.Constants.{converts}
 use Rattle.mv_scope.specs.Scoped.{meaning_of}
 use Rattle.mv_judge.specs.declared.seen.Seen.{Seen}
 use Rattle.mv_judge.specs.declared.seen.Seen.TheVariants as seen
 use Rattle.mv_judge.specs.declared.seen.Use.{Use}
 use Rattle.mv_judge.specs.declared.seen.Use.TheVariants as «use»
-use Rattle.mv_judge.specs.Judged.{Judged, Good, Broken, and_then}
+use Rattle.mv_judge.specs.Judged.{Good, Broken}
 use Rattle.mv_judge.specs.TypeNames.{are, named_kind, named_type, as_scalar, any_is, judged_type, type_or_broken, type_of, undeclared_enum}
-use Rattle.mv_judge.specs.Seen.{value_of, is_undefined, is_assignable, array_of, object_of, switch_of, seen_name, no_value}
+use Rattle.mv_judge.specs.Seen.{value_of, is_undefined, is_assignable, array_of, object_of, switch_of, seen_name}
 use Rattle.mv_judge.specs.Calls.{argument_use, callee_params, takes_count, all_convert}
 use Rattle.mv_judge.specs.Found.{Layer, found, unary_of, is_address, is_indirection, named_switch, address_of, unary_seen, assign_of, assign_to, before_of, after_of, change_of, one, element_of, compound_operator}
 use Rattle.mv_judge.specs.Rules.{takes_one, takes_two, are_integers, is_scalar, meet, is_wrong_cast}
 use Rattle.mv_judge.specs.Breaches.{breaches, by_itself}
-use Rattle.mv_judge.specs.Judgements.{Judges, operand_use, cast_use, judgement, judgements, value_judgement, effect_judgement}
+use Rattle.mv_judge.specs.Judgements.{operand_use, cast_use, judgement, judgements, value_judgement, effect_judgement}
 use Rattle.mv_judge.proofs.Equations.{judged-Number, judged-Name, judged-Unary, judged-Binary, judged-Choose, judged-Assign, judged-Before, judged-After, judged-Index, judged-Call, judged-Cast}
-use Rattle.mv_numbering.specs.Typing.{IsInteger, ConvertsTo, IsTypedExpr}
+use Rattle.mv_numbering.specs.Typing.{IsTypedExpr}
 use Rattle.mv_typing.specs.Soundness.{IsListed, IsMeant, Fits}
-use Rattle.mv_typing.proofs.Types.{and_true, or_true, not_false, integer_is}
+use Rattle.mv_typing.proofs.Types.{and_true, not_false, integer_is}
 use Rattle.mv_typing.proofs.Converted.{converted_type, converted_typed, converts_is}
 use Rattle.mv_typing.proofs.Made.{number_made}
-use Rattle.mv_typing.proofs.Forms.{IsGood, IsGoodObject, IsGoodSeen, nothing_good, value_good, variable_good, element_good, unary_good, binary_good, choose_good, change_good, set_good, after_good}
+use Rattle.mv_typing.proofs.Forms.{IsGood, IsGoodSeen, nothing_good, value_good, variable_good, element_good, unary_good, binary_good, choose_good, change_good, set_good, after_good}
 use Rattle.mv_typing.proofs.CallForms.{AllGood, call_good}
 use Rattle.mv_typing.proofs.Kept.{went_on, Keeps, kept}
 
