@@ -1,0 +1,3 @@
+mod Equations
+mod Passing
+mod Steps

@@ -1,0 +1,9 @@
+pub mod Breaches
+pub mod Calls
+pub mod Found
+pub mod Judged
+pub mod Judgements
+pub mod NeededConstants
+pub mod Rules
+pub mod Seen
+pub mod TypeNames

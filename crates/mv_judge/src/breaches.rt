@@ -1,0 +1,130 @@
+// The rules that one node breaks.
+
+ghost use Rattle.std.specs.Prelude.{◌≡◌};
+ghost use Rattle.mv_judge.specs.Judged.{IsJudged};
+ghost use Rattle.mv_judge.specs.Breaches.{least, concluded, breaches_of_use};
+ghost use Rattle.mv_judge.specs.Rules.{is_bare, is_valueless, is_misnamed};
+
+use crate::error::RuleError;
+use crate::seen::{Seen, Use, is_attributed};
+use mv_ast::place::Place;
+use mv_scope::convert::is_void;
+
+/// Which of the rules of expressions a node breaks.
+#[derive(Clone, Copy, PartialEq, Eq, Debug)]
+pub struct Breaches {
+    /// Rule 1: a name isn't declared.
+    pub undeclared: bool,
+    /// Rule 3: an operator doesn't take the types of its operands.
+    pub operands: bool,
+    /// Rule 4: what is assigned isn't an object, or is `const`.
+    pub assigned: bool,
+    /// Rule 5: a value doesn't convert.
+    pub converted: bool,
+    /// Rule 6: what is called isn't a function, or takes another number of arguments.
+    pub called: bool,
+    /// Rule 7: what is indexed isn't an array, or an array isn't indexed.
+    pub indexed: bool,
+    /// Rule 8: `void` is used as a value.
+    pub void: bool,
+    /// Rule 15: an attributed function assigns to a switch.
+    pub switch: bool,
+    /// Rule 17: what is named isn't an attributed function, or isn't a switch behind `&`.
+    pub named: bool,
+    /// Rule 19: a function is used that isn't defined.
+    pub undefined: bool,
+    /// Rule 20: `&`, `*`, a cast or a known function stands where it may not.
+    pub misplaced: bool,
+}
+// The least rule that is broken.
+#[tactic(auto, unfolding(crate::specs::Breaches::least))]
+fn least(breaches: Breaches) -> Option<u8>
+    ensures { result ≡ least breaches }
+{
+    if breaches.undeclared {
+        Some(1)
+    } else if breaches.operands {
+        Some(3)
+    } else if breaches.assigned {
+        Some(4)
+    } else if breaches.converted {
+        Some(5)
+    } else if breaches.called {
+        Some(6)
+    } else if breaches.indexed {
+        Some(7)
+    } else if breaches.void {
+        Some(8)
+    } else if breaches.switch {
+        Some(15)
+    } else if breaches.named {
+        Some(17)
+    } else if breaches.undefined {
+        Some(19)
+    } else if breaches.misplaced {
+        Some(20)
+    } else {
+        None
+    }
+}
+
+/// What a node is, unless it breaks a rule.
+#[tactic(auto, unfolding(crate::specs::Breaches::concluded))]
+pub fn concluded(place: Place, breaches: Breaches, seen: Seen) -> Result<Seen, RuleError>
+    ensures { IsJudged (concluded place breaches seen) result }
+{
+    match least(breaches) {
+        None => Ok(seen),
+        Some(rule) => Err(RuleError::Rule(place, rule)),
+    }
+}
+
+fn is_bare(used: Use, seen: &Seen) -> bool
+    ensures { result ≡ is_bare used seen.now }
+{
+    match used {
+        Use::Base => false,
+        _ => matches!(seen, Seen::Array(_)),
+    }
+}
+
+fn is_valueless(used: Use, seen: &Seen) -> bool
+    ensures { result ≡ is_valueless used seen.now }
+{
+    match used {
+        Use::Value => match seen {
+            Seen::Value(e) => is_void(e.ctype),
+            _ => false,
+        },
+        _ => false,
+    }
+}
+
+fn is_misnamed(used: Use, seen: &Seen) -> bool
+    ensures { result ≡ is_misnamed used seen.now }
+{
+    match used {
+        Use::Function => !is_attributed(seen),
+        Use::Switch => !matches!(seen, Seen::Switch(_)),
+        _ => false,
+    }
+}
+
+/// The rules that a node breaks by what it is used as.
+pub fn breaches_of_use(used: Use, seen: &Seen) -> Breaches
+    ensures { result ≡ breaches_of_use used seen.now }
+{
+    Breaches {
+        undeclared: false,
+        operands: false,
+        assigned: false,
+        converted: false,
+        called: false,
+        indexed: is_bare(used, seen),
+        void: is_valueless(used, seen),
+        switch: false,
+        named: is_misnamed(used, seen),
+        undefined: false,
+        misplaced: false,
+    }
+}

@@ -1,0 +1,33 @@
+// Where a constant is needed (C11 6.6).
+
+ghost use Rattle.mv_judge.specs.Judged.{IsJudged};
+ghost use Rattle.mv_judge.specs.NeededConstants.{constant_judgement};
+
+use crate::error::RuleError;
+use crate::judge::value;
+use mv_ast::program::CType;
+use mv_ast::unit::Node;
+use mv_scope::constant::constant_value;
+use mv_scope::scope::Scope;
+use std::alloc::Global;
+
+/// The value of a constant expression, with its type.
+#[derive(Clone, Copy, PartialEq, Eq, Debug)]
+pub struct Constant {
+    pub value: u32,
+    pub ctype: CType,
+}
+
+/// The value of an expression where a constant is needed. Rule 9 is broken at the expression where it isn't one or divides by 0.
+pub fn needed(alloc: Global, scope: &Scope, node: &Node) -> Result<Constant, RuleError>
+    ensures { IsJudged (constant_judgement scope.now node.now) result }
+{
+    let e = value(alloc, scope, node)?;
+    match constant_value(&e) {
+        Some(value) => Ok(Constant {
+            value,
+            ctype: e.ctype,
+        }),
+        None => Err(RuleError::Rule(node.place, 9)),
+    }
+}
