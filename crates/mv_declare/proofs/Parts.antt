@@ -1,9 +1,12 @@
 -- How the judgement on parts in their order comes from those on each.
-use Rattle.std.proofs.Common.{◌≡◌, ℕ, ◌+◌, ◌≤◌, ◌<◌, List, [], ◌∷◌, map, length, get_or, drop, refl, sym, ◌∙◌, ap}
+use Rattle.std.proofs.Common.{◌≡◌, ℕ, ◌+◌, ◌≤◌, ◌<◌, List, [], ◌∷◌, length, get_or, drop, sym, ◌∙◌, ap, Err}
 use Rattle.std.proofs.lemmas.List.{drop_more, drop_all}
 use Rattle.mv_ast.specs.declared.place.Place.{Place}
+use Rattle.mv_scope.specs.declared.scope.Scope.{Scope}
+use Rattle.mv_judge.specs.declared.error.RuleError.{RuleError}
+use Rattle.mv_judge.specs.declared.error.RuleError.TheVariants as error
 use Rattle.mv_judge.specs.Judged.{Judged, Good, Broken, and_then}
-use Rattle.mv_declare.specs.Turns.{through}
+use Rattle.mv_declare.specs.Turns.{through, IsLeft}
 
 module _ {S X : Type 0} (step : X → S → Judged S) (total : Judged S) (xs : List X) (i : ℕ) (s : S)
     (so_far : total ≡ through step (drop i xs) s) where
@@ -21,3 +24,10 @@ module _ {S X : Type 0} (step : X → S → Judged S) (total : Judged S) (xs : L
   -- the end
   pub came_through : length xs ≤ i → total ≡ Good s
   came_through ge = so_far ∙ ap (λ ys. through step ys s) (drop_all i xs ge)
+
+-- what the failure of one part shows of all
+module _ {X : Type 0} (step : X → Scope → Judged Scope) (total : Judged Scope) (xs : List X) (i : ℕ) (s : Scope)
+    (so_far : total ≡ through step (drop i xs) s) where
+  pub left_failed : (x : X) (e : RuleError) (s1 s2 : Scope) → i < length xs → x ≡ get_or xs i x → IsLeft (step x s) (Err e) s1 → IsLeft total (Err e) s2
+  left_failed x (error.Rule place rule) s1 s2 lt is h = record { shown = broke step total xs i s so_far x lt is place rule h.shown }
+  left_failed x error.Memory s1 s2 lt is h = record { shown = tt }

@@ -33,3 +33,12 @@ module _ {A : Type 0} where
 -- a judgement is what a result and the scope behind it show
 pub record IsBehind {A : Type 0} (judged : Behind A) (result : Result A RuleError) (s : Scope) : Type 0 where
   pub shown : ShowsBehind judged result s
+
+-- what a result shows of a judgement on the scope behind a part
+abbrev pub ShowsScope : Judged Scope → Result (Unit {0}) RuleError → Scope → Type 0
+ShowsScope judged (Ok done) s = judged ≡ Good s
+ShowsScope judged (Err (error.Rule place rule)) s = judged ≡ Broken place rule
+ShowsScope judged (Err error.Memory) s = Unit {0}
+
+pub record IsLeft (judged : Judged Scope) (result : Result (Unit {0}) RuleError) (s : Scope) : Type 0 where
+  pub shown : ShowsScope judged result s

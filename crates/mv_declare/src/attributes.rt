@@ -1,6 +1,6 @@
 // The attribute `multiverse`.
 
-ghost use Rattle.std.specs.Prelude.{◌≡◌, codes};
+ghost use Rattle.std.specs.Prelude.{◌≡◌, codes, IfOk};
 ghost use Rattle.mv_judge.specs.Judged.{IsJudged};
 ghost use Rattle.mv_declare.specs.Attributes.{fits, with_value, domain, given_domain, is_main, shape_holder, holder_of, holder_of_all, both_hold, nothing_holds, holds, held, attributes};
 ghost use Rattle.mv_ast.specs.Plans.{is_among};
@@ -13,7 +13,7 @@ use mv_judge::error::RuleError;
 use mv_num::kind::Kind;
 use mv_num::list::List;
 use mv_scope::scope::Scope;
-use std::alloc::Global;
+use std::alloc::{AllocError, Global};
 
 /// Where a declaration stands (C11 6.2.1): at file scope, in a block, or among the parameters of a function.
 #[derive(Clone, Copy, PartialEq, Eq, Debug)]
@@ -45,7 +45,8 @@ fn fits(kind: Option<Kind>, constant: Constant) -> bool
     }
 }
 
-fn is_among(value: u32, values: &[u32]) -> bool
+/// Whether a number is one of a list.
+pub fn is_among(value: u32, values: &[u32]) -> bool
     ensures { result ≡ is_among value values.now }
 {
     for v in values {
@@ -103,6 +104,26 @@ fn given_domain(
             Ok(Attribute {
                 values: Some(values),
             })
+        }
+    }
+}
+
+/// A copy of an attribute.
+pub fn copied(alloc: Global, attribute: &Option<Attribute>) -> Result<Option<Attribute>, AllocError>
+    ensures { IfOk result (λ copy. copy ≡ attribute.now) }
+{
+    match attribute {
+        None => Ok(None),
+        Some(Attribute { values: None }) => Ok(Some(Attribute { values: None })),
+        Some(
+            Attribute {
+                values: Some(values),
+            },
+        ) => {
+            let values = values.copied(alloc)?;
+            Ok(Some(Attribute {
+                values: Some(values),
+            }))
         }
     }
 }

@@ -63,7 +63,8 @@ fn size_of(alloc: Global, scope: &Scope, size: &Option<Node>) -> Result<Option<C
     }
 }
 
-fn is_taken_by(scope: &Scope, name: &Option<Text>) -> bool
+/// Whether the innermost block has a name, if there is one.
+pub fn is_taken_by(scope: &Scope, name: &Option<Text>) -> bool
     ensures { result ≡ is_taken_by scope.now name.now }
 {
     match name {

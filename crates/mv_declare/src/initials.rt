@@ -108,7 +108,8 @@ fn converted_values(
     Ok(done)
 }
 
-fn has_room(size: Option<u32>, count: usize) -> bool
+/// Whether an array has room for some values; a scalar has none for a list.
+pub fn has_room(size: Option<u32>, count: usize) -> bool
     ensures { result ≡ has_room size count }
 {
     match size {

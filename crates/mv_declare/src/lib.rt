@@ -5,6 +5,8 @@ pub mod attributes;
 pub mod constants;
 pub mod declarators;
 pub mod enumerators;
+pub mod globals;
 pub mod initials;
 pub mod locals;
+pub mod parameters;
 pub mod specifiers;

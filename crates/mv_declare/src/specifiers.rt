@@ -5,7 +5,7 @@ ghost use Rattle.mv_judge.specs.Judged.{IsJudged, Good};
 ghost use Rattle.mv_judge.specs.declared.error.RuleError.TheVariants.{Memory};
 ghost use Rattle.mv_judge.specs.TypeNames.{undeclared_enum, any_is, type_of};
 ghost use Rattle.mv_declare.specs.Turns.{IsBehind};
-ghost use Rattle.mv_declare.specs.Specifiers.{named_enumeration, tagged, enumeration_of, is_before, count_before, count_before_list, enum_specifier, enum_specifiers, kind_of, at_file, type_by_rules, specifiers};
+ghost use Rattle.mv_declare.specs.Specifiers.{named_enumeration, tagged, enumeration_of, is_before, count_before, count_before_list, enum_specifier, enum_specifiers, scalar_kind, kind_of, at_file, type_by_rules, specifiers};
 
 use crate::attributes::{Attribute, Holder, Position, attributes, holder_of_all};
 use crate::enumerators::enumerators;
@@ -208,12 +208,21 @@ fn enum_specifiers(
     Ok(said)
 }
 
+/// The integer type that a type is, if it is one.
+pub fn scalar_kind(ctype: CType) -> Option<Kind>
+    ensures { result ≡ scalar_kind ctype }
+{
+    match ctype {
+        CType::Scalar(kind) => Some(kind),
+        CType::Void | CType::Pointer(_) => None,
+    }
+}
+
 fn kind_of(scope: &Scope, specs: &Specs) -> Result<Option<Kind>, RuleError>
     ensures { MatchResult result (λ kind. kind ≡ kind_of (type_of scope.now specs.now)) (λ e. e ≡ Memory) }
 {
     match type_of(scope, specs) {
-        Ok(CType::Scalar(kind)) => Ok(Some(kind)),
-        Ok(CType::Void | CType::Pointer(_)) => Ok(None),
+        Ok(ctype) => Ok(scalar_kind(ctype)),
         Err(RuleError::Rule(_, _)) => Ok(None),
         Err(RuleError::Memory) => Err(RuleError::Memory),
     }
