@@ -1,5 +1,5 @@
 -- How the judgement on parts in their order comes from those on each.
-use Rattle.std.proofs.Common.{◌≡◌, ℕ, ◌+◌, ◌≤◌, ◌<◌, List, [], ◌∷◌, length, get_or, drop, sym, ◌∙◌, ap, Err}
+use Rattle.std.proofs.Common.{◌≡◌, ℕ, ◌+◌, ◌≤◌, ◌<◌, List, ◌∷◌, length, get_or, drop, sym, ◌∙◌, ap, Err}
 use Rattle.std.proofs.lemmas.List.{drop_more, drop_all}
 use Rattle.mv_ast.specs.declared.place.Place.{Place}
 use Rattle.mv_scope.specs.declared.scope.Scope.{Scope}

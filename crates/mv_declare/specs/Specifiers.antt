@@ -1,9 +1,9 @@
 -- Declaration specifiers (C11 6.7, 6.7.2).
-use Rattle.std.specs.Prelude.{ℕ, zero, suc, ◌+◌, Bool, true, false, ◌&&◌, ◌||◌, not, nat_eq, nat_lt, is_some, is_none, if◌then◌else◌, List, [], ◌∷◌, ◌++◌, map, length, take, drop, Option, Some, None}
+use Rattle.std.specs.Prelude.{ℕ, ◌+◌, Bool, true, false, ◌&&◌, ◌||◌, not, nat_eq, nat_lt, is_some, if◌then◌else◌, List, [], ◌∷◌, ◌++◌, map, length, take, drop, Option, Some, None}
 use Rattle.mv_num.specs.declared.kind.Kind.{Kind}
 use Rattle.mv_ast.specs.declared.place.Place.{Place}
 use Rattle.mv_ast.specs.declared.program.CType.{CType}
-use Rattle.mv_ast.specs.declared.program.CType.TheVariants.{Void, Scalar, Pointer}
+use Rattle.mv_ast.specs.declared.program.CType.TheVariants.{Scalar}
 use Rattle.mv_ast.specs.declared.unit.Declarator.{Declarator}
 use Rattle.mv_ast.specs.declared.unit.EnumSpec.{EnumSpec, out-EnumSpec}
 use Rattle.mv_ast.specs.declared.unit.Mark.{Mark, out-Mark}
@@ -16,7 +16,6 @@ use Rattle.mv_scope.specs.Spaces.{named}
 use Rattle.mv_scope.specs.Scoped.{tag_of, tag_declared}
 use Rattle.mv_judge.specs.Judged.{Judged, Good, Broken, and_then}
 use Rattle.mv_judge.specs.TypeNames.{undeclared_enum, any_is, type_of}
-use Rattle.mv_declare.specs.declared.attributes.Attribute.{Attribute}
 use Rattle.mv_declare.specs.declared.attributes.Holder.{Holder}
 use Rattle.mv_declare.specs.declared.attributes.Position.{Position}
 use Rattle.mv_declare.specs.declared.attributes.Position.TheVariants as position

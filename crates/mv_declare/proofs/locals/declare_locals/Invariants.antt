@@ -1,6 +1,4 @@
 use Rattle.std.proofs.Common.{◌≡◌, map, drop}
-use Rattle.mv_judge.specs.Judged.{and_then}
-use Rattle.mv_declare.specs.declared.attributes.Position.TheVariants as position
 use Rattle.mv_declare.specs.Locals.{local, locals_judgement}
 use Rattle.mv_declare.specs.Turns.{in_turn}
 use Rattle.mv_declare.proofs.locals.declare_locals.Given as goal
