@@ -1,0 +1,10 @@
+pub mod Attributes
+pub mod Constants
+pub mod Declarators
+pub mod Enumerators
+pub mod Globals
+pub mod Initials
+pub mod Locals
+pub mod Parameters
+pub mod Specifiers
+pub mod Turns

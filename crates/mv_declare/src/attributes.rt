@@ -1,0 +1,229 @@
+// The attribute `multiverse`.
+
+ghost use Rattle.std.specs.Prelude.{◌≡◌, codes, IfOk};
+ghost use Rattle.mv_judge.specs.Judged.{IsJudged};
+ghost use Rattle.mv_declare.specs.Attributes.{fits, with_value, domain, given_domain, is_main, shape_holder, holder_of, holder_of_all, both_hold, nothing_holds, holds, held, attributes};
+ghost use Rattle.mv_ast.specs.Plans.{is_among};
+
+use crate::constants::is_value_of;
+use mv_ast::place::Place;
+use mv_ast::unit::{Declarator, Mark, Node, Shape};
+use mv_judge::constant::{Constant, needed};
+use mv_judge::error::RuleError;
+use mv_num::kind::Kind;
+use mv_num::list::List;
+use mv_scope::scope::Scope;
+use std::alloc::{AllocError, Global};
+
+/// Where a declaration stands (C11 6.2.1): at file scope, in a block, or among the parameters of a function.
+#[derive(Clone, Copy, PartialEq, Eq, Debug)]
+pub enum Position {
+    File,
+    Block,
+    Parameter,
+}
+
+/// An attribute, with the values of its domain if it has a list of them.
+#[derive(Drop)]
+pub struct Attribute {
+    pub values: Option<List<u32>>,
+}
+
+/// Whether an attribute without values may stand at a place, and whether one with values may.
+#[derive(Clone, Copy, PartialEq, Eq, Debug)]
+pub struct Holder {
+    pub plainly: bool,
+    pub with_values: bool,
+}
+
+fn fits(kind: Option<Kind>, constant: Constant) -> bool
+    ensures { result ≡ fits kind constant }
+{
+    match kind {
+        None => true,
+        Some(kind) => is_value_of(kind, constant),
+    }
+}
+
+/// Whether a number is one of a list.
+pub fn is_among(value: u32, values: &[u32]) -> bool
+    ensures { result ≡ is_among value values.now }
+{
+    for v in values {
+        if value == *v {
+            return true;
+        }
+    }
+    false
+}
+
+#[tactic(auto, unfolding(crate::specs::Attributes::with_value))]
+fn with_value(
+    place: Place,
+    kind: Option<Kind>,
+    mut values: List<u32>,
+    constant: Constant,
+) -> Result<List<u32>, RuleError>
+    ensures { IsJudged (with_value place kind values constant) result }
+{
+    if !fits(kind, constant) || is_among(constant.value, values.as_slice()) {
+        return Err(RuleError::Rule(place, 16));
+    }
+    values.push(constant.value)?;
+    Ok(values)
+}
+
+fn domain(
+    alloc: Global,
+    kind: Option<Kind>,
+    scope: &Scope,
+    nodes: &[Node],
+) -> Result<List<u32>, RuleError>
+    ensures { IsJudged (domain kind scope.now nodes.now) result }
+{
+    let mut values = List::new(alloc);
+    for node in nodes {
+        let constant = needed(alloc, scope, node)?;
+        values = with_value(node.place, kind, values, constant)?;
+    }
+    Ok(values)
+}
+
+fn given_domain(
+    alloc: Global,
+    kind: Option<Kind>,
+    scope: &Scope,
+    values: &Option<List<Node>>,
+) -> Result<Attribute, RuleError>
+    ensures { IsJudged (given_domain kind scope.now values.now) result }
+{
+    match values {
+        None => Ok(Attribute { values: None }),
+        Some(nodes) => {
+            let values = domain(alloc, kind, scope, nodes.as_slice())?;
+            Ok(Attribute {
+                values: Some(values),
+            })
+        }
+    }
+}
+
+/// A copy of an attribute.
+pub fn copied(alloc: Global, attribute: &Option<Attribute>) -> Result<Option<Attribute>, AllocError>
+    ensures { IfOk result (λ copy. copy ≡ attribute.now) }
+{
+    match attribute {
+        None => Ok(None),
+        Some(Attribute { values: None }) => Ok(Some(Attribute { values: None })),
+        Some(
+            Attribute {
+                values: Some(values),
+            },
+        ) => {
+            let values = values.copied(alloc)?;
+            Ok(Some(Attribute {
+                values: Some(values),
+            }))
+        }
+    }
+}
+
+/// No attribute may stand.
+pub const NOTHING: Holder = Holder {
+    plainly: false,
+    with_values: false,
+};
+
+/// What attributes a declarator may have.
+pub fn holder_of(position: Position, fixed: bool, declarator: &Declarator) -> Holder
+    ensures { result ≡ holder_of position fixed declarator.now }
+{
+    match position {
+        Position::Block | Position::Parameter => NOTHING,
+        Position::File => match &declarator.shape {
+            Shape::Plain => Holder {
+                plainly: !fixed,
+                with_values: !fixed,
+            },
+            Shape::Function(_) => {
+                let main = match &declarator.name {
+                    None => false,
+                    Some(name) => name.bytes() == b"main".as_slice(),
+                };
+                Holder {
+                    plainly: !main,
+                    with_values: false,
+                }
+            }
+            Shape::Array(_) | Shape::Pointer(_, _) | Shape::PointerArray(_, _, _) => NOTHING,
+        },
+    }
+}
+
+fn both_hold(g: Holder, h: Holder) -> Holder
+    ensures { result ≡ both_hold g h }
+{
+    Holder {
+        plainly: g.plainly && h.plainly,
+        with_values: g.with_values && h.with_values,
+    }
+}
+
+/// What attributes may stand among the specifiers of some declarators.
+pub fn holder_of_all(position: Position, fixed: bool, declarators: &[Declarator]) -> Holder
+    ensures { result ≡ holder_of_all position fixed declarators.now }
+{
+    match declarators {
+        [] => NOTHING,
+        [first, rest @ ..] => {
+            let mut all = holder_of(position, fixed, first);
+            for declarator in rest {
+                all = both_hold(all, holder_of(position, fixed, declarator));
+            }
+            all
+        }
+    }
+}
+
+fn holds(holder: Holder, attribute: &Attribute) -> bool
+    ensures { result ≡ holds holder attribute.now }
+{
+    match &attribute.values {
+        Some(_) => holder.with_values,
+        None => holder.plainly,
+    }
+}
+
+#[tactic(auto, unfolding(crate::specs::Attributes::held))]
+fn held(
+    place: Place,
+    holder: Holder,
+    before: Option<Attribute>,
+    attribute: Attribute,
+) -> Result<Option<Attribute>, RuleError>
+    ensures { IsJudged (held place holder before attribute) result }
+{
+    if before.is_some() || !holds(holder, &attribute) {
+        return Err(RuleError::Rule(place, 14));
+    }
+    Ok(Some(attribute))
+}
+
+/// The attribute that some attributes are, behind one that may hold already.
+pub fn attributes(
+    alloc: Global,
+    holder: Holder,
+    kind: Option<Kind>,
+    scope: &Scope,
+    marks: &[Mark],
+    before: Option<Attribute>,
+) -> Result<Option<Attribute>, RuleError>
+    ensures { IsJudged (attributes holder kind scope.now marks.now before) result }
+{
+    let mut now = before;
+    for mark in marks {
+        let attribute = given_domain(alloc, kind, scope, &mark.values)?;
+        now = held(mark.place, holder, now, attribute)?;
+    }
+    Ok(now)
+}

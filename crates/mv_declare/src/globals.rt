@@ -1,0 +1,289 @@
+// Objects at file scope (C11 6.7.9, 6.9.2).
+
+ghost use Rattle.std.specs.Prelude.{◌≡◌, ◌++◌, [], ◌∷◌, map, IfOk, OnOk};
+ghost use Rattle.mv_ast.specs.declared.program.Form.{out-Form};
+ghost use Rattle.mv_ast.specs.Operators.{converted};
+ghost use Rattle.mv_ast.specs.Plans.{is_among};
+ghost use Rattle.mv_judge.specs.Judged.{IsJudged};
+ghost use Rattle.mv_declare.specs.Turns.{IsBehind};
+ghost use Rattle.mv_declare.specs.Globals.{file_declarator, object_type, constant_word, with_word, first_word, first_words, single_word, listed_words, is_char, room_behind, string_words, global_words, distinct, values_of_enumeration, default_domain, domain_of};
+
+use crate::attributes::{Attribute, Position, attributes, copied, holder_of, is_among};
+use crate::declarators::{Entity, designated};
+use crate::initials::{array_size, has_room};
+use crate::specifiers::{Specified, scalar_kind};
+use mv_ast::operators::converted;
+use mv_ast::place::Place;
+use mv_ast::program::{CType, Expr, Form, Local};
+use mv_ast::unit::{Declarator, Initial, Node};
+use mv_judge::error::RuleError;
+use mv_judge::judge::value;
+use mv_num::kind::Kind;
+use mv_num::list::List;
+use mv_scope::constant::{constant_value, converts};
+use mv_scope::convert::is_void;
+use mv_scope::scope::Scope;
+use std::alloc::{AllocError, Global};
+
+/// What a declarator at file scope designates, and its attribute.
+#[derive(Drop)]
+pub struct Designated {
+    pub entity: Entity,
+    pub attribute: Option<Attribute>,
+}
+
+/// What a declarator at file scope designates, with the attribute that it has of its own or of its specifiers.
+pub fn file_declarator(
+    alloc: Global,
+    scope: &mut Scope,
+    base: &Specified,
+    declarator: &Declarator,
+) -> Result<Designated, RuleError>
+    ensures { IsBehind (file_declarator base.now declarator.now scope.old) result scope.new }
+{
+    let entity = designated(alloc, scope, base.ctype, base.fixed, &declarator.shape)?;
+    let holder = holder_of(Position::File, base.fixed, declarator);
+    let before = copied(alloc, &base.attribute)?;
+    let kind = scalar_kind(base.ctype);
+    let marks = declarator.marks.as_slice();
+    let attribute = attributes(alloc, holder, kind, scope, marks, before)?;
+    Ok(Designated { entity, attribute })
+}
+
+/// The type and the size of an object. Rule 8 is broken by one of type `void`, rule 10 by an array without a size that is at least 1.
+#[tactic(auto, unfolding(crate::specs::Globals::object_type))]
+pub fn object_type(
+    place: Place,
+    entity: Entity,
+    initial: &Option<Initial>,
+) -> Result<Local, RuleError>
+    ensures { IsJudged (object_type place entity initial.now) result }
+{
+    match entity {
+        Entity::Function(_) => Err(RuleError::Rule(place, 22)),
+        Entity::Scalar(ctype, _) => {
+            if is_void(ctype) {
+                return Err(RuleError::Rule(place, 8));
+            }
+            Ok(Local { ctype, size: None })
+        }
+        Entity::Array(ctype, _, size) => {
+            if is_void(ctype) {
+                return Err(RuleError::Rule(place, 8));
+            }
+            match array_size(size, initial)? {
+                None => Err(RuleError::Rule(place, 10)),
+                Some(size) => Ok(Local {
+                    ctype,
+                    size: Some(size),
+                }),
+            }
+        }
+    }
+}
+
+/// The first words of an object, and whether the values that they are of all convert to its type.
+#[derive(Drop)]
+pub struct Words {
+    pub all: bool,
+    pub words: List<u32>,
+}
+
+// The word of a constant: one more than a function's number, or the value of an integer constant expression. There is no memory for
+// the number of a 2^32nd function.
+fn constant_word(e: &Expr) -> Result<Option<u32>, AllocError>
+    ensures { IfOk result (λ word. word ≡ constant_word e.now) }
+{
+    match &e.what {
+        Form::Function(number) => {
+            if *number == 0xFFFF_FFFF {
+                Err(AllocError)
+            } else {
+                Ok(Some(*number + 1))
+            }
+        }
+        _ => Ok(constant_value(e)),
+    }
+}
+
+fn first_word(
+    alloc: Global,
+    ctype: CType,
+    scope: &Scope,
+    node: &Node,
+    done: Words,
+) -> Result<Words, RuleError>
+    ensures { IsJudged (first_word ctype scope.now node.now done) result }
+{
+    let Words { all, mut words } = done;
+    let e = value(alloc, scope, node)?;
+    let word = constant_word(&e)?;
+    let all = all && converts(&e, ctype);
+    match word {
+        None => Err(RuleError::Rule(node.place, 9)),
+        Some(word) => {
+            words.push(converted(ctype, word))?;
+            Ok(Words { all, words })
+        }
+    }
+}
+
+fn first_words(
+    alloc: Global,
+    ctype: CType,
+    scope: &Scope,
+    nodes: &[Node],
+) -> Result<Words, RuleError>
+    ensures { IsJudged (first_words ctype scope.now nodes.now) result }
+{
+    let mut done = Words {
+        all: true,
+        words: List::new(alloc),
+    };
+    for node in nodes {
+        done = first_word(alloc, ctype, scope, node, done)?;
+    }
+    Ok(done)
+}
+
+#[tactic(auto, unfolding(crate::specs::Globals::single_word))]
+fn single_word(place: Place, size: Option<u32>, words: Words) -> Result<List<u32>, RuleError>
+    ensures { IsJudged (single_word place size words) result }
+{
+    let Words { all, words } = words;
+    if size.is_some() || !all {
+        Err(RuleError::Rule(place, 5))
+    } else {
+        Ok(words)
+    }
+}
+
+#[tactic(auto, unfolding(crate::specs::Globals::listed_words))]
+fn listed_words(place: Place, size: Option<u32>, words: Words) -> Result<List<u32>, RuleError>
+    ensures { IsJudged (listed_words place size words) result }
+{
+    let Words { all, words } = words;
+    if !all {
+        Err(RuleError::Rule(place, 5))
+    } else if !has_room(size, words.len()) {
+        Err(RuleError::Rule(place, 10))
+    } else {
+        Ok(words)
+    }
+}
+
+fn is_char(ctype: CType) -> bool
+    ensures { result ≡ is_char ctype }
+{
+    matches!(ctype, CType::Scalar(Kind::SChar | Kind::UChar))
+}
+
+fn room_behind(size: Option<u32>, count: usize) -> bool
+    ensures { result ≡ room_behind size count }
+{
+    match size {
+        None => false,
+        Some(size) => count < size as usize,
+    }
+}
+
+fn converted_bytes(alloc: Global, ctype: CType, bytes: &[u8]) -> Result<List<u32>, AllocError>
+    ensures { IfOk result (λ words. words ≡ map (converted ctype) bytes.now) }
+{
+    let mut words = List::new(alloc);
+    for byte in bytes {
+        words.push(converted(ctype, u32::from(*byte)))?;
+    }
+    Ok(words)
+}
+
+#[tactic(auto, unfolding(crate::specs::Globals::string_words))]
+fn string_words(
+    alloc: Global,
+    place: Place,
+    local: Local,
+    bytes: &[u8],
+) -> Result<List<u32>, RuleError>
+    ensures { IsJudged (string_words place local bytes.now) result }
+{
+    if !is_char(local.ctype) || !has_room(local.size, bytes.len()) {
+        return Err(RuleError::Rule(place, 10));
+    }
+    let mut words = converted_bytes(alloc, local.ctype, bytes)?;
+    if room_behind(local.size, bytes.len()) {
+        words.push(0)?;
+    }
+    Ok(words)
+}
+
+/// The words that a global of a type and size is given.
+pub fn global_words(
+    alloc: Global,
+    place: Place,
+    local: Local,
+    initial: &Option<Initial>,
+    scope: &Scope,
+) -> Result<List<u32>, RuleError>
+    ensures { IsJudged (global_words place local initial.now scope.now) result }
+{
+    match initial {
+        None => Ok(List::new(alloc)),
+        Some(Initial::Value(node)) => {
+            let none = Words {
+                all: true,
+                words: List::new(alloc),
+            };
+            let words = first_word(alloc, local.ctype, scope, node, none)?;
+            single_word(place, local.size, words)
+        }
+        Some(Initial::Values(nodes)) => {
+            let words = first_words(alloc, local.ctype, scope, nodes.as_slice())?;
+            listed_words(place, local.size, words)
+        }
+        Some(Initial::Chars(bytes)) => string_words(alloc, place, local, bytes.as_slice()),
+    }
+}
+
+fn distinct(alloc: Global, values: &[u32]) -> Result<List<u32>, AllocError>
+    ensures { IfOk result (λ list. list ≡ distinct values.now) }
+{
+    let mut done = List::new(alloc);
+    for value in values {
+        if !is_among(*value, done.as_slice()) {
+            done.push(*value)?;
+        }
+    }
+    Ok(done)
+}
+
+// 0 and 1, or all values of the enumeration that the declared type is.
+fn default_domain(
+    alloc: Global,
+    scope: &Scope,
+    enumeration: Option<u32>,
+) -> Result<List<u32>, AllocError>
+    ensures { IfOk result (λ values. values ≡ default_domain scope.now enumeration) }
+{
+    match enumeration {
+        None => Ok(List::from_vec(Vec::from_slice(alloc, &[0, 1])?)),
+        Some(number) => match scope.enumerations.get(number as usize) {
+            None => Ok(List::new(alloc)),
+            Some(values) => distinct(alloc, values.as_slice()),
+        },
+    }
+}
+
+/// The domain of a switch, by its attribute and the enumeration that its declared type is.
+pub fn domain_of(
+    alloc: Global,
+    scope: &Scope,
+    enumeration: Option<u32>,
+    attribute: Attribute,
+) -> Result<List<u32>, AllocError>
+    ensures { IfOk result (λ values. values ≡ domain_of scope.now enumeration attribute) }
+{
+    match attribute.values {
+        Some(values) => Ok(values),
+        None => default_domain(alloc, scope, enumeration),
+    }
+}
