@@ -19,9 +19,9 @@ use Rattle.mv_lowering.specs.Lower.{is_scalar, is_void}
 use Rattle.mv_lowering.specs.Functions.{size_in, elements_of, array_sizes, lower_body, outermost, ending, lower_function}
 use Rattle.mv_lowering.proofs.Depths.{ShallowCode, both_parts}
 use Rattle.mv_lowering.proofs.Expressions.{no}
-use Rattle.mv_lowered_forms.specs.Asked.{Globals, in_function, function_leads, IsAsked}
+use Rattle.mv_lowered_forms.specs.Asked.{Globals, IsAsked}
 use Rattle.mv_lowered_forms.specs.Calls.{each_once, attributed_once}
-use Rattle.mv_lowered_forms.specs.Law.{IsFit, CallsAsOften, IsSmall}
+use Rattle.mv_lowered_forms.specs.Law.{CallsAsOften, IsSmall}
 use Rattle.mv_lowered_forms.proofs.Expressions as limits
 use Rattle.mv_lowered_forms.proofs.Expressions.{allowed, is_used, sum_cons}
 use Rattle.mv_lowered_forms.proofs.Counted.{Counted, counted_rules, counted_blocks}
@@ -185,14 +185,14 @@ module _ (p : Program) (globals : Globals) (g : Function) (asked : IsAsked p glo
 
   -- ---- well-formed bodies
 
-  targets_of : (may_end : Bool) (r : List Bool) → function_leads may_end g ≡ true → (may_end ≡ true → 0 < length r) → HasTargets r b.code
-  targets_of may_end r leads some =
-      targets_append r (lower_body g).code (ending (is_void g.result))
-      (code_targets globals locals sizes (is_void g.result) g.body params asked.within (in_function may_end) leads outermost r (record { leave = λ e. no e; again = λ e. no e; around = some })) (last (is_void g.result))
+  has_targets : HasTargets (false ∷ []) b.code
+  has_targets =
+      targets_append (false ∷ []) (lower_body g).code (ending (is_void g.result))
+      (code_targets globals locals sizes (is_void g.result) g.body params asked.within false false asked.jumps outermost (false ∷ []) (record { leave = λ e. no e; again = λ e. no e; around = omega arith })) (last (is_void g.result))
     where
-      last : (void : Bool) → HasTargets r (ending void)
+      last : (void : Bool) → HasTargets (false ∷ []) (ending void)
       last true = refl
-      last false = targets_one r (stm.Return (number 0)) refl
+      last false = targets_one (false ∷ []) (stm.Return (number 0)) refl
 
   read_there : all_true (map (has_room b.rooms) (scalars_read b.code)) ≡ true
   read_there = scalars_have_rooms globals p.globals b.code asked.scalars (names.made.scalars tt)
@@ -203,22 +203,11 @@ module _ (p : Program) (globals : Globals) (g : Function) (asked : IsAsked p glo
   size_within : nodes g ≤ 16777216 → statements b.code + tree_nodes b.code ≤ 1073741824
   size_within few = omega (arith, few, few_statements, few_nodes)
 
-  pub lowered_fit : nodes g ≤ 16777216 → IsFit b
-  lowered_fit few = record {
+  pub lowered_well_formed : nodes g ≤ 16777216 → IsWellFormed b
+  lowered_well_formed few = record {
     temps = lowered_temps;
     params = asked.params;
-    targets = targets_of true (false ∷ []) asked.leads (λ e. omega arith);
-    named = named_there;
-    read = read_there;
-    arguments = names.made.arguments;
-    size = size_within few;
-  }
-
-  pub lowered_well_formed : nodes g ≤ 16777216 → function_leads false g ≡ true → IsWellFormed b
-  lowered_well_formed few leads = record {
-    temps = lowered_temps;
-    params = asked.params;
-    targets = targets_of false [] leads (λ e. no e);
+    targets = has_targets;
     named = named_there;
     read = read_there;
     arguments = names.made.arguments;

@@ -1,15 +1,15 @@
 -- What is proved of the form of lowered functions.
-use Rattle.std.specs.Prelude.{◌≡◌, ℕ, ◌+◌, ◌*◌, ◌^◌, ◌≤◌, true, false, [], ◌∷◌, map, length}
+use Rattle.std.specs.Prelude.{◌≡◌, ℕ, ◌+◌, ◌*◌, ◌≤◌, true, map, length}
 use Rattle.mv_ir.specs.declared.body.Body.{Body}
 use Rattle.mv_ir.specs.Measures.{total, scalars_read, arrays_read, statements, calls, tree_nodes, deepest}
-use Rattle.mv_ir.specs.Live.{IsWhole, HasTemps, most_intervals}
-use Rattle.mv_ir.specs.WellFormed.{all_true, all_around, stm_targets, is_there, has_room, named, stm_arguments, IsWellFormed}
+use Rattle.mv_ir.specs.Live.{IsWhole, most_intervals}
+use Rattle.mv_ir.specs.WellFormed.{all_true, IsWellFormed}
 use Rattle.mv_ast.specs.declared.program.Program.{Program}
 use Rattle.mv_ast.specs.declared.program.Function.{Function}
 use Rattle.mv_ast.specs.Counts as counts
 use Rattle.mv_ast.specs.Counts.{nodes, depth, declared_words}
 use Rattle.mv_lowering.specs.Functions.{lower_function}
-use Rattle.mv_lowered_forms.specs.Asked.{Globals, IsAsked, function_leads}
+use Rattle.mv_lowered_forms.specs.Asked.{Globals, IsAsked}
 use Rattle.mv_lowered_forms.specs.Calls.{code_weight, function_weight, each_once, attributed_once}
 
 -- No tree in the code of any function is deeper than 4.
@@ -20,23 +20,9 @@ LoweredAreShallow = (p : Program) (g : Function) → deepest (lower_function p g
 abbrev pub LoweredAreWhole : Type 0
 LoweredAreWhole = (p : Program) (globals : Globals) (g : Function) → IsAsked p globals g → IsWhole (lower_function p g)
 
--- A body that is well formed where the function itself counts as a block, which a `return` without a value leaves.
-pub record IsFit (b : Body) : Type 0 where
-  pub temps : HasTemps b
-  pub params : b.params ≤ 8
-  pub targets : all_around (map stm_targets b.code) (false ∷ []) ≡ true
-  pub named : all_true (map (is_there b.rooms b.arrays) (named b.code)) ≡ true
-  pub read : all_true (map (has_room b.rooms) (scalars_read b.code)) ≡ true
-  pub arguments : all_true (map stm_arguments b.code) ≡ true
-  pub size : statements b.code + tree_nodes b.code ≤ 2 ^ 30
-
--- Functions of at most 16,777,216 nodes are lowered to such bodies.
-abbrev pub LoweredAreFit : Type 0
-LoweredAreFit = (p : Program) (globals : Globals) (g : Function) → IsAsked p globals g → nodes g ≤ 16777216 → IsFit (lower_function p g)
-
--- They are lowered to well-formed bodies where each `return` has a value.
+-- Functions of at most 16,777,216 nodes are lowered to well-formed bodies.
 abbrev pub LoweredAreWellFormed : Type 0
-LoweredAreWellFormed = (p : Program) (globals : Globals) (g : Function) → IsAsked p globals g → nodes g ≤ 16777216 → function_leads false g ≡ true → IsWellFormed (lower_function p g)
+LoweredAreWellFormed = (p : Program) (globals : Globals) (g : Function) → IsAsked p globals g → nodes g ≤ 16777216 → IsWellFormed (lower_function p g)
 
 -- one call statement for each call: of all, of the attributed functions, and of any that are counted
 pub record CallsAsOften (p : Program) (g : Function) (b : Body) : Type 0 where

@@ -1,4 +1,4 @@
-use Rattle.mv_lowered_forms.proofs.Bodies.{lowered_shallow, lowered_whole, lowered_fit, lowered_well_formed, lowered_calls, lowered_reads, lowered_small}
+use Rattle.mv_lowered_forms.proofs.Bodies.{lowered_shallow, lowered_whole, lowered_well_formed, lowered_calls, lowered_reads, lowered_small}
 use Rattle.mv_lowered_forms.proofs.lowered_forms_are_right.Goals as goal
 
 pub returns-clause-shallow : goal.returns-clause-shallow
@@ -7,11 +7,8 @@ returns-clause-shallow c = lowered_shallow
 pub returns-clause-whole : goal.returns-clause-whole
 returns-clause-whole c = λ p globals g asked. lowered_whole p globals g asked
 
-pub returns-clause-fit : goal.returns-clause-fit
-returns-clause-fit c = λ p globals g asked few. lowered_fit p globals g asked few
-
 pub returns-clause-well_formed : goal.returns-clause-well_formed
-returns-clause-well_formed c = λ p globals g asked few leads. lowered_well_formed p globals g asked few leads
+returns-clause-well_formed c = λ p globals g asked few. lowered_well_formed p globals g asked few
 
 pub returns-clause-calls : goal.returns-clause-calls
 returns-clause-calls c = λ p globals g asked. lowered_calls p globals g asked
