@@ -1,6 +1,6 @@
 -- What is asked of a function so that its code is well formed and whole: what its statements name is there, each local is named
 -- where it is declared, and no call has more than eight arguments.
-use Rattle.std.specs.Prelude.{ℕ, suc, ◌<◌, ◌≤◌, ◌≡◌, Bool, true, false, cond, not, ◌&&◌, ◌||◌, List, [], ◌∷◌, map, length, Option, Some, None, nat_eq, nat_lt}
+use Rattle.std.specs.Prelude.{ℕ, suc, ◌<◌, ◌≤◌, ◌≡◌, Bool, true, false, cond, not, ◌&&◌, List, [], ◌∷◌, map, length, Option, Some, None, nat_eq, nat_lt}
 use Rattle.mv_ast.specs.declared.program.Function.{Function}
 use Rattle.mv_ast.specs.declared.program.Program.{Program}
 use Rattle.mv_ast.specs.declared.program.Expr.{Expr, Expr-F, fold-Expr}
@@ -15,6 +15,7 @@ use Rattle.mv_ir.specs.WellFormed.{known_arguments}
 use Rattle.mv_lowering.specs.Lower.{all_of, is_scalar}
 use Rattle.mv_lowering.specs.Functions.{size_in}
 use Rattle.mv_lowered_programs.specs.Jumps.{all_jump, stmt_jumps}
+use Rattle.mv_lowered_programs.specs.Scopes.{with_local}
 
 -- ---- globals
 
@@ -78,9 +79,6 @@ module _ (globals : Globals) (locals : ℕ) (sizes : ℕ → Option ℕ) (declar
 pub record Scope : Type 0 where
   pub within : (ℕ → Bool) → Bool
   pub behind : (ℕ → Bool) → ℕ → Bool
-
-abbrev pub with_local : ℕ → (ℕ → Bool) → ℕ → Bool
-with_local l declared k = nat_eq k l || declared k
 
 -- of a list, in which what is declared stays so up to its end
 abbrev pub all_within : List Scope → (ℕ → Bool) → Bool
