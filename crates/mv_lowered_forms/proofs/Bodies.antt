@@ -1,5 +1,5 @@
 -- The form of a lowered function's body.
-use Rattle.std.proofs.Common.{◌≡◌, ℕ, ◌+◌, ◌*◌, ◌<◌, ◌≤◌, Bool, true, false, not, ltb, ◌&&◌, ◌||◌, List, [], ◌∷◌, map, length, Option, None, refl, sym, ◌∙◌, ap, arith, ◌⊎◌, inl, inr}
+use Rattle.std.proofs.Common.{◌≡◌, ℕ, ◌+◌, ◌*◌, ◌<◌, ◌≤◌, Bool, true, false, not, ltb, ◌&&◌, ◌||◌, [], ◌∷◌, map, length, Option, None, refl, sym, ◌∙◌, arith, ◌⊎◌, inl, inr}
 use Rattle.std.specs.Prelude.{nat_lt}
 use Rattle.std.proofs.lemmas.Bool.{ltb-true, lt-ltb, or_from, cases_lt}
 use Rattle.std.proofs.lemmas.List.{length-map}
@@ -19,9 +19,9 @@ use Rattle.mv_lowering.specs.Lower.{is_scalar, is_void}
 use Rattle.mv_lowering.specs.Functions.{size_in, elements_of, array_sizes, lower_body, outermost, ending, lower_function}
 use Rattle.mv_lowering.proofs.Depths.{ShallowCode, both_parts}
 use Rattle.mv_lowering.proofs.Expressions.{no}
-use Rattle.mv_lowered_forms.specs.Asked.{Globals, in_function, function_leads, IsAsked}
+use Rattle.mv_lowered_forms.proofs.Asked.{Globals, IsAsked}
 use Rattle.mv_lowered_forms.specs.Calls.{each_once, attributed_once}
-use Rattle.mv_lowered_forms.specs.Law.{IsFit, CallsAsOften, IsSmall}
+use Rattle.mv_lowered_forms.specs.Law.{CallsAsOften, IsSmall}
 use Rattle.mv_lowered_forms.proofs.Expressions as limits
 use Rattle.mv_lowered_forms.proofs.Expressions.{allowed, is_used, sum_cons}
 use Rattle.mv_lowered_forms.proofs.Counted.{Counted, counted_rules, counted_blocks}
@@ -47,11 +47,6 @@ pub lowered_shallow : (p : Program) (g : Function) → deepest (lower_function p
 lowered_shallow p g =
     deepest_up (trees (lower_function p g).code)
     (both_parts (lower_body g).code (ending (is_void g.result)) (body_shallow (length g.locals) (size_in g.locals) (is_void g.result) g.body outermost) (shallow_ending (is_void g.result)))
-
--- what holds of each item is what a test says of all
-all_tested : {A : Type 0} (f : A → Bool) (xs : List A) → Each (λ x. f x ≡ true) xs → all_true (map f xs) ≡ true
-all_tested f [] h = refl
-all_tested f (x ∷ xs) h = ap (λ b. b && all_true (map f xs)) h.0 ∙ all_tested f xs h.1
 
 module _ (p : Program) (globals : Globals) (g : Function) (asked : IsAsked p globals g) where
   abbrev b : Body
@@ -147,8 +142,11 @@ module _ (p : Program) (globals : Globals) (g : Function) (asked : IsAsked p glo
   names : FunctionPaid globals g none 0 (Named globals.scalars globals.arrays (limits.is_there globals locals)) (λ declared. named_rules (allowed globals locals sizes (room_of g) none 0 declared)) (named_blocks globals.scalars globals.arrays (limits.is_there globals locals))
   names = function_paid globals g none 0 (Named globals.scalars globals.arrays (limits.is_there globals locals)) (λ declared. named_rules (allowed globals locals sizes (room_of g) none 0 declared)) (named_blocks globals.scalars globals.arrays (limits.is_there globals locals)) asked.within
 
-  pub lowered_reads : (all_true (map globals.scalars (scalars_read b.code)) ≡ true) × (all_true (map globals.arrays (arrays_read b.code)) ≡ true)
-  lowered_reads = (all_tested globals.scalars (scalars_read b.code) (names.made.scalars tt), all_tested globals.arrays (arrays_read b.code) names.made.arrays)
+  pub scalars_within : Each (λ k. globals.scalars k ≡ true) (scalars_read b.code)
+  scalars_within = names.made.scalars tt
+
+  pub arrays_within : Each (λ k. globals.arrays k ≡ true) (arrays_read b.code)
+  arrays_within = names.made.arrays
 
   -- ---- calls and counts
 
@@ -185,17 +183,17 @@ module _ (p : Program) (globals : Globals) (g : Function) (asked : IsAsked p glo
 
   -- ---- well-formed bodies
 
-  targets_of : (may_end : Bool) (r : List Bool) → function_leads may_end g ≡ true → (may_end ≡ true → 0 < length r) → HasTargets r b.code
-  targets_of may_end r leads some =
-      targets_append r (lower_body g).code (ending (is_void g.result))
-      (code_targets globals locals sizes (is_void g.result) g.body params asked.within (in_function may_end) leads outermost r (record { leave = λ e. no e; again = λ e. no e; around = some })) (last (is_void g.result))
+  has_targets : HasTargets (false ∷ []) b.code
+  has_targets =
+      targets_append (false ∷ []) (lower_body g).code (ending (is_void g.result))
+      (code_targets globals locals sizes (is_void g.result) g.body params asked.within false false asked.jumps outermost (false ∷ []) (record { leave = λ e. no e; again = λ e. no e; around = omega arith })) (last (is_void g.result))
     where
-      last : (void : Bool) → HasTargets r (ending void)
+      last : (void : Bool) → HasTargets (false ∷ []) (ending void)
       last true = refl
-      last false = targets_one r (stm.Return (number 0)) refl
+      last false = targets_one (false ∷ []) (stm.Return (number 0)) refl
 
   read_there : all_true (map (has_room b.rooms) (scalars_read b.code)) ≡ true
-  read_there = scalars_have_rooms globals p.globals b.code asked.scalars (names.made.scalars tt)
+  read_there = scalars_have_rooms globals p.globals b.code asked.scalars scalars_within
 
   named_there : all_true (map (is_there b.rooms b.arrays) (named b.code)) ≡ true
   named_there = named_are_there globals p.globals b.code locals (array_sizes g.locals) (length-map g.locals (λ l. elements_of l.size)) asked.there names.made.named
@@ -203,22 +201,11 @@ module _ (p : Program) (globals : Globals) (g : Function) (asked : IsAsked p glo
   size_within : nodes g ≤ 16777216 → statements b.code + tree_nodes b.code ≤ 1073741824
   size_within few = omega (arith, few, few_statements, few_nodes)
 
-  pub lowered_fit : nodes g ≤ 16777216 → IsFit b
-  lowered_fit few = record {
+  pub lowered_well_formed : nodes g ≤ 16777216 → IsWellFormed b
+  lowered_well_formed few = record {
     temps = lowered_temps;
     params = asked.params;
-    targets = targets_of true (false ∷ []) asked.leads (λ e. omega arith);
-    named = named_there;
-    read = read_there;
-    arguments = names.made.arguments;
-    size = size_within few;
-  }
-
-  pub lowered_well_formed : nodes g ≤ 16777216 → function_leads false g ≡ true → IsWellFormed b
-  lowered_well_formed few leads = record {
-    temps = lowered_temps;
-    params = asked.params;
-    targets = targets_of false [] leads (λ e. no e);
+    targets = has_targets;
     named = named_there;
     read = read_there;
     arguments = names.made.arguments;

@@ -12,7 +12,7 @@ use Rattle.mv_lowering.specs.Lowered.{Lowering, number}
 use Rattle.mv_lowering.specs.Lower.{lower_expr, is_scalar}
 use Rattle.mv_lowering.specs.Statements.{Jumps, store_word, clear_words, store_zeros, store_values, values_top, lower_clear}
 use Rattle.mv_lowering.proofs.Expressions.{split}
-use Rattle.mv_lowered_forms.specs.Asked.{Globals, is_within, all_exprs_within}
+use Rattle.mv_lowered_forms.proofs.Asked.{Globals, is_within, all_exprs_within}
 use Rattle.mv_lowered_forms.specs.Calls.{expr_weight}
 use Rattle.mv_lowered_forms.proofs.Rules.{Allowed, Rules}
 use Rattle.mv_lowered_forms.proofs.Plain.{plain_set, plain_write, plain_zero, covers_number, covers_none, covers_before}

@@ -18,7 +18,7 @@ use Rattle.mv_lowering.specs.Lowered.{Lowered, Lowering, is_low, is_empty, kept_
 use Rattle.mv_lowering.specs.Lower.{Part, Place, InLocal, InGlobal, Element, quotient_number, remainder_number, bit_tree, lower_operator, lower_product, lower_binary, lower_changed, lower_change, lower_after, lower_read, lower_set, unary_tree, converted_tree, place_of_layer, lower_form, lower_layer, form_lowering, place_of, part_of, lower_expr}
 use Rattle.mv_lowering.proofs.SourceInduction.{FormChildren, TargetChildren, expr_ind}
 use Rattle.mv_lowering.proofs.Expressions.{split}
-use Rattle.mv_lowered_forms.specs.Asked.{Globals, Access, target_access, form_names_only, inner_names_only, form_is_within, target_is_within, is_within}
+use Rattle.mv_lowered_forms.proofs.Asked.{Globals, Access, target_access, form_names_only, inner_names_only, form_is_within, target_is_within, is_within}
 use Rattle.mv_lowering.specs.Lower.{all_of}
 
 -- ---- tops at one place

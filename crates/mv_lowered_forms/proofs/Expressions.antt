@@ -22,7 +22,7 @@ use Rattle.mv_lowering.specs.Lowered.{Lowering, lower_number, lower_function, lo
 use Rattle.mv_lowering.specs.Lower.{Part, Place, InLocal, InGlobal, Element, all_of, is_scalar, place_of_layer, lower_read, lower_set, lower_binary, lower_changed, lower_change, next_tree, lower_after, is_void, lower_form, lower_layer, form_lowering, place_of, part_of, lower_expr, unary_tree, converted_tree}
 use Rattle.mv_lowering.proofs.SourceInduction.{FormChildren, TargetChildren, expr_ind}
 use Rattle.mv_lowering.proofs.Expressions.{split}
-use Rattle.mv_lowered_forms.specs.Asked.{Globals, Access, local_access, target_access, form_names_only, inner_names_only, form_is_within, target_is_within, is_within}
+use Rattle.mv_lowered_forms.proofs.Asked.{Globals, Access, local_access, target_access, form_names_only, inner_names_only, form_is_within, target_is_within, is_within}
 use Rattle.mv_lowered_forms.specs.Calls.{form_weights, form_weight, target_weight, expr_weight}
 use Rattle.mv_lowered_forms.proofs.Rules.{Allowed, Rules, AllMay}
 use Rattle.mv_lowered_forms.proofs.Plain.{covers_none}

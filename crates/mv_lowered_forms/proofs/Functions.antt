@@ -8,7 +8,7 @@ use Rattle.mv_ast.specs.Counts.{stmt_nodes}
 use Rattle.mv_lowering.specs.Lowered.{number}
 use Rattle.mv_lowering.specs.Lower.{is_void}
 use Rattle.mv_lowering.specs.Functions.{size_in, lower_body, outermost, ending, lower_function_code}
-use Rattle.mv_lowered_forms.specs.Asked.{Globals, all_within, scopes_of}
+use Rattle.mv_lowered_forms.proofs.Asked.{Globals, all_within, scopes_of}
 use Rattle.mv_lowered_forms.specs.Calls.{function_weight}
 use Rattle.mv_lowered_forms.proofs.Rules.{Rules, BlockRules}
 use Rattle.mv_lowered_forms.proofs.Plain.{covers_number}

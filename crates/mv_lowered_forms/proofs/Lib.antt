@@ -1,3 +1,4 @@
+pub mod Asked
 pub mod Rules
 pub mod Plain
 pub mod Given
@@ -22,3 +23,7 @@ pub mod SameCounts
 pub mod Rooms
 pub mod Intervals
 pub mod Bodies
+pub mod Holding
+pub mod WithinExpressions
+pub mod WithinStatements
+pub mod OfPrograms

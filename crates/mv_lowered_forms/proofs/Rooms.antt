@@ -14,7 +14,7 @@ use Rattle.mv_ast.specs.Counts.{words_of_size}
 use Rattle.mv_ast.specs.Plans.{is_among}
 use Rattle.mv_lowering.specs.Functions.{names_global, address_behind, rooms_from}
 use Rattle.mv_lowering.proofs.Expressions.{no}
-use Rattle.mv_lowered_forms.specs.Asked.{Globals}
+use Rattle.mv_lowered_forms.proofs.Asked.{Globals}
 use Rattle.mv_lowered_forms.proofs.Rules.{AllMay}
 use Rattle.mv_lowered_forms.proofs.Expressions as limits
 

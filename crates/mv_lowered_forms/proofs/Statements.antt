@@ -17,7 +17,8 @@ use Rattle.mv_lowering.specs.Lower.{lower_expr}
 use Rattle.mv_lowering.specs.Statements.{Jumps, Placed, LoweredArm, in_body, in_arm, in_sequence, test_labels, test_arms, arm_place, nested, arms_top, lower_switch, break, enclosed, test_and_body}
 use Rattle.mv_lowering.specs.LowerStatements.{lower_optional, lower_stmt_layer, lower_arm_layer, lower_stmt, lower_arm}
 use Rattle.mv_lowering.proofs.Expressions.{split}
-use Rattle.mv_lowered_forms.specs.Asked.{Globals, Scope, ArmScope, all_within, all_behind, arms_within, bare_arms, with_local, is_within, all_exprs_within, optional_within, is_empty, stmt_scope_layer, arm_scope_layer, stmt_scope, arm_scope}
+use Rattle.mv_lowered_programs.specs.Scopes.{with_local}
+use Rattle.mv_lowered_forms.proofs.Asked.{Globals, Scope, ArmScope, all_within, all_behind, arms_within, bare_arms, is_within, all_exprs_within, optional_within, is_empty, stmt_scope_layer, arm_scope_layer, stmt_scope, arm_scope}
 use Rattle.mv_lowered_forms.specs.Calls.{expr_weight, stmt_weight, arm_weight}
 use Rattle.mv_lowered_forms.proofs.Rules.{Allowed, Rules, BlockRules}
 use Rattle.mv_lowered_forms.proofs.Plain.{plain_set, covers_self, covers_number, covers_none, covers_before, covers_binary, covers_twice, covers_swap}

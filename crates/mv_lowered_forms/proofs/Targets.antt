@@ -22,7 +22,9 @@ use Rattle.mv_lowering.specs.Lower.{lower_expr}
 use Rattle.mv_lowering.specs.Statements.{Jumps, Placed, LoweredArm, in_body, in_arm, raised, in_sequence, test_labels, test_arms, arm_place, nested, values_top, break, enclosed, repeat, return_with, test_and_body}
 use Rattle.mv_lowering.specs.LowerStatements.{lower_optional, lower_stmt_layer, lower_arm_layer, lower_stmt, lower_arm}
 use Rattle.mv_lowering.proofs.Expressions.{split}
-use Rattle.mv_lowered_forms.specs.Asked.{Globals, Scope, ArmScope, all_within, all_behind, arms_within, bare_arms, with_local, is_within, all_exprs_within, optional_within, stmt_scope_layer, arm_scope_layer, stmt_scope, arm_scope, Around, all_lead, in_loop, in_switch, stmt_leads_layer, arm_leads_layer, stmt_leads, arm_leads}
+use Rattle.mv_lowered_programs.specs.Jumps.{Jumping, all_jump, jumps_layer, arm_jumps_layer, stmt_jumps, arm_jumps}
+use Rattle.mv_lowered_programs.specs.Scopes.{with_local}
+use Rattle.mv_lowered_forms.proofs.Asked.{Globals, Scope, ArmScope, all_within, all_behind, arms_within, bare_arms, is_within, all_exprs_within, optional_within, stmt_scope_layer, arm_scope_layer, stmt_scope, arm_scope}
 use Rattle.mv_lowered_forms.proofs.Rules.{Allowed, Rules}
 use Rattle.mv_lowered_forms.proofs.Expressions.{allowed}
 use Rattle.mv_lowered_forms.proofs.Clears as clears
@@ -72,13 +74,14 @@ jumpless_rules a = record {
 
 -- ---- where control leads from statements
 
-pub record Leads (q : Around) (j : Jumps) (r : List Bool) : Type 0 where
-  pub leave : q.may_break ≡ true → j.leave < length r
-  pub again : q.may_continue ≡ true → j.again < length r
-  pub around : q.may_end ≡ true → j.around < length r
+-- what `break`, `continue` and the end of the function leave, where the first two may stand or not
+pub record Leads (breaks continues : Bool) (j : Jumps) (r : List Bool) : Type 0 where
+  pub leave : breaks ≡ true → j.leave < length r
+  pub again : continues ≡ true → j.again < length r
+  pub around : j.around < length r
 
-leads_in_loop : (q : Around) (j : Jumps) (r : List Bool) → Leads q j r → Leads (in_loop q) (in_body j) (false ∷ (true ∷ r))
-leads_in_loop q j r h = record { leave = λ e. omega arith; again = λ e. omega arith; around = λ e. let k = h.around e in omega (arith, k) }
+leads_in_loop : (u v : Bool) (j : Jumps) (r : List Bool) → Leads u v j r → Leads true true (in_body j) (false ∷ (true ∷ r))
+leads_in_loop u v j r h = record { leave = λ e. omega arith; again = λ e. omega arith; around = let k = h.around in omega (arith, k) }
 
 -- so many blocks, and one more
 abbrev deep : ℕ → List Bool → List Bool
@@ -93,11 +96,11 @@ raised_is : (m n : ℕ) → raised m n ≡ m + n
 raised_is zero n = omega arith
 raised_is (suc m) n = let e = raised_is m n in omega (arith, e)
 
-leads_in_arm : (q : Around) (m : ℕ) (j : Jumps) (r : List Bool) → Leads q j r → Leads (in_switch q) (in_arm m j) (deep m r)
-leads_in_arm q m j r h = record {
+leads_in_arm : (u v : Bool) (m : ℕ) (j : Jumps) (r : List Bool) → Leads u v j r → Leads true v (in_arm m j) (deep m r)
+leads_in_arm u v m j r h = record {
   leave = λ e. omega (arith, deep_length m r);
   again = λ e. let k = h.again e in omega (arith, k, deep_length m r, raised_is (suc m) j.again);
-  around = λ e. let k = h.around e in omega (arith, k, deep_length m r, raised_is (suc m) j.around);
+  around = let k = h.around in omega (arith, k, deep_length m r, raised_is (suc m) j.around);
 }
 
 module _ (globals : Globals) (locals : ℕ) (sizes : ℕ → Option ℕ) (void : Bool) where
@@ -119,22 +122,22 @@ module _ (globals : Globals) (locals : ℕ) (sizes : ℕ → Option ℕ) (void :
   abbrev scopes : List Stmt → List Scope
   scopes body = map (stmt_scope globals locals sizes) body
 
-  abbrev leading : List Stmt → Around → Bool
-  leading body = all_lead (map stmt_leads body)
+  abbrev leading : List Stmt → Jumping
+  leading body = all_jump (map stmt_jumps body)
 
   abbrev S : Stmt → Type 0
-  S s = (declared : ℕ → Bool) → (stmt_scope globals locals sizes s).within declared ≡ true → (q : Around) → stmt_leads s q ≡ true → (j : Jumps) (r : List Bool) → Leads q j r → HasTargets r (lower_stmt locals sizes void s j).code
+  S s = (declared : ℕ → Bool) → (stmt_scope globals locals sizes s).within declared ≡ true → (u v : Bool) → stmt_jumps s u v ≡ true → (j : Jumps) (r : List Bool) → Leads u v j r → HasTargets r (lower_stmt locals sizes void s j).code
 
   abbrev A : Arm → Type 0
-  A arm = (declared : ℕ → Bool) → (arm_scope globals locals sizes arm).within declared ≡ true → (q : Around) → arm_leads arm q ≡ true → (j : Jumps) (r : List Bool) → Leads q j r → HasTargets r ((lower_arm locals sizes void arm).body j).code
+  A arm = (declared : ℕ → Bool) → (arm_scope globals locals sizes arm).within declared ≡ true → (u v : Bool) → arm_jumps arm u v ≡ true → (j : Jumps) (r : List Bool) → Leads u v j r → HasTargets r ((lower_arm locals sizes void arm).body j).code
 
-  all_targets : (body : List Stmt) → Each S body → (declared : ℕ → Bool) → all_within (scopes body) declared ≡ true → (q : Around) → leading body q ≡ true → (j : Jumps) (r : List Bool) → Leads q j r → HasTargets r (lowered body j).code
-  all_targets [] h declared b q l j r k = refl
-  all_targets (s ∷ body) h declared b q l j r k =
+  all_targets : (body : List Stmt) → Each S body → (declared : ℕ → Bool) → all_within (scopes body) declared ≡ true → (u v : Bool) → leading body u v ≡ true → (j : Jumps) (r : List Bool) → Leads u v j r → HasTargets r (lowered body j).code
+  all_targets [] h declared b u v l j r k = refl
+  all_targets (s ∷ body) h declared b u v l j r k =
       let scope = stmt_scope globals locals sizes s in
       let bs = split (scope.within declared) (all_within (scopes body) (scope.behind declared)) b in
-      let ls = split (stmt_leads s q) (leading body q) l in
-      targets_append r (lower_stmt locals sizes void s j).code (lowered body j).code (h.0 declared bs.0 q ls.0 j r k) (all_targets body h.1 (scope.behind declared) bs.1 q ls.1 j r k)
+      let ls = split (stmt_jumps s u v) (leading body u v) l in
+      targets_append r (lower_stmt locals sizes void s j).code (lowered body j).code (h.0 declared bs.0 u v ls.0 j r k) (all_targets body h.1 (scope.behind declared) bs.1 u v ls.1 j r k)
 
   -- ---- `switch`
 
@@ -160,16 +163,16 @@ module _ (globals : Globals) (locals : ℕ) (sizes : ℕ → Option ℕ) (void :
       by true le = omega arith
       by false le = omega (arith, le)
 
-  nested_targets : (arms : List Arm) → Each A arms → (declared : ℕ → Bool) → arms_within (map (arm_scope globals locals sizes) arms) declared ≡ true → (q : Around) → all_lead (map arm_leads arms) (in_switch q) ≡ true →
-      (j : Jumps) (r : List Bool) → Leads q j r → (inner : List Stm) → HasTargets (deep (length (arms_lowered arms)) r) inner → HasTargets (deep 0 r) (nested inner (arms_lowered arms) j)
-  nested_targets [] h declared b q l j r k inner t = t
-  nested_targets (arm ∷ arms) h declared b q l j r k inner t =
+  nested_targets : (arms : List Arm) → Each A arms → (declared : ℕ → Bool) → arms_within (map (arm_scope globals locals sizes) arms) declared ≡ true → (u v : Bool) → all_jump (map arm_jumps arms) true v ≡ true →
+      (j : Jumps) (r : List Bool) → Leads u v j r → (inner : List Stm) → HasTargets (deep (length (arms_lowered arms)) r) inner → HasTargets (deep 0 r) (nested inner (arms_lowered arms) j)
+  nested_targets [] h declared b u v l j r k inner t = t
+  nested_targets (arm ∷ arms) h declared b u v l j r k inner t =
       let bs = split ((arm_scope globals locals sizes arm).within declared) (arms_within (map (arm_scope globals locals sizes) arms) declared) b in
-      let ls = split (arm_leads arm (in_switch q)) (all_lead (map arm_leads arms) (in_switch q)) l in
+      let ls = split (arm_jumps arm true v) (all_jump (map arm_jumps arms) true v) l in
       let m = length (arms_lowered arms) in
       let body = ((lower_arm locals sizes void arm).body (in_arm m j)).code in
-      nested_targets arms h.1 declared bs.1 q ls.1 j r k (enclosed inner ∷ body)
-      (targets_append (deep m r) (enclosed inner ∷ []) body (targets_one (deep m r) (stm.Block inner) t) (h.0 declared bs.0 (in_switch q) ls.0 (in_arm m j) (deep m r) (leads_in_arm q m j r k)))
+      nested_targets arms h.1 declared bs.1 u v ls.1 j r k (enclosed inner ∷ body)
+      (targets_append (deep m r) (enclosed inner ∷ []) body (targets_one (deep m r) (stm.Block inner) t) (h.0 declared bs.0 true v ls.0 (in_arm m j) (deep m r) (leads_in_arm u v m j r k)))
 
   -- ---- each form
 
@@ -177,56 +180,56 @@ module _ (globals : Globals) (locals : ℕ) (sizes : ℕ → Option ℕ) (void :
   test_targets l body r some h k =
       targets_append r (l locals).code (choose (l locals).tree body (break 0 ∷ []) ∷ []) h (choose_targets r (l locals).tree body (break 0 ∷ []) k (break_target r 0 some))
 
-  body_targets : (body : List Stmt) → Each S body → (declared : ℕ → Bool) → all_within (scopes body) declared ≡ true → (q : Around) → leading body (in_loop q) ≡ true → (j : Jumps) (r : List Bool) → Leads q j r →
+  body_targets : (body : List Stmt) → Each S body → (declared : ℕ → Bool) → all_within (scopes body) declared ≡ true → (u v : Bool) → leading body true true ≡ true → (j : Jumps) (r : List Bool) → Leads u v j r →
       HasTargets (true ∷ r) (enclosed (lowered body (in_body j)).code ∷ [])
-  body_targets body h declared b q l j r k =
-      targets_one (true ∷ r) (stm.Block (lowered body (in_body j)).code) (all_targets body h declared b (in_loop q) l (in_body j) (false ∷ (true ∷ r)) (leads_in_loop q j r k))
+  body_targets body h declared b u v l j r k =
+      targets_one (true ∷ r) (stm.Block (lowered body (in_body j)).code) (all_targets body h declared b true true l (in_body j) (false ∷ (true ∷ r)) (leads_in_loop u v j r k))
 
   layer : (x : Stmt-F Stmt Arm) → source.Children S A x → (declared : ℕ → Bool) → (stmt_scope_layer globals locals sizes (map-Stmt Stmt Arm Scope ArmScope (stmt_scope globals locals sizes) (arm_scope globals locals sizes) x)).within declared ≡ true →
-      (q : Around) → stmt_leads_layer (map-Stmt Stmt Arm (Around → Bool) (Around → Bool) stmt_leads arm_leads x) q ≡ true → (j : Jumps) (r : List Bool) → Leads q j r →
+      (u v : Bool) → jumps_layer (map-Stmt Stmt Arm Jumping Jumping stmt_jumps arm_jumps x) u v ≡ true → (j : Jumps) (r : List Bool) → Leads u v j r →
       HasTargets r (lower_stmt_layer locals sizes void (map-Stmt Stmt Arm Placed LoweredArm (lower_stmt locals sizes void) (lower_arm locals sizes void) x) j).code
-  layer (stmt.Block body) h declared b q l j r k = all_targets body h declared b q l j r k
-  layer (stmt.Clear m values) h declared b q l j r k =
+  layer (stmt.Block body) h declared b u v l j r k = all_targets body h declared b u v l j r k
+  layer (stmt.Clear m values) h declared b u v l j r k =
       let itself = any_of (map (names_local m) values) in
       let known = cond itself (with_local m declared) declared in
       let bs = split (nat_lt m locals) (all_exprs_within globals locals sizes values known) b in
       let room = values_top locals (map lower_expr values) in
       (clears.cleared globals locals sizes room none 0 known Jumpless (jumpless_rules (allowed globals locals sizes room none 0 known)) m bs.0 (sizes m) refl itself values j bs.1 (omega arith)).made.targets r
-  layer (stmt.Express e) h declared b q l j r k = value declared e b r
-  layer (stmt.If e yes_part no_part) h declared b q l j r k =
+  layer (stmt.Express e) h declared b u v l j r k = value declared e b r
+  layer (stmt.If e yes_part no_part) h declared b u v l j r k =
       let bs = split (is_within globals locals sizes declared e) (all_within (scopes yes_part) declared && all_within (scopes no_part) declared) b in
       let cs = split (all_within (scopes yes_part) declared) (all_within (scopes no_part) declared) bs.1 in
-      let ls = split (leading yes_part q) (leading no_part q) l in
+      let ls = split (leading yes_part u v) (leading no_part u v) l in
       let yes = (lowered yes_part j).code in
       let other = (lowered no_part j).code in
       targets_append r (lower_expr e locals).code (choose (lower_expr e locals).tree yes other ∷ []) (value declared e bs.0 r)
-      (choose_targets r (lower_expr e locals).tree yes other (all_targets yes_part h.0 declared cs.0 q ls.0 j r k) (all_targets no_part h.1 declared cs.1 q ls.1 j r k))
-  layer (stmt.While e body) h declared b q l j r k =
+      (choose_targets r (lower_expr e locals).tree yes other (all_targets yes_part h.0 declared cs.0 u v ls.0 j r k) (all_targets no_part h.1 declared cs.1 u v ls.1 j r k))
+  layer (stmt.While e body) h declared b u v l j r k =
       let bs = split (is_within globals locals sizes declared e) (all_within (scopes body) declared) b in
       targets_one r (stm.Loop (test_and_body locals (lower_expr e) (enclosed (lowered body (in_body j)).code ∷ [])))
-      (test_targets (lower_expr e) (enclosed (lowered body (in_body j)).code ∷ []) (true ∷ r) (omega arith) (value declared e bs.0 (true ∷ r)) (body_targets body h declared bs.1 q l j r k))
-  layer (stmt.Do body e) h declared b q l j r k =
+      (test_targets (lower_expr e) (enclosed (lowered body (in_body j)).code ∷ []) (true ∷ r) (omega arith) (value declared e bs.0 (true ∷ r)) (body_targets body h declared bs.1 u v l j r k))
+  layer (stmt.Do body e) h declared b u v l j r k =
       let bs = split (is_within globals locals sizes declared e) (all_within (scopes body) declared) b in
       let code = (lowered body (in_body j)).code in
       let test = test_and_body locals (lower_expr e) [] in
       targets_one r (stm.Loop (enclosed code ∷ test))
-      (targets_append (true ∷ r) (enclosed code ∷ []) test (body_targets body h declared bs.1 q l j r k) (test_targets (lower_expr e) [] (true ∷ r) (omega arith) (value declared e bs.0 (true ∷ r)) refl))
-  layer (stmt.For first test step body) h declared b q l j r k =
+      (targets_append (true ∷ r) (enclosed code ∷ []) test (body_targets body h declared bs.1 u v l j r k) (test_targets (lower_expr e) [] (true ∷ r) (omega arith) (value declared e bs.0 (true ∷ r)) refl))
+  layer (stmt.For first test step body) h declared b u v l j r k =
       let inside = all_behind (scopes first) declared in
       let may_test = optional_within globals locals sizes test inside in
       let may_step = optional_within globals locals sizes step inside in
       let b0 = split (all_within (scopes first) declared) (may_test && (may_step && all_within (scopes body) inside)) b in
       let b1 = split may_test (may_step && all_within (scopes body) inside) b0.1 in
       let b2 = split may_step (all_within (scopes body) inside) b1.1 in
-      let ls = split (leading first q) (leading body (in_loop q)) l in
+      let ls = split (leading first u v) (leading body true true) l in
       let code = (lowered body (in_body j)).code in
       let tested = test_and_body locals (lower_optional 1 test) (enclosed code ∷ []) in
       let stepped = (lower_optional 0 step locals).code in
-      targets_append r (lowered first j).code (repeat (tested ++ stepped) ∷ []) (all_targets first h.0 declared b0.0 q ls.0 j r k)
+      targets_append r (lowered first j).code (repeat (tested ++ stepped) ∷ []) (all_targets first h.0 declared b0.0 u v ls.0 j r k)
       (targets_one r (stm.Loop (tested ++ stepped))
       (targets_append (true ∷ r) tested stepped
-      (test_targets (lower_optional 1 test) (enclosed code ∷ []) (true ∷ r) (omega arith) (optional 1 inside test b1.0 (true ∷ r)) (body_targets body h.1 inside b2.1 q ls.1 j r k)) (optional 0 inside step b2.0 (true ∷ r))))
-  layer (stmt.Switch e arms) h declared b q l j r k =
+      (test_targets (lower_optional 1 test) (enclosed code ∷ []) (true ∷ r) (omega arith) (optional 1 inside test b1.0 (true ∷ r)) (body_targets body h.1 inside b2.1 u v ls.1 j r k)) (optional 0 inside step b2.0 (true ∷ r))))
+  layer (stmt.Switch e arms) h declared b u v l j r k =
       let scoped = map (arm_scope globals locals sizes) arms in
       let bs = split (is_within globals locals sizes declared e) (nat_lt (bare_arms scoped) 2 && arms_within scoped declared) b in
       let cs = split (nat_lt (bare_arms scoped) 2) (arms_within scoped declared) bs.1 in
@@ -238,30 +241,30 @@ module _ (globals : Globals) (locals : ℕ) (sizes : ℕ → Option ℕ) (void :
       let t = (lower_expr e locals).tree in
       targets_append r (lower_expr e locals).code (set locals t ∷ enclosed whole ∷ []) (value declared e bs.0 r)
       (targets_append r (set locals t ∷ []) (enclosed whole ∷ []) (targets_one r (stm.Set locals t) refl)
-      (targets_one r (stm.Block whole) (nested_targets arms h declared cs.1 q l j r k inner
+      (targets_one r (stm.Block whole) (nested_targets arms h declared cs.1 u v l j r k inner
       (targets_append (deep m r) (test_arms locals 0 ls) (break place ∷ []) (tests_targets 0 ls (deep m r) (omega (arith, deep_length m r)))
       (break_target (deep m r) place (omega (arith, deep_length m r, place_within (λ (a : LoweredArm). a.other) 0 ls)))))))
-  layer stmt.Break h declared b q l j r k = break_target r j.leave (k.leave l)
-  layer stmt.Continue h declared b q l j r k = break_target r j.again (k.again l)
-  layer (stmt.Return None) h declared b q l j r k = break_target r j.around (k.around l)
-  layer (stmt.Return (Some e)) h declared b q l j r k =
+  layer stmt.Break h declared b u v l j r k = break_target r j.leave (k.leave l)
+  layer stmt.Continue h declared b u v l j r k = break_target r j.again (k.again l)
+  layer (stmt.Return None) h declared b u v l j r k = break_target r j.around k.around
+  layer (stmt.Return (Some e)) h declared b u v l j r k =
       targets_append r (lower_expr e locals).code (return_with (lower_expr e locals).tree ∷ []) (value declared e b r) (targets_one r (stm.Return (lower_expr e locals).tree) refl)
 
   stmt_step : (x : Stmt-F Stmt Arm) → source.Children S A x → S (roll-Stmt x)
-  stmt_step x h declared b q l j r k =
+  stmt_step x h declared b u v l j r k =
       let lowered_as = fold-roll-Stmt Placed LoweredArm (lower_stmt_layer locals sizes void) (lower_arm_layer locals sizes void) x in
       let scoped = fold-roll-Stmt Scope ArmScope (stmt_scope_layer globals locals sizes) (arm_scope_layer globals locals sizes) x in
-      let led = fold-roll-Stmt (Around → Bool) (Around → Bool) stmt_leads_layer arm_leads_layer x in
+      let led = fold-roll-Stmt Jumping Jumping jumps_layer arm_jumps_layer x in
       subst (λ (m : Placed). HasTargets r (m j).code) (sym lowered_as)
-      (layer x h declared (sym (ap (λ (z : Scope). z.within declared) scoped) ∙ b) q (sym (ap (λ (f : Around → Bool). f q) led) ∙ l) j r k)
+      (layer x h declared (sym (ap (λ (z : Scope). z.within declared) scoped) ∙ b) u v (sym (ap (λ (f : Jumping). f u v) led) ∙ l) j r k)
 
   arm_step : (x : Arm-F Stmt Arm) → Each S x.body → A (roll-Arm x)
-  arm_step x h declared b q l j r k =
+  arm_step x h declared b u v l j r k =
       let lowered_as = fold-roll-Arm Placed LoweredArm (lower_stmt_layer locals sizes void) (lower_arm_layer locals sizes void) x in
       let scoped = fold-roll-Arm Scope ArmScope (stmt_scope_layer globals locals sizes) (arm_scope_layer globals locals sizes) x in
-      let led = fold-roll-Arm (Around → Bool) (Around → Bool) stmt_leads_layer arm_leads_layer x in
+      let led = fold-roll-Arm Jumping Jumping jumps_layer arm_jumps_layer x in
       subst (λ (m : LoweredArm). HasTargets r (m.body j).code) (sym lowered_as)
-      (all_targets x.body h declared (sym (ap (λ (z : ArmScope). z.within declared) scoped) ∙ b) q (sym (ap (λ (f : Around → Bool). f q) led) ∙ l) j r k)
+      (all_targets x.body h declared (sym (ap (λ (z : ArmScope). z.within declared) scoped) ∙ b) u v (sym (ap (λ (f : Jumping). f u v) led) ∙ l) j r k)
 
-  pub code_targets : (body : List Stmt) (declared : ℕ → Bool) → all_within (scopes body) declared ≡ true → (q : Around) → leading body q ≡ true → (j : Jumps) (r : List Bool) → Leads q j r → HasTargets r (lowered body j).code
+  pub code_targets : (body : List Stmt) (declared : ℕ → Bool) → all_within (scopes body) declared ≡ true → (u v : Bool) → leading body u v ≡ true → (j : Jumps) (r : List Bool) → Leads u v j r → HasTargets r (lowered body j).code
   code_targets body = all_targets body (source.stmts_ind S A stmt_step arm_step body)

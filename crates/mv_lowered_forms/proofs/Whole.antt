@@ -20,7 +20,8 @@ use Rattle.mv_lowering.specs.Lower.{lower_expr, is_scalar}
 use Rattle.mv_lowering.specs.Statements.{Jumps, Placed, LoweredArm, in_body, in_arm, raised, in_sequence, store_zeros, store_values, values_top, lower_clear, test_labels, test_arms, arm_place, nested, arms_top, lower_switch, break, enclosed, repeat, return_with, test_and_body}
 use Rattle.mv_lowering.specs.LowerStatements.{lower_optional, lower_stmt_layer, lower_arm_layer, lower_stmt, lower_arm}
 use Rattle.mv_lowering.proofs.Expressions.{split, no}
-use Rattle.mv_lowered_forms.specs.Asked.{Globals, Scope, ArmScope, all_within, all_behind, arms_within, bare_arms, with_local, is_within, all_exprs_within, optional_within, stmt_scope_layer, arm_scope_layer, stmt_scope, arm_scope}
+use Rattle.mv_lowered_programs.specs.Scopes.{with_local}
+use Rattle.mv_lowered_forms.proofs.Asked.{Globals, Scope, ArmScope, all_within, all_behind, arms_within, bare_arms, is_within, all_exprs_within, optional_within, stmt_scope_layer, arm_scope_layer, stmt_scope, arm_scope}
 use Rattle.mv_lowered_forms.proofs.Rules.{Allowed}
 use Rattle.mv_lowered_forms.proofs.Expressions.{allowed}
 use Rattle.mv_lowered_forms.proofs.Clears as clears

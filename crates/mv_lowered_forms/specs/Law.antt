@@ -1,42 +1,34 @@
 -- What is proved of the form of lowered functions.
-use Rattle.std.specs.Prelude.{◌≡◌, ℕ, ◌+◌, ◌*◌, ◌^◌, ◌≤◌, true, false, [], ◌∷◌, map, length}
+use Rattle.std.specs.Prelude.{◌≡◌, ℕ, ◌+◌, ◌*◌, ◌≤◌, true, length, All, Some, slice_get}
 use Rattle.mv_ir.specs.declared.body.Body.{Body}
 use Rattle.mv_ir.specs.Measures.{total, scalars_read, arrays_read, statements, calls, tree_nodes, deepest}
-use Rattle.mv_ir.specs.Live.{IsWhole, HasTemps, most_intervals}
-use Rattle.mv_ir.specs.WellFormed.{all_true, all_around, stm_targets, is_there, has_room, named, stm_arguments, IsWellFormed}
+use Rattle.mv_ir.specs.Live.{IsWhole, most_intervals}
+use Rattle.mv_ir.specs.WellFormed.{IsWellFormed}
 use Rattle.mv_ast.specs.declared.program.Program.{Program}
 use Rattle.mv_ast.specs.declared.program.Function.{Function}
 use Rattle.mv_ast.specs.Counts as counts
 use Rattle.mv_ast.specs.Counts.{nodes, depth, declared_words}
 use Rattle.mv_lowering.specs.Functions.{lower_function}
-use Rattle.mv_lowered_forms.specs.Asked.{Globals, IsAsked, function_leads}
+use Rattle.mv_lowered_programs.specs.WellFormed as programs
+use Rattle.mv_lowered_forms.specs.Reads.{reads_scalar, reads_array}
 use Rattle.mv_lowered_forms.specs.Calls.{code_weight, function_weight, each_once, attributed_once}
 
 -- No tree in the code of any function is deeper than 4.
 abbrev pub LoweredAreShallow : Type 0
 LoweredAreShallow = (p : Program) (g : Function) → deepest (lower_function p g).code ≤ 4
 
+-- a function of a well-formed program, and its number
+pub record IsFunctionOf (p : Program) (f : ℕ) (g : Function) : Type 0 where
+  pub formed : programs.IsWellFormed p
+  pub there : slice_get p.functions f ≡ Some g
+
 -- On each path each temporary other than a parameter is written before it is read.
 abbrev pub LoweredAreWhole : Type 0
-LoweredAreWhole = (p : Program) (globals : Globals) (g : Function) → IsAsked p globals g → IsWhole (lower_function p g)
+LoweredAreWhole = (p : Program) (f : ℕ) (g : Function) → IsFunctionOf p f g → IsWhole (lower_function p g)
 
--- A body that is well formed where the function itself counts as a block, which a `return` without a value leaves.
-pub record IsFit (b : Body) : Type 0 where
-  pub temps : HasTemps b
-  pub params : b.params ≤ 8
-  pub targets : all_around (map stm_targets b.code) (false ∷ []) ≡ true
-  pub named : all_true (map (is_there b.rooms b.arrays) (named b.code)) ≡ true
-  pub read : all_true (map (has_room b.rooms) (scalars_read b.code)) ≡ true
-  pub arguments : all_true (map stm_arguments b.code) ≡ true
-  pub size : statements b.code + tree_nodes b.code ≤ 2 ^ 30
-
--- Functions of at most 16,777,216 nodes are lowered to such bodies.
-abbrev pub LoweredAreFit : Type 0
-LoweredAreFit = (p : Program) (globals : Globals) (g : Function) → IsAsked p globals g → nodes g ≤ 16777216 → IsFit (lower_function p g)
-
--- They are lowered to well-formed bodies where each `return` has a value.
+-- They are lowered to well-formed bodies.
 abbrev pub LoweredAreWellFormed : Type 0
-LoweredAreWellFormed = (p : Program) (globals : Globals) (g : Function) → IsAsked p globals g → nodes g ≤ 16777216 → function_leads false g ≡ true → IsWellFormed (lower_function p g)
+LoweredAreWellFormed = (p : Program) (f : ℕ) (g : Function) → IsFunctionOf p f g → IsWellFormed (lower_function p g)
 
 -- one call statement for each call: of all, of the attributed functions, and of any that are counted
 pub record CallsAsOften (p : Program) (g : Function) (b : Body) : Type 0 where
@@ -45,13 +37,15 @@ pub record CallsAsOften (p : Program) (g : Function) (b : Body) : Type 0 where
   pub counted : (direct : ℕ → ℕ) (through : ℕ) → code_weight direct through b.code ≡ function_weight direct through g
 
 abbrev pub LoweredCallAsOften : Type 0
-LoweredCallAsOften = (p : Program) (globals : Globals) (g : Function) → IsAsked p globals g → CallsAsOften p g (lower_function p g)
+LoweredCallAsOften = (p : Program) (f : ℕ) (g : Function) → IsFunctionOf p f g → CallsAsOften p g (lower_function p g)
 
--- No global is read but those that the function reads: whatever sets hold all that it reads hold all that its code reads.
+-- each global that the code reads is one that the function reads
+pub record ReadsNoMore (g : Function) (b : Body) : Type 0 where
+  pub scalars : All (λ k. reads_scalar g k ≡ true) (scalars_read b.code)
+  pub arrays : All (λ k. reads_array g k ≡ true) (arrays_read b.code)
+
 abbrev pub LoweredReadNoMore : Type 0
-LoweredReadNoMore =
-    (p : Program) (globals : Globals) (g : Function) → IsAsked p globals g →
-    (all_true (map globals.scalars (scalars_read (lower_function p g).code)) ≡ true) × (all_true (map globals.arrays (arrays_read (lower_function p g).code)) ≡ true)
+LoweredReadNoMore = (p : Program) (f : ℕ) (g : Function) → IsFunctionOf p f g → ReadsNoMore g (lower_function p g)
 
 -- The sizes of a body are bounded by those of the source: its frame by the declared words and the depth, its code by the nodes. `words` says that a node
 -- of the source takes at most forty words where a statement takes at most five, a call twenty, and a tree node two.
@@ -63,4 +57,4 @@ pub record IsSmall (g : Function) (b : Body) : Type 0 where
   pub tree_nodes : tree_nodes b.code ≤ 9 * nodes g + 1
 
 abbrev pub LoweredAreSmall : Type 0
-LoweredAreSmall = (p : Program) (globals : Globals) (g : Function) → IsAsked p globals g → IsSmall g (lower_function p g)
+LoweredAreSmall = (p : Program) (f : ℕ) (g : Function) → IsFunctionOf p f g → IsSmall g (lower_function p g)

@@ -1,21 +1,19 @@
 //! The form of the code that functions are lowered to: it is whole and well formed, reads nothing that the function doesn't read,
 //! and its sizes are bounded by those of the source.
 //!
-//! What is asked of the source stands in `specs/Asked.antt`, and what is proved of its code in `specs/Law.antt`.
+//! What is proved of the code of a well-formed program's functions stands in `specs/Law.antt`, and what a function reads in `specs/Reads.antt`.
 #![tactic(auto)]
 
-ghost use Rattle.mv_lowered_forms.specs.Law.{LoweredAreFit, LoweredAreShallow, LoweredAreSmall, LoweredAreWellFormed, LoweredAreWhole, LoweredCallAsOften, LoweredReadNoMore};
+ghost use Rattle.mv_lowered_forms.specs.Law.{LoweredAreShallow, LoweredAreSmall, LoweredAreWellFormed, LoweredAreWhole, LoweredCallAsOften, LoweredReadNoMore};
 
-/// The code of lowered functions has the form that the passes behind it ask for. The call does nothing: its contract is the law.
+/// The code of the functions of a well-formed program has the form that the passes behind it ask for. The call does nothing: its contract is the law.
 ///
 /// `shallow`: no tree is deeper than 4. `whole`: each temporary other than a parameter is written before it is read.
-/// `fit`: the body is well formed where a `return` without a value counts as a jump out of the function; `well_formed`: it is
-/// well formed where there is no such `return`. `calls`: there is one call statement for each call. `reads`: no global is read
+/// `well_formed`: what the body names is there, and its jumps have targets. `calls`: there is one call statement for each call. `reads`: no global is read
 /// but those that the function reads. `small`: temporaries, array elements, statements and tree nodes are bounded.
 pub fn lowered_forms_are_right()
     ensures shallow { LoweredAreShallow }
     ensures whole { LoweredAreWhole }
-    ensures fit { LoweredAreFit }
     ensures well_formed { LoweredAreWellFormed }
     ensures calls { LoweredCallAsOften }
     ensures reads { LoweredReadNoMore }

@@ -104,7 +104,7 @@ all_head P x xs h = h 0 x (omega arith)
 pub all_tail : {A : Type 0} (P : A → Type 0) (x : A) (xs : List A) → All P (x ∷ xs) → All P xs
 all_tail P x xs h k d lt = h (suc k) d (omega (arith, lt))
 
-scalar_at : (n : ℕ) (ls : List Local) (l : ℕ) → All (λ (x : Local). x.size ≡ None) (take n ls) → l < n → size_in ls l ≡ None
+pub scalar_at : (n : ℕ) (ls : List Local) (l : ℕ) → All (λ (x : Local). x.size ≡ None) (take n ls) → l < n → size_in ls l ≡ None
 scalar_at zero ls l h lt = absurd (omega (arith, lt))
 scalar_at (suc n) [] l h lt = refl
 scalar_at (suc n) (x ∷ ls) zero h lt = all_head (λ (x : Local). x.size ≡ None) x (take n ls) h

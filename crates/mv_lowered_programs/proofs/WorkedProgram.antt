@@ -24,6 +24,7 @@ use Rattle.mv_ast.specs.Names.{names_local, form_names, target_names, inner_name
 use Rattle.mv_lowering.specs.Lower.{names_form, names_target, names_layer, is_well_named, form_is_well_named, target_is_well_named}
 use Rattle.mv_lowering.specs.LowerStatements.{stmt_named_layer, arm_named_layer, stmt_is_well_formed, arm_is_well_formed}
 use Rattle.mv_lowered_programs.specs.Jumps.{Jumping, stmt_jumps, arm_jumps, jumps_layer, arm_jumps_layer}
+use Rattle.mv_lowered_programs.specs.Labels.{ArmLabels, labels_layer, arm_labels_layer, stmt_labelled, arm_labels}
 use Rattle.mv_lowered_programs.specs.Scopes.{Scope, Scoped, stmt_scoped, arm_scoped, scoped_layer, arm_scoped_layer, form_in, target_in, layer_in, names_declared, form_names_declared, target_names_declared}
 use Rattle.mv_lowered_programs.specs.WellFormed.{IsWellFormedFunction, IsWellFormed}
 
@@ -73,6 +74,9 @@ program = record { signatures = []; globals = []; functions = f ∷ main ∷ [];
 
 jumps_at : (x : Stmt-F Stmt Arm) (b c : Bool) → stmt_jumps (roll-Stmt x) b c ≡ jumps_layer (map-Stmt Stmt Arm Jumping Jumping stmt_jumps arm_jumps x) b c
 jumps_at x b c = ap (λ (k : Jumping). k b c) (fold-roll-Stmt Jumping Jumping jumps_layer arm_jumps_layer x)
+
+labels_at : (x : Stmt-F Stmt Arm) → stmt_labelled (roll-Stmt x) ≡ labels_layer (map-Stmt Stmt Arm Bool ArmLabels stmt_labelled arm_labels x)
+labels_at x = fold-roll-Stmt Bool ArmLabels labels_layer arm_labels_layer x
 
 scoped_at : (x : Stmt-F Stmt Arm) → stmt_scoped (roll-Stmt x) ≡ scoped_layer (map-Stmt Stmt Arm Scoped (Scope → Bool) stmt_scoped arm_scoped x)
 scoped_at x = fold-roll-Stmt Scoped (Scope → Bool) scoped_layer arm_scoped_layer x
@@ -183,6 +187,7 @@ f_formed = record {
   named = simp (stmt_named_at, named_at, form_named_at, target_named_at, names_at, form_names_at, target_names_at) refl;
   declared = simp (scoped_at, declared_at, form_declared_at, target_declared_at) refl;
   jumps = simp (jumps_at) refl;
+  labels = simp (labels_at) refl;
   known = simp (all_at, known_at, form_known_at, target_known_at) refl;
   switches = λ e. absurd (cc);
 }
@@ -194,6 +199,7 @@ main_formed = record {
   named = simp (stmt_named_at, named_at, form_named_at) refl;
   declared = simp (scoped_at, declared_at, form_declared_at) refl;
   jumps = simp (jumps_at) refl;
+  labels = simp (labels_at) refl;
   known = simp (all_at, known_at, form_known_at) refl;
   switches = λ e. absurd (cc);
 }

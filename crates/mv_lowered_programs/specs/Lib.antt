@@ -1,4 +1,5 @@
 pub mod Jumps
+pub mod Labels
 pub mod Scopes
 pub mod Named
 pub mod WellFormed

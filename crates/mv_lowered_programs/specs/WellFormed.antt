@@ -12,6 +12,7 @@ use Rattle.mv_lowering.specs.Lower.{all_of, is_void}
 use Rattle.mv_lowering.specs.LowerStatements.{stmt_is_well_formed}
 use Rattle.mv_lowering.specs.Functions.{size_in}
 use Rattle.mv_lowered_programs.specs.Jumps.{all_jump, stmt_jumps}
+use Rattle.mv_lowered_programs.specs.Labels.{stmt_labelled}
 use Rattle.mv_lowered_programs.specs.Scopes.{Scope, all_scoped, stmt_scoped}
 use Rattle.mv_lowered_programs.specs.Named.{all_expressions, calls_known, names_own}
 
@@ -20,13 +21,14 @@ abbrev pub parameters : Function → Scope
 parameters g l = nat_lt l g.params
 
 -- The function with a number: its parameters are its first locals, and scalars; what its statements name is there and is declared; no `break` or `continue`
--- stands outside a loop or a `switch`; and the switches of an attributed one are all that it names.
+-- stands outside a loop or a `switch`; the arms of each `switch` have labels; and the switches of an attributed one are all that it names.
 pub record IsWellFormedFunction (p : Program) (f : ℕ) (g : Function) : Type 0 where
   pub parameters_there : g.params ≤ length g.locals
   pub scalars : All (λ l. l.size ≡ None) (take g.params g.locals)
   pub named : all_of (map (stmt_is_well_formed p f (length g.locals) (size_in g.locals) (is_void g.result)) g.body) ≡ true
   pub declared : all_scoped (map stmt_scoped g.body) (parameters g) ≡ true
   pub jumps : all_jump (map stmt_jumps g.body) false false ≡ true
+  pub labels : all_of (map stmt_labelled g.body) ≡ true
   pub known : all_of (map (all_expressions (calls_known p)) g.body) ≡ true
   pub switches : g.attributed ≡ true → all_of (map (all_expressions (names_own p g)) g.body) ≡ true
 

@@ -10,5 +10,5 @@ mod Outcomes
 mod Programs
 mod Statements
 mod Switches
-mod Typed
+pub mod Typed
 mod WorkedProgram

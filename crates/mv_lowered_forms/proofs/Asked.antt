@@ -1,6 +1,6 @@
 -- What is asked of a function so that its code is well formed and whole: what its statements name is there, each local is named
 -- where it is declared, and no call has more than eight arguments.
-use Rattle.std.specs.Prelude.{ℕ, suc, ◌<◌, ◌≤◌, ◌≡◌, Bool, true, false, cond, not, ◌&&◌, ◌||◌, List, [], ◌∷◌, map, length, Option, Some, None, nat_eq, nat_lt}
+use Rattle.std.specs.Prelude.{ℕ, suc, ◌<◌, ◌≤◌, ◌≡◌, Bool, true, false, cond, not, ◌&&◌, List, [], ◌∷◌, map, length, Option, Some, None, nat_eq, nat_lt}
 use Rattle.mv_ast.specs.declared.program.Function.{Function}
 use Rattle.mv_ast.specs.declared.program.Program.{Program}
 use Rattle.mv_ast.specs.declared.program.Expr.{Expr, Expr-F, fold-Expr}
@@ -14,6 +14,8 @@ use Rattle.mv_ast.specs.Names.{any_of, names_local}
 use Rattle.mv_ir.specs.WellFormed.{known_arguments}
 use Rattle.mv_lowering.specs.Lower.{all_of, is_scalar}
 use Rattle.mv_lowering.specs.Functions.{size_in}
+use Rattle.mv_lowered_programs.specs.Jumps.{all_jump, stmt_jumps}
+use Rattle.mv_lowered_programs.specs.Scopes.{with_local}
 
 -- ---- globals
 
@@ -77,9 +79,6 @@ module _ (globals : Globals) (locals : ℕ) (sizes : ℕ → Option ℕ) (declar
 pub record Scope : Type 0 where
   pub within : (ℕ → Bool) → Bool
   pub behind : (ℕ → Bool) → ℕ → Bool
-
-abbrev pub with_local : ℕ → (ℕ → Bool) → ℕ → Bool
-with_local l declared k = nat_eq k l || declared k
 
 -- of a list, in which what is declared stays so up to its end
 abbrev pub all_within : List Scope → (ℕ → Bool) → Bool
@@ -148,59 +147,10 @@ module _ (globals : Globals) (locals : ℕ) (sizes : ℕ → Option ℕ) where
   abbrev pub arm_scope : Arm → ArmScope
   arm_scope = fold-Arm Scope ArmScope stmt_scope_layer arm_scope_layer
 
--- ---- jumps
-
--- whether `break` has something to leave, `continue` something to go on with, and whether a `return` may have no value
-pub record Around : Type 0 where
-  pub may_break : Bool
-  pub may_continue : Bool
-  pub may_end : Bool
-
-abbrev pub all_lead : List (Around → Bool) → Around → Bool
-all_lead [] r = true
-all_lead (s ∷ ss) r = s r && all_lead ss r
-
-abbrev pub in_loop : Around → Around
-in_loop r = record { may_break = true; may_continue = true; may_end = r.may_end }
-
-abbrev pub in_switch : Around → Around
-in_switch r = record { may_break = true; may_continue = r.may_continue; may_end = r.may_end }
-
-abbrev pub stmt_leads_layer : Stmt-F (Around → Bool) (Around → Bool) → Around → Bool
-stmt_leads_layer (stmt.Block body) r = all_lead body r
-stmt_leads_layer (stmt.Clear l values) r = true
-stmt_leads_layer (stmt.Express e) r = true
-stmt_leads_layer (stmt.If e a b) r = all_lead a r && all_lead b r
-stmt_leads_layer (stmt.While e body) r = all_lead body (in_loop r)
-stmt_leads_layer (stmt.Do body e) r = all_lead body (in_loop r)
-stmt_leads_layer (stmt.For first test step body) r = all_lead first r && all_lead body (in_loop r)
-stmt_leads_layer (stmt.Switch e arms) r = all_lead arms (in_switch r)
-stmt_leads_layer stmt.Break r = r.may_break
-stmt_leads_layer stmt.Continue r = r.may_continue
-stmt_leads_layer (stmt.Return None) r = r.may_end
-stmt_leads_layer (stmt.Return (Some e)) r = true
-
-abbrev pub arm_leads_layer : Arm-F (Around → Bool) (Around → Bool) → Around → Bool
-arm_leads_layer a r = all_lead a.body r
-
-abbrev pub stmt_leads : Stmt → Around → Bool
-stmt_leads = fold-Stmt (Around → Bool) (Around → Bool) stmt_leads_layer arm_leads_layer
-
-abbrev pub arm_leads : Arm → Around → Bool
-arm_leads = fold-Arm (Around → Bool) (Around → Bool) stmt_leads_layer arm_leads_layer
-
 -- ---- functions
-
--- around a function's body stands nothing to leave
-abbrev pub in_function : Bool → Around
-in_function may_end = record { may_break = false; may_continue = false; may_end = may_end }
 
 abbrev pub scopes_of : Globals → Function → List Scope
 scopes_of globals g = map (stmt_scope globals (length g.locals) (size_in g.locals)) g.body
-
--- whether all jumps of a function lead somewhere, and, unless the flag says so, each `return` has a value
-abbrev pub function_leads : Bool → Function → Bool
-function_leads may_end g = all_lead (map stmt_leads g.body) (in_function may_end)
 
 -- A function whose statements name only what is there, and read only globals of these sets. Its parameters are declared.
 pub record IsAsked (p : Program) (globals : Globals) (g : Function) : Type 0 where
@@ -210,4 +160,4 @@ pub record IsAsked (p : Program) (globals : Globals) (g : Function) : Type 0 whe
   pub there : (k : ℕ) → globals.there k ≡ true → k < length p.globals
   pub scalars : (k : ℕ) → globals.scalars k ≡ true → k < length p.globals
   pub within : all_within (scopes_of globals g) (λ l. nat_lt l g.params) ≡ true
-  pub leads : function_leads true g ≡ true
+  pub jumps : all_jump (map stmt_jumps g.body) false false ≡ true

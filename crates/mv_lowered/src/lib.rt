@@ -1,0 +1,17 @@
+//! What the lowering of a program promises, in one record (`specs/Lowering.antt`): the program's meaning and each function's, at a bounded cost, and the
+//! form of the code. The code that lowers cites it.
+#![tactic(auto)]
+
+ghost use Rattle.mv_lowered.specs.Lowering.{LoweringIsRight};
+
+use mv_lowered_forms::lowered_forms_are_right;
+use mv_lowered_programs::{functions_are_right, programs_are_right};
+
+/// The lowering of a well-formed program keeps its promises. The call does nothing: its contract is the law.
+pub fn lowering_is_right()
+    ensures { LoweringIsRight }
+{
+    functions_are_right();
+    programs_are_right();
+    lowered_forms_are_right();
+}
