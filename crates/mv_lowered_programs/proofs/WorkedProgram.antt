@@ -1,5 +1,6 @@
--- The program `int f(int a) { int b = a; while (b) { if (a) break; b = 0; } return b; } int main(void) { return f(3); }` is well formed.
-use Rattle.std.proofs.Common.{◌≡◌, ℕ, ◌+◌, ◌≤◌, zero, suc, Bool, false, [], ◌∷◌, List, length, refl, sym, subst, ap, arith, Option, Some, None}
+-- The program `int f(int a) { int b = a; while (b) { if (a) break; switch (a) { case 1: break; default: b = 0; } } return b; } int main(void) { return f(3); }`
+-- is well formed.
+use Rattle.std.proofs.Common.{◌≡◌, ℕ, ◌+◌, ◌≤◌, zero, suc, Bool, true, false, [], ◌∷◌, List, length, refl, sym, subst, ap, arith, Option, Some, None}
 use Rattle.std.specs.Prelude.{slice_get}
 use Rattle.std.proofs.lemmas.List.Elements.{All-nil, All-cons}
 use Rattle.mv_num.specs.declared.kind.Kind.TheVariants.{Int}
@@ -14,7 +15,7 @@ use Rattle.mv_ast.specs.declared.program.Form.TheOpen as form
 use Rattle.mv_ast.specs.declared.program.Target.{Target, fold-Target, Target-F, map-Target, fold-roll-Target, roll-Target, out-Target, out-roll-Target, every-Target, every_made-Target}
 use Rattle.mv_ast.specs.declared.program.Stmt.{Stmt, Stmt-F, map-Stmt, roll-Stmt, every_made-Stmt, fold-roll-Stmt}
 use Rattle.mv_ast.specs.declared.program.Stmt.TheOpen as stmt
-use Rattle.mv_ast.specs.declared.program.Arm.{Arm, Arm-F, fold-Arm}
+use Rattle.mv_ast.specs.declared.program.Arm.{Arm, Arm-F, fold-Arm, map-Arm, roll-Arm, every-Arm, every_made-Arm, fold-roll-Arm}
 use Rattle.mv_ast.specs.Counts.{words_of_size, form_sum, target_sum, one_more_than, expr_nodes, stmt_sum, arm_sum, own_nodes, stmt_nodes}
 use Rattle.mv_lowered_programs.specs.Named.{all_layer, all_arm_layer, all_expressions, form_calls_known, target_in_parts, calls_known}
 use Rattle.mv_lowered_programs.specs.WellFormed.{program_nodes}
@@ -58,8 +59,17 @@ if_a = roll-Stmt (stmt.If (read 0) (roll-Stmt stmt.Break ∷ []) [])
 abbrev set_b : Stmt
 set_b = roll-Stmt (stmt.Express clear_b)
 
+abbrev case_1 : Arm
+case_1 = roll-Arm (record { labels = 1 ∷ []; other = false; body = roll-Stmt stmt.Break ∷ [] })
+
+abbrev default : Arm
+default = roll-Arm (record { labels = []; other = true; body = set_b ∷ [] })
+
+abbrev switch_a : Stmt
+switch_a = roll-Stmt (stmt.Switch (read 0) (case_1 ∷ default ∷ []))
+
 abbrev statements : List Stmt
-statements = roll-Stmt (stmt.Clear 1 (read 0 ∷ [])) ∷ roll-Stmt (stmt.While (read 1) (if_a ∷ set_b ∷ [])) ∷ roll-Stmt (stmt.Return (Some (read 1))) ∷ []
+statements = roll-Stmt (stmt.Clear 1 (read 0 ∷ [])) ∷ roll-Stmt (stmt.While (read 1) (if_a ∷ switch_a ∷ [])) ∷ roll-Stmt (stmt.Return (Some (read 1))) ∷ []
 
 abbrev f : Function
 f = record { name = []; attributed = false; result = int; params = 1; locals = an_int ∷ an_int ∷ []; switches = []; body = statements }
@@ -74,6 +84,15 @@ program = record { signatures = []; globals = []; functions = f ∷ main ∷ [];
 
 jumps_at : (x : Stmt-F Stmt Arm) (b c : Bool) → stmt_jumps (roll-Stmt x) b c ≡ jumps_layer (map-Stmt Stmt Arm Jumping Jumping stmt_jumps arm_jumps x) b c
 jumps_at x b c = ap (λ (k : Jumping). k b c) (fold-roll-Stmt Jumping Jumping jumps_layer arm_jumps_layer x)
+
+jumps_in : (x : Arm-F Stmt Arm) (b c : Bool) → arm_jumps (roll-Arm x) b c ≡ arm_jumps_layer (map-Arm Stmt Arm Jumping Jumping stmt_jumps arm_jumps x) b c
+jumps_in x b c = ap (λ (k : Jumping). k b c) (fold-roll-Arm Jumping Jumping jumps_layer arm_jumps_layer x)
+
+labels_in : (x : Arm-F Stmt Arm) → arm_labels (roll-Arm x) ≡ arm_labels_layer (map-Arm Stmt Arm Bool ArmLabels stmt_labelled arm_labels x)
+labels_in x = fold-roll-Arm Bool ArmLabels labels_layer arm_labels_layer x
+
+scoped_in : (x : Arm-F Stmt Arm) (scope : Scope) → arm_scoped (roll-Arm x) scope ≡ arm_scoped_layer (map-Arm Stmt Arm Scoped (Scope → Bool) stmt_scoped arm_scoped x) scope
+scoped_in x scope = ap (λ (k : Scope → Bool). k scope) (fold-roll-Arm Scoped (Scope → Bool) scoped_layer arm_scoped_layer x)
 
 labels_at : (x : Stmt-F Stmt Arm) → stmt_labelled (roll-Stmt x) ≡ labels_layer (map-Stmt Stmt Arm Bool ArmLabels stmt_labelled arm_labels x)
 labels_at x = fold-roll-Stmt Bool ArmLabels labels_layer arm_labels_layer x
@@ -108,6 +127,10 @@ module _ (n locals : ℕ) (sizes : ℕ → Option ℕ) where
   stmt_named_at : (x : Stmt-F Stmt Arm) → stmt_is_well_formed program n locals sizes false (roll-Stmt x) ≡
       stmt_named_layer program n locals sizes false (map-Stmt Stmt Arm Bool Bool (stmt_is_well_formed program n locals sizes false) (arm_is_well_formed program n locals sizes false) x)
   stmt_named_at x = fold-roll-Stmt Bool Bool (stmt_named_layer program n locals sizes false) (arm_named_layer program n locals sizes false) x
+
+  arm_named_at : (x : Arm-F Stmt Arm) → arm_is_well_formed program n locals sizes false (roll-Arm x) ≡
+      arm_named_layer program n locals sizes false (map-Arm Stmt Arm Bool Bool (stmt_is_well_formed program n locals sizes false) (arm_is_well_formed program n locals sizes false) x)
+  arm_named_at x = fold-roll-Arm Bool Bool (stmt_named_layer program n locals sizes false) (arm_named_layer program n locals sizes false) x
 
 module _ (l : ℕ) where
   abbrev form_local : Form → Bool
@@ -146,6 +169,9 @@ module _ (holds : Expr → Bool) where
   all_at : (x : Stmt-F Stmt Arm) → all_expressions holds (roll-Stmt x) ≡ all_layer holds (map-Stmt Stmt Arm Bool Bool (all_expressions holds) all_arm x)
   all_at x = fold-roll-Stmt Bool Bool (all_layer holds) all_arm_layer x
 
+  all_in : (x : Arm-F Stmt Arm) → all_arm (roll-Arm x) ≡ all_arm_layer (map-Arm Stmt Arm Bool Bool (all_expressions holds) all_arm x)
+  all_in x = fold-roll-Arm Bool Bool (all_layer holds) all_arm_layer x
+
 -- counts
 abbrev form_nodes : Form → ℕ
 form_nodes = fold-Form ℕ ℕ ℕ form_sum target_sum one_more_than
@@ -174,9 +200,15 @@ arm_layer = arm_sum expr_nodes own_nodes labels
 stmt_nodes_at : (x : Stmt-F Stmt Arm) → stmt_nodes (roll-Stmt x) ≡ stmt_layer (map-Stmt Stmt Arm ℕ ℕ stmt_nodes (fold-Arm ℕ ℕ stmt_layer arm_layer) x)
 stmt_nodes_at x = fold-roll-Stmt ℕ ℕ stmt_layer arm_layer x
 
--- two functions; `f` has two locals, six statements, a given value and six expressions, `main` a statement and two expressions
-counted : program_nodes program ≡ 20
-counted = simp (stmt_nodes_at, expr_nodes_at, form_nodes_at, target_nodes_at) refl
+abbrev arm_nodes : Arm → ℕ
+arm_nodes = fold-Arm ℕ ℕ stmt_layer arm_layer
+
+arm_nodes_at : (x : Arm-F Stmt Arm) → arm_nodes (roll-Arm x) ≡ arm_layer (map-Arm Stmt Arm ℕ ℕ stmt_nodes arm_nodes x)
+arm_nodes_at x = fold-roll-Arm ℕ ℕ stmt_layer arm_layer x
+
+-- two functions; `f` has two locals, eight statements, a label, a given value and seven expressions, `main` a statement and two expressions
+counted : program_nodes program ≡ 24
+counted = simp (stmt_nodes_at, arm_nodes_at, expr_nodes_at, form_nodes_at, target_nodes_at) refl
 
 -- ---- the conditions
 
@@ -184,11 +216,11 @@ f_formed : IsWellFormedFunction program 0 f
 f_formed = record {
   parameters_there = omega arith;
   scalars = All-cons (λ (l : Local). l.size ≡ None) an_int [] refl (All-nil _);
-  named = simp (stmt_named_at, named_at, form_named_at, target_named_at, names_at, form_names_at, target_names_at) refl;
-  declared = simp (scoped_at, declared_at, form_declared_at, target_declared_at) refl;
-  jumps = simp (jumps_at) refl;
-  labels = simp (labels_at) refl;
-  known = simp (all_at, known_at, form_known_at, target_known_at) refl;
+  named = simp (stmt_named_at, arm_named_at, named_at, form_named_at, target_named_at, names_at, form_names_at, target_names_at) refl;
+  declared = simp (scoped_at, scoped_in, declared_at, form_declared_at, target_declared_at) refl;
+  jumps = simp (jumps_at, jumps_in) refl;
+  labels = simp (labels_at, labels_in) refl;
+  known = simp (all_at, all_in, known_at, form_known_at, target_known_at) refl;
   switches = λ e. absurd (cc);
 }
 
@@ -258,15 +290,32 @@ if_typed =
 set_typed : S set_b
 set_typed = every_made-Stmt (HasTypedParts program f) (λ z. Unit {0}) (stmt.Express clear_b) (stmt.Express clear_b) refl clear_typed
 
+abbrev A : Arm → Type 0
+A = every-Arm (HasTypedParts program f) (λ z. Unit {0})
+
+case_typed : A case_1
+case_typed =
+    every_made-Arm (HasTypedParts program f) (λ z. Unit {0}) (record { labels = 1 ∷ []; other = false; body = roll-Stmt stmt.Break ∷ [] })
+    (record { labels = 1 ∷ []; other = false; body = (roll-Stmt stmt.Break, break_typed) ∷ [] }) refl tt
+
+default_typed : A default
+default_typed =
+    every_made-Arm (HasTypedParts program f) (λ z. Unit {0}) (record { labels = []; other = true; body = set_b ∷ [] }) (record { labels = []; other = true; body = (set_b, set_typed) ∷ [] }) refl tt
+
+switch_typed : S switch_a
+switch_typed =
+    every_made-Stmt (HasTypedParts program f) (λ z. Unit {0}) (stmt.Switch (read 0) (case_1 ∷ default ∷ []))
+    (stmt.Switch (read 0) ((case_1, case_typed) ∷ (default, default_typed) ∷ [])) refl (read_typed 0 refl, tt)
+
 declare_typed : S (roll-Stmt (stmt.Clear 1 (read 0 ∷ [])))
 declare_typed =
     every_made-Stmt (HasTypedParts program f) (λ z. Unit {0}) (stmt.Clear 1 (read 0 ∷ [])) (stmt.Clear 1 (read 0 ∷ [])) refl
     (int, refl, All-cons (IsTypedAt program f int) (read 0) [] (read_typed 0 refl, refl) (All-nil _))
 
-while_typed : S (roll-Stmt (stmt.While (read 1) (if_a ∷ set_b ∷ [])))
+while_typed : S (roll-Stmt (stmt.While (read 1) (if_a ∷ switch_a ∷ [])))
 while_typed =
-    every_made-Stmt (HasTypedParts program f) (λ z. Unit {0}) (stmt.While (read 1) (if_a ∷ set_b ∷ []))
-    (stmt.While (read 1) ((if_a, if_typed) ∷ (set_b, set_typed) ∷ [])) refl (read_typed 1 refl)
+    every_made-Stmt (HasTypedParts program f) (λ z. Unit {0}) (stmt.While (read 1) (if_a ∷ switch_a ∷ []))
+    (stmt.While (read 1) ((if_a, if_typed) ∷ (switch_a, switch_typed) ∷ [])) refl (read_typed 1 refl)
 
 return_typed : S (roll-Stmt (stmt.Return (Some (read 1))))
 return_typed = every_made-Stmt (HasTypedParts program f) (λ z. Unit {0}) (stmt.Return (Some (read 1))) (stmt.Return (Some (read 1))) refl (read_typed 1 refl, refl)
@@ -274,7 +323,7 @@ return_typed = every_made-Stmt (HasTypedParts program f) (λ z. Unit {0}) (stmt.
 f_typed : IsTypedFunction program f
 f_typed =
     let last : Stmt = roll-Stmt (stmt.Return (Some (read 1))) in
-    let loop : Stmt = roll-Stmt (stmt.While (read 1) (if_a ∷ set_b ∷ [])) in
+    let loop : Stmt = roll-Stmt (stmt.While (read 1) (if_a ∷ switch_a ∷ [])) in
     record {
       switches = All-nil _;
       body = All-cons S (roll-Stmt (stmt.Clear 1 (read 0 ∷ []))) (loop ∷ last ∷ []) declare_typed (All-cons S loop (last ∷ []) while_typed (All-cons S last [] return_typed (All-nil S)));
