@@ -1,0 +1,193 @@
+// The forms of a statement: what a statement is, given what its parts are, and the rules that it breaks.
+
+ghost use Rattle.std.specs.Prelude.{◌≡◌, ◌++◌, OnOk};
+ghost use Rattle.mv_judge.specs.Judged.{IsJudged};
+ghost use Rattle.mv_judge.specs.Judgements.{value_judgement, effect_judgement};
+ghost use Rattle.mv_declare.specs.Turns.{IsBehind};
+ghost use Rattle.mv_statement_rules.specs.Statements.{misplaced_declaration, misplaced_case, break_judgement, continue_judgement, returned, return_judgement, switched, optional, expression_judgement};
+
+use crate::arms::Arms;
+use crate::around::Around;
+use mv_ast::place::Place;
+use mv_ast::program::{CType, Expr, Stmt};
+use mv_ast::unit::{Declarator, Node, Specs};
+use mv_declare::locals::declare_locals;
+use mv_judge::constant::needed;
+use mv_judge::error::RuleError;
+use mv_judge::judge::{effect, value};
+use mv_num::list::List;
+use mv_scope::constant::converts;
+use mv_scope::convert::{converted_to, is_integer, is_void, promoted};
+use mv_scope::scope::Scope;
+use std::alloc::{AllocError, Global};
+
+/// A declaration where none may stand.
+pub fn misplaced_declaration(
+    alloc: Global,
+    scope: &mut Scope,
+    place: Place,
+    specs: &Specs,
+    names: &List<Declarator>,
+) -> Result<Stmt, RuleError>
+    ensures { IsBehind (misplaced_declaration place specs.now names.now scope.old) result scope.new }
+{
+    let _ = declare_locals(alloc, scope, specs, names)?;
+    Err(RuleError::Rule(place, 11))
+}
+
+/// A `case` outside the block of a `switch`.
+pub fn misplaced_case(
+    alloc: Global,
+    scope: &Scope,
+    place: Place,
+    constant: &Node,
+) -> Result<Stmt, RuleError>
+    ensures { IsBehind (misplaced_case place constant.now scope.now) result scope.now }
+{
+    let _ = needed(alloc, scope, constant)?;
+    Err(RuleError::Rule(place, 11))
+}
+
+pub fn break_statement(place: Place, around: Around, scope: &Scope) -> Result<Stmt, RuleError>
+    ensures { IsBehind (break_judgement place around scope.now) result scope.now }
+{
+    if around.breaks {
+        Ok(Stmt::Break)
+    } else {
+        Err(RuleError::Rule(place, 12))
+    }
+}
+
+pub fn continue_statement(place: Place, around: Around, scope: &Scope) -> Result<Stmt, RuleError>
+    ensures { IsBehind (continue_judgement place around scope.now) result scope.now }
+{
+    if around.continues {
+        Ok(Stmt::Continue)
+    } else {
+        Err(RuleError::Rule(place, 12))
+    }
+}
+
+// A value that is returned.
+#[tactic(auto, unfolding(crate::specs::Statements::returned))]
+fn returned(alloc: Global, place: Place, to: CType, e: Expr) -> Result<Stmt, RuleError>
+    ensures { IsJudged (returned place to e) result }
+{
+    if is_void(to) {
+        return Err(RuleError::Rule(place, 13));
+    }
+    if !converts(&e, to) {
+        return Err(RuleError::Rule(place, 5));
+    }
+    let e = converted_to(alloc, to, e)?;
+    Ok(Stmt::Return(Some(e)))
+}
+
+/// A `return` from a function with a result of this type.
+pub fn return_statement(
+    alloc: Global,
+    scope: &Scope,
+    place: Place,
+    returns: CType,
+    e: &Option<Node>,
+) -> Result<Stmt, RuleError>
+    ensures { IsBehind (return_judgement place returns e.now scope.now) result scope.now }
+{
+    match e {
+        None => {
+            if is_void(returns) {
+                Ok(Stmt::Return(None))
+            } else {
+                Err(RuleError::Rule(place, 13))
+            }
+        }
+        Some(e) => {
+            let e = value(alloc, scope, e)?;
+            returned(alloc, place, returns, e)
+        }
+    }
+}
+
+/// A `switch` on a value, with its arms if its body is a block.
+#[tactic(auto, unfolding(crate::specs::Statements::switched))]
+pub fn switched(
+    alloc: Global,
+    place: Place,
+    tested: Expr,
+    arms: Option<Arms>,
+) -> Result<Stmt, RuleError>
+    ensures { IsJudged (switched place tested arms) result }
+{
+    if !is_integer(tested.ctype) {
+        return Err(RuleError::Rule(place, 3));
+    }
+    match arms {
+        None => Err(RuleError::Rule(place, 11)),
+        Some(arms) => {
+            let arms = arms.into_list()?;
+            let tested = promoted(alloc, tested)?;
+            Ok(Stmt::Switch(tested, arms))
+        }
+    }
+}
+
+/// A condition that may be left out.
+pub fn optional_value(
+    alloc: Global,
+    scope: &Scope,
+    e: &Option<Node>,
+) -> Result<Option<Expr>, RuleError>
+    ensures { IsJudged (optional value_judgement scope.now e.now) result }
+{
+    match e {
+        None => Ok(None),
+        Some(e) => {
+            let e = value(alloc, scope, e)?;
+            Ok(Some(e))
+        }
+    }
+}
+
+/// A computation that may be left out.
+pub fn optional_effect(
+    alloc: Global,
+    scope: &Scope,
+    e: &Option<Node>,
+) -> Result<Option<Expr>, RuleError>
+    ensures { IsJudged (optional effect_judgement scope.now e.now) result }
+{
+    match e {
+        None => Ok(None),
+        Some(e) => {
+            let e = effect(alloc, scope, e)?;
+            Ok(Some(e))
+        }
+    }
+}
+
+/// An expression statement, or an empty one.
+pub fn expression_statement(
+    alloc: Global,
+    scope: &Scope,
+    e: &Option<Node>,
+) -> Result<Stmt, RuleError>
+    ensures { IsBehind (expression_judgement e.now scope.now) result scope.now }
+{
+    match e {
+        None => Ok(Stmt::Block(List::new(alloc))),
+        Some(e) => {
+            let e = effect(alloc, scope, e)?;
+            Ok(Stmt::Express(e))
+        }
+    }
+}
+
+/// Puts statements behind others.
+pub fn append(done: &mut List<Stmt>, more: List<Stmt>) -> Result<(), AllocError>
+    ensures { OnOk result (done.new ≡ done.old ++ more) }
+{
+    for stmt in more.into_vec() {
+        done.push(stmt)?;
+    }
+    Ok(())
+}

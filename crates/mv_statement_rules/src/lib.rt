@@ -1,0 +1,6 @@
+//! The rules of statements: scopes, labels, jumps and what a function returns.
+#![tactic(auto)]
+
+pub mod arms;
+pub mod around;
+pub mod forms;
