@@ -10,3 +10,5 @@ pub mod initials;
 pub mod locals;
 pub mod parameters;
 pub mod specifiers;
+#[cfg(test)]
+mod tests;
