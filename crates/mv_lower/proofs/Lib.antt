@@ -3,4 +3,8 @@ pub mod Combining
 pub mod Arguments
 pub mod Elements
 pub mod Sizes
+pub mod Sequences
 pub mod Forms
+pub mod StatementForms
+pub mod Switching
+pub mod Declaring

@@ -2,9 +2,13 @@
 #![tactic(auto)]
 
 mod call;
+mod code;
 mod control;
+mod declaration;
 mod expression;
 mod operands;
 mod place;
+mod statement;
+mod switch;
 mod tree;
 mod value;
