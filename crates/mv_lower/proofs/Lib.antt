@@ -8,3 +8,5 @@ pub mod Forms
 pub mod StatementForms
 pub mod Switching
 pub mod Declaring
+pub mod Bodies
+pub mod Marking

@@ -36,10 +36,6 @@ sized s x e =
 both_sums : (xs ys : List ℕ) → sum (xs ++ ys) ≡ sum xs + sum ys
 both_sums xs ys = sum_by-append (λ x. x) xs ys
 
-map_both : {A B : Type 0} (f : A → B) (xs ys : List A) → map f (xs ++ ys) ≡ map f xs ++ map f ys
-map_both f [] ys = refl
-map_both f (x ∷ xs) ys = ap (λ l. f x ∷ l) (map_both f xs ys)
-
 pub size_block : (body : List Stmt) → stmt_size (at.Block body) ≡ 1 + stmts_size body
 unfolding stmt_size
 size_block body = let h = sized _ _ (outs-Block body) in omega (arith, h)

@@ -5,3 +5,5 @@ pub mod Expressions
 pub mod Statements
 pub mod Declarations
 pub mod Switches
+pub mod Naming
+pub mod Programs

@@ -6,6 +6,8 @@ mod code;
 mod control;
 mod declaration;
 mod expression;
+pub mod function;
+mod names;
 mod operands;
 mod place;
 mod statement;
