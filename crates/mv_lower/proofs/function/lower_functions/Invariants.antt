@@ -1,0 +1,6 @@
+use Rattle.std.proofs.Common.{◌≡◌, map, take}
+use Rattle.mv_lowering.specs.Functions.{lower_function}
+use Rattle.mv_lower.proofs.function.lower_functions.Given as goal
+
+abbrev pub invariant-loop-function : goal.invariant-loop-function
+invariant-loop-function l = l.bodies ≡ map (lower_function l.program) (take l.function-index l.program.functions)

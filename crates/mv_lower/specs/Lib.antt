@@ -1,0 +1,9 @@
+pub mod Values
+pub mod Calls
+pub mod Places
+pub mod Expressions
+pub mod Statements
+pub mod Declarations
+pub mod Switches
+pub mod Naming
+pub mod Programs

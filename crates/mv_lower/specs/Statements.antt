@@ -1,0 +1,97 @@
+-- What statements are lowered to where they stand, as functions of what their parts are lowered to, and how large they are.
+use Rattle.std.specs.Prelude.{ℕ, suc, ◌+◌, List, [], ◌∷◌, map, sum, length, max, Option, Some, None}
+use Rattle.mv_ir.specs.declared.stm.Stm.{Stm}
+use Rattle.mv_ast.specs.declared.program.Function.{Function}
+use Rattle.mv_ast.specs.declared.program.Expr.{Expr}
+use Rattle.mv_ast.specs.declared.program.Stmt.{Stmt}
+use Rattle.mv_ast.specs.declared.program.Arm.{Arm}
+use Rattle.mv_ast.specs.Counts.{expr_nodes, own_nodes, stmt_total, arm_total}
+use Rattle.mv_lowering.specs.Lowered.{Lowered}
+use Rattle.mv_lowering.specs.Lower.{is_void}
+use Rattle.mv_lowering.specs.Statements.{Jumps, Code, Placed, LoweredArm, in_sequence, lower_express, lower_return, lower_end, lower_break, lower_continue, lower_if, lower_while, lower_do, lower_for, lower_clear, nested, arms_top}
+use Rattle.mv_lowering.specs.LowerStatements.{lower_stmt, lower_arm}
+use Rattle.mv_lowering.specs.Functions.{size_in, outermost}
+use Rattle.mv_lower.specs.declared.code.Jumps as declared
+use Rattle.mv_lower.specs.declared.code.Code as declared_code
+use Rattle.mv_lower.specs.Values.{given}
+use Rattle.mv_lower.specs.Expressions.{expr_at}
+
+-- ---- results
+
+abbrev pub seen_code : declared_code.Code → Code
+seen_code c = record { code = c.code; top = c.top }
+
+abbrev pub seen_jumps : declared.Jumps → Jumps
+seen_jumps j = record { leave = j.leave; again = j.again; around = j.around }
+
+-- the statements that are these wherever they stand
+abbrev pub standing : Code → Placed
+standing c j = c
+
+-- ---- statements of a function
+
+-- the first free temporary
+abbrev pub first_free : Function → ℕ
+first_free g = length g.locals
+
+unfoldable pub stmt_at : Function → Stmt → Jumps → Code
+stmt_at g s j = lower_stmt (length g.locals) (size_in g.locals) (is_void g.result) s j
+
+unfoldable pub arm_at : Function → Arm → LoweredArm
+arm_at g a = lower_arm (length g.locals) (size_in g.locals) (is_void g.result) a
+
+unfoldable pub stmts_at : Function → List Stmt → Jumps → Code
+stmts_at g body j = in_sequence (length g.locals) (map (stmt_at g) body) j
+
+-- ---- from their parts
+
+unfoldable pub express_of : Lowered → ℕ → Code
+express_of x n = lower_express n (given x) outermost
+
+unfoldable pub return_of : Lowered → ℕ → Code
+return_of x n = lower_return n (given x) outermost
+
+unfoldable pub if_of : Lowered → Code → Code → ℕ → Code
+if_of x a b n = lower_if n (given x) (standing a) (standing b) outermost
+
+unfoldable pub while_of : Lowered → Code → ℕ → Code
+while_of x a n = lower_while n (given x) (standing a) outermost
+
+unfoldable pub do_of : Code → Lowered → ℕ → Code
+do_of a x n = lower_do n (standing a) (given x) outermost
+
+unfoldable pub for_of : Code → Lowered → Lowered → Code → ℕ → Code
+for_of first test step a n = lower_for n (standing first) (given test) (given step) (standing a) outermost
+
+unfoldable pub break_at : Jumps → ℕ → Code
+break_at j n = lower_break n j
+
+unfoldable pub continue_at : Jumps → ℕ → Code
+continue_at j n = lower_continue n j
+
+unfoldable pub end_at : Jumps → ℕ → Code
+end_at j n = lower_end n j
+
+-- `return`, with or without a value
+abbrev pub return_at : Option Expr → Jumps → ℕ → Code
+return_at None j n = end_at j n
+return_at (Some e) j n = return_of (expr_at e n) n
+
+-- ---- sizes, which bound the numbers of temporaries and of blocks
+
+-- nodes, with one for each arm
+unfoldable pub stmt_size : Stmt → ℕ
+stmt_size s = stmt_total expr_nodes own_nodes (λ a. 1 + length a.labels) s
+
+unfoldable pub arm_size : Arm → ℕ
+arm_size a = arm_total expr_nodes own_nodes (λ b. 1 + length b.labels) a
+
+abbrev pub stmts_size : List Stmt → ℕ
+stmts_size body = sum (map stmt_size body)
+
+abbrev pub arms_size : List Arm → ℕ
+arms_size arms = sum (map arm_size arms)
+
+-- above the numbers that are in use: of temporaries, and of blocks
+abbrev pub used : Function → Jumps → ℕ
+used g j = max (length g.locals) (max j.again j.around) + 1

@@ -1,0 +1,134 @@
+// The lowering of statements.
+ghost use Rattle.std.specs.Prelude.{◌≡◌, ◌+◌, ◌*◌, ◌<◌, ◌^◌, IfOk};
+ghost use Rattle.mv_lower.specs.Switches.{arms_of};
+ghost use Rattle.mv_lower.specs.Statements.{seen_code, seen_jumps, stmt_at, stmts_at, return_at, stmt_size, stmts_size, arms_size, used};
+ghost use Rattle.mv_lower.specs.Expressions.{optional_size};
+
+use crate::code::{
+    Code, Jumps, choose, do_loop, end, express, for_loop, go_on, in_body, leave, return_value,
+    while_loop,
+};
+use crate::declaration::{declare, size_of};
+use crate::expression::{lower_each, lower_expr, lower_optional};
+use crate::switch::{after_block, in_arm, switch, tests};
+use crate::value::append;
+use mv_ast::program::{Arm, Expr, Function, Stmt};
+use mv_ir::stm::Stm;
+use mv_meaning::work::any_names;
+use mv_num::list::List;
+use std::alloc::{AllocError, Global};
+
+/// Statements in order, of a function (C11 6.8).
+#[cycle(statement)]
+#[tactic(auto, using(crate::proofs::Sequences::sequences))]
+pub fn lower_stmts(
+    alloc: Global,
+    function: &Function,
+    body: &List<Stmt>,
+    jumps: Jumps,
+) -> Result<Code, AllocError>
+    requires { used function.now (seen_jumps jumps) + 2 * stmts_size body.now < 2 ^ 32 }
+    ensures { IfOk result (λ c. seen_code c ≡ stmts_at function.now body.now (seen_jumps jumps)) }
+{
+    let mut code = List::new(alloc);
+    let mut top = function.locals.len() as u32;
+    for s in body.as_slice() {
+        let part = lower_stmt(alloc, function, s, jumps)?;
+        append(&mut code, part.code)?;
+        top = top.max(part.top);
+    }
+    Ok(Code { code, top })
+}
+
+#[cycle(statement)]
+#[tactic(auto, using(crate::proofs::StatementForms::forms))]
+fn lower_stmt(
+    alloc: Global,
+    function: &Function,
+    s: &Stmt,
+    jumps: Jumps,
+) -> Result<Code, AllocError>
+    requires { used function.now (seen_jumps jumps) + 2 * stmt_size s.now < 2 ^ 32 }
+    ensures { IfOk result (λ c. seen_code c ≡ stmt_at function.now s.now (seen_jumps jumps)) }
+{
+    let n = function.locals.len() as u32;
+    match s {
+        Stmt::Block(body) => Ok(lower_stmts(alloc, function, body, jumps)?),
+        Stmt::Clear(l, values) => {
+            let given = lower_each(alloc, values, n)?;
+            let size = size_of(&function.locals, *l);
+            Ok(declare(alloc, size, *l, any_names(values, *l), given, n)?)
+        }
+        Stmt::Express(e) => Ok(express(lower_expr(alloc, e, n)?, n)),
+        Stmt::If(e, a, b) => {
+            let test = lower_expr(alloc, e, n)?;
+            let a = lower_stmts(alloc, function, a, jumps)?;
+            let b = lower_stmts(alloc, function, b, jumps)?;
+            Ok(choose(test, a, b, n)?)
+        }
+        Stmt::While(e, body) => {
+            let test = lower_expr(alloc, e, n)?;
+            let body = lower_stmts(alloc, function, body, in_body(jumps))?;
+            Ok(while_loop(alloc, test, body, n)?)
+        }
+        Stmt::Do(body, e) => {
+            let body = lower_stmts(alloc, function, body, in_body(jumps))?;
+            let test = lower_expr(alloc, e, n)?;
+            Ok(do_loop(alloc, body, test, n)?)
+        }
+        Stmt::For(first, test, step, body) => {
+            let first = lower_stmts(alloc, function, first, jumps)?;
+            let test = lower_optional(alloc, 1, test, n)?;
+            let step = lower_optional(alloc, 0, step, n)?;
+            let body = lower_stmts(alloc, function, body, in_body(jumps))?;
+            Ok(for_loop(alloc, first, test, step, body, n)?)
+        }
+        Stmt::Switch(e, arms) => {
+            let value = lower_expr(alloc, e, n)?;
+            let tests = tests(alloc, arms, n)?;
+            let body = lower_arms(alloc, function, tests, arms, jumps)?;
+            Ok(switch(alloc, value, body, n)?)
+        }
+        Stmt::Break => Ok(leave(alloc, jumps, n)?),
+        Stmt::Continue => Ok(go_on(alloc, jumps, n)?),
+        Stmt::Return(e) => Ok(lower_return(alloc, e, jumps, n)?),
+    }
+}
+
+// `return` with or without a value.
+fn lower_return(alloc: Global, e: &Option<Expr>, jumps: Jumps, n: u32) -> Result<Code, AllocError>
+    requires { n + 1 + optional_size e.now < 2 ^ 32 }
+    ensures { IfOk result (λ c. seen_code c ≡ return_at e.now (seen_jumps jumps) n) }
+{
+    match e {
+        None => Ok(end(alloc, jumps, n)?),
+        Some(e) => {
+            let value = lower_expr(alloc, e, n)?;
+            Ok(return_value(value, n)?)
+        }
+    }
+}
+
+// The arms of a `switch`, each behind a block that holds the code before it, so that control falls through.
+#[cycle(statement)]
+fn lower_arms(
+    alloc: Global,
+    function: &Function,
+    tests: List<Stm>,
+    arms: &List<Arm>,
+    jumps: Jumps,
+) -> Result<Code, AllocError>
+    requires { used function.now (seen_jumps jumps) + 2 * arms_size arms.now < 2 ^ 32 }
+    ensures { IfOk result (λ c. seen_code c ≡ arms_of function.now tests arms.now (seen_jumps jumps)) }
+{
+    let mut code = tests;
+    let mut top = function.locals.len() as u32;
+    let mut behind = arms.len() as u32;
+    for arm in arms.as_slice() {
+        behind -= 1;
+        let body = lower_stmts(alloc, function, &arm.body, in_arm(behind, jumps))?;
+        code = after_block(alloc, code, body.code)?;
+        top = top.max(body.top);
+    }
+    Ok(Code { code, top })
+}
