@@ -1,0 +1,5 @@
+pub mod Flagging
+pub mod Bounds
+pub mod Forms
+pub mod Statements
+pub mod Numbers
