@@ -1,5 +1,5 @@
-use crate::excess::Exceeded;
-use crate::limits::exceeded;
+use mv_limits::excess::Exceeded;
+use mv_limits::limits::exceeded;
 use mv_ast::program::{CType, Function, Global, Local, Program, Switch};
 use mv_num::kind::Kind;
 use mv_num::list::List;

@@ -1,8 +1,8 @@
 ghost use Rattle.std.specs.Prelude.{◌≡◌, true};
 ghost use Rattle.mv_isa.specs.Code.{CodeFits, LineFits, StandsOnce, TargetStands, is_label};
 
-use crate::error::AsmError;
-use crate::{assemble, place};
+use mv_asm::error::AsmError;
+use mv_asm::{assemble, place};
 use mv_isa::Instr;
 use mv_isa::labelled::{Labelled, Line};
 use mv_num::list::List;

@@ -1,5 +1,5 @@
-use crate::names::Names;
-use crate::outline::outline_of;
+use mv_outline::names::Names;
+use mv_outline::outline::outline_of;
 use mv_ast::place::Place;
 use mv_ast::unit::{Act, Declarator, Item, Line, Mark, Shape, Specs, Unit};
 use mv_num::list::List;

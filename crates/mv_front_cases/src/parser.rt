@@ -1,5 +1,5 @@
-use crate::error::ParseError;
-use crate::parse;
+use mv_parser::error::ParseError;
+use mv_parser::parse;
 use mv_ast::place::Place;
 use mv_lexer::lex;
 use std::alloc::{AllocError, Global};

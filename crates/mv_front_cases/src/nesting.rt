@@ -1,4 +1,4 @@
-use crate::first_too_deep;
+use mv_nesting::first_too_deep;
 use mv_ast::place::Place;
 use mv_ast::token::{Piece, Token};
 use mv_num::list::List;

@@ -1,6 +1,6 @@
 //! Small bodies and what they fold to, worked out by hand.
 
-use crate::fold;
+use mv_fold::fold;
 use mv_ir::body::Body;
 use mv_ir::stm::Stm;
 use mv_ir::tree::Tree;

@@ -4,8 +4,8 @@ ghost use Rattle.std.specs.Prelude.{◌≡◌, ◌≤◌, ◌∷◌, [], map, le
 ghost use Rattle.mv_ir.specs.Combinations.{AllApart};
 ghost use Rattle.mv_merge.specs.Guards.{all_values};
 
-use crate::merge::merge;
-use crate::rows::{Bound, Domain, Variants};
+use mv_merge::merge::merge;
+use mv_merge::rows::{Bound, Domain, Variants};
 use mv_descriptors::holds;
 use mv_ir::body::{Assignment, Body};
 use mv_ir::stm::Stm;

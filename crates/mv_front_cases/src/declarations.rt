@@ -1,6 +1,6 @@
-use crate::declarator::{declared, declared_list};
-use crate::parameters::params;
-use crate::specifiers::specs;
+use mv_declarations::declarator::{declared, declared_list};
+use mv_declarations::parameters::params;
+use mv_declarations::specifiers::specs;
 use mv_ast::place::Place;
 use mv_ast::token::{Piece, Token};
 use mv_ast::unit::{Declarator, Initial, Shape, Specs};

@@ -3,8 +3,8 @@
 ghost use Rattle.std.specs.Prelude.{◌≡◌, ◌∷◌, [], true, slice_get};
 ghost use Rattle.mv_ast.specs.Counts.{is_attributed};
 
-use crate::assignments::assignments;
-use crate::bind::bind;
+use mv_clone::assignments::assignments;
+use mv_clone::bind::bind;
 use mv_ast::program::{CType, Function, Program, Switch};
 use mv_ir::body::{Assignment, Body};
 use mv_ir::stm::{Callee, Stm};

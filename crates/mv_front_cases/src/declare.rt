@@ -1,12 +1,12 @@
 //! Declarations that keep the rules, and for some rules the shortest that breaks it. What is expected follows from C11 6.7 by hand.
 
-use crate::attributes::{Attribute, Position};
-use crate::constants::is_value_of;
-use crate::enumerators::enumerators;
-use crate::globals::{domain_of, file_declarator, global_words, object_type};
-use crate::locals::declare_locals;
-use crate::parameters::declare_parameters;
-use crate::specifiers::specifiers;
+use mv_declare::attributes::{Attribute, Position};
+use mv_declare::constants::is_value_of;
+use mv_declare::enumerators::enumerators;
+use mv_declare::globals::{domain_of, file_declarator, global_words, object_type};
+use mv_declare::locals::declare_locals;
+use mv_declare::parameters::declare_parameters;
+use mv_declare::specifiers::specifiers;
 use mv_ast::place::Place;
 use mv_ast::program::{CType, Local};
 use mv_ast::unit::{Declarator, Initial, Mark, Member, Node, Param, Shape, Specs, What};
