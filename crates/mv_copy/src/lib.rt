@@ -1,0 +1,6 @@
+//! Copies of checked programs.
+#![tactic(auto)]
+
+mod expression;
+pub mod program;
+mod statement;
