@@ -8,7 +8,7 @@ ghost use Rattle.mv_regalloc.specs.Spanned.{AreSpansOf};
 ghost use Rattle.mv_regalloc.specs.Tracked.{Tracks, IsNumbered, end_of, interval_from, AreFirsts};
 
 use crate::allot::allot;
-use crate::spans::Spans;
+use crate::table::Spans;
 use mv_ir::body::Body;
 use mv_num::list::List;
 use std::alloc::{AllocError, Global};
@@ -18,15 +18,6 @@ use std::alloc::{AllocError, Global};
 pub struct Numbering {
     pub numbers: List<u32>,
     pub used: u32,
-}
-
-fn item(items: &List<u64>, temp: u32) -> u64
-    ensures { result ≡ slice_index items.now temp }
-{
-    match items.get(temp as usize) {
-        Some(item) => *item,
-        None => 0,
-    }
 }
 
 // The parameters begin at the start, so each gets its own number.
@@ -46,7 +37,7 @@ fn number_params(
     ensures length { length numbers.new ≡ length numbers.old }
 {
     for temp in 0..body.params {
-        let end = spans.positions.saturating_sub(item(&spans.ends, temp));
+        let end = spans.positions().saturating_sub(spans.end(temp));
         allot(ends, numbers, temp, 0, end)?;
     }
     Ok(())
@@ -85,11 +76,11 @@ fn firsts(alloc: Global, body: &Body, spans: &Spans) -> Result<List<List<u32>>, 
     requires params { body.now.params ≤ body.now.temps }
     ensures { IfOk result (λ lists. AreFirsts body.now body.now.temps spans.now.positions lists) }
 {
-    let mut lists = empty_lists(alloc, spans.positions as usize)?;
+    let mut lists = empty_lists(alloc, spans.positions() as usize)?;
     for temp in body.params..body.temps {
-        let begin = item(&spans.begins, temp);
+        let begin = spans.begin(temp);
         if begin > 0 {
-            let at = spans.positions.saturating_sub(begin);
+            let at = spans.positions().saturating_sub(begin);
             push_at(alloc, &mut lists, at as usize, temp)?;
         }
     }
@@ -113,7 +104,7 @@ fn number_at(
     ensures length { length numbers.new ≡ length numbers.old }
 {
     for temp in temps {
-        let end = spans.positions.saturating_sub(item(&spans.ends, *temp));
+        let end = spans.positions().saturating_sub(spans.end(*temp));
         allot(ends, numbers, *temp, at, end)?;
     }
     Ok(())

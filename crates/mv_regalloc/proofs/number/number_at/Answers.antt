@@ -12,7 +12,7 @@ loop-temp-preserved c =
     let temps = c.args.temps.now in
     let i = c.loop-temp.temp-index in
     let t = get_or temps i 0 in
-    let end : c.saturating_sub-end.result ≡ s.positions - slice_index s.ends t = c.saturating_sub-end.ensures ∙ ap (λ v. s.positions - v) c.item.ensures in
+    let end : c.saturating_sub-end.result ≡ s.positions - slice_index s.ends t = c.saturating_sub-end.ensures ∙ ap (λ v. v - c.end.result) c.positions.ensures ∙ ap (λ v. s.positions - v) c.end.ensures in
     record {
       tracks = λ done each k.
           let now = scan done (map (interval_from s at) (take i temps)) in
