@@ -1,14 +1,14 @@
 // The first and the last position of each temporary, as positions are added before the others. A position costs the
 // words of its row, and the temporaries whose bits change there: for those that stay, only their word is noted.
 
-ghost use Rattle.std.specs.Prelude.{ℕ, ◌≡◌, ◌<◌, ◌≤◌, ◌+◌, ◌/◌, ◌^◌, ◌&&◌, ◌∷◌, [], cond, eqb, false, length, min, replicate, slice_index, slice_set, IfOk, OnOk};
+ghost use Rattle.std.specs.Prelude.{ℕ, ◌≡◌, ◌<◌, ◌≤◌, ◌+◌, ◌/◌, ◌^◌, ◌&&◌, ◌∷◌, [], cond, eqb, false, length, replicate, slice_index, slice_set, IfOk, OnOk};
 ghost use Rattle.mv_ir.specs.Live.{mark_at};
 ghost use Rattle.mv_regalloc.specs.LiveBits.{in_word, word_bit};
 ghost use Rattle.mv_regalloc.specs.Spanned.{Adds, no_spans};
 ghost use Rattle.mv_regalloc.specs.Tables.{IsPut, IsTable, Marked, begin_of, enters, leaves};
 
 use crate::live_set::LiveSet;
-use crate::words::{grow, has_bit, word_at};
+use crate::words::{end_within, grow, has_bit, word_at};
 use mv_num::list::List;
 use std::alloc::{AllocError, Global};
 use std::marker::Model;
@@ -56,17 +56,6 @@ fn turn_temp(begins: &mut List<u64>, ends: &mut List<u64>, temp: usize, turn: Tu
         begins.set(temp, turn.start);
     } else if marked && !held && item(begins, temp) == 0 {
         ends.set(temp, turn.behind);
-    }
-}
-
-// Behind the 64 places from one on, but not behind the last one.
-fn end_within(from: usize, places: usize) -> usize
-    ensures { result ≡ min (from + 64) places }
-{
-    if places.saturating_sub(from) < 64 {
-        places
-    } else {
-        from + 64
     }
 }
 

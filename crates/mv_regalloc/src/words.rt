@@ -1,6 +1,6 @@
 // Bits in words: that of a temporary is in the word at a 64th of its number, and a word past the end is 0.
 
-ghost use Rattle.std.specs.Prelude.{ℕ, ◌≡◌, ◌≤◌, ◌/◌, ◌||◌, ◌&&◌, false, cond, eqb, ltb, length, slice_index, OnOk};
+ghost use Rattle.std.specs.Prelude.{ℕ, ◌≡◌, ◌≤◌, ◌+◌, ◌/◌, ◌||◌, ◌&&◌, false, cond, eqb, ltb, length, min, slice_index, OnOk};
 ghost use Rattle.mv_regalloc.specs.LiveBits.{in_word, word_bit};
 
 use std::alloc::AllocError;
@@ -65,5 +65,16 @@ pub fn below(word: u64, place: usize, temps: usize) -> u64
         word & ((1 << (temps % 64)) - 1)
     } else {
         0
+    }
+}
+
+/// Behind the 64 places from one on, but not behind the last one.
+pub fn end_within(from: usize, places: usize) -> usize
+    ensures { result ≡ min (from + 64) places }
+{
+    if places.saturating_sub(from) < 64 {
+        places
+    } else {
+        from + 64
     }
 }

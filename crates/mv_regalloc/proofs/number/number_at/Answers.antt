@@ -18,7 +18,7 @@ loop-temp-preserved c =
           let now = scan done (map (interval_from s at) (take i temps)) in
           let before = each i c.loop-temp-test.true in
           let more = c.in_ok-allot.ensures.tracks now (omega (arith, end, before)) (c.loop-temp.invariant.tracks done each k) in
-          subst (λ d. Tracks d c.allot.new.ends.items c.allot.new.numbers) (sym (scan_more s at done temps i c.loop-temp-test.true))
-          (subst (λ v. Tracks (placed now (interval t at (v - 1)) ∷ now) c.allot.new.ends.items c.allot.new.numbers) end more);
+          subst (λ d. Tracks d c.allot.new.ends c.allot.new.numbers) (sym (scan_more s at done temps i c.loop-temp-test.true))
+          (subst (λ v. Tracks (placed now (interval t at (v - 1)) ∷ now) c.allot.new.ends c.allot.new.numbers) end more);
       long = c.allot.ensures.length ∙ c.loop-temp.invariant.long;
     }

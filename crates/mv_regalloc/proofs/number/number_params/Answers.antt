@@ -23,7 +23,7 @@ loop-temp-preserved c =
     record {
       tracks = λ k.
           let more = c.in_ok-allot.ensures.tracks (given marks t) (omega (arith, end, later)) (c.loop-temp.invariant.tracks k) in
-          param_placed marks n s h t low marked c.allot.new.ends.items c.allot.new.numbers
-          (subst (λ v. Tracks (placed (given marks t) (interval t 0 (v - 1)) ∷ given marks t) c.allot.new.ends.items c.allot.new.numbers) end more);
+          param_placed marks n s h t low marked c.allot.new.ends c.allot.new.numbers
+          (subst (λ v. Tracks (placed (given marks t) (interval t 0 (v - 1)) ∷ given marks t) c.allot.new.ends c.allot.new.numbers) end more);
       long = c.allot.ensures.length ∙ c.loop-temp.invariant.long;
     }
