@@ -284,7 +284,6 @@ fn switch_block(
 
 // A body of a `switch` that is no block. It is judged first.
 #[cycle(statement)]
-#[tactic(auto, using(crate::proofs::Alone::then_nothing))]
 fn no_switch_block(
     alloc: Global,
     scope: &mut Scope,

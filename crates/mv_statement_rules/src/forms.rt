@@ -218,12 +218,7 @@ pub fn case(
 }
 
 /// A `default` in the block of a `switch`, behind some arms.
-pub fn default(
-    alloc: Global,
-    scope: &Scope,
-    place: Place,
-    arms: Arms,
-) -> Result<Arms, RuleError>
+pub fn default(alloc: Global, scope: &Scope, place: Place, arms: Arms) -> Result<Arms, RuleError>
     ensures { IsBehind (and_then (default_label place arms) (λ a. Good (scope.now, a))) result scope.now }
 {
     let arms = arms.default_label(alloc, place)?;

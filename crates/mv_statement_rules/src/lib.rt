@@ -5,4 +5,3 @@ pub mod arms;
 pub mod around;
 pub mod body;
 pub mod forms;
-
