@@ -3,4 +3,5 @@
 
 pub mod arms;
 pub mod around;
+pub mod body;
 pub mod forms;
