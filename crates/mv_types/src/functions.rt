@@ -1,0 +1,324 @@
+// Functions (C11 6.7.6.3, 6.9.1).
+
+ghost use Rattle.std.specs.Prelude.{◌≡◌, [], ◌∷◌, IfOk, OnOk, length, Some, slice_set};
+ghost use Rattle.mv_scope.specs.Conversions.{int, same_signature};
+ghost use Rattle.mv_scope.specs.Spaces.{named};
+ghost use Rattle.mv_judge.specs.Judged.{Good};
+ghost use Rattle.mv_outline.specs.Names.{place_of};
+ghost use Rattle.mv_declare.specs.Declarators.{signature_of};
+ghost use Rattle.mv_declare.specs.Parameters.{parameters_judgement};
+ghost use Rattle.mv_declare.specs.Turns.{IsBehind, IsLeft};
+ghost use Rattle.mv_types.specs.Contents.{IsContinued};
+ghost use Rattle.mv_types.specs.Functions as spec;
+
+use crate::contents::{Contents, Foreknown};
+use crate::foreknown::{attributed_number, number_among};
+use mv_ast::program::{CType, Function, Known, Signature, Stmt};
+use mv_ast::unit::{Declarator, Line, Shape};
+use mv_declare::parameters::declare_parameters;
+use mv_judge::error::RuleError;
+use mv_num::kind::Kind;
+use mv_num::list::List;
+use mv_num::text::Text;
+use mv_scope::convert::same_type;
+use mv_scope::known::known_function;
+use mv_scope::meaning::{Meaning, Routine};
+use mv_scope::scope::Scope;
+use mv_statement_rules::body::check_body;
+use std::alloc::{AllocError, Global};
+use std::mem;
+
+const INT: CType = CType::Scalar(Kind::Int);
+
+/// Whether a signature is `int` without parameters.
+pub fn is_plain_int(signature: &Signature) -> bool
+    ensures { result ≡ same_signature signature.now (signature_of int []) }
+{
+    same_type(signature.result, INT) && signature.params.len() == 0
+}
+
+fn is_int_of_int(signature: &Signature) -> bool
+    ensures { result ≡ same_signature signature.now (signature_of int (int ∷ [])) }
+{
+    same_type(signature.result, INT)
+        && match signature.params.as_slice() {
+            [only] => same_type(*only, INT),
+            _ => false,
+        }
+}
+
+// Whether a signature is that of a known function.
+fn is_prototype(known: Known, signature: &Signature) -> bool
+    ensures { result ≡ spec.is_prototype known (Some signature.now) }
+{
+    match known {
+        Known::Getchar | Known::Poll => is_plain_int(signature),
+        Known::Putchar => is_int_of_int(signature),
+        Known::Plan(code, _) => code < 2 && is_plain_int(signature),
+    }
+}
+
+fn may_declare(
+    signatures: &List<Signature>,
+    signature: u32,
+    block: bool,
+    before: Option<Meaning>,
+    builtin: Option<Known>,
+) -> bool
+    ensures { result ≡ spec.may_declare signatures.now signature block before builtin }
+{
+    match before {
+        Some(Meaning::Function(routine)) => routine.signature == signature,
+        Some(_) => false,
+        None => match builtin {
+            None => true,
+            Some(known) => match signatures.get(signature as usize) {
+                None => false,
+                Some(signature) => !block && is_prototype(known, signature),
+            },
+        },
+    }
+}
+
+fn is_defined_at(functions: &List<Option<Function>>, number: Option<u32>) -> bool
+    ensures { result ≡ spec.is_defined_at functions.now number }
+{
+    match number {
+        None => false,
+        Some(number) => match functions.get(number as usize) {
+            Some(Some(_)) => true,
+            _ => false,
+        },
+    }
+}
+
+#[tactic(auto, unfolding(crate::specs::Functions::broken_rule))]
+fn broken_rule(allowed: bool, twice: bool, given: bool) -> Option<u8>
+    ensures { result ≡ spec.broken_rule allowed twice given }
+{
+    if !allowed {
+        Some(2)
+    } else if twice {
+        Some(19)
+    } else if given {
+        Some(22)
+    } else {
+        None
+    }
+}
+
+fn function_meaning(
+    known: &Foreknown,
+    name: &[u8],
+    signature: u32,
+) -> Result<Meaning, AllocError>
+    ensures { IfOk result (λ meaning. meaning ≡ spec.function_meaning known.now name.now signature) }
+{
+    let number = number_among(&known.outline.functions, name)?;
+    let attributed = attributed_number(known, name)?;
+    Ok(Meaning::Function(Routine {
+        number,
+        signature,
+        attributed,
+    }))
+}
+
+// Declares the name of a function if it is new; a prototype of a known function declares nothing.
+#[tactic(auto, unfolding(crate::specs::Functions::function_scope))]
+fn declare_name(
+    alloc: Global,
+    known: &Foreknown,
+    scope: &mut Scope,
+    name: &[u8],
+    signature: u32,
+    before: Option<Meaning>,
+    builtin: Option<Known>,
+) -> Result<(), AllocError>
+    requires { before ≡ named name.now scope.old.names.here }
+    ensures { OnOk result (scope.new ≡ spec.function_scope known.now name.now signature before builtin scope.old) }
+{
+    match before {
+        Some(_) => Ok(()),
+        None => match builtin {
+            Some(_) => Ok(()),
+            None => {
+                let meaning = function_meaning(known, name, signature)?;
+                scope.declare(alloc, name, meaning)
+            }
+        },
+    }
+}
+
+fn declare_parameters_of(
+    alloc: Global,
+    scope: &mut Scope,
+    declarator: &Declarator,
+) -> Result<(), RuleError>
+    ensures { IsLeft (parameters_judgement scope.old (spec.params_of declarator.now)) result scope.new }
+{
+    match &declarator.shape {
+        Shape::Function(params) => declare_parameters(alloc, scope, params),
+        _ => Ok(()),
+    }
+}
+
+// How many parameters a declarator has. There is no memory for 2^32.
+fn count_parameters(declarator: &Declarator) -> Result<u32, AllocError>
+    ensures { IfOk result (λ count. count ≡ length (spec.params_of declarator.now)) }
+{
+    match &declarator.shape {
+        Shape::Function(params) => {
+            if params.len() > 0xFFFF_FFFF {
+                Err(AllocError)
+            } else {
+                Ok(params.len() as u32)
+            }
+        }
+        _ => Ok(0),
+    }
+}
+
+// Enters the block of a function's parameters and locals.
+fn enter_body(alloc: Global, scope: &mut Scope, attributed: bool) -> Result<(), AllocError>
+    ensures { OnOk result (scope.new ≡ spec.body_entered attributed scope.old) }
+{
+    scope.enter(alloc)?;
+    scope.locals = List::new(alloc);
+    scope.attributed = attributed;
+    Ok(())
+}
+
+// The function with a body, behind which its block is left.
+fn leave_body(
+    alloc: Global,
+    scope: &mut Scope,
+    name: &[u8],
+    attributed: bool,
+    result_type: CType,
+    params: u32,
+    body: List<Stmt>,
+) -> Result<Function, RuleError>
+    ensures { IsBehind (Good (spec.left_with name.now attributed result_type params body scope.old)) result scope.new }
+{
+    let name = Text::new(alloc, name)?;
+    let locals = mem::replace(&mut scope.locals, List::new(alloc));
+    scope.leave(alloc);
+    scope.attributed = false;
+    Ok(Function {
+        name,
+        attributed,
+        result: result_type,
+        params,
+        locals,
+        switches: List::new(alloc),
+        body,
+    })
+}
+
+// The function that a definition is.
+fn function_of(
+    alloc: Global,
+    known: &Foreknown,
+    scope: &mut Scope,
+    declarator: &Declarator,
+    name: &[u8],
+    result_type: CType,
+    body: &Line,
+) -> Result<Function, RuleError>
+    ensures { IsBehind (spec.function_of known.now name.now result_type (spec.params_of declarator.now) body.now scope.old) result scope.new }
+{
+    let attributed = known.attributed.has(name);
+    let params = count_parameters(declarator)?;
+    enter_body(alloc, scope, attributed)?;
+    declare_parameters_of(alloc, scope, declarator)?;
+    let body = check_body(alloc, scope, result_type, body)?;
+    leave_body(alloc, scope, name, attributed, result_type, params, body)
+}
+
+// Puts a function at its number.
+fn put_function(functions: &mut List<Option<Function>>, number: usize, function: Function)
+    ensures { functions.new ≡ slice_set functions.old number (Some function) }
+{
+    if number < functions.len() {
+        let _ = functions.set(number, Some(function));
+    }
+}
+
+// Defines a function, if a block follows.
+fn define(
+    alloc: Global,
+    known: &Foreknown,
+    declarator: &Declarator,
+    name: &[u8],
+    result_type: CType,
+    body: &Option<Line>,
+    number: Option<u32>,
+    contents: &mut Contents,
+) -> Result<(), RuleError>
+    requires { number ≡ place_of name.now known.now.outline.functions }
+    ensures { IsContinued (spec.defined known.now name.now result_type (spec.params_of declarator.now) body.now contents.old) result contents.new }
+{
+    match body {
+        None => Ok(()),
+        Some(body) => {
+            let function = function_of(
+                alloc,
+                known,
+                &mut contents.scope,
+                declarator,
+                name,
+                result_type,
+                body,
+            )?;
+            let number = number.unwrap_or(0);
+            put_function(&mut contents.functions, number as usize, function);
+            Ok(())
+        }
+    }
+}
+
+/// Declares a function under a name, by the number of its signature and its result, and defines it if a block follows.
+#[tactic(auto, unfolding(crate::specs::Functions::function_judgement))]
+pub fn declare(
+    alloc: Global,
+    known: &Foreknown,
+    declarator: &Declarator,
+    name: &[u8],
+    result_type: CType,
+    signature: u32,
+    body: &Option<Line>,
+    contents: &mut Contents,
+) -> Result<(), RuleError>
+    ensures { IsContinued (spec.function_judgement known.now declarator.now name.now result_type signature body.now contents.old) result contents.new }
+{
+    let before = contents.scope.names.here.find(name);
+    let builtin = known_function(name);
+    let number = number_among(&known.outline.functions, name)?;
+    let block = body.is_some();
+    let allowed = may_declare(&contents.scope.signatures, signature, block, before, builtin);
+    let twice = block && is_defined_at(&contents.functions, number);
+    match broken_rule(allowed, twice, declarator.initial.is_some()) {
+        Some(rule) => Err(RuleError::Rule(declarator.place, rule)),
+        None => {
+            declare_name(
+                alloc,
+                known,
+                &mut contents.scope,
+                name,
+                signature,
+                before,
+                builtin,
+            )?;
+            define(
+                alloc,
+                known,
+                declarator,
+                name,
+                result_type,
+                body,
+                number,
+                contents,
+            )
+        }
+    }
+}
