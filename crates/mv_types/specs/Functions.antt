@@ -71,12 +71,24 @@ function_scope k name signature _ _ s = s
 
 -- ---- definitions
 
+abbrev pub params_of_form : {A : Type 0} → {B : Type 0} → Shape-F A B Param → List Param
+params_of_form (shape.Function params) = params
+params_of_form _ = []
+
+abbrev pub params_of : Declarator → List Param
+params_of d = params_of_form (out-Shape d.shape)
+
 -- a function's parameters and locals stand in a block of their own
 abbrev pub body_entered : (attributed : Bool) → Scope → Scope
 body_entered attributed s = record (block_entered s) { locals = []; attributed = attributed }
 
 abbrev pub body_left : Scope → Scope
 body_left s = record (block_left s) { locals = []; attributed = false }
+
+-- The parameters of a declarator that a block follows are judged as those of a definition before all else that the declarator says.
+abbrev pub definition_parameters : Declarator → Option Line → Scope → Judged Scope
+definition_parameters d None s = Good s
+definition_parameters d (Some body) s = and_then (parameters_judgement (body_entered false s) (params_of d)) (λ p. Good (body_left p))
 
 -- the function of a body that has been judged, and the scope behind it; its switches are found once all of the unit are known
 abbrev pub left_with : List ℕ → (attributed : Bool) → CType → (params : ℕ) → List Stmt → Scope → Scope × Function
@@ -105,13 +117,6 @@ defined k name result params (Some body) c =
     Good (with_function (in_scope c f.0) (unwrap_or (place_of name k.outline.functions) 0) f.1))
 
 -- ---- a declarator that designates a function
-
-abbrev pub params_of_form : {A : Type 0} → {B : Type 0} → Shape-F A B Param → List Param
-params_of_form (shape.Function params) = params
-params_of_form _ = []
-
-abbrev pub params_of : Declarator → List Param
-params_of d = params_of_form (out-Shape d.shape)
 
 abbrev pub unless_broken : Place → Option ℕ → Judged Contents → Judged Contents
 unless_broken place None judged = judged

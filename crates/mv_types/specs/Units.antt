@@ -32,7 +32,7 @@ use Rattle.mv_types.specs.declared.contents.Contents.{Contents}
 use Rattle.mv_types.specs.declared.contents.Foreknown.{Foreknown}
 use Rattle.mv_types.specs.Contents.{nothing_declared, in_scope, present, switches_from}
 use Rattle.mv_types.specs.Foreknown.{foreknown, is_fixed}
-use Rattle.mv_types.specs.Functions.{function_judgement}
+use Rattle.mv_types.specs.Functions.{function_judgement, definition_parameters}
 use Rattle.mv_types.specs.Objects.{object_judgement, domain_by}
 
 -- ---- declarators
@@ -53,7 +53,8 @@ base_of k d b = record b { fixed = is_fixed k (name_of d) }
 -- a declarator at file scope, with the block behind it if there is one
 unfoldable pub declarator_judgement : Foreknown → Specified → Option Line → Declarator → Contents → Judged Contents
 declarator_judgement k b body d c =
-    and_then (file_declarator (base_of k d b) d c.scope) (λ e. named_declarator k b body d d.name e.1 (in_scope c e.0))
+    and_then (definition_parameters d body c.scope) (λ s.
+    and_then (file_declarator (base_of k d b) d s) (λ e. named_declarator k b body d d.name e.1 (in_scope c e.0)))
 
 -- ---- declarations
 

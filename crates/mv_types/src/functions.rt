@@ -188,6 +188,35 @@ fn enter_body(alloc: Global, scope: &mut Scope, attributed: bool) -> Result<(), 
     Ok(())
 }
 
+// Leaves the block of a function's parameters and locals.
+fn leave_block(alloc: Global, scope: &mut Scope)
+    ensures { scope.new ≡ spec.body_left scope.old }
+{
+    scope.locals = List::new(alloc);
+    scope.leave(alloc);
+    scope.attributed = false;
+}
+
+/// Judges the parameters of a declarator that a block follows as those of a definition.
+pub fn check_parameters(
+    alloc: Global,
+    scope: &mut Scope,
+    declarator: &Declarator,
+    body: &Option<Line>,
+) -> Result<(), RuleError>
+    ensures { IsLeft (spec.definition_parameters declarator.now body.now scope.old) result scope.new }
+{
+    match body {
+        None => Ok(()),
+        Some(_) => {
+            enter_body(alloc, scope, false)?;
+            declare_parameters_of(alloc, scope, declarator)?;
+            leave_block(alloc, scope);
+            Ok(())
+        }
+    }
+}
+
 // The function with a body, behind which its block is left.
 fn leave_body(
     alloc: Global,
