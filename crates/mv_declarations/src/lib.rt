@@ -10,5 +10,3 @@ mod initial;
 mod nodes;
 pub mod parameters;
 pub mod specifiers;
-#[cfg(test)]
-mod tests;

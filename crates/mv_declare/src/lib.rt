@@ -10,5 +10,3 @@ pub mod initials;
 pub mod locals;
 pub mod parameters;
 pub mod specifiers;
-#[cfg(test)]
-mod tests;

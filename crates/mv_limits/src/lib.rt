@@ -4,5 +4,3 @@
 pub mod counts;
 pub mod excess;
 pub mod limits;
-#[cfg(test)]
-mod tests;

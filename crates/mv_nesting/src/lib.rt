@@ -5,8 +5,6 @@ ghost use Rattle.std.specs.Prelude.{◌≡◌, ◌≤◌, [], ◌∷◌, All, If
 ghost use Rattle.mv_nesting.specs.Nesting as spec;
 
 mod stack;
-#[cfg(test)]
-mod tests;
 
 use crate::stack::Stack;
 use mv_ast::place::Place;

@@ -4,5 +4,3 @@
 
 pub mod names;
 pub mod outline;
-#[cfg(test)]
-mod tests;

@@ -14,8 +14,6 @@ ghost use Rattle.mv_parser.specs.Verdict as spec;
 
 pub mod error;
 mod items;
-#[cfg(test)]
-mod tests;
 mod verdict;
 
 use crate::error::ParseError;

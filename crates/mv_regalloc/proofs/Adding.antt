@@ -7,15 +7,14 @@ use Rattle.mv_ir.specs.declared.tree.Tree.{Tree}
 use Rattle.mv_ir.specs.declared.stm.Stm.{Stm}
 use Rattle.mv_ir.specs.declared.stm.Stm as at
 use Rattle.mv_ir.specs.Live.{mark_at, any, marks_length}
-use Rattle.mv_regalloc.specs.declared.spans.Spans.{Spans}
 use Rattle.mv_regalloc.specs.Rows.{Bits, with_reads, either_bits, Enclosing, sets, inside, live_before, rows_in_order, stm_rows}
-use Rattle.mv_regalloc.specs.Spanned.{column, from_first, behind_last, Spanned, Adds, with_params}
+use Rattle.mv_regalloc.specs.Spanned.{SpanTable, column, from_first, behind_last, Spanned, Adds, with_params}
 use Rattle.mv_regalloc.proofs.RowEquations.{live_if, live_block, rows_if, rows_loop, rows_block}
 
-pub adds_none : (s : Spans) → Adds [] s s
+pub adds_none : (s : SpanTable) → Adds [] s s
 adds_none s = record { adds = λ n rest h. h }
 
-pub adds_two : (xs ys : List Bits) (s s' s'' : Spans) → Adds xs s s' → Adds ys s' s'' → Adds (ys ++ xs) s s''
+pub adds_two : (xs ys : List Bits) (s s' s'' : SpanTable) → Adds xs s s' → Adds ys s' s'' → Adds (ys ++ xs) s s''
 adds_two xs ys s s' s'' a b = record { adds = λ n rest h. subst (λ l. Spanned n l s'') (sym (append_assoc ys xs rest)) (b.adds n (xs ++ rest) (a.adds n rest h)) }
 
 -- ---- lists
@@ -32,7 +31,7 @@ code_step code done s h e =
 -- ---- statements
 
 module _ (l : Enclosing) (t : Tree) (a b : List Stm) where
-  pub if_adds : (bits others after after' : Bits) (s s' s'' s''' : Spans) → others ≡ bits → after ≡ live_before (map stm_rows a) (sets l bits) → after' ≡ live_before (map stm_rows b) (sets l others) →
+  pub if_adds : (bits others after after' : Bits) (s s' s'' s''' : SpanTable) → others ≡ bits → after ≡ live_before (map stm_rows a) (sets l bits) → after' ≡ live_before (map stm_rows b) (sets l others) →
       Adds (rows_in_order (map stm_rows b) (sets l others)) s s' → Adds (rows_in_order (map stm_rows a) (sets l bits)) s' s'' → Adds (with_reads t (either_bits after after') ∷ []) s'' s''' →
       Adds ((stm_rows (at.If t a b)).rows (sets l bits)) s s'''
   if_adds bits others after after' s s' s'' s''' e f g x y z =
@@ -45,7 +44,7 @@ module _ (l : Enclosing) (t : Tree) (a b : List Stm) where
       subst (λ rows. Adds rows s s''') (ap (λ w. w ∷ (ys ++ xs)) k ∙ sym (rows_if r t a b)) (adds_two (ys ++ xs) (row ∷ []) s s'' s''' both z)
 
 module _ (l : Enclosing) (b : List Stm) where
-  pub loop_adds : (bits behind within row : Bits) (inner : Enclosing) (s s' s'' : Spans) → behind ≡ bits → row ≡ (stm_rows (at.Loop b)).live (sets l bits) → inner ≡ inside l behind row → within ≡ row → Adds (rows_in_order (map stm_rows b) (sets inner within)) s s' → Adds (row ∷ []) s' s'' → Adds ((stm_rows (at.Loop b)).rows (sets l bits)) s s''
+  pub loop_adds : (bits behind within row : Bits) (inner : Enclosing) (s s' s'' : SpanTable) → behind ≡ bits → row ≡ (stm_rows (at.Loop b)).live (sets l bits) → inner ≡ inside l behind row → within ≡ row → Adds (rows_in_order (map stm_rows b) (sets inner within)) s s' → Adds (row ∷ []) s' s'' → Adds ((stm_rows (at.Loop b)).rows (sets l bits)) s s''
   loop_adds bits behind within row inner s s' s'' e k i w x z =
       let r = sets l bits in
       let start = (stm_rows (at.Loop b)).live r in
@@ -54,7 +53,7 @@ module _ (l : Enclosing) (b : List Stm) where
       let body : Adds xs s s' = subst (λ o. Adds (rows_in_order (map stm_rows b) (sets o start)) s s') level (subst (λ o. Adds (rows_in_order (map stm_rows b) (sets inner o)) s s') (w ∙ k) x) in
       subst (λ rows. Adds rows s s'') (ap (λ o. o ∷ xs) k ∙ sym (rows_loop r b)) (adds_two xs (row ∷ []) s s' s'' body z)
 
-  pub block_adds : (bits row : Bits) (inner : Enclosing) (s s' s'' : Spans) → inner ≡ inside l bits l.none → row ≡ live_before (map stm_rows b) (sets inner bits) → Adds (rows_in_order (map stm_rows b) (sets inner bits)) s s' → Adds (row ∷ []) s' s'' → Adds ((stm_rows (at.Block b)).rows (sets l bits)) s s''
+  pub block_adds : (bits row : Bits) (inner : Enclosing) (s s' s'' : SpanTable) → inner ≡ inside l bits l.none → row ≡ live_before (map stm_rows b) (sets inner bits) → Adds (rows_in_order (map stm_rows b) (sets inner bits)) s s' → Adds (row ∷ []) s' s'' → Adds ((stm_rows (at.Block b)).rows (sets l bits)) s s''
   block_adds bits row inner s s' s'' i f x z =
       let r = sets l bits in
       let k : row ≡ (stm_rows (at.Block b)).live r = f ∙ ap (λ o. live_before (map stm_rows b) (sets o bits)) i ∙ sym (live_block r b) in
@@ -101,7 +100,7 @@ ends_by x false xs e =
     by true = refl
     by false = refl
 
-pub mark_adds : (row : Bits) (s s' : Spans) → s'.positions ≡ s.positions + 1 → length s'.begins ≡ length s.begins → length s'.ends ≡ length s.ends →
+pub mark_adds : (row : Bits) (s s' : SpanTable) → s'.positions ≡ s.positions + 1 → length s'.begins ≡ length s.begins → length s'.ends ≡ length s.ends →
     ((t : ℕ) → t < length s.begins → slice_index s'.begins t ≡ cond (mark_at row t) (s.positions + 1) (slice_index s.begins t)) →
     ((t : ℕ) → t < length s.ends → slice_index s'.ends t ≡ cond (mark_at row t && eqb (slice_index s.begins t) 0) s.positions (slice_index s.ends t)) →
     Adds (row ∷ []) s s'

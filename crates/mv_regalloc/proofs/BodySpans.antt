@@ -5,9 +5,8 @@ use Rattle.std.proofs.lemmas.List.{length-set}
 use Rattle.std.proofs.lemmas.Bool.{cases_eq, cases_lt, lt-ltb, le-ltb, eq-eqb, ne_eqb}
 use Rattle.mv_ir.specs.declared.body.Body.{Body}
 use Rattle.mv_ir.specs.Live.{mark_at, marks_length, live_in_order, marks_in_order, flow, nowhere, live_at_start, all_marks}
-use Rattle.mv_regalloc.specs.declared.spans.Spans.{Spans}
 use Rattle.mv_regalloc.specs.Rows.{Bits, sets, live_before, rows_in_order, stm_rows, no_sets}
-use Rattle.mv_regalloc.specs.Spanned.{column, from_first, behind_last, Spanned, Adds, AreSpansOf, with_params}
+use Rattle.mv_regalloc.specs.Spanned.{SpanTable, no_spans, column, from_first, behind_last, Spanned, Adds, AreSpansOf, with_params}
 use Rattle.mv_regalloc.proofs.RowBits.{set_bit}
 use Rattle.mv_regalloc.proofs.RowsShow.{ListShows, body_shows, seen_nowhere}
 use Rattle.mv_regalloc.proofs.RowsLong.{code_rows_long}
@@ -60,7 +59,7 @@ pub long_clear : (n : ℕ) → length (replicate n false) ≡ n
 long_clear zero = refl
 long_clear (suc n) = ap suc (long_clear n)
 
-start : (n : ℕ) → Spanned n [] (record { positions = 0; begins = replicate n 0; ends = replicate n 0 })
+start : (n : ℕ) → Spanned n [] (no_spans n)
 start n = record { positions = refl; begins_long = long_zeros n; ends_long = long_zeros n; begins = λ t l. zeros_at n t; ends = λ t l. zeros_at n t }
 
 module _ (b : Body) where
@@ -87,17 +86,14 @@ module _ (b : Body) where
   rows_all : (t : ℕ) → length (first ∷ rows) ≡ marks_length (all_marks b t)
   rows_all t = ap suc (code_rows_long b.code (no_sets none) ∙ sym (code_long t b.code nowhere))
 
-  -- from lists that the code has made
-  pub body_spans : (clear bits after : Bits) (leaves restarts : List Bits) (begins ends : List ℕ) (s s' : Spans) → clear ≡ none → leaves ≡ [] → restarts ≡ [] → bits ≡ none → begins ≡ replicate b.temps 0 → ends ≡ replicate b.temps 0 →
+  -- from what the code has made
+  pub body_spans : (clear bits after : Bits) (leaves restarts : List Bits) (old s s' : SpanTable) → clear ≡ none → leaves ≡ [] → restarts ≡ [] → bits ≡ none → old ≡ no_spans b.temps →
       after ≡ live_before (map stm_rows b.code) (sets (record { none = clear; leaves = leaves; restarts = restarts }) bits) →
-      Adds (rows_in_order (map stm_rows b.code) (sets (record { none = clear; leaves = leaves; restarts = restarts }) bits)) (record { positions = 0; begins = begins; ends = ends }) s → Adds (with_params b.params after ∷ []) s s' → AreSpansOf (all_marks b) b.temps s'
-  body_spans clear bits after leaves restarts begins ends s s' k l m z f g e x y =
+      Adds (rows_in_order (map stm_rows b.code) (sets (record { none = clear; leaves = leaves; restarts = restarts }) bits)) old s → Adds (with_params b.params after ∷ []) s s' → AreSpansOf (all_marks b) b.temps s'
+  body_spans clear bits after leaves restarts old s s' k l m z f e x y =
       let same : sets (record { none = clear; leaves = leaves; restarts = restarts }) bits ≡ no_sets none = λ i. record { none = k i; next = z i; leaves = l i; restarts = m i } in
-      let old : Spans = record { positions = 0; begins = begins; ends = ends } in
-      let fresh : Spans = record { positions = 0; begins = replicate b.temps 0; ends = replicate b.temps 0 } in
-      let started : fresh ≡ old = ap (λ o. record { positions = 0; begins = o; ends = replicate b.temps 0 }) (sym f) ∙ ap (λ o. record { positions = 0; begins = begins; ends = o }) (sym g) in
       let body : Adds rows old s = subst (λ o. Adds (rows_in_order (map stm_rows b.code) o) old s) same x in
-      let one : Spanned b.temps rows s = subst (λ l. Spanned b.temps l s) (append-nil rows) (body.adds b.temps [] (subst (Spanned b.temps []) started (start b.temps))) in
+      let one : Spanned b.temps rows s = subst (λ l. Spanned b.temps l s) (append-nil rows) (body.adds b.temps [] (subst (Spanned b.temps []) (sym f) (start b.temps))) in
       let here : after ≡ live_before (map stm_rows b.code) (no_sets none) = e ∙ ap (live_before (map stm_rows b.code)) same in
       let all : Spanned b.temps (first ∷ rows) s' = (subst (λ o. Adds (with_params b.params o ∷ []) s s') here y).adds b.temps rows one in
       record {

@@ -5,10 +5,9 @@ use Rattle.std.proofs.lemmas.List.{append-nil, map-append, map_more, length-set,
 use Rattle.std.proofs.lemmas.Bool.{cases_eq, eqb-true}
 use Rattle.mv_ir.specs.declared.body.Body.{Body}
 use Rattle.mv_ir.specs.Live.{any, marks_length, all_marks}
-use Rattle.mv_regalloc.specs.declared.spans.Spans.{Spans}
 use Rattle.mv_regalloc.specs.Scan.{Interval, Placed, placed, scan}
 use Rattle.mv_regalloc.specs.Intervals.{first_from, span, beginning, range}
-use Rattle.mv_regalloc.specs.Spanned.{from_first, AreSpansOf}
+use Rattle.mv_regalloc.specs.Spanned.{SpanTable, from_first, AreSpansOf}
 use Rattle.mv_regalloc.specs.Tracked.{end_of, interval_from, AreFirsts}
 use Rattle.mv_regalloc.proofs.Sweep.{scan_append, beginning_more}
 use Rattle.mv_regalloc.proofs.Numbering.{begins_test, begins_not, both_left, both_right, span_at, before_end}
@@ -37,7 +36,7 @@ each_range a (suc m) n h = each_append (λ t. t < n) (range a m) ((a + m) ∷ []
 abbrev pub temps_of : List Interval → List ℕ
 temps_of = map (λ x. x.temp)
 
-module _ (marks : ℕ → List Bool) (n : ℕ) (s : Spans) (h : AreSpansOf marks n s) (at : ℕ) where
+module _ (marks : ℕ → List Bool) (n : ℕ) (s : SpanTable) (h : AreSpansOf marks n s) (at : ℕ) where
   pub record Begins (t : ℕ) : Type 0 where
     pub known : t < n
     pub before : at < end_of s t
@@ -73,7 +72,7 @@ module _ (marks : ℕ → List Bool) (n : ℕ) (s : Spans) (h : AreSpansOf marks
     firsts_intervals = ap (map (interval_from s at)) e ∙ intervals_of (range a m) (each_range a m n low)
 
 -- one temporary more
-pub scan_more : (s : Spans) (at : ℕ) (done : List Placed) (temps : List ℕ) (i : ℕ) → i < length temps →
+pub scan_more : (s : SpanTable) (at : ℕ) (done : List Placed) (temps : List ℕ) (i : ℕ) → i < length temps →
     scan done (map (interval_from s at) (take (i + 1) temps)) ≡ placed (scan done (map (interval_from s at) (take i temps))) (interval_from s at (get_or temps i 0)) ∷ scan done (map (interval_from s at) (take i temps))
 scan_more s at done temps i l =
     ap (scan done) (map_more (interval_from s at) temps i 0 l) ∙ scan_append done (map (interval_from s at) (take i temps)) (interval_from s at (get_or temps i 0) ∷ [])
@@ -93,7 +92,7 @@ no_firsts b positions lists e = record {
       ap (λ ls. slice_index_or ls at []) e ∙ get_or-replicate positions at [] [] l ∙ ap (λ k. temps_of (beginning (all_marks b) at (range b.params k))) (sym none);
 }
 
-module _ (b : Body) (s : Spans) (h : AreSpansOf (all_marks b) b.temps s) (t : ℕ) (low : b.params ≤ t) (high : t < b.temps) where
+module _ (b : Body) (s : SpanTable) (h : AreSpansOf (all_marks b) b.temps s) (t : ℕ) (low : b.params ≤ t) (high : t < b.temps) where
   abbrev at_first : ℕ
   at_first = s.positions - slice_index s.begins t
 

@@ -3,10 +3,9 @@ use Rattle.std.proofs.Common.{arith, ◌≡◌, ℕ, suc, ◌+◌, ◌-◌, ◌<
 use Rattle.std.specs.Prelude.{slice_index}
 use Rattle.std.proofs.lemmas.Bool.{eq-eqb, ne_eqb, eqb-true}
 use Rattle.mv_ir.specs.Live.{mark_at, any, marks_length}
-use Rattle.mv_regalloc.specs.declared.spans.Spans.{Spans}
 use Rattle.mv_regalloc.specs.Scan.{Placed, Interval, placed, scan}
 use Rattle.mv_regalloc.specs.Intervals.{first_from, last_from, span, beginning, by_first, range, given}
-use Rattle.mv_regalloc.specs.Spanned.{from_first, behind_last, AreSpansOf}
+use Rattle.mv_regalloc.specs.Spanned.{SpanTable, from_first, behind_last, AreSpansOf}
 use Rattle.mv_regalloc.specs.Tracked.{Tracks, interval}
 use Rattle.mv_regalloc.proofs.Adding.{none_first}
 use Rattle.mv_regalloc.proofs.Ranges.{first_last}
@@ -60,7 +59,7 @@ both_right false b h = let e : false ≡ true = h in absurd cc
 
 -- ---- one temporary
 
-module _ (marks : ℕ → List Bool) (n : ℕ) (s : Spans) (h : AreSpansOf marks n s) where
+module _ (marks : ℕ → List Bool) (n : ℕ) (s : SpanTable) (h : AreSpansOf marks n s) where
   end_of : (t : ℕ) → t < n → any (marks t) ≡ true → s.positions - slice_index s.ends t ≡ suc (last_from 0 (marks t))
   end_of t l a =
       let p = h.positions t in

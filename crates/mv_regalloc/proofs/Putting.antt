@@ -1,71 +1,71 @@
 -- Values put at the selected places of a list, one place after the other.
-use Rattle.std.proofs.Common.{◌≡◌, ℕ, zero, suc, ◌+◌, ◌<◌, ◌≤◌, Bool, true, false, cond, eqb, ◌&&◌, ◌||◌, List, [], ◌∷◌, ◌++◌, length, take, get_or, refl, sym, ap, ◌∙◌, ◌⊎◌, inl, inr, None, Some, arith}
+use Rattle.std.proofs.Common.{arith, ◌≡◌, ℕ, zero, suc, ◌+◌, ◌<◌, ◌≤◌, ◌*◌, ◌/◌, Bool, true, false, cond, eqb, ltb, ◌&&◌, List, [], ◌∷◌, length, refl, sym, ap, ◌∙◌, ◌⊎◌, inl, inr, None, Some}
 use Rattle.std.specs.Prelude.{slice_index, slice_set}
 use Rattle.std.specs.List.{slice_get}
-use Rattle.std.proofs.lemmas.List.{length-set, get_or-set_same, get_or-set_other, take_more}
-use Rattle.std.proofs.lemmas.Bool.{cases_eq, eq-eqb, ne_eqb}
-use Rattle.mv_regalloc.specs.Scan.{has}
-use Rattle.mv_regalloc.proofs.LiveSets.{has_append}
-
-pub record IsPut (selected : ℕ → Bool) (v : ℕ) (xs ys : List ℕ) : Type 0 where
-  pub long : length ys ≡ length xs
-  pub items : (t : ℕ) → t < length xs → slice_index ys t ≡ cond (selected t) v (slice_index xs t)
-
-pub item_some : (xs : List ℕ) (i x : ℕ) → slice_get xs i ≡ Some x → slice_index xs i ≡ x
-item_some [] i x h = let e : None ≡ Some x = h in absurd cc
-item_some (y ∷ xs) zero x h = let e : Some y ≡ Some x = h in cc
-item_some (y ∷ xs) (suc i) x h = item_some xs i x h
+use Rattle.std.proofs.lemmas.List.{length-set, get_or-set_same, get_or-set_other}
+use Rattle.std.proofs.lemmas.Bool.{cases_eq, cases_lt, eq-eqb, ne_eqb, lt-ltb, le-ltb}
+use Rattle.mv_regalloc.specs.Tables.{IsPut}
 
 pub item_none : (xs : List ℕ) (i : ℕ) → slice_get xs i ≡ None → slice_index xs i ≡ 0
 item_none [] i h = refl
 item_none (y ∷ xs) zero h = let e : Some y ≡ None = h in absurd cc
 item_none (y ∷ xs) (suc i) h = item_none xs i h
 
--- ---- one place more
+-- ---- of those of one word, the ones below a bound that a test selects
 
-or_none : (c : Bool) → (c || false) ≡ c
-or_none true = refl
-or_none false = refl
+off : (a : Bool) → (a && false) ≡ false
+off true = refl
+off false = refl
 
-or_some : (c : Bool) → (c || true) ≡ true
-or_some true = refl
-or_some false = refl
+abbrev pub upto : ℕ → ℕ → (ℕ → Bool) → ℕ → Bool
+upto place u test t = (eqb (t / 64) place && ltb t u) && test t
 
-more_has : (places : List ℕ) (i t : ℕ) → i < length places → has t (take (i + 1) places) ≡ (has t (take i places) || (eqb (get_or places i 0) t || false))
-more_has places i t l = ap (has t) (take_more places i 0 l) ∙ has_append t (take i places) (get_or places i 0 ∷ [])
+pub put_none : (place from v : ℕ) (test : ℕ → Bool) (xs : List ℕ) → from ≤ place * 64 → IsPut (upto place from test) v xs xs
+put_none place from v test xs low = record { long = refl; items = λ t l. ap (λ c. cond (c && test t) v (slice_index xs t)) (sym (by t (cases_eq (t / 64) place))) }
+  where
+    by : (t : ℕ) → (t / 64 ≡ place) ⊎ (t / 64 ≡ place → ⊥) → (eqb (t / 64) place && ltb t from) ≡ false
+    by t (inl e) = ap (λ c. eqb (t / 64) place && c) (le-ltb t from (omega (arith, e, low))) ∙ off (eqb (t / 64) place)
+    by t (inr ne) = ap (λ c. c && ltb t from) (ne_eqb (t / 64) place ne)
 
--- also by a test of the place
-module _ (places : List ℕ) (i : ℕ) (low : i < length places) (test : ℕ → Bool) (v : ℕ) (xs ys : List ℕ) (h : IsPut (λ t. has t (take i places) && test t) v xs ys) where
-  abbrev place : ℕ
-  place = get_or places i 0
+module _ (place u v : ℕ) (test : ℕ → Bool) (xs ys : List ℕ) (h : IsPut (upto place u test) v xs ys) where
+  -- the next one is as it was
+  pub put_here : u < length xs → slice_index ys u ≡ slice_index xs u
+  put_here l = h.items u l ∙ ap (λ c. cond (c && test u) v (slice_index xs u)) (ap (λ c. eqb (u / 64) place && c) (le-ltb u u (omega arith)) ∙ off (eqb (u / 64) place))
 
-  other : (t : ℕ) → (place ≡ t → ⊥) → (has t (take (i + 1) places) && test t) ≡ (has t (take i places) && test t)
-  other t ne = ap (λ c. c && test t) (more_has places i t low ∙ ap (λ c. has t (take i places) || (c || false)) (ne_eqb place t ne) ∙ or_none (has t (take i places)))
-
-  here : (t : ℕ) → place ≡ t → (has t (take (i + 1) places) && test t) ≡ test t
-  here t e = ap (λ c. c && test t) (more_has places i t low ∙ ap (λ c. has t (take i places) || (c || false)) (eq-eqb place t e) ∙ or_some (has t (take i places)))
-
-  pub put_place : test place ≡ true → place < length ys → IsPut (λ t. has t (take (i + 1) places) && test t) v xs (slice_set ys place v)
-  put_place k l = record { long = length-set ys place v ∙ h.long; items = λ t m. by t m (cases_eq place t) }
+  pub put_next : (zs : List ℕ) → u / 64 ≡ place → u < length xs → zs ≡ cond (test u) (slice_set ys u v) ys → IsPut (upto place (u + 1) test) v xs zs
+  put_next zs e low s = record { long = ap (λ l. length l) s ∙ long (test u) ∙ h.long; items = λ t l. ap (λ l. slice_index l t) s ∙ by t l (cases_eq t u) }
     where
-      by : (t : ℕ) → t < length xs → (place ≡ t) ⊎ (place ≡ t → ⊥) → slice_index (slice_set ys place v) t ≡ cond (has t (take (i + 1) places) && test t) v (slice_index xs t)
-      by t m (inl e) =
-          ap (slice_index (slice_set ys place v)) (sym e) ∙ get_or-set_same ys place v 0 l ∙ ap (λ c. cond c v (slice_index xs t)) (sym (here t e ∙ ap test (sym e) ∙ k))
-      by t m (inr ne) = get_or-set_other ys place t v 0 (λ e. ne (sym e)) ∙ h.items t m ∙ ap (λ c. cond c v (slice_index xs t)) (sym (other t ne))
+      long : (c : Bool) → length (cond c (slice_set ys u v) ys) ≡ length ys
+      long true = length-set ys u v
+      long false = refl
 
-  pub skip_past : length ys ≤ place → IsPut (λ t. has t (take (i + 1) places) && test t) v xs ys
-  skip_past l = record {
-    long = h.long;
-    items = λ t m. let k = h.long in h.items t m ∙ ap (λ c. cond c v (slice_index xs t)) (sym (other t (λ e. omega (arith, e, l, m, k))));
-  }
+      at_here : (c : Bool) → slice_index (cond c (slice_set ys u v) ys) u ≡ cond c v (slice_index xs u)
+      at_here true = get_or-set_same ys u v 0 (let k = h.long in omega (arith, low, k))
+      at_here false = put_here low
 
-  pub skip_place : test place ≡ false → IsPut (λ t. has t (take (i + 1) places) && test t) v xs ys
-  skip_place k = record { long = h.long; items = λ t m. h.items t m ∙ ap (λ c. cond c v (slice_index xs t)) (by t (cases_eq place t)) }
+      elsewhere : (t : ℕ) (c : Bool) → (t ≡ u → ⊥) → slice_index (cond c (slice_set ys u v) ys) t ≡ slice_index ys t
+      elsewhere t true ne = get_or-set_other ys u t v 0 ne
+      elsewhere t false ne = refl
+
+      bound : (t : ℕ) → (t ≡ u → ⊥) → (t < u) ⊎ (u ≤ t) → ltb t u ≡ ltb t (u + 1)
+      bound t ne (inl l) = lt-ltb t u l ∙ sym (lt-ltb t (u + 1) (omega (arith, l)))
+      bound t ne (inr l) = le-ltb t u l ∙ sym (le-ltb t (u + 1) (far (cases_lt u t)))
+        where
+          far : (u < t) ⊎ (t ≤ u) → u + 1 ≤ t
+          far (inl k) = omega (arith, k)
+          far (inr k) = absurd (ne (omega (arith, k, l)))
+
+      by : (t : ℕ) → t < length xs → (t ≡ u) ⊎ (t ≡ u → ⊥) → slice_index (cond (test u) (slice_set ys u v) ys) t ≡ cond (upto place (u + 1) test t) v (slice_index xs t)
+      by t l (inl k) =
+          ap (λ i. slice_index (cond (test u) (slice_set ys u v) ys) i) k ∙ at_here (test u) ∙
+          ap (λ c. cond (c && test u) v (slice_index xs u)) (sym (ap (λ c. c && ltb u (u + 1)) (eq-eqb (u / 64) place e) ∙ lt-ltb u (u + 1) (omega arith))) ∙
+          ap (λ i. cond (upto place (u + 1) test i) v (slice_index xs i)) (sym k)
+      by t l (inr ne) =
+          elsewhere t (test u) ne ∙ h.items t l ∙ ap (λ c. cond ((eqb (t / 64) place && c) && test t) v (slice_index xs t)) (bound t ne (cases_lt t u))
+
+  pub put_all : ((t : ℕ) → t < length xs → t / 64 ≡ place → t < u) → IsPut (λ t. eqb (t / 64) place && test t) v xs ys
+  put_all past = record { long = h.long; items = λ t l. h.items t l ∙ ap (λ c. cond (c && test t) v (slice_index xs t)) (by t l (cases_eq (t / 64) place)) }
     where
-      none : (c : Bool) → false ≡ (c && false)
-      none true = refl
-      none false = refl
-
-      by : (t : ℕ) → (place ≡ t) ⊎ (place ≡ t → ⊥) → (has t (take i places) && test t) ≡ (has t (take (i + 1) places) && test t)
-      by t (inl e) = let off : test t ≡ false = ap test (sym e) ∙ k in ap (λ c. has t (take i places) && c) off ∙ sym (none (has t (take i places))) ∙ sym (here t e ∙ off)
-      by t (inr ne) = sym (other t ne)
+      by : (t : ℕ) → t < length xs → (t / 64 ≡ place) ⊎ (t / 64 ≡ place → ⊥) → (eqb (t / 64) place && ltb t u) ≡ eqb (t / 64) place
+      by t l (inl e) = ap (λ c. c && ltb t u) (eq-eqb (t / 64) place e) ∙ lt-ltb t u (past t l e) ∙ sym (eq-eqb (t / 64) place e)
+      by t l (inr ne) = ap (λ c. c && ltb t u) (ne_eqb (t / 64) place ne) ∙ sym (ne_eqb (t / 64) place ne)

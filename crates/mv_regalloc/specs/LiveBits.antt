@@ -1,12 +1,17 @@
--- A set of temporaries by its places, and as a bit for each temporary.
-use Rattle.std.specs.Prelude.{ℕ, ◌≡◌, ◌<◌, true, List, map}
+-- A set of temporaries in words of 64 bits, and as a bit for each temporary.
+use Rattle.std.specs.Prelude.{ℕ, ◌≡◌, ◌/◌, ◌%◌, Bool, List, map, eqb, slice_index}
 use Rattle.std.specs.List.{range_with_len}
-use Rattle.mv_regalloc.specs.Scan.{has}
+use Rattle.std.specs.Int.{bit_at}
 use Rattle.mv_regalloc.specs.Rows.{Bits}
 
--- so many bits, of which those at the places are set
-abbrev pub bits_at : ℕ → List ℕ → Bits
-bits_at n places = map (λ t. has t places) (range_with_len 0 n)
+-- whether the bit of a temporary is set in the word that has it
+unfoldable pub in_word : ℕ → ℕ → Bool
+in_word word t = eqb (bit_at word (t % 64)) 1
 
-pub record AreBelow (n : ℕ) (places : List ℕ) : Type 0 where
-  pub below : (t : ℕ) → has t places ≡ true → t < n
+-- the same of words, of which those past the end are 0
+abbrev pub word_bit : List ℕ → ℕ → Bool
+word_bit words t = in_word (slice_index words (t / 64)) t
+
+-- the bits of so many temporaries
+abbrev pub bits_of : ℕ → List ℕ → Bits
+bits_of n words = map (λ t. word_bit words t) (range_with_len 0 n)

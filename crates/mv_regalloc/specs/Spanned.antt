@@ -1,8 +1,18 @@
 -- The spans of temporaries as they are counted from the end of some code.
-use Rattle.std.specs.Prelude.{ℕ, suc, ◌≡◌, ◌<◌, Bool, true, cond, List, [], ◌∷◌, ◌++◌, length, map, slice_index, slice_set, zero}
+use Rattle.std.specs.Prelude.{ℕ, suc, ◌≡◌, ◌<◌, Bool, true, cond, List, [], ◌∷◌, ◌++◌, length, map, slice_index, slice_set, replicate, zero}
 use Rattle.mv_ir.specs.Live.{mark_at, any, marks_length}
-use Rattle.mv_regalloc.specs.declared.spans.Spans.{Spans}
 use Rattle.mv_regalloc.specs.Rows.{Bits}
+
+-- for each temporary how many positions there are from its first one on, or 0 where it has none, and how many there
+-- are behind its last one; of so many positions
+pub record SpanTable : Type 0 where
+  pub positions : ℕ
+  pub begins : List ℕ
+  pub ends : List ℕ
+
+-- those of n temporaries over no positions
+abbrev pub no_spans : ℕ → SpanTable
+no_spans n = record { positions = 0; begins = replicate n 0; ends = replicate n 0 }
 
 -- a temporary's marks
 abbrev pub column : ℕ → List Bits → List Bool
@@ -19,7 +29,7 @@ behind_last [] = 0
 behind_last (x ∷ xs) = cond (any xs) (behind_last xs) (cond x (marks_length xs) 0)
 
 -- the spans of n temporaries over some rows
-pub record Spanned (n : ℕ) (rows : List Bits) (s : Spans) : Type 0 where
+pub record Spanned (n : ℕ) (rows : List Bits) (s : SpanTable) : Type 0 where
   pub positions : s.positions ≡ length rows
   pub begins_long : length s.begins ≡ n
   pub ends_long : length s.ends ≡ n
@@ -27,11 +37,11 @@ pub record Spanned (n : ℕ) (rows : List Bits) (s : Spans) : Type 0 where
   pub ends : (t : ℕ) → t < n → slice_index s.ends t ≡ behind_last (column t rows)
 
 -- the second spans have some more rows before those of the first
-pub record Adds (rows : List Bits) (s s' : Spans) : Type 0 where
+pub record Adds (rows : List Bits) (s s' : SpanTable) : Type 0 where
   pub adds : (n : ℕ) (rest : List Bits) → Spanned n rest s → Spanned n (rows ++ rest) s'
 
 -- the spans of the first n temporaries by their marks
-pub record AreSpansOf (marks : ℕ → List Bool) (n : ℕ) (s : Spans) : Type 0 where
+pub record AreSpansOf (marks : ℕ → List Bool) (n : ℕ) (s : SpanTable) : Type 0 where
   pub positions : (t : ℕ) → s.positions ≡ marks_length (marks t)
   pub begins_long : length s.begins ≡ n
   pub ends_long : length s.ends ≡ n

@@ -1,50 +1,43 @@
-// The temporaries that are live at a place: only those are held, so that a set takes as much memory as is live at once.
+// The temporaries that are live at a place: a bit each, so that sets are copied and joined 64 temporaries at a time.
 
-ghost use Rattle.std.specs.Prelude.{ℕ, ◌≡◌, ◌||◌, false, true, not, eqb, IfOk, OnOk, OnErr, replicate, slice_set};
-ghost use Rattle.std.specs.List.{filter};
+ghost use Rattle.std.specs.Prelude.{ℕ, ◌≡◌, ◌≤◌, ◌/◌, ◌*◌, ◌||◌, false, true, IfOk, OnOk, replicate, slice_set};
 ghost use Rattle.mv_ir.specs.Live.{mark_at};
-ghost use Rattle.mv_regalloc.specs.Scan.{has};
+ghost use Rattle.mv_regalloc.specs.LiveBits.{in_word, word_bit};
 ghost use Rattle.mv_regalloc.specs.Rows.{either_bits, put_bit};
 
+use crate::words::{below, clear_bit, grow, set_bit, word_at};
 use std::alloc::{AllocError, Global};
 use std::marker::Model;
 
-/// A set of temporaries below a bound, which a contract sees as a bit for each temporary. The places are kept in
-/// order, so that one is found by halves.
+/// A set of temporaries below a bound, which a contract sees as a bit for each temporary. Words behind the last one
+/// that is needed don't stand.
 #[derive(Drop)]
 pub struct LiveSet {
     temps: usize,
-    places: Vec<u32>,
+    words: Vec<u64>,
 }
 
 impl Model for LiveSet {
     ghost use Rattle.std.specs.Prelude.{List, Bool};
-    ghost use Rattle.mv_regalloc.specs.LiveBits.{bits_at, AreBelow};
+    ghost use Rattle.mv_regalloc.specs.LiveBits.{bits_of};
 
     ghost Value = { List Bool };
 
-    ghost view = { λ s. bits_at s.temps s.places.items };
-
-    ghost invariant = { λ s. AreBelow s.temps s.places.items };
+    ghost view = { λ s. bits_of s.temps s.words.items };
 }
 
-// Puts a temporary among others.
-fn put(places: &mut Vec<u32>, temp: u32) -> Result<(), AllocError>
-    ensures ok { OnOk result ((t : ℕ) → has t places.new.items ≡ (eqb temp t || has t places.old.items)) }
-    ensures err { OnErr result (places.new.items ≡ places.old.items) }
+// Sets the bits of words that another set has.
+fn or_words(words: &mut Vec<u64>, others: &LiveSet) -> Result<(), AllocError>
+    ensures { OnOk result (
+        (t : ℕ) → word_bit words.new.items t ≡ (word_bit words.old.items t || mark_at others.now t)
+        ) }
 {
-    match places.as_slice().binary_search(&temp) {
-        Ok(_) => {}
-        Err(place) => places.insert(place, temp)?,
+    let count = others.count();
+    grow(words, count)?;
+    for place in 0..count {
+        words[place] |= others.word(place);
     }
     Ok(())
-}
-
-// Takes a temporary from others.
-fn take(places: &mut Vec<u32>, temp: u32)
-    ensures { places.new.items ≡ filter (λ p. not (eqb p temp)) places.old.items }
-{
-    places.retain(|place| *place != temp);
 }
 
 impl LiveSet {
@@ -54,7 +47,7 @@ impl LiveSet {
     {
         LiveSet {
             temps,
-            places: Vec::new(alloc),
+            words: Vec::new(alloc),
         }
     }
 
@@ -64,15 +57,22 @@ impl LiveSet {
     {
         Ok(LiveSet {
             temps: self.temps,
-            places: Vec::from_slice(alloc, self.places.as_slice())?,
+            words: Vec::from_slice(alloc, self.words.as_slice())?,
         })
     }
 
-    /// The temporaries that are set.
-    pub fn places(&self) -> &[u32]
-        ensures { (t : ℕ) → has t result.now ≡ mark_at self.now t }
+    /// The bits of 64 temporaries, from 64 times the place on.
+    pub fn word(&self, place: usize) -> u64
+        ensures { (t : ℕ) → t / 64 ≡ place → in_word result t ≡ mark_at self.now t }
     {
-        self.places.as_slice()
+        below(word_at(self.words.as_slice(), place), place, self.temps)
+    }
+
+    /// Behind so many words no bit is set.
+    pub fn count(&self) -> usize
+        ensures { (t : ℕ) → result ≤ t / 64 → mark_at self.now t ≡ false }
+    {
+        self.words.len()
     }
 
     /// A temporary past the end has no bit.
@@ -80,7 +80,7 @@ impl LiveSet {
         ensures { OnOk result (self.new ≡ slice_set self.old temp true) }
     {
         if (temp as usize) < self.temps {
-            put(&mut self.places, temp)?;
+            set_bit(&mut self.words, temp)?;
         }
         Ok(())
     }
@@ -88,7 +88,7 @@ impl LiveSet {
     pub fn remove(&mut self, temp: u32)
         ensures { self.new ≡ slice_set self.old temp false }
     {
-        take(&mut self.places, temp);
+        clear_bit(&mut self.words, temp);
     }
 
     pub fn insert_some(&mut self, temp: Option<u32>) -> Result<(), AllocError>
@@ -112,9 +112,6 @@ impl LiveSet {
     pub fn join(&mut self, others: &LiveSet) -> Result<(), AllocError>
         ensures { OnOk result (self.new ≡ either_bits self.old others.now) }
     {
-        for place in others.places() {
-            self.insert(*place)?;
-        }
-        Ok(())
+        or_words(&mut self.words, others)
     }
 }

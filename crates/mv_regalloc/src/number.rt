@@ -8,7 +8,8 @@ ghost use Rattle.mv_regalloc.specs.Spanned.{AreSpansOf};
 ghost use Rattle.mv_regalloc.specs.Tracked.{Tracks, IsNumbered, end_of, interval_from, AreFirsts};
 
 use crate::allot::allot;
-use crate::spans::Spans;
+use crate::ends::Ends;
+use crate::table::Spans;
 use mv_ir::body::Body;
 use mv_num::list::List;
 use std::alloc::{AllocError, Global};
@@ -20,33 +21,24 @@ pub struct Numbering {
     pub used: u32,
 }
 
-fn item(items: &List<u64>, temp: u32) -> u64
-    ensures { result ≡ slice_index items.now temp }
-{
-    match items.get(temp as usize) {
-        Some(item) => *item,
-        None => 0,
-    }
-}
-
 // The parameters begin at the start, so each gets its own number.
 fn number_params(
     body: &Body,
     spans: &Spans,
-    ends: &mut Vec<u64>,
+    ends: &mut Ends,
     numbers: &mut List<u32>,
 ) -> Result<(), AllocError>
     requires spans { AreSpansOf (all_marks body.now) body.now.temps spans.now }
     requires params { body.now.params ≤ body.now.temps }
     requires known { length numbers.old ≡ body.now.temps }
     ensures tracks { OnOk result (
-        Tracks [] ends.old.items numbers.old →
-        Tracks (given (all_marks body.now) body.now.params) ends.new.items numbers.new
+        Tracks [] ends.old numbers.old →
+        Tracks (given (all_marks body.now) body.now.params) ends.new numbers.new
         ) }
     ensures length { length numbers.new ≡ length numbers.old }
 {
     for temp in 0..body.params {
-        let end = spans.positions.saturating_sub(item(&spans.ends, temp));
+        let end = spans.positions().saturating_sub(spans.end(temp));
         allot(ends, numbers, temp, 0, end)?;
     }
     Ok(())
@@ -85,11 +77,11 @@ fn firsts(alloc: Global, body: &Body, spans: &Spans) -> Result<List<List<u32>>, 
     requires params { body.now.params ≤ body.now.temps }
     ensures { IfOk result (λ lists. AreFirsts body.now body.now.temps spans.now.positions lists) }
 {
-    let mut lists = empty_lists(alloc, spans.positions as usize)?;
+    let mut lists = empty_lists(alloc, spans.positions() as usize)?;
     for temp in body.params..body.temps {
-        let begin = item(&spans.begins, temp);
+        let begin = spans.begin(temp);
         if begin > 0 {
-            let at = spans.positions.saturating_sub(begin);
+            let at = spans.positions().saturating_sub(begin);
             push_at(alloc, &mut lists, at as usize, temp)?;
         }
     }
@@ -101,19 +93,19 @@ fn number_at(
     temps: &[u32],
     spans: &Spans,
     at: u64,
-    ends: &mut Vec<u64>,
+    ends: &mut Ends,
     numbers: &mut List<u32>,
 ) -> Result<(), AllocError>
     requires known { EachIndex temps.now (λ k. slice_index temps.now k < length numbers.old) }
     ensures tracks { OnOk result (
         (done : List Placed) → EachIndex temps.now (λ k. at < end_of spans.now (slice_index temps.now k)) →
-        Tracks done ends.old.items numbers.old →
-        Tracks (scan done (map (interval_from spans.now at) temps.now)) ends.new.items numbers.new
+        Tracks done ends.old numbers.old →
+        Tracks (scan done (map (interval_from spans.now at) temps.now)) ends.new numbers.new
         ) }
     ensures length { length numbers.new ≡ length numbers.old }
 {
     for temp in temps {
-        let end = spans.positions.saturating_sub(item(&spans.ends, *temp));
+        let end = spans.positions().saturating_sub(spans.end(*temp));
         allot(ends, numbers, *temp, at, end)?;
     }
     Ok(())
@@ -126,7 +118,7 @@ pub fn number(alloc: Global, body: &Body, spans: &Spans) -> Result<Numbering, Al
     requires params { body.now.params ≤ body.now.temps }
     ensures { IfOk result (λ numbering. IsNumbered body.now numbering) }
 {
-    let mut ends = Vec::new(alloc);
+    let mut ends = Ends::new(alloc);
     let mut numbers = List::from_vec(vec![in alloc; 0; body.temps as usize]?);
     number_params(body, spans, &mut ends, &mut numbers)?;
     let lists = firsts(alloc, body, spans)?;

@@ -1,7 +1,7 @@
 // The first and the last position of each temporary: one walk from the end of a body to its start.
 
-ghost use Rattle.std.specs.Prelude.{ℕ, ◌≡◌, ◌<◌, ◌&&◌, ◌∷◌, [], true, false, cond, eqb, map, length, slice_index, replicate, IfOk, OnOk};
-ghost use Rattle.mv_ir.specs.Live.{mark_at, all_marks};
+ghost use Rattle.std.specs.Prelude.{◌≡◌, ◌∷◌, [], true, map, IfOk, OnOk};
+ghost use Rattle.mv_ir.specs.Live.{all_marks};
 ghost use Rattle.mv_regalloc.specs.Rows.{sets, with_reads, either_bits, put_bit, live_before, rows_in_order, stm_rows};
 ghost use Rattle.mv_regalloc.specs.Spanned.{Adds, AreSpansOf, with_params};
 
@@ -9,81 +9,12 @@ use crate::levels::Levels;
 use crate::live::{live_loop, live_stm};
 use crate::live_set::LiveSet;
 use crate::reads::read_tree;
+use crate::table::Spans;
 use mv_ir::body::Body;
 use mv_ir::stm::Stm;
 use mv_ir::tree::Tree;
 use mv_num::list::List;
 use std::alloc::{AllocError, Global};
-
-/// For each temporary how many positions there are from its first one on, or 0 where it has none, and how many
-/// there are behind its last one; of as many positions as have been walked over.
-#[derive(Drop)]
-pub struct Spans {
-    pub positions: u64,
-    pub begins: List<u64>,
-    pub ends: List<u64>,
-}
-
-fn zeros(alloc: Global, count: usize) -> Result<List<u64>, AllocError>
-    ensures { IfOk result (λ items. items ≡ replicate count 0) }
-{
-    Ok(List::from_vec(vec![in alloc; 0; count]?))
-}
-
-// Puts a value at each place that a row marks.
-fn put_marked(items: &mut List<u64>, row: &LiveSet, value: u64)
-    ensures length { length items.new ≡ length items.old }
-    ensures items { (t : ℕ) → t < length items.old →
-        slice_index items.new t ≡ cond (mark_at row.now t) value (slice_index items.old t) }
-{
-    for place in row.places() {
-        let place = *place as usize;
-        if place < items.len() {
-            items.set(place, value);
-        }
-    }
-}
-
-// Puts a value at each place that a row marks and where the other list has 0.
-fn put_first(items: &mut List<u64>, others: &List<u64>, row: &LiveSet, value: u64)
-    ensures length { length items.new ≡ length items.old }
-    ensures items { (t : ℕ) → t < length items.old →
-        slice_index items.new t ≡
-        cond (mark_at row.now t && eqb (slice_index others.now t) 0) value (slice_index items.old t) }
-{
-    for place in row.places() {
-        let place = *place as usize;
-        if place < items.len() && is_zero(others, place) {
-            items.set(place, value);
-        }
-    }
-}
-
-fn is_zero(items: &List<u64>, place: usize) -> bool
-    ensures { result ≡ eqb (slice_index items.now place) 0 }
-{
-    match items.get(place) {
-        Some(item) => *item == 0,
-        None => true,
-    }
-}
-
-impl Spans {
-    /// One position more before the others, at which a row marks temporaries. A body's positions are fewer than
-    /// 2^64, since each takes memory.
-    pub fn mark(&mut self, row: &LiveSet) -> Result<(), AllocError>
-        ensures { OnOk result (Adds (row.now ∷ []) self.old self.new) }
-    {
-        let behind = self.positions;
-        if behind == u64::MAX {
-            return Err(AllocError);
-        }
-        put_first(&mut self.ends, &self.begins, row, behind);
-        put_marked(&mut self.begins, row, behind + 1);
-        self.positions = behind + 1;
-        Ok(())
-    }
-}
 
 /// Walks over some code from its end, as `live_code` does, and adds its positions to the spans.
 #[cycle(spans)]
@@ -241,11 +172,7 @@ pub fn spans_of(alloc: Global, body: &Body) -> Result<Spans, AllocError>
     ensures { IfOk result (λ spans. AreSpansOf (all_marks body.now) body.now.temps spans) }
 {
     let temps = body.temps as usize;
-    let mut spans = Spans {
-        positions: 0,
-        begins: zeros(alloc, temps)?,
-        ends: zeros(alloc, temps)?,
-    };
+    let mut spans = Spans::none(alloc, temps)?;
     let mut bits = LiveSet::none(alloc, temps);
     let mut levels = Levels::new(alloc, temps);
     mark_code(alloc, &body.code, &mut bits, &mut levels, &mut spans)?;

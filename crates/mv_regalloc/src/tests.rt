@@ -86,9 +86,11 @@ fn loop_with_a_value_carried_round(rt: HostRuntime) {
     let alloc = rt.alloc();
     let body = carried_round(&rt, alloc);
     let spans = spans_of(alloc, &body).expect(&rt, "memory");
-    assert_eq!(rt; spans.positions, 13);
-    assert_eq!(rt; spans.begins.as_slice(), &[13, 12, 11, 7, 5][..]);
-    assert_eq!(rt; spans.ends.as_slice(), &[11, 2, 1, 0, 4][..]);
+    assert_eq!(rt; spans.positions(), 13);
+    let begins = [0, 1, 2, 3, 4].map(|temp| spans.begin(temp));
+    assert_eq!(rt; begins, [13, 12, 11, 7, 5]);
+    let ends = [0, 1, 2, 3, 4].map(|temp| spans.end(temp));
+    assert_eq!(rt; ends, [11, 2, 1, 0, 4]);
     let numbering = numbered(alloc, &body).expect(&rt, "memory");
     assert_eq!(rt; numbering.numbers.as_slice(), &[0, 1, 0, 2, 3][..]);
     assert_eq!(rt; numbering.used, 4);

@@ -14,11 +14,11 @@ loop-temp-preserved c =
     let lists = c.loop-temp.lists in
     let low : b.params ≤ t = omega arith in
     let high : t < b.temps = omega arith in
-    let begin = c.item-begin.ensures in
+    let begin = c.begin-begin.ensures in
     elim c.if-begin-gt0.branch [
       | then-begin-gt0+in_ok-push_at w ↦
           let some : 0 < slice_index s.begins t = (let k = w.if-begin-gt0.true in omega (arith, begin, k)) in
-          let place : w.saturating_sub-at.result ≡ s.positions - slice_index s.begins t = w.saturating_sub-at.ensures ∙ ap (λ v. s.positions - v) begin in
+          let place : w.saturating_sub-at.result ≡ s.positions - slice_index s.begins t = w.saturating_sub-at.ensures ∙ ap (λ v. v - c.begin-begin.result) w.positions-then-begin-gt0.ensures ∙ ap (λ v. s.positions - v) begin in
           subst (AreFirsts b (t + 1) s.positions) (sym (w.lists-is ∙ w.in_ok-push_at.ensures ∙ ap (λ k. slice_set lists k (slice_index_or lists k [] ++ t ∷ [])) place))
           (firsts_more b s h t low high lists some c.loop-temp.invariant)
       | else-begin-gt0 w ↦

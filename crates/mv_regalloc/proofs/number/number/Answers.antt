@@ -45,7 +45,7 @@ loop-at-preserved c =
     c.in_ok-lists.ensures.items at (omega (arith, c.loop-at-test.true, all, long)) in
     record {
       tracks =
-          subst (λ d. Tracks d c.number_at.new.ends.items c.number_at.new.numbers)
+          subst (λ d. Tracks d c.number_at.new.ends c.number_at.new.numbers)
           (ap (scan (scan first (by_first marks ts 0 at))) (firsts_intervals marks body.temps s c.requires.spans at body.params m low c.as_slice.result.now items) ∙ position_more marks first ts at)
           (c.in_ok-number_at.ensures.tracks (scan first (by_first marks ts 0 at)) (firsts_before marks body.temps s c.requires.spans at body.params m low c.as_slice.result.now items) c.loop-at.invariant.tracks);
       long = c.number_at.ensures.length ∙ c.loop-at.invariant.long;
@@ -60,8 +60,8 @@ returns c =
     let lists = ap (λ l. length l) c.as_slice-lists.ensures in
     let long = c.in_ok-lists.ensures.long in
     let all : c.loop-at.at ≡ marks_length (marks 0) = omega (arith, positions, lists, long) in
-    let done : Tracks (allotted body) c.loop-at.ends.items c.loop-at.numbers =
-    subst (λ k. Tracks (scan (given marks body.params) (by_first marks ts 0 k)) c.loop-at.ends.items c.loop-at.numbers) all c.loop-at.invariant.tracks in
+    let done : Tracks (allotted body) c.loop-at.ends c.loop-at.numbers =
+    subst (λ k. Tracks (scan (given marks body.params) (by_first marks ts 0 k)) c.loop-at.ends c.loop-at.numbers) all c.loop-at.invariant.tracks in
     record {
       used = (let k = done.long in omega (arith, k));
       numbers = λ t l. done.numbered t (let k = c.loop-at.invariant.long in omega (arith, k, l));

@@ -18,12 +18,12 @@ loop-temp-preserved c =
     let t = c.loop-temp.temp in
     let low : t < n = omega arith in
     let marked : mark_at (marks t) 0 ≡ true = or_right (live_at_start t body.code) (ltb t body.params) (lt-ltb t body.params c.loop-temp-test.true) in
-    let end : c.saturating_sub-end.result ≡ s.positions - slice_index s.ends t = c.saturating_sub-end.ensures ∙ ap (λ v. s.positions - v) c.item.ensures in
+    let end : c.saturating_sub-end.result ≡ s.positions - slice_index s.ends t = c.saturating_sub-end.ensures ∙ ap (λ v. v - c.end.result) c.positions.ensures ∙ ap (λ v. s.positions - v) c.end.ensures in
     let later = param_before marks n s h t low marked in
     record {
       tracks = λ k.
           let more = c.in_ok-allot.ensures.tracks (given marks t) (omega (arith, end, later)) (c.loop-temp.invariant.tracks k) in
-          param_placed marks n s h t low marked c.allot.new.ends.items c.allot.new.numbers
-          (subst (λ v. Tracks (placed (given marks t) (interval t 0 (v - 1)) ∷ given marks t) c.allot.new.ends.items c.allot.new.numbers) end more);
+          param_placed marks n s h t low marked c.allot.new.ends c.allot.new.numbers
+          (subst (λ v. Tracks (placed (given marks t) (interval t 0 (v - 1)) ∷ given marks t) c.allot.new.ends c.allot.new.numbers) end more);
       long = c.allot.ensures.length ∙ c.loop-temp.invariant.long;
     }

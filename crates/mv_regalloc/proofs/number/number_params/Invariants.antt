@@ -6,6 +6,6 @@ use Rattle.mv_regalloc.proofs.number.number_params.Given as goal
 
 abbrev pub invariant-loop-temp : goal.invariant-loop-temp
 invariant-loop-temp l = record {
-  tracks : Tracks [] l.fn.ends.items l.fn.numbers → Tracks (given (all_marks l.body) l.temp) l.ends.items l.numbers;
+  tracks : Tracks [] l.fn.ends l.fn.numbers → Tracks (given (all_marks l.body) l.temp) l.ends l.numbers;
   long : length l.numbers ≡ length l.fn.numbers;
 }

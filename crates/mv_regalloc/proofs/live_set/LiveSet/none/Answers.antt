@@ -1,7 +1,9 @@
-use Rattle.std.proofs.Common.{ap, ◌∙◌}
-use Rattle.mv_regalloc.specs.LiveBits.{bits_at}
+use Rattle.std.proofs.Common.{ap, ◌∙◌, []}
+use Rattle.mv_regalloc.specs.LiveBits.{in_word, bits_of}
+use Rattle.std.specs.Prelude.{slice_index}
+use Rattle.mv_regalloc.proofs.WordBits.{none_in}
 use Rattle.mv_regalloc.proofs.LiveSets.{bits_none}
 use Rattle.mv_regalloc.proofs.live_set.LiveSet.none.Goals as goal
 
 pub returns : goal.returns
-returns c = ap (bits_at c.args.temps) c.new.ensures.items ∙ bits_none c.args.temps
+returns c = ap (bits_of c.args.temps) c.new.ensures.items ∙ bits_none c.args.temps [] (λ t. none_in t)

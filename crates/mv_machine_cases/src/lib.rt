@@ -1,0 +1,5 @@
+//! Short pieces of code, and what the parts of the machine side make of them, by outside tools and by hand.
+#![tactic(auto)]
+
+#[cfg(test)]
+mod asm;

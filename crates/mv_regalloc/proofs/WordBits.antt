@@ -1,0 +1,121 @@
+-- Bits in words: what an edit of a word does to them.
+use Rattle.std.proofs.Common.{arith, ◌≡◌, ℕ, zero, suc, ◌+◌, ◌-◌, ◌*◌, ◌/◌, ◌%◌, ◌^◌, ◌<◌, ◌≤◌, min, max, Bool, true, false, cond, eqb, ltb, ◌&&◌, ◌||◌, List, [], ◌∷◌, length, get_or, refl, sym, ap, ◌∙◌, ◌⊎◌, inl, inr, w64, bit_or, bit_and}
+use Rattle.std.specs.Prelude.{slice_set, slice_index}
+use Rattle.std.specs.Int.{bit_at, bit_not}
+use Rattle.std.proofs.lemmas.List.{get_or-set_same, get_or-set_other, get_or_past}
+use Rattle.std.proofs.lemmas.Bool.{cases_eq, cases_lt, eq-eqb, ne_eqb, lt-ltb, le-ltb}
+use Rattle.std.proofs.lemmas.Nat.{one_shl}
+use Rattle.std.proofs.lemmas.Nat.Bits.{bit_at_set_same, bit_at_set_other, bit_at_clear_same, bit_at_clear_other, bit_at_or, bit_at_and, bit_at-lt, bit_at-zero, bit_at_ones, bit_at_ones_above}
+use Rattle.mv_regalloc.specs.LiveBits.{in_word, word_bit}
+
+-- ---- lists of words
+
+pub at_any : (xs : List ℕ) (i d e : ℕ) → i < length xs → get_or xs i d ≡ get_or xs i e
+at_any [] i d e l = absurd (omega (arith, l))
+at_any (x ∷ xs) zero d e l = refl
+at_any (x ∷ xs) (suc i) d e l = at_any xs i d e (omega (arith, l))
+
+pub word_put : (ws : List ℕ) (place v : ℕ) → place < length ws → (t : ℕ) → t / 64 ≡ place → word_bit (slice_set ws place v) t ≡ in_word v t
+word_put ws place v l t e = ap (λ k. in_word (get_or (slice_set ws place v) k 0) t) e ∙ ap (λ w. in_word w t) (get_or-set_same ws place v 0 l)
+
+pub word_stays : (ws : List ℕ) (place v : ℕ) (t : ℕ) → (t / 64 ≡ place → ⊥) → word_bit (slice_set ws place v) t ≡ word_bit ws t
+word_stays ws place v t ne = ap (λ w. in_word w t) (get_or-set_other ws place (t / 64) v 0 ne)
+
+pub words_set : (ws : List ℕ) (u v : ℕ) (b : Bool) → u / 64 < length ws → ((t : ℕ) → t / 64 ≡ u / 64 → in_word v t ≡ cond (eqb u t) b (in_word (slice_index ws (u / 64)) t)) → (t : ℕ) → word_bit (slice_set ws (u / 64) v) t ≡ cond (eqb u t) b (word_bit ws t)
+words_set ws u v b l h t = by (cases_eq (t / 64) (u / 64))
+  where
+    by : (t / 64 ≡ u / 64) ⊎ (t / 64 ≡ u / 64 → ⊥) → word_bit (slice_set ws (u / 64) v) t ≡ cond (eqb u t) b (word_bit ws t)
+    by (inl e) = word_put ws (u / 64) v l t e ∙ h t e ∙ ap (λ k. cond (eqb u t) b (in_word (slice_index ws k) t)) (sym e)
+    by (inr ne) = word_stays ws (u / 64) v t ne ∙ ap (λ c. cond c b (word_bit ws t)) (sym (ne_eqb u t (λ e. ne (ap (λ k. k / 64) (sym e)))))
+
+-- ---- one word
+
+pub bit_set : (w u t : ℕ) → t / 64 ≡ u / 64 → in_word (bit_or w (1 * 2 ^ (u % 64) % 2 ^ 64)) t ≡ cond (eqb u t) true (in_word w t)
+unfolding in_word
+bit_set w u t e = by (cases_eq u t)
+  where
+    low : u % 64 < 64
+    low = omega arith
+
+    by : (u ≡ t) ⊎ (u ≡ t → ⊥) → eqb (bit_at (bit_or w (1 * 2 ^ (u % 64) % 2 ^ 64)) (t % 64)) 1 ≡ cond (eqb u t) true (eqb (bit_at w (t % 64)) 1)
+    by (inl s) =
+        ap (λ k. eqb (bit_at (bit_or w (1 * 2 ^ (u % 64) % 2 ^ 64)) (k % 64)) 1) (sym s) ∙ ap (λ v. eqb v 1) (bit_at_set_same w64 w (u % 64) low) ∙ ap (λ c. cond c true (eqb (bit_at w (t % 64)) 1)) (sym (eq-eqb u t s))
+    by (inr n) =
+        ap (λ v. eqb v 1) (bit_at_set_other w64 w (u % 64) low (t % 64) (λ s. n (omega (arith, s, e)))) ∙ ap (λ c. cond c true (eqb (bit_at w (t % 64)) 1)) (sym (ne_eqb u t n))
+
+pub bit_cleared : (w u t : ℕ) → t / 64 ≡ u / 64 → in_word (bit_and w (bit_not w64 (1 * 2 ^ (u % 64) % 2 ^ 64))) t ≡ cond (eqb u t) false (in_word w t)
+unfolding in_word
+bit_cleared w u t e = by (cases_eq u t)
+  where
+    low : u % 64 < 64
+    low = omega arith
+
+    by : (u ≡ t) ⊎ (u ≡ t → ⊥) → eqb (bit_at (bit_and w (bit_not w64 (1 * 2 ^ (u % 64) % 2 ^ 64))) (t % 64)) 1 ≡ cond (eqb u t) false (eqb (bit_at w (t % 64)) 1)
+    by (inl s) =
+        ap (λ k. eqb (bit_at (bit_and w (bit_not w64 (1 * 2 ^ (u % 64) % 2 ^ 64))) (k % 64)) 1) (sym s) ∙ ap (λ v. eqb v 1) (bit_at_clear_same w64 w (u % 64) low) ∙ ap (λ c. cond c false (eqb (bit_at w (t % 64)) 1)) (sym (eq-eqb u t s))
+    by (inr n) =
+        ap (λ v. eqb v 1) (bit_at_clear_other w64 w (u % 64) low (t % 64) (omega arith) (λ s. n (omega (arith, s, e)))) ∙ ap (λ c. cond c false (eqb (bit_at w (t % 64)) 1)) (sym (ne_eqb u t n))
+
+pub bits_either : (a b t : ℕ) → in_word (bit_or a b) t ≡ (in_word a t || in_word b t)
+unfolding in_word
+bits_either a b t = ap (λ v. eqb v 1) (bit_at_or a b (t % 64)) ∙ by (bit_at a (t % 64)) (bit_at b (t % 64)) (bit_at-lt a (t % 64)) (bit_at-lt b (t % 64))
+  where
+    by : (x y : ℕ) → x < 2 → y < 2 → eqb (max x y) 1 ≡ (eqb x 1 || eqb y 1)
+    by zero zero l m = refl
+    by zero (suc zero) l m = refl
+    by (suc zero) zero l m = refl
+    by (suc zero) (suc zero) l m = refl
+    by (suc (suc x)) y l m = absurd (omega (arith, l))
+    by x (suc (suc y)) l m = absurd (omega (arith, m))
+
+pub none_in : (t : ℕ) → in_word 0 t ≡ false
+unfolding in_word
+none_in t = ap (λ v. eqb v 1) (bit_at-zero (t % 64))
+
+-- ---- the words of so many bits
+
+all : (c : Bool) → c ≡ (c && true)
+all true = refl
+all false = refl
+
+none : (c : Bool) → false ≡ (c && false)
+none true = refl
+none false = refl
+
+pub below_all : (w place n t : ℕ) → place < n / 64 → t / 64 ≡ place → in_word w t ≡ (in_word w t && ltb t n)
+below_all w place n t l e = all (in_word w t) ∙ ap (λ c. in_word w t && c) (sym (lt-ltb t n (omega (arith, l, e))))
+
+pub below_none : (w place n t : ℕ) → n / 64 < place → t / 64 ≡ place → in_word 0 t ≡ (in_word w t && ltb t n)
+below_none w place n t l e = none_in t ∙ none (in_word w t) ∙ ap (λ c. in_word w t && c) (sym (le-ltb t n (omega (arith, l, e))))
+
+pub below_some : (w n t : ℕ) → t / 64 ≡ n / 64 → in_word (bit_and w (1 * 2 ^ (n % 64) % 2 ^ 64 - 1)) t ≡ (in_word w t && ltb t n)
+unfolding in_word
+below_some w n t e =
+    ap (λ m. eqb (bit_at (bit_and w (m - 1)) (t % 64)) 1) (one_shl (n % 64) 64 (omega arith)) ∙ ap (λ v. eqb v 1) (bit_at_and w (2 ^ (n % 64) - 1) (t % 64)) ∙ by (cases_lt t n)
+  where
+    one : (x : ℕ) → x < 2 → eqb (min x 1) 1 ≡ eqb x 1
+    one zero l = refl
+    one (suc zero) l = refl
+    one (suc (suc x)) l = absurd (omega (arith, l))
+
+    no : (x : ℕ) → eqb (min x 0) 1 ≡ false
+    no x = let e : min x 0 ≡ 0 = omega arith in ap (λ v. eqb v 1) e
+
+    by : (t < n) ⊎ (n ≤ t) → eqb (min (bit_at w (t % 64)) (bit_at (2 ^ (n % 64) - 1) (t % 64))) 1 ≡ (eqb (bit_at w (t % 64)) 1 && ltb t n)
+    by (inl l) =
+        ap (λ v. eqb (min (bit_at w (t % 64)) v) 1) (bit_at_ones (n % 64) (t % 64) (omega (arith, l, e))) ∙ one (bit_at w (t % 64)) (bit_at-lt w (t % 64)) ∙ all (eqb (bit_at w (t % 64)) 1) ∙ ap (λ c. eqb (bit_at w (t % 64)) 1 && c) (sym (lt-ltb t n l))
+    by (inr l) =
+        ap (λ v. eqb (min (bit_at w (t % 64)) v) 1) (bit_at_ones_above (n % 64) (t % 64) (omega (arith, l, e))) ∙ no (bit_at w (t % 64)) ∙ none (eqb (bit_at w (t % 64)) 1) ∙ ap (λ c. eqb (bit_at w (t % 64)) 1 && c) (sym (le-ltb t n l))
+
+pub one_more : (c b : Bool) → cond c true b ≡ (c || b)
+one_more true b = refl
+one_more false b = refl
+
+-- no bit is set in a word past the end
+pub words_past : (ws : List ℕ) (u t : ℕ) → length ws ≤ u / 64 → word_bit ws t ≡ cond (eqb u t) false (word_bit ws t)
+words_past ws u t l = by (cases_eq u t)
+  where
+    by : (u ≡ t) ⊎ (u ≡ t → ⊥) → word_bit ws t ≡ cond (eqb u t) false (word_bit ws t)
+    by (inl e) =
+        ap (λ w. in_word w t) (get_or_past ws (t / 64) 0 (let k = ap (λ i. i / 64) e in omega (arith, l, k))) ∙ none_in t ∙ ap (λ c. cond c false (word_bit ws t)) (sym (eq-eqb u t e))
+    by (inr ne) = ap (λ c. cond c false (word_bit ws t)) (sym (ne_eqb u t ne))

@@ -1,0 +1,80 @@
+// Bits in words: that of a temporary is in the word at a 64th of its number, and a word past the end is 0.
+
+ghost use Rattle.std.specs.Prelude.{ℕ, ◌≡◌, ◌≤◌, ◌+◌, ◌/◌, ◌||◌, ◌&&◌, false, cond, eqb, ltb, length, min, slice_index, OnOk};
+ghost use Rattle.mv_regalloc.specs.LiveBits.{in_word, word_bit};
+
+use std::alloc::AllocError;
+
+/// The word at a place.
+pub fn word_at(words: &[u64], place: usize) -> u64
+    ensures { result ≡ slice_index words.now place }
+{
+    match words.get(place) {
+        Some(word) => *word,
+        None => 0,
+    }
+}
+
+/// Whether the bit of a temporary is set in the word that has it.
+#[tactic(auto, unfolding(crate::specs::LiveBits::in_word))]
+pub fn has_bit(word: u64, temp: usize) -> bool
+    ensures { result ≡ in_word word temp }
+{
+    word >> (temp % 64) & 1 == 1
+}
+
+/// Makes so many words of them, with further ones of 0.
+pub fn grow(words: &mut Vec<u64>, count: usize) -> Result<(), AllocError>
+    ensures items { (k : ℕ) → slice_index words.new.items k ≡ slice_index words.old.items k }
+    ensures long { OnOk result (count ≤ length words.new.items) }
+{
+    if words.len() < count {
+        words.resize(count, 0)?;
+    }
+    Ok(())
+}
+
+/// Sets the bit of a temporary.
+pub fn set_bit(words: &mut Vec<u64>, temp: u32) -> Result<(), AllocError>
+    ensures { OnOk result ((t : ℕ) → word_bit words.new.items t ≡ (eqb temp t || word_bit words.old.items t)) }
+{
+    let place = (temp / 64) as usize;
+    grow(words, place + 1)?;
+    words[place] |= 1 << (temp % 64);
+    Ok(())
+}
+
+/// Clears the bit of a temporary.
+pub fn clear_bit(words: &mut Vec<u64>, temp: u32)
+    ensures { (t : ℕ) → word_bit words.new.items t ≡ cond (eqb temp t) false (word_bit words.old.items t) }
+{
+    let place = (temp / 64) as usize;
+    if place < words.len() {
+        words[place] &= !(1 << (temp % 64));
+    }
+}
+
+/// The word at a place without the bits of temporaries from a bound on.
+pub fn below(word: u64, place: usize, temps: usize) -> u64
+    ensures { (t : ℕ) → t / 64 ≡ place → in_word result t ≡ (in_word word t && ltb t temps) }
+{
+    let last = temps / 64;
+    if place < last {
+        word
+    } else if place == last {
+        word & ((1 << (temps % 64)) - 1)
+    } else {
+        0
+    }
+}
+
+/// Behind the 64 places from one on, but not behind the last one.
+pub fn end_within(from: usize, places: usize) -> usize
+    ensures { result ≡ min (from + 64) places }
+{
+    if places.saturating_sub(from) < 64 {
+        places
+    } else {
+        from + 64
+    }
+}
