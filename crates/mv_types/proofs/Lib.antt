@@ -1,1 +1,4 @@
 mod OneMore
+pub mod Answers
+pub mod Ends
+pub mod Turns
