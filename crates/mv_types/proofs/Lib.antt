@@ -1,4 +1,5 @@
 mod OneMore
+mod Outlines
 pub mod Answers
 pub mod Ends
 pub mod Turns

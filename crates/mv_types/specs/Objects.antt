@@ -138,9 +138,11 @@ initialised k d name before domain l c =
     and_then (global_words d.place l d.initial s) (λ words.
     Good (record c { scope = s; objects = objects_behind c.objects name before l words (is_some d.initial) domain }))
 
--- by the domain that the declaration gives it and whether a block follows
-unfoldable pub object_judgement : Foreknown → Declarator → List ℕ → Entity → Option (List ℕ) → (block : Bool) → Contents → Judged Contents
-object_judgement k d name e domain block c =
-    let before = named name c.scope.names.here in
+-- by what its name means before it, the domain that the declaration gives it, and whether a block follows
+abbrev pub object_behind : Foreknown → Declarator → List ℕ → Entity → Option (List ℕ) → (block : Bool) → Contents → Option Meaning → Judged Contents
+object_behind k d name e domain block c before =
     and_then (type_by_rules d.place before c.objects (object_type d.place e d.initial) (is_some d.initial) block domain) (λ l.
     initialised k d name before domain l c)
+
+unfoldable pub object_judgement : Foreknown → Declarator → List ℕ → Entity → Option (List ℕ) → (block : Bool) → Contents → Judged Contents
+object_judgement k d name e domain block c = object_behind k d name e domain block c (named name c.scope.names.here)

@@ -82,7 +82,7 @@ fn all_names(alloc: Global, said: Said, items: &[Item]) -> Result<Names, AllocEr
 }
 
 /// What is known of a unit's names before its first declaration is judged.
-#[tactic(auto, unfolding(crate::specs::Foreknown::foreknown))]
+#[tactic(auto, unfolding(crate::specs::Foreknown::foreknown), using(crate::proofs::Outlines::outlined_as))]
 pub fn foreknown_of(alloc: Global, unit: &Unit) -> Result<Foreknown, AllocError>
     ensures { IfOk result (λ known. known ≡ spec.foreknown unit.now.items) }
 {

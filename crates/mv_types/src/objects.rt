@@ -335,6 +335,34 @@ pub fn domain_by(
     }
 }
 
+// Declares an object under a name, which means this before it.
+fn declare_behind(
+    alloc: Global,
+    known: &Foreknown,
+    declarator: &Declarator,
+    name: &[u8],
+    entity: Entity,
+    domain: Option<List<u32>>,
+    block: bool,
+    before: Option<Meaning>,
+    contents: &mut Contents,
+) -> Result<(), RuleError>
+    requires { before ≡ named name.now contents.old.scope.names.here }
+    ensures { IsContinued (spec.object_behind known.now declarator.now name.now entity domain block contents.old before) result contents.new }
+{
+    let initial = &declarator.initial;
+    let local = type_by_rules(
+        declarator.place,
+        before,
+        &contents.objects,
+        entity,
+        initial,
+        block,
+        &domain,
+    )?;
+    initialise(alloc, known, declarator, name, before, domain, local, contents)
+}
+
 /// Declares an object under a name, with the domain that this declaration gives it and whether a block follows.
 #[tactic(auto, unfolding(crate::specs::Objects::object_judgement))]
 pub fn declare(
@@ -350,14 +378,7 @@ pub fn declare(
     ensures { IsContinued (spec.object_judgement known.now declarator.now name.now entity domain block contents.old) result contents.new }
 {
     let before = contents.scope.names.here.find(name);
-    let local = type_by_rules(
-        declarator.place,
-        before,
-        &contents.objects,
-        entity,
-        &declarator.initial,
-        block,
-        &domain,
-    )?;
-    initialise(alloc, known, declarator, name, before, domain, local, contents)
+    declare_behind(
+        alloc, known, declarator, name, entity, domain, block, before, contents,
+    )
 }
