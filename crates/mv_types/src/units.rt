@@ -3,11 +3,13 @@
 ghost use Rattle.std.specs.Prelude.{◌≡◌, IfOk, None, replicate};
 ghost use Rattle.std.specs.List.{list_any};
 ghost use Rattle.mv_judge.specs.Judged.{IsJudged, and_then};
-ghost use Rattle.mv_declare.specs.Turns.{through};
+ghost use Rattle.mv_declare.specs.declared.attributes.Position.TheVariants as position;
+ghost use Rattle.mv_declare.specs.Specifiers.{specifiers};
+ghost use Rattle.mv_declare.specs.Turns.{through, IsBehind};
 ghost use Rattle.mv_types.specs.Contents.{nothing_declared, IsContinued};
 ghost use Rattle.mv_types.specs.Foreknown.{is_fixed};
 ghost use Rattle.mv_types.specs.Objects.{object_judgement, domain_by};
-ghost use Rattle.mv_types.specs.Units.{base_of, by_entity, named_declarator, declarator_judgement, declares_constant, holders, declares_nothing, item_judgement, program_judgement, unit_judgement};
+ghost use Rattle.mv_types.specs.Units.{base_of, by_entity, named_declarator, declarator_judgement, declares_constant, holders, declares_nothing, names_judgement, item_judgement, program_judgement, unit_judgement};
 
 use crate::contents::{Contents, Foreknown};
 use crate::foreknown::{foreknown_of, is_function, name_of};
@@ -202,6 +204,36 @@ fn declares_nothing(item: &Item) -> bool
     item.names.len() == 0 && item.specs.tags.len() == 0
 }
 
+// What the specifiers of a declaration say.
+fn specified(
+    alloc: Global,
+    known: &Foreknown,
+    item: &Item,
+    scope: &mut Scope,
+) -> Result<Specified, RuleError>
+    ensures { IsBehind (specifiers position.File (holders known.now item.now.names) item.now.specs scope.old) result scope.new }
+{
+    let holders = holders(known, item.names.as_slice());
+    specifiers(alloc, scope, Position::File, holders, &item.specs)
+}
+
+// Declares the names of a declaration.
+fn declare_names(
+    alloc: Global,
+    known: &Foreknown,
+    base: &Specified,
+    item: &Item,
+    contents: &mut Contents,
+) -> Result<(), RuleError>
+    ensures { IsContinued (names_judgement known.now base.now item.now contents.old) result contents.new }
+{
+    if declares_nothing(item) {
+        return Err(RuleError::Rule(item.specs.place, 22));
+    }
+    let names = item.names.as_slice();
+    declare_all(alloc, known, base, &item.body, names, contents)
+}
+
 #[tactic(auto, unfolding(crate::specs::Units::item_judgement))]
 fn judge_item(
     alloc: Global,
@@ -211,19 +243,8 @@ fn judge_item(
 ) -> Result<(), RuleError>
     ensures { IsContinued (item_judgement known.now item.now contents.old) result contents.new }
 {
-    let names = item.names.as_slice();
-    let holders = holders(known, names);
-    let base = specifiers(
-        alloc,
-        &mut contents.scope,
-        Position::File,
-        holders,
-        &item.specs,
-    )?;
-    if declares_nothing(item) {
-        return Err(RuleError::Rule(item.specs.place, 22));
-    }
-    declare_all(alloc, known, &base, &item.body, names, contents)
+    let base = specified(alloc, known, item, &mut contents.scope)?;
+    declare_names(alloc, known, &base, item, contents)
 }
 
 fn judge_items(
