@@ -1,5 +1,6 @@
 mod OneMore
 mod Outlines
-pub mod Answers
-pub mod Ends
-pub mod Turns
+mod Types
+mod Answers
+mod Ends
+mod Turns

@@ -27,6 +27,7 @@ use Rattle.mv_declare.specs.Turns.{Behind}
 use Rattle.mv_statement_rules.specs.Statements.{body_judgement}
 use Rattle.mv_types.specs.declared.contents.Contents.{Contents}
 use Rattle.mv_types.specs.declared.contents.Foreknown.{Foreknown}
+use Rattle.mv_types.specs.declared.functions.Before.{Before}
 use Rattle.mv_types.specs.Contents.{in_scope, with_function}
 use Rattle.mv_types.specs.Foreknown.{is_attributed, attributed_number}
 
@@ -110,11 +111,11 @@ function_of k name result params body s =
     and_then (body_judgement result body p) (λ b.
     Good (left_with name (is_attributed k name) result (length params) b.1 b.0)))
 
-abbrev pub defined : Foreknown → List ℕ → CType → List Param → Option Line → Contents → Judged Contents
-defined k name result params None c = Good c
-defined k name result params (Some body) c =
-    and_then (function_of k name result params body c.scope) (λ f.
-    Good (with_function (in_scope c f.0) (unwrap_or (place_of name k.outline.functions) 0) f.1))
+-- a block defines the function with this number
+abbrev pub defined : Foreknown → List ℕ → CType → List Param → Option Line → Option ℕ → Contents → Judged Contents
+defined k name result params None number c = Good c
+defined k name result params (Some body) number c =
+    and_then (function_of k name result params body c.scope) (λ f. Good (with_function (in_scope c f.0) (unwrap_or number 0) f.1))
 
 -- ---- a declarator that designates a function
 
@@ -122,12 +123,20 @@ abbrev pub unless_broken : Place → Option ℕ → Judged Contents → Judged C
 unless_broken place None judged = judged
 unless_broken place (Some rule) judged = Broken place rule
 
+-- what its name means before it, the known function of that name, and its number if the unit defines it
+abbrev pub before_of : Foreknown → List ℕ → Scope → Before
+before_of k name s = record { meaning = named name s.names.here; builtin = known_function name; number = place_of name k.outline.functions }
+
+abbrev pub rule_of : Declarator → (signature : ℕ) → Option Line → Contents → Before → Option ℕ
+rule_of d signature body c b =
+    broken_rule (may_declare c.scope.signatures signature (is_some body) b.meaning b.builtin) (is_some body && is_defined_at c.functions b.number)
+    (is_some d.initial)
+
+abbrev pub function_behind : Foreknown → Declarator → List ℕ → CType → (signature : ℕ) → Option Line → Contents → Before → Judged Contents
+function_behind k d name result signature body c b =
+    unless_broken d.place (rule_of d signature body c b)
+    (defined k name result (params_of d) body b.number (in_scope c (function_scope k name signature b.meaning b.builtin c.scope)))
+
 -- by the result, the number of its type and the block that follows if it is defined
 unfoldable pub function_judgement : Foreknown → Declarator → List ℕ → CType → (signature : ℕ) → Option Line → Contents → Judged Contents
-function_judgement k d name result signature body c =
-    let before = named name c.scope.names.here in
-    let known = known_function name in
-    let allowed = may_declare c.scope.signatures signature (is_some body) before known in
-    let twice = is_some body && is_defined_at c.functions (place_of name k.outline.functions) in
-    unless_broken d.place (broken_rule allowed twice (is_some d.initial))
-    (defined k name result (params_of d) body (in_scope c (function_scope k name signature before known c.scope)))
+function_judgement k d name result signature body c = function_behind k d name result signature body c (before_of k name c.scope)

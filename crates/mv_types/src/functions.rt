@@ -1,10 +1,9 @@
 // Functions (C11 6.7.6.3, 6.9.1).
 
 ghost use Rattle.std.specs.Prelude.{◌≡◌, [], ◌∷◌, IfOk, OnOk, length, Some, slice_set};
-ghost use Rattle.mv_scope.specs.Conversions.{int, same_signature};
+ghost use Rattle.mv_scope.specs.Conversions.{int, same_types, same_signature};
 ghost use Rattle.mv_scope.specs.Spaces.{named};
 ghost use Rattle.mv_judge.specs.Judged.{Good};
-ghost use Rattle.mv_outline.specs.Names.{place_of};
 ghost use Rattle.mv_declare.specs.Declarators.{signature_of};
 ghost use Rattle.mv_declare.specs.Parameters.{parameters_judgement};
 ghost use Rattle.mv_declare.specs.Turns.{IsBehind, IsLeft};
@@ -28,23 +27,47 @@ use mv_statement_rules::body::check_body;
 use std::alloc::{AllocError, Global};
 use std::mem;
 
+/// What stands for a function's name before a declarator: what it means, the known function of that name, and its number if the unit
+/// defines it.
+#[derive(Clone, Copy, PartialEq, Eq, Debug)]
+pub struct Before {
+    pub meaning: Option<Meaning>,
+    pub builtin: Option<Known>,
+    pub number: Option<u32>,
+}
+
 const INT: CType = CType::Scalar(Kind::Int);
+
+#[tactic(auto, using(crate::proofs::Types::not_none))]
+fn are_none(types: &[CType]) -> bool
+    ensures { result ≡ same_types types.now [] }
+{
+    match types {
+        [] => true,
+        [_, ..] => false,
+    }
+}
+
+fn are_one_int(types: &[CType]) -> bool
+    ensures { result ≡ same_types types.now (int ∷ []) }
+{
+    match types {
+        [] => false,
+        [first, rest @ ..] => same_type(*first, INT) && are_none(rest),
+    }
+}
 
 /// Whether a signature is `int` without parameters.
 pub fn is_plain_int(signature: &Signature) -> bool
     ensures { result ≡ same_signature signature.now (signature_of int []) }
 {
-    same_type(signature.result, INT) && signature.params.len() == 0
+    same_type(signature.result, INT) && are_none(signature.params.as_slice())
 }
 
 fn is_int_of_int(signature: &Signature) -> bool
     ensures { result ≡ same_signature signature.now (signature_of int (int ∷ [])) }
 {
-    same_type(signature.result, INT)
-        && match signature.params.as_slice() {
-            [only] => same_type(*only, INT),
-            _ => false,
-        }
+    same_type(signature.result, INT) && are_one_int(signature.params.as_slice())
 }
 
 // Whether a signature is that of a known function.
@@ -284,8 +307,7 @@ fn define(
     number: Option<u32>,
     contents: &mut Contents,
 ) -> Result<(), RuleError>
-    requires { number ≡ place_of name.now known.now.outline.functions }
-    ensures { IsContinued (spec.defined known.now name.now result_type (spec.params_of declarator.now) body.now contents.old) result contents.new }
+    ensures { IsContinued (spec.defined known.now name.now result_type (spec.params_of declarator.now) body.now number contents.old) result contents.new }
 {
     match body {
         None => Ok(()),
@@ -306,6 +328,78 @@ fn define(
     }
 }
 
+fn before_of(known: &Foreknown, name: &[u8], scope: &Scope) -> Result<Before, AllocError>
+    ensures { IfOk result (λ before. before ≡ spec.before_of known.now name.now scope.now) }
+{
+    let number = number_among(&known.outline.functions, name)?;
+    Ok(Before {
+        meaning: scope.names.here.find(name),
+        builtin: known_function(name),
+        number,
+    })
+}
+
+// The least rule that a declarator of a function breaks.
+fn rule_of(
+    declarator: &Declarator,
+    signature: u32,
+    body: &Option<Line>,
+    contents: &Contents,
+    before: Before,
+) -> Option<u8>
+    ensures { result ≡ spec.rule_of declarator.now signature body.now contents.now before }
+{
+    let block = body.is_some();
+    let signatures = &contents.scope.signatures;
+    let allowed = may_declare(signatures, signature, block, before.meaning, before.builtin);
+    let twice = block && is_defined_at(&contents.functions, before.number);
+    broken_rule(allowed, twice, declarator.initial.is_some())
+}
+
+// Declares a function under a name, which stands for this before it.
+fn declare_behind(
+    alloc: Global,
+    known: &Foreknown,
+    declarator: &Declarator,
+    name: &[u8],
+    result_type: CType,
+    signature: u32,
+    body: &Option<Line>,
+    before: Before,
+    contents: &mut Contents,
+) -> Result<(), RuleError>
+    requires { before.meaning ≡ named name.now contents.old.scope.names.here }
+    ensures { IsContinued (spec.function_behind known.now declarator.now name.now result_type signature body.now contents.old before) result contents.new }
+{
+    if let Some(rule) = rule_of(declarator, signature, body, contents, before) {
+        return Err(RuleError::Rule(declarator.place, rule));
+    }
+    let Before {
+        meaning,
+        builtin,
+        number,
+    } = before;
+    declare_name(
+        alloc,
+        known,
+        &mut contents.scope,
+        name,
+        signature,
+        meaning,
+        builtin,
+    )?;
+    define(
+        alloc,
+        known,
+        declarator,
+        name,
+        result_type,
+        body,
+        number,
+        contents,
+    )
+}
+
 /// Declares a function under a name, by the number of its signature and its result, and defines it if a block follows.
 #[tactic(auto, unfolding(crate::specs::Functions::function_judgement))]
 pub fn declare(
@@ -320,34 +414,16 @@ pub fn declare(
 ) -> Result<(), RuleError>
     ensures { IsContinued (spec.function_judgement known.now declarator.now name.now result_type signature body.now contents.old) result contents.new }
 {
-    let before = contents.scope.names.here.find(name);
-    let builtin = known_function(name);
-    let number = number_among(&known.outline.functions, name)?;
-    let block = body.is_some();
-    let allowed = may_declare(&contents.scope.signatures, signature, block, before, builtin);
-    let twice = block && is_defined_at(&contents.functions, number);
-    match broken_rule(allowed, twice, declarator.initial.is_some()) {
-        Some(rule) => Err(RuleError::Rule(declarator.place, rule)),
-        None => {
-            declare_name(
-                alloc,
-                known,
-                &mut contents.scope,
-                name,
-                signature,
-                before,
-                builtin,
-            )?;
-            define(
-                alloc,
-                known,
-                declarator,
-                name,
-                result_type,
-                body,
-                number,
-                contents,
-            )
-        }
-    }
+    let before = before_of(known, name, &contents.scope)?;
+    declare_behind(
+        alloc,
+        known,
+        declarator,
+        name,
+        result_type,
+        signature,
+        body,
+        before,
+        contents,
+    )
 }
