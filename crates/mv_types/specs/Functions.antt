@@ -93,16 +93,18 @@ definition_parameters d (Some body) s = and_then (parameters_judgement (body_ent
 
 -- the function of a body that has been judged, and the scope behind it; its switches are found once all of the unit are known
 abbrev pub left_with : List ℕ → (attributed : Bool) → CType → (params : ℕ) → List Stmt → Scope → Scope × Function
-left_with name attributed result params body s =
-    (body_left s, record {
-      name = name;
-      attributed = attributed;
-      result = result;
-      params = params;
-      locals = s.locals;
-      switches = [];
-      body = body;
-    })
+left_with name attributed result params body s = (
+  body_left s,
+  record {
+    name = name;
+    attributed = attributed;
+    result = result;
+    params = params;
+    locals = s.locals;
+    switches = [];
+    body = body;
+  },
+)
 
 -- the function that a definition is
 abbrev pub function_of : Foreknown → List ℕ → CType → List Param → Line → Scope → Behind Function

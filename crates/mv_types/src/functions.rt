@@ -130,11 +130,7 @@ fn broken_rule(allowed: bool, twice: bool, given: bool) -> Option<u8>
     }
 }
 
-fn function_meaning(
-    known: &Foreknown,
-    name: &[u8],
-    signature: u32,
-) -> Result<Meaning, AllocError>
+fn function_meaning(known: &Foreknown, name: &[u8], signature: u32) -> Result<Meaning, AllocError>
     ensures { IfOk result (λ meaning. meaning ≡ spec.function_meaning known.now name.now signature) }
 {
     let number = number_among(&known.outline.functions, name)?;
@@ -254,8 +250,7 @@ fn leave_body(
 {
     let name = Text::new(alloc, name)?;
     let locals = mem::replace(&mut scope.locals, List::new(alloc));
-    scope.leave(alloc);
-    scope.attributed = false;
+    leave_block(alloc, scope);
     Ok(Function {
         name,
         attributed,

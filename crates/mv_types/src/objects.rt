@@ -360,7 +360,9 @@ fn declare_behind(
         block,
         &domain,
     )?;
-    initialise(alloc, known, declarator, name, before, domain, local, contents)
+    initialise(
+        alloc, known, declarator, name, before, domain, local, contents,
+    )
 }
 
 /// Declares an object under a name, with the domain that this declaration gives it and whether a block follows.
