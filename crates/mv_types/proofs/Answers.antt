@@ -1,13 +1,12 @@
 -- What a checker answers, by the judgement on the unit.
-use Rattle.std.proofs.Common.{◌≡◌, ℕ, sym, subst, refl, Result, Ok, Err}
+use Rattle.std.proofs.Common.{ℕ, sym, subst, refl, Result, Ok, Err}
 use Rattle.mv_ast.specs.declared.place.Place.{Place}
 use Rattle.mv_ast.specs.declared.program.Program.{Program}
-use Rattle.mv_judge.specs.declared.error.RuleError.{RuleError}
 use Rattle.mv_judge.specs.declared.error.RuleError.TheVariants as error
 use Rattle.mv_judge.specs.Judged.{Judged, Good, Broken, IsJudged}
 use Rattle.std.specs.declared.alloc.AllocError.{AllocError}
 use Rattle.mv_types.specs.declared.error.TypeError.{TypeError}
-use Rattle.mv_types.specs.declared.error.TypeError.TheVariants.{Rule, Limit, Memory}
+use Rattle.mv_types.specs.declared.error.TypeError.TheVariants.{Rule, Memory}
 use Rattle.mv_types.specs.Checked.{IsChecked}
 
 pub good_answer : (j : Judged Program) (p : Program) (r : Result Program TypeError) → IsJudged j (Ok p) → IsChecked (Good p) r → IsChecked j r

@@ -1,5 +1,5 @@
 -- What the failure of one part shows of all parts in their order.
-use Rattle.std.proofs.Common.{◌≡◌, ℕ, ◌+◌, ◌≤◌, ◌<◌, List, ◌∷◌, length, get_or, drop, sym, ◌∙◌, ap, Err}
+use Rattle.std.proofs.Common.{◌≡◌, ℕ, ◌+◌, ◌<◌, List, ◌∷◌, length, get_or, drop, sym, ◌∙◌, ap, Err}
 use Rattle.std.proofs.lemmas.List.{drop_more}
 use Rattle.mv_judge.specs.declared.error.RuleError.{RuleError}
 use Rattle.mv_judge.specs.declared.error.RuleError.TheVariants as error
