@@ -69,11 +69,14 @@ abbrev pub declares_nothing : Item → Bool
 declares_nothing i = not (is_filled i.names) && not (is_filled (out-Specs i.specs).tags)
 
 -- rule 22: there is neither a name nor an enum
+abbrev pub names_judgement : Foreknown → Specified → Item → Contents → Judged Contents
+names_judgement k b i c =
+    if declares_nothing i then Broken (out-Specs i.specs).place 22
+    else through (declarator_judgement k b i.body) i.names c
+
 unfoldable pub item_judgement : Foreknown → Item → Contents → Judged Contents
 item_judgement k i c =
-    and_then (specifiers position.File (holders k i.names) i.specs c.scope) (λ b.
-    if declares_nothing i then Broken (out-Specs i.specs).place 22
-    else through (declarator_judgement k b.1 i.body) i.names (in_scope c b.0))
+    and_then (specifiers position.File (holders k i.names) i.specs c.scope) (λ b. names_judgement k b.1 i (in_scope c b.0))
 
 -- ---- the end
 

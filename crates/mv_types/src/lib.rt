@@ -8,3 +8,5 @@ pub mod error;
 pub mod foreknown;
 pub mod functions;
 pub mod objects;
+pub mod program;
+pub mod units;
