@@ -3,3 +3,4 @@ pub mod Bounds
 pub mod Forms
 pub mod Statements
 pub mod Numbers
+pub mod Owning

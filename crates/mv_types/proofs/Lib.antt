@@ -1,0 +1,6 @@
+mod OneMore
+mod Outlines
+mod Types
+mod Answers
+mod Ends
+mod Turns

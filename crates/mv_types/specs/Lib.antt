@@ -1,0 +1,6 @@
+pub mod Checked
+pub mod Contents
+pub mod Foreknown
+pub mod Functions
+pub mod Objects
+pub mod Units

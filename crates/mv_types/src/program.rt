@@ -1,0 +1,192 @@
+// The program that a unit is, once all its declarations are judged.
+
+ghost use Rattle.std.specs.Prelude.{◌≡◌, ◌++◌, IfOk, OnOk, codes, map, slice_get, [], if◌then◌else◌};
+ghost use Rattle.mv_scope.specs.Spaces.{named};
+ghost use Rattle.mv_judge.specs.Judged.{IsJudged};
+ghost use Rattle.mv_uses.specs.Uses.{switches_named};
+ghost use Rattle.mv_types.specs.Contents.{present, switch_of, switches_from};
+ghost use Rattle.mv_types.specs.Units.{is_main_type, main_of, with_switches, program_of, program_judgement};
+
+use crate::contents::{Contents, Object};
+use crate::functions::is_plain_int;
+use mv_ast::place::Place;
+use mv_ast::program::{Function, Global as Variable, Program, Signature, Switch};
+use mv_judge::error::RuleError;
+use mv_num::list::List;
+use mv_scope::meaning::Meaning;
+use mv_scope::scope::Scope;
+use mv_uses::uses::switches_named;
+use std::alloc::{AllocError, Global};
+
+// Whether the signature with a number is that of `main`.
+fn is_main_type(signatures: &List<Signature>, number: u32) -> bool
+    ensures { result ≡ is_main_type (slice_get signatures.now number) }
+{
+    match signatures.get(number as usize) {
+        None => false,
+        Some(signature) => is_plain_int(signature),
+    }
+}
+
+// The number of `main`.
+fn main_of(scope: &Scope) -> Option<u32>
+    ensures { result ≡ main_of scope.now.signatures (named (codes "main") scope.now.names.here) }
+{
+    match scope.names.here.find(b"main".as_slice()) {
+        Some(Meaning::Function(routine)) => {
+            if is_main_type(&scope.signatures, routine.signature) {
+                routine.number
+            } else {
+                None
+            }
+        }
+        _ => None,
+    }
+}
+
+// What the objects of a unit come to.
+#[derive(Drop)]
+struct Globals {
+    globals: List<Variable>,
+    switches: List<Switch>,
+}
+
+// The switch that a global is, if it has a domain.
+fn add_switch(
+    switches: &mut List<Switch>,
+    number: usize,
+    domain: Option<List<u32>>,
+) -> Result<(), AllocError>
+    ensures { OnOk result (switches.new ≡ switches.old ++ switch_of number domain) }
+{
+    match domain {
+        None => Ok(()),
+        Some(values) => {
+            let global = number_of(number)?;
+            switches.push(Switch { global, values })?;
+            Ok(())
+        }
+    }
+}
+
+// A number of 32 bits. There is no memory for a 2^32nd global.
+fn number_of(number: usize) -> Result<u32, AllocError>
+    ensures { IfOk result (λ n. n ≡ number) }
+{
+    match u32::try_from(number) {
+        Ok(number) => Ok(number),
+        Err(_) => Err(AllocError),
+    }
+}
+
+// The globals, and those of them that are switches.
+#[tactic(auto, using(crate::proofs::Ends::objects))]
+fn globals_of(alloc: Global, objects: List<Object>) -> Result<Globals, AllocError>
+    ensures globals { IfOk result (λ g. g.globals ≡ map (λ o. o.global) objects) }
+    ensures switches { IfOk result (λ g. g.switches ≡ switches_from 0 objects) }
+{
+    let mut globals = List::new(alloc);
+    let mut switches = List::new(alloc);
+    for object in objects.into_vec() {
+        let Object {
+            global,
+            given: _,
+            domain,
+        } = object;
+        add_switch(&mut switches, globals.len(), domain)?;
+        globals.push(global)?;
+    }
+    Ok(Globals { globals, switches })
+}
+
+fn own_switches(
+    alloc: Global,
+    switches: &List<Switch>,
+    function: &Function,
+) -> Result<List<u32>, AllocError>
+    ensures { IfOk result (λ own. own ≡ (if function.now.attributed then switches_named switches.now function.now.body else [])) }
+{
+    if function.attributed {
+        switches_named(alloc, switches, &function.body)
+    } else {
+        Ok(List::new(alloc))
+    }
+}
+
+fn with_switches(
+    alloc: Global,
+    switches: &List<Switch>,
+    function: Function,
+) -> Result<Function, AllocError>
+    ensures { IfOk result (λ f. f ≡ with_switches switches.now function) }
+{
+    let own = own_switches(alloc, switches, &function)?;
+    let Function {
+        name,
+        attributed,
+        result,
+        params,
+        locals,
+        switches: _,
+        body,
+    } = function;
+    Ok(Function {
+        name,
+        attributed,
+        result,
+        params,
+        locals,
+        switches: own,
+        body,
+    })
+}
+
+// The functions that are defined, each with its switches.
+#[tactic(auto, using(crate::proofs::Ends::functions))]
+fn functions_of(
+    alloc: Global,
+    switches: &List<Switch>,
+    functions: List<Option<Function>>,
+) -> Result<List<Function>, AllocError>
+    ensures { IfOk result (λ fs. fs ≡ map (with_switches switches.now) (present functions)) }
+{
+    let mut done = List::new(alloc);
+    for function in functions.into_vec() {
+        match function {
+            None => {}
+            Some(function) => done.push(with_switches(alloc, switches, function)?)?,
+        }
+    }
+    Ok(done)
+}
+
+#[tactic(auto, unfolding(crate::specs::Units::program_of))]
+fn program_of(alloc: Global, contents: Contents, main: u32) -> Result<Program, AllocError>
+    ensures { IfOk result (λ p. p ≡ program_of contents main) }
+{
+    let Contents {
+        scope,
+        objects,
+        functions,
+    } = contents;
+    let Globals { globals, switches } = globals_of(alloc, objects)?;
+    let functions = functions_of(alloc, &switches, functions)?;
+    Ok(Program {
+        signatures: scope.signatures,
+        globals,
+        functions,
+        switches,
+        main,
+    })
+}
+
+/// The program of a unit that ends at a place, by what its declarations come to. Rule 18 is broken where it has no `main`.
+#[tactic(auto, unfolding(crate::specs::Units::program_judgement))]
+pub fn judge_program(alloc: Global, place: Place, contents: Contents) -> Result<Program, RuleError>
+    ensures { IsJudged (program_judgement place contents) result }
+{
+    match main_of(&contents.scope) {
+        None => Err(RuleError::Rule(place, 18)),
+        Some(main) => Ok(program_of(alloc, contents, main)?),
+    }
+}

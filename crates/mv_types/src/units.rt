@@ -1,0 +1,302 @@
+// The declarations of a unit in their order (C11 6.9).
+
+ghost use Rattle.std.specs.Prelude.{◌≡◌, IfOk, None, replicate};
+ghost use Rattle.std.specs.List.{list_any};
+ghost use Rattle.mv_judge.specs.Judged.{IsJudged, and_then};
+ghost use Rattle.mv_declare.specs.declared.attributes.Position.TheVariants as position;
+ghost use Rattle.mv_declare.specs.Specifiers.{specifiers};
+ghost use Rattle.mv_declare.specs.Turns.{through, IsBehind};
+ghost use Rattle.mv_types.specs.Contents.{nothing_declared, IsContinued};
+ghost use Rattle.mv_types.specs.Foreknown.{is_fixed};
+ghost use Rattle.mv_types.specs.Objects.{object_judgement, domain_by};
+ghost use Rattle.mv_types.specs.Units.{base_of, by_entity, named_declarator, declarator_judgement, declares_constant, holders, declares_nothing, names_judgement, item_judgement, program_judgement, unit_judgement};
+
+use crate::contents::{Contents, Foreknown};
+use crate::foreknown::{foreknown_of, is_function, name_of};
+use crate::program::judge_program;
+use crate::{functions, objects};
+use mv_ast::program::{Function, Program};
+use mv_ast::unit::{Declarator, Item, Line, Unit};
+use mv_declare::attributes::{Position, copied};
+use mv_declare::declarators::Entity;
+use mv_declare::globals::{Designated, file_declarator};
+use mv_declare::specifiers::{Specified, specifiers};
+use mv_judge::error::RuleError;
+use mv_num::list::List;
+use mv_scope::scope::Scope;
+use std::alloc::{AllocError, Global};
+
+fn is_fixed(known: &Foreknown, name: &[u8]) -> bool
+    ensures { result ≡ is_fixed known.now name.now }
+{
+    known.constants.has(name)
+}
+
+// ---- declarators
+
+fn declare_object(
+    alloc: Global,
+    known: &Foreknown,
+    enumeration: Option<u32>,
+    block: bool,
+    declarator: &Declarator,
+    name: &[u8],
+    designated: Designated,
+    contents: &mut Contents,
+) -> Result<(), RuleError>
+    ensures { IsContinued (object_judgement known.now declarator.now name.now designated.entity (domain_by contents.old.scope enumeration designated.attribute) block contents.old) result contents.new }
+{
+    let Designated { entity, attribute } = designated;
+    let domain = objects::domain_by(alloc, &contents.scope, enumeration, attribute)?;
+    objects::declare(
+        alloc, known, declarator, name, entity, domain, block, contents,
+    )
+}
+
+fn by_entity(
+    alloc: Global,
+    known: &Foreknown,
+    base: &Specified,
+    body: &Option<Line>,
+    declarator: &Declarator,
+    name: &[u8],
+    designated: Designated,
+    contents: &mut Contents,
+) -> Result<(), RuleError>
+    ensures { IsContinued (by_entity known.now base.now body.now declarator.now name.now designated.entity designated.attribute contents.old) result contents.new }
+{
+    match designated.entity {
+        Entity::Function(signature) => functions::declare(
+            alloc, known, declarator, name, base.ctype, signature, body, contents,
+        ),
+        Entity::Scalar(_, _) => declare_object(
+            alloc,
+            known,
+            base.enumeration,
+            body.is_some(),
+            declarator,
+            name,
+            designated,
+            contents,
+        ),
+        Entity::Array(_, _, _) => declare_object(
+            alloc,
+            known,
+            base.enumeration,
+            body.is_some(),
+            declarator,
+            name,
+            designated,
+            contents,
+        ),
+    }
+}
+
+#[tactic(auto, unfolding(crate::specs::Units::named_declarator))]
+fn named_declarator(
+    alloc: Global,
+    known: &Foreknown,
+    base: &Specified,
+    body: &Option<Line>,
+    declarator: &Declarator,
+    designated: Designated,
+    contents: &mut Contents,
+) -> Result<(), RuleError>
+    ensures { IsContinued (named_declarator known.now base.now body.now declarator.now declarator.now.name designated contents.old) result contents.new }
+{
+    match &declarator.name {
+        None => Err(RuleError::Rule(declarator.place, 22)),
+        Some(name) => by_entity(
+            alloc,
+            known,
+            base,
+            body,
+            declarator,
+            name.bytes(),
+            designated,
+            contents,
+        ),
+    }
+}
+
+fn base_of(
+    alloc: Global,
+    known: &Foreknown,
+    declarator: &Declarator,
+    base: &Specified,
+) -> Result<Specified, AllocError>
+    ensures { IfOk result (λ b. b ≡ base_of known.now declarator.now base.now) }
+{
+    let attribute = copied(alloc, &base.attribute)?;
+    Ok(Specified {
+        ctype: base.ctype,
+        fixed: is_fixed(known, name_of(declarator)),
+        enumeration: base.enumeration,
+        attribute,
+    })
+}
+
+#[tactic(auto, unfolding(crate::specs::Units::declarator_judgement))]
+fn declare(
+    alloc: Global,
+    known: &Foreknown,
+    base: &Specified,
+    body: &Option<Line>,
+    declarator: &Declarator,
+    contents: &mut Contents,
+) -> Result<(), RuleError>
+    ensures { IsContinued (declarator_judgement known.now base.now body.now declarator.now contents.old) result contents.new }
+{
+    functions::check_parameters(alloc, &mut contents.scope, declarator, body)?;
+    let own = base_of(alloc, known, declarator, base)?;
+    let designated = file_declarator(alloc, &mut contents.scope, &own, declarator)?;
+    named_declarator(alloc, known, base, body, declarator, designated, contents)
+}
+
+fn declare_all(
+    alloc: Global,
+    known: &Foreknown,
+    base: &Specified,
+    body: &Option<Line>,
+    names: &[Declarator],
+    contents: &mut Contents,
+) -> Result<(), RuleError>
+    ensures { IsContinued (through (declarator_judgement known.now base.now body.now) names.now contents.old) result contents.new }
+{
+    for declarator in names {
+        declare(alloc, known, base, body, declarator, contents)?;
+    }
+    Ok(())
+}
+
+// ---- declarations
+
+fn declares_constant(known: &Foreknown, declarator: &Declarator) -> bool
+    ensures { result ≡ declares_constant known.now declarator.now }
+{
+    !is_function(declarator) && is_fixed(known, name_of(declarator))
+}
+
+fn any_constant(known: &Foreknown, names: &[Declarator]) -> bool
+    ensures { result ≡ list_any (declares_constant known.now) names.now }
+{
+    for declarator in names {
+        if declares_constant(known, declarator) {
+            return true;
+        }
+    }
+    false
+}
+
+fn holders<'a>(known: &Foreknown, names: &'a [Declarator]) -> &'a [Declarator]
+    ensures { result.now ≡ holders known.now names.now }
+{
+    if any_constant(known, names) {
+        &[]
+    } else {
+        names
+    }
+}
+
+fn declares_nothing(item: &Item) -> bool
+    ensures { result ≡ declares_nothing item.now }
+{
+    item.names.len() == 0 && item.specs.tags.len() == 0
+}
+
+// What the specifiers of a declaration say.
+fn specified(
+    alloc: Global,
+    known: &Foreknown,
+    item: &Item,
+    scope: &mut Scope,
+) -> Result<Specified, RuleError>
+    ensures { IsBehind (specifiers position.File (holders known.now item.now.names) item.now.specs scope.old) result scope.new }
+{
+    let holders = holders(known, item.names.as_slice());
+    specifiers(alloc, scope, Position::File, holders, &item.specs)
+}
+
+// Declares the names of a declaration.
+fn declare_names(
+    alloc: Global,
+    known: &Foreknown,
+    base: &Specified,
+    item: &Item,
+    contents: &mut Contents,
+) -> Result<(), RuleError>
+    ensures { IsContinued (names_judgement known.now base.now item.now contents.old) result contents.new }
+{
+    if declares_nothing(item) {
+        return Err(RuleError::Rule(item.specs.place, 22));
+    }
+    let names = item.names.as_slice();
+    declare_all(alloc, known, base, &item.body, names, contents)
+}
+
+#[tactic(auto, unfolding(crate::specs::Units::item_judgement))]
+fn judge_item(
+    alloc: Global,
+    known: &Foreknown,
+    item: &Item,
+    contents: &mut Contents,
+) -> Result<(), RuleError>
+    ensures { IsContinued (item_judgement known.now item.now contents.old) result contents.new }
+{
+    let base = specified(alloc, known, item, &mut contents.scope)?;
+    declare_names(alloc, known, &base, item, contents)
+}
+
+fn judge_items(
+    alloc: Global,
+    known: &Foreknown,
+    items: &[Item],
+    contents: &mut Contents,
+) -> Result<(), RuleError>
+    ensures { IsContinued (through (item_judgement known.now) items.now contents.old) result contents.new }
+{
+    for item in items {
+        judge_item(alloc, known, item, contents)?;
+    }
+    Ok(())
+}
+
+// ---- units
+
+fn undefined(alloc: Global, count: usize) -> Result<List<Option<Function>>, AllocError>
+    ensures { IfOk result (λ functions. functions ≡ replicate count None) }
+{
+    let mut functions = List::new(alloc);
+    for _ in 0..count {
+        functions.push(None)?;
+    }
+    Ok(functions)
+}
+
+fn nothing_declared(alloc: Global, known: &Foreknown) -> Result<Contents, AllocError>
+    ensures { IfOk result (λ contents. contents ≡ nothing_declared known.now) }
+{
+    let functions = undefined(alloc, known.outline.functions.len())?;
+    Ok(Contents {
+        scope: Scope::new(alloc),
+        objects: List::new(alloc),
+        functions,
+    })
+}
+
+fn judge_known(alloc: Global, known: &Foreknown, unit: &Unit) -> Result<Program, RuleError>
+    ensures { IsJudged (and_then (through (item_judgement known.now) unit.now.items (nothing_declared known.now)) (program_judgement unit.now.end)) result }
+{
+    let mut contents = nothing_declared(alloc, known)?;
+    judge_items(alloc, known, unit.items.as_slice(), &mut contents)?;
+    judge_program(alloc, unit.end, contents)
+}
+
+/// The program of a unit, or the first place in it at which a rule is broken.
+#[tactic(auto, unfolding(crate::specs::Units::unit_judgement))]
+pub fn judge(alloc: Global, unit: &Unit) -> Result<Program, RuleError>
+    ensures { IsJudged (unit_judgement unit.now) result }
+{
+    let known = foreknown_of(alloc, unit)?;
+    judge_known(alloc, &known, unit)
+}
