@@ -1,0 +1,15 @@
+mod Judging
+mod Places
+mod Names
+mod Growing
+mod Specified
+mod Designated
+mod Made
+mod Conversions
+mod Leading
+mod Values
+mod Declared
+mod Induction
+mod SwitchBodies
+mod Forms
+mod Bodies
