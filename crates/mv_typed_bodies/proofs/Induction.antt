@@ -5,22 +5,19 @@ use Rattle.mv_ast.specs.declared.place.Place.{Place}
 use Rattle.mv_ast.specs.declared.unit.Line.{Line, Line-F, roll-Line, map-Line, ind-Line, fold-roll-Line}
 use Rattle.mv_ast.specs.declared.unit.Act.{Act, Act-F, roll-Act, map-Act, fold-Act, fold-roll-Act}
 use Rattle.mv_ast.specs.declared.unit.Act.TheOpen as act
+use Rattle.mv_typed_bodies.proofs.Property.{OfOption}
 use Rattle.mv_statement_rules.specs.Statements.{Judges, Layer, act_step, line_step, judges_of}
 
 module _ (P : Judges → Type 0) where
-  abbrev pub OptionHas : Option Judges → Type 0
-  OptionHas None = Unit {0}
-  OptionHas (Some j) = P j
-
   -- P of each part of a statement
   abbrev pub LayerHas : Layer → Type 0
   LayerHas (act.Block ls) = AllByRecursion P ls
   LayerHas (act.Declare specs names) = Unit {0}
   LayerHas (act.Express e) = Unit {0}
-  LayerHas (act.If e first second) = P first × OptionHas second
+  LayerHas (act.If e first second) = P first × OfOption P second
   LayerHas (act.While e l) = P l
   LayerHas (act.Do l e) = P l
-  LayerHas (act.For first test step l) = OptionHas first × P l
+  LayerHas (act.For first test step l) = OfOption P first × P l
   LayerHas (act.Switch e l) = P l
   LayerHas (act.Case e) = Unit {0}
   LayerHas act.Default = Unit {0}

@@ -16,9 +16,19 @@ use Rattle.mv_typing.specs.Soundness.{IsMeant, Fits}
 use Rattle.mv_typed_bodies.specs.Bodies.{Keeps, Grows}
 use Rattle.mv_typed_bodies.proofs.Names.{entered_means}
 use Rattle.mv_typed_bodies.proofs.Places.{keeps_joined, listed_kept}
+use Rattle.mv_typed_bodies.proofs.Property.{Property, Holds}
 use Rattle.mv_typed_bodies.proofs.Growing.{Enumerates, grows_same, grows_joined, grows_block, names_back}
 
-module _ (p : Program) (f : Function) where
+module _ (x : Property) where
+  abbrev p : Program
+  p = x.program
+
+  abbrev f : Function
+  f = x.function
+
+  abbrev pub Holding : Scope → Type 0
+  Holding = Holds x.program x.function x.of_name
+
   -- a program and a function that have what a scope has
   pub record IsWithin (s : Scope) : Type 0 where
     pub signatures : Keeps s.signatures p.signatures
@@ -33,21 +43,21 @@ module _ (p : Program) (f : Function) where
   -- A scope grows to a later one; what it says still holds there, and something else does.
   pub record Leads (s t : Scope) (C : Type 0) : Type 0 where
     pub grows : Grows s t
-    pub holds : IsWithin t → Fits p f s → Fits p f t × C
+    pub holds : IsWithin t → Holding s → Holding t × C
 
-  pub leads_here : (s : Scope) (C : Type 0) → (Fits p f s → C) → Leads s s C
-  leads_here s C h = record { grows = grows_same s; holds = λ w fits. (fits, h fits) }
+  pub leads_here : (s : Scope) (C : Type 0) → (Holding s → C) → Leads s s C
+  leads_here s C h = record { grows = grows_same s; holds = λ w k. (k, h k) }
 
   pub leads_more : (s t : Scope) (C D : Type 0) → (C → D) → Leads s t C → Leads s t D
-  leads_more s t C D h l = record { grows = l.grows; holds = λ w fits. let x = l.holds w fits in (x.0, h x.1) }
+  leads_more s t C D h l = record { grows = l.grows; holds = λ w k. let y = l.holds w k in (y.0, h y.1) }
 
   pub leads_joined : (s t u : Scope) (C D E : Type 0) → (C → D → E) → Leads s t C → Leads t u D → Leads s u E
   leads_joined s t u C D E h l m = record {
     grows = grows_joined s t u l.grows m.grows;
-    holds = λ w fits.
-        let x = l.holds (within_before t u m.grows w) fits in
-        let y = m.holds w x.0 in
-        (y.0, h x.1 y.1);
+    holds = λ w k.
+        let y = l.holds (within_before t u m.grows w) k in
+        let z = m.holds w y.0 in
+        (z.0, h y.1 z.1);
   }
 
   -- ---- what a scope says holds where it grows
@@ -61,41 +71,49 @@ module _ (p : Program) (f : Function) where
   meant_kept ss ts k (meaning.Known known) h = tt
 
   -- a name means what it meant, or something that the program has
-  pub fits_later : (s t : Scope) → Grows s t → ((name : List ℕ) (m : Meaning) → meaning_of t name ≡ Some m → (meaning_of s name ≡ Some m) ⊎ IsMeant p f t.signatures m) →
-      IsWithin t → Fits p f s → Fits p f t
-  fits_later s t g h w fits = record {
-    names = λ name m q. by name m (h name m q);
-    signatures = w.signatures;
-    results = g.results fits.results;
+  pub later : (s t : Scope) → Grows s t →
+      ((name : List ℕ) (m : Meaning) → meaning_of t name ≡ Some m → (meaning_of s name ≡ Some m) ⊎ (IsMeant p f t.signatures m × x.of_name m)) →
+      IsWithin t → Holding s → Holding t
+  later s t g h w k = record {
+    fits = record { names = λ name m q. meant name m (h name m q); signatures = w.signatures; results = g.results k.fits.results };
+    names = λ name m q. named name m (h name m q);
   }
     where
-      by : (name : List ℕ) (m : Meaning) → (meaning_of s name ≡ Some m) ⊎ IsMeant p f t.signatures m → IsMeant p f t.signatures m
-      by name m (inl q) = meant_kept s.signatures t.signatures g.signatures m (fits.names name m q)
-      by name m (inr q) = q
+      meant : (name : List ℕ) (m : Meaning) → (meaning_of s name ≡ Some m) ⊎ (IsMeant p f t.signatures m × x.of_name m) → IsMeant p f t.signatures m
+      meant name m (inl q) = meant_kept s.signatures t.signatures g.signatures m (k.fits.names name m q)
+      meant name m (inr q) = q.0
+
+      named : (name : List ℕ) (m : Meaning) → (meaning_of s name ≡ Some m) ⊎ (IsMeant p f t.signatures m × x.of_name m) → x.of_name m
+      named name m (inl q) = k.names name m q
+      named name m (inr q) = q.1
 
   same_meaning : (s t : Scope) → t.names ≡ s.names → (name : List ℕ) (m : Meaning) → meaning_of t name ≡ Some m → meaning_of s name ≡ Some m
   same_meaning s t n name m h = ap (λ (x : NameSpace). unless_declared (sought x name) (known_function name)) (sym n) ∙ h
 
   pub leads_renamed : (s t : Scope) → Grows s t → t.names ≡ s.names → Leads s t (Unit {0})
-  leads_renamed s t g n = record { grows = g; holds = λ w fits. (fits_later s t g (λ name m q. inl (same_meaning s t n name m q)) w fits, tt) }
+  leads_renamed s t g n = record { grows = g; holds = λ w k. (later s t g (λ name m q. inl (same_meaning s t n name m q)) w k, tt) }
 
   pub leads_enumerated : (s t : Scope) → Enumerates s t → Leads s t (Unit {0})
-  leads_enumerated s t e = record { grows = e.grows; holds = λ w fits. (fits_later s t e.grows (λ name m q. by name m (e.names name m q)) w fits, tt) }
+  leads_enumerated s t e = record { grows = e.grows; holds = λ w k. (later s t e.grows (λ name m q. by name m (e.names name m q)) w k, tt) }
     where
-      by : (name : List ℕ) (m : Meaning) → (meaning_of s name ≡ Some m) ⊎ ((v : ℕ) × (m ≡ meaning.Enumerator v)) → (meaning_of s name ≡ Some m) ⊎ IsMeant p f t.signatures m
+      by : (name : List ℕ) (m : Meaning) → (meaning_of s name ≡ Some m) ⊎ ((v : ℕ) × (m ≡ meaning.Enumerator v)) →
+          (meaning_of s name ≡ Some m) ⊎ (IsMeant p f t.signatures m × x.of_name m)
       by name m (inl q) = inl q
-      by name m (inr q) = inr (subst (IsMeant p f t.signatures) (sym q.1) tt)
+      by name m (inr q) = inr (subst (IsMeant p f t.signatures) (sym q.1) tt, subst x.of_name (sym q.1) (x.enumerator q.0))
 
   -- ---- blocks
 
-  fits_entered : (s : Scope) → Fits p f s → Fits p f (block_entered s)
-  fits_entered s fits = record { names = λ name m q. fits.names name m (sym (entered_means s name) ∙ q); signatures = fits.signatures; results = fits.results }
+  entered : (s : Scope) → Holding s → Holding (block_entered s)
+  entered s k = record {
+    fits = record { names = λ name m q. k.fits.names name m (sym (entered_means s name) ∙ q); signatures = k.fits.signatures; results = k.fits.results };
+    names = λ name m q. k.names name m (sym (entered_means s name) ∙ q);
+  }
 
   pub leads_block : (s t : Scope) (C : Type 0) → Leads (block_entered s) t C → Leads s (block_left t) C
   leads_block s t C l = record {
     grows = grows_block s t l.grows;
-    holds = λ w fits.
-        let x = l.holds (record { signatures = w.signatures; locals = w.locals }) (fits_entered s fits) in
+    holds = λ w k.
+        let y = l.holds (record { signatures = w.signatures; locals = w.locals }) (entered s k) in
         let back = leads_renamed s (block_left t) (grows_block s t l.grows) (names_back s t l.grows) in
-        ((back.holds w fits).0, x.1);
+        ((back.holds w k).0, y.1);
   }

@@ -1,15 +1,18 @@
-mod Judging
+pub mod Judging
 mod Places
 mod Names
 mod Growing
 mod Specified
 mod Designated
+pub mod Property
+pub mod Leading
+mod Declared
 mod Made
 mod Conversions
-mod Leading
-mod Values
-mod Declared
 mod Induction
-mod SwitchBodies
+mod Values
 mod Forms
-mod Bodies
+pub mod Bodies
+mod Parameters
+pub mod SwitchBodies
+mod Typed

@@ -14,13 +14,6 @@ use Rattle.mv_ast.specs.declared.program.Stmt.TheVariants.{outs-Block, outs-Clea
 use Rattle.mv_ast.specs.declared.program.Stmt.TheOpen as open_stmt
 use Rattle.mv_numbering.specs.Typing.{IsInteger, IsTypedExpr, IsTypedAt, IsTypedOption, ReturnsTyped, HasTypedParts, IsTypedStmt}
 
-pub all_append : {A : Type 0} (P : A → Type 0) (xs ys : List A) → AllByRecursion P xs → AllByRecursion P ys → AllByRecursion P (xs ++ ys)
-all_append P [] ys h k = k
-all_append P (x ∷ xs) ys h k = (h.0, all_append P xs ys h.1 k)
-
-pub all_last : {A : Type 0} (P : A → Type 0) (xs : List A) (y : A) → AllByRecursion P xs → P y → AllByRecursion P (xs ++ y ∷ [])
-all_last P xs y h k = all_append P xs (y ∷ []) h (k, tt)
-
 module _ {A : Type 0} (P : A → Type 0) where
   abbrev pub paired : (xs : List A) → AllByRecursion P xs → List ((x : A) × P x)
   paired [] h = []

@@ -61,6 +61,7 @@ added_or_not s (t ∷ ts) = by (same_signature s t) (added_or_not s ts)
     more : (with_signature s ts ≡ ts) ⊎ (with_signature s ts ≡ ts ++ s ∷ []) → (t ∷ with_signature s ts ≡ t ∷ ts) ⊎ (t ∷ with_signature s ts ≡ t ∷ (ts ++ s ∷ []))
     more (inl q) = inl (ap (λ x. t ∷ x) q)
     more (inr q) = inr (ap (λ x. t ∷ x) q)
+
     by : (b : Bool) → (with_signature s ts ≡ ts) ⊎ (with_signature s ts ≡ ts ++ s ∷ []) →
         ((if b then t ∷ ts else t ∷ with_signature s ts) ≡ t ∷ ts) ⊎ ((if b then t ∷ ts else t ∷ with_signature s ts) ≡ t ∷ (ts ++ s ∷ []))
     by true h = inl refl

@@ -19,9 +19,8 @@ use Rattle.mv_declare.specs.declared.initials.Converted.{Converted}
 use Rattle.mv_declare.specs.Initials.{with_converted, converted_value, none_converted, converted_values, has_room, single_value, listed_values, initial_values}
 use Rattle.mv_numbering.specs.Typing.{ComesTo, IsTypedExpr, IsTypedAt}
 use Rattle.mv_typing.specs.Soundness.{Fits, GoodIsTyped}
-use Rattle.mv_typed_bodies.proofs.Judging.{IfGood, by_good, if_then, if_kept, if_more, if_through, each_any, not_false, and_true}
+use Rattle.mv_typed_bodies.proofs.Judging.{IfGood, by_good, if_then, if_kept, if_more, if_through, each_any, not_false, and_true, all_last}
 use Rattle.mv_typed_bodies.proofs.Conversions.{converted_at}
-use Rattle.mv_typed_bodies.proofs.Made.{all_last}
 
 or_false : (a b : Bool) → (a || b) ≡ false → b ≡ false
 or_false true b h = absurd (cc)
