@@ -1,0 +1,8 @@
+//! Copies of checked programs.
+#![tactic(auto)]
+
+mod expression;
+pub mod program;
+mod statement;
+#[cfg(test)]
+mod tests;
