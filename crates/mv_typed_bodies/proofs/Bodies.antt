@@ -21,7 +21,8 @@ use Rattle.mv_statement_rules.specs.Surroundings.{in_function}
 use Rattle.mv_statement_rules.specs.SwitchBodies.{no_arms, with_case, with_default, with_statement, converts_constant, case_label, default_label}
 use Rattle.mv_statement_rules.specs.Statements.{Judges, Layer, lines_in_turn, arms_in_turn, statement_of, line_of, arm_of, switch_body_of, function_body_of, act_step, judges_of, body_judgement}
 use Rattle.mv_typed_bodies.proofs.Judging.{IfGood, of_good, if_any, if_then, if_kept, if_more, if_through, all_append, all_last}
-use Rattle.mv_typed_bodies.proofs.Property.{OfOption, Property}
+use Rattle.mv_typed_bodies.specs.Bodies.{Keeps}
+use Rattle.mv_typed_bodies.proofs.Property.{Holds, Property}
 use Rattle.mv_typed_bodies.proofs.Declared.{locals_lead}
 use Rattle.mv_typed_bodies.proofs.Forms.{ToStmt, ToStmts, ToMore, ToArms, ToBody, AllLead, declaration_leads, case_leads, break_leads, continue_leads, return_leads, expression_leads, lines_lead, block_leads, if_leads, while_leads, do_leads, for_leads, switch_leads}
 use Rattle.mv_typed_bodies.proofs.Induction.{LayerHas, judges_have}
@@ -179,3 +180,7 @@ module _ (x : Property) where
       Leads x s u (AllByRecursion (x.of_stmt false false) ss)
   body_leads t r body s u ss q =
       of_good (ToStmts x (in_function t) s) (body_judgement t body s) ((judges_have Lead layer_leads body).function_body (in_function t) r s) (u, ss) q
+
+  pub body_has : (body : Line) (s u : Scope) (ss : List Stmt) → body_judgement x.function.result body s ≡ Good (u, ss) →
+      Keeps u.signatures x.program.signatures → Keeps u.locals x.function.locals → Holds x.program x.function x.of_name s → AllByRecursion (x.of_stmt false false) ss
+  body_has body s u ss q signatures locals k = ((body_leads x.function.result refl body s u ss q).holds (record { signatures = signatures; locals = locals }) k).1

@@ -69,3 +69,7 @@ all_append P (x ∷ xs) ys h k = (h.0, all_append P xs ys h.1 k)
 
 pub all_last : {A : Type 0} (P : A → Type 0) (xs : List A) (y : A) → AllByRecursion P xs → P y → AllByRecursion P (xs ++ y ∷ [])
 all_last P xs y h k = all_append P xs (y ∷ []) h (k, tt)
+
+pub if_both : {A : Type 0} (P Q : A → Type 0) (j : Judged A) → IfGood j P → IfGood j Q → IfGood j (λ a. P a × Q a)
+if_both P Q (Good a) h k = (h, k)
+if_both P Q (Broken place rule) h k = tt

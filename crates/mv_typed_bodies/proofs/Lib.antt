@@ -8,9 +8,9 @@ pub mod Property
 pub mod Leading
 mod Declared
 mod Made
-mod Conversions
+pub mod Conversions
 mod Induction
-mod Values
+pub mod Values
 mod Forms
 pub mod Bodies
 mod Parameters

@@ -22,7 +22,7 @@ use Rattle.mv_typed_bodies.specs.Bodies.{Keeps, Grows, IsTypedBehind}
 use Rattle.mv_typed_bodies.proofs.Judging.{by_good}
 use Rattle.mv_typed_bodies.proofs.Property.{OfOption, Property}
 use Rattle.mv_typed_bodies.proofs.Conversions.{integer_is, converted_at, promoted_at}
-use Rattle.mv_typed_bodies.proofs.Values.{initials_typed}
+use Rattle.mv_typed_bodies.proofs.Values.{initials_have}
 use Rattle.mv_typed_bodies.proofs.Made.{block_made, clear_made, express_made, if_made, while_made, do_made, for_made, break_made, continue_made, return_made, switch_made}
 use Rattle.mv_typed_bodies.proofs.Places.{mapped_there}
 use Rattle.mv_typed_bodies.proofs.Bodies.{body_leads}
@@ -50,7 +50,8 @@ module _ (p : Program) (f : Function) where
       array_local = λ n t size fixed h. tt;
       value = λ s k e. by_good (IsTypedExpr p f) (value_judgement s e) (λ y q. values p f s e y k.fits q);
       effect = λ s k e. by_good (IsTypedExpr p f) (effect_judgement s e) (λ y q. effects p f s e y k.fits q);
-      initials = λ s k place l given. initials_typed values comes p f s k.fits place l given;
+      initials = λ s k place l given.
+          initials_have s (IsTypedExpr p f) (λ e. by_good (IsTypedExpr p f) (value_judgement s e) (λ y q. values p f s e y k.fits q)) (IsTypedAt p f) (converted_at p (comes p) f) place l given;
       block_form = λ b c ss h. block_made p f ss h;
       clear_form = λ b c n l es there h. clear_made p f n l.ctype es (mapped_there (λ (k : Local). k.ctype) f.locals n l there) h;
       express_form = λ b c e h. express_made p f e h;
