@@ -23,7 +23,7 @@ use Rattle.mv_ast.specs.declared.program.Program.{Program}
 use Rattle.mv_lower.specs.declared.names.Marks.{Marks}
 use Rattle.mv_lower.specs.Naming.{flagged, Flags, marked, seen_marks, code_names}
 use Rattle.mv_lower.specs.Programs.{ended, no_marks, is_set, is_named, AreMarks}
-use Rattle.mv_lower.proofs.Forms.{map_push}
+use Rattle.mv_lower_expressions.proofs.Forms.{map_push}
 use Rattle.mv_lower.proofs.Switching.{next_item}
 
 -- ---- code

@@ -8,7 +8,7 @@ use Rattle.mv_ir.specs.declared.stm.Stm.{Stm}
 use Rattle.mv_lowering.specs.Statements.{Jumps, Code, LoweredArm, raised, in_arm, enclosed, nested, arms_top, test_labels}
 use Rattle.mv_lower.specs.Statements.{stmts_at, arm_at, used, arm_size, arms_size}
 use Rattle.mv_lower.specs.Switches.{default_place, tests_from, arms_of}
-use Rattle.mv_lower.proofs.Sizes.{sum_cons}
+use Rattle.mv_lower_expressions.proofs.Sizes.{sum_cons}
 use Rattle.mv_lower.proofs.Sequences.{same_code}
 use Rattle.mv_lower.proofs.StatementForms.{arm_is, few_arms, size_arm, map_length}
 

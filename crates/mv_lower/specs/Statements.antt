@@ -13,8 +13,8 @@ use Rattle.mv_lowering.specs.LowerStatements.{lower_stmt, lower_arm}
 use Rattle.mv_lowering.specs.Functions.{size_in, outermost}
 use Rattle.mv_lower.specs.declared.code.Jumps as declared
 use Rattle.mv_lower.specs.declared.code.Code as declared_code
-use Rattle.mv_lower.specs.Values.{given}
-use Rattle.mv_lower.specs.Expressions.{expr_at}
+use Rattle.mv_lower_expressions.specs.Values.{given}
+use Rattle.mv_lower_expressions.specs.Expressions.{expr_at}
 
 -- ---- results
 
