@@ -4,3 +4,5 @@
 mod expression;
 pub mod program;
 mod statement;
+#[cfg(test)]
+mod tests;

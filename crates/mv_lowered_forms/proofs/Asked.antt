@@ -119,7 +119,7 @@ module _ (globals : Globals) (locals : ℕ) (sizes : ℕ → Option ℕ) where
   optional_within None declared = true
   optional_within (Some e) declared = is_within globals locals sizes declared e
 
-  -- A declared local may be named by its own first values. Of the arms of a `switch` at most one has no label.
+  -- A declared local may be named by its own first values. Of the arms of a `switch` at most two have no label: the first, and the `default`.
   abbrev pub stmt_scope_layer : Stmt-F Scope ArmScope → Scope
   stmt_scope_layer (stmt.Block body) = declaring_nothing (λ d. all_within body d)
   stmt_scope_layer (stmt.Clear l values) = record {
@@ -133,7 +133,7 @@ module _ (globals : Globals) (locals : ℕ) (sizes : ℕ → Option ℕ) where
   stmt_scope_layer (stmt.For first test step body) = declaring_nothing (λ d.
       all_within first d &&
       (optional_within test (all_behind first d) && (optional_within step (all_behind first d) && all_within body (all_behind first d))))
-  stmt_scope_layer (stmt.Switch e arms) = declaring_nothing (λ d. is_within globals locals sizes d e && (nat_lt (bare_arms arms) 2 && arms_within arms d))
+  stmt_scope_layer (stmt.Switch e arms) = declaring_nothing (λ d. is_within globals locals sizes d e && (nat_lt (bare_arms arms) 3 && arms_within arms d))
   stmt_scope_layer stmt.Break = declaring_nothing (λ d. true)
   stmt_scope_layer stmt.Continue = declaring_nothing (λ d. true)
   stmt_scope_layer (stmt.Return e) = declaring_nothing (optional_within e)

@@ -130,8 +130,8 @@ module _ (globals : Globals) (locals : ℕ) (sizes : ℕ → Option ℕ) (void :
       omega (arith, k, l, m, n, d, e)
   layer (stmt.Switch e arms) h declared b j =
       let scoped = map (arm_scope globals locals sizes) arms in
-      let bs = split (within e declared) (nat_lt (bare_arms scoped) 2 && arms_within scoped declared) b in
-      let cs = split (nat_lt (bare_arms scoped) 2) (arms_within scoped declared) bs.1 in
+      let bs = split (within e declared) (nat_lt (bare_arms scoped) 3 && arms_within scoped declared) b in
+      let cs = split (nat_lt (bare_arms scoped) 3) (arms_within scoped declared) bs.1 in
       let k = value_top declared e bs.0 in
       let l = all_arms_top arms h declared cs.1 j in
       omega (arith, k, l, deep e)

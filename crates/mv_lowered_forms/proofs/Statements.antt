@@ -183,7 +183,7 @@ module _ (globals : Globals) (locals : ℕ) (sizes : ℕ → Option ℕ) (void :
       by [] e le = let c = ap (λ z. cond z (suc (bare_arms (map (arm_scope globals locals sizes) arms))) (bare_arms (map (arm_scope globals locals sizes) arms))) e in omega (arith, le, c)
       by (l ∷ ls) e le = let c = ap (λ z. cond z (suc (bare_arms (map (arm_scope globals locals sizes) arms))) (bare_arms (map (arm_scope globals locals sizes) arms))) e in omega (arith, le, c)
 
-  switch_paid : (e : Expr) (arms : List Arm) → Each A arms → (declared : ℕ → Bool) → is_within globals locals sizes declared e ≡ true → nat_lt (bare_arms (map (arm_scope globals locals sizes) arms)) 2 ≡ true →
+  switch_paid : (e : Expr) (arms : List Arm) → Each A arms → (declared : ℕ → Bool) → is_within globals locals sizes declared e ≡ true → nat_lt (bare_arms (map (arm_scope globals locals sizes) arms)) 3 ≡ true →
       arms_within (map (arm_scope globals locals sizes) arms) declared ≡ true → (j : Jumps) → (lower_switch locals (lower_expr e) (arms_lowered arms) j).top ≤ room →
       CodePaid (1 + (expr_nodes e + sum (map arm_nodes arms))) (weight e + sum (map (arm_weight direct through) arms)) (lower_switch locals (lower_expr e) (arms_lowered arms) j).code
   switch_paid e arms h declared be few b j top =
@@ -193,7 +193,7 @@ module _ (globals : Globals) (locals : ℕ) (sizes : ℕ → Option ℕ) (void :
       let tested = r.chain (all_tests_paid locals 0 ls) (r.chain (r.retree (covers_none (temp locals ∷ []))) (blocks.leaves (arm_place (λ (a : LoweredArm). a.other) 0 ls))) in
       let q = arms_paid arms h declared b j (omega (arith, top)) inner (2 * labels_of ls + (0 + 1)) (3 * labels_of ls + (0 + 0)) (0 + (0 + 0)) in
       let labelled = arms_labelled arms h in
-      let one = ltb-true (bare_arms (map (arm_scope globals locals sizes) arms)) 2 few in
+      let one = ltb-true (bare_arms (map (arm_scope globals locals sizes) arms)) 3 few in
       one_more (p.units + (1 + (2 * labels_of ls + (0 + 1) + q.units + 1))) (p.nodes + (1 + (3 * labels_of ls + (0 + 0) + q.nodes)))
       (r.weaken (omega arith) (omega arith) (omega arith)
       (r.chain p.made (r.chain (r.does (plain_set a locals (lower_expr e locals).tree (scratch locals (omega arith) (omega (arith, top))))) (blocks.block (q.made (temp locals ∷ []) tested)))))
@@ -295,8 +295,8 @@ module _ (globals : Globals) (locals : ℕ) (sizes : ℕ → Option ℕ) (void :
       (omega (arith, begun.few_units, tested.few_units, stepped.few_units, turn.few_units, n, n'))
       (omega (arith, begun.few_nodes, tested.few_nodes, stepped.few_nodes, turn.few_nodes, n, n')) (omega (arith, begun.few_words, tested.few_words, stepped.few_words, turn.few_words, n, n'))
   layer (stmt.Switch e arms) h declared b j top =
-      let bs = split (is_within globals locals sizes declared e) (nat_lt (bare_arms (map (arm_scope globals locals sizes) arms)) 2 && arms_within (map (arm_scope globals locals sizes) arms) declared) b in
-      let cs = split (nat_lt (bare_arms (map (arm_scope globals locals sizes) arms)) 2) (arms_within (map (arm_scope globals locals sizes) arms) declared) bs.1 in
+      let bs = split (is_within globals locals sizes declared e) (nat_lt (bare_arms (map (arm_scope globals locals sizes) arms)) 3 && arms_within (map (arm_scope globals locals sizes) arms) declared) b in
+      let cs = split (nat_lt (bare_arms (map (arm_scope globals locals sizes) arms)) 3) (arms_within (map (arm_scope globals locals sizes) arms) declared) bs.1 in
       code_as (omega arith) (omega arith) (switch_paid e arms h declared bs.0 cs.0 cs.1 j top)
   layer stmt.Break h declared b j top = one_more 1 0 (r.weaken (omega arith) (omega arith) (omega arith) (blocks.leaves j.leave)) (omega arith) (omega arith) (omega arith)
   layer stmt.Continue h declared b j top = one_more 1 0 (r.weaken (omega arith) (omega arith) (omega arith) (blocks.leaves j.again)) (omega arith) (omega arith) (omega arith)

@@ -231,8 +231,8 @@ module _ (globals : Globals) (locals : ℕ) (sizes : ℕ → Option ℕ) (void :
       (test_targets (lower_optional 1 test) (enclosed code ∷ []) (true ∷ r) (omega arith) (optional 1 inside test b1.0 (true ∷ r)) (body_targets body h.1 inside b2.1 u v ls.1 j r k)) (optional 0 inside step b2.0 (true ∷ r))))
   layer (stmt.Switch e arms) h declared b u v l j r k =
       let scoped = map (arm_scope globals locals sizes) arms in
-      let bs = split (is_within globals locals sizes declared e) (nat_lt (bare_arms scoped) 2 && arms_within scoped declared) b in
-      let cs = split (nat_lt (bare_arms scoped) 2) (arms_within scoped declared) bs.1 in
+      let bs = split (is_within globals locals sizes declared e) (nat_lt (bare_arms scoped) 3 && arms_within scoped declared) b in
+      let cs = split (nat_lt (bare_arms scoped) 3) (arms_within scoped declared) bs.1 in
       let ls = arms_lowered arms in
       let place = arm_place (λ (a : LoweredArm). a.other) 0 ls in
       let inner = test_arms locals 0 ls ++ break place ∷ [] in

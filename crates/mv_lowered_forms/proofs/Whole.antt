@@ -369,8 +369,8 @@ module _ (globals : Globals) (locals : ℕ) (sizes : ℕ → Option ℕ) (void :
       r1 = around_loop r false
   layer (stmt.Switch e arms) h declared b k j top r q n =
       let scoped = map (arm_scope globals locals sizes) arms in
-      let bs = split (is_within globals locals sizes declared e) (nat_lt (bare_arms scoped) 2 && arms_within scoped declared) b in
-      let cs = split (nat_lt (bare_arms scoped) 2) (arms_within scoped declared) bs.1 in
+      let bs = split (is_within globals locals sizes declared e) (nat_lt (bare_arms scoped) 3 && arms_within scoped declared) b in
+      let cs = split (nat_lt (bare_arms scoped) 3) (arms_within scoped declared) bs.1 in
       switch_dead e arms h declared bs.0 cs.1 k j top r q (n k)
   layer stmt.Break h declared b k j top r q n = break_dead j.leave r q.leave
   layer stmt.Continue h declared b k j top r q n = break_dead j.again r q.again

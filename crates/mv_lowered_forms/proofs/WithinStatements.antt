@@ -19,7 +19,7 @@ use Rattle.mv_lowering.specs.LowerStatements.{but_for, named_option, stmt_named_
 use Rattle.mv_lowering.proofs.Expressions.{split, no}
 use Rattle.mv_lowered_programs.specs.Scopes.{Scope, Scoped, with_local, with_declared, all_scoped, scope_behind, names_declared, option_declared, scoped_layer, arm_scoped_layer, stmt_scoped, arm_scoped}
 use Rattle.mv_lowered_programs.specs.Named.{calls_known, all_layer, all_arm_layer, all_expressions}
-use Rattle.mv_lowered_programs.specs.Labels.{at_most_one, has_label, ArmLabels, labels_layer, arm_labels_layer, stmt_labelled, arm_labels}
+use Rattle.mv_lowered_programs.specs.Labels.{at_most_one, has_label, ArmLabels, later_arms, labels_layer, arm_labels_layer, stmt_labelled, arm_labels}
 use Rattle.mv_lowered_programs.specs.WellFormed.{IsWithinLimits}
 use Rattle.mv_lowered_forms.specs.Reads.{expr_reads, stmt_reads_layer, arm_reads_layer, stmt_reads, arm_reads}
 use Rattle.mv_lowered_forms.proofs.Asked as asked
@@ -163,7 +163,7 @@ module _ (p : Program) (own : ℕ) (fn : Function) (globals : Globals) (locals :
 
   record ArmInside (arm : Arm) : Type 0 where
     within : (scope : Scope) → GoodArm arm scope → (scope_of_arm arm).within scope ≡ true
-    bare : (arm_labels arm).holds ≡ true → (scope_of_arm arm).is_bare ≡ true → (arm_labels arm).is_default ≡ true
+    bare : (arm_labels arm).is_labelled ≡ true → (scope_of_arm arm).is_bare ≡ true → (arm_labels arm).is_default ≡ true
 
   abbrev scopes : List Stmt → List asked.Scope
   scopes body = map scope_of body
@@ -206,7 +206,10 @@ module _ (p : Program) (own : ℕ) (fn : Function) (globals : Globals) (locals :
   defaults arms = map (λ (a : ArmLabels). a.is_default) (map arm_labels arms)
 
   abbrev labelled_all : List Arm → Bool
-  labelled_all arms = all_of (map (λ (a : ArmLabels). a.holds) (map arm_labels arms))
+  labelled_all arms = all_of (map (λ (a : ArmLabels). a.is_labelled) (map arm_labels arms))
+
+  abbrev later_labelled : List Arm → Bool
+  later_labelled arms = all_of (map (λ (a : ArmLabels). a.is_labelled) (later_arms (map arm_labels arms)))
 
   abbrev bare : List Arm → ℕ
   bare arms = bare_arms (map scope_of_arm arms)
@@ -214,7 +217,7 @@ module _ (p : Program) (own : ℕ) (fn : Function) (globals : Globals) (locals :
   none_bare : (arms : List Arm) → Each ArmInside arms → labelled_all arms ≡ true → any_of (defaults arms) ≡ false → bare arms ≤ 0
   none_bare [] h l e = omega arith
   none_bare (arm ∷ arms) h l e =
-      let ls = split (arm_labels arm).holds (labelled_all arms) l in
+      let ls = split (arm_labels arm).is_labelled (labelled_all arms) l in
       by (scope_of_arm arm).is_bare (arm_labels arm).is_default (h.0.bare ls.0) e (λ q. none_bare arms h.1 ls.1 q)
     where
       by : (x y : Bool) → (x ≡ true → y ≡ true) → (y || any_of (defaults arms)) ≡ false → (any_of (defaults arms) ≡ false → bare arms ≤ 0) → cond x (suc (bare arms)) (bare arms) ≤ 0
@@ -223,22 +226,35 @@ module _ (p : Program) (own : ℕ) (fn : Function) (globals : Globals) (locals :
       by false true q e k = no (sym e)
       by false false q e k = k e
 
+  denied : (b : Bool) → not b ≡ true → b ≡ false
+  denied true q = no q
+  denied false q = refl
+
   few_bare : (arms : List Arm) → Each ArmInside arms → labelled_all arms ≡ true → at_most_one (defaults arms) ≡ true → bare arms ≤ 1
   few_bare [] h l e = omega arith
   few_bare (arm ∷ arms) h l e =
-      let ls = split (arm_labels arm).holds (labelled_all arms) l in
+      let ls = split (arm_labels arm).is_labelled (labelled_all arms) l in
       by (scope_of_arm arm).is_bare (arm_labels arm).is_default (h.0.bare ls.0) e (λ q. none_bare arms h.1 ls.1 q) (λ q. few_bare arms h.1 ls.1 q)
     where
-      denied : (b : Bool) → not b ≡ true → b ≡ false
-      denied true q = no q
-      denied false q = refl
-
       by : (x y : Bool) → (x ≡ true → y ≡ true) → (if y then not (any_of (defaults arms)) else at_most_one (defaults arms)) ≡ true → (any_of (defaults arms) ≡ false → bare arms ≤ 0) → (at_most_one (defaults arms) ≡ true → bare arms ≤ 1) →
           cond x (suc (bare arms)) (bare arms) ≤ 1
       by true true q e k m = let z = k (denied (any_of (defaults arms)) e) in omega (arith, z)
       by true false q e k m = no (q refl)
       by false true q e k m = let z = k (denied (any_of (defaults arms)) e) in omega (arith, z)
       by false false q e k m = m e
+
+  -- the first arm too may have no label
+  most_bare : (arms : List Arm) → Each ArmInside arms → later_labelled arms ≡ true → at_most_one (defaults arms) ≡ true → bare arms ≤ 2
+  most_bare [] h l e = omega arith
+  most_bare (arm ∷ arms) h l e = by (scope_of_arm arm).is_bare (few_behind (arm_labels arm).is_default e)
+    where
+      few_behind : (y : Bool) → (if y then not (any_of (defaults arms)) else at_most_one (defaults arms)) ≡ true → bare arms ≤ 1
+      few_behind true e = let z = none_bare arms h.1 l (denied (any_of (defaults arms)) e) in omega (arith, z)
+      few_behind false e = few_bare arms h.1 l e
+
+      by : (x : Bool) → bare arms ≤ 1 → cond x (suc (bare arms)) (bare arms) ≤ 2
+      by true z = omega (arith, z)
+      by false z = omega (arith, z)
 
   -- ---- each form
 
@@ -381,10 +397,12 @@ module _ (p : Program) (own : ℕ) (fn : Function) (globals : Globals) (locals :
       let scoped_arms = all_of (map (λ (a : Scope → Bool). a scope) (map arm_scoped arms)) in
       let ss = split (names_declared scope e) scoped_arms g.scoped in
       let ks = first_known e (all_of (map KA arms)) g.known in
-      let ls = split (at_most_one (defaults arms)) (labelled_all arms) g.labelled in
-      let most = few_bare arms h ls.1 ls.0 in
-      and_from (I scope e) (nat_lt (bare arms) 2 && arms_within (map scope_of_arm arms) scope) (expr scope e g.typed.0 fs.0 ss.0 ks.0 (first_held e (reads_arms arms) g.held))
-      (and_from (nat_lt (bare arms) 2) (arms_within (map scope_of_arm arms) scope) (lt-ltb (bare arms) 2 (omega (arith, most)))
+      let inner = all_of (map (λ (a : ArmLabels). a.holds) (map arm_labels arms)) in
+      let l0 = split (at_most_one (defaults arms)) (later_labelled arms && inner) g.labelled in
+      let ls = split (later_labelled arms) inner l0.1 in
+      let most = most_bare arms h ls.0 l0.0 in
+      and_from (I scope e) (nat_lt (bare arms) 3 && arms_within (map scope_of_arm arms) scope) (expr scope e g.typed.0 fs.0 ss.0 ks.0 (first_held e (reads_arms arms) g.held))
+      (and_from (nat_lt (bare arms) 3) (arms_within (map scope_of_arm arms) scope) (lt-ltb (bare arms) 3 (omega (arith, most)))
       (arms_inside arms h scope (record { typed = g.parts; formed = fs.1; scoped = ss.1; known = ks.1; labelled = ls.1; held = right (λ r a. R e r a || false) (reads_arms arms) g.held })))
   layer stmt.Break h scope g = refl
   layer stmt.Continue h scope g = refl
@@ -414,15 +432,14 @@ module _ (p : Program) (own : ℕ) (fn : Function) (globals : Globals) (locals :
         behind = λ scope. ap (λ (z : asked.Scope). z.behind scope) within_as ∙ (behind_layer x scope ∙ sym (ap (λ (z : Scoped). with_declared z.declares scope) scoped_as));
       }
 
-  is_default : (ls : List ℕ) (other rest : Bool) → ((has_label ls || other) && rest) ≡ true → is_empty ls ≡ true → other ≡ true
-  is_default [] other rest e q = (split other rest e).0
-  is_default (l ∷ ls) other rest e q = no q
+  is_default : (ls : List ℕ) (other : Bool) → (has_label ls || other) ≡ true → is_empty ls ≡ true → other ≡ true
+  is_default [] other e q = e
+  is_default (l ∷ ls) other e q = no q
 
   arm_step : (x : Arm-F Stmt Arm) → Each Inside x.body → ArmInside (roll-Arm x)
   arm_step x h =
       let within_as = fold-roll-Arm asked.Scope ArmScope (stmt_scope_layer globals locals sizes) (arm_scope_layer globals locals sizes) x in
       let labels_as = fold-roll-Arm Bool ArmLabels labels_layer arm_labels_layer x in
-      let inner = all_of (map stmt_labelled x.body) in
       record {
         within = λ scope g.
             ap (λ (z : ArmScope). z.within scope) within_as ∙
@@ -431,13 +448,13 @@ module _ (p : Program) (own : ℕ) (fn : Function) (globals : Globals) (locals :
               formed = sym (fold-roll-Arm Bool Bool (stmt_named_layer p own locals sizes void) (arm_named_layer p own locals sizes void) x) ∙ g.formed;
               scoped = sym (ap (λ (z : Scope → Bool). z scope) (fold-roll-Arm Scoped (Scope → Bool) scoped_layer arm_scoped_layer x)) ∙ g.scoped;
               known = sym (fold-roll-Arm Bool Bool (all_layer K) all_arm_layer x) ∙ g.known;
-              labelled = (split (has_label x.labels || x.other) inner (sym (ap (λ (z : ArmLabels). z.holds) labels_as) ∙ g.labelled)).1;
+              labelled = sym (ap (λ (z : ArmLabels). z.holds) labels_as) ∙ g.labelled;
               held =
                   holding.holds_same globals count (reads_all x.body) (λ r a. arm_reads r a (roll-Arm x)) (λ r a. fold-roll-Arm Bool Bool (stmt_reads_layer r a) (arm_reads_layer r a) x) g.held;
             });
         bare = λ l e.
             ap (λ (z : ArmLabels). z.is_default) labels_as ∙
-            is_default x.labels x.other inner (sym (ap (λ (z : ArmLabels). z.holds) labels_as) ∙ l) (sym (ap (λ (z : ArmScope). z.is_bare) within_as) ∙ e);
+            is_default x.labels x.other (sym (ap (λ (z : ArmLabels). z.is_labelled) labels_as) ∙ l) (sym (ap (λ (z : ArmScope). z.is_bare) within_as) ∙ e);
       }
 
   -- The statements of a well-formed function.

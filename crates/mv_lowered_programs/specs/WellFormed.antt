@@ -21,7 +21,7 @@ abbrev pub parameters : Function → Scope
 parameters g l = nat_lt l g.params
 
 -- The function with a number: its parameters are its first locals, and scalars; what its statements name is there and is declared; no `break` or `continue`
--- stands outside a loop or a `switch`; the arms of each `switch` have labels; and the switches of an attributed one are all that it names.
+-- stands outside a loop or a `switch`; the arms of each `switch` behind its first have labels; and the switches of an attributed one are all that it names.
 pub record IsWellFormedFunction (p : Program) (f : ℕ) (g : Function) : Type 0 where
   pub parameters_there : g.params ≤ length g.locals
   pub scalars : All (λ l. l.size ≡ None) (take g.params g.locals)
