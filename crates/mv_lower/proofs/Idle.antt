@@ -1,5 +1,5 @@
 -- The program `int main(void) { }` is well formed.
-use Rattle.std.proofs.Common.{◌≡◌, ℕ, ◌+◌, ◌≤◌, zero, suc, Bool, true, false, [], ◌∷◌, List, length, refl, sym, subst, ap, arith, Option, Some, None}
+use Rattle.std.proofs.Common.{◌≡◌, ℕ, ◌≤◌, zero, suc, false, [], ◌∷◌, List, refl, sym, subst, ap, arith, Some}
 use Rattle.std.specs.Prelude.{slice_get, All}
 use Rattle.std.proofs.lemmas.List.Elements.{All-nil, All-cons}
 use Rattle.mv_num.specs.declared.kind.Kind.TheVariants.{Int}
@@ -8,7 +8,7 @@ use Rattle.mv_ast.specs.declared.program.Program.{Program}
 use Rattle.mv_ast.specs.declared.program.Local.{Local}
 use Rattle.mv_ast.specs.declared.program.Function.{Function}
 use Rattle.mv_ast.specs.Counts.{words_of_size}
-use Rattle.mv_numbering.specs.Typing.{IsTypedStmt, IsTypedFunction}
+use Rattle.mv_numbering.specs.Typing.{IsTypedFunction}
 use Rattle.mv_lowered_programs.specs.WellFormed.{program_nodes, IsWellFormedFunction, IsWellFormed}
 
 module _ (name : List ℕ) where

@@ -6,3 +6,4 @@ pub mod Bodies
 pub mod Marking
 pub mod Small
 pub mod Idle
+pub mod Leaves

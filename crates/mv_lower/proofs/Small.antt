@@ -1,6 +1,6 @@
 -- A well-formed program is small enough for the numbers of its temporaries and blocks: each `switch` has few arms without a label, so its nodes pay for its arms.
-use Rattle.std.proofs.Common.{◌≡◌, ℕ, suc, ◌+◌, ◌*◌, ◌<◌, ◌≤◌, ◌^◌, Bool, true, false, not, List, [], ◌∷◌, ◌++◌, map, length, get_or, refl, sym, ◌∙◌, ap, subst, arith, Option, Some, None, if◌then◌else◌}
-use Rattle.std.specs.Prelude.{◌&&◌, ◌||◌, sum, slice_get}
+use Rattle.std.proofs.Common.{◌≡◌, ℕ, ◌+◌, ◌*◌, ◌<◌, ◌≤◌, Bool, true, false, not, List, [], ◌∷◌, ◌++◌, map, length, get_or, refl, sym, ◌∙◌, ap, subst, arith, if◌then◌else◌}
+use Rattle.std.specs.Prelude.{◌&&◌, ◌||◌, sum}
 use Rattle.std.proofs.lemmas.List.Sums.{sum_by-append}
 use Rattle.std.proofs.lemmas.Bool.{and_from}
 use Rattle.std.proofs.lemmas.Option.{slice_get-get_or}
@@ -14,8 +14,8 @@ use Rattle.mv_ast.specs.Names.{any_of}
 use Rattle.mv_ir.proofs.Induction.{Each}
 use Rattle.mv_lowering.specs.Lower.{all_of}
 use Rattle.mv_lowering.proofs.Expressions.{split, no, denied}
-use Rattle.mv_lowered_programs.specs.Labels.{at_most_one, has_label, ArmLabels, labels_layer, arm_labels_layer, stmt_labelled, arm_labels}
-use Rattle.mv_lowered_programs.specs.WellFormed.{program_nodes, IsWellFormed}
+use Rattle.mv_lowered_programs.specs.Labels.{at_most_one, has_label, ArmLabels, later_arms, arms_labelled, labels_layer, arm_labels_layer, stmt_labelled, arm_labels}
+use Rattle.mv_lowered_programs.specs.WellFormed.{IsWellFormed}
 use Rattle.mv_lowered_programs.proofs.StatementInduction.{StmtChildren, stmt_ind}
 use Rattle.mv_lower.specs.Programs.{HasRoom, IsSmall}
 use Rattle.mv_lower.specs.Statements.{stmt_size, stmts_size}
@@ -54,81 +54,85 @@ bare a = bare_of (out-Arm a).labels
 
 -- ---- arms without a label
 
-abbrev labelled_inside : Arm → Bool
-labelled_inside a = all_of (map stmt_labelled (out-Arm a).body)
-
 abbrev defaults : List Arm → List Bool
 defaults arms = map (λ (a : ArmLabels). a.is_default) (map arm_labels arms)
 
-abbrev hold : List Arm → Bool
-hold arms = all_of (map (λ (a : ArmLabels). a.holds) (map arm_labels arms))
+abbrev labelled : List Arm → Bool
+labelled arms = all_of (map (λ (a : ArmLabels). a.is_labelled) (map arm_labels arms))
 
-record Labelled (a : Arm) : Type 0 where
-  inside : labelled_inside a ≡ true
-  few : bare a ≤ 1
-  none : (arm_labels a).is_default ≡ false → bare a ≤ 0
+abbrev labelled_inside : Arm → Bool
+labelled_inside a = all_of (map stmt_labelled (out-Arm a).body)
 
-labelled_arm : (a : Arm) → (arm_labels a).holds ≡ true → Labelled a
-labelled_arm a e =
-    let whole : arm_labels a ≡ arm_labels_layer (map-Arm Stmt Arm Bool ArmLabels stmt_labelled arm_labels (out-Arm a)) = fold_out-Arm Bool ArmLabels labels_layer arm_labels_layer a in
-    let s = split (has_label (out-Arm a).labels || (out-Arm a).other) (labelled_inside a) (sym (ap (λ (z : ArmLabels). z.holds) whole) ∙ e) in
-    record {
-      inside = s.1;
-      few = one (out-Arm a).labels;
-      none = λ d. by (out-Arm a).labels (out-Arm a).other s.0 (sym (ap (λ (z : ArmLabels). z.is_default) whole) ∙ d);
-    }
+labels_of : (a : Arm) → arm_labels a ≡ arm_labels_layer (map-Arm Stmt Arm Bool ArmLabels stmt_labelled arm_labels (out-Arm a))
+labels_of a = fold_out-Arm Bool ArmLabels labels_layer arm_labels_layer a
+
+at_most_bare : (a : Arm) → bare a ≤ 1
+at_most_bare a = by (out-Arm a).labels
   where
-    one : (ls : List ℕ) → bare_of ls ≤ 1
-    one [] = omega arith
-    one (l ∷ ls) = omega arith
+    by : (ls : List ℕ) → bare_of ls ≤ 1
+    by [] = omega arith
+    by (l ∷ ls) = omega arith
 
+not_bare : (a : Arm) → (arm_labels a).is_labelled ≡ true → (arm_labels a).is_default ≡ false → bare a ≤ 0
+not_bare a e d =
+    by (out-Arm a).labels (out-Arm a).other (sym (ap (λ (z : ArmLabels). z.is_labelled) (labels_of a)) ∙ e) (sym (ap (λ (z : ArmLabels). z.is_default) (labels_of a)) ∙ d)
+  where
     by : (ls : List ℕ) (other : Bool) → (has_label ls || other) ≡ true → other ≡ false → bare_of ls ≤ 0
     by [] true e d = no (sym d)
     by [] false e d = no e
     by (l ∷ ls) other e d = omega arith
 
-none_bare : (arms : List Arm) → hold arms ≡ true → any_of (defaults arms) ≡ false → sum (map bare arms) ≤ 0
+none_bare : (arms : List Arm) → labelled arms ≡ true → any_of (defaults arms) ≡ false → sum (map bare arms) ≤ 0
 none_bare [] h e = omega arith
 none_bare (a ∷ arms) h e =
-    let s = split (arm_labels a).holds (hold arms) h in
-    let here = labelled_arm a s.0 in
+    let s = split (arm_labels a).is_labelled (labelled arms) h in
     let c = sum_cons bare a arms in
-    by (arm_labels a).is_default e here.none (λ q. none_bare arms s.1 q) c
+    by (arm_labels a).is_default e (not_bare a s.0) (none_bare arms s.1) c
   where
     by : (d : Bool) → (d || any_of (defaults arms)) ≡ false → (d ≡ false → bare a ≤ 0) → (any_of (defaults arms) ≡ false → sum (map bare arms) ≤ 0) → sum (map bare (a ∷ arms)) ≡ bare a + sum (map bare arms) →
         sum (map bare (a ∷ arms)) ≤ 0
     by true e here rest c = no (sym e)
     by false e here rest c = let x = here refl in let y = rest e in omega (arith, x, y, c)
 
-few_bare : (arms : List Arm) → hold arms ≡ true → at_most_one (defaults arms) ≡ true → sum (map bare arms) ≤ 1
-few_bare [] h e = omega arith
-few_bare (a ∷ arms) h e =
-    let s = split (arm_labels a).holds (hold arms) h in
-    let here = labelled_arm a s.0 in
+one_bare : (arms : List Arm) → labelled arms ≡ true → at_most_one (defaults arms) ≡ true → sum (map bare arms) ≤ 1
+one_bare [] h e = omega arith
+one_bare (a ∷ arms) h e =
+    let s = split (arm_labels a).is_labelled (labelled arms) h in
     let c = sum_cons bare a arms in
-    by (arm_labels a).is_default e (here.few, here.none) (λ q. none_bare arms s.1 q) (λ q. few_bare arms s.1 q) c
+    by (arm_labels a).is_default e (not_bare a s.0) (none_bare arms s.1) (one_bare arms s.1) c
   where
-    by : (d : Bool) → (if d then not (any_of (defaults arms)) else at_most_one (defaults arms)) ≡ true → (bare a ≤ 1) × (d ≡ false → bare a ≤ 0) → (any_of (defaults arms) ≡ false → sum (map bare arms) ≤ 0) →
+    by : (d : Bool) → (if d then not (any_of (defaults arms)) else at_most_one (defaults arms)) ≡ true → (d ≡ false → bare a ≤ 0) → (any_of (defaults arms) ≡ false → sum (map bare arms) ≤ 0) →
         (at_most_one (defaults arms) ≡ true → sum (map bare arms) ≤ 1) → sum (map bare (a ∷ arms)) ≡ bare a + sum (map bare arms) → sum (map bare (a ∷ arms)) ≤ 1
-    by true e here none few c = let x = here.0 in let y = none (denied (any_of (defaults arms)) e) in omega (arith, x, y, c)
-    by false e here none few c = let x = here.1 refl in let y = few e in omega (arith, x, y, c)
+    by true e here none one c = let x = at_most_bare a in let y = none (denied (any_of (defaults arms)) e) in omega (arith, x, y, c)
+    by false e here none one c = let x = here refl in let y = one e in omega (arith, x, y, c)
+
+-- the first, and the `default`
+two_bare : (arms : List Arm) → all_of (map (λ (a : ArmLabels). a.is_labelled) (later_arms (map arm_labels arms))) ≡ true → at_most_one (defaults arms) ≡ true → sum (map bare arms) ≤ 2
+two_bare [] h e = omega arith
+two_bare (a ∷ arms) h e = let c = sum_cons bare a arms in by (arm_labels a).is_default e c
+  where
+    by : (d : Bool) → (if d then not (any_of (defaults arms)) else at_most_one (defaults arms)) ≡ true → sum (map bare (a ∷ arms)) ≡ bare a + sum (map bare arms) → sum (map bare (a ∷ arms)) ≤ 2
+    by true e c = let x = at_most_bare a in let y = none_bare arms h (denied (any_of (defaults arms)) e) in omega (arith, x, y, c)
+    by false e c = let x = at_most_bare a in let y = one_bare arms h e in omega (arith, x, y, c)
+
+all_inside : (arms : List Arm) → all_of (map (λ (a : ArmLabels). a.holds) (map arm_labels arms)) ≡ true → all_of (map labelled_inside arms) ≡ true
+all_inside [] h = refl
+all_inside (a ∷ arms) h =
+    let s = split (arm_labels a).holds (all_of (map (λ (b : ArmLabels). b.holds) (map arm_labels arms))) h in
+    and_from (labelled_inside a) (all_of (map labelled_inside arms)) (sym (ap (λ (z : ArmLabels). z.holds) (labels_of a)) ∙ s.0) (all_inside arms s.1)
 
 -- the arms of a `switch`: few have no label, and all in them is labelled
 record LabelledArms (arms : List Arm) : Type 0 where
   few : sum (map bare arms) ≤ 2
   inside : all_of (map labelled_inside arms) ≡ true
 
-all_inside : (arms : List Arm) → hold arms ≡ true → all_of (map labelled_inside arms) ≡ true
-all_inside [] h = refl
-all_inside (a ∷ arms) h =
-    let s = split (arm_labels a).holds (hold arms) h in
-    and_from (labelled_inside a) (all_of (map labelled_inside arms)) (labelled_arm a s.0).inside (all_inside arms s.1)
-
-labelled_switch : (arms : List Arm) → (at_most_one (defaults arms) && hold arms) ≡ true → LabelledArms arms
+labelled_switch : (arms : List Arm) → arms_labelled (map arm_labels arms) ≡ true → LabelledArms arms
 labelled_switch arms e =
-    let s = split (at_most_one (defaults arms)) (hold arms) e in
-    let few = few_bare arms s.1 s.0 in
-    record { few = omega (arith, few); inside = all_inside arms s.1 }
+    let rest = all_of (map (λ (a : ArmLabels). a.is_labelled) (later_arms (map arm_labels arms))) in
+    let inside = all_of (map (λ (a : ArmLabels). a.holds) (map arm_labels arms)) in
+    let s = split (at_most_one (defaults arms)) (rest && inside) e in
+    let t = split rest inside s.1 in
+    record { few = two_bare arms t.0 s.0; inside = all_inside arms t.1 }
 
 -- ---- sizes
 
@@ -187,9 +191,9 @@ layer (stmt.While e body) h l = let b = few_stmts body h l in omega (arith, b)
 layer (stmt.Do body e) h l = let b = few_stmts body h l in omega (arith, b)
 layer (stmt.For first test step body) h l = let b = few_lists first body h.0 h.1 l in omega (arith, b)
 layer (stmt.Switch e arms) h l =
-    let labelled = labelled_switch arms l in
-    let few = labelled.few in
-    let b = few_arms arms h labelled.inside in
+    let good = labelled_switch arms l in
+    let few = good.few in
+    let b = few_arms arms h good.inside in
     omega (arith, few, b)
 layer stmt.Break h l = omega arith
 layer stmt.Continue h l = omega arith

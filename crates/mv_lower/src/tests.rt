@@ -260,29 +260,37 @@ fn switched(rt: &impl Abort, alloc: Global) -> Program
     program(globals, functions, single(rt, alloc, switch), alloc)
 }
 
+fn is_only(list: &List<u32>, item: u32) -> bool {
+    match list.as_slice() {
+        [one] => *one == item,
+        _ => false,
+    }
+}
+
+fn has_room(body: &Body, room: Room) -> bool {
+    match body.rooms.as_slice() {
+        [one] => *one == room,
+        _ => false,
+    }
+}
+
 // The array has its room behind the scalar, and `f` is the one attributed function that is called.
 fn is_main(body: &Body) -> bool {
-    let has_room = matches!(
-        body.rooms.as_slice(),
-        [Room {
-            global: 1,
-            at: 0x0010_0004,
-            size: 3,
-        }]
-    );
-    has_room && matches!(body.marked.as_slice(), [1]) && body.switches.len() == 0
+    let array = Room {
+        global: 1,
+        at: 0x0010_0004,
+        size: 3,
+    };
+    has_room(body, array) && is_only(&body.marked, 1) && body.switches.len() == 0
 }
 
 fn is_switched(body: &Body) -> bool {
-    let has_room = matches!(
-        body.rooms.as_slice(),
-        [Room {
-            global: 0,
-            at: 0x0010_0000,
-            size: 1,
-        }]
-    );
-    has_room && body.marked.len() == 0 && matches!(body.switches.as_slice(), [0])
+    let scalar = Room {
+        global: 0,
+        at: 0x0010_0000,
+        size: 1,
+    };
+    has_room(body, scalar) && body.marked.len() == 0 && is_only(&body.switches, 0)
 }
 
 #[test]

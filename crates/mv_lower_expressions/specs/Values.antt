@@ -1,16 +1,10 @@
 -- What an expression is lowered to, as a function of what its parts are lowered to where they begin.
-use Rattle.std.specs.Prelude.{ℕ, ◌+◌, ◌≡◌, Bool, false, cond, List, [], ◌∷◌, ◌++◌, map, max, nat_le, nat_lt, nat_eq, Option, Some, None, if◌then◌else◌}
+use Rattle.std.specs.Prelude.{ℕ, ◌+◌, ◌≡◌, Bool, false, cond, List, [], ◌∷◌, ◌++◌, max, nat_le, nat_lt, nat_eq, Option, Some, None, if◌then◌else◌}
 use Rattle.mv_ir.specs.declared.tree.Tree.{Tree}
 use Rattle.mv_ir.specs.declared.stm.Stm.{Stm}
-use Rattle.mv_ir.specs.declared.stm.Array.{Array}
-use Rattle.mv_ir.specs.declared.stm.Callee.TheVariants as callee
 use Rattle.mv_ir.specs.Trees.{depth}
 use Rattle.mv_ast.specs.declared.program.CType.{CType}
-use Rattle.mv_ast.specs.declared.program.Known.{Known}
-use Rattle.mv_ast.specs.declared.program.Expr.{Expr}
-use Rattle.mv_ast.specs.declared.program.Form.{Form}
-use Rattle.mv_ast.specs.declared.program.Target.{Target}
-use Rattle.mv_lowering.specs.Lowered.{Lowering, Lowered, Arguments, binary, divide, temp, set, number, choose, is_low, kept_if, first, second, lower_one, lower_both, lower_either, lower_choice, lower_set_local, lower_set_global, lower_call, lower_call_to, lower_known, lower_all, last_of, but_last}
+use Rattle.mv_lowering.specs.Lowered.{Lowering, Lowered, binary, divide, temp, set, number, choose, is_low, kept_if, first, second, lower_one, lower_both, lower_either, lower_choice, lower_set_local, lower_set_global}
 use Rattle.mv_lowering.specs.Lower.{unary_tree, converted_tree, bit_tree, quotient_number, remainder_number, lower_binary}
 use Rattle.mv_lower_expressions.specs.declared.value.Value.{Value}
 use Rattle.mv_lower_expressions.specs.declared.operands.Operands.{Operands}

@@ -1,10 +1,10 @@
-use Rattle.std.proofs.Common.{rules, ℕ, ◌≡◌, ◌+◌, ◌<◌, suc, List, [], ◌∷◌, ◌++◌, map, length, vec_len, refl, sym, ap, ◌∙◌, subst, append-nil, append_assoc, arith}
+use Rattle.std.proofs.Common.{rules, ℕ, ◌≡◌, ◌+◌, List, [], ◌∷◌, ◌++◌, map, vec_len, refl, sym, ap, ◌∙◌, append-nil, append_assoc, arith}
 use Rattle.mv_ir.specs.declared.stm.Stm.{Stm}
 use Rattle.mv_ir.specs.declared.tree.Tree.{Tree}
 use Rattle.mv_lowering.specs.Lowered.{Lowered, Arguments}
 use Rattle.mv_lower_expressions.specs.declared.value.Value.{Value}
 use Rattle.mv_lower_expressions.specs.Values.{seen}
-use Rattle.mv_lower_expressions.specs.Calls.{seen_arguments, arguments_of, prepended}
+use Rattle.mv_lower_expressions.specs.Calls.{arguments_of, prepended}
 use Rattle.mv_lower_expressions.proofs.call.all_arguments.Goals as goal
 
 none_of : (code : List Stm) (trees : List Tree) (m k : _) → code ≡ [] → trees ≡ [] → m ≡ k → (let a : Arguments = record { code = code; trees = trees; top = m } in a) ≡ arguments_of [] k

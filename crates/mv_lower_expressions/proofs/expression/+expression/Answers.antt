@@ -1,4 +1,4 @@
-use Rattle.std.proofs.Common.{ℕ, ◌≡◌, ◌+◌, ◌<◌, ◌≤◌, ◌∷◌, [], ◌++◌, ap, sym, ◌∙◌, arith, List, map, take, length, subst}
+use Rattle.std.proofs.Common.{◌≡◌, ◌+◌, ◌≤◌, ◌∷◌, [], ◌++◌, ap, sym, ◌∙◌, arith, List, map, take, subst}
 use Rattle.mv_lower_expressions.specs.Expressions.{exprs_at, expr_at, place_at, expr_size, form_size, target_size, exprs_size}
 use Rattle.mv_ast.specs.declared.program.Expr.{Expr}
 use Rattle.mv_lowering.specs.Lower.{Place}
