@@ -1,5 +1,5 @@
 -- The code of functions, and what their bodies say of it.
-use Rattle.std.proofs.Common.{◌≡◌, ℕ, zero, suc, ◌+◌, ◌*◌, ◌%◌, ◌^◌, ◌<◌, ◌≤◌, Bool, true, false, cond, ◌&&◌, List, [], ◌∷◌, ◌++◌, map, take, drop, length, get_or, replicate, max, refl, sym, ap, ◌∙◌, subst, arith, append-nil, append_assoc}
+use Rattle.std.proofs.Common.{◌≡◌, ℕ, suc, ◌+◌, ◌*◌, ◌%◌, ◌^◌, ◌<◌, ◌≤◌, Bool, true, false, cond, ◌&&◌, List, [], ◌∷◌, ◌++◌, map, take, drop, length, get_or, replicate, max, refl, sym, ap, ◌∙◌, arith, append-nil, append_assoc}
 use Rattle.std.specs.Prelude.{◌||◌, nat_eq, slice_set}
 use Rattle.std.proofs.Math.Nat.{add-mod-mod, mod-add-mod}
 use Rattle.std.proofs.lemmas.List.{get_or-replicate, length-replicate, drop_all, take_more}
@@ -17,13 +17,13 @@ use Rattle.mv_ir.specs.declared.stm.Stm.{Stm}
 use Rattle.mv_lowering.specs.Lowered.{number}
 use Rattle.mv_lowering.specs.Lower.{is_void}
 use Rattle.mv_lowering.specs.Statements.{Code, return_with}
-use Rattle.mv_lowering.specs.Functions.{outermost, ending, lower_body, lower_function_code, lower_function, array_sizes, names_global, functions_called, address_behind, rooms_from, marked_from}
+use Rattle.mv_lowering.specs.Functions.{outermost, lower_body, lower_function_code, lower_function, array_sizes, names_global, functions_called, address_behind, rooms_from, marked_from}
 use Rattle.mv_lower.specs.Statements.{stmt_at, stmts_at}
 use Rattle.mv_ast.specs.declared.program.Program.{Program}
 use Rattle.mv_lower.specs.declared.names.Marks.{Marks}
 use Rattle.mv_lower.specs.Naming.{flagged, Flags, marked, seen_marks, code_names}
 use Rattle.mv_lower.specs.Programs.{ended, no_marks, is_set, is_named, AreMarks}
-use Rattle.mv_lower.proofs.Forms.{map_push}
+use Rattle.mv_lower_expressions.proofs.Forms.{map_push}
 use Rattle.mv_lower.proofs.Switching.{next_item}
 
 -- ---- code

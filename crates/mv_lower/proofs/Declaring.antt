@@ -5,12 +5,12 @@ use Rattle.mv_ast.specs.declared.program.Arm.{Arm}
 use Rattle.mv_ast.specs.Counts.{words_of_size}
 use Rattle.mv_ir.specs.declared.stm.Stm.{Stm}
 use Rattle.mv_lowering.specs.Lowered.{Lowered, number}
-use Rattle.mv_lowering.specs.Statements.{Code, store_word, clear_words, store_zeros, store_values, values_top, test_labels}
-use Rattle.mv_lower.specs.declared.value.Value.{Value}
-use Rattle.mv_lower.specs.Values.{seen, given}
+use Rattle.mv_lowering.specs.Statements.{Code, store_word, clear_words, store_zeros, test_labels}
+use Rattle.mv_lower_expressions.specs.declared.value.Value.{Value}
+use Rattle.mv_lower_expressions.specs.Values.{seen}
 use Rattle.mv_lower.specs.Declarations.{values_stored, values_top_of, clears_first, clear_of}
-use Rattle.mv_lower.specs.Switches.{default_place, tests_from, all_tests}
-use Rattle.mv_lower.proofs.Forms.{map_push}
+use Rattle.mv_lower.specs.Switches.{default_place, tests_from}
+use Rattle.mv_lower_expressions.proofs.Forms.{map_push}
 use Rattle.mv_lower.proofs.StatementForms.{cleared, clear_is}
 use Rattle.mv_lower.proofs.Switching.{next_item}
 

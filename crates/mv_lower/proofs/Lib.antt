@@ -1,12 +1,9 @@
-pub mod Emitting
-pub mod Combining
-pub mod Arguments
-pub mod Elements
-pub mod Sizes
 pub mod Sequences
-pub mod Forms
 pub mod StatementForms
 pub mod Switching
 pub mod Declaring
 pub mod Bodies
 pub mod Marking
+pub mod Small
+pub mod Idle
+pub mod Leaves

@@ -7,7 +7,6 @@ use Rattle.mv_ir.specs.declared.tree.Tree.{Tree}
 use Rattle.mv_ir.specs.declared.tree.Tree as tr
 use Rattle.mv_ir.specs.declared.tree.Tree.TheOpen as tree
 use Rattle.mv_ir.specs.declared.tree.Tree.TheOpen.{Tree-F}
-use Rattle.mv_ir.specs.declared.tree.Tree.TheViews.{roll-Tree}
 use Rattle.mv_ir.specs.declared.stm.Array.{Array}
 use Rattle.mv_ir.specs.declared.stm.Callee.{Callee}
 use Rattle.mv_ir.specs.declared.stm.Callee.TheVariants as callee
@@ -16,7 +15,7 @@ use Rattle.mv_ir.specs.declared.stm.Stm as at
 use Rattle.mv_ir.specs.declared.stm.Stm.TheOpen as stm
 use Rattle.mv_ir.specs.declared.stm.Stm.TheOpen.{Stm-F}
 use Rattle.mv_ir.specs.declared.stm.Stm.TheViews.{roll-Stm}
-use Rattle.mv_ir.specs.declared.stm.Stm.TheVariants.{rolls-Set, rolls-SetGlobal, rolls-Divide, rolls-Check, rolls-Read, rolls-Write, rolls-Zero, rolls-If, rolls-Loop, rolls-Block, rolls-Break, rolls-Back, rolls-Call, rolls-Known, rolls-Return}
+use Rattle.mv_ir.specs.declared.stm.Stm.TheVariants.{rolls-Back}
 use Rattle.mv_ir.specs.declared.stm.Stm.TheFolds.{fold-roll-Stm, map-Stm}
 use Rattle.mv_ir.proofs.Lists.{joined_push}
 use Rattle.mv_ir.specs.Measures.{joined, layer_trees, tree_reads, stm_trees, array_read, callee_trees}
@@ -24,7 +23,7 @@ use Rattle.mv_ir.specs.WellFormed.{stm_named, layer_named}
 use Rattle.mv_ir.proofs.Rolls.{reads_roll, trees_roll, named_roll}
 use Rattle.mv_lowering.specs.Functions.{callee_called, layer_called, stm_called}
 use Rattle.mv_lower.specs.Naming.{flagged, Flags, Names, marked, tree_names, trees_names, global_names, function_names, array_names, callee_names, stm_names, code_names}
-use Rattle.mv_lower.proofs.Emitting.{number_is, temp_is, global_is, function_is, unary_is, binary_is, narrow_is, set_is, set_global_is, divide_is, check_is, read_is, write_is, zero_is, if_is, loop_is, block_is, break_is, call_is, known_is, return_is}
+use Rattle.mv_lower_expressions.proofs.Emitting.{number_is, temp_is, global_is, function_is, unary_is, binary_is, narrow_is, set_is, set_global_is, divide_is, check_is, read_is, write_is, zero_is, if_is, loop_is, block_is, break_is, call_is, known_is, return_is}
 
 flagged_both : (xs ys : List ℕ) (flags : List Bool) → flagged (xs ++ ys) flags ≡ flagged ys (flagged xs flags)
 flagged_both [] ys flags = refl

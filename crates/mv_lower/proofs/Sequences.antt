@@ -1,10 +1,10 @@
 -- Statements and arms in order.
-use Rattle.std.proofs.Common.{◌≡◌, ℕ, zero, suc, ◌+◌, ◌-◌, ◌<◌, ◌≤◌, List, [], ◌∷◌, ◌++◌, map, take, drop, length, get_or, max, refl, sym, ap, ◌∙◌, arith, append_assoc, append-nil}
+use Rattle.std.proofs.Common.{◌≡◌, ℕ, ◌+◌, ◌<◌, List, [], ◌∷◌, ◌++◌, take, length, get_or, max, refl, sym, ap, ◌∙◌, arith, append_assoc, append-nil}
 use Rattle.std.proofs.lemmas.List.{take_more}
 use Rattle.mv_ast.specs.declared.program.Function.{Function}
 use Rattle.mv_ast.specs.declared.program.Stmt.{Stmt}
 use Rattle.mv_ir.specs.declared.stm.Stm.{Stm}
-use Rattle.mv_lowering.specs.Statements.{Jumps, Code, in_sequence}
+use Rattle.mv_lowering.specs.Statements.{Jumps, Code}
 use Rattle.mv_lower.specs.Statements.{stmt_at, stmts_at}
 
 pub same_code : {c d : List Stm} {m n : ℕ} → c ≡ d → m ≡ n → (let a : Code = record { code = c; top = m } in a) ≡ (let b : Code = record { code = d; top = n } in b)

@@ -1,5 +1,5 @@
 -- What statements are lowered to, form by form.
-use Rattle.std.proofs.Common.{◌≡◌, ℕ, zero, suc, ◌+◌, ◌*◌, ◌-◌, ◌<◌, ◌≤◌, Bool, true, false, cond, List, [], ◌∷◌, ◌++◌, map, length, max, Option, Some, None, refl, sym, ap, ◌∙◌, arith, append_assoc}
+use Rattle.std.proofs.Common.{◌≡◌, ℕ, suc, ◌+◌, ◌*◌, ◌-◌, ◌≤◌, Bool, cond, List, [], ◌∷◌, ◌++◌, map, length, max, Option, Some, None, refl, sym, ap, ◌∙◌, arith, append_assoc}
 use Rattle.std.specs.Prelude.{sum, ◌||◌, nat_le, option_to_list}
 use Rattle.std.proofs.lemmas.List.Sums.{sum_by-append, sum_by-cons}
 use Rattle.mv_ast.specs.declared.program.Function.{Function}
@@ -14,11 +14,11 @@ use Rattle.mv_ast.specs.Names.{any_of, names_local}
 use Rattle.mv_ir.specs.declared.stm.Stm.{Stm}
 use Rattle.mv_lowering.specs.Lowered.{Lowered, set}
 use Rattle.mv_lowering.specs.Lower.{is_void, lower_expr}
-use Rattle.mv_lowering.specs.Statements.{Jumps, Code, Placed, LoweredArm, in_sequence, in_body, enclosed, break, store_values, values_top, store_zeros, store_word, clear_words, lower_clear, nested, arms_top, test_arms, test_labels, arm_place}
-use Rattle.mv_lowering.specs.LowerStatements.{lower_stmt_layer, lower_arm_layer, lower_stmt, lower_arm, lower_optional}
-use Rattle.mv_lowering.specs.Functions.{size_in, outermost}
-use Rattle.mv_lower.specs.Values.{given}
-use Rattle.mv_lower.specs.Expressions.{expr_at, expr_size, exprs_size, each_at, optional_at, optional_size}
+use Rattle.mv_lowering.specs.Statements.{Jumps, Code, Placed, LoweredArm, in_body, enclosed, break, store_values, values_top, store_zeros, store_word, clear_words, nested, arms_top, test_arms, test_labels, arm_place}
+use Rattle.mv_lowering.specs.LowerStatements.{lower_stmt_layer, lower_arm_layer, lower_stmt, lower_arm}
+use Rattle.mv_lowering.specs.Functions.{size_in}
+use Rattle.mv_lower_expressions.specs.Values.{given}
+use Rattle.mv_lower_expressions.specs.Expressions.{expr_at, expr_size, exprs_size, each_at, optional_at, optional_size}
 use Rattle.mv_lower.specs.Statements.{stmt_at, stmts_at, arm_at, express_of, return_of, if_of, while_of, do_of, for_of, break_at, continue_at, end_at, return_at, stmt_size, arm_size, stmts_size, arms_size}
 use Rattle.mv_lower.specs.Declarations.{values_stored, values_top_of, clear_of}
 use Rattle.mv_lower.specs.Switches.{default_place, tests_from, all_tests, arms_of, switch_of}

@@ -1,16 +1,16 @@
 -- The arms of a `switch`, one after the other.
-use Rattle.std.proofs.Common.{◌≡◌, ℕ, zero, suc, ◌+◌, ◌-◌, ◌<◌, ◌≤◌, cond, List, [], ◌∷◌, ◌++◌, map, take, drop, length, get_or, max, refl, sym, ap, ◌∙◌, arith, subst}
+use Rattle.std.proofs.Common.{◌≡◌, ℕ, zero, suc, ◌+◌, ◌-◌, ◌<◌, ◌≤◌, List, [], ◌∷◌, map, drop, length, get_or, max, sym, ap, ◌∙◌, arith, subst}
 use Rattle.std.proofs.Math.Seq.{drop-cons}
 use Rattle.std.proofs.lemmas.List.{drop_all}
 use Rattle.mv_ast.specs.declared.program.Function.{Function}
 use Rattle.mv_ast.specs.declared.program.Arm.{Arm}
 use Rattle.mv_ir.specs.declared.stm.Stm.{Stm}
-use Rattle.mv_lowering.specs.Statements.{Jumps, Code, LoweredArm, raised, in_arm, enclosed, nested, arms_top, test_labels}
+use Rattle.mv_lowering.specs.Statements.{Jumps, Code, LoweredArm, raised, in_arm, enclosed, nested, arms_top}
 use Rattle.mv_lower.specs.Statements.{stmts_at, arm_at, used, arm_size, arms_size}
-use Rattle.mv_lower.specs.Switches.{default_place, tests_from, arms_of}
-use Rattle.mv_lower.proofs.Sizes.{sum_cons}
+use Rattle.mv_lower.specs.Switches.{arms_of}
+use Rattle.mv_lower_expressions.proofs.Sizes.{sum_cons}
 use Rattle.mv_lower.proofs.Sequences.{same_code}
-use Rattle.mv_lower.proofs.StatementForms.{arm_is, few_arms, size_arm, map_length}
+use Rattle.mv_lower.proofs.StatementForms.{arm_is, few_arms, map_length}
 
 raised_is : (m n : ℕ) → raised m n ≡ n + m
 raised_is zero n = omega arith

@@ -4,7 +4,7 @@ use Rattle.mv_ir.specs.declared.stm.Stm.{Stm}
 use Rattle.mv_lowering.specs.Lowered.{Lowered}
 use Rattle.mv_lowering.specs.Statements.{Code, store_values, values_top, lower_clear}
 use Rattle.mv_lowering.specs.Functions.{outermost}
-use Rattle.mv_lower.specs.Values.{given}
+use Rattle.mv_lower_expressions.specs.Values.{given}
 
 -- given values, from a word on
 unfoldable pub values_stored : Option ℕ → ℕ → ℕ → List Lowered → List Stm

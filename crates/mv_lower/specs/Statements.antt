@@ -1,6 +1,5 @@
 -- What statements are lowered to where they stand, as functions of what their parts are lowered to, and how large they are.
-use Rattle.std.specs.Prelude.{ℕ, suc, ◌+◌, List, [], ◌∷◌, map, sum, length, max, Option, Some, None}
-use Rattle.mv_ir.specs.declared.stm.Stm.{Stm}
+use Rattle.std.specs.Prelude.{ℕ, ◌+◌, List, map, sum, length, max, Option, Some, None}
 use Rattle.mv_ast.specs.declared.program.Function.{Function}
 use Rattle.mv_ast.specs.declared.program.Expr.{Expr}
 use Rattle.mv_ast.specs.declared.program.Stmt.{Stmt}
@@ -8,13 +7,13 @@ use Rattle.mv_ast.specs.declared.program.Arm.{Arm}
 use Rattle.mv_ast.specs.Counts.{expr_nodes, own_nodes, stmt_total, arm_total}
 use Rattle.mv_lowering.specs.Lowered.{Lowered}
 use Rattle.mv_lowering.specs.Lower.{is_void}
-use Rattle.mv_lowering.specs.Statements.{Jumps, Code, Placed, LoweredArm, in_sequence, lower_express, lower_return, lower_end, lower_break, lower_continue, lower_if, lower_while, lower_do, lower_for, lower_clear, nested, arms_top}
+use Rattle.mv_lowering.specs.Statements.{Jumps, Code, Placed, LoweredArm, in_sequence, lower_express, lower_return, lower_end, lower_break, lower_continue, lower_if, lower_while, lower_do, lower_for}
 use Rattle.mv_lowering.specs.LowerStatements.{lower_stmt, lower_arm}
 use Rattle.mv_lowering.specs.Functions.{size_in, outermost}
 use Rattle.mv_lower.specs.declared.code.Jumps as declared
 use Rattle.mv_lower.specs.declared.code.Code as declared_code
-use Rattle.mv_lower.specs.Values.{given}
-use Rattle.mv_lower.specs.Expressions.{expr_at}
+use Rattle.mv_lower_expressions.specs.Values.{given}
+use Rattle.mv_lower_expressions.specs.Expressions.{expr_at}
 
 -- ---- results
 

@@ -1,12 +1,12 @@
 // Lowered statements, from what their parts are lowered to.
 ghost use Rattle.std.specs.Prelude.{◌≡◌, ◌+◌, ◌++◌, ◌∷◌, [], ◌<◌, ◌^◌, IfOk, OnOk};
 ghost use Rattle.mv_lowering.specs.Statements.{in_body, in_arm, enclosed, test_and_body};
-ghost use Rattle.mv_lower.specs.Values.{seen, given};
+ghost use Rattle.mv_lower_expressions.specs.Values.{seen, given};
 ghost use Rattle.mv_lower.specs.Statements.{seen_code, seen_jumps, express_of, return_of, if_of, while_of, do_of, for_of, break_at, continue_at, end_at};
 
-use crate::value::{Value, append};
 use mv_ir::stm::Stm;
 use mv_ir::tree::Tree;
+use mv_lower_expressions::value::{Value, append};
 use mv_num::list::List;
 use std::alloc::{AllocError, Global};
 
@@ -57,7 +57,7 @@ pub fn express(value: Value, n: u32) -> Code
 }
 
 /// `return` with a value (C11 6.8.6.4).
-#[tactic(auto, using(crate::proofs::Emitting::emitted), unfolding(crate::specs::Statements::return_of))]
+#[tactic(auto, using(mv_lower_expressions::proofs::Emitting::emitted), unfolding(crate::specs::Statements::return_of))]
 pub fn return_value(value: Value, n: u32) -> Result<Code, AllocError>
     ensures { IfOk result (λ c. seen_code c ≡ return_of (seen value) n) }
 {
@@ -71,7 +71,7 @@ pub fn return_value(value: Value, n: u32) -> Result<Code, AllocError>
 }
 
 /// `break` (C11 6.8.6.3).
-#[tactic(auto, using(crate::proofs::Emitting::emitted), unfolding(crate::specs::Statements::break_at))]
+#[tactic(auto, using(mv_lower_expressions::proofs::Emitting::emitted), unfolding(crate::specs::Statements::break_at))]
 pub fn leave(alloc: Global, jumps: Jumps, n: u32) -> Result<Code, AllocError>
     ensures { IfOk result (λ c. seen_code c ≡ break_at (seen_jumps jumps) n) }
 {
@@ -80,7 +80,7 @@ pub fn leave(alloc: Global, jumps: Jumps, n: u32) -> Result<Code, AllocError>
 }
 
 /// `continue` (C11 6.8.6.2).
-#[tactic(auto, using(crate::proofs::Emitting::emitted), unfolding(crate::specs::Statements::continue_at))]
+#[tactic(auto, using(mv_lower_expressions::proofs::Emitting::emitted), unfolding(crate::specs::Statements::continue_at))]
 pub fn go_on(alloc: Global, jumps: Jumps, n: u32) -> Result<Code, AllocError>
     ensures { IfOk result (λ c. seen_code c ≡ continue_at (seen_jumps jumps) n) }
 {
@@ -89,7 +89,7 @@ pub fn go_on(alloc: Global, jumps: Jumps, n: u32) -> Result<Code, AllocError>
 }
 
 /// `return` without a value, which leads to the end of the function.
-#[tactic(auto, using(crate::proofs::Emitting::emitted), unfolding(crate::specs::Statements::end_at))]
+#[tactic(auto, using(mv_lower_expressions::proofs::Emitting::emitted), unfolding(crate::specs::Statements::end_at))]
 pub fn end(alloc: Global, jumps: Jumps, n: u32) -> Result<Code, AllocError>
     ensures { IfOk result (λ c. seen_code c ≡ end_at (seen_jumps jumps) n) }
 {
@@ -98,7 +98,7 @@ pub fn end(alloc: Global, jumps: Jumps, n: u32) -> Result<Code, AllocError>
 }
 
 /// `if` (C11 6.8.4.1).
-#[tactic(auto, using(crate::proofs::Emitting::emitted), unfolding(crate::specs::Statements::if_of))]
+#[tactic(auto, using(mv_lower_expressions::proofs::Emitting::emitted), unfolding(crate::specs::Statements::if_of))]
 pub fn choose(test: Value, a: Code, b: Code, n: u32) -> Result<Code, AllocError>
     ensures { IfOk result (λ c. seen_code c ≡ if_of (seen test) (seen_code a) (seen_code b) n) }
 {
@@ -115,7 +115,7 @@ pub fn choose(test: Value, a: Code, b: Code, n: u32) -> Result<Code, AllocError>
     })
 }
 
-#[tactic(auto, using(crate::proofs::Emitting::emitted))]
+#[tactic(auto, using(mv_lower_expressions::proofs::Emitting::emitted))]
 fn in_block(alloc: Global, code: List<Stm>) -> Result<List<Stm>, AllocError>
     ensures { IfOk result (λ c. c ≡ enclosed code ∷ []) }
 {
@@ -123,7 +123,7 @@ fn in_block(alloc: Global, code: List<Stm>) -> Result<List<Stm>, AllocError>
 }
 
 // A test that leaves the loop, and else the body.
-#[tactic(auto, using(crate::proofs::Emitting::emitted))]
+#[tactic(auto, using(mv_lower_expressions::proofs::Emitting::emitted))]
 fn test_and_body(
     alloc: Global,
     test: Value,
@@ -143,7 +143,7 @@ fn test_and_body(
 }
 
 /// `while` (C11 6.8.5.1).
-#[tactic(auto, using(crate::proofs::Emitting::emitted), unfolding(crate::specs::Statements::while_of))]
+#[tactic(auto, using(mv_lower_expressions::proofs::Emitting::emitted), unfolding(crate::specs::Statements::while_of))]
 pub fn while_loop(alloc: Global, test: Value, body: Code, n: u32) -> Result<Code, AllocError>
     ensures { IfOk result (λ c. seen_code c ≡ while_of (seen test) (seen_code body) n) }
 {
@@ -155,7 +155,7 @@ pub fn while_loop(alloc: Global, test: Value, body: Code, n: u32) -> Result<Code
 }
 
 /// `do` (C11 6.8.5.2). The test comes behind the block of the body, which `continue` leaves.
-#[tactic(auto, using(crate::proofs::Emitting::emitted), unfolding(crate::specs::Statements::do_of))]
+#[tactic(auto, using(mv_lower_expressions::proofs::Emitting::emitted), unfolding(crate::specs::Statements::do_of))]
 pub fn do_loop(alloc: Global, body: Code, test: Value, n: u32) -> Result<Code, AllocError>
     ensures { IfOk result (λ c. seen_code c ≡ do_of (seen_code body) (seen test) n) }
 {
@@ -167,7 +167,7 @@ pub fn do_loop(alloc: Global, body: Code, test: Value, n: u32) -> Result<Code, A
 }
 
 /// `for` (C11 6.8.5.3).
-#[tactic(auto, using(crate::proofs::Emitting::emitted), unfolding(crate::specs::Statements::for_of))]
+#[tactic(auto, using(mv_lower_expressions::proofs::Emitting::emitted), unfolding(crate::specs::Statements::for_of))]
 pub fn for_loop(
     alloc: Global,
     first: Code,

@@ -3,15 +3,15 @@ ghost use Rattle.std.specs.Prelude.{◌≡◌, ◌+◌, ◌*◌, ◌-◌, ◌++�
 ghost use Rattle.mv_ast.specs.Counts.{words_of_size};
 ghost use Rattle.mv_lowering.specs.Statements.{store_word, clear_words, store_zeros};
 ghost use Rattle.mv_lowering.specs.Functions.{size_in};
-ghost use Rattle.mv_lower.specs.Values.{seen, given};
+ghost use Rattle.mv_lower_expressions.specs.Values.{seen, given};
 ghost use Rattle.mv_lower.specs.Statements.{seen_code};
 ghost use Rattle.mv_lower.specs.Declarations.{values_stored, values_top_of, clears_first, clear_of};
 
 use crate::code::Code;
-use crate::value::{Value, append};
 use mv_ast::program::Local;
 use mv_ir::stm::{Array, Stm};
 use mv_ir::tree::Tree;
+use mv_lower_expressions::value::{Value, append};
 use mv_num::list::List;
 use std::alloc::{AllocError, Global};
 
@@ -26,7 +26,7 @@ pub fn size_of(locals: &List<Local>, local: u32) -> Option<u32>
 }
 
 // A value into a word of a local.
-#[tactic(auto, using(crate::proofs::Emitting::emitted))]
+#[tactic(auto, using(mv_lower_expressions::proofs::Emitting::emitted))]
 fn store_word(size: Option<u32>, local: u32, i: u32, value: Tree) -> Stm
     ensures { result ≡ store_word size local i value }
 {
@@ -37,7 +37,7 @@ fn store_word(size: Option<u32>, local: u32, i: u32, value: Tree) -> Stm
 }
 
 // All words of a local become 0.
-#[tactic(auto, using(crate::proofs::Emitting::emitted))]
+#[tactic(auto, using(mv_lower_expressions::proofs::Emitting::emitted))]
 fn clear_words(size: Option<u32>, local: u32) -> Stm
     ensures { result ≡ clear_words size local }
 {
@@ -88,7 +88,7 @@ fn values_top(values: &List<Value>, n: u32) -> u32
 }
 
 // A 0 for each word from one on, up to another.
-#[tactic(auto, using(crate::proofs::Declaring::zeros, crate::proofs::Emitting::emitted))]
+#[tactic(auto, using(crate::proofs::Declaring::zeros, mv_lower_expressions::proofs::Emitting::emitted))]
 fn store_zeros(
     code: &mut List<Stm>,
     size: Option<u32>,

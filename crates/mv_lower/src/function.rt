@@ -6,7 +6,6 @@ ghost use Rattle.mv_lower.specs.Statements.{seen_code};
 ghost use Rattle.mv_lower.specs.Programs.{ended, no_marks, is_set, is_named, AreMarks, HasRoom, IsSmall};
 ghost use Rattle.mv_lower.specs.Naming.{seen_marks};
 
-use crate::call::is_void;
 use crate::code::{Code, Jumps};
 use crate::declaration::words;
 use crate::names::{Marks, mark_code};
@@ -15,6 +14,7 @@ use mv_ast::program::{Function, Global as Variable, Local, Program};
 use mv_ir::body::{Body, Room};
 use mv_ir::stm::Stm;
 use mv_ir::tree::Tree;
+use mv_lower_expressions::call::is_void;
 use mv_num::list::List;
 use mv_num::word::{add, mul};
 use std::alloc::{AllocError, Global};
@@ -40,7 +40,7 @@ fn elements(size: Option<u32>) -> u32
 }
 
 // A function's code behind that of its statements. The end of one that isn't void gives 0.
-#[tactic(auto, using(crate::proofs::Emitting::emitted, crate::proofs::Bodies::endings))]
+#[tactic(auto, using(mv_lower_expressions::proofs::Emitting::emitted, crate::proofs::Bodies::endings))]
 fn ended(code: Code, void: bool) -> Result<Code, AllocError>
     ensures { IfOk result (λ c. seen_code c ≡ ended void (seen_code code)) }
 {

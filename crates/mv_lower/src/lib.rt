@@ -1,16 +1,50 @@
 //! The lowering of programs to intermediate code.
 #![tactic(auto)]
 
-mod call;
+ghost use Rattle.std.specs.Prelude.{◌≡◌, IfOk};
+ghost use Rattle.mv_lowering.specs.Functions.{lower_program};
+ghost use Rattle.mv_lowered.specs.Lowering.{IsLowering};
+ghost use Rattle.mv_lowered_programs.specs.WellFormed.{IsWellFormed};
+ghost use Rattle.mv_lower.specs.Programs.{IsSmall};
+
 mod code;
-mod control;
 mod declaration;
-mod expression;
-pub mod function;
+mod function;
 mod names;
-mod operands;
-mod place;
 mod statement;
 mod switch;
-mod tree;
-mod value;
+#[cfg(test)]
+mod tests;
+
+use crate::function::lower_functions;
+use mv_ast::program::Program;
+use mv_copy::program::copy_program;
+use mv_ir::body::IrProgram;
+use mv_lowered::lowering_is_right;
+use std::alloc::{AllocError, Global};
+
+/// The intermediate code of a checked program: a copy of the program, and a body for each of its functions, in their order.
+///
+/// Expressions are lowered left to right, each from the first free temporary on, to statements and a tree of depth at most 4; the side
+/// effects and traps of operands keep their order (C11 5.1.2.3, with the order of evaluation that the profile fixes). Statements are lowered
+/// to blocks, loops and jumps out of them, and a `switch` to tests in front of its arms.
+///
+/// Under each numbering of functions, at each bound, on each input and with all actions that fit, the code means what the program means.
+/// The cost is at most 20 and 100 for one of the program's work; the same holds of each function, callees included.
+pub fn lower(alloc: Global, program: &Program) -> Result<IrProgram, AllocError>
+    requires { IsWellFormed program.now }
+    ensures { IfOk result (λ ir. IsLowering program.now ir) }
+{
+    lowering_is_right();
+    lower_each(alloc, program)
+}
+
+// The program as it stands, beside its bodies.
+fn lower_each(alloc: Global, program: &Program) -> Result<IrProgram, AllocError>
+    requires { IsSmall program.now }
+    ensures { IfOk result (λ ir. ir ≡ lower_program program.now) }
+{
+    let bodies = lower_functions(alloc, program)?;
+    let program = copy_program(alloc, program)?;
+    Ok(IrProgram { program, bodies })
+}

@@ -2,18 +2,18 @@
 ghost use Rattle.std.specs.Prelude.{◌≡◌, ◌+◌, ◌*◌, ◌<◌, ◌^◌, IfOk};
 ghost use Rattle.mv_lower.specs.Switches.{arms_of};
 ghost use Rattle.mv_lower.specs.Statements.{seen_code, seen_jumps, stmt_at, stmts_at, return_at, stmt_size, stmts_size, arms_size, used};
-ghost use Rattle.mv_lower.specs.Expressions.{optional_size};
+ghost use Rattle.mv_lower_expressions.specs.Expressions.{optional_size};
 
 use crate::code::{
     Code, Jumps, choose, do_loop, end, express, for_loop, go_on, in_body, leave, return_value,
     while_loop,
 };
 use crate::declaration::{declare, size_of};
-use crate::expression::{lower_each, lower_expr, lower_optional};
 use crate::switch::{after_block, in_arm, switch, tests};
-use crate::value::append;
 use mv_ast::program::{Arm, Expr, Function, Stmt};
 use mv_ir::stm::Stm;
+use mv_lower_expressions::expression::{lower_each, lower_expr, lower_optional};
+use mv_lower_expressions::value::append;
 use mv_meaning::work::any_names;
 use mv_num::list::List;
 use std::alloc::{AllocError, Global};

@@ -2,14 +2,14 @@
 ghost use Rattle.std.specs.Prelude.{◌≡◌, ◌+◌, ◌++◌, ◌∷◌, [], ◌<◌, ◌≤◌, ◌^◌, IfOk, OnOk, map, length};
 ghost use Rattle.mv_lowering.specs.Statements.{in_arm, enclosed, test_labels};
 ghost use Rattle.mv_lower.specs.Statements.{seen_jumps, seen_code};
-ghost use Rattle.mv_lower.specs.Values.{seen};
+ghost use Rattle.mv_lower_expressions.specs.Values.{seen};
 ghost use Rattle.mv_lower.specs.Switches.{default_place, all_tests, switch_of};
 
 use crate::code::{Code, Jumps, alone};
-use crate::value::{Value, append};
 use mv_ast::program::Arm;
 use mv_ir::stm::Stm;
 use mv_ir::tree::Tree;
+use mv_lower_expressions::value::{Value, append};
 use mv_num::boxed::Boxed;
 use mv_num::list::List;
 use std::alloc::{AllocError, Global};
@@ -28,7 +28,7 @@ pub fn in_arm(behind: u32, jumps: Jumps) -> Jumps
 }
 
 /// Code behind a block that holds other code.
-#[tactic(auto, using(crate::proofs::Emitting::emitted))]
+#[tactic(auto, using(mv_lower_expressions::proofs::Emitting::emitted))]
 pub fn after_block(
     alloc: Global,
     inner: List<Stm>,
@@ -42,7 +42,7 @@ pub fn after_block(
 }
 
 // A test of the value in a temporary against a label, which leaves blocks where it matches.
-#[tactic(auto, using(crate::proofs::Emitting::emitted))]
+#[tactic(auto, using(mv_lower_expressions::proofs::Emitting::emitted))]
 fn test_label(alloc: Global, n: u32, i: u32, label: u32) -> Result<Stm, AllocError>
     ensures { IfOk result (λ s. s ∷ [] ≡ test_labels n i (label ∷ [])) }
 {
@@ -85,7 +85,7 @@ fn default_place(arms: &List<Arm>) -> u32
 }
 
 /// The tests of the value in a temporary, in the order of the arms. Behind them stands the jump to `default`.
-#[tactic(auto, using(crate::proofs::Emitting::emitted, crate::proofs::Declaring::arm_tests), unfolding(crate::specs::Switches::all_tests))]
+#[tactic(auto, using(mv_lower_expressions::proofs::Emitting::emitted, crate::proofs::Declaring::arm_tests), unfolding(crate::specs::Switches::all_tests))]
 pub fn tests(alloc: Global, arms: &List<Arm>, n: u32) -> Result<List<Stm>, AllocError>
     requires { length arms.now < 2 ^ 32 }
     ensures { IfOk result (λ code. code ≡ all_tests n arms.now) }
@@ -101,7 +101,7 @@ pub fn tests(alloc: Global, arms: &List<Arm>, n: u32) -> Result<List<Stm>, Alloc
 }
 
 /// `switch` (C11 6.8.4.2): the value is put away, and one block holds the tests and the arms.
-#[tactic(auto, using(crate::proofs::Emitting::emitted))]
+#[tactic(auto, using(mv_lower_expressions::proofs::Emitting::emitted))]
 pub fn switch(alloc: Global, value: Value, body: Code, n: u32) -> Result<Code, AllocError>
     requires { n + 1 < 2 ^ 32 }
     ensures { IfOk result (λ c. seen_code c ≡ switch_of (seen value) (seen_code body) n) }

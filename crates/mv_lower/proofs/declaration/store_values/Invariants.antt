@@ -1,5 +1,5 @@
 use Rattle.std.proofs.Common.{◌≡◌, ◌++◌, length, map}
-use Rattle.mv_lower.specs.Values.{seen}
+use Rattle.mv_lower_expressions.specs.Values.{seen}
 use Rattle.mv_lower.specs.Declarations.{values_stored}
 use Rattle.mv_lower.proofs.declaration.store_values.Given as goal
 

@@ -1,5 +1,5 @@
 use Rattle.std.proofs.Common.{◌≡◌, map, take}
-use Rattle.mv_lower.specs.Values.{seen}
+use Rattle.mv_lower_expressions.specs.Values.{seen}
 use Rattle.mv_lower.specs.Declarations.{values_top_of}
 use Rattle.mv_lower.proofs.declaration.values_top.Given as goal
 

@@ -3,11 +3,11 @@ use Rattle.mv_ast.specs.declared.program.Stmt.{Stmt}
 use Rattle.mv_ast.specs.declared.program.Arm.{Arm}
 use Rattle.mv_ast.specs.declared.program.Expr.{Expr}
 use Rattle.mv_lowering.specs.Lowered.{Lowered}
-use Rattle.mv_lower.specs.declared.value.Value.{Value}
-use Rattle.mv_lower.specs.Values.{seen}
-use Rattle.mv_lower.specs.Expressions.{expr_at, each_at, expr_size, exprs_size, optional_size}
+use Rattle.mv_lower_expressions.specs.declared.value.Value.{Value}
+use Rattle.mv_lower_expressions.specs.Values.{seen}
+use Rattle.mv_lower_expressions.specs.Expressions.{expr_at, each_at}
 use Rattle.mv_lower.specs.Statements.{stmt_size, stmts_size, arm_size, arms_size, used}
-use Rattle.mv_lower.proofs.Sizes.{sum_before}
+use Rattle.mv_lower_expressions.proofs.Sizes.{sum_before}
 use Rattle.mv_lower.proofs.StatementForms.{size_block, size_clear, size_express, size_if, size_while, size_do, size_for, size_switch, size_return, size_arm, few_arms, map_length}
 use Rattle.mv_lower.proofs.Switching.{used_arm, sized_rest, next_item, nested_step, top_step, arms_end}
 use Rattle.mv_lower.proofs.Sequences.{same_code, with_stmt, stmts_push}

@@ -1,0 +1,20 @@
+use Rattle.std.proofs.Common.{◌≡◌, ◌∷◌, [], length, ap, sym, subst, ◌∙◌, arith}
+use Rattle.std.specs.Prelude.{All}
+use Rattle.std.proofs.lemmas.List.Elements.{All-nil, All-cons}
+use Rattle.mv_ast.specs.declared.program.Program.{Program}
+use Rattle.mv_ast.specs.declared.program.Global.{Global}
+use Rattle.mv_ast.specs.declared.program.Function.{Function}
+use Rattle.mv_lower.specs.Programs.{HasRoom, IsSmall}
+use Rattle.mv_lower.proofs.tests.switched.Goals as goal
+
+two_small : (p : Program) (x y : Global) (f g : Function) → p.globals ≡ x ∷ y ∷ [] → p.functions ≡ f ∷ g ∷ [] → HasRoom f → HasRoom g → IsSmall p
+two_small p x y f g globals functions h k = record {
+  globals = let n = ap length globals in omega (arith, n);
+  functions = let n = ap length functions in omega (arith, n);
+  each = subst (All HasRoom) (sym functions) (All-cons HasRoom f (g ∷ []) h (All-cons HasRoom g [] k (All-nil HasRoom)));
+}
+
+pub returns : goal.returns
+returns g c =
+    two_small c.program.result c.variable-s.result c.variable-t.result c.function-main.result c.function-f.result (c.program.ensures.globals ∙ c.pair-globals.ensures)
+    (c.program.ensures.functions ∙ c.pair-functions.ensures) c.function-main.ensures.room c.function-f.ensures.room

@@ -1,0 +1,7 @@
+pub mod Emitting
+pub mod Combining
+pub mod Arguments
+pub mod Elements
+pub mod Sizes
+pub mod Forms
+pub mod Leaves

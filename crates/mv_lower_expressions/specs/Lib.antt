@@ -1,0 +1,4 @@
+pub mod Values
+pub mod Calls
+pub mod Places
+pub mod Expressions

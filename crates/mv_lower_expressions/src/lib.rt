@@ -1,0 +1,12 @@
+//! The lowering of expressions to intermediate code.
+#![tactic(auto)]
+
+pub mod call;
+mod control;
+pub mod expression;
+mod operands;
+mod place;
+#[cfg(test)]
+mod tests;
+mod tree;
+pub mod value;
