@@ -1,10 +1,9 @@
 -- A set of temporaries in words: what an edit of the words does to the bits.
-use Rattle.std.proofs.Common.{arith, ◌≡◌, ℕ, zero, suc, ◌+◌, ◌-◌, ◌<◌, ◌≤◌, ◌/◌, ◌%◌, ◌^◌, ◌*◌, Bool, true, false, cond, not, eqb, ltb, ◌&&◌, ◌||◌, List, [], ◌∷◌, ◌++◌, length, get_or, map, refl, sym, ap, ◌∙◌, ◌⊎◌, inl, inr, bit_or}
+use Rattle.std.proofs.Common.{arith, ◌≡◌, ℕ, zero, suc, ◌+◌, ◌<◌, ◌≤◌, ◌/◌, Bool, true, false, cond, eqb, ltb, ◌&&◌, ◌||◌, List, [], ◌∷◌, length, get_or, refl, sym, ap, ◌∙◌, ◌⊎◌, inl, inr, bit_or}
 use Rattle.std.specs.Prelude.{slice_set, slice_index, replicate}
-use Rattle.std.specs.List.{range_with_len}
 use Rattle.std.proofs.lemmas.List.{ext_get_or, get_or_past, length-set, length-replicate, get_or-replicate}
 use Rattle.std.proofs.lemmas.List.FromFn.{length-map-range_with_len, get_or-map-range_with_len}
-use Rattle.std.proofs.lemmas.Bool.{cases_eq, cases_lt, eq-eqb, ne_eqb, lt-ltb, le-ltb}
+use Rattle.std.proofs.lemmas.Bool.{cases_eq, cases_lt, lt-ltb, le-ltb}
 use Rattle.mv_ir.specs.Live.{mark_at}
 use Rattle.mv_regalloc.specs.Rows.{Bits, either_bits}
 use Rattle.mv_regalloc.specs.LiveBits.{in_word, word_bit, bits_of}

@@ -1,15 +1,15 @@
 -- The scan of a body by its table of spans, step by step.
-use Rattle.std.proofs.Common.{arith, ◌≡◌, ℕ, suc, ◌+◌, ◌-◌, ◌<◌, ◌≤◌, Bool, true, false, cond, eqb, ◌&&◌, ◌||◌, List, [], ◌∷◌, ◌++◌, refl, sym, ap, ◌∙◌, subst}
+use Rattle.std.proofs.Common.{arith, ◌≡◌, ℕ, suc, ◌+◌, ◌-◌, ◌<◌, Bool, true, false, cond, eqb, ◌&&◌, ◌||◌, List, [], ◌∷◌, ◌++◌, refl, sym, ap, ◌∙◌, subst}
 use Rattle.std.specs.Prelude.{slice_index}
-use Rattle.std.proofs.lemmas.Bool.{eq-eqb, ne_eqb, eqb-true}
+use Rattle.std.proofs.lemmas.Bool.{eq-eqb, ne_eqb}
 use Rattle.mv_ir.specs.Live.{mark_at, any, marks_length}
 use Rattle.mv_regalloc.specs.Scan.{Placed, Interval, placed, scan}
-use Rattle.mv_regalloc.specs.Intervals.{first_from, last_from, span, beginning, by_first, range, given}
+use Rattle.mv_regalloc.specs.Intervals.{first_from, last_from, span, beginning, by_first, given}
 use Rattle.mv_regalloc.specs.Spanned.{SpanTable, from_first, behind_last, AreSpansOf}
 use Rattle.mv_regalloc.specs.Tracked.{Tracks, interval}
 use Rattle.mv_regalloc.proofs.Adding.{none_first}
 use Rattle.mv_regalloc.proofs.Ranges.{first_last}
-use Rattle.mv_regalloc.proofs.Sweep.{scan_append, by_first_more, beginning_more, given_placed}
+use Rattle.mv_regalloc.proofs.Sweep.{scan_append, by_first_more, given_placed}
 
 -- ---- counted from the end
 

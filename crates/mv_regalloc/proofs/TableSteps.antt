@@ -1,8 +1,8 @@
 -- A table of spans as the words of a row are put in, one after the other.
-use Rattle.std.proofs.Common.{arith, ◌≡◌, ℕ, zero, suc, ◌+◌, ◌<◌, ◌≤◌, ◌/◌, Bool, true, false, cond, not, eqb, ltb, ◌&&◌, ◌||◌, List, [], ◌∷◌, length, map, replicate, refl, sym, ap, ◌∙◌, ◌⊎◌, inl, inr}
+use Rattle.std.proofs.Common.{arith, ◌≡◌, ℕ, ◌+◌, ◌<◌, ◌≤◌, ◌/◌, Bool, true, false, cond, not, eqb, ltb, ◌&&◌, ◌||◌, [], ◌∷◌, length, map, replicate, refl, sym, ap, ◌∙◌, ◌⊎◌, inl, inr}
 use Rattle.std.specs.Prelude.{slice_index, slice_set}
 use Rattle.std.specs.List.{range_with_len}
-use Rattle.std.proofs.lemmas.List.{length-set, get_or-set_same, get_or-set_other, ext_get_or, length-replicate, get_or-replicate, get_or_past}
+use Rattle.std.proofs.lemmas.List.{get_or-set_same, get_or-set_other, ext_get_or, length-replicate, get_or_past}
 use Rattle.std.proofs.lemmas.List.FromFn.{length-map-range_with_len, get_or-map-range_with_len}
 use Rattle.std.proofs.lemmas.Bool.{cases_eq, cases_lt, eq-eqb, ne_eqb, lt-ltb, le-ltb}
 use Rattle.mv_ir.specs.Live.{mark_at}
@@ -10,7 +10,7 @@ use Rattle.mv_regalloc.specs.declared.table.Table.{Table}
 use Rattle.mv_regalloc.specs.declared.table.Turn.{Turn}
 use Rattle.mv_regalloc.specs.Rows.{Bits}
 use Rattle.mv_regalloc.specs.LiveBits.{in_word, word_bit}
-use Rattle.mv_regalloc.specs.Spanned.{SpanTable, Adds, no_spans}
+use Rattle.mv_regalloc.specs.Spanned.{Adds, no_spans}
 use Rattle.mv_regalloc.specs.Tables.{IsPut, leaves, enters, begin_of, IsTable, Marked, told}
 use Rattle.mv_regalloc.proofs.WordBits.{word_put, word_stays, none_in}
 use Rattle.mv_regalloc.proofs.Adding.{mark_adds}
@@ -60,15 +60,15 @@ module _ (s s' : Table) (n : Turn) (old : IsTable s) (low : n.place < length s.w
     abbrev o : ℕ
     o = slice_index s.ends t
 
-    put_begin : (x y : Bool) (v st g : ℕ) → cond x v (cond (y && not x) st g) ≡ cond (true && x) v (cond y st g)
-    put_begin true y v st g = refl
-    put_begin false true v st g = refl
-    put_begin false false v st g = refl
+    put_begin : (a b : Bool) (v k i : ℕ) → cond a v (cond (b && not a) k i) ≡ cond (true && a) v (cond b k i)
+    put_begin true b v k i = refl
+    put_begin false true v k i = refl
+    put_begin false false v k i = refl
 
-    put_end : (x y : Bool) (st g v o : ℕ) → (y ≡ true → eqb st 0 ≡ false) → cond (true && ((x && not y) && eqb g 0)) v o ≡ cond ((true && x) && eqb (cond y st g) 0) v o
-    put_end true true st g v o p = ap (λ c. cond c v o) (sym (p refl))
-    put_end true false st g v o p = refl
-    put_end false y st g v o p = refl
+    put_end : (a b : Bool) (k i v j : ℕ) → (b ≡ true → eqb k 0 ≡ false) → cond (true && ((a && not b) && eqb i 0)) v j ≡ cond ((true && a) && eqb (cond b k i) 0) v j
+    put_end true true k i v j p = ap (λ c. cond c v j) (sym (p refl))
+    put_end true false k i v j p = refl
+    put_end false b k i v j p = refl
 
     word_begin : (t / 64 ≡ n.place) ⊎ (t / 64 ≡ n.place → ⊥) → begin_of s' t ≡ cond (eqb (t / 64) n.place && x) (n.behind + 1) (begin_of s t)
     word_begin (inl e) =

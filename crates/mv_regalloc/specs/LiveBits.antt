@@ -1,5 +1,5 @@
 -- A set of temporaries in words of 64 bits, and as a bit for each temporary.
-use Rattle.std.specs.Prelude.{ℕ, ◌≡◌, ◌/◌, ◌%◌, Bool, List, map, eqb, slice_index}
+use Rattle.std.specs.Prelude.{ℕ, ◌/◌, ◌%◌, Bool, List, map, eqb, slice_index}
 use Rattle.std.specs.List.{range_with_len}
 use Rattle.std.specs.Int.{bit_at}
 use Rattle.mv_regalloc.specs.Rows.{Bits}

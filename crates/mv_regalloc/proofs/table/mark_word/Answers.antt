@@ -1,4 +1,4 @@
-use Rattle.std.proofs.Common.{◌≡◌, ◌/◌, ◌&&◌, eqb, subst, sym, arith}
+use Rattle.std.proofs.Common.{◌≡◌, ◌/◌, ◌&&◌, eqb, subst, sym}
 use Rattle.mv_regalloc.specs.LiveBits.{in_word}
 use Rattle.mv_regalloc.specs.Tables.{Marked}
 use Rattle.mv_regalloc.proofs.TableSteps.{word_empty}

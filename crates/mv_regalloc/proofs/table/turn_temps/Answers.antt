@@ -1,7 +1,7 @@
-use Rattle.std.proofs.Common.{◌≡◌, ◌+◌, ◌<◌, ◌/◌, ◌*◌, ◌&&◌, cond, eqb, length, min, sym, ap, ◌∙◌, subst, arith}
+use Rattle.std.proofs.Common.{◌≡◌, ◌<◌, ◌/◌, ◌&&◌, cond, eqb, length, ap, ◌∙◌, arith}
 use Rattle.std.specs.Prelude.{slice_index, slice_set}
-use Rattle.mv_regalloc.specs.Tables.{IsPut, enters, leaves}
-use Rattle.mv_regalloc.proofs.Putting.{upto, put_none, put_here, put_next, put_all}
+use Rattle.mv_regalloc.specs.Tables.{enters, leaves}
+use Rattle.mv_regalloc.proofs.Putting.{put_none, put_here, put_next, put_all}
 use Rattle.mv_regalloc.proofs.table.turn_temps.Goals as goal
 
 pub loop-temp-init : goal.loop-temp-init
@@ -30,7 +30,7 @@ loop-temp-preserved c =
     let ends = c.args.ends.now in
     let low : t < length begins = omega (arith, c.loop-temp-test.true, c.end_within-temp-end.ensures, c.len.ensures) in
     let low' : t < length ends = (let k = c.requires in omega (arith, k, low)) in
-    let here : t / 64 ≡ n.place = omega (arith, h.from, c.loop-temp-test.true, c.end_within-temp-end.ensures, c.len.ensures, c.saturating_mul-from.ensures, c.args.begins) in
+    let here : t / 64 ≡ n.place = omega (arith, h.from, c.loop-temp-test.true, c.end_within-temp-end.ensures, c.len.ensures, c.saturating_mul-from.ensures) in
     let same : slice_index c.loop-temp.begins t ≡ slice_index begins t = put_here n.place t n.start (λ t. leaves n t) begins c.loop-temp.begins h.begins low in
     record {
       from = (let k = h.from in omega (arith, k));

@@ -1,4 +1,4 @@
-use Rattle.std.proofs.Common.{◌≤◌, ◌&&◌, eqb, length, ◌≡◌}
+use Rattle.std.proofs.Common.{◌≤◌, ◌&&◌, eqb}
 use Rattle.std.specs.Prelude.{slice_index}
 use Rattle.mv_regalloc.specs.Tables.{IsPut, enters, leaves}
 use Rattle.mv_regalloc.proofs.Putting.{upto}

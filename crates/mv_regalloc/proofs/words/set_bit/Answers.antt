@@ -1,4 +1,4 @@
-use Rattle.std.proofs.Common.{◌≡◌, ◌<◌, ◌/◌, ◌||◌, cond, eqb, true, length, sym, ◌∙◌, ap, arith}
+use Rattle.std.proofs.Common.{◌≡◌, ◌<◌, ◌/◌, cond, eqb, true, length, ◌∙◌, ap, arith}
 use Rattle.std.specs.Prelude.{slice_index}
 use Rattle.mv_regalloc.specs.LiveBits.{in_word}
 use Rattle.mv_regalloc.proofs.WordBits.{words_set, bit_set, one_more, at_any}

@@ -1,6 +1,5 @@
 use Rattle.std.proofs.Common.{ap, ◌∙◌, []}
-use Rattle.mv_regalloc.specs.LiveBits.{in_word, bits_of}
-use Rattle.std.specs.Prelude.{slice_index}
+use Rattle.mv_regalloc.specs.LiveBits.{bits_of}
 use Rattle.mv_regalloc.proofs.WordBits.{none_in}
 use Rattle.mv_regalloc.proofs.LiveSets.{bits_none}
 use Rattle.mv_regalloc.proofs.live_set.LiveSet.none.Goals as goal
