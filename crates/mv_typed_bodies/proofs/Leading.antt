@@ -16,10 +16,10 @@ use Rattle.mv_typing.specs.Soundness.{IsMeant, Fits}
 use Rattle.mv_typed_bodies.specs.Bodies.{Keeps, Grows}
 use Rattle.mv_typed_bodies.proofs.Names.{entered_means}
 use Rattle.mv_typed_bodies.proofs.Places.{keeps_joined, listed_kept}
-use Rattle.mv_typed_bodies.proofs.Property.{Property, Holds}
+use Rattle.mv_typed_bodies.proofs.Property.{Passage, Holds}
 use Rattle.mv_typed_bodies.proofs.Growing.{Enumerates, grows_same, grows_joined, grows_block, names_back}
 
-module _ (x : Property) where
+module _ (x : Passage) where
   abbrev p : Program
   p = x.program
 

@@ -1,7 +1,7 @@
 pub mod Judging
 mod Places
-mod Names
-mod Growing
+pub mod Names
+pub mod Growing
 mod Specified
 mod Designated
 pub mod Property

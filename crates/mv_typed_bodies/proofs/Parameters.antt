@@ -21,11 +21,11 @@ use Rattle.mv_declare.specs.Specifiers.{specifiers}
 use Rattle.mv_typed_bodies.proofs.Judging.{IfGood, if_any, if_then, if_kept, if_more, if_through, each_any, all_append}
 use Rattle.mv_typed_bodies.proofs.Specified.{Specifies, specifiers_specify}
 use Rattle.mv_typed_bodies.proofs.Designated.{IsListedEntity, Designates, shape_designates}
-use Rattle.mv_typed_bodies.proofs.Property.{Property}
+use Rattle.mv_typed_bodies.proofs.Property.{Passage}
 use Rattle.mv_typed_bodies.proofs.Leading.{Leads, leads_here, leads_more, leads_joined, leads_renamed, leads_enumerated}
 use Rattle.mv_typed_bodies.proofs.Declared.{scalar_leads}
 
-module _ (x : Property) where
+module _ (x : Passage) where
   abbrev To : Scope → Scope → Type 0
   To s t = Leads x s t (Unit {0})
 

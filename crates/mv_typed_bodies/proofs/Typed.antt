@@ -24,12 +24,12 @@ use Rattle.mv_typed_bodies.proofs.SwitchBodies.{BodiesHave, arms_have, label_lea
 use Rattle.mv_statement_rules.specs.Statements.{body_judgement}
 use Rattle.mv_typed_bodies.specs.Bodies.{Keeps, Grows, IsTypedBehind, AddsScalars, AreParameters}
 use Rattle.mv_typed_bodies.proofs.Judging.{of_good, by_good}
-use Rattle.mv_typed_bodies.proofs.Property.{OfOption, Property}
+use Rattle.mv_typed_bodies.proofs.Property.{OfOption, Property, passage}
 use Rattle.mv_typed_bodies.proofs.Conversions.{integer_is, converted_at, promoted_at}
 use Rattle.mv_typed_bodies.proofs.Values.{initials_have}
 use Rattle.mv_typed_bodies.proofs.Made.{block_made, clear_made, express_made, if_made, while_made, do_made, for_made, break_made, continue_made, return_made, switch_made}
 use Rattle.mv_typed_bodies.proofs.Places.{mapped_there}
-use Rattle.mv_typed_bodies.proofs.Bodies.{body_leads}
+use Rattle.mv_typed_bodies.proofs.Bodies.{body_leads, body_has}
 use Rattle.mv_typed_bodies.proofs.Leading.{Leads}
 
 module _ (p : Program) (f : Function) where
@@ -77,11 +77,11 @@ module _ (p : Program) (f : Function) where
     pub body_typed : (body : Line) (s u : Scope) (ss : List Stmt) → body_judgement f.result body s ≡ Good (u, ss) →
         Keeps u.signatures p.signatures → Keeps u.locals f.locals → Fits p f s → IsTypedBehind p f u ss
     body_typed body s u ss q signatures locals fits =
-        let y = (body_leads typed f.result refl body s u ss q).holds (record { signatures = signatures; locals = locals }) (record { fits = fits; names = λ name m h. tt }) in
+        let y = body_has typed body s u ss q signatures locals (record { fits = fits; names = λ name m h. tt }) in
         record { fits = y.0.fits; statements = All-from_recursion (IsTypedStmt p f) ss y.1 }
 
     body_grows : (t : CType) → t ≡ f.result → (body : Line) (s u : Scope) (ss : List Stmt) → body_judgement t body s ≡ Good (u, ss) → Grows s u
-    body_grows t r body s u ss q = (body_leads typed t r body s u ss q).grows
+    body_grows t r body s u ss q = (body_leads (passage typed) t r body s u ss q).grows
 
 -- whatever the program is
 module _ (values : GoodIsTyped) (effects : EffectIsTyped) (comes : (p : Program) (e : Expr) (v : ℕ) → computed e ≡ Some v → ComesTo p e v) where
@@ -94,9 +94,9 @@ module _ (values : GoodIsTyped) (effects : EffectIsTyped) (comes : (p : Program)
   pub any_grows : (t : CType) (body : Line) (s u : Scope) (ss : List Stmt) → body_judgement t body s ≡ Good (u, ss) → Grows s u
   any_grows t body s u ss q = body_grows no_program (no_function t) values effects comes t refl body s u ss q
 
-  params_lead : (p : Program) (f : Function) (params : List Param) (s u : Scope) → parameters_judgement s params ≡ Good u → Leads (typed p f values effects comes) s u (Unit {0})
+  params_lead : (p : Program) (f : Function) (params : List Param) (s u : Scope) → parameters_judgement s params ≡ Good u → Leads (passage (typed p f values effects comes)) s u (Unit {0})
   params_lead p f params s u q =
-      of_good (λ t. Leads (typed p f values effects comes) s t (Unit {0})) (parameters_judgement s params) (parameters_lead (typed p f values effects comes) params s) u q
+      of_good (λ t. Leads (passage (typed p f values effects comes)) s t (Unit {0})) (parameters_judgement s params) (parameters_lead (passage (typed p f values effects comes)) params s) u q
 
   params_add : (params : List Param) (s u : Scope) → parameters_judgement s params ≡ Good u → AddsScalars (length params) s u
   params_add params s u q =
