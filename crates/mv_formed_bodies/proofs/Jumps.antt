@@ -85,4 +85,4 @@ jumping p f = record {
 pub jumps_hold : (p : Program) (f : Function) (body : Line) (s u : Scope) (ss : List Stmt) → body_judgement f.result body s ≡ Good (u, ss) →
     Keeps u.signatures p.signatures → Keeps u.locals f.locals → Fits p f s → all_jump (map stmt_jumps ss) false false ≡ true
 jumps_hold p f body s u ss q signatures locals fits =
-    all_have_jump false false ss (body_has (jumping p f) body s u ss q signatures locals (record { fits = fits; names = λ name m h. tt }))
+    all_have_jump false false ss (body_has (jumping p f) body s u ss q signatures locals (record { fits = fits; names = λ name m h. tt })).1

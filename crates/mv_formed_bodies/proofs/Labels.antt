@@ -250,4 +250,4 @@ labelling p f = record {
 pub labels_hold : (p : Program) (f : Function) (body : Line) (s u : Scope) (ss : List Stmt) → body_judgement f.result body s ≡ Good (u, ss) →
     Keeps u.signatures p.signatures → Keeps u.locals f.locals → Fits p f s → all_of (map stmt_labelled ss) ≡ true
 labels_hold p f body s u ss q signatures locals fits =
-    all_tested stmt_labelled ss (body_has (labelling p f) body s u ss q signatures locals (record { fits = fits; names = λ name m h. tt }))
+    all_tested stmt_labelled ss (body_has (labelling p f) body s u ss q signatures locals (record { fits = fits; names = λ name m h. tt })).1

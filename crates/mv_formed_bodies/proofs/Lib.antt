@@ -11,3 +11,5 @@ mod KnownStatements
 mod Counted
 mod NamedExpressions
 mod NamedStatements
+mod DeclaredExpressions
+mod DeclaredStatements

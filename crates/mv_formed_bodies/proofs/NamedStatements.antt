@@ -31,9 +31,8 @@ use Rattle.mv_lowering.specs.LowerStatements.{but_for, named_option, stmt_named_
 use Rattle.mv_lowering.specs.Functions.{size_of_local, size_in}
 use Rattle.mv_typed_bodies.specs.Bodies.{Keeps}
 use Rattle.mv_typed_bodies.proofs.Judging.{IfGood, by_good, if_both}
-use Rattle.mv_typed_bodies.proofs.Bodies.{body_leads}
+use Rattle.mv_typed_bodies.proofs.Bodies.{body_has}
 use Rattle.mv_typed_bodies.proofs.Conversions.{converted_at, promoted_at, integer_is}
-use Rattle.mv_typed_bodies.proofs.Leading.{Leads}
 use Rattle.mv_typed_bodies.proofs.Property.{OfOption, Holds, Property}
 use Rattle.mv_typed_bodies.proofs.SwitchBodies.{BodyHas, BodiesHave, arms_have, label_leaves, statement_has}
 use Rattle.mv_typed_bodies.proofs.Values.{initials_have, initials_fit}
@@ -185,5 +184,5 @@ module _ (p : Program) (own : ℕ) (f : Function) where
         Fits p f s → AreShaped p own f s →
         AreShaped p own f u × (all_of (map (stmt_is_well_formed p own (length f.locals) (size_in f.locals) (is_void f.result)) ss) ≡ true)
     names_hold body s u ss q signatures locals fits shaped =
-        let y = (body_leads naming f.result refl body s u ss q).holds (record { signatures = signatures; locals = locals }) (record { fits = fits; names = shaped }) in
+        let y = body_has naming body s u ss q signatures locals (record { fits = fits; names = shaped }) in
         (y.0.names, all_tested formed ss y.1)

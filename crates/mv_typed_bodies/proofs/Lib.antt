@@ -1,7 +1,7 @@
 pub mod Judging
 mod Places
-mod Names
-mod Growing
+pub mod Names
+pub mod Growing
 mod Specified
 mod Designated
 pub mod Property
@@ -13,6 +13,6 @@ mod Induction
 pub mod Values
 mod Forms
 pub mod Bodies
-mod Parameters
+pub mod Parameters
 pub mod SwitchBodies
 mod Typed
