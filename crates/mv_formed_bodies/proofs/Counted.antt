@@ -1,5 +1,5 @@
 -- Numbers of arguments, and tests that fail together.
-use Rattle.std.proofs.Common.{◌≡◌, ℕ, ◌≤◌, Bool, true, false, ◌&&◌, ◌||◌, refl, sym, ◌∙◌, ap, suc, List, [], ◌∷◌, ◌++◌, map, take, length, Option, Some, slice_get, nat_eq, arith}
+use Rattle.std.proofs.Common.{◌≡◌, ℕ, ◌≤◌, Bool, true, false, ◌||◌, refl, sym, ◌∙◌, ap, suc, List, [], ◌∷◌, ◌++◌, map, take, length, Some, slice_get, nat_eq, arith}
 use Rattle.std.proofs.lemmas.List.{length-take-le}
 use Rattle.mv_ast.specs.declared.program.CType.{CType}
 use Rattle.mv_ast.specs.declared.program.CType.TheVariants.{Void, Scalar, Pointer}

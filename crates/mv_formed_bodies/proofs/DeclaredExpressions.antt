@@ -1,6 +1,5 @@
 -- That the locals that an expression names are declared comes from its parts.
-use Rattle.std.proofs.Common.{◌≡◌, ℕ, ◌⊎◌, inl, inr, Bool, true, false, ◌&&◌, refl, sym, ◌∙◌, ap, subst, if◌then◌else◌, List, [], ◌∷◌, ◌++◌, map, length, Option, Some, None, nat_eq, nat_lt, suc, arith}
-use Rattle.std.specs.List.{AllByRecursion}
+use Rattle.std.proofs.Common.{◌≡◌, ℕ, Bool, true, false, refl, ◌∙◌, ap, if◌then◌else◌, map}
 use Rattle.mv_ast.specs.declared.program.CType.{CType}
 use Rattle.mv_ast.specs.declared.program.Expr.{Expr, fold_out-Expr}
 use Rattle.mv_ast.specs.declared.program.Form.{Form, Form-F, map-Form, out-Form, fold-Form, fold_out-Form}
@@ -18,14 +17,12 @@ use Rattle.mv_scope.specs.Conversions.{same_type, int, typed, converted_to}
 use Rattle.mv_judge.specs.Judgements.{value_judgement, effect_judgement}
 use Rattle.mv_typed_bodies.proofs.Judging.{IfGood}
 use Rattle.mv_formed_bodies.proofs.ExprJudged.{value_kept, effect_kept}
-use Rattle.mv_scope.specs.Scoped.{meaning_of}
 use Rattle.mv_judge.specs.Seen.{object_at, element_at}
-use Rattle.mv_judge.specs.Calls.{known_params, with_index}
-use Rattle.mv_lowering.specs.Lower.{all_of}
+use Rattle.mv_judge.specs.Calls.{with_index}
 use Rattle.mv_lowered_programs.specs.Scopes.{form_in, target_in, layer_in, names_declared}
 use Rattle.mv_formed_bodies.specs.Declared.{IsIn, Covers}
 use Rattle.mv_formed_bodies.proofs.Tests.{both, all_tested, all_last_tested, one_tested, two_tested, three_tested}
-use Rattle.mv_formed_bodies.proofs.ExprProperty.{NamesKnown, IsPlanned, IsOrder, ExprProperty}
+use Rattle.mv_formed_bodies.proofs.ExprProperty.{ExprProperty}
 
 module _ (scope : ℕ → Bool) where
   abbrev K : Expr → Type 0

@@ -1,5 +1,5 @@
 -- That locals are named only where they are declared comes from the parts of a statement, from the scope before it to the scope behind it.
-use Rattle.std.proofs.Common.{◌≡◌, ℕ, ◌⊎◌, inl, inr, Bool, true, false, ◌&&◌, ◌||◌, refl, sym, ◌∙◌, ap, subst, List, [], ◌∷◌, ◌++◌, map, length, Option, Some, None, nat_eq, slice_get, if◌then◌else◌, arith}
+use Rattle.std.proofs.Common.{◌≡◌, ℕ, ◌⊎◌, inl, inr, Bool, true, false, ◌&&◌, ◌||◌, refl, sym, ◌∙◌, ap, subst, List, [], ◌∷◌, ◌++◌, map, length, Option, Some, None, nat_eq, if◌then◌else◌, arith}
 use Rattle.std.specs.List.{AllByRecursion}
 use Rattle.mv_ast.specs.declared.program.Arm.{Arm, fold_out-Arm}
 use Rattle.mv_ast.specs.declared.program.Program.{Program}
@@ -41,7 +41,7 @@ use Rattle.mv_typed_bodies.proofs.Property.{OfOption, MeansLocal, Passage}
 use Rattle.mv_typed_bodies.proofs.Bodies.{lines_have}
 use Rattle.mv_typed_bodies.proofs.Values.{initials_have}
 use Rattle.mv_formed_bodies.specs.Declared.{IsIn, IsCovered, Covers}
-use Rattle.mv_formed_bodies.proofs.Tests.{both, all_tested}
+use Rattle.mv_formed_bodies.proofs.Tests.{both}
 use Rattle.mv_formed_bodies.proofs.DeclaredExpressions.{converted_declared, value_declared, effect_declared}
 
 abbrev Set : Type 0

@@ -8,7 +8,6 @@ use Rattle.mv_ast.specs.declared.program.Known.TheVariants as known
 use Rattle.mv_ast.specs.declared.program.Signature.{Signature}
 use Rattle.mv_scope.specs.declared.meaning.Routine.{Routine}
 use Rattle.mv_scope.specs.Conversions.{int, typed}
-use Rattle.mv_judge.specs.declared.seen.Object.{Object}
 use Rattle.mv_judge.specs.declared.seen.Seen.{Seen}
 use Rattle.mv_judge.specs.declared.seen.Seen.TheVariants as seen
 use Rattle.mv_judge.specs.declared.seen.Use.{Use}

@@ -1,11 +1,9 @@
 -- What a form is found to be has a property where its parts have it: operators, assignments, objects, names.
 use Rattle.std.proofs.Common.{◌≡◌, ℕ, Bool, true, false, refl, Option, Some, None, is_none, nat_eq, if◌then◌else◌, List}
-use Rattle.mv_ast.specs.declared.place.Place.{Place}
 use Rattle.mv_ast.specs.declared.program.CType.{CType}
 use Rattle.mv_ast.specs.declared.program.CType.TheVariants.{Void, Pointer}
 use Rattle.mv_ast.specs.declared.program.Expr.{Expr}
 use Rattle.mv_ast.specs.declared.program.Form.TheVariants as form
-use Rattle.mv_ast.specs.declared.program.Known.{Known}
 use Rattle.mv_scope.specs.declared.meaning.Meaning.{Meaning}
 use Rattle.mv_scope.specs.declared.meaning.Meaning.TheVariants as meaning
 use Rattle.mv_scope.specs.Conversions.{same_type, int, typed, promoted, promotion, converted_to}

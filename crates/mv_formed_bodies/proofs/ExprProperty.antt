@@ -14,7 +14,6 @@ use Rattle.mv_scope.specs.declared.meaning.Variable.{Variable}
 use Rattle.mv_scope.specs.declared.scope.Scope.{Scope}
 use Rattle.mv_scope.specs.Conversions.{int, typed}
 use Rattle.mv_scope.specs.Scoped.{meaning_of}
-use Rattle.mv_judge.specs.declared.seen.Object.{Object}
 use Rattle.mv_judge.specs.Seen.{object_at, element_at}
 use Rattle.mv_judge.specs.Calls.{known_params, with_index}
 

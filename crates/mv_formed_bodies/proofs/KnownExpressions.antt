@@ -1,6 +1,5 @@
 -- That known functions are called with their arguments comes from the parts of an expression.
-use Rattle.std.proofs.Common.{◌≡◌, ℕ, ◌⊎◌, inl, inr, Bool, true, false, ◌&&◌, refl, sym, ◌∙◌, ap, subst, if◌then◌else◌, List, [], ◌∷◌, ◌++◌, map, length, Option, Some, None, nat_eq, nat_lt, suc, arith}
-use Rattle.std.specs.List.{AllByRecursion}
+use Rattle.std.proofs.Common.{◌≡◌, ℕ, inl, inr, Bool, true, false, refl, ◌∙◌, ap, if◌then◌else◌, List, [], ◌∷◌, map, length, nat_eq, nat_lt, suc, arith}
 use Rattle.mv_ast.specs.declared.program.CType.{CType}
 use Rattle.mv_ast.specs.declared.program.Program.{Program}
 use Rattle.mv_ast.specs.declared.program.Function.{Function}
@@ -23,13 +22,11 @@ use Rattle.mv_scope.specs.Conversions.{same_type, int, typed, converted_to}
 use Rattle.mv_judge.specs.Judgements.{value_judgement, effect_judgement}
 use Rattle.mv_typed_bodies.proofs.Judging.{IfGood}
 use Rattle.mv_formed_bodies.proofs.ExprJudged.{value_kept, effect_kept}
-use Rattle.mv_scope.specs.Scoped.{meaning_of}
 use Rattle.mv_judge.specs.Seen.{object_at, element_at}
 use Rattle.mv_judge.specs.Calls.{known_params, with_index}
-use Rattle.mv_lowering.specs.Lower.{all_of}
-use Rattle.mv_lowered_programs.specs.Scopes.{form_in, layer_in}
+use Rattle.mv_lowered_programs.specs.Scopes.{layer_in}
 use Rattle.mv_lowered_programs.specs.Named.{known_parameters, order_is_there, known_is_there, form_calls_known, target_in_parts, calls_known}
-use Rattle.mv_formed_bodies.specs.Formed.{IsKindOfOrder, AreShaped}
+use Rattle.mv_formed_bodies.specs.Formed.{AreShaped}
 use Rattle.mv_formed_bodies.proofs.Tests.{both, all_tested, all_last_tested, one_tested, two_tested, three_tested}
 use Rattle.mv_formed_bodies.proofs.ExprProperty.{NamesKnown, IsPlanned, IsOrder, ExprProperty}
 

@@ -1,5 +1,5 @@
 -- That an expression names what there is comes from its parts, and from its being well typed.
-use Rattle.std.proofs.Common.{◌≡◌, ℕ, ◌<◌, Bool, true, false, not, ◌&&◌, ◌||◌, refl, sym, ◌∙◌, ap, subst, if◌then◌else◌, List, [], ◌∷◌, ◌++◌, map, length, Option, Some, None, nat_eq, nat_lt, slice_get, arith}
+use Rattle.std.proofs.Common.{◌≡◌, ℕ, ◌<◌, Bool, true, false, not, ◌||◌, refl, sym, ◌∙◌, ap, subst, if◌then◌else◌, List, [], ◌∷◌, map, length, nat_eq, nat_lt, arith}
 use Rattle.std.specs.List.{AllByRecursion}
 use Rattle.std.proofs.lemmas.Option.{slice_get_within}
 use Rattle.mv_ast.specs.declared.program.CType.{CType}
@@ -10,7 +10,7 @@ use Rattle.mv_ast.specs.declared.program.Form.{Form, Form-F, map-Form, out-Form,
 use Rattle.mv_ast.specs.declared.program.Form.TheVariants as form
 use Rattle.mv_ast.specs.declared.program.Form.TheVariants.{outs-Number, outs-Read, outs-Function, outs-Unary, outs-Binary, outs-Both, outs-Either, outs-Choose, outs-Convert, outs-Set, outs-Change, outs-After, outs-Direct, outs-Through, outs-Known}
 use Rattle.mv_ast.specs.declared.program.Form.TheOpen as open_form
-use Rattle.mv_ast.specs.declared.program.Target.{Target, Target-F, map-Target, out-Target, fold-Target, fold_out-Target}
+use Rattle.mv_ast.specs.declared.program.Target.{Target, Target-F, map-Target, out-Target, fold_out-Target}
 use Rattle.mv_ast.specs.declared.program.Target.TheVariants.{outs-Global, outs-Local, outs-GlobalAt, outs-LocalAt}
 use Rattle.mv_ast.specs.declared.unit.Node.{Node}
 use Rattle.mv_ast.specs.Names.{any_of, form_names, target_names, inner_names, names_local, target_names_local}
@@ -24,7 +24,7 @@ use Rattle.mv_judge.specs.Seen.{object_at, element_at}
 use Rattle.mv_judge.specs.Calls.{with_index}
 use Rattle.mv_numbering.specs.Typing.{HasType, IsTypedExpr}
 use Rattle.mv_numbering.proofs.Typed.{TypedTarget, AllTyped, FormParts, TargetParts, form_parts, target_parts, expr_form, expr_node}
-use Rattle.mv_lowering.specs.Lower.{all_of, is_void, is_scalar, is_callable, names_target, names_form, names_layer, target_is_well_named, is_well_named}
+use Rattle.mv_lowering.specs.Lower.{all_of, is_scalar, names_target, names_form, names_layer, target_is_well_named, is_well_named}
 use Rattle.mv_lowering.specs.Functions.{size_of_local, size_in}
 use Rattle.mv_typed_bodies.proofs.Judging.{IfGood}
 use Rattle.mv_formed_bodies.specs.Formed.{IsScalar, IsArray, AreShaped, HasParameters}

@@ -1,8 +1,8 @@
 -- That a statement names what there is comes from its parts, where it is well typed.
-use Rattle.std.proofs.Common.{◌≡◌, ℕ, ◌<◌, Bool, true, false, not, ◌&&◌, ◌||◌, refl, sym, ◌∙◌, ap, subst, List, [], ◌∷◌, ◌++◌, map, length, Option, Some, None, nat_eq, nat_lt, nat_le, slice_get, arith}
+use Rattle.std.proofs.Common.{◌≡◌, ℕ, ◌<◌, Bool, true, false, not, ◌||◌, refl, ◌∙◌, ap, subst, List, [], ◌∷◌, map, length, Option, Some, None, nat_eq, nat_lt, nat_le, slice_get, arith}
 use Rattle.std.specs.List.{AllByRecursion}
 use Rattle.std.proofs.lemmas.Option.{slice_get_within}
-use Rattle.mv_ast.specs.declared.program.Arm.{Arm, fold-Arm, fold_out-Arm}
+use Rattle.mv_ast.specs.declared.program.Arm.{Arm, fold_out-Arm}
 use Rattle.mv_ast.specs.declared.program.CType.{CType}
 use Rattle.mv_ast.specs.declared.program.Program.{Program}
 use Rattle.mv_ast.specs.declared.program.Function.{Function}
@@ -39,7 +39,7 @@ use Rattle.mv_typed_bodies.proofs.Values.{initials_have, initials_fit}
 use Rattle.mv_formed_bodies.specs.Formed.{IsShaped, AreShaped, HasParameters}
 use Rattle.mv_formed_bodies.proofs.Tests.{both, all_tested}
 use Rattle.mv_formed_bodies.proofs.Counted.{or_false, void_is}
-use Rattle.mv_formed_bodies.proofs.NamedExpressions.{Named, Apart, IsNamed, converted_named, value_named, effect_named}
+use Rattle.mv_formed_bodies.proofs.NamedExpressions.{Apart, IsNamed, converted_named, value_named, effect_named}
 use Rattle.mv_formed_bodies.proofs.Shapes.{scalar_shaped, array_shaped}
 
 module _ (p : Program) (own : ℕ) (f : Function) where

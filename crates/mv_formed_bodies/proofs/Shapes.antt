@@ -1,5 +1,5 @@
 -- The names of locals mean the scalars and the arrays that these are.
-use Rattle.std.proofs.Common.{◌≡◌, ℕ, refl, Bool, Some, None, slice_get}
+use Rattle.std.proofs.Common.{◌≡◌, ℕ, refl, Bool, Some, slice_get}
 use Rattle.mv_ast.specs.declared.program.CType.{CType}
 use Rattle.mv_ast.specs.declared.program.Program.{Program}
 use Rattle.mv_ast.specs.declared.program.Function.{Function}

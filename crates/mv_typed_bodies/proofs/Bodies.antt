@@ -1,10 +1,9 @@
 -- Each line of a body leads to the scope behind it, and its statements have a property: by the forms of its statements.
-use Rattle.std.proofs.Common.{◌≡◌, ℕ, refl, subst, Bool, true, false, not, List, [], ◌∷◌, ◌++◌, Option, Some, None}
+use Rattle.std.proofs.Common.{◌≡◌, refl, subst, true, false, not, List, [], ◌∷◌, ◌++◌, None}
 use Rattle.std.specs.List.{AllByRecursion}
 use Rattle.mv_ast.specs.declared.place.Place.{Place}
 use Rattle.mv_ast.specs.declared.program.CType.{CType}
 use Rattle.mv_ast.specs.declared.program.Stmt.{Stmt}
-use Rattle.mv_ast.specs.declared.program.Stmt.TheVariants as stmt
 use Rattle.mv_ast.specs.declared.unit.Act.TheOpen as act
 use Rattle.mv_ast.specs.declared.unit.Line.{Line}
 use Rattle.mv_ast.specs.Operators.{converted}
@@ -19,7 +18,7 @@ use Rattle.mv_statement_rules.specs.declared.around.Around.{Around}
 use Rattle.mv_statement_rules.specs.declared.arms.Arms.{Arms}
 use Rattle.mv_statement_rules.specs.Surroundings.{in_function}
 use Rattle.mv_statement_rules.specs.SwitchBodies.{no_arms, with_case, with_default, with_statement, converts_constant, case_label, default_label}
-use Rattle.mv_statement_rules.specs.Statements.{Judges, Layer, lines_in_turn, arms_in_turn, statement_of, line_of, arm_of, switch_body_of, function_body_of, act_step, judges_of, body_judgement}
+use Rattle.mv_statement_rules.specs.Statements.{Judges, Layer, lines_in_turn, arms_in_turn, statement_of, line_of, arm_of, switch_body_of, function_body_of, act_step, body_judgement}
 use Rattle.mv_typed_bodies.proofs.Judging.{IfGood, of_good, if_any, if_then, if_kept, if_more, if_through}
 use Rattle.mv_typed_bodies.specs.Bodies.{Keeps}
 use Rattle.mv_typed_bodies.proofs.Growing.{enumerates_same, names_back}

@@ -12,7 +12,7 @@ use Rattle.mv_ast.specs.declared.program.Form.TheVariants as form
 use Rattle.mv_ast.specs.declared.program.Form.TheVariants.{outs-Convert}
 use Rattle.mv_ast.specs.declared.program.Form.TheOpen as open_form
 use Rattle.mv_ast.specs.declared.program.Target.{Target}
-use Rattle.mv_scope.specs.Conversions.{kind_number, same_type, is_integer, is_pointer, promotion, promoted, typed, converted_to}
+use Rattle.mv_scope.specs.Conversions.{kind_number, same_type, is_integer, promotion, promoted, typed, converted_to}
 use Rattle.mv_scope.specs.Constants.{is_constant, computed, constant_value, is_zero, is_null, converts}
 use Rattle.mv_numbering.specs.Typing.{IsInteger, ComesTo, IsNull, ConvertsTo, HasType, IsTypedExpr, IsTypedAt}
 use Rattle.mv_typed_bodies.proofs.Judging.{and_true}

@@ -1,5 +1,5 @@
 -- Declarations in a block lead to a scope that has their locals, and their statements have a property.
-use Rattle.std.proofs.Common.{◌≡◌, ℕ, ◌⊎◌, inl, inr, refl, sym, ◌∙◌, ap, subst, Bool, List, [], ◌∷◌, ◌++◌, length, map, Option, Some, None, slice_get}
+use Rattle.std.proofs.Common.{◌≡◌, ℕ, ◌⊎◌, inl, inr, refl, subst, Bool, List, [], ◌∷◌, ◌++◌, length, map, Option, Some, None, slice_get}
 use Rattle.std.specs.List.{AllByRecursion}
 use Rattle.mv_ast.specs.declared.place.Place.{Place}
 use Rattle.mv_ast.specs.declared.program.CType.{CType}
@@ -14,7 +14,7 @@ use Rattle.mv_scope.specs.declared.meaning.Meaning.{Meaning}
 use Rattle.mv_scope.specs.declared.scope.Scope.{Scope}
 use Rattle.mv_scope.specs.Conversions.{is_void}
 use Rattle.mv_scope.specs.Scoped.{meaning_of, declared, with_local}
-use Rattle.mv_judge.specs.Judged.{Good, Broken}
+use Rattle.mv_judge.specs.Judged.{Good}
 use Rattle.mv_declare.specs.declared.attributes.Position.TheVariants as position
 use Rattle.mv_declare.specs.declared.declarators.Entity.{Entity}
 use Rattle.mv_declare.specs.declared.declarators.Entity.TheVariants as entity
@@ -29,12 +29,11 @@ use Rattle.mv_declare.specs.Turns.{Behind, next_part, in_turn}
 use Rattle.mv_numbering.specs.Typing.{local_types}
 use Rattle.mv_typing.specs.Soundness.{IsListed, IsMeant}
 use Rattle.mv_typed_bodies.proofs.Judging.{IfGood, by_good, of_good, if_any, if_then, if_kept, if_more, if_through}
-use Rattle.mv_typed_bodies.proofs.Places.{IsPlain, keeps_more, last_there, mapped_there}
+use Rattle.mv_typed_bodies.proofs.Places.{IsPlain, last_there, mapped_there}
 use Rattle.mv_typed_bodies.proofs.Names.{declared_means}
 use Rattle.mv_typed_bodies.proofs.Growing.{grows_joined, grows_declared, grows_local}
 use Rattle.mv_typed_bodies.proofs.Specified.{Specifies, specifiers_specify}
 use Rattle.mv_typed_bodies.proofs.Designated.{IsListedEntity, Designates, shape_designates}
-use Rattle.mv_typed_bodies.proofs.Judging.{all_last}
 use Rattle.mv_typed_bodies.proofs.Property.{MeansLocal, Passage}
 use Rattle.mv_typed_bodies.specs.Bodies.{Grows}
 use Rattle.mv_typed_bodies.proofs.Leading.{IsWithin, Leads, leads_here, leads_more, leads_joined, leads_renamed, leads_enumerated, later}

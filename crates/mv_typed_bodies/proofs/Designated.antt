@@ -1,5 +1,5 @@
 -- What declarators designate, and how scopes grow by them.
-use Rattle.std.proofs.Common.{◌≡◌, ℕ, refl, sym, ◌∙◌, subst, Bool, List, [], ◌∷◌, map, Option, Some, None}
+use Rattle.std.proofs.Common.{◌≡◌, ℕ, refl, sym, subst, Bool, List, [], ◌∷◌, map, Option, Some, None}
 use Rattle.std.specs.List.{AllByRecursion}
 use Rattle.mv_ast.specs.declared.place.Place.{Place}
 use Rattle.mv_ast.specs.declared.program.CType.{CType}
@@ -20,7 +20,7 @@ use Rattle.mv_declare.specs.declared.declarators.Entity.{Entity}
 use Rattle.mv_declare.specs.declared.declarators.Entity.TheVariants as entity
 use Rattle.mv_declare.specs.declared.specifiers.Specified.{Specified}
 use Rattle.mv_declare.specs.Attributes.{attributes, nothing_holds}
-use Rattle.mv_declare.specs.Declarators.{signature_of, numbered, function_type, Shapes, Declarators, Params, size_of, shape_step, is_taken_by, parameter_declared, scalar_parameter, parameter_of, new_parameter, declarator_step, param_step, designated, parameter, parameter_declarator}
+use Rattle.mv_declare.specs.Declarators.{signature_of, numbered, function_type, Shapes, Declarators, Params, size_of, shape_step, is_taken_by, parameter_declared, parameter_of, new_parameter, declarator_step, param_step, designated, parameter, parameter_declarator}
 use Rattle.mv_declare.specs.Specifiers.{specifiers}
 use Rattle.mv_declare.specs.Turns.{next_part, in_turn}
 use Rattle.mv_typing.specs.Soundness.{IsListed}

@@ -1,5 +1,5 @@
 -- Each form of a statement leads to the scope behind it, and has a property where its parts have it.
-use Rattle.std.proofs.Common.{◌≡◌, ℕ, refl, sym, ◌∙◌, ap, subst, Bool, true, false, not, if◌then◌else◌, List, [], ◌∷◌, ◌++◌, Option, Some, None}
+use Rattle.std.proofs.Common.{◌≡◌, refl, sym, ◌∙◌, ap, subst, true, not, List, [], ◌∷◌, Option, Some, None}
 use Rattle.std.specs.List.{AllByRecursion}
 use Rattle.mv_ast.specs.declared.place.Place.{Place}
 use Rattle.mv_ast.specs.declared.program.CType.{CType}
@@ -21,7 +21,7 @@ use Rattle.mv_statement_rules.specs.declared.around.Around.{Around}
 use Rattle.mv_statement_rules.specs.declared.arms.Arms.{Arms}
 use Rattle.mv_statement_rules.specs.Surroundings.{in_loop, in_switch}
 use Rattle.mv_statement_rules.specs.SwitchBodies.{arms_of}
-use Rattle.mv_statement_rules.specs.Statements.{Judges, lines_in_turn, misplaced_declaration, misplaced_case, break_judgement, continue_judgement, returned, return_judgement, switch_of, switched, optional, expression_judgement, alone, otherwise, first_clause, block_judgement, if_judgement, while_judgement, do_judgement, for_judgement, switch_judgement}
+use Rattle.mv_statement_rules.specs.Statements.{Judges, lines_in_turn, misplaced_declaration, misplaced_case, break_judgement, continue_judgement, returned, return_judgement, switched, optional, expression_judgement, alone, otherwise, first_clause, block_judgement, if_judgement, while_judgement, do_judgement, for_judgement, switch_judgement}
 use Rattle.mv_typed_bodies.proofs.Judging.{IfGood, by_good, of_good, if_any, if_then, if_kept, if_so, if_through, not_false}
 use Rattle.mv_typed_bodies.proofs.Growing.{enumerates_same, grows_joined, names_back}
 use Rattle.mv_typed_bodies.proofs.Leading.{Holding, Leads, leads_here, leads_more, leads_joined, leads_block}

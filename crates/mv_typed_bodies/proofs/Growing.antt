@@ -1,15 +1,13 @@
 -- How scopes grow.
-use Rattle.std.proofs.Common.{◌≡◌, ℕ, ◌⊎◌, inl, inr, refl, sym, ◌∙◌, ap, subst, Bool, List, ◌∷◌, [], ◌++◌, Some}
+use Rattle.std.proofs.Common.{◌≡◌, ℕ, ◌⊎◌, inl, inr, refl, sym, ◌∙◌, ap, List, ◌∷◌, [], Some}
 use Rattle.mv_ast.specs.declared.program.CType.{CType}
 use Rattle.mv_ast.specs.declared.program.Local.{Local}
-use Rattle.mv_ast.specs.declared.program.Signature.{Signature}
 use Rattle.mv_scope.specs.declared.meaning.Meaning.{Meaning}
 use Rattle.mv_scope.specs.declared.meaning.Meaning.TheVariants as meaning
 use Rattle.mv_scope.specs.declared.scope.Scope.{Scope}
-use Rattle.mv_scope.specs.Scopes.{before_last}
 use Rattle.mv_scope.specs.Scoped.{meaning_of, declared, with_local, block_entered, block_left}
 use Rattle.mv_declare.specs.Declarators.{signature_of, numbered}
-use Rattle.mv_typed_bodies.specs.Bodies.{Keeps, AreListed, Grows}
+use Rattle.mv_typed_bodies.specs.Bodies.{Grows}
 use Rattle.mv_typed_bodies.proofs.Names.{left_is, declared_means}
 use Rattle.mv_typed_bodies.proofs.Places.{IsPlain, keeps_same, keeps_joined, keeps_more, signature_kept, results_listed}
 

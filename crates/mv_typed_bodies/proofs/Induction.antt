@@ -1,5 +1,5 @@
 -- What holds of how each statement is judged, where it holds by its parts: by induction over the lines of a body.
-use Rattle.std.proofs.Common.{◌≡◌, sym, subst, List, [], ◌∷◌, map, Option, Some, None}
+use Rattle.std.proofs.Common.{sym, subst, List, [], ◌∷◌, map, Some, None}
 use Rattle.std.specs.List.{AllByRecursion}
 use Rattle.mv_ast.specs.declared.place.Place.{Place}
 use Rattle.mv_ast.specs.declared.unit.Line.{Line, Line-F, roll-Line, map-Line, ind-Line, fold-roll-Line}

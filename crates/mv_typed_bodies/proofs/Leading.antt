@@ -1,6 +1,5 @@
 -- What leads from one scope of a function to a later one.
-use Rattle.std.proofs.Common.{◌≡◌, ℕ, ◌⊎◌, inl, inr, refl, sym, ◌∙◌, ap, subst, List, Some, slice_get, Option}
-use Rattle.mv_ast.specs.declared.program.CType.{CType}
+use Rattle.std.proofs.Common.{◌≡◌, ℕ, ◌⊎◌, inl, inr, sym, ◌∙◌, ap, subst, List, Some}
 use Rattle.mv_ast.specs.declared.program.CType.TheVariants.{Pointer}
 use Rattle.mv_ast.specs.declared.program.Program.{Program}
 use Rattle.mv_ast.specs.declared.program.Function.{Function}
@@ -12,7 +11,7 @@ use Rattle.mv_scope.specs.declared.space.NameSpace.{NameSpace}
 use Rattle.mv_scope.specs.Known.{known_function}
 use Rattle.mv_scope.specs.Scopes.{sought}
 use Rattle.mv_scope.specs.Scoped.{unless_declared, meaning_of, block_entered, block_left}
-use Rattle.mv_typing.specs.Soundness.{IsMeant, Fits}
+use Rattle.mv_typing.specs.Soundness.{IsMeant}
 use Rattle.mv_typed_bodies.specs.Bodies.{Keeps, Grows}
 use Rattle.mv_typed_bodies.proofs.Names.{entered_means}
 use Rattle.mv_typed_bodies.proofs.Places.{keeps_joined, listed_kept}

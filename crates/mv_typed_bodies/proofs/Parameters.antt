@@ -8,14 +8,12 @@ use Rattle.mv_ast.specs.declared.program.Local.{Local}
 use Rattle.mv_ast.specs.declared.unit.Param.{Param}
 use Rattle.mv_scope.specs.declared.scope.Scope.{Scope}
 use Rattle.mv_scope.specs.Conversions.{is_void}
-use Rattle.mv_scope.specs.Scoped.{declared, with_local}
-use Rattle.mv_judge.specs.Judged.{Judged, Good, and_then}
 use Rattle.mv_declare.specs.declared.attributes.Position.TheVariants as position
 use Rattle.mv_declare.specs.declared.declarators.Entity.{Entity}
 use Rattle.mv_declare.specs.declared.declarators.Entity.TheVariants as entity
 use Rattle.mv_declare.specs.Attributes.{attributes, nothing_holds}
 use Rattle.mv_declare.specs.Declarators.{designated, is_taken_by}
-use Rattle.mv_declare.specs.Locals.{scalar, scalar_meaning}
+use Rattle.mv_declare.specs.Locals.{scalar}
 use Rattle.mv_declare.specs.Parameters.{named_parameter, defined_parameter, new_defined, parameter_judgement, parameters_judgement}
 use Rattle.mv_declare.specs.Specifiers.{specifiers}
 use Rattle.mv_typed_bodies.proofs.Judging.{IfGood, if_any, if_then, if_kept, if_more, if_through, each_any, all_append}

@@ -1,5 +1,5 @@
 -- What specifiers declare: enumerators and tags. The type that they name is no pointer.
-use Rattle.std.proofs.Common.{◌≡◌, ℕ, ◌+◌, inl, refl, sym, ◌∙◌, ap, subst, Bool, true, false, not, ◌&&◌, ◌||◌, is_some, if◌then◌else◌, nat_eq, List, [], ◌∷◌, ◌++◌, map, length, take, drop, Option, Some, None}
+use Rattle.std.proofs.Common.{◌≡◌, ℕ, inl, refl, sym, ◌∙◌, ap, subst, Bool, true, false, not, ◌&&◌, is_some, if◌then◌else◌, nat_eq, List, [], ◌∷◌, map, length, take, drop, Option, Some, None}
 use Rattle.mv_num.specs.declared.kind.Kind.{Kind}
 use Rattle.mv_num.specs.declared.kind.Kind.TheVariants.{Int}
 use Rattle.mv_ast.specs.declared.place.Place.{Place}
@@ -12,8 +12,7 @@ use Rattle.mv_ast.specs.declared.unit.Member.{Member, out-Member}
 use Rattle.mv_ast.specs.declared.unit.Specs.{Specs, out-Specs}
 use Rattle.mv_scope.specs.declared.scope.Scope.{Scope}
 use Rattle.mv_scope.specs.Spaces.{named}
-use Rattle.mv_judge.specs.Judged.{Judged, Good, Broken, and_then}
-use Rattle.mv_judge.specs.TypeNames.{are, named_kind, named_type, as_scalar, any_is, undeclared_enum, judged_type, type_or_broken, type_of}
+use Rattle.mv_judge.specs.TypeNames.{are, named_kind, named_type, as_scalar, any_is, undeclared_enum, type_or_broken, type_of}
 use Rattle.mv_declare.specs.declared.attributes.Holder.{Holder}
 use Rattle.mv_declare.specs.declared.attributes.Position.{Position}
 use Rattle.mv_declare.specs.declared.specifiers.Said.{Said}
@@ -30,9 +29,9 @@ use Rattle.mv_scope.specs.Scopes.{sought}
 use Rattle.mv_scope.specs.Scoped.{unless_declared}
 use Rattle.mv_declare.specs.declared.specifiers.Enumeration.{Enumeration}
 use Rattle.mv_typed_bodies.specs.Bodies.{Keeps, AreListed}
-use Rattle.mv_typed_bodies.proofs.Judging.{IfGood, if_any, if_then, if_kept, if_more, if_through, each_any}
+use Rattle.mv_typed_bodies.proofs.Judging.{IfGood, if_any, if_then, if_kept, if_through, each_any}
 use Rattle.mv_typed_bodies.proofs.Places.{IsPlain, keeps_same}
-use Rattle.mv_typed_bodies.proofs.Growing.{Enumerates, enumerates_same, enumerates_joined, enumerates_one, grows_same}
+use Rattle.mv_typed_bodies.proofs.Growing.{Enumerates, enumerates_same, enumerates_joined, enumerates_one}
 
 -- ---- types
 

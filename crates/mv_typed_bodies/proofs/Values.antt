@@ -1,5 +1,5 @@
 -- The values that a local is given: what holds of each, converted, and how many there are.
-use Rattle.std.proofs.Common.{◌≡◌, ℕ, refl, Bool, true, false, not, ◌&&◌, ◌||◌, is_some, nat_le, ap, arith, if◌then◌else◌, List, [], ◌∷◌, ◌++◌, length, Option, Some, None}
+use Rattle.std.proofs.Common.{◌≡◌, ℕ, refl, Bool, true, false, not, ◌||◌, is_some, nat_le, ap, arith, List, length, Option, Some, None}
 use Rattle.std.specs.List.{AllByRecursion}
 use Rattle.mv_ast.specs.declared.place.Place.{Place}
 use Rattle.mv_ast.specs.declared.program.CType.{CType}
@@ -12,7 +12,7 @@ use Rattle.mv_ast.specs.declared.unit.Node.{Node}
 use Rattle.mv_scope.specs.declared.scope.Scope.{Scope}
 use Rattle.mv_scope.specs.Constants.{converts}
 use Rattle.mv_scope.specs.Conversions.{converted_to}
-use Rattle.mv_judge.specs.Judged.{Good, Broken}
+use Rattle.mv_judge.specs.Judged.{Good}
 use Rattle.mv_judge.specs.Judgements.{value_judgement}
 use Rattle.mv_declare.specs.declared.initials.Converted.{Converted}
 use Rattle.mv_declare.specs.Initials.{with_converted, converted_value, none_converted, converted_values, has_room, single_value, listed_values, initial_values}
