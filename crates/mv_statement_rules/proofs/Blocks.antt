@@ -2,7 +2,6 @@
 use Rattle.std.proofs.Common.{◌≡◌, List, [], map, ap, ◌∙◌, sym, subst, Result}
 use Rattle.mv_ast.specs.declared.place.Place.{Place}
 use Rattle.mv_ast.specs.declared.program.CType.{CType}
-use Rattle.mv_ast.specs.declared.program.Stmt.{Stmt}
 use Rattle.mv_ast.specs.declared.unit.Act.{Act, Act-F, out-Act, map-Act, fold-Act, fold_out-Act}
 use Rattle.mv_ast.specs.declared.unit.Act.TheOpen as act
 use Rattle.mv_ast.specs.declared.unit.Line.{Line, out-Line, fold_out-Line}

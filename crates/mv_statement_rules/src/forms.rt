@@ -225,8 +225,8 @@ pub fn default(alloc: Global, scope: &Scope, place: Place, arms: Arms) -> Result
     Ok(arms)
 }
 
-/// Puts statements behind others.
-pub fn append(done: &mut List<Stmt>, more: List<Stmt>) -> Result<(), AllocError>
+// Puts statements behind others.
+fn append(done: &mut List<Stmt>, more: List<Stmt>) -> Result<(), AllocError>
     ensures { OnOk result (done.new ≡ done.old ++ more) }
 {
     for stmt in more.into_vec() {

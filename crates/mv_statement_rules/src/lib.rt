@@ -4,4 +4,4 @@
 pub mod arms;
 pub mod around;
 pub mod body;
-pub mod forms;
+mod forms;
