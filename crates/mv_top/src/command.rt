@@ -92,7 +92,12 @@ pub fn command_of(words: &[String]) -> Option<Command<'_>>
     match words {
         [name, file] => plain(name.as_str(), file.as_str()),
         [name, file, option, value] => {
-            with_option(name.as_str(), file.as_str(), option.as_str(), value.as_str())
+            with_option(
+                name.as_str(),
+                file.as_str(),
+                option.as_str(),
+                value.as_str(),
+            )
         }
         _ => None,
     }

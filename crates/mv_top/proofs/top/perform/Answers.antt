@@ -18,9 +18,9 @@ returns-in-Ok-clause-comes g c =
     let task = c.in-Some.field-0.task in
     let left = g.I.Source.left c.args.input.now in
     let does = subst (λ text. Does left (λ bytes. Lost left (g.I.Source.left c.carry_out.new.input) bytes)
-        (λ bytes. Grew (g.O.Sink.written c.args.out.now) (g.O.Sink.written c.carry_out.new.out) bytes)
-        (Rose (g.I.Source.faults c.args.input.now) (g.I.Source.faults c.carry_out.new.input))
-        (Rose (g.O.Sink.faults c.args.out.now) (g.O.Sink.faults c.carry_out.new.out)) text task c.carry_out.result) c.as_slice.ensures.value c.carry_out.ensures in
+    (λ bytes. Grew (g.O.Sink.written c.args.out.now) (g.O.Sink.written c.carry_out.new.out) bytes)
+    (Rose (g.I.Source.faults c.args.input.now) (g.I.Source.faults c.carry_out.new.input))
+    (Rose (g.O.Sink.faults c.args.out.now) (g.O.Sink.faults c.carry_out.new.out)) text task c.carry_out.result) c.as_slice.ensures.value c.carry_out.ensures in
     done file c.in-Ok.text.items task c.carry_out.result c.in-Some.ensures (holds_loaded (g.H.Shelf.files c.args.shelf.now) file c.in-Ok.text c.in-Ok.ensures.bytes) does
 
 pub returns-in-Err-Failed-clause-comes : goal.returns-in-Err-Failed-clause-comes
