@@ -1,9 +1,9 @@
-use mv_declarations::declarator::{declared, declared_list};
-use mv_declarations::parameters::params;
-use mv_declarations::specifiers::specs;
 use mv_ast::place::Place;
 use mv_ast::token::{Piece, Token};
 use mv_ast::unit::{Declarator, Initial, Shape, Specs};
+use mv_declarations::declarator::{declared, declared_list};
+use mv_declarations::parameters::params;
+use mv_declarations::specifiers::specs;
 use mv_nodes::fault::Fault;
 use mv_num::kind::Kind;
 use mv_num::list::List;

@@ -1,5 +1,8 @@
 //! Declarations that keep the rules, and for some rules the shortest that breaks it. What is expected follows from C11 6.7 by hand.
 
+use mv_ast::place::Place;
+use mv_ast::program::{CType, Local};
+use mv_ast::unit::{Declarator, Initial, Mark, Member, Node, Param, Shape, Specs, What};
 use mv_declare::attributes::{Attribute, Position};
 use mv_declare::constants::is_value_of;
 use mv_declare::enumerators::enumerators;
@@ -7,9 +10,6 @@ use mv_declare::globals::{domain_of, file_declarator, global_words, object_type}
 use mv_declare::locals::declare_locals;
 use mv_declare::parameters::declare_parameters;
 use mv_declare::specifiers::specifiers;
-use mv_ast::place::Place;
-use mv_ast::program::{CType, Local};
-use mv_ast::unit::{Declarator, Initial, Mark, Member, Node, Param, Shape, Specs, What};
 use mv_judge::constant::Constant;
 use mv_judge::error::RuleError;
 use mv_num::boxed::Boxed;

@@ -1,6 +1,6 @@
+use mv_ast::program::{CType, Function, Global, Local, Program, Switch};
 use mv_limits::excess::Exceeded;
 use mv_limits::limits::exceeded;
-use mv_ast::program::{CType, Function, Global, Local, Program, Switch};
 use mv_num::kind::Kind;
 use mv_num::list::List;
 use mv_num::text::Text;

@@ -1,6 +1,6 @@
-use mv_nesting::first_too_deep;
 use mv_ast::place::Place;
 use mv_ast::token::{Piece, Token};
+use mv_nesting::first_too_deep;
 use mv_num::list::List;
 use std::alloc::{AllocError, Global};
 use std::test::Fail;

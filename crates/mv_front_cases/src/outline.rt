@@ -1,9 +1,9 @@
-use mv_outline::names::Names;
-use mv_outline::outline::outline_of;
 use mv_ast::place::Place;
 use mv_ast::unit::{Act, Declarator, Item, Line, Mark, Shape, Specs, Unit};
 use mv_num::list::List;
 use mv_num::text::Text;
+use mv_outline::names::Names;
+use mv_outline::outline::outline_of;
 use std::alloc::{AllocError, Global};
 use std::test::Fail;
 

@@ -1,7 +1,7 @@
-use mv_parser::error::ParseError;
-use mv_parser::parse;
 use mv_ast::place::Place;
 use mv_lexer::lex;
+use mv_parser::error::ParseError;
+use mv_parser::parse;
 use std::alloc::{AllocError, Global};
 use std::test::Fail;
 

@@ -3,9 +3,9 @@
 ghost use Rattle.std.specs.Prelude.{◌≡◌, ◌∷◌, [], true, slice_get};
 ghost use Rattle.mv_ast.specs.Counts.{is_attributed};
 
+use mv_ast::program::{CType, Function, Program, Switch};
 use mv_clone::assignments::assignments;
 use mv_clone::bind::bind;
-use mv_ast::program::{CType, Function, Program, Switch};
 use mv_ir::body::{Assignment, Body};
 use mv_ir::stm::{Callee, Stm};
 use mv_ir::tree::Tree;

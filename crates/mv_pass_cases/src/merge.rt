@@ -4,12 +4,12 @@ ghost use Rattle.std.specs.Prelude.{◌≡◌, ◌≤◌, ◌∷◌, [], map, le
 ghost use Rattle.mv_ir.specs.Combinations.{AllApart};
 ghost use Rattle.mv_merge.specs.Guards.{all_values};
 
-use mv_merge::merge::merge;
-use mv_merge::rows::{Bound, Domain, Variants};
 use mv_descriptors::holds;
 use mv_ir::body::{Assignment, Body};
 use mv_ir::stm::Stm;
 use mv_ir::tree::Tree;
+use mv_merge::merge::merge;
+use mv_merge::rows::{Bound, Domain, Variants};
 use mv_num::kind::Kind;
 use mv_num::list::List;
 use std::alloc::{AllocError, Global};

@@ -1,9 +1,12 @@
 // The forms of a statement: what a statement is, given what its parts are, and the rules that it breaks.
 
 ghost use Rattle.std.specs.Prelude.{◌≡◌, ◌++◌, OnOk};
-ghost use Rattle.mv_judge.specs.Judged.{IsJudged};
+ghost use Rattle.mv_judge.specs.Judged.{IsJudged, Good, and_then};
 ghost use Rattle.mv_judge.specs.Judgements.{value_judgement, effect_judgement};
+ghost use Rattle.mv_judge.specs.NeededConstants.{constant_judgement};
+ghost use Rattle.mv_declare.specs.Locals.{locals_judgement};
 ghost use Rattle.mv_declare.specs.Turns.{IsBehind};
+ghost use Rattle.mv_statement_rules.specs.SwitchBodies.{case_label, default_label};
 ghost use Rattle.mv_statement_rules.specs.Statements.{misplaced_declaration, misplaced_case, break_judgement, continue_judgement, returned, return_judgement, switched, optional, expression_judgement};
 
 use crate::arms::Arms;
@@ -180,6 +183,46 @@ pub fn expression_statement(
             Ok(Stmt::Express(e))
         }
     }
+}
+
+/// A declaration behind some statements: the locals that it declares are cleared and get their values.
+pub fn declaration(
+    alloc: Global,
+    scope: &mut Scope,
+    specs: &Specs,
+    names: &List<Declarator>,
+    done: List<Stmt>,
+) -> Result<List<Stmt>, RuleError>
+    ensures { IsBehind (and_then (locals_judgement scope.old specs.now names.now) (λ e. Good (e.0, done ++ e.1))) result scope.new }
+{
+    let mut done = done;
+    let clears = declare_locals(alloc, scope, specs, names)?;
+    append(&mut done, clears)?;
+    Ok(done)
+}
+
+/// A `case` in the block of a `switch` on a value of a type after promotion, behind some arms.
+pub fn case(
+    alloc: Global,
+    scope: &Scope,
+    place: Place,
+    tested: CType,
+    constant: &Node,
+    arms: Arms,
+) -> Result<Arms, RuleError>
+    ensures { IsBehind (and_then (constant_judgement scope.now constant.now) (λ c. and_then (case_label place tested c arms) (λ a. Good (scope.now, a)))) result scope.now }
+{
+    let constant = needed(alloc, scope, constant)?;
+    let arms = arms.case_label(alloc, place, tested, constant)?;
+    Ok(arms)
+}
+
+/// A `default` in the block of a `switch`, behind some arms.
+pub fn default(alloc: Global, scope: &Scope, place: Place, arms: Arms) -> Result<Arms, RuleError>
+    ensures { IsBehind (and_then (default_label place arms) (λ a. Good (scope.now, a))) result scope.now }
+{
+    let arms = arms.default_label(alloc, place)?;
+    Ok(arms)
 }
 
 /// Puts statements behind others.

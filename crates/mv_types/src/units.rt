@@ -34,6 +34,7 @@ fn is_fixed(known: &Foreknown, name: &[u8]) -> bool
 
 // ---- declarators
 
+// Declares an object, with the domain that its attribute gives it.
 fn declare_object(
     alloc: Global,
     known: &Foreknown,
@@ -53,6 +54,7 @@ fn declare_object(
     )
 }
 
+// Declares what a declarator designates under its name.
 fn by_entity(
     alloc: Global,
     known: &Foreknown,
@@ -69,17 +71,7 @@ fn by_entity(
         Entity::Function(signature) => functions::declare(
             alloc, known, declarator, name, base.ctype, signature, body, contents,
         ),
-        Entity::Scalar(_, _) => declare_object(
-            alloc,
-            known,
-            base.enumeration,
-            body.is_some(),
-            declarator,
-            name,
-            designated,
-            contents,
-        ),
-        Entity::Array(_, _, _) => declare_object(
+        Entity::Scalar(_, _) | Entity::Array(_, _, _) => declare_object(
             alloc,
             known,
             base.enumeration,
@@ -119,6 +111,7 @@ fn named_declarator(
     }
 }
 
+// What the specifiers say of a declarator: one of a `const` object has the word `const`, in whatever declaration it stands.
 fn base_of(
     alloc: Global,
     known: &Foreknown,

@@ -3,7 +3,7 @@ use Rattle.mv_ir.specs.Combinations.{combinations, AllApart, AreAllCombinations}
 use Rattle.mv_ir.proofs.AllCombinations.{all_combinations}
 use Rattle.mv_merge.specs.declared.rows.Domain.{Domain}
 use Rattle.mv_merge.specs.Guards.{domain_values, all_values}
-use Rattle.mv_merge.proofs.tests.merged.Goals as goal
+use Rattle.mv_pass_cases.proofs.merge.merged.Goals as goal
 
 one_domain : (d : List ℕ) → combinations (d ∷ []) ≡ map (λ v. v ∷ []) d
 one_domain [] = refl

@@ -1,0 +1,13 @@
+mod Tests
+mod Jumps
+mod Labels
+mod Shapes
+mod ExprProperty
+mod ExprForms
+mod ExprCalls
+mod ExprJudged
+mod KnownExpressions
+mod KnownStatements
+mod Counted
+mod NamedExpressions
+mod NamedStatements

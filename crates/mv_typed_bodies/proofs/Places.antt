@@ -1,0 +1,99 @@
+-- What stands at the places of a list that grows.
+use Rattle.std.proofs.Common.{◌≡◌, ℕ, zero, suc, ◌⊎◌, inl, inr, refl, sym, ◌∙◌, ap, subst, List, [], ◌∷◌, ◌++◌, length, map, Some, slice_get, Bool, true, false, if◌then◌else◌, ◌+◌, arith}
+use Rattle.mv_ast.specs.declared.program.CType.{CType}
+use Rattle.mv_ast.specs.declared.program.CType.TheVariants.{Void, Scalar, Pointer}
+use Rattle.mv_ast.specs.declared.program.Signature.{Signature}
+use Rattle.mv_scope.specs.Conversions.{same_signature}
+use Rattle.mv_scope.specs.Signatures.{place_of, with_signature}
+use Rattle.mv_typing.specs.Soundness.{IsListed}
+use Rattle.mv_typed_bodies.specs.Bodies.{Keeps, AreListed}
+
+module _ {A : Type 0} where
+  pub keeps_same : (xs : List A) → Keeps xs xs
+  keeps_same xs i x h = h
+
+  pub keeps_joined : (xs ys zs : List A) → Keeps xs ys → Keeps ys zs → Keeps xs zs
+  keeps_joined xs ys zs h k i x q = k i x (h i x q)
+
+  pub keeps_more : (xs ys : List A) → Keeps xs (xs ++ ys)
+  keeps_more [] ys i x h = absurd (cc)
+  keeps_more (x ∷ xs) ys zero y h = h
+  keeps_more (x ∷ xs) ys (suc i) y h = keeps_more xs ys i y h
+
+  pub last_there : (xs : List A) (x : A) → slice_get (xs ++ x ∷ []) (length xs) ≡ Some x
+  last_there [] x = refl
+  last_there (y ∷ ys) x = last_there ys x
+
+  pub there_before : (xs : List A) (y : A) (i : ℕ) (x : A) → slice_get (xs ++ y ∷ []) i ≡ Some x → (slice_get xs i ≡ Some x) ⊎ (y ≡ x)
+  there_before [] y zero x h = inr (cc)
+  there_before [] y (suc i) x h = absurd (cc)
+  there_before (z ∷ zs) y zero x h = inl h
+  there_before (z ∷ zs) y (suc i) x h = there_before zs y i x h
+
+  pub mapped_there : {B : Type 0} (g : A → B) (xs : List A) (i : ℕ) (x : A) → slice_get xs i ≡ Some x → slice_get (map g xs) i ≡ Some (g x)
+  mapped_there g [] i x h = absurd (cc)
+  mapped_there g (y ∷ ys) zero x h = let q : y ≡ x = cc in ap (λ z. Some (g z)) q
+  mapped_there g (y ∷ ys) (suc i) x h = mapped_there g ys i x h
+
+-- ---- signatures
+
+-- a type that is no pointer
+abbrev pub IsPlain : CType → Type 0
+IsPlain Void = Unit {0}
+IsPlain (Scalar k) = Unit {0}
+IsPlain (Pointer s) = ⊥
+
+pub plain_listed : (signatures : List Signature) (t : CType) → IsPlain t → IsListed signatures t
+plain_listed signatures Void h = tt
+plain_listed signatures (Scalar k) h = tt
+plain_listed signatures (Pointer s) h = absurd h
+
+pub listed_kept : (ss ts : List Signature) → Keeps ss ts → (t : CType) → IsListed ss t → IsListed ts t
+listed_kept ss ts k Void h = tt
+listed_kept ss ts k (Scalar kind) h = tt
+listed_kept ss ts k (Pointer s) h = (h.0, k s h.0 h.1)
+
+-- a signature is added last, or not at all
+pub added_or_not : (s : Signature) (ts : List Signature) → (with_signature s ts ≡ ts) ⊎ (with_signature s ts ≡ ts ++ s ∷ [])
+added_or_not s [] = inr refl
+added_or_not s (t ∷ ts) = by (same_signature s t) (added_or_not s ts)
+  where
+    more : (with_signature s ts ≡ ts) ⊎ (with_signature s ts ≡ ts ++ s ∷ []) → (t ∷ with_signature s ts ≡ t ∷ ts) ⊎ (t ∷ with_signature s ts ≡ t ∷ (ts ++ s ∷ []))
+    more (inl q) = inl (ap (λ x. t ∷ x) q)
+    more (inr q) = inr (ap (λ x. t ∷ x) q)
+
+    by : (b : Bool) → (with_signature s ts ≡ ts) ⊎ (with_signature s ts ≡ ts ++ s ∷ []) →
+        ((if b then t ∷ ts else t ∷ with_signature s ts) ≡ t ∷ ts) ⊎ ((if b then t ∷ ts else t ∷ with_signature s ts) ≡ t ∷ (ts ++ s ∷ []))
+    by true h = inl refl
+    by false h = more h
+
+pub signature_kept : (s : Signature) (ts : List Signature) → Keeps ts (with_signature s ts)
+signature_kept s ts = by (added_or_not s ts)
+  where
+    by : (with_signature s ts ≡ ts) ⊎ (with_signature s ts ≡ ts ++ s ∷ []) → Keeps ts (with_signature s ts)
+    by (inl q) = subst (λ z. Keeps ts z) (sym q) (keeps_same ts)
+    by (inr q) = subst (λ z. Keeps ts z) (sym q) (keeps_more ts (s ∷ []))
+
+-- its number leads to one like it
+pub signature_there : (s : Signature) (ts : List Signature) → (t : Signature) × (slice_get (with_signature s ts) (place_of s ts) ≡ Some t)
+signature_there s [] = (s, refl)
+signature_there s (t ∷ ts) = by (same_signature s t) (signature_there s ts)
+  where
+    by : (b : Bool) → ((x : Signature) × (slice_get (with_signature s ts) (place_of s ts) ≡ Some x)) →
+        (x : Signature) × (slice_get (if b then t ∷ ts else t ∷ with_signature s ts) (if b then 0 else place_of s ts + 1) ≡ Some x)
+    by true h = (t, refl)
+    by false h = (h.0, ap (slice_get (t ∷ with_signature s ts)) (after (place_of s ts)) ∙ h.1)
+      where
+        after : (n : ℕ) → n + 1 ≡ suc n
+        after n = omega arith
+
+pub results_listed : (s : Signature) (ts : List Signature) → IsPlain s.result → AreListed ts → AreListed (with_signature s ts)
+results_listed s ts plain h = by (added_or_not s ts)
+  where
+    by : (with_signature s ts ≡ ts) ⊎ (with_signature s ts ≡ ts ++ s ∷ []) → AreListed (with_signature s ts)
+    by (inl q) = subst (λ z. AreListed z) (sym q) h
+    by (inr q) = subst (λ z. AreListed z) (sym q) (λ i t there. new i t (there_before ts s i t there))
+      where
+        new : (i : ℕ) (t : Signature) → (slice_get ts i ≡ Some t) ⊎ (s ≡ t) → IsListed (ts ++ s ∷ []) t.result
+        new i t (inl there) = listed_kept ts (ts ++ s ∷ []) (keeps_more ts (s ∷ [])) t.result (h i t there)
+        new i t (inr same) = plain_listed (ts ++ s ∷ []) t.result (subst (λ (z : Signature). IsPlain z.result) same plain)
