@@ -1,5 +1,5 @@
 -- From the reading, the evaluation and the writing to the whole.
-use Rattle.std.proofs.Common.{ℕ, ◌≡◌, List, [], length, take, refl, sym, ap, subst, arith, Option, Ok, Err}
+use Rattle.std.proofs.Common.{ℕ, ◌≡◌, List, [], length, take, sym, ap, subst, arith, Option, Ok, Err}
 use Rattle.std.specs.declared.alloc.AllocError.{AllocError}
 use Rattle.std.proofs.lemmas.List.{take_all}
 use Rattle.mv_ast.specs.declared.program.Program.{Program}

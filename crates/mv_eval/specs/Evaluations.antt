@@ -4,7 +4,6 @@ use Rattle.mv_ast.specs.declared.program.Program.{Program}
 use Rattle.mv_meaning.specs.declared.meant.End.{End}
 use Rattle.mv_meaning.specs.declared.meant.Meant.{Meant}
 use Rattle.mv_meaning.specs.Meaning.{mean}
-use Rattle.mv_eval.specs.Grown.{Lost}
 use Rattle.mv_eval.specs.declared.error.EvalError.{EvalError}
 use Rattle.mv_eval.specs.declared.error.EvalError.TheVariants.{Input, Output, Memory}
 

@@ -1,5 +1,5 @@
 -- A program within the limits has few functions.
-use Rattle.std.proofs.Common.{◌≡◌, ℕ, ◌≤◌, ◌<◌, Bool, true, false, List, [], ◌∷◌, map, length, refl, nat_lt, Option, Some, None, if◌then◌else◌, arith}
+use Rattle.std.proofs.Common.{◌≡◌, ℕ, ◌≤◌, Bool, true, false, List, ◌∷◌, length, refl, nat_lt, Option, Some, None, if◌then◌else◌}
 use Rattle.std.proofs.lemmas.Bool.{ltb-false}
 use Rattle.mv_ast.specs.declared.program.Program.{Program}
 use Rattle.mv_limits.specs.Limits.{excess, reported, first_some, functions_limit, first_exceeded}

@@ -8,13 +8,12 @@ ghost use Rattle.mv_front.specs.declared.refusal.Refusal.{Refusal};
 
 mod refusal;
 
-pub use refusal::{FrontError, Refusal};
-
 use mv_ast::program::Program;
 use mv_ast::unit::Unit;
 use mv_lexer::lex;
 use mv_parser::parse;
 use mv_types::check::check;
+pub use refusal::{FrontError, Refusal};
 use std::alloc::Global;
 
 /// The program of a source, or its one refusal.

@@ -1,49 +1,31 @@
 -- Which status comes, from what each status says.
-use Rattle.std.proofs.Common.{ℕ, ◌≡◌, ◌≤◌, ◌⊎◌, inl, inr, List, [], ◌∷◌, length, take, refl, sym, ap, ◌∙◌, subst, arith, ◌/◌, Option, Some, None}
-use Rattle.std.specs.Prelude.{Vec, Ok, true, false}
-use Rattle.std.proofs.lemmas.Fmt.{decimal_injective}
-use Rattle.std.proofs.lemmas.List.{take_all}
+use Rattle.std.proofs.Common.{ℕ, ◌≡◌, ◌≤◌, ◌⊎◌, inl, inr, List, [], ◌∷◌, length, take, refl, sym, ap, ◌∙◌, subst, arith, Option, Some, None}
+use Rattle.std.specs.Prelude.{Result, Vec, Ok, Err, true, false}
 use Rattle.std.specs.declared.alloc.Global.{Global}
+use Rattle.mv_ast.specs.declared.program.Program.{Program}
 use Rattle.mv_io.specs.Shelves.{Files, Lacks, Loads}
+use Rattle.mv_front.specs.Verdicts.{IsProgram, IsRefused}
+use Rattle.mv_front.specs.declared.refusal.Refusal.{Refusal}
+use Rattle.mv_front.proofs.OneVerdict.{one_program, one_refusal, not_both}
+use Rattle.mv_meaning.specs.declared.meant.End.{End}
+use Rattle.mv_eval.specs.Evaluations.{most, meaning, IsInput, Evaluates}
+use Rattle.mv_eval.specs.Grown.{Grew}
+use Rattle.mv_eval.specs.declared.error.EvalError.{EvalError}
+use Rattle.mv_eval.specs.declared.error.EvalError.TheVariants as fault
+use Rattle.mv_eval.proofs.Pieces.{grew_none}
 use Rattle.mv_top.specs.First.{First}
 use Rattle.mv_top.specs.Code.{instructions}
-use Rattle.mv_top.specs.Commands.{IsRun, IsNoCommand}
-use Rattle.mv_top.specs.Grown.{Grew}
+use Rattle.mv_top.proofs.Commands.{same_file, same_task}
+use Rattle.mv_top.specs.Commands.{IsCommand, IsNoCommand}
 use Rattle.mv_top.specs.Lines.{is_silent, last_line}
-use Rattle.mv_top.specs.Outcomes.{Holds, MeansNothing, Part, RunsFile, SomePart, Gives, Quiet, Tells, Is, Decides, Cut, Notes, RunsText, not_built}
-use Rattle.mv_top.proofs.Pieces.{grew_none}
+use Rattle.mv_top.specs.Outcomes as spec
+use Rattle.mv_top.specs.Outcomes.{Holds, MeansNothing, RunsText, Does, Comes, Gives, Quiet, Tells, Is, Decides, Cut, Notes, not_built, status_of_end, status_of_evaluation}
+use Rattle.mv_top.specs.declared.command.Task.{Task}
+use Rattle.mv_top.specs.declared.command.Task.TheVariants.{Run, Eval}
 use Rattle.mv_top.specs.declared.status.Status.{Status}
 use Rattle.mv_top.specs.declared.status.Status.TheVariants.{Ended, Trapped, Usage, Refused, Memory, InputFault, OutputFault, ShelfFault, Steps}
 
--- ---- one command
-
-second : List (List ℕ) → List ℕ
-second [] = []
-second (a ∷ []) = []
-second (a ∷ b ∷ rest) = b
-
-fourth : List (List ℕ) → List ℕ
-fourth [] = []
-fourth (a ∷ []) = []
-fourth (a ∷ b ∷ []) = []
-fourth (a ∷ b ∷ c ∷ []) = []
-fourth (a ∷ b ∷ c ∷ d ∷ rest) = d
-
-same_file : (words : List (List ℕ)) (file other : List ℕ) (steps more : ℕ) → IsRun words file steps → IsRun words other more → file ≡ other
-unfolding second
-same_file words file other steps more (inl p) (inl q) = ap second (sym p.words_are ∙ q.words_are)
-same_file words file other steps more (inl p) (inr q) = ap second (sym p.words_are ∙ q.words_are)
-same_file words file other steps more (inr p) (inl q) = ap second (sym p.words_are ∙ q.words_are)
-same_file words file other steps more (inr p) (inr q) = ap second (sym p.words_are ∙ q.words_are)
-
-same_steps : (words : List (List ℕ)) (file other : List ℕ) (steps more : ℕ) → IsRun words file steps → IsRun words other more → steps ≡ more
-unfolding fourth
-same_steps words file other steps more (inl p) (inl q) = p.default ∙ sym q.default
-same_steps words file other steps more (inl p) (inr q) = let e : 2 ≡ 4 = ap length (sym p.words_are ∙ q.words_are) in absurd (omega (arith, e))
-same_steps words file other steps more (inr p) (inl q) = let e : 4 ≡ 2 = ap length (sym p.words_are ∙ q.words_are) in absurd (omega (arith, e))
-same_steps words file other steps more (inr p) (inr q) = decimal_injective steps more (omega (arith, p.most)) (omega (arith, q.most)) (ap fourth (sym p.words_are ∙ q.words_are))
-
--- ---- what a text says
+-- ---- one text
 
 some_injective : (a b : List ℕ) → Some a ≡ Some b → a ≡ b
 some_injective a b e = cc
@@ -60,115 +42,157 @@ told_lacks : (files : Option Files) (file other text : List ℕ) → file ≡ ot
 told_lacks None file other text e l t = l
 told_lacks (Some files) file other text e l t = let f : None ≡ Some text = sym l ∙ ap files e ∙ t in cc
 
--- ---- each status
+-- ---- each status of a text
 
-module _ (words : List (List ℕ)) (files : Option Files) (shelf_rose input_rose output_rose notes_rose : Type 0) (Wrote : List ℕ → Type 0) where
-  abbrev pub Given : Status → Type 0
-  Given status = Gives words files shelf_rose input_rose output_rose notes_rose Wrote status
+module _ (left : Option (List ℕ)) (Took Wrote : List ℕ → Type 0) (input_rose output_rose : Type 0) (no_input_fault : input_rose → ⊥) (no_output_fault : output_rose → ⊥) (text : List ℕ) where
+  abbrev Done : Task → Status → Type 0
+  Done task status = Does left Took Wrote input_rose output_rose text task status
 
-  part_all : (bytes : List ℕ) → bytes ≡ take (length bytes) bytes
-  part_all bytes = sym (take_all (length bytes) bytes (omega arith))
+  text_refused : {task : Task} {status : Status} → Done task status → (r : Refusal) → IsRefused text r → Is status (Refused r)
+  text_refused (spec.unread task untouched) r is = inr refl
+  text_refused (spec.refused task s there untouched) r is = inl (ap Refused (one_refusal text s r there is))
+  text_refused (spec.ran steps p status good runs took) r is = absurd (not_both text p r good is)
+  text_refused (spec.evaluated bound p result good evaluates) r is = absurd (not_both text p r good is)
 
-  -- what was written is a part of what the text writes
-  pub some_part : (status : Status) → Given status → SomePart words files Wrote
-  some_part (Ended s) (text, steps, bytes, file, means, wrote) = (bytes, wrote, inr (text, steps, file, inr (bytes, s, length bytes, means, part_all bytes)))
-  some_part (Trapped code) g = absurd g
-  some_part Usage g = ([], g.1, inl refl)
-  some_part (Refused refusal) (text, steps, file, nothing, is, wrote) = ([], wrote, inl refl)
-  some_part Memory g = g
-  some_part InputFault g = g.0
-  some_part OutputFault g = g.0
-  some_part ShelfFault (file, steps, run, why, wrote) = ([], wrote, inl refl)
-  some_part Steps (text, steps, bytes, status, file, means, few, wrote) = (take (steps / 3) bytes, wrote, inr (text, steps, file, inr (bytes, status, steps / 3, means, refl)))
+  run_not_built : (steps : ℕ) (status : Status) → RunsText text steps input_rose output_rose Wrote status → MeansNothing text → Is status (Refused not_built)
+  run_not_built steps (Ended s) (bytes, means, wrote) nothing = absurd (nothing bytes s means.first)
+  run_not_built steps (Trapped code) g nothing = absurd g
+  run_not_built steps Usage g nothing = absurd g
+  run_not_built steps (Refused refusal) g nothing = inl (ap Refused g.0)
+  run_not_built steps Memory g nothing = inr refl
+  run_not_built steps InputFault (piece, part, wrote, rose) nothing = absurd (no_input_fault rose)
+  run_not_built steps OutputFault (piece, part, wrote, rose) nothing = absurd (no_output_fault rose)
+  run_not_built steps ShelfFault g nothing = absurd g
+  run_not_built steps Steps (bytes, s, means, few, wrote) nothing = absurd (nothing bytes s means.first)
 
-  module _ (quiet : Quiet shelf_rose input_rose output_rose notes_rose) where
-    no_fault : output_rose ⊎ notes_rose → ⊥
-    no_fault (inl rose) = quiet.output rose
-    no_fault (inr rose) = quiet.notes rose
+  text_not_built : {task : Task} {status : Status} → Done task status → (steps : ℕ) → task ≡ Run steps → (p : Program) → IsProgram text p → MeansNothing text → Is status (Refused not_built)
+  text_not_built (spec.unread task untouched) steps e p is nothing = inr refl
+  text_not_built (spec.refused task s there untouched) steps e p is nothing = absurd (not_both text p s is there)
+  text_not_built (spec.ran n q status good runs took) steps e p is nothing = run_not_built n status runs nothing
+  text_not_built (spec.evaluated bound q result good evaluates) steps e p is nothing = absurd (let f : Eval bound ≡ Run steps = e in cc)
 
-    decides_usage : (status : Status) → Given status → IsNoCommand words → Is status Usage
-    decides_usage (Ended s) (text, steps, bytes, file, means, wrote) never = absurd (never file.0 steps file.1)
-    decides_usage (Trapped code) g never = absurd g
-    decides_usage Usage g never = inl refl
-    decides_usage (Refused refusal) (text, steps, file, nothing, is, wrote) never = absurd (never file.0 steps file.1)
-    decides_usage Memory g never = inr refl
-    decides_usage InputFault g never = absurd (quiet.input g.1)
-    decides_usage OutputFault g never = absurd (no_fault g.1)
-    decides_usage ShelfFault (file, steps, run, why, wrote) never = absurd (never file steps run)
-    decides_usage Steps (text, steps, bytes, status, file, means, few, wrote) never = absurd (never file.0 steps file.1)
+  run_ended : (n steps : ℕ) → n ≡ steps → (status : Status) → RunsText text n input_rose output_rose Wrote status → (bytes : List ℕ) (s : ℕ) → First text bytes s → instructions bytes ≤ steps → Is status (Ended s)
+  run_ended n steps same (Ended s') (bytes', means, wrote) bytes s first enough = inl (ap Ended (sym (means.status_alone bytes s first)))
+  run_ended n steps same (Trapped code) g bytes s first enough = absurd g
+  run_ended n steps same Usage g bytes s first enough = absurd g
+  run_ended n steps same (Refused refusal) (is, nothing, wrote) bytes s first enough = absurd (nothing bytes s first)
+  run_ended n steps same Memory g bytes s first enough = inr refl
+  run_ended n steps same InputFault (piece, part, wrote, rose) bytes s first enough = absurd (no_input_fault rose)
+  run_ended n steps same OutputFault (piece, part, wrote, rose) bytes s first enough = absurd (no_output_fault rose)
+  run_ended n steps same ShelfFault g bytes s first enough = absurd g
+  run_ended n steps same Steps (bytes', s', means, few, wrote) bytes s first enough =
+      let all : bytes ≡ bytes' = means.bytes_alone bytes s first in
+      absurd (omega (arith, few, enough, same, ap length all))
 
-    decides_absent : (status : Status) → Given status → (file : List ℕ) (steps : ℕ) → IsRun words file steps → Lacks files file → Is status ShelfFault
-    decides_absent (Ended s) (text, n, bytes, of, means, wrote) file steps run lacks = absurd (no_text files of.0 file text (same_file words of.0 file n steps of.1 run) of.2 lacks)
-    decides_absent (Trapped code) g file steps run lacks = absurd g
-    decides_absent Usage g file steps run lacks = absurd (g.0 file steps run)
-    decides_absent (Refused refusal) (text, n, of, nothing, is, wrote) file steps run lacks = absurd (no_text files of.0 file text (same_file words of.0 file n steps of.1 run) of.2 lacks)
-    decides_absent Memory g file steps run lacks = inr refl
-    decides_absent InputFault g file steps run lacks = absurd (quiet.input g.1)
-    decides_absent OutputFault g file steps run lacks = absurd (no_fault g.1)
-    decides_absent ShelfFault g file steps run lacks = inl refl
-    decides_absent Steps (text, n, bytes, status, of, means, few, wrote) file steps run lacks = absurd (no_text files of.0 file text (same_file words of.0 file n steps of.1 run) of.2 lacks)
+  text_ended : {task : Task} {status : Status} → Done task status → (steps : ℕ) → task ≡ Run steps → (p : Program) → IsProgram text p → (bytes : List ℕ) (s : ℕ) → First text bytes s → instructions bytes ≤ steps → Is status (Ended s)
+  text_ended (spec.unread task untouched) steps e p is bytes s first enough = inr refl
+  text_ended (spec.refused task r there untouched) steps e p is bytes s first enough = absurd (not_both text p r is there)
+  text_ended (spec.ran n q status good runs took) steps e p is bytes s first enough =
+      run_ended n steps (let f : Run n ≡ Run steps = e in cc) status runs bytes s first enough
+  text_ended (spec.evaluated bound q result good evaluates) steps e p is bytes s first enough = absurd (let f : Eval bound ≡ Run steps = e in cc)
 
-    no_shelf_fault : (file other text : List ℕ) → file ≡ other → shelf_rose ⊎ Lacks files file → Tells files other text → ⊥
-    no_shelf_fault file other text e (inl rose) tells = quiet.shelf rose
-    no_shelf_fault file other text e (inr lacks) tells = told_lacks files file other text e lacks tells
+  input_is : (told bytes input : List ℕ) → told ≡ bytes → IsInput (Some told) input → input ≡ take most bytes
+  input_is told bytes input e is = is ∙ ap (take most) e
 
-    decides_refused : (status : Status) → Given status → (file text : List ℕ) (steps : ℕ) → IsRun words file steps → Tells files file text → MeansNothing text → Is status (Refused not_built)
-    decides_refused (Ended s) (text', n, bytes, of, means, wrote) file text steps run tells nothing =
-        let e : text' ≡ text = same_text files of.0 file text' text (same_file words of.0 file n steps of.1 run) of.2 tells in
-        absurd (nothing bytes s (subst (λ t. First t bytes s) e means.first))
-    decides_refused (Trapped code) g file text steps run tells nothing = absurd g
-    decides_refused Usage g file text steps run tells nothing = absurd (g.0 file steps run)
-    decides_refused (Refused refusal) (text', n, of, none, is, wrote) file text steps run tells nothing = inl (ap Refused is)
-    decides_refused Memory g file text steps run tells nothing = inr refl
-    decides_refused InputFault g file text steps run tells nothing = absurd (quiet.input g.1)
-    decides_refused OutputFault g file text steps run tells nothing = absurd (no_fault g.1)
-    decides_refused ShelfFault (of, n, also, why, wrote) file text steps run tells nothing = absurd (no_shelf_fault of file text (same_file words of file n steps also run) why tells)
-    decides_refused Steps (text', n, bytes, s, of, means, few, wrote) file text steps run tells nothing =
-        let e : text' ≡ text = same_text files of.0 file text' text (same_file words of.0 file n steps of.1 run) of.2 tells in
-        absurd (nothing bytes s (subst (λ t. First t bytes s) e means.first))
+  evaluation_is : (p : Program) (bound : ℕ) (result : Result End EvalError) → Evaluates p bound left Took Wrote input_rose output_rose result → (bytes : List ℕ) → left ≡ Some bytes →
+      Is (status_of_evaluation result) (status_of_end (meaning p bound (take most bytes)).«end»)
+  evaluation_is p bound (Ok «end») (input, is, comes, took, wrote) bytes told =
+      let all : input ≡ take most bytes = subst (λ l. IsInput l input) told is in
+      inl (ap status_of_end (sym comes ∙ ap (λ i. (meaning p bound i).«end») all))
+  evaluation_is p bound (Err fault.Input) (input, count, is, took, wrote, rose) bytes told = absurd (no_input_fault rose)
+  evaluation_is p bound (Err fault.Output) (input, count, is, took, wrote, rose) bytes told = absurd (no_output_fault rose)
+  evaluation_is p bound (Err (fault.Memory e)) g bytes told = inr refl
 
-    decides_ended : (status : Status) → Given status → (file text bytes : List ℕ) (steps s : ℕ) → IsRun words file steps → Tells files file text → First text bytes s → instructions bytes ≤ steps → Is status (Ended s)
-    decides_ended (Ended s') (text', n, bytes', of, means, wrote) file text bytes steps s run tells first enough =
-        let e : text' ≡ text = same_text files of.0 file text' text (same_file words of.0 file n steps of.1 run) of.2 tells in
-        inl (ap Ended (sym (means.status_alone bytes s (subst (λ t. First t bytes s) (sym e) first))))
-    decides_ended (Trapped code) g file text bytes steps s run tells first enough = absurd g
-    decides_ended Usage g file text bytes steps s run tells first enough = absurd (g.0 file steps run)
-    decides_ended (Refused refusal) (text', n, of, none, is, wrote) file text bytes steps s run tells first enough =
-        let e : text' ≡ text = same_text files of.0 file text' text (same_file words of.0 file n steps of.1 run) of.2 tells in
-        absurd (none bytes s (subst (λ t. First t bytes s) (sym e) first))
-    decides_ended Memory g file text bytes steps s run tells first enough = inr refl
-    decides_ended InputFault g file text bytes steps s run tells first enough = absurd (quiet.input g.1)
-    decides_ended OutputFault g file text bytes steps s run tells first enough = absurd (no_fault g.1)
-    decides_ended ShelfFault (of, n, also, why, wrote) file text bytes steps s run tells first enough = absurd (no_shelf_fault of file text (same_file words of file n steps also run) why tells)
-    decides_ended Steps (text', n, bytes', s', of, means, few, wrote) file text bytes steps s run tells first enough =
-        let e : text' ≡ text = same_text files of.0 file text' text (same_file words of.0 file n steps of.1 run) of.2 tells in
-        let same : bytes ≡ bytes' = means.bytes_alone bytes s (subst (λ t. First t bytes s) (sym e) first) in
-        let limit : n ≡ steps = same_steps words of.0 file n steps of.1 run in
-        absurd (omega (arith, few, enough, limit, ap length same))
+  text_evaluated : {task : Task} {status : Status} → Done task status → (bound : ℕ) → task ≡ Eval bound → (p : Program) → IsProgram text p → (bytes : List ℕ) → left ≡ Some bytes →
+      Is status (status_of_end (meaning p bound (take most bytes)).«end»)
+  text_evaluated (spec.unread task untouched) bound e p is bytes told = inr refl
+  text_evaluated (spec.refused task r there untouched) bound e p is bytes told = absurd (not_both text p r is there)
+  text_evaluated (spec.ran n q status good runs took) bound e p is bytes told = absurd (let f : Run n ≡ Eval bound = e in cc)
+  text_evaluated (spec.evaluated b q result good evaluates) bound e p is bytes told =
+      let same : b ≡ bound = let f : Eval b ≡ Eval bound = e in cc in
+      let here = evaluation_is q b result evaluates bytes told in
+      subst (λ k. Is (status_of_evaluation result) (status_of_end (meaning p k (take most bytes)).«end»)) same
+      (subst (λ z. Is (status_of_evaluation result) (status_of_end (meaning z b (take most bytes)).«end»)) (one_program text q p good is) here)
 
-    pub decides : (status : Status) → Given status → Decides words files status
-    decides status g = record { usage = decides_usage status g; absent = decides_absent status g; refused = decides_refused status g; ended = decides_ended status g }
+-- ---- each status of a command
+
+module _ (words : List (List ℕ)) (files : Option Files) (left : Option (List ℕ)) (Took Wrote : List ℕ → Type 0) (shelf_rose input_rose output_rose notes_rose : Type 0) (quiet : Quiet shelf_rose input_rose output_rose notes_rose) where
+  abbrev Came : Status → Type 0
+  Came status = Comes words files left Took Wrote shelf_rose input_rose output_rose status
+
+  usage_of : {status : Status} → Came status → IsNoCommand words → Is status Usage
+  usage_of (spec.usage none untouched) never = inl refl
+  usage_of (spec.no_file file task c why untouched) never = absurd (never file task c)
+  usage_of (spec.unloaded file task c untouched) never = inr refl
+  usage_of (spec.done file text task status c holds does) never = absurd (never file task c)
+
+  absent_of : {status : Status} → Came status → (file : List ℕ) (task : Task) → IsCommand words file task → Lacks files file → Is status ShelfFault
+  absent_of (spec.usage none untouched) file task d lacks = absurd (none file task d)
+  absent_of (spec.no_file other t c why untouched) file task d lacks = inl refl
+  absent_of (spec.unloaded other t c untouched) file task d lacks = inr refl
+  absent_of (spec.done other text t status c holds does) file task d lacks = absurd (no_text files other file text (same_file c d) holds lacks)
+
+  no_shelf_fault : (file other text : List ℕ) → file ≡ other → shelf_rose ⊎ Lacks files file → Tells files other text → ⊥
+  no_shelf_fault file other text e (inl rose) tells = quiet.shelf rose
+  no_shelf_fault file other text e (inr lacks) tells = told_lacks files file other text e lacks tells
+
+  -- what comes of the text that the shelf tells, or another cause
+  data Read (file text : List ℕ) (task : Task) : Status → Type 0 where
+    unloaded : Read file text task Memory
+    read : (status : Status) → Does left Took Wrote input_rose output_rose text task status → Read file text task status
+
+  read_of : {status : Status} → Came status → (file text : List ℕ) (task : Task) → IsCommand words file task → Tells files file text → Read file text task status
+  read_of (spec.usage none untouched) file text task d tells = absurd (none file task d)
+  read_of (spec.no_file other t c why untouched) file text task d tells = absurd (no_shelf_fault other file text (same_file c d) why tells)
+  read_of (spec.unloaded other t c untouched) file text task d tells = unloaded
+  read_of (spec.done other text' t status c holds does) file text task d tells =
+      let same : text' ≡ text = same_text files other file text' text (same_file c d) holds tells in
+      read status (subst (λ k. Does left Took Wrote input_rose output_rose text k status) (same_task c d)
+      (subst (λ z. Does left Took Wrote input_rose output_rose z t status) same does))
+
+  refused_of : {file text : List ℕ} {task : Task} {status : Status} → Read file text task status → (r : Refusal) → IsRefused text r → Is status (Refused r)
+  refused_of unloaded r is = inr refl
+  refused_of {text = text} (read status does) r is = text_refused left Took Wrote input_rose output_rose quiet.input quiet.output text does r is
+
+  not_built_of : {file text : List ℕ} {status : Status} (steps : ℕ) → Read file text (Run steps) status → (p : Program) → IsProgram text p → MeansNothing text → Is status (Refused not_built)
+  not_built_of steps unloaded p is nothing = inr refl
+  not_built_of {text = text} steps (read status does) p is nothing = text_not_built left Took Wrote input_rose output_rose quiet.input quiet.output text does steps refl p is nothing
+
+  ended_of : {file text : List ℕ} {status : Status} (steps : ℕ) → Read file text (Run steps) status → (p : Program) → IsProgram text p → (bytes : List ℕ) (s : ℕ) → First text bytes s → instructions bytes ≤ steps → Is status (Ended s)
+  ended_of steps unloaded p is bytes s first enough = inr refl
+  ended_of {text = text} steps (read status does) p is bytes s first enough = text_ended left Took Wrote input_rose output_rose quiet.input quiet.output text does steps refl p is bytes s first enough
+
+  evaluated_of : {file text : List ℕ} {status : Status} (bound : ℕ) → Read file text (Eval bound) status → (p : Program) → IsProgram text p → (bytes : List ℕ) → left ≡ Some bytes → Is status (status_of_end (meaning p bound (take most bytes)).«end»)
+  evaluated_of bound unloaded p is bytes told = inr refl
+  evaluated_of {text = text} bound (read status does) p is bytes told = text_evaluated left Took Wrote input_rose output_rose quiet.input quiet.output text does bound refl p is bytes told
+
+  decides_due : (status : Status) → Came status → Decides words files left status
+  decides_due status came = record {
+    usage = usage_of came;
+    absent = absent_of came;
+    refused = λ file text task r c tells is. refused_of (read_of came file text task c tells) r is;
+    not_built = λ file text steps p c tells is nothing. not_built_of steps (read_of came file text (Run steps) c tells) p is nothing;
+    ended = λ file text bytes steps s p c tells is first enough. ended_of steps (read_of came file text (Run steps) c tells) p is bytes s first enough;
+    evaluated = λ file text bytes bound p c tells is told. evaluated_of bound (read_of came file text (Eval bound) c tells) p is bytes told;
+  }
+
+  pub decides : {status : Status} → Gives words files left Took Wrote shelf_rose input_rose output_rose notes_rose status → Decides words files left status
+  decides (spec.reported status came) = decides_due status came
+  decides (spec.no_line due came) = record {
+    usage = λ never. inr refl;
+    absent = λ file task c lacks. inr refl;
+    refused = λ file text task r c tells is. inr refl;
+    not_built = λ file text steps p c tells is nothing. inr refl;
+    ended = λ file text bytes steps s p c tells is first enough. inr refl;
+    evaluated = λ file text bytes bound p c tells is told. inr refl;
+  }
+  decides (spec.unwritten_line due came rose) = absurd (quiet.notes rose)
 
 -- ---- from the parts of a command to the command
 
 pub holds_loaded : (files : Option Files) (name : List ℕ) (loaded : Vec ℕ Global) → Loads files name (Ok loaded) → Holds files name loaded.items
 holds_loaded None name loaded h = tt
 holds_loaded (Some files) name loaded h = h
-
-module _ (words : List (List ℕ)) (files : Option Files) (shelf_rose input_rose output_rose notes_rose : Type 0) (Wrote : List ℕ → Type 0) (text : List ℕ) (steps : ℕ) (file : RunsFile words files text steps) where
-  some_of : (piece : List ℕ) → Part text piece → Wrote piece → SomePart words files Wrote
-  some_of piece part wrote = (piece, wrote, inr (text, steps, file, part))
-
-  pub gives_text : (status : Status) → RunsText text steps input_rose output_rose Wrote status → Gives words files shelf_rose input_rose output_rose notes_rose Wrote status
-  gives_text (Ended s) (bytes, means, wrote) = (text, steps, bytes, file, means, wrote)
-  gives_text (Trapped code) r = r
-  gives_text Usage r = absurd r
-  gives_text (Refused refusal) (is, nothing, wrote) = (text, steps, file, nothing, is, wrote)
-  gives_text Memory (piece, part, wrote) = some_of piece part wrote
-  gives_text InputFault (piece, part, wrote, rose) = (some_of piece part wrote, rose)
-  gives_text OutputFault (piece, part, wrote, rose) = (some_of piece part wrote, inl rose)
-  gives_text ShelfFault r = absurd r
-  gives_text Steps (bytes, s, means, few, wrote) = (text, steps, bytes, s, file, means, few, wrote)
 
 -- ---- from the command to its notes
 
@@ -216,29 +240,12 @@ module _ (Due : Status → Type 0) where
     notes_due Steps before now h = h
 
 -- the status that stands after the notes
-module _ (words : List (List ℕ)) (files : Option Files) (shelf_rose input_rose output_rose notes_rose : Type 0) (Wrote : List ℕ → Type 0) where
-  abbrev pub Performed : Status → Type 0
-  Performed status = Gives words files shelf_rose input_rose output_rose ⊥ Wrote status
-
+module _ (words : List (List ℕ)) (files : Option Files) (left : Option (List ℕ)) (Took Wrote : List ℕ → Type 0) (shelf_rose input_rose output_rose notes_rose : Type 0) where
   abbrev pub Reported : Status → Type 0
-  Reported status = Gives words files shelf_rose input_rose output_rose notes_rose Wrote status
+  Reported status = Gives words files left Took Wrote shelf_rose input_rose output_rose notes_rose status
 
-  rose_here : output_rose ⊎ ⊥ → output_rose ⊎ notes_rose
-  rose_here (inl rose) = inl rose
-  rose_here (inr never) = absurd never
-
-  still : (status : Status) → Performed status → Reported status
-  still (Ended s) given = given
-  still (Trapped code) given = given
-  still Usage given = given
-  still (Refused refusal) given = given
-  still Memory given = given
-  still InputFault given = given
-  still OutputFault given = (given.0, rose_here given.1)
-  still ShelfFault given = given
-  still Steps given = given
-
-  pub reported : (performed result : Status) → Performed performed → (result ≡ performed) ⊎ ((result ≡ Memory) ⊎ ((result ≡ OutputFault) × notes_rose)) → Reported result
-  reported performed result given (inl same) = subst Reported (sym same) (still performed given)
-  reported performed result given (inr (inl same)) = subst Reported (sym same) (some_part words files shelf_rose input_rose output_rose ⊥ Wrote performed given)
-  reported performed result given (inr (inr (same, rose))) = subst Reported (sym same) (some_part words files shelf_rose input_rose output_rose ⊥ Wrote performed given, inr rose)
+  pub reported : (performed result : Status) → Comes words files left Took Wrote shelf_rose input_rose output_rose performed →
+      (result ≡ performed) ⊎ ((result ≡ Memory) ⊎ ((result ≡ OutputFault) × notes_rose)) → Reported result
+  reported performed result comes (inl same) = subst Reported (sym same) (spec.reported performed comes)
+  reported performed result comes (inr (inl same)) = subst Reported (sym same) (spec.no_line performed comes)
+  reported performed result comes (inr (inr (same, rose))) = subst Reported (sym same) (spec.unwritten_line performed comes rose)

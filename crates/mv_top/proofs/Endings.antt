@@ -13,7 +13,8 @@ use Rattle.mv_machine.specs.Snapshots.{Answered, Ran, Reached, Snapshot, Tells, 
 use Rattle.mv_top.specs.First.{Small, SmallReturn, written}
 use Rattle.mv_top.specs.Code.{code, instructions, result_of}
 use Rattle.mv_top.specs.Endings.{Ends}
-use Rattle.mv_top.specs.Grown.{Grew, Keeps}
+use Rattle.mv_eval.specs.Grown.{Grew}
+use Rattle.mv_top.specs.Grown.{Keeps}
 use Rattle.mv_top.proofs.Simulation.{At, IsSmall, IsStart, Stands, stands}
 
 -- a new machine on the code stands at its start

@@ -7,5 +7,5 @@ pub mod Simulation
 pub mod Decisions
 pub mod Endings
 pub mod Commands
-pub mod Pieces
 pub mod Meanings
+pub mod Texts

@@ -1,21 +1,18 @@
 -- The words that are a command.
-use Rattle.std.specs.Prelude.{ℕ, ◌≡◌, ◌≤◌, ◌⊎◌, List, [], ◌∷◌, codes}
+use Rattle.std.specs.Prelude.{ℕ, ◌≡◌, ◌≤◌, List, [], ◌∷◌, codes}
 use Rattle.std.specs.Fmt.{decimal}
+use Rattle.mv_top.specs.declared.command.Task.{Task}
+use Rattle.mv_top.specs.declared.command.Task.TheVariants.{Run, Eval}
 
--- `run FILE`
-pub record IsPlainRun (words : List (List ℕ)) (file : List ℕ) (steps : ℕ) : Type 0 where
-  pub words_are : words ≡ codes "run" ∷ file ∷ []
-  pub default : steps ≡ 1000000000
-
--- `run FILE --steps N`, with N as a decimal numeral
-pub record IsLimitedRun (words : List (List ℕ)) (file : List ℕ) (steps : ℕ) : Type 0 where
-  pub words_are : words ≡ codes "run" ∷ file ∷ codes "--steps" ∷ decimal steps ∷ []
-  pub least : 1 ≤ steps
-  pub most : steps ≤ 1000000000000
-
--- the words are the command that runs this file for at most so many instructions
-abbrev pub IsRun : (words : List (List ℕ)) → (file : List ℕ) → (steps : ℕ) → Type 0
-IsRun words file steps = IsPlainRun words file steps ⊎ IsLimitedRun words file steps
+-- The words are the command that does this with this file; numbers are decimal numerals.
+pub data IsCommand (words : List (List ℕ)) (file : List ℕ) : Task → Type 0 where
+  -- `run FILE`
+  run : words ≡ codes "run" ∷ file ∷ [] → IsCommand words file (Run 1000000000)
+  -- `run FILE --steps N`
+  limited_run : (steps : ℕ) → words ≡ codes "run" ∷ file ∷ codes "--steps" ∷ decimal steps ∷ [] → 1 ≤ steps → steps ≤ 1000000000000 →
+      IsCommand words file (Run steps)
+  -- `eval FILE --bound K`
+  eval : (bound : ℕ) → words ≡ codes "eval" ∷ file ∷ codes "--bound" ∷ decimal bound ∷ [] → bound ≤ 4294967295 → IsCommand words file (Eval bound)
 
 abbrev pub IsNoCommand : List (List ℕ) → Type 0
-IsNoCommand words = (file : List ℕ) (steps : ℕ) → IsRun words file steps → ⊥
+IsNoCommand words = (file : List ℕ) (task : Task) → IsCommand words file task → ⊥

@@ -1,28 +1,9 @@
 -- The last line of the notes.
-use Rattle.std.specs.Prelude.{ℕ, Bool, true, false, ◌||◌, nat_eq, if◌then◌else◌, List, [], ◌∷◌, ◌++◌, codes}
+use Rattle.std.specs.Prelude.{ℕ, Bool, true, false, List, [], ◌∷◌, ◌++◌, codes}
 use Rattle.std.specs.Fmt.{decimal}
-use Rattle.mv_ast.specs.declared.place.Place.{Place}
-use Rattle.mv_top.specs.declared.status.Refusal.{Refusal}
+use Rattle.mv_front.specs.Refusals.{refusal_text}
 use Rattle.mv_top.specs.declared.status.Status.{Status}
 use Rattle.mv_top.specs.declared.status.Status.TheVariants.{Ended, Trapped, Usage, Refused, Memory, InputFault, OutputFault, ShelfFault, Steps}
-
-abbrev pub place_text : Place → List ℕ
-place_text place = decimal place.line ++ (codes ":" ++ decimal place.column)
-
--- the refusals that name a place alone
-abbrev pub has_place : ℕ → Bool
-has_place code = nat_eq code 1 || (nat_eq code 2 || (nat_eq code 4 || (nat_eq code 5 || nat_eq code 16)))
-
-abbrev pub cause_text : Refusal → List ℕ
-cause_text r =
-    if has_place r.code then place_text r.place else (
-    if nat_eq r.code 6 then place_text r.place ++ (codes " rule " ++ decimal r.detail) else (
-    if nat_eq r.code 7 then codes "limit " ++ (decimal r.detail ++ (codes " count " ++ decimal r.count)) else (
-    if nat_eq r.code 8 then codes "function " ++ (decimal r.detail ++ (codes " count " ++ decimal r.count)) else
-    codes "count " ++ decimal r.count)))
-
-abbrev pub refusal_text : Refusal → List ℕ
-refusal_text r = codes "refused " ++ (decimal r.code ++ (codes " " ++ cause_text r))
 
 -- the text of a status, which is the last line of the notes without its line feed
 abbrev pub status_text : Status → List ℕ

@@ -1,12 +1,24 @@
 -- What each status of a command says, and when it may come.
-use Rattle.std.specs.Prelude.{ℕ, ◌≡◌, ◌<◌, ◌≤◌, ◌/◌, ◌⊎◌, false, List, [], take, Option, Some, None}
+use Rattle.std.specs.Prelude.{ℕ, ◌≡◌, ◌<◌, ◌≤◌, ◌/◌, ◌⊎◌, false, List, [], take, Option, Some, None, Result, Ok, Err}
+use Rattle.mv_ast.specs.declared.program.Program.{Program}
 use Rattle.mv_io.specs.Shelves.{Files, Lacks}
+use Rattle.mv_front.specs.Refusals.{at_place}
+use Rattle.mv_front.specs.Verdicts.{IsProgram, IsRefused}
+use Rattle.mv_front.specs.declared.refusal.Refusal.{Refusal}
+use Rattle.mv_front.specs.declared.refusal.FrontError.{FrontError}
+use Rattle.mv_front.specs.declared.refusal.FrontError.TheVariants as front
+use Rattle.mv_meaning.specs.declared.meant.End.{End}
+use Rattle.mv_meaning.specs.declared.meant.End.TheVariants.{Exit, Trap, More}
+use Rattle.mv_eval.specs.Evaluations.{most, meaning, Evaluates}
+use Rattle.mv_eval.specs.Grown.{Grew, GrewLess}
+use Rattle.mv_eval.specs.declared.error.EvalError.{EvalError}
+use Rattle.mv_eval.specs.declared.error.EvalError.TheVariants as fault
 use Rattle.mv_top.specs.First.{First}
 use Rattle.mv_top.specs.Code.{instructions}
-use Rattle.mv_top.specs.Commands.{IsRun, IsNoCommand}
+use Rattle.mv_top.specs.Commands.{IsCommand, IsNoCommand}
 use Rattle.mv_top.specs.Lines.{is_silent, last_line}
-use Rattle.mv_top.specs.Grown.{Grew, GrewLess}
-use Rattle.mv_top.specs.declared.status.Refusal.{Refusal}
+use Rattle.mv_top.specs.declared.command.Task.{Task}
+use Rattle.mv_top.specs.declared.command.Task.TheVariants.{Run, Eval}
 use Rattle.mv_top.specs.declared.status.Status.{Status}
 use Rattle.mv_top.specs.declared.status.Status.TheVariants.{Ended, Trapped, Usage, Refused, Memory, InputFault, OutputFault, ShelfFault, Steps}
 
@@ -15,23 +27,23 @@ abbrev pub Holds : Option Files → (file text : List ℕ) → Type 0
 Holds None file text = Unit {0}
 Holds (Some files) file text = files file ≡ Some text
 
+-- ---- an accepted text that is run for at most so many instructions
+
 -- the text writes these bytes and ends with this status, and with no other
 pub record Means (text bytes : List ℕ) (status : ℕ) : Type 0 where
   pub first : First text bytes status
   pub bytes_alone : (others : List ℕ) (other : ℕ) → First text others other → others ≡ bytes
   pub status_alone : (others : List ℕ) (other : ℕ) → First text others other → other ≡ status
 
--- the text is not accepted
+-- the text is not of the form that is compiled so far
 abbrev pub MeansNothing : List ℕ → Type 0
 MeansNothing text = (bytes : List ℕ) (status : ℕ) → First text bytes status → ⊥
 
 -- "not built yet", at the first place
 abbrev pub not_built : Refusal
-not_built = record { code = 16; place = record { line = 1; column = 1 }; detail = 0; count = 0 }
+not_built = at_place 16 (record { line = 1; column = 1 })
 
--- ---- a text that is run for at most so many instructions
-
--- a part of what the text writes, from its start; nothing of a text that is not accepted
+-- a part of what the text writes, from its start; nothing of a text that is not compiled
 abbrev pub Part : (text piece : List ℕ) → Type 0
 Part text piece = (piece ≡ []) ⊎ ((bytes : List ℕ) × (status : ℕ) × (count : ℕ) × Means text bytes status × (piece ≡ take count bytes))
 
@@ -47,29 +59,57 @@ module _ (text : List ℕ) (steps : ℕ) (input_rose output_rose : Type 0) (Wrot
   RunsText ShelfFault = ⊥
   RunsText Steps = (bytes : List ℕ) × (status : ℕ) × Means text bytes status × (steps < instructions bytes) × Wrote (take (steps / 3) bytes)
 
+-- ---- a program that is evaluated
+
+-- the status of an end, and of an evaluation
+abbrev pub status_of_end : End → Status
+status_of_end (Exit status) = Ended status
+status_of_end (Trap code) = Trapped code
+status_of_end More = Steps
+
+abbrev pub status_of_evaluation : Result End EvalError → Status
+status_of_evaluation (Ok «end») = status_of_end «end»
+status_of_evaluation (Err fault.Input) = InputFault
+status_of_evaluation (Err fault.Output) = OutputFault
+status_of_evaluation (Err (fault.Memory e)) = Memory
+
+-- the status of a text that is no program
+abbrev pub status_of_error : FrontError → Status
+status_of_error (front.Refused r) = Refused r
+status_of_error (front.Memory e) = Memory
+
 -- ---- a command
 
-module _ (words : List (List ℕ)) (files : Option Files) where
-  -- the words run a file with this text for at most so many instructions
-  abbrev pub RunsFile : (text : List ℕ) → (steps : ℕ) → Type 0
-  RunsFile text steps = (file : List ℕ) × IsRun words file steps × Holds files file text
+-- nothing was taken from the input, and nothing written to the output
+abbrev pub Untouched : (Took Wrote : List ℕ → Type 0) → Type 0
+Untouched Took Wrote = Took [] × Wrote []
 
-  -- what was written where memory was refused or a write failed
-  abbrev pub SomePart : (Wrote : List ℕ → Type 0) → Type 0
-  SomePart Wrote = (piece : List ℕ) × Wrote piece × ((piece ≡ []) ⊎ ((text : List ℕ) × (steps : ℕ) × RunsFile text steps × Part text piece))
+module _ (left : Option (List ℕ)) (Took Wrote : List ℕ → Type 0) (input_rose output_rose : Type 0) where
+  -- what comes of the text of a command's file
+  pub data Does (text : List ℕ) : Task → Status → Type 0 where
+    -- there was no memory to read it as a program
+    unread : (task : Task) → Untouched Took Wrote → Does text task Memory
+    refused : (task : Task) (r : Refusal) → IsRefused text r → Untouched Took Wrote → Does text task (Refused r)
+    ran : (steps : ℕ) (p : Program) (status : Status) → IsProgram text p → RunsText text steps input_rose output_rose Wrote status → Took [] →
+        Does text (Run steps) status
+    evaluated : (bound : ℕ) (p : Program) (result : Result End EvalError) → IsProgram text p →
+        Evaluates p bound left Took Wrote input_rose output_rose result → Does text (Eval bound) (status_of_evaluation result)
 
-  module _ (shelf_rose input_rose output_rose notes_rose : Type 0) (Wrote : List ℕ → Type 0) where
-    -- Each status has its cause, and the output grew by what the status says.
-    abbrev pub Gives : Status → Type 0
-    Gives (Ended status) = (text : List ℕ) × (steps : ℕ) × (bytes : List ℕ) × RunsFile text steps × Means text bytes status × Wrote bytes
-    Gives (Trapped code) = ⊥
-    Gives Usage = IsNoCommand words × Wrote []
-    Gives (Refused refusal) = (text : List ℕ) × (steps : ℕ) × RunsFile text steps × MeansNothing text × (refusal ≡ not_built) × Wrote []
-    Gives Memory = SomePart Wrote
-    Gives InputFault = SomePart Wrote × input_rose
-    Gives OutputFault = SomePart Wrote × (output_rose ⊎ notes_rose)
-    Gives ShelfFault = (file : List ℕ) × (steps : ℕ) × IsRun words file steps × (shelf_rose ⊎ Lacks files file) × Wrote []
-    Gives Steps = (text : List ℕ) × (steps : ℕ) × (bytes : List ℕ) × (status : ℕ) × RunsFile text steps × Means text bytes status × (steps < instructions bytes) × Wrote (take (steps / 3) bytes)
+module _ (words : List (List ℕ)) (files : Option Files) (left : Option (List ℕ)) (Took Wrote : List ℕ → Type 0) (shelf_rose input_rose output_rose : Type 0) where
+  -- What comes of a command before its last line is written: each status with its cause, and with what was taken from the input and written.
+  pub data Comes : Status → Type 0 where
+    usage : IsNoCommand words → Untouched Took Wrote → Comes Usage
+    no_file : (file : List ℕ) (task : Task) → IsCommand words file task → shelf_rose ⊎ Lacks files file → Untouched Took Wrote → Comes ShelfFault
+    -- there was no memory to load the file
+    unloaded : (file : List ℕ) (task : Task) → IsCommand words file task → Untouched Took Wrote → Comes Memory
+    done : (file text : List ℕ) (task : Task) (status : Status) → IsCommand words file task → Holds files file text →
+        Does left Took Wrote input_rose output_rose text task status → Comes status
+
+  -- And behind the last line: where there was no memory for it, or its write failed, that is the status.
+  pub data Gives (notes_rose : Type 0) : Status → Type 0 where
+    reported : (status : Status) → Comes status → Gives notes_rose status
+    no_line : (due : Status) → Comes due → Gives notes_rose Memory
+    unwritten_line : (due : Status) → Comes due → notes_rose → Gives notes_rose OutputFault
 
 -- The notes grew by the last line. With a status that has none they are as before, or they grew by less than the last line of a status that was due: then
 -- memory was refused for that line, or its write failed.
@@ -106,8 +146,13 @@ abbrev pub Is : (result status : Status) → Type 0
 Is result status = (result ≡ status) ⊎ (result ≡ Memory)
 
 -- Each status comes where its cause stands.
-pub record Decides (words : List (List ℕ)) (files : Option Files) (result : Status) : Type 0 where
+pub record Decides (words : List (List ℕ)) (files : Option Files) (left : Option (List ℕ)) (result : Status) : Type 0 where
   pub usage : IsNoCommand words → Is result Usage
-  pub absent : (file : List ℕ) (steps : ℕ) → IsRun words file steps → Lacks files file → Is result ShelfFault
-  pub refused : (file text : List ℕ) (steps : ℕ) → IsRun words file steps → Tells files file text → MeansNothing text → Is result (Refused not_built)
-  pub ended : (file text bytes : List ℕ) (steps status : ℕ) → IsRun words file steps → Tells files file text → First text bytes status → instructions bytes ≤ steps → Is result (Ended status)
+  pub absent : (file : List ℕ) (task : Task) → IsCommand words file task → Lacks files file → Is result ShelfFault
+  pub refused : (file text : List ℕ) (task : Task) (r : Refusal) → IsCommand words file task → Tells files file text → IsRefused text r → Is result (Refused r)
+  pub not_built : (file text : List ℕ) (steps : ℕ) (p : Program) → IsCommand words file (Run steps) → Tells files file text → IsProgram text p → MeansNothing text →
+      Is result (Refused not_built)
+  pub ended : (file text bytes : List ℕ) (steps status : ℕ) (p : Program) → IsCommand words file (Run steps) → Tells files file text → IsProgram text p →
+      First text bytes status → instructions bytes ≤ steps → Is result (Ended status)
+  pub evaluated : (file text bytes : List ℕ) (bound : ℕ) (p : Program) → IsCommand words file (Eval bound) → Tells files file text → IsProgram text p →
+      left ≡ Some bytes → Is result (status_of_end (meaning p bound (take most bytes)).«end»)

@@ -6,7 +6,8 @@ ghost use Rattle.mv_io.specs.Outside.{Rose};
 ghost use Rattle.mv_top.specs.First.{Small, SmallReturn, written};
 ghost use Rattle.mv_top.specs.Code.{call, code, result_of};
 ghost use Rattle.mv_top.specs.Endings.{Ends};
-ghost use Rattle.mv_top.specs.Grown.{Grew, Keeps};
+ghost use Rattle.mv_eval.specs.Grown.{Grew};
+ghost use Rattle.mv_top.specs.Grown.{Keeps};
 
 use crate::reader::PutcharProgram;
 use mv_image::Image;

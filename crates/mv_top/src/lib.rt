@@ -10,7 +10,7 @@ mod status;
 mod tests;
 mod tokens;
 mod top;
-mod writing;
 
-pub use status::{Refusal, Status};
+pub use mv_front::Refusal;
+pub use status::Status;
 pub use top::multiverse;

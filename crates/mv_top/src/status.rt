@@ -1,20 +1,10 @@
 //! How a command ended.
 
 ghost use Rattle.std.specs.Prelude.{◌≡◌, Some};
-ghost use Rattle.mv_top.specs.Lines.{is_silent, number_of, refusal_text, status_text};
+ghost use Rattle.mv_top.specs.Lines.{is_silent, number_of, status_text};
 
-use mv_ast::place::Place;
+use mv_front::Refusal;
 use std::fmt;
-
-/// Why a text is refused: the code of the cause, the place in the text, a detail as the number of a rule, and a count. What a code doesn't use
-/// is 0.
-#[derive(Clone, Copy, Debug, PartialEq, Eq)]
-pub struct Refusal {
-    pub code: u8,
-    pub place: Place,
-    pub detail: u32,
-    pub count: u64,
-}
 
 /// How a command ended.
 #[derive(Clone, Copy, Debug, PartialEq, Eq)]
@@ -35,7 +25,7 @@ pub enum Status {
     OutputFault,
     /// The shelf failed, or has no such file.
     ShelfFault,
-    /// The step limit was reached, and the program goes on.
+    /// The step limit was reached, or the bound of an evaluation, and the program goes on.
     Steps,
 }
 
@@ -62,32 +52,6 @@ impl Status {
         ensures { result ≡ is_silent self.now }
     {
         matches!(self, Status::Memory | Status::OutputFault)
-    }
-}
-
-impl fmt::Display for Refusal {
-    ghost output = { λ refusal. Some (refusal_text refusal) };
-
-    fn fmt<W: fmt::Write>(&self, f: &mut fmt::Formatter<W>) -> fmt::Result {
-        let Refusal {
-            code,
-            place: Place { line, column },
-            detail,
-            count,
-        } = *self;
-        if code == 1 || code == 2 || code == 4 || code == 5 || code == 16 {
-            return write!(f, "refused {code} {line}:{column}");
-        }
-        if code == 6 {
-            return write!(f, "refused {code} {line}:{column} rule {detail}");
-        }
-        if code == 7 {
-            return write!(f, "refused {code} limit {detail} count {count}");
-        }
-        if code == 8 {
-            return write!(f, "refused {code} function {detail} count {count}");
-        }
-        write!(f, "refused {code} count {count}")
     }
 }
 

@@ -59,7 +59,7 @@ type Row = (
     &'static str,
 );
 
-const REFUSED: Status = Status::Refused(Refusal {
+const NOT_BUILT: Status = Status::Refused(Refusal {
     code: 16,
     place: Place { line: 1, column: 1 },
     detail: 0,
@@ -68,7 +68,7 @@ const REFUSED: Status = Status::Refused(Refusal {
 
 #[test]
 fn each_command_ends_with_its_status(rt: HostRuntime) -> Result<(), Fail> {
-    let rows: [Row; 13] = [
+    let rows: [Row; 16] = [
         ("run a.c", HELLO, 0, Status::Ended(3), "Hi", "ended 3\n"),
         (
             "run a.c",
@@ -96,12 +96,22 @@ fn each_command_ends_with_its_status(rt: HostRuntime) -> Result<(), Fail> {
         ),
         (
             "run a.c",
-            "int main(void){ x }",
+            "int x; int main(void){}",
             0,
-            REFUSED,
+            NOT_BUILT,
             "",
             "refused 16 1:1\n",
         ),
+        (
+            "eval a.c --bound 0",
+            HELLO,
+            0,
+            Status::Ended(3),
+            "Hi",
+            "ended 3\n",
+        ),
+        ("eval a.c --bound 0", HELLO, 2, Status::OutputFault, "H", ""),
+        ("eval a.c", HELLO, 0, Status::Usage, "", "usage\n"),
         ("run a.c --steps 1", HELLO, 0, Status::Steps, "", "steps\n"),
         (
             "run a.c --steps 8",

@@ -1,28 +1,30 @@
 //! The top call.
 
-ghost use Rattle.std.specs.Prelude.{ℕ, ◌≡◌, ◌⊎◌, ◌≤◌, List, [], Option, Some, map, IfOk, OnErr};
+ghost use Rattle.std.specs.Prelude.{ℕ, ◌≡◌, ◌⊎◌, List, map};
 ghost use Rattle.std.specs.String.{string_bytes};
-ghost use Rattle.mv_io.specs.Outside.{HasCause, Rose};
-ghost use Rattle.mv_io.specs.Shelves.{Files};
-ghost use Rattle.mv_top.specs.Code.{instructions};
-ghost use Rattle.mv_top.specs.Commands.{IsNoCommand, IsRun};
-ghost use Rattle.mv_top.specs.First.{First};
-ghost use Rattle.mv_top.specs.Grown.{Grew, Keeps};
-ghost use Rattle.mv_top.specs.Lines.{last_line};
-ghost use Rattle.mv_top.specs.Outcomes.{Decides, Gives, Notes, Quiet, RunsText};
+ghost use Rattle.mv_eval.specs.Grown.{Grew, Lost};
+ghost use Rattle.mv_io.specs.Outside.{Rose};
+ghost use Rattle.mv_top.specs.Grown.{Keeps};
+ghost use Rattle.mv_front.specs.Verdicts.{IsProgram};
+ghost use Rattle.mv_top.specs.Outcomes.{Comes, Decides, Does, Gives, Notes, Quiet, RunsText, status_of_error, status_of_evaluation};
 
-use crate::command::{Run, command};
+use crate::command::{Command, Task, command_of};
 use crate::execution::execute;
 use crate::reader::read;
-use crate::status::{Refusal, Status};
-use crate::writing::write_all;
+use crate::status::Status;
 use mv_ast::place::Place;
+use mv_ast::program::Program;
+use mv_eval::error::EvalError;
+use mv_eval::eval;
+use mv_eval::writing::write_all;
+use mv_front::{FrontError, Refusal, front};
 use mv_io::{Shelf, ShelfError, Sink, Source};
 use mv_machine::Stopped;
+use mv_meaning::meant::End;
 use mv_probe::FetchOracle;
-use std::alloc::{AllocError, Global};
+use std::alloc::Global;
 
-/// A text of a form that is not built yet.
+/// A program that is not compiled yet.
 const NOT_BUILT: Refusal = Refusal {
     code: 16,
     place: Place { line: 1, column: 1 },
@@ -30,7 +32,7 @@ const NOT_BUILT: Refusal = Refusal {
     count: 0,
 };
 
-// Runs a text for at most so many instructions.
+// Runs an accepted text for at most so many instructions.
 fn run_text<I: Source, O: Sink>(
     alloc: Global,
     text: &[u8],
@@ -60,6 +62,68 @@ fn run_text<I: Source, O: Sink>(
     }
 }
 
+// The status of an evaluation.
+fn status_of(evaluation: Result<End, EvalError>) -> Status
+    ensures { result ≡ status_of_evaluation evaluation }
+{
+    match evaluation {
+        Ok(End::Exit(status)) => Status::Ended(status),
+        Ok(End::Trap(code)) => Status::Trapped(code),
+        Ok(End::More) => Status::Steps,
+        Err(EvalError::Input) => Status::InputFault,
+        Err(EvalError::Output) => Status::OutputFault,
+        Err(EvalError::Memory(_)) => Status::Memory,
+    }
+}
+
+// The status of a text that is no program.
+fn status_of_refusal(error: FrontError) -> Status
+    ensures { result ≡ status_of_error error }
+{
+    match error {
+        FrontError::Refused(refusal) => Status::Refused(refusal),
+        FrontError::Memory(_) => Status::Memory,
+    }
+}
+
+// Does with a program what a command does with it.
+fn act<I: Source, O: Sink>(
+    alloc: Global,
+    text: &[u8],
+    program: &Program,
+    task: Task,
+    input: &mut I,
+    out: &mut O,
+    oracle: &mut Box<dyn FetchOracle>,
+) -> Status
+    requires { IsProgram text.now program.now }
+    ensures { Does (I.left input.old) (λ bytes. Lost (I.left input.old) (I.left input.new) bytes) (λ bytes. Grew (O.written out.old) (O.written out.new) bytes)
+        (Rose (I.faults input.old) (I.faults input.new)) (Rose (O.faults out.old) (O.faults out.new)) text.now task result }
+{
+    match task {
+        Task::Run(steps) => run_text(alloc, text, steps, input, out, oracle),
+        Task::Eval(bound) => status_of(eval(alloc, program, bound, input, out)),
+    }
+}
+
+// Does with a text what a command does with it.
+fn carry_out<I: Source, O: Sink>(
+    alloc: Global,
+    text: &[u8],
+    task: Task,
+    input: &mut I,
+    out: &mut O,
+    oracle: &mut Box<dyn FetchOracle>,
+) -> Status
+    ensures { Does (I.left input.old) (λ bytes. Lost (I.left input.old) (I.left input.new) bytes) (λ bytes. Grew (O.written out.old) (O.written out.new) bytes)
+        (Rose (I.faults input.old) (I.faults input.new)) (Rose (O.faults out.old) (O.faults out.new)) text.now task result }
+{
+    match front(alloc, text) {
+        Ok(program) => act(alloc, text, &program, task, input, out, oracle),
+        Err(error) => status_of_refusal(error),
+    }
+}
+
 // Carries out a command, without its notes.
 fn perform<H: Shelf, I: Source, O: Sink>(
     alloc: Global,
@@ -69,17 +133,16 @@ fn perform<H: Shelf, I: Source, O: Sink>(
     out: &mut O,
     oracle: &mut Box<dyn FetchOracle>,
 ) -> Status
-    ensures gives { Gives (map string_bytes words.now) (H.files shelf.old) (Rose (H.faults shelf.old) (H.faults shelf.new))
-        (Rose (I.faults input.old) (I.faults input.new)) (Rose (O.faults out.old) (O.faults out.new)) ⊥
-        (λ bytes. Grew (O.written out.old) (O.written out.new) bytes) result }
-    ensures input { Keeps (I.left input.old) (I.left input.new) }
+    ensures comes { Comes (map string_bytes words.now) (H.files shelf.old) (I.left input.old)
+        (λ bytes. Lost (I.left input.old) (I.left input.new) bytes) (λ bytes. Grew (O.written out.old) (O.written out.new) bytes)
+        (Rose (H.faults shelf.old) (H.faults shelf.new)) (Rose (I.faults input.old) (I.faults input.new)) (Rose (O.faults out.old) (O.faults out.new)) result }
     ensures files { H.files shelf.new ≡ H.files shelf.old }
 {
-    let Some(Run { file, steps }) = command(words) else {
+    let Some(Command { file, task }) = command_of(words) else {
         return Status::Usage;
     };
     match shelf.load(alloc, file) {
-        Ok(text) => run_text(alloc, text.as_slice(), steps, input, out, oracle),
+        Ok(text) => carry_out(alloc, text.as_slice(), task, input, out, oracle),
         Err(ShelfError::Failed) => Status::ShelfFault,
         Err(ShelfError::Memory(_)) => Status::Memory,
     }
@@ -114,15 +177,17 @@ pub fn multiverse<H: Shelf, I: Source, O: Sink, N: Sink>(
     notes: &mut N,
     oracle: &mut Box<dyn FetchOracle>,
 ) -> Status
-    ensures gives { Gives (map string_bytes words.now) (H.files shelf.old) (Rose (H.faults shelf.old) (H.faults shelf.new))
-        (Rose (I.faults input.old) (I.faults input.new)) (Rose (O.faults out.old) (O.faults out.new)) (Rose (N.faults notes.old) (N.faults notes.new))
-        (λ bytes. Grew (O.written out.old) (O.written out.new) bytes) result }
+    ensures gives { Gives (map string_bytes words.now) (H.files shelf.old) (I.left input.old)
+        (λ bytes. Lost (I.left input.old) (I.left input.new) bytes) (λ bytes. Grew (O.written out.old) (O.written out.new) bytes)
+        (Rose (H.faults shelf.old) (H.faults shelf.new)) (Rose (I.faults input.old) (I.faults input.new)) (Rose (O.faults out.old) (O.faults out.new))
+        (Rose (N.faults notes.old) (N.faults notes.new)) result }
     ensures decides { Quiet (Rose (H.faults shelf.old) (H.faults shelf.new)) (Rose (I.faults input.old) (I.faults input.new))
-        (Rose (O.faults out.old) (O.faults out.new)) (Rose (N.faults notes.old) (N.faults notes.new)) → Decides (map string_bytes words.now) (H.files shelf.old) result }
-    ensures notes { Notes (λ due. Gives (map string_bytes words.now) (H.files shelf.old) (Rose (H.faults shelf.old) (H.faults shelf.new))
-        (Rose (I.faults input.old) (I.faults input.new)) (Rose (O.faults out.old) (O.faults out.new)) ⊥
-        (λ bytes. Grew (O.written out.old) (O.written out.new) bytes) due) result (N.written notes.old) (N.written notes.new) }
-    ensures input { Keeps (I.left input.old) (I.left input.new) }
+        (Rose (O.faults out.old) (O.faults out.new)) (Rose (N.faults notes.old) (N.faults notes.new)) →
+        Decides (map string_bytes words.now) (H.files shelf.old) (I.left input.old) result }
+    ensures notes { Notes (λ due. Comes (map string_bytes words.now) (H.files shelf.old) (I.left input.old)
+        (λ bytes. Lost (I.left input.old) (I.left input.new) bytes) (λ bytes. Grew (O.written out.old) (O.written out.new) bytes)
+        (Rose (H.faults shelf.old) (H.faults shelf.new)) (Rose (I.faults input.old) (I.faults input.new)) (Rose (O.faults out.old) (O.faults out.new)) due)
+        result (N.written notes.old) (N.written notes.new) }
     ensures files { H.files shelf.new ≡ H.files shelf.old }
 {
     let status = perform(alloc, words, shelf, input, out, oracle);

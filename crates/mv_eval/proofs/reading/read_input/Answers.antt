@@ -27,8 +27,7 @@ returns-then-is_err-clause-reads g c =
 
 pub returns-clause-reads : goal.returns-clause-reads
 returns-clause-reads g c =
-    let i = c.reading.invariant in
-    (
+    let i = c.reading.invariant in (
       full (g.S.Source.left c.args.source.now) (g.S.Source.left c.reading.source) c.reading.bytes i.lost (omega (arith, i.few, c.len.ensures, c.reading-test.false)),
       i.lost,
     )

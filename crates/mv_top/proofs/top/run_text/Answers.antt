@@ -3,7 +3,7 @@ use Rattle.mv_top.specs.First.{written}
 use Rattle.mv_top.specs.Reading.{IsTheProgram, IsNoProgram}
 use Rattle.mv_top.specs.Code.{result_of}
 use Rattle.mv_top.proofs.Meanings.{is_part, means, means_ended, means_nothing}
-use Rattle.mv_top.proofs.Pieces.{grew_none}
+use Rattle.mv_eval.proofs.Pieces.{grew_none}
 use Rattle.mv_top.proofs.top.run_text.Goals as goal
 
 pub returns-in-Ok-None-clause-runs : goal.returns-in-Ok-None-clause-runs
