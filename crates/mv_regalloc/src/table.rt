@@ -1,5 +1,5 @@
 // The first and the last position of each temporary, as positions are added before the others. A position costs the
-// words of its row, and the temporaries whose bits change there: for those that stay, only their word is noted.
+// words of its row, and 64 steps for each of them that changes: of one that stays only the position is noted.
 
 ghost use Rattle.std.specs.Prelude.{ℕ, ◌≡◌, ◌<◌, ◌≤◌, ◌+◌, ◌/◌, ◌^◌, ◌&&◌, ◌∷◌, [], cond, eqb, false, length, replicate, slice_index, slice_set, IfOk, OnOk};
 ghost use Rattle.mv_ir.specs.Live.{mark_at};
