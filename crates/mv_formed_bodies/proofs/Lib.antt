@@ -13,3 +13,4 @@ mod NamedExpressions
 mod NamedStatements
 mod DeclaredExpressions
 mod DeclaredStatements
+mod Definitions

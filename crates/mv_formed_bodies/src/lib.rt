@@ -4,8 +4,10 @@
 #![tactic(auto)]
 
 ghost use Rattle.mv_formed_bodies.specs.Declared.{BodyNamesDeclared};
+ghost use Rattle.mv_formed_bodies.specs.Definitions.{DefinitionHasParameters, DefinitionIsFormed};
 ghost use Rattle.mv_formed_bodies.specs.Formed.{BodyIsFormed, ParametersAreShaped};
 
+use mv_typed_bodies::{good_bodies_are_typed, good_parameters_fit};
 use mv_typing::{constants_come_to_their_values, good_expressions_are_typed};
 
 /// The statements of a body that keeps the rules (C11 6.8) name what the program has and call known functions with their arguments, each
@@ -27,3 +29,16 @@ pub fn good_parameters_are_shaped()
 pub fn good_bodies_name_declared_locals()
     ensures { BodyNamesDeclared }
 {}
+
+/// The definition of a function that keeps the rules (C11 6.9.1) is well typed and well formed but for its list of switches, in each program
+/// that has what the scope before it says. The call does nothing: its contract is the law.
+pub fn good_definitions_are_well_formed()
+    ensures parameters { DefinitionHasParameters }
+    ensures formed { DefinitionIsFormed }
+{
+    good_bodies_are_typed();
+    good_parameters_fit();
+    good_bodies_are_well_formed();
+    good_bodies_name_declared_locals();
+    good_parameters_are_shaped();
+}
