@@ -1,10 +1,12 @@
 //! Carries out the commands of its standard input, one a line, and prints the output and the notes of each. The indented lines behind a command are
 //! the text of the file `a.c`; behind ` < ` stands the file that is its input. A line that begins with `#` is printed as it is.
+//! Last comes a source that is too long for a file here.
 #![tactic(auto)]
 
 use mv_io::{FileShelf, MemSink, MemSource, Shelf};
 use mv_probe::{FetchOracle, Oldest};
 use mv_top::multiverse;
+use std::alloc::Global;
 use std::io;
 
 /// How many bytes a command writes at most.
@@ -73,6 +75,14 @@ fn add_line(text: &mut String, line: &str) -> anyhow::Result<()> {
     Ok(())
 }
 
+// A source that is one byte longer than a source may be.
+fn too_long(alloc: Global) -> anyhow::Result<Row> {
+    Ok(Row {
+        command: "eval a.c --bound 1".to_string(alloc)?,
+        text: " ".repeat(alloc, 1_048_577)?,
+    })
+}
+
 fn main(rt: HostRuntime) -> anyhow::Result<()> {
     let alloc = rt.alloc();
     let mut row: Option<Row> = None;
@@ -99,5 +109,6 @@ fn main(rt: HostRuntime) -> anyhow::Result<()> {
     if let Some(row) = row {
         carry_out(&rt, &row)?;
     }
-    Ok(())
+    println!(rt; "# a source of 1,048,577 bytes")?;
+    carry_out(&rt, &too_long(alloc)?)
 }
