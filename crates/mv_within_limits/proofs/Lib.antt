@@ -5,3 +5,5 @@ mod Expressions
 mod Totals
 mod Locals
 mod Statements
+mod Definitions
+mod Units

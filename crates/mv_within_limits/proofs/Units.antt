@@ -1,5 +1,5 @@
 -- The program of a unit is at most four times as many nodes as the unit.
-use Rattle.std.proofs.Common.{◌≡◌, ℕ, suc, ◌+◌, ◌*◌, ◌≤◌, Bool, refl, sym, ◌∙◌, ap, arith, Option, Some, None, is_some, List, [], ◌∷◌, map, length}
+use Rattle.std.proofs.Common.{◌≡◌, ℕ, zero, suc, ◌+◌, ◌*◌, ◌≤◌, Bool, refl, sym, ◌∙◌, ap, arith, Option, Some, None, is_some, List, [], ◌∷◌, map, length}
 use Rattle.std.specs.Prelude.{sum, replicate, codes}
 use Rattle.std.proofs.lemmas.List.Sums.{sum_by-cons}
 use Rattle.mv_ast.specs.declared.place.Place.{Place}
@@ -91,7 +91,7 @@ module _ (k : Foreknown) where
 -- ---- the program
 
 none_yet : (n : ℕ) → total function_weight (replicate n None) ≡ 0
-none_yet 0 = refl
+none_yet zero = refl
 none_yet (suc n) = omega (arith, none_yet n)
 
 functions_weight : (switches : List Switch) (fs : List (Option Function)) →

@@ -2,9 +2,16 @@
 #![tactic(auto)]
 
 ghost use Rattle.mv_within_limits.specs.Limits.{WithinLimits};
+ghost use Rattle.mv_within_limits.specs.Nodes.{UnitsAreSmall};
 
 /// A program of which no limit is reported, and whose nodes are few enough, is within all limits. The call does nothing: its contract is
 /// the law.
 pub fn unreported_programs_are_within_limits()
     ensures { WithinLimits }
+{}
+
+/// The program of a unit that keeps the rules has at most four times as many nodes as the unit. The call does nothing: its contract is the
+/// law.
+pub fn programs_of_small_units_are_small()
+    ensures { UnitsAreSmall }
 {}
