@@ -7,3 +7,4 @@ mod Locals
 mod Statements
 mod Definitions
 mod Units
+mod Main

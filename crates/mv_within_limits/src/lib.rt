@@ -2,6 +2,7 @@
 #![tactic(auto)]
 
 ghost use Rattle.mv_within_limits.specs.Limits.{WithinLimits};
+ghost use Rattle.mv_within_limits.specs.Main.{MainIsTyped};
 ghost use Rattle.mv_within_limits.specs.Nodes.{UnitsAreSmall};
 
 /// A program of which no limit is reported, and whose nodes are few enough, is within all limits. The call does nothing: its contract is
@@ -14,4 +15,10 @@ pub fn unreported_programs_are_within_limits()
 /// law.
 pub fn programs_of_small_units_are_small()
     ensures { UnitsAreSmall }
+{}
+
+/// The `main` of a unit that keeps the rules has no parameters and gives an integer (C11 5.1.2.2.1), where the program has what names mean
+/// at the end of the unit. The call does nothing: its contract is the law.
+pub fn main_is_typed()
+    ensures { MainIsTyped }
 {}
