@@ -165,8 +165,12 @@ passed_weight : (ts : List CType) (args : List Seen) → sum (map expr_nodes (pa
 passed_weight ts [] = omega arith
 passed_weight [] (a ∷ args) = omega arith
 passed_weight (t ∷ ts) (a ∷ args) =
-    omega (arith, converted_weight t (value_of a), passed_weight ts args,
-    sum_by-cons (λ x. x) (expr_nodes (converted_to t (value_of a))) (map expr_nodes (passed ts args)))
+    omega (
+      arith,
+      converted_weight t (value_of a),
+      passed_weight ts args,
+      sum_by-cons (λ x. x) (expr_nodes (converted_to t (value_of a))) (map expr_nodes (passed ts args)),
+    )
 
 through_weight : (o : Option ℕ) (t : CType) (e : Expr) (args : List Expr) → expr_nodes (typed t (direct_or_through o e args)) ≤ 1 + (expr_nodes e + sum (map expr_nodes args))
 through_weight None t e args = omega (arith, nodes_through t args e)

@@ -89,7 +89,7 @@ main_typed place c p f q fits has =
     let found = main_found c.scope.signatures (named name c.scope.names.here) p.main (main_is place c p (main_of c.scope.signatures (named name c.scope.names.here)) q) in
     let r : Routine = found.0 in
     let means : meaning_of c.scope name ≡ Some (meaning.Function r) =
-        ap (λ o. unless_declared (or_else o (meaning_in c.scope.names.around name)) (known_function name)) found.1 in
+    ap (λ o. unless_declared (or_else o (meaning_in c.scope.names.around name)) (known_function name)) found.1 in
     let type = main_type (slice_get c.scope.signatures r.signature) found.3 in
     let there = fits.signatures r.signature type.0 type.1 in
     let g = (fits.names name (meaning.Function r) means).0 p.main found.2 in
