@@ -1,5 +1,5 @@
 -- The `main` of a unit has the type that is asked of it.
-use Rattle.std.proofs.Common.{◌≡◌, ℕ, ◌≤◌, Bool, true, false, ◌&&◌, refl, sym, ◌∙◌, ap, subst, arith, Option, Some, None, if◌then◌else◌, List, [], ◌∷◌, map, length, take, slice_get}
+use Rattle.std.proofs.Common.{◌≡◌, ℕ, Bool, true, false, refl, sym, ◌∙◌, ap, subst, Option, Some, None, if◌then◌else◌, List, [], ◌∷◌, length, take, slice_get}
 use Rattle.std.specs.Prelude.{codes}
 use Rattle.std.proofs.lemmas.List.{length-map, length-take-le}
 use Rattle.mv_ast.specs.declared.place.Place.{Place}
@@ -12,7 +12,6 @@ use Rattle.mv_ast.specs.declared.program.Signature.{Signature}
 use Rattle.mv_scope.specs.declared.meaning.Meaning.{Meaning}
 use Rattle.mv_scope.specs.declared.meaning.Meaning.TheVariants as meaning
 use Rattle.mv_scope.specs.declared.meaning.Routine.{Routine}
-use Rattle.mv_scope.specs.declared.scope.Scope.{Scope}
 use Rattle.mv_scope.specs.Conversions.{int, same_type, same_types}
 use Rattle.mv_scope.specs.Known.{known_function}
 use Rattle.mv_scope.specs.Scoped.{meaning_of, unless_declared}

@@ -1,6 +1,6 @@
 -- No declaration of `main` has the attribute: it would break a rule.
 use Rattle.std.proofs.Common.{◌≡◌, ℕ, zero, suc, ◌+◌, Bool, true, false, not, ◌&&◌, ◌||◌, refl, sym, ◌∙◌, ap, subst, arith, Option, Some, None, is_some, nat_eq, if◌then◌else◌, List, [], ◌∷◌, ◌++◌, map, take, drop}
-use Rattle.std.specs.Prelude.{codes, filter, fold}
+use Rattle.std.specs.Prelude.{codes, filter}
 use Rattle.std.specs.List.{list_any, flat_map}
 use Rattle.std.specs.Cmp.Lexicographic.{pointwise}
 use Rattle.std.proofs.lemmas.List.Folds.{list_any-append}
@@ -16,7 +16,7 @@ use Rattle.mv_ast.specs.declared.unit.Shape.TheOpen as shape
 use Rattle.mv_ast.specs.declared.unit.Specs.{out-Specs}
 use Rattle.mv_scope.specs.declared.scope.Scope.{Scope}
 use Rattle.mv_judge.specs.Judged.{Judged, Good, and_then}
-use Rattle.mv_outline.specs.Names.{same_name, is_among, with_name, with_names, each_once}
+use Rattle.mv_outline.specs.Names.{same_name, is_among, with_name, with_names}
 use Rattle.mv_outline.specs.Outlined.{is_function_form, is_function, is_filled, is_marked, name_of}
 use Rattle.mv_declare.specs.declared.attributes.Attribute.{Attribute}
 use Rattle.mv_declare.specs.declared.attributes.Holder.{Holder}
@@ -34,7 +34,7 @@ use Rattle.mv_types.specs.declared.contents.Contents.{Contents}
 use Rattle.mv_types.specs.declared.contents.Foreknown.{Foreknown}
 use Rattle.mv_types.specs.declared.foreknown.Said.TheVariants as said
 use Rattle.mv_types.specs.Contents.{nothing_declared, in_scope}
-use Rattle.mv_types.specs.Foreknown.{is_said, names_in, all_names, names, foreknown, is_attributed}
+use Rattle.mv_types.specs.Foreknown.{is_said, names_in, names, foreknown, is_attributed}
 use Rattle.mv_types.specs.Functions.{definition_parameters}
 use Rattle.mv_types.specs.Units.{base_of, declares_constant, declarator_judgement, holders, declares_nothing, item_judgement}
 use Rattle.mv_typed_bodies.proofs.Judging.{IfGood, of_good, if_any, if_then, if_kept, if_more, and_true}
