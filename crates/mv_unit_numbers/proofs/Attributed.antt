@@ -51,8 +51,8 @@ module _ (items : List Item) where
       let all : (program_of c main).functions ≡ gs = program_functions c main ∙ ap (map (with_switches switches)) (ap present d.all ∙ present_all d.functions) in
       ap (λ fs. map (λ f. f.name) (filter (λ f. f.attributed) fs)) all ∙
       (filter_map (λ f. f.attributed) (is_attributed k) (λ f. f.name) gs
-          (all_of_map (λ f. f.attributed ≡ is_attributed k f.name) (with_switches switches) d.functions
-          (recursion_from_All (λ f. f.attributed ≡ is_attributed k f.name) d.functions d.attributed)) ∙
+      (all_of_map (λ f. f.attributed ≡ is_attributed k f.name) (with_switches switches) d.functions
+      (recursion_from_All (λ f. f.attributed ≡ is_attributed k f.name) d.functions d.attributed)) ∙
       (ap (filter (is_attributed k)) (same_names switches d.functions ∙ d.named) ∙ sym attributed_is))
 
   numbered : (fs : List Function) → map (λ f. f.name) fs ≡ k.outline.attributed → (name : List ℕ) (g n : ℕ) → place_of name k.outline.functions ≡ Some g →
