@@ -1,6 +1,6 @@
 -- The functions that a unit defines by its outline are defined by its items.
 use Rattle.std.proofs.Common.{◌≡◌, ℕ, zero, suc, refl, sym, ◌∙◌, ap, ap₂, subst, ◌⊎◌, inl, inr, Bool, true, false, ◌&&◌, ◌||◌, if◌then◌else◌, List, [], ◌∷◌, ◌++◌, length, map, filter, replicate, Option, Some, None, is_some, slice_get, get_or, ◌<◌, arith}
-use Rattle.std.specs.Prelude.{slice_set, unwrap_or}
+use Rattle.std.specs.Prelude.{All, slice_set, unwrap_or}
 use Rattle.std.specs.List.{AllByRecursion}
 use Rattle.std.proofs.lemmas.List.{length-set, length-map, append-nil}
 use Rattle.std.proofs.lemmas.List.Elements.{All-from_recursion}
@@ -43,8 +43,8 @@ use Rattle.mv_types.specs.Foreknown.{foreknown, is_attributed}
 use Rattle.mv_types.specs.Functions.{is_defined, is_defined_at, body_entered, body_left, params_of, definition_parameters, function_of, function_scope, defined, unless_broken, before_of, rule_of, function_behind, function_judgement}
 use Rattle.mv_types.specs.Objects.{type_by_rules, initialised, object_behind, object_judgement, domain_by, object_scope}
 use Rattle.mv_types.specs.Units.{by_entity, named_declarator, base_of, declarator_judgement, holders, item_judgement}
-use Rattle.mv_unit_numbers.specs.Numbers.{AreDefined}
-use Rattle.mv_unit_numbers.proofs.Lists.{all_both, by_places, there_set, set_there, unmapped_there}
+use Rattle.mv_unit_numbers.specs.Numbers.{AreDefined, IsForeknown}
+use Rattle.mv_unit_numbers.proofs.Lists.{all_more, all_both, by_places, there_set, set_there, unmapped_there}
 use Rattle.mv_unit_numbers.proofs.NameLists.{Different, name_is, among_here, among_last, among_once, among_kept, among_different, at_place, place_there, place_among}
 use Rattle.mv_unit_numbers.proofs.Items.{one, IsNamed, AreNamed, all_named, items_done}
 use Rattle.mv_unit_numbers.proofs.Designated.{is_function_entity, file_alike}
@@ -318,6 +318,11 @@ module _ (items : List Item) where
       by n o q x =
           told o (ap is_defined (sym q) ∙ (ap (is_defined_at fs) (sym (place_there known (known_different items) n x.0 x.1)) ∙ h.there x.0 (is_known x.0 n x.1)))
 
+  each : (fs : List (Option Function)) (gs : List Function) → fs ≡ map (λ f. Some f) gs → (g : ℕ) → g < length fs → (f : Function) × (slice_get fs g ≡ Some (Some f))
+  each fs gs e g lt =
+      let x = unmapped_there (λ f. Some f) gs g (get_or fs g None) (ap (λ xs. slice_get xs g) (sym e) ∙ slice_get-get_or fs g None lt) in
+      (x.0, slice_get-get_or fs g None lt ∙ ap (λ o. Some o) (sym x.2))
+
   are_defined : (c : Contents) → IsRight c.functions → AreDefined k c
   are_defined c h =
       let gs : List Function = present c.functions in
@@ -325,8 +330,8 @@ module _ (items : List Item) where
       let right : (n : ℕ) (g : Function) → slice_get gs n ≡ Some g → (slice_get known n ≡ Some g.name) × (g.attributed ≡ is_attributed k g.name) =
       (λ n g q. h.right n g (ap (λ fs. slice_get fs n) all ∙ mapped_there (λ f. Some f) gs n g q)) in
       record {
-        functions = gs;
         all = all;
+        each = each c.functions gs all;
         named = same_list (map (λ f. f.name) gs) known
             (length-map gs (λ f. f.name) ∙ (sym (length-map gs (λ (f : Function). Some f)) ∙ (ap length (sym all) ∙ h.count)))
             (λ n name q. let x = unmapped_there (λ f. f.name) gs n name q in (right n x.0 x.1).0 ∙ ap (λ y. Some y) x.2);
@@ -337,3 +342,22 @@ module _ (items : List Item) where
   functions_defined c q =
       are_defined c
       (of_good (λ t. IsRight t.functions) (through (item_judgement k) items (nothing_declared k)) (all_right k (known_different items) items (known_named items)) c q)
+
+-- ---- each function that an item defines has a number
+
+module _ (items : List Item) where
+  abbrev ns : List (List ℕ)
+  ns = (foreknown items).outline.functions
+
+  abbrev HasPlace : Declarator → Type 0
+  HasPlace d = is_function d ≡ true → (g : ℕ) × (place_of (name_of d) ns ≡ Some g)
+
+  item_known : (i : Item) → AreNamed wanted.DefinedFunctions ns i → IsForeknown (foreknown items) i
+  item_known i h body q =
+      All-from_recursion HasPlace i.names
+      (all_more (IsNamed wanted.DefinedFunctions ns i) HasPlace i.names
+          (λ d f r. place_among (name_of d) ns (known_different items) (f (both (is_function d) (is_there i.body) r (ap is_there q)))) h)
+
+  pub items_known : All (IsForeknown (foreknown items)) items
+  items_known =
+      All-from_recursion (IsForeknown (foreknown items)) items (all_more (AreNamed wanted.DefinedFunctions ns) (IsForeknown (foreknown items)) items item_known (known_named items))

@@ -1,6 +1,8 @@
 -- The switches of a program are the objects that are marked.
-use Rattle.std.proofs.Common.{◌≡◌, ℕ, suc, ◌+◌, refl, sym, ◌∙◌, ap, subst, Bool, true, false, if◌then◌else◌, List, [], ◌∷◌, ◌++◌, map, filter, Option, Some, None, is_some, slice_get, arith}
+use Rattle.std.proofs.Common.{◌≡◌, ℕ, suc, ◌+◌, refl, sym, ◌∙◌, ap, subst, Bool, true, false, if◌then◌else◌, List, [], ◌∷◌, ◌++◌, map, length, nat_lt, filter, Option, Some, None, is_some, slice_get, arith}
 use Rattle.std.specs.List.{AllByRecursion}
+use Rattle.std.proofs.lemmas.Bool.{lt-ltb}
+use Rattle.std.proofs.lemmas.Option.{slice_get_within}
 use Rattle.mv_ast.specs.declared.program.Switch.{Switch}
 use Rattle.mv_ast.specs.declared.unit.Item.{Item}
 use Rattle.mv_judge.specs.Judged.{Good}
@@ -101,6 +103,12 @@ module _ (items : List Item) where
       let r : Some x.0.global ≡ Some g = x.2 ∙ p in
       (x.0, x.1, cc)
 
+  below : (switches : List Switch) → map global switches ≡ map place k.outline.switches → (name : List ℕ) (n : ℕ) → place_of name k.outline.switches ≡ Some n →
+      nat_lt n (length switches) ≡ true
+  below switches e name n q =
+      let x = unmapped_there global switches n (place name) (ap (λ xs. slice_get xs n) e ∙ mapped_there place k.outline.switches n name (at_place name k.outline.switches n q)) in
+      lt-ltb n (length switches) (slice_get_within switches n x.0 x.1)
+
   pub switches_counted : BodyGrows → ParametersFit → (c : Contents) (main : ℕ) → AreJudged items c → AreSwitches k c (program_of c main).switches
   switches_counted bodies fit c main q =
       let xs : List (List ℕ) = all_names wanted.Objects items in
@@ -108,4 +116,4 @@ module _ (items : List Item) where
       let h = of_good (Of k bodies fit xs ys) (through (item_judgement k) items (nothing_declared k)) (objects_of k bodies fit items) c q in
       let named : map object_name c.objects ≡ k.outline.objects = h.all ∙ sym known_objects in
       let globals : map global (program_of c main).switches ≡ map place k.outline.switches = ap (map global) (program_switches c main) ∙ globals_are c.objects named h.marked in
-      record { named = named; globals = globals; numbered = numbered (program_of c main).switches globals }
+      record { named = named; globals = globals; numbered = numbered (program_of c main).switches globals; below = below (program_of c main).switches globals }
