@@ -5,7 +5,6 @@ use Rattle.std.proofs.lemmas.Bool.{lt-ltb}
 use Rattle.std.proofs.lemmas.Option.{slice_get_within}
 use Rattle.mv_ast.specs.declared.program.Switch.{Switch}
 use Rattle.mv_ast.specs.declared.unit.Item.{Item}
-use Rattle.mv_judge.specs.Judged.{Good}
 use Rattle.mv_outline.specs.declared.outline.Wanted.TheVariants as wanted
 use Rattle.mv_outline.specs.Names.{is_among, each_once, place_of, among}
 use Rattle.mv_outline.specs.Outlined as outlined
