@@ -1,0 +1,12 @@
+mod Lists
+mod NameLists
+mod Turns
+mod Items
+mod Designated
+mod Functions
+mod Attributed
+mod Marks
+mod Spaces
+mod Objects
+mod DeclaredObjects
+mod Switches
