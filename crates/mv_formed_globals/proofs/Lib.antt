@@ -1,0 +1,10 @@
+pub mod Values
+pub mod Words
+mod Domains
+mod Specified
+mod Designated
+mod Objects
+mod Switches
+mod Units
+mod Nulls
+mod FirstWords
