@@ -1,9 +1,10 @@
+mod Tests
 pub mod Values
 pub mod Words
 mod Domains
 mod Specified
 mod Designated
-mod Objects
+pub mod Objects
 mod Switches
 mod Units
 mod Nulls
