@@ -19,6 +19,11 @@ use Rattle.mv_lowering.specs.Lower.{all_of}
 use Rattle.mv_lowered_programs.specs.Named.{all_layer, all_arm_layer, all_expressions, calls_known}
 use Rattle.mv_typing.specs.Soundness.{Fits}
 use Rattle.mv_typed_bodies.specs.Bodies.{Keeps}
+use Rattle.mv_ast.specs.declared.unit.Param.{Param}
+use Rattle.mv_declare.specs.Parameters.{parameters_judgement}
+use Rattle.mv_typed_bodies.proofs.Judging.{of_good}
+use Rattle.mv_typed_bodies.proofs.Leading.{Leads}
+use Rattle.mv_typed_bodies.proofs.Parameters.{parameters_lead}
 use Rattle.mv_typed_bodies.proofs.Bodies.{body_has}
 use Rattle.mv_typed_bodies.proofs.Property.{OfOption, Property}
 use Rattle.mv_typed_bodies.proofs.SwitchBodies.{BodyHas, BodiesHave, arms_have, label_leaves, statement_has}
@@ -102,3 +107,9 @@ module _ (p : Program) where
         Fits p f s → AreShaped p own f s → all_of (map (all_expressions (calls_known p)) ss) ≡ true
     calls_hold body s u ss q signatures locals fits shaped =
         all_tested (all_expressions (calls_known p)) ss (body_has calling body s u ss q signatures locals (record { fits = fits; names = shaped }))
+
+    pub params_shaped : (params : List Param) (s u : Scope) → parameters_judgement s params ≡ Good u → Keeps u.signatures p.signatures → Keeps u.locals f.locals →
+        Fits p f s → AreShaped p own f s → AreShaped p own f u
+    params_shaped params s u q signatures locals fits shaped =
+        let y = of_good (λ t. Leads calling s t (Unit {0})) (parameters_judgement s params) (parameters_lead calling params s) u q in
+        (y.holds (record { signatures = signatures; locals = locals }) (record { fits = fits; names = shaped })).0.names

@@ -7,6 +7,7 @@ use Rattle.mv_ast.specs.declared.program.Function.{Function}
 use Rattle.mv_ast.specs.declared.program.Local.{Local}
 use Rattle.mv_ast.specs.declared.program.Stmt.{Stmt}
 use Rattle.mv_ast.specs.declared.unit.Line.{Line}
+use Rattle.mv_ast.specs.declared.unit.Param.{Param}
 use Rattle.mv_ast.specs.Plans.{attributed_functions}
 use Rattle.mv_scope.specs.declared.meaning.Meaning.{Meaning}
 use Rattle.mv_scope.specs.declared.meaning.Meaning.TheVariants as meaning
@@ -15,6 +16,7 @@ use Rattle.mv_scope.specs.declared.meaning.Storage.TheVariants as storage
 use Rattle.mv_scope.specs.declared.scope.Scope.{Scope}
 use Rattle.mv_scope.specs.Scoped.{meaning_of}
 use Rattle.mv_judge.specs.Judged.{Good}
+use Rattle.mv_declare.specs.Parameters.{parameters_judgement}
 use Rattle.mv_statement_rules.specs.Statements.{body_judgement}
 use Rattle.mv_lowering.specs.Lower.{all_of, is_void, is_own_switch}
 use Rattle.mv_lowering.specs.LowerStatements.{stmt_is_well_formed}
@@ -75,3 +77,9 @@ abbrev pub BodyIsFormed : Type 0
 BodyIsFormed =
     (p : Program) (own : ℕ) (f : Function) (body : Line) (before after : Scope) (ss : List Stmt) → body_judgement f.result body before ≡ Good (after, ss) →
     Keeps after.signatures p.signatures → Keeps after.locals f.locals → HasParameters p → Fits p f before → AreShaped p own f before → IsFormedBehind p own f after ss
+
+-- What names mean is so behind the parameters of a function that is defined, if it is so before them.
+abbrev pub ParametersAreShaped : Type 0
+ParametersAreShaped =
+    (p : Program) (own : ℕ) (f : Function) (params : List Param) (before after : Scope) → parameters_judgement before params ≡ Good after →
+    Keeps after.signatures p.signatures → Keeps after.locals f.locals → Fits p f before → AreShaped p own f before → AreShaped p own f after

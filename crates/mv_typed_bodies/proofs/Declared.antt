@@ -132,7 +132,7 @@ module _ (x : Property) where
         if_then (LeadsToLocal e.0) (LeadsToStmt s) (new_local d.place d.name e.1 d.initial e.0) _ (local_leads d.place d.name e.1 d.initial e.0 g.listed) (λ n h.
         if_more (λ y. Leads x n.0 y.0 (HasLocal n.1 → Has y.1)) (LeadsToStmt s) (cleared n.0 n.1 d.place d.initial)
         (λ y k.
-        leads_joined x s e.0 y.0 (Unit {0}) (Has y.1) (Has y.1) (λ u z. z) (leads_renamed x s e.0 g.grows g.names)
+        leads_joined x s e.0 y.0 (Unit {0}) (Has y.1) (Has y.1) (λ u z. z) (leads_renamed x s e.0 g.declares.grows g.names)
         (leads_joined x e.0 n.0 y.0 (HasLocal n.1) (HasLocal n.1 → Has y.1) (Has y.1) (λ there z. z there) h k))
         (cleared_leads n.0 n.1 d.place d.initial))))
 

@@ -24,10 +24,9 @@ use Rattle.mv_declare.specs.Declarators.{signature_of, numbered, function_type, 
 use Rattle.mv_declare.specs.Specifiers.{specifiers}
 use Rattle.mv_declare.specs.Turns.{next_part, in_turn}
 use Rattle.mv_typing.specs.Soundness.{IsListed}
-use Rattle.mv_typed_bodies.specs.Bodies.{Grows}
 use Rattle.mv_typed_bodies.proofs.Judging.{IfGood, if_any, if_then, if_kept, if_more, if_through}
 use Rattle.mv_typed_bodies.proofs.Places.{IsPlain, plain_listed, signature_there}
-use Rattle.mv_typed_bodies.proofs.Growing.{grows_same, grows_joined, grows_declared, grows_numbered, grows_block, names_back}
+use Rattle.mv_typed_bodies.proofs.Growing.{Declares, declares_same, declares_joined, declares_declared, declares_numbered, declares_block, names_back}
 use Rattle.mv_typed_bodies.proofs.Specified.{Specifies, specifiers_specify}
 
 abbrev pub IsListedEntity : List Signature → Entity → Type 0
@@ -37,12 +36,12 @@ IsListedEntity signatures (entity.Function s) = IsListed signatures (Pointer s)
 
 -- from a scope to one with the same names, and an entity that is listed there
 pub record Designates (s : Scope) (d : Scope × Entity) : Type 0 where
-  pub grows : Grows s d.0
+  pub declares : Declares s d.0
   pub names : d.0.names ≡ s.names
   pub listed : IsListedEntity d.0.signatures d.1
 
 record Numbers (s : Scope) (d : Scope × ℕ) : Type 0 where
-  grows : Grows s d.0
+  declares : Declares s d.0
   names : d.0.names ≡ s.names
   listed : IsListed d.0.signatures (Pointer d.1)
 
@@ -51,37 +50,37 @@ record Numbers (s : Scope) (d : Scope × ℕ) : Type 0 where
 abbrev pub ShapeDesignates : Shapes → Type 0
 ShapeDesignates x = (t : CType) (fixed : Bool) (s : Scope) → IsPlain t → IfGood (x t fixed s) (Designates s)
 
-abbrev DeclaratorGrows : Declarators → Type 0
-DeclaratorGrows x = (base : Specified) (s : Scope) → IsPlain base.ctype → IfGood (x base s) (λ d. Grows s d.0)
+abbrev DeclaratorDeclares : Declarators → Type 0
+DeclaratorDeclares x = (base : Specified) (s : Scope) → IsPlain base.ctype → IfGood (x base s) (λ d. Declares s d.0)
 
-abbrev ParamGrows : Params → Type 0
-ParamGrows x = (s : Scope) → IfGood (x s) (λ d. Grows s d.0)
+abbrev ParamDeclares : Params → Type 0
+ParamDeclares x = (s : Scope) → IfGood (x s) (λ d. Declares s d.0)
 
 abbrev TypesBehind : Scope × List CType → Scope × List CType → Type 0
-TypesBehind d e = Grows d.0 e.0
+TypesBehind d e = Declares d.0 e.0
 
-part_grows : (x : Params) → ParamGrows x → (d : Scope × List CType) → IfGood (next_part x d) (TypesBehind d)
-part_grows x h d = if_then (λ e. Grows d.0 e.0) (TypesBehind d) (x d.0) _ (h d.0) (λ e g. g)
+part_grows : (x : Params) → ParamDeclares x → (d : Scope × List CType) → IfGood (next_part x d) (TypesBehind d)
+part_grows x h d = if_then (λ e. Declares d.0 e.0) (TypesBehind d) (x d.0) _ (h d.0) (λ e g. g)
 
-type_numbers : (t : CType) (params : List Params) → IsPlain t → AllByRecursion ParamGrows params → (s : Scope) → IfGood (function_type t params s) (Numbers s)
+type_numbers : (t : CType) (params : List Params) → IsPlain t → AllByRecursion ParamDeclares params → (s : Scope) → IfGood (function_type t params s) (Numbers s)
 type_numbers t params plain h s =
     if_then (TypesBehind (block_entered s, [])) (Numbers s) (in_turn params (block_entered s, [])) _
-    (if_through next_part TypesBehind ParamGrows (λ d. grows_same d.0) (λ d e f. grows_joined d.0 e.0 f.0) part_grows params h (block_entered s, []))
+    (if_through next_part TypesBehind ParamDeclares (λ d. declares_same d.0) (λ d e f. declares_joined d.0 e.0 f.0) part_grows params h (block_entered s, []))
     (λ d g. record {
-      grows = grows_joined s (block_left d.0) (numbered t d.1 (block_left d.0)).0 (grows_block s d.0 g) (grows_numbered t d.1 (block_left d.0) plain);
-      names = names_back s d.0 g;
+      declares = declares_joined s (block_left d.0) (numbered t d.1 (block_left d.0)).0 (declares_block s d.0 g) (declares_numbered t d.1 (block_left d.0) plain);
+      names = names_back s d.0 g.grows;
       listed = signature_there (signature_of t d.1) d.0.signatures;
     })
 
 abbrev ShapeParts : Shape-F Shapes Declarators Params → Type 0
 ShapeParts shape.Plain = Unit {0}
 ShapeParts (shape.Array size) = Unit {0}
-ShapeParts (shape.Function params) = AllByRecursion ParamGrows params
-ShapeParts (shape.Pointer constant params) = AllByRecursion ParamGrows params
-ShapeParts (shape.PointerArray constant size params) = AllByRecursion ParamGrows params
+ShapeParts (shape.Function params) = AllByRecursion ParamDeclares params
+ShapeParts (shape.Pointer constant params) = AllByRecursion ParamDeclares params
+ShapeParts (shape.PointerArray constant size params) = AllByRecursion ParamDeclares params
 
 as_it_is : (s : Scope) (e : Entity) → IsListedEntity s.signatures e → Designates s (s, e)
-as_it_is s e h = record { grows = grows_same s; names = refl; listed = h }
+as_it_is s e h = record { declares = declares_same s; names = refl; listed = h }
 
 shape_good : (x : Shape-F Shapes Declarators Params) → ShapeParts x → ShapeDesignates (shape_step x)
 shape_good shape.Plain h t fixed s plain = as_it_is s (entity.Scalar t fixed) (plain_listed s.signatures t plain)
@@ -89,42 +88,42 @@ shape_good (shape.Array size) h t fixed s plain =
     if_then (λ n. Unit {0}) (Designates s) (size_of s size) _ (if_any (size_of s size)) (λ n u. as_it_is s (entity.Array t fixed n) (plain_listed s.signatures t plain))
 shape_good (shape.Function params) h t fixed s plain =
     if_then (Numbers s) (Designates s) (function_type t params s) _ (type_numbers t params plain h s)
-    (λ d n. record { grows = n.grows; names = n.names; listed = n.listed })
+    (λ d n. record { declares = n.declares; names = n.names; listed = n.listed })
 shape_good (shape.Pointer constant params) h t fixed s plain =
     if_then (Numbers s) (Designates s) (function_type t params s) _ (type_numbers t params plain h s)
-    (λ d n. record { grows = n.grows; names = n.names; listed = n.listed })
+    (λ d n. record { declares = n.declares; names = n.names; listed = n.listed })
 shape_good (shape.PointerArray constant size params) h t fixed s plain =
     if_then (λ n. Unit {0}) (Designates s) (size_of s size) _ (if_any (size_of s size)) (λ m u.
     if_then (Numbers s) (Designates s) (function_type t params s) _ (type_numbers t params plain h s)
-    (λ d n. record { grows = n.grows; names = n.names; listed = n.listed }))
+    (λ d n. record { declares = n.declares; names = n.names; listed = n.listed }))
 
 -- ---- parameters of declarations
 
-named_grows : (name : Option (List ℕ)) (t : CType) (fixed : Bool) (s : Scope) → Grows s (parameter_declared name t fixed s)
-named_grows None t fixed s = grows_same s
-named_grows (Some name) t fixed s = grows_declared s name (meaning.Object (record { storage = storage.Local 0; ctype = t; fixed = fixed; switch = None }))
+named_grows : (name : Option (List ℕ)) (t : CType) (fixed : Bool) (s : Scope) → Declares s (parameter_declared name t fixed s)
+named_grows None t fixed s = declares_same s
+named_grows (Some name) t fixed s = declares_declared s name (meaning.Object (record { storage = storage.Local 0; ctype = t; fixed = fixed; switch = None }))
 
-parameter_grows : (place : Place) (name : Option (List ℕ)) (e : Entity) (s : Scope) → IfGood (parameter_of place name e s) (λ d. Grows s d.0)
+parameter_grows : (place : Place) (name : Option (List ℕ)) (e : Entity) (s : Scope) → IfGood (parameter_of place name e s) (λ d. Declares s d.0)
 parameter_grows place name (entity.Scalar t fixed) s =
-    if_kept (λ d. Grows s d.0) (is_void t) place 8 (Good (parameter_declared name t fixed s, t)) (λ q. named_grows name t fixed s)
+    if_kept (λ d. Declares s d.0) (is_void t) place 8 (Good (parameter_declared name t fixed s, t)) (λ q. named_grows name t fixed s)
 parameter_grows place name (entity.Array t fixed size) s = tt
 parameter_grows place name (entity.Function f) s = tt
 
-new_grows : (place : Place) (name : Option (List ℕ)) (e : Entity) (s : Scope) → IfGood (new_parameter place name e s) (λ d. Grows s d.0)
+new_grows : (place : Place) (name : Option (List ℕ)) (e : Entity) (s : Scope) → IfGood (new_parameter place name e s) (λ d. Declares s d.0)
 unfolding new_parameter
-new_grows place name e s = if_kept (λ d. Grows s d.0) (is_taken_by s name) place 2 (parameter_of place name e s) (λ q. parameter_grows place name e s)
+new_grows place name e s = if_kept (λ d. Declares s d.0) (is_taken_by s name) place 2 (parameter_of place name e s) (λ q. parameter_grows place name e s)
 
-declarator_good : (x : Declarator-F Shapes Declarators Params) → ShapeDesignates x.shape → DeclaratorGrows (declarator_step x)
+declarator_good : (x : Declarator-F Shapes Declarators Params) → ShapeDesignates x.shape → DeclaratorDeclares (declarator_step x)
 declarator_good x h base s plain =
-    if_then (Designates s) (λ d. Grows s d.0) (x.shape base.ctype base.fixed s) _ (h base.ctype base.fixed s plain) (λ e g.
+    if_then (Designates s) (λ d. Declares s d.0) (x.shape base.ctype base.fixed s) _ (h base.ctype base.fixed s plain) (λ e g.
     let given = attributes nothing_holds None e.0 x.marks base.attribute in
-    if_then (λ a. Unit {0}) (λ d. Grows s d.0) given _ (if_any given) (λ a u.
-    if_more (λ d. Grows e.0 d.0) (λ d. Grows s d.0) (new_parameter x.place x.name e.1 e.0) (λ d n. grows_joined s e.0 d.0 g.grows n) (new_grows x.place x.name e.1 e.0)))
+    if_then (λ a. Unit {0}) (λ d. Declares s d.0) given _ (if_any given) (λ a u.
+    if_more (λ d. Declares e.0 d.0) (λ d. Declares s d.0) (new_parameter x.place x.name e.1 e.0) (λ d n. declares_joined s e.0 d.0 g.declares n) (new_grows x.place x.name e.1 e.0)))
 
-param_good : (x : Param-F Shapes Declarators Params) → DeclaratorGrows x.name → ParamGrows (param_step x)
+param_good : (x : Param-F Shapes Declarators Params) → DeclaratorDeclares x.name → ParamDeclares (param_step x)
 param_good x h s =
-    if_then (Specifies s) (λ d. Grows s d.0) (specifiers position.Parameter [] x.specs s) _ (specifiers_specify position.Parameter [] x.specs s) (λ b g.
-    if_more (λ d. Grows b.0 d.0) (λ d. Grows s d.0) (x.name b.1 b.0) (λ d n. grows_joined s b.0 d.0 g.enumerates.grows n) (h b.1 b.0 g.plain))
+    if_then (Specifies s) (λ d. Declares s d.0) (specifiers position.Parameter [] x.specs s) _ (specifiers_specify position.Parameter [] x.specs s) (λ b g.
+    if_more (λ d. Declares b.0 d.0) (λ d. Declares s d.0) (x.name b.1 b.0) (λ d n. declares_joined s b.0 d.0 g.enumerates.declares n) (h b.1 b.0 g.plain))
 
 -- ---- by induction over the declarator
 
@@ -132,10 +131,10 @@ abbrev ShapeIs : Shape → Type 0
 ShapeIs x = ShapeDesignates (designated x)
 
 abbrev DeclaratorIs : Declarator → Type 0
-DeclaratorIs x = DeclaratorGrows (parameter_declarator x)
+DeclaratorIs x = DeclaratorDeclares (parameter_declarator x)
 
 abbrev ParamIs : Param → Type 0
-ParamIs x = ParamGrows (parameter x)
+ParamIs x = ParamDeclares (parameter x)
 
 abbrev S : Type 0
 S = (x : Shape) × ShapeIs x
@@ -146,7 +145,7 @@ D = (x : Declarator) × DeclaratorIs x
 abbrev P : Type 0
 P = (x : Param) × ParamIs x
 
-params_are : (xs : List P) → AllByRecursion ParamGrows (map parameter (map (λ (x : P). x.0) xs))
+params_are : (xs : List P) → AllByRecursion ParamDeclares (map parameter (map (λ (x : P). x.0) xs))
 params_are [] = tt
 params_are (x ∷ xs) = (x.1, params_are xs)
 
@@ -167,13 +166,13 @@ shape_is y =
 declarator_is : (y : Declarator-F S D P) → DeclaratorIs (roll-Declarator (map-Declarator S D P Shape Declarator Param (λ a. a.0) (λ a. a.0) (λ a. a.0) y))
 declarator_is y =
     let x : Declarator-F Shape Declarator Param = map-Declarator S D P Shape Declarator Param (λ a. a.0) (λ a. a.0) (λ a. a.0) y in
-    subst DeclaratorGrows (sym (fold-roll-Declarator Shapes Declarators Params shape_step declarator_step param_step x))
+    subst DeclaratorDeclares (sym (fold-roll-Declarator Shapes Declarators Params shape_step declarator_step param_step x))
     (declarator_good (map-Declarator Shape Declarator Param Shapes Declarators Params designated parameter_declarator parameter x) y.shape.1)
 
 param_is : (y : Param-F S D P) → ParamIs (roll-Param (map-Param S D P Shape Declarator Param (λ a. a.0) (λ a. a.0) (λ a. a.0) y))
 param_is y =
     let x : Param-F Shape Declarator Param = map-Param S D P Shape Declarator Param (λ a. a.0) (λ a. a.0) (λ a. a.0) y in
-    subst ParamGrows (sym (fold-roll-Param Shapes Declarators Params shape_step declarator_step param_step x))
+    subst ParamDeclares (sym (fold-roll-Param Shapes Declarators Params shape_step declarator_step param_step x))
     (param_good (map-Param Shape Declarator Param Shapes Declarators Params designated parameter_declarator parameter x) y.name.1)
 
 pub shape_designates : (x : Shape) → ShapeDesignates (designated x)

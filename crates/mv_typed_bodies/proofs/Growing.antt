@@ -51,17 +51,38 @@ grows_block s t g = record {
   results = g.results;
 }
 
+-- ---- a scope that has no more locals
+
+pub record Declares (s t : Scope) : Type 0 where
+  pub grows : Grows s t
+  pub same : t.locals ≡ s.locals
+
+pub declares_same : (s : Scope) → Declares s s
+declares_same s = record { grows = grows_same s; same = refl }
+
+pub declares_joined : (s t u : Scope) → Declares s t → Declares t u → Declares s u
+declares_joined s t u g h = record { grows = grows_joined s t u g.grows h.grows; same = h.same ∙ g.same }
+
+pub declares_declared : (s : Scope) (name : List ℕ) (m : Meaning) → Declares s (declared s name m)
+declares_declared s name m = record { grows = grows_declared s name m; same = refl }
+
+pub declares_numbered : (result : CType) (params : List CType) (s : Scope) → IsPlain result → Declares s (numbered result params s).0
+declares_numbered result params s plain = record { grows = grows_numbered result params s plain; same = refl }
+
+pub declares_block : (s t : Scope) → Declares (block_entered s) t → Declares s (block_left t)
+declares_block s t g = record { grows = grows_block s t g.grows; same = g.same }
+
 -- ---- a scope in which only enumerators are new
 
 pub record Enumerates (s t : Scope) : Type 0 where
-  pub grows : Grows s t
+  pub declares : Declares s t
   pub names : (name : List ℕ) (m : Meaning) → meaning_of t name ≡ Some m → (meaning_of s name ≡ Some m) ⊎ ((v : ℕ) × (m ≡ meaning.Enumerator v))
 
 pub enumerates_same : (s : Scope) → Enumerates s s
-enumerates_same s = record { grows = grows_same s; names = λ name m h. inl h }
+enumerates_same s = record { declares = declares_same s; names = λ name m h. inl h }
 
 pub enumerates_joined : (s t u : Scope) → Enumerates s t → Enumerates t u → Enumerates s u
-enumerates_joined s t u g h = record { grows = grows_joined s t u g.grows h.grows; names = λ name m q. by name m (h.names name m q) }
+enumerates_joined s t u g h = record { declares = declares_joined s t u g.declares h.declares; names = λ name m q. by name m (h.names name m q) }
   where
     by : (name : List ℕ) (m : Meaning) → (meaning_of t name ≡ Some m) ⊎ ((v : ℕ) × (m ≡ meaning.Enumerator v)) →
         (meaning_of s name ≡ Some m) ⊎ ((v : ℕ) × (m ≡ meaning.Enumerator v))
@@ -69,7 +90,7 @@ enumerates_joined s t u g h = record { grows = grows_joined s t u g.grows h.grow
     by name m (inr q) = inr q
 
 pub enumerates_one : (s : Scope) (name : List ℕ) (v : ℕ) → Enumerates s (declared s name (meaning.Enumerator v))
-enumerates_one s name v = record { grows = grows_declared s name (meaning.Enumerator v); names = λ n m h. by n m (declared_means s name (meaning.Enumerator v) n m h) }
+enumerates_one s name v = record { declares = declares_declared s name (meaning.Enumerator v); names = λ n m h. by n m (declared_means s name (meaning.Enumerator v) n m h) }
   where
     by : (n : List ℕ) (m : Meaning) → (meaning_of s n ≡ Some m) ⊎ (meaning.Enumerator v ≡ m) → (meaning_of s n ≡ Some m) ⊎ ((w : ℕ) × (m ≡ meaning.Enumerator w))
     by n m (inl q) = inl q

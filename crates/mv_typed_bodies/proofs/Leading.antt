@@ -94,7 +94,7 @@ module _ (x : Property) where
   leads_renamed s t g n = record { grows = g; holds = λ w k. (later s t g (λ name m q. inl (same_meaning s t n name m q)) w k, tt) }
 
   pub leads_enumerated : (s t : Scope) → Enumerates s t → Leads s t (Unit {0})
-  leads_enumerated s t e = record { grows = e.grows; holds = λ w k. (later s t e.grows (λ name m q. by name m (e.names name m q)) w k, tt) }
+  leads_enumerated s t e = record { grows = e.declares.grows; holds = λ w k. (later s t e.declares.grows (λ name m q. by name m (e.names name m q)) w k, tt) }
     where
       by : (name : List ℕ) (m : Meaning) → (meaning_of s name ≡ Some m) ⊎ ((v : ℕ) × (m ≡ meaning.Enumerator v)) →
           (meaning_of s name ≡ Some m) ⊎ (IsMeant p f t.signatures m × x.of_name m)

@@ -13,6 +13,6 @@ mod Induction
 pub mod Values
 mod Forms
 pub mod Bodies
-mod Parameters
+pub mod Parameters
 pub mod SwitchBodies
 mod Typed

@@ -99,11 +99,14 @@ members_enumerate members s =
 
 only_tags : (s t : Scope) → t.names ≡ s.names → t.signatures ≡ s.signatures → t.locals ≡ s.locals → Enumerates s t
 only_tags s t n q l = record {
-  grows = record {
-    locals = subst (Keeps s.locals) (sym l) (keeps_same s.locals);
-    signatures = subst (Keeps s.signatures) (sym q) (keeps_same s.signatures);
-    around = ap (λ (x : NameSpace). x.around) n;
-    results = subst (λ z. AreListed s.signatures → AreListed z) (sym q) (λ h. h);
+  declares = record {
+    grows = record {
+      locals = subst (Keeps s.locals) (sym l) (keeps_same s.locals);
+      signatures = subst (Keeps s.signatures) (sym q) (keeps_same s.signatures);
+      around = ap (λ (x : NameSpace). x.around) n;
+      results = subst (λ z. AreListed s.signatures → AreListed z) (sym q) (λ h. h);
+    };
+    same = l;
   };
   names = λ name m h. inl (ap (λ x. unless_declared (sought x name) (known_function name)) (sym n) ∙ h);
 }

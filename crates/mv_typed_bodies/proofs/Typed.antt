@@ -1,5 +1,5 @@
 -- To be well typed is a property of statements that comes from their parts: so the bodies of functions that keep the rules are well typed.
-use Rattle.std.proofs.Common.{◌≡◌, ℕ, Bool, true, false, refl, if◌then◌else◌, List, [], ◌∷◌, ◌++◌, Option, Some, None, slice_get}
+use Rattle.std.proofs.Common.{◌≡◌, ℕ, Bool, true, false, refl, if◌then◌else◌, List, [], ◌∷◌, ◌++◌, length, Option, Some, None, slice_get}
 use Rattle.std.specs.List.{AllByRecursion}
 use Rattle.std.proofs.lemmas.List.Elements.{All-from_recursion}
 use Rattle.mv_ast.specs.declared.program.CType.{CType}
@@ -9,6 +9,10 @@ use Rattle.mv_ast.specs.declared.program.Local.{Local}
 use Rattle.mv_ast.specs.declared.program.Expr.{Expr}
 use Rattle.mv_ast.specs.declared.program.Stmt.{Stmt}
 use Rattle.mv_ast.specs.declared.unit.Line.{Line}
+use Rattle.mv_ast.specs.declared.unit.Param.{Param}
+use Rattle.mv_ast.specs.declared.program.CType.TheVariants.{Void}
+use Rattle.mv_declare.specs.Parameters.{parameters_judgement}
+use Rattle.mv_typed_bodies.proofs.Parameters.{Adds, parameters_lead, parameters_add}
 use Rattle.mv_scope.specs.declared.scope.Scope.{Scope}
 use Rattle.mv_scope.specs.Constants.{computed}
 use Rattle.mv_judge.specs.Judged.{Good}
@@ -18,8 +22,8 @@ use Rattle.mv_typing.specs.Soundness.{Fits, GoodIsTyped, EffectIsTyped}
 use Rattle.mv_statement_rules.specs.SwitchBodies.{arms_of}
 use Rattle.mv_typed_bodies.proofs.SwitchBodies.{BodiesHave, arms_have, label_leaves, statement_has}
 use Rattle.mv_statement_rules.specs.Statements.{body_judgement}
-use Rattle.mv_typed_bodies.specs.Bodies.{Keeps, Grows, IsTypedBehind}
-use Rattle.mv_typed_bodies.proofs.Judging.{by_good}
+use Rattle.mv_typed_bodies.specs.Bodies.{Keeps, Grows, IsTypedBehind, AddsScalars, AreParameters}
+use Rattle.mv_typed_bodies.proofs.Judging.{of_good, by_good}
 use Rattle.mv_typed_bodies.proofs.Property.{OfOption, Property}
 use Rattle.mv_typed_bodies.proofs.Conversions.{integer_is, converted_at, promoted_at}
 use Rattle.mv_typed_bodies.proofs.Values.{initials_have}
@@ -80,9 +84,29 @@ module _ (p : Program) (f : Function) where
     body_grows t r body s u ss q = (body_leads typed t r body s u ss q).grows
 
 -- whatever the program is
-pub any_grows : GoodIsTyped → EffectIsTyped → ((p : Program) (e : Expr) (v : ℕ) → computed e ≡ Some v → ComesTo p e v) →
-    (t : CType) (body : Line) (s u : Scope) (ss : List Stmt) → body_judgement t body s ≡ Good (u, ss) → Grows s u
-any_grows values effects comes t body s u ss q =
-    let p : Program = record { signatures = []; globals = []; functions = []; switches = []; main = 0 } in
-    let f : Function = record { name = []; attributed = false; result = t; params = 0; locals = []; switches = []; body = [] } in
-    body_grows p f values effects comes t refl body s u ss q
+module _ (values : GoodIsTyped) (effects : EffectIsTyped) (comes : (p : Program) (e : Expr) (v : ℕ) → computed e ≡ Some v → ComesTo p e v) where
+  abbrev no_program : Program
+  no_program = record { signatures = []; globals = []; functions = []; switches = []; main = 0 }
+
+  abbrev no_function : CType → Function
+  no_function t = record { name = []; attributed = false; result = t; params = 0; locals = []; switches = []; body = [] }
+
+  pub any_grows : (t : CType) (body : Line) (s u : Scope) (ss : List Stmt) → body_judgement t body s ≡ Good (u, ss) → Grows s u
+  any_grows t body s u ss q = body_grows no_program (no_function t) values effects comes t refl body s u ss q
+
+  params_lead : (p : Program) (f : Function) (params : List Param) (s u : Scope) → parameters_judgement s params ≡ Good u → Leads (typed p f values effects comes) s u (Unit {0})
+  params_lead p f params s u q =
+      of_good (λ t. Leads (typed p f values effects comes) s t (Unit {0})) (parameters_judgement s params) (parameters_lead (typed p f values effects comes) params s) u q
+
+  params_add : (params : List Param) (s u : Scope) → parameters_judgement s params ≡ Good u → AddsScalars (length params) s u
+  params_add params s u q =
+      let h = of_good (Adds (length params) s) (parameters_judgement s params) (parameters_add params s) u q in
+      (h.0, h.1, h.2, All-from_recursion (λ (l : Local). l.size ≡ None) h.0 h.3)
+
+  pub parameters_fit : (params : List Param) (s u : Scope) → parameters_judgement s params ≡ Good u → AreParameters s u (length params)
+  parameters_fit params s u q = record {
+    grows = (params_lead no_program (no_function Void) params s u q).grows;
+    scalars = params_add params s u q;
+    fits = λ p f signatures locals fits.
+        ((params_lead p f params s u q).holds (record { signatures = signatures; locals = locals }) (record { fits = fits; names = λ name m h. tt })).0.fits;
+  }

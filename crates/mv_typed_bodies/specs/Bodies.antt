@@ -1,13 +1,16 @@
 -- The bodies of functions that keep the rules are well typed.
-use Rattle.std.specs.Prelude.{◌≡◌, ℕ, All, List, Some, slice_get}
+use Rattle.std.specs.Prelude.{◌≡◌, ℕ, ◌++◌, All, List, length, Some, None, slice_get}
 use Rattle.mv_ast.specs.declared.program.CType.{CType}
 use Rattle.mv_ast.specs.declared.program.Program.{Program}
 use Rattle.mv_ast.specs.declared.program.Function.{Function}
+use Rattle.mv_ast.specs.declared.program.Local.{Local}
 use Rattle.mv_ast.specs.declared.program.Signature.{Signature}
 use Rattle.mv_ast.specs.declared.program.Stmt.{Stmt}
 use Rattle.mv_ast.specs.declared.unit.Line.{Line}
+use Rattle.mv_ast.specs.declared.unit.Param.{Param}
 use Rattle.mv_scope.specs.declared.scope.Scope.{Scope}
 use Rattle.mv_judge.specs.Judged.{Good}
+use Rattle.mv_declare.specs.Parameters.{parameters_judgement}
 use Rattle.mv_numbering.specs.Typing.{IsTypedStmt}
 use Rattle.mv_statement_rules.specs.Statements.{body_judgement}
 use Rattle.mv_typing.specs.Soundness.{IsListed, Fits}
@@ -41,3 +44,18 @@ abbrev pub BodyIsTyped : Type 0
 BodyIsTyped =
     (p : Program) (f : Function) (body : Line) (before after : Scope) (ss : List Stmt) → body_judgement f.result body before ≡ Good (after, ss) →
     Keeps after.signatures p.signatures → Keeps after.locals f.locals → Fits p f before → IsTypedBehind p f after ss
+
+-- ---- parameters
+
+-- so many scalars come behind the locals
+abbrev pub AddsScalars : ℕ → Scope → Scope → Type 0
+AddsScalars n before after = (more : List Local) × (after.locals ≡ before.locals ++ more) × (length more ≡ n) × All (λ l. l.size ≡ None) more
+
+-- The parameters of a function that is defined are scalars, and what the scope says holds behind them if it holds before them.
+pub record AreParameters (before after : Scope) (n : ℕ) : Type 0 where
+  pub grows : Grows before after
+  pub scalars : AddsScalars n before after
+  pub fits : (p : Program) (f : Function) → Keeps after.signatures p.signatures → Keeps after.locals f.locals → Fits p f before → Fits p f after
+
+abbrev pub ParametersFit : Type 0
+ParametersFit = (params : List Param) (before after : Scope) → parameters_judgement before params ≡ Good after → AreParameters before after (length params)

@@ -1,7 +1,7 @@
 //! The bodies of functions that keep the rules are well typed.
 #![tactic(auto)]
 
-ghost use Rattle.mv_typed_bodies.specs.Bodies.{BodyGrows, BodyIsTyped};
+ghost use Rattle.mv_typed_bodies.specs.Bodies.{BodyGrows, BodyIsTyped, ParametersFit};
 
 use mv_typing::{constants_come_to_their_values, good_expressions_are_typed};
 
@@ -10,6 +10,15 @@ use mv_typing::{constants_come_to_their_values, good_expressions_are_typed};
 pub fn good_bodies_are_typed()
     ensures grows { BodyGrows }
     ensures typed { BodyIsTyped }
+{
+    constants_come_to_their_values();
+    good_expressions_are_typed();
+}
+
+/// The parameters of a function that is defined (C11 6.9.1) are its next locals, and what the scope behind them says is so in each program and
+/// function that have the signatures and the locals behind them. The call does nothing: its contract is the law.
+pub fn good_parameters_fit()
+    ensures { ParametersFit }
 {
     constants_come_to_their_values();
     good_expressions_are_typed();
