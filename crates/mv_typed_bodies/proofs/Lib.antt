@@ -1,9 +1,9 @@
 pub mod Judging
-mod Places
-mod Names
-mod Growing
-mod Specified
-mod Designated
+pub mod Places
+pub mod Names
+pub mod Growing
+pub mod Specified
+pub mod Designated
 pub mod Property
 pub mod Leading
 mod Declared
