@@ -1,6 +1,7 @@
 -- The types of parameters come out the same where they are judged again in a later scope.
-use Rattle.std.proofs.Common.{◌≡◌, ℕ, suc, refl, sym, ◌∙◌, ap, subst, Bool, not, ◌&&◌, false, List, [], ◌∷◌, ◌++◌, map, length, Option, Some, None}
+use Rattle.std.proofs.Common.{◌≡◌, ℕ, suc, refl, sym, ◌∙◌, ap, subst, Bool, not, ◌&&◌, false, List, [], ◌∷◌, ◌++◌, map, length, drop, Option, Some, None}
 use Rattle.std.specs.List.{AllByRecursion}
+use Rattle.mv_num.specs.declared.kind.Kind.{Kind}
 use Rattle.mv_ast.specs.declared.place.Place.{Place}
 use Rattle.mv_ast.specs.declared.program.CType.{CType}
 use Rattle.mv_ast.specs.declared.program.CType.TheVariants.{Pointer}
@@ -8,7 +9,7 @@ use Rattle.mv_ast.specs.declared.program.Signature.{Signature}
 use Rattle.mv_ast.specs.declared.unit.Declarator.{Declarator, Declarator-F, roll-Declarator, map-Declarator, fold-roll-Declarator}
 use Rattle.mv_ast.specs.declared.unit.EnumSpec.{EnumSpec}
 use Rattle.mv_ast.specs.declared.unit.Node.{Node}
-use Rattle.mv_ast.specs.declared.unit.Param.{Param, Param-F, roll-Param, map-Param, fold-roll-Param}
+use Rattle.mv_ast.specs.declared.unit.Param.{Param, Param-F, roll-Param, map-Param, ind-Param, fold-roll-Param}
 use Rattle.mv_ast.specs.declared.unit.Shape.{Shape, Shape-F, roll-Shape, map-Shape, ind-Shape, fold-roll-Shape}
 use Rattle.mv_ast.specs.declared.unit.Shape.TheOpen as shape
 use Rattle.mv_ast.specs.declared.unit.Specs.{Specs, out-Specs}
@@ -18,12 +19,13 @@ use Rattle.mv_scope.specs.Scoped.{block_entered, block_left}
 use Rattle.mv_scope.specs.Signatures.{place_of, with_signature}
 use Rattle.mv_judge.specs.Judged.{Judged, Good, Broken, and_then}
 use Rattle.mv_judge.specs.TypeNames.{named_type, any_is, undeclared_enum, type_or_broken, type_of}
+use Rattle.mv_declare.specs.declared.attributes.Holder.{Holder}
 use Rattle.mv_declare.specs.declared.attributes.Position.{Position}
 use Rattle.mv_declare.specs.declared.attributes.Position.TheVariants as position
 use Rattle.mv_declare.specs.declared.declarators.Entity.{Entity}
 use Rattle.mv_declare.specs.declared.declarators.Entity.TheVariants as entity
 use Rattle.mv_declare.specs.declared.specifiers.Specified.{Specified}
-use Rattle.mv_declare.specs.Attributes.{attributes, nothing_holds}
+use Rattle.mv_declare.specs.Attributes.{attributes, holder_of_all, nothing_holds}
 use Rattle.mv_declare.specs.Declarators.{signature_of, numbered, function_type, Shapes, Declarators, Params, size_of, shape_step, is_taken_by, parameter_declared, parameter_of, new_parameter, declarator_step, param_step, designated, parameter, parameter_declarator}
 use Rattle.mv_declare.specs.Specifiers.{at_file, type_by_rules, specifiers, enum_specifiers, kind_of}
 use Rattle.mv_declare.specs.Turns.{next_part, in_turn}
@@ -77,8 +79,12 @@ rules_name position again specs s =
 
 specifiers_name : (position : Position) (names : List Declarator) (specs : Specs) (s : Scope) → IfGood (specifiers position names specs s) (λ d. Names specs d.1.ctype)
 specifiers_name position names specs s =
-    if_then (λ x. Unit {0}) (λ d. Names specs d.1.ctype) (enum_specifiers _ _ _ _ s) _ (if_any _) (λ x e.
-    if_then (λ a. Unit {0}) (λ d. Names specs d.1.ctype) (attributes _ _ x.0 _ x.1.attribute) _ (if_any _) (λ a u.
+    let f = out-Specs specs in
+    let h : Holder = holder_of_all position f.fixed names in
+    let k : Option Kind = kind_of (type_of s specs) in
+    if_then (λ x. Unit {0}) (λ d. Names specs d.1.ctype) (enum_specifiers h k f.marks f.tags s) _ (if_any (enum_specifiers h k f.marks f.tags s)) (λ x e.
+    let given = attributes h k x.0 (drop x.1.used f.marks) x.1.attribute in
+    if_then (λ a. Unit {0}) (λ d. Names specs d.1.ctype) given _ (if_any given) (λ a u.
     if_then (Names specs) (λ d. Names specs d.1.ctype) (type_by_rules position x.1.again specs x.0) _ (rules_name position x.1.again specs x.0) (λ t p. p)))
 
 pub same_ctype : (p q : Position) (ns ms : List Declarator) (specs : Specs) (s u : Scope) (d e : Scope × Specified) →
@@ -262,3 +268,122 @@ shape_agrees (shape.PointerArray constant size params) h t f g s u d e q r k =
 
 shape_has : (x : Shape-F Shapes Declarators Params) → ShapeParts x → ShapeHas (shape_step x)
 shape_has x h = record { keeps = shape_keeps x h; agrees = shape_agrees x h }
+
+-- ---- parameters of declarations
+
+declared_signatures : (name : Option (List ℕ)) (t : CType) (fixed : Bool) (s : Scope) → (parameter_declared name t fixed s).signatures ≡ s.signatures
+declared_signatures None t fixed s = refl
+declared_signatures (Some name) t fixed s = refl
+
+abbrev Gives : Entity → Scope → Scope × CType → Type 0
+Gives e s d = (type_in e ≡ Some d.1) × (d.0.signatures ≡ s.signatures)
+
+parameter_gives : (place : Place) (name : Option (List ℕ)) (e : Entity) (s : Scope) → IfGood (parameter_of place name e s) (Gives e s)
+parameter_gives place name (entity.Scalar t fixed) s =
+    if_kept (Gives (entity.Scalar t fixed) s) (is_void t) place 8 (Good (parameter_declared name t fixed s, t)) (λ q. (refl, declared_signatures name t fixed s))
+parameter_gives place name (entity.Array t fixed size) s = tt
+parameter_gives place name (entity.Function f) s = tt
+
+new_gives : (place : Place) (name : Option (List ℕ)) (e : Entity) (s : Scope) → IfGood (new_parameter place name e s) (Gives e s)
+unfolding new_parameter
+new_gives place name e s = if_kept (Gives e s) (is_taken_by s name) place 2 (parameter_of place name e s) (λ q. parameter_gives place name e s)
+
+record IsOne (x : Declarator-F Shapes Declarators Params) (b : Specified) (s : Scope) (d : Scope × CType) : Type 0 where
+  entity : Scope × Entity
+  judged : x.shape b.ctype b.fixed s ≡ Good entity
+  type : type_in entity.1 ≡ Some d.1
+  signatures : d.0.signatures ≡ entity.0.signatures
+
+declarator_good : (x : Declarator-F Shapes Declarators Params) (b : Specified) (s : Scope) (d : Scope × CType) → declarator_step x b s ≡ Good d → IsOne x b s d
+declarator_good x b s d q =
+    let m = then_good (x.shape b.ctype b.fixed s) (λ e. and_then (attributes nothing_holds None e.0 x.marks b.attribute) (λ a. new_parameter x.place x.name e.1 e.0)) d q in
+    let a = then_good (attributes nothing_holds None m.0.0 x.marks b.attribute) (λ a. new_parameter x.place x.name m.0.1 m.0.0) d m.2 in
+    let g = of_good (Gives m.0.1 m.0.0) (new_parameter x.place x.name m.0.1 m.0.0) (new_gives x.place x.name m.0.1 m.0.0) d a.2 in
+    record { entity = m.0; judged = m.1; type = g.0; signatures = g.1 }
+
+same_some : (x y : CType) → Some x ≡ Some y → x ≡ y
+same_some x y r = cc
+
+declarator_has : (x : Declarator-F Shapes Declarators Params) → ShapeHas x.shape → DeclaratorHas (declarator_step x)
+declarator_has x h = record {
+  keeps = λ b s d q.
+      let y = declarator_good x b s d q in
+      subst (λ z. Keeps s.signatures z) (sym y.signatures) (h.keeps b.ctype b.fixed s y.entity y.judged);
+  agrees = λ b c s u d e same q r k.
+      let y = declarator_good x b s d q in
+      let z = declarator_good x c u e r in
+      same_some d.1 e.1 (sym y.type ∙ (h.agrees c.ctype b.fixed c.fixed s u y.entity z.entity (subst (λ t. x.shape t b.fixed s ≡ Good y.entity) same y.judged) z.judged
+      (subst (λ v. Keeps v u.signatures) y.signatures k) ∙ z.type));
+}
+
+param_has : (x : Param-F Shapes Declarators Params) → DeclaratorHas x.name → ParamHas (param_step x)
+param_has x h = record {
+  keeps = λ s d q.
+      let m = then_good (specifiers position.Parameter [] x.specs s) (λ b. x.name b.1 b.0) d q in
+      keeps_joined s.signatures m.0.0.signatures d.0.signatures (specifiers_keep position.Parameter [] x.specs s m.0 m.1) (h.keeps m.0.1 m.0.0 d m.2);
+  agrees = λ s u d e q r k.
+      let m = then_good (specifiers position.Parameter [] x.specs s) (λ b. x.name b.1 b.0) d q in
+      let n = then_good (specifiers position.Parameter [] x.specs u) (λ b. x.name b.1 b.0) e r in
+      h.agrees m.0.1 n.0.1 m.0.0 n.0.0 d e (same_ctype position.Parameter position.Parameter [] [] x.specs s u m.0 n.0 m.1 n.1) m.2 n.2
+      (keeps_joined d.0.signatures u.signatures n.0.0.signatures k (specifiers_keep position.Parameter [] x.specs u n.0 n.1));
+}
+
+-- ---- by induction over the declarator
+
+abbrev ShapeIs : Shape → Type 0
+ShapeIs x = ShapeHas (designated x)
+
+abbrev DeclaratorIs : Declarator → Type 0
+DeclaratorIs x = DeclaratorHas (parameter_declarator x)
+
+abbrev ParamIs : Param → Type 0
+ParamIs x = ParamHas (parameter x)
+
+abbrev S : Type 0
+S = (x : Shape) × ShapeIs x
+
+abbrev D : Type 0
+D = (x : Declarator) × DeclaratorIs x
+
+abbrev P : Type 0
+P = (x : Param) × ParamIs x
+
+params_are : (xs : List P) → AllByRecursion ParamHas (map parameter (map (λ (x : P). x.0) xs))
+params_are [] = tt
+params_are (x ∷ xs) = (x.1, params_are xs)
+
+shape_is : (y : Shape-F S D P) → ShapeIs (roll-Shape (map-Shape S D P Shape Declarator Param (λ a. a.0) (λ a. a.0) (λ a. a.0) y))
+shape_is y =
+    let x : Shape-F Shape Declarator Param = map-Shape S D P Shape Declarator Param (λ a. a.0) (λ a. a.0) (λ a. a.0) y in
+    subst ShapeHas (sym (fold-roll-Shape Shapes Declarators Params shape_step declarator_step param_step x))
+    (shape_has (map-Shape Shape Declarator Param Shapes Declarators Params designated parameter_declarator parameter x) (parts y))
+  where
+    parts : (z : Shape-F S D P) →
+        ShapeParts (map-Shape Shape Declarator Param Shapes Declarators Params designated parameter_declarator parameter (map-Shape S D P Shape Declarator Param (λ a. a.0) (λ a. a.0) (λ a. a.0) z))
+    parts shape.Plain = tt
+    parts (shape.Array size) = tt
+    parts (shape.Function params) = params_are params
+    parts (shape.Pointer constant params) = params_are params
+    parts (shape.PointerArray constant size params) = params_are params
+
+declarator_is : (y : Declarator-F S D P) → DeclaratorIs (roll-Declarator (map-Declarator S D P Shape Declarator Param (λ a. a.0) (λ a. a.0) (λ a. a.0) y))
+declarator_is y =
+    let x : Declarator-F Shape Declarator Param = map-Declarator S D P Shape Declarator Param (λ a. a.0) (λ a. a.0) (λ a. a.0) y in
+    subst DeclaratorHas (sym (fold-roll-Declarator Shapes Declarators Params shape_step declarator_step param_step x))
+    (declarator_has (map-Declarator Shape Declarator Param Shapes Declarators Params designated parameter_declarator parameter x) y.shape.1)
+
+param_is : (y : Param-F S D P) → ParamIs (roll-Param (map-Param S D P Shape Declarator Param (λ a. a.0) (λ a. a.0) (λ a. a.0) y))
+param_is y =
+    let x : Param-F Shape Declarator Param = map-Param S D P Shape Declarator Param (λ a. a.0) (λ a. a.0) (λ a. a.0) y in
+    subst ParamHas (sym (fold-roll-Param Shapes Declarators Params shape_step declarator_step param_step x))
+    (param_has (map-Param Shape Declarator Param Shapes Declarators Params designated parameter_declarator parameter x) y.name.1)
+
+pub every_shape : (x : Shape) → ShapeIs x
+every_shape x =
+    ind-Shape ShapeIs DeclaratorIs ParamIs (λ x y q. subst (λ z. ShapeIs (roll-Shape z)) q (shape_is y))
+    (λ x y q. subst (λ z. DeclaratorIs (roll-Declarator z)) q (declarator_is y)) (λ x y q. subst (λ z. ParamIs (roll-Param z)) q (param_is y)) x
+
+pub every_param : (x : Param) → ParamIs x
+every_param x =
+    ind-Param ShapeIs DeclaratorIs ParamIs (λ x y q. subst (λ z. ShapeIs (roll-Shape z)) q (shape_is y))
+    (λ x y q. subst (λ z. DeclaratorIs (roll-Declarator z)) q (declarator_is y)) (λ x y q. subst (λ z. ParamIs (roll-Param z)) q (param_is y)) x
