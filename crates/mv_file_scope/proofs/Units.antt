@@ -1,9 +1,11 @@
 -- Contents stay sound through the declarations of a unit.
-use Rattle.std.proofs.Common.{◌≡◌, ℕ, inl, refl, sym, ◌∙◌, ap, subst, Bool, true, false, is_some, if◌then◌else◌, List, [], ◌∷◌, map, length, All, Option, Some, None}
+use Rattle.std.proofs.Common.{◌≡◌, ℕ, zero, suc, inl, refl, sym, ◌∙◌, ap, subst, Bool, true, false, is_some, if◌then◌else◌, List, [], ◌∷◌, map, length, replicate, All, Option, Some, None, slice_get}
 use Rattle.std.specs.List.{AllByRecursion}
 use Rattle.std.proofs.lemmas.List.Elements.{recursion_from_All}
 use Rattle.mv_ast.specs.declared.program.CType.{CType}
 use Rattle.mv_ast.specs.declared.program.CType.TheVariants.{Pointer}
+use Rattle.mv_ast.specs.declared.program.Function.{Function}
+use Rattle.mv_ast.specs.declared.program.Signature.{Signature}
 use Rattle.mv_ast.specs.declared.unit.Declarator.{Declarator}
 use Rattle.mv_ast.specs.declared.unit.Item.{Item}
 use Rattle.mv_ast.specs.declared.unit.Line.{Line}
@@ -11,6 +13,7 @@ use Rattle.mv_ast.specs.declared.unit.Param.{Param, Param-F}
 use Rattle.mv_ast.specs.declared.unit.Shape.{Shape, Shape-F, out-Shape, roll-Shape, map-Shape, fold-roll-Shape, roll-out-Shape}
 use Rattle.mv_ast.specs.declared.unit.Shape.TheOpen as shape
 use Rattle.mv_ast.specs.declared.unit.Specs.{out-Specs}
+use Rattle.mv_scope.specs.declared.meaning.Meaning.{Meaning}
 use Rattle.mv_scope.specs.declared.scope.Scope.{Scope}
 use Rattle.mv_judge.specs.Judged.{Judged, Good, Broken, and_then}
 use Rattle.mv_outline.specs.Names.{place_of}
@@ -35,12 +38,14 @@ use Rattle.mv_typed_bodies.proofs.Growing.{declares_same, declares_joined}
 use Rattle.mv_typed_bodies.proofs.Designated.{Designates, IsListedEntity, shape_designates}
 use Rattle.mv_types.specs.declared.contents.Contents.{Contents}
 use Rattle.mv_types.specs.declared.contents.Foreknown.{Foreknown}
-use Rattle.mv_types.specs.Contents.{in_scope}
+use Rattle.mv_types.specs.Contents.{in_scope, nothing_declared}
 use Rattle.mv_types.specs.Functions.{params_of, params_of_form, body_entered, body_left, definition_parameters}
 use Rattle.mv_types.specs.Objects.{domain_by}
 use Rattle.mv_types.specs.Units.{by_entity, named_declarator, base_of, declarator_judgement, holders, declares_nothing, names_judgement, item_judgement}
 use Rattle.mv_file_scope.specs.Declared.{IsSound}
+use Rattle.mv_file_scope.specs.Defined.{WereDefined}
 use Rattle.mv_file_scope.specs.Laws.{IsSoundBehind, IsForeknown}
+use Rattle.mv_file_scope.proofs.Lists.{nothing_there}
 use Rattle.mv_file_scope.proofs.Extending.{To, to_same, to_joined}
 use Rattle.mv_file_scope.proofs.Widening.{Widens, names_same, names_joined, specifiers_widen, widens_sound}
 use Rattle.mv_file_scope.proofs.Agreeing.{then_good, good_same}
@@ -190,3 +195,31 @@ module _ (fit : ParametersFit) (grow : BodyGrows) (k : Foreknown) where
 
   pub items_sound : (is : List Item) → AllByRecursion (IsForeknown k) is → (c : Contents) → IfGood (through (item_judgement k) is c) (To k c)
   items_sound is h c = if_through (item_judgement k) (To k) (IsForeknown k) (to_same k) (to_joined k) (λ i g t. item_sound i g t) is h c
+
+-- ---- the start
+
+replicate_length : {A : Type 0} (n : ℕ) (a : A) → length (replicate n a) ≡ n
+replicate_length zero a = refl
+replicate_length (suc n) a = ap suc (replicate_length n a)
+
+none_defined : (k : Foreknown) (g : ℕ) (f : Function) → slice_get (nothing_declared k).functions g ≡ Some (Some f) → ⊥
+none_defined k g f q = nothing_there (length k.outline.functions) g f q
+
+pub sound_start : (k : Foreknown) → IsSound k (nothing_declared k)
+sound_start k = record {
+  around = refl;
+  locals = refl;
+  results = λ n s q. absurd (no_signature n s q);
+  count = replicate_length (length k.outline.functions) None;
+  names = λ name m q. absurd (no_name m q);
+  functions = λ g f q. absurd (none_defined k g f q);
+}
+  where
+    no_signature : (n : ℕ) (s : Signature) → slice_get [] n ≡ Some s → ⊥
+    no_signature n s q = absurd (cc)
+
+    no_name : (m : Meaning) → None ≡ Some m → ⊥
+    no_name m q = absurd (cc)
+
+pub defined_start : (k : Foreknown) → WereDefined k (nothing_declared k)
+defined_start k g f q = absurd (none_defined k g f q)

@@ -50,7 +50,9 @@ abbrev pub AreBehind : List Item → Contents → Type 0
 AreBehind items c = let k = foreknown items in through (item_judgement k) items (nothing_declared k) ≡ Good c
 
 abbrev pub FileScopeIsSound : Type 0
-FileScopeIsSound = (items : List Item) (c : Contents) → AreBehind items c → IsSound (foreknown items) c × WereDefined (foreknown items) c
+FileScopeIsSound =
+    (items : List Item) (c : Contents) → All (IsForeknown (foreknown items)) items → AreBehind items c →
+    IsSound (foreknown items) c × WereDefined (foreknown items) c
 
 -- ---- at the end
 
