@@ -137,7 +137,7 @@ module _ (fit : ParametersFit) (grow : BodyGrows) where
   built_good k name result params body s d q =
       let attributed : Bool = is_attributed k name in
       let p = then_good (parameters_judgement (body_entered attributed s) params)
-          (λ p. and_then (body_judgement result body p) (λ b. Good (left_with name attributed result (length params) b.1 b.0))) d q in
+      (λ p. and_then (body_judgement result body p) (λ b. Good (left_with name attributed result (length params) b.1 b.0))) d q in
       let b = then_good (body_judgement result body p.0) (λ b. Good (left_with name attributed result (length params) b.1 b.0)) d p.2 in
       record { first = p.0; parameters = p.1; behind = b.0; judged = b.1; built = good_same (left_with name attributed result (length params) b.0.1 b.0.0) d b.2 }
 
@@ -308,12 +308,16 @@ module _ (fit : ParametersFit) (grow : BodyGrows) (k : Foreknown) (d : Declarato
   there = Scoped k name signature c before builtin
 
   declared_sound : To k c there
-  declared_sound = like_sound k c there (scope_like k name signature c before builtin (its c.scope.signatures result (params_of d) signature number,
-      its_there c.scope.signatures result (params_of d) signature number))
+  declared_sound = like_sound k c there (scope_like k name signature c before builtin (
+    its c.scope.signatures result (params_of d) signature number,
+    its_there c.scope.signatures result (params_of d) signature number,
+  ))
 
   same_signatures : Keeps c.scope.signatures there.scope.signatures
-  same_signatures = (scope_like k name signature c before builtin (its c.scope.signatures result (params_of d) signature number,
-      its_there c.scope.signatures result (params_of d) signature number)).extends.signatures
+  same_signatures = (scope_like k name signature c before builtin (
+    its c.scope.signatures result (params_of d) signature number,
+    its_there c.scope.signatures result (params_of d) signature number,
+  )).extends.signatures
 
   same_functions : there.functions ≡ c.functions
   same_functions = refl

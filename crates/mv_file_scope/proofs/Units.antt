@@ -116,7 +116,7 @@ file_good : (b : Specified) (d : Declarator) (s : Scope) (e : Scope × Designate
     designated d.shape b.ctype b.fixed s ≡ Good (e.0, e.1.entity)
 file_good b d s e q =
     let m = then_good (designated d.shape b.ctype b.fixed s) (λ z.
-        and_then (attributes (holder_of position.File b.fixed d) (scalar_kind b.ctype) z.0 d.marks b.attribute) (λ a. Good (z.0, record { entity = z.1; attribute = a }))) e q in
+    and_then (attributes (holder_of position.File b.fixed d) (scalar_kind b.ctype) z.0 d.marks b.attribute) (λ a. Good (z.0, record { entity = z.1; attribute = a }))) e q in
     let a = then_good (attributes (holder_of position.File b.fixed d) (scalar_kind b.ctype) m.0.0 d.marks b.attribute) (λ a. Good (m.0.0, record { entity = m.0.1; attribute = a })) e m.2 in
     m.1 ∙ ap (λ (z : Scope × Designated). Good (z.0, z.1.entity)) (good_same (m.0.0, record { entity = m.0.1; attribute = a.0 }) e a.2)
 
@@ -169,7 +169,7 @@ module _ (fit : ParametersFit) (grow : BodyGrows) (k : Foreknown) where
       let z = of_good (Designates m.0) (designated d.shape b.ctype f m.0) (shape_designates d.shape b.ctype f m.0 plain) (e.0.0, e.0.1.entity) g in
       let w = widens_joined c.scope m.0 e.0.0 (definition_widens d body c.scope m.0 s.locals m.1) (record { declares = z.declares; names = names_same m.0 e.0.0 z.names }) in
       let rest = of_good (To k (in_scope c e.0.0)) (named_declarator k b body d d.name e.0.1 (in_scope c e.0.0))
-          (named_sound b f body d d.name e.0.1 m.0 (in_scope c e.0.0) g z.listed refl known) after e.2 in
+      (named_sound b f body d d.name e.0.1 m.0 (in_scope c e.0.0) g z.listed refl known) after e.2 in
       to_joined k c (in_scope c e.0.0) after (λ t. widens_sound k c e.0.0 w t) rest s)
 
   -- ---- an item

@@ -4,7 +4,7 @@
 //! is what the program at the end has (`specs/Laws.antt`).
 #![tactic(auto)]
 
-ghost use Rattle.mv_file_scope.specs.Laws.{FileScopeFits, FileScopeIsSound, FunctionsAreTyped, ItemIsSound};
+ghost use Rattle.mv_file_scope.specs.Laws.{FileScopeFits, FileScopeIsSound, FunctionsAreTyped, ItemIsSound, ItemsAreForeknown};
 
 use mv_typed_bodies::{good_bodies_are_typed, good_parameters_fit};
 
@@ -17,10 +17,10 @@ pub fn good_declarations_are_sound()
     good_parameters_fit();
 }
 
-/// What the declarations of a unit come to is sound where they keep the rules, and each function was defined in sound contents. The call does
-/// nothing: its contract is the law.
+/// What the declarations of a unit come to is sound where they keep the rules, and each function was defined in sound contents, once
+/// each function that an item defines has a number. The call does nothing: its contract is the law.
 pub fn good_units_are_sound()
-    ensures { FileScopeIsSound }
+    ensures { ItemsAreForeknown → FileScopeIsSound }
 {
     good_bodies_are_typed();
     good_parameters_fit();
