@@ -9,7 +9,7 @@ use Rattle.mv_ast.specs.declared.unit.Param.{Param, Param-F, fold-roll-Param}
 use Rattle.mv_ast.specs.declared.unit.Shape.{Shape}
 use Rattle.mv_scope.specs.declared.scope.Scope.{Scope}
 use Rattle.mv_scope.specs.Conversions.{is_void}
-use Rattle.mv_judge.specs.Judged.{Judged, Good, and_then}
+use Rattle.mv_judge.specs.Judged.{Good, and_then}
 use Rattle.mv_declare.specs.declared.attributes.Position.TheVariants as position
 use Rattle.mv_declare.specs.declared.declarators.Entity.{Entity}
 use Rattle.mv_declare.specs.declared.declarators.Entity.TheVariants as entity
@@ -22,10 +22,10 @@ use Rattle.mv_declare.specs.Specifiers.{specifiers}
 use Rattle.mv_declare.specs.Turns.{in_turn, next_part, through}
 use Rattle.mv_typed_bodies.specs.Bodies.{Keeps}
 use Rattle.mv_typed_bodies.proofs.Judging.{IfGood, of_good, if_kept}
-use Rattle.mv_typed_bodies.proofs.Places.{keeps_same, keeps_joined}
+use Rattle.mv_typed_bodies.proofs.Places.{keeps_joined}
 use Rattle.mv_typed_bodies.proofs.Specified.{Specifies, specifiers_specify}
 use Rattle.mv_typed_bodies.proofs.Designated.{Designates, shape_designates}
-use Rattle.mv_file_scope.proofs.Agreeing.{then_good, good_same, same_ctype, specifiers_keep, type_in, Types, IsNext, part_good, parts_keep, IsOne, declarator_good, same_some, every_shape, params_have}
+use Rattle.mv_file_scope.proofs.Agreeing.{then_good, good_same, same_ctype, type_in, Types, part_good, parts_keep, IsOne, declarator_good, same_some, every_shape, params_have}
 
 -- ---- a parameter of a definition
 

@@ -1,12 +1,9 @@
 -- The functions of the program at the end are well typed.
-use Rattle.std.proofs.Common.{◌≡◌, ℕ, refl, sym, ◌∙◌, ap, subst, Bool, List, length, map, All, Option, Some, None, slice_get}
+use Rattle.std.proofs.Common.{◌≡◌, ℕ, refl, sym, ◌∙◌, ap, subst, Bool, length, All, Some, slice_get}
 use Rattle.std.proofs.lemmas.List.Elements.{All-from_recursion}
 use Rattle.mv_ast.specs.declared.program.Function.{Function}
 use Rattle.mv_ast.specs.declared.program.Program.{Program}
-use Rattle.mv_ast.specs.declared.program.Stmt.{Stmt}
-use Rattle.mv_ast.specs.declared.program.Switch.{Switch}
 use Rattle.mv_scope.specs.declared.scope.Scope.{Scope}
-use Rattle.mv_scope.specs.Scoped.{meaning_of, block_entered}
 use Rattle.mv_numbering.specs.Typing.{IsTypedStmt}
 use Rattle.mv_typing.specs.Soundness.{Fits}
 use Rattle.mv_typed_bodies.specs.Bodies.{Keeps, BodyGrows, BodyIsTyped, ParametersFit}
@@ -18,7 +15,7 @@ use Rattle.mv_types.specs.Contents.{present, switches_from}
 use Rattle.mv_types.specs.Foreknown.{is_attributed}
 use Rattle.mv_types.specs.Functions.{body_entered, left_with}
 use Rattle.mv_types.specs.Units.{with_switches, program_of}
-use Rattle.mv_file_scope.specs.Declared.{Extends, IsSound}
+use Rattle.mv_file_scope.specs.Declared.{IsSound}
 use Rattle.mv_file_scope.specs.Defined.{WasDefined, WereDefined}
 use Rattle.mv_file_scope.specs.Laws.{AllAreDefined}
 use Rattle.mv_file_scope.proofs.Lists.{all_from, mapped_back, present_back}

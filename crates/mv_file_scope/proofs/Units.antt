@@ -1,5 +1,5 @@
 -- Contents stay sound through the declarations of a unit.
-use Rattle.std.proofs.Common.{◌≡◌, ℕ, zero, suc, inl, refl, sym, ◌∙◌, ap, subst, Bool, true, false, is_some, if◌then◌else◌, List, [], ◌∷◌, map, length, replicate, All, Option, Some, None, slice_get}
+use Rattle.std.proofs.Common.{◌≡◌, ℕ, zero, suc, refl, sym, ◌∙◌, ap, subst, Bool, true, false, is_some, List, [], ◌∷◌, map, length, replicate, Option, Some, None, slice_get}
 use Rattle.std.specs.List.{AllByRecursion}
 use Rattle.std.proofs.lemmas.List.Elements.{recursion_from_All}
 use Rattle.mv_ast.specs.declared.program.CType.{CType}
@@ -9,13 +9,13 @@ use Rattle.mv_ast.specs.declared.program.Signature.{Signature}
 use Rattle.mv_ast.specs.declared.unit.Declarator.{Declarator}
 use Rattle.mv_ast.specs.declared.unit.Item.{Item}
 use Rattle.mv_ast.specs.declared.unit.Line.{Line}
-use Rattle.mv_ast.specs.declared.unit.Param.{Param, Param-F}
-use Rattle.mv_ast.specs.declared.unit.Shape.{Shape, Shape-F, out-Shape, roll-Shape, map-Shape, fold-roll-Shape, roll-out-Shape}
+use Rattle.mv_ast.specs.declared.unit.Param.{Param}
+use Rattle.mv_ast.specs.declared.unit.Shape.{Shape, Shape-F, out-Shape, map-Shape, fold-roll-Shape, roll-out-Shape}
 use Rattle.mv_ast.specs.declared.unit.Shape.TheOpen as shape
 use Rattle.mv_ast.specs.declared.unit.Specs.{out-Specs}
 use Rattle.mv_scope.specs.declared.meaning.Meaning.{Meaning}
 use Rattle.mv_scope.specs.declared.scope.Scope.{Scope}
-use Rattle.mv_judge.specs.Judged.{Judged, Good, Broken, and_then}
+use Rattle.mv_judge.specs.Judged.{Good, and_then}
 use Rattle.mv_outline.specs.Names.{place_of}
 use Rattle.mv_outline.specs.Outlined.{is_function, is_function_form, name_of}
 use Rattle.mv_declare.specs.declared.attributes.Attribute.{Attribute}
@@ -44,13 +44,13 @@ use Rattle.mv_types.specs.Objects.{domain_by}
 use Rattle.mv_types.specs.Units.{by_entity, named_declarator, base_of, declarator_judgement, holders, declares_nothing, names_judgement, item_judgement}
 use Rattle.mv_file_scope.specs.Declared.{IsSound}
 use Rattle.mv_file_scope.specs.Defined.{WereDefined}
-use Rattle.mv_file_scope.specs.Laws.{IsSoundBehind, IsForeknown}
+use Rattle.mv_file_scope.specs.Laws.{IsForeknown}
 use Rattle.mv_file_scope.proofs.Lists.{nothing_there}
 use Rattle.mv_file_scope.proofs.Extending.{To, to_same, to_joined}
 use Rattle.mv_file_scope.proofs.Widening.{Widens, names_same, names_joined, specifiers_widen, widens_sound}
 use Rattle.mv_file_scope.proofs.Agreeing.{then_good, good_same}
 use Rattle.mv_file_scope.proofs.Objects.{object_sound}
-use Rattle.mv_file_scope.proofs.Functions.{HasNumber, block_widens, function_sound}
+use Rattle.mv_file_scope.proofs.Functions.{block_widens, function_sound}
 
 widens_same : (s : Scope) → Widens s s
 widens_same s = record { declares = declares_same s; names = names_same s s refl }
