@@ -1,0 +1,12 @@
+pub mod Lists
+pub mod Named
+pub mod Signatures
+pub mod Extending
+pub mod Widening
+pub mod Agreeing
+pub mod Parameters
+pub mod Objects
+pub mod Functions
+pub mod Units
+pub mod Fitting
+pub mod Typing
