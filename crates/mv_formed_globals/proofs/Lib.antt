@@ -1,0 +1,11 @@
+mod Tests
+pub mod Values
+pub mod Words
+mod Domains
+mod Specified
+mod Designated
+pub mod Objects
+mod Switches
+mod Units
+mod Nulls
+mod FirstWords

@@ -1,0 +1,172 @@
+-- The objects of a unit: each is a well-formed global, and an integer scalar where it has a domain.
+use Rattle.std.proofs.Common.{◌≡◌, ℕ, ◌≤◌, refl, sym, ◌∙◌, ap, subst, Bool, true, false, not, ◌&&◌, ◌||◌, is_some, is_none, nat_eq, if◌then◌else◌, List, [], ◌∷◌, ◌++◌, length, Option, Some, None, slice_get, slice_set, All}
+use Rattle.std.specs.List.{AllByRecursion}
+use Rattle.std.proofs.lemmas.List.Elements.{All-from_recursion}
+use Rattle.mv_ast.specs.declared.place.Place.{Place}
+use Rattle.mv_ast.specs.declared.program.CType.{CType}
+use Rattle.mv_ast.specs.declared.program.CType.TheVariants.{Void, Scalar, Pointer}
+use Rattle.mv_ast.specs.declared.program.Local.{Local}
+use Rattle.mv_ast.specs.declared.unit.Declarator.{Declarator}
+use Rattle.mv_ast.specs.declared.unit.Initial.{Initial}
+use Rattle.mv_ast.specs.Actions.{is_value_of}
+use Rattle.mv_scope.specs.declared.meaning.Meaning.{Meaning}
+use Rattle.mv_scope.specs.declared.scope.Scope.{Scope}
+use Rattle.mv_scope.specs.Conversions.{is_void, same_type}
+use Rattle.mv_scope.specs.Spaces.{named}
+use Rattle.mv_judge.specs.Judged.{Judged, Good, Broken}
+use Rattle.mv_declare.specs.declared.declarators.Entity.{Entity}
+use Rattle.mv_declare.specs.declared.declarators.Entity.TheVariants as entity
+use Rattle.mv_declare.specs.Globals.{object_type, global_words}
+use Rattle.mv_declare.specs.Locals.{scalar}
+use Rattle.mv_numbering.specs.Typing.{IsInteger}
+use Rattle.mv_lowered_programs.specs.WellFormed.{IsWellFormedGlobal}
+use Rattle.mv_types.specs.declared.contents.Contents.{Contents}
+use Rattle.mv_types.specs.declared.contents.Foreknown.{Foreknown}
+use Rattle.mv_types.specs.declared.contents.Object.{Object}
+use Rattle.mv_types.specs.Objects.{number_of, object_at, same_size, same_domain, agrees, agrees_with, may_declare, broken_rule, unless_broken, type_by_rules, object_scope, new_object, either_domain, again, replaced, objects_again, with_new, objects_behind, initialised, object_behind, object_judgement}
+use Rattle.mv_typed_bodies.proofs.Judging.{IfGood, if_then, if_kept, if_more, and_true, all_last}
+use Rattle.mv_formed_globals.proofs.Tests.{same_number, same_is, all_at, all_set}
+use Rattle.mv_formed_globals.proofs.Values.{IsOf}
+use Rattle.mv_formed_globals.proofs.Words.{AreOf, AreWords, words_are}
+use Rattle.mv_formed_globals.proofs.Domains.{IsDomain}
+use Rattle.mv_formed_globals.proofs.Specified.{IsVoidOrInteger}
+use Rattle.mv_formed_globals.proofs.Designated.{IsHolderOf}
+
+-- an integer scalar, with different values of its type
+pub record IsSwitch (t : CType) (size : Option ℕ) (vs : List ℕ) : Type 0 where
+  pub integer : IsInteger t
+  pub scalar : size ≡ None
+  pub domain : IsDomain (IsOf t) vs
+
+-- a switch if it has a domain
+abbrev pub IsSwitchIf : CType → Option ℕ → Option (List ℕ) → Type 0
+IsSwitchIf t size None = Unit {0}
+IsSwitchIf t size (Some vs) = IsSwitch t size vs
+
+pub record IsFormedObject (o : Object) : Type 0 where
+  pub words : AreWords o.global.ctype o.global.size o.global.first
+  pub switch : IsSwitchIf o.global.ctype o.global.size o.domain
+
+abbrev pub AreFormed : Contents → Type 0
+AreFormed c = AllByRecursion IsFormedObject c.objects
+
+pub values_of : (t : CType) (vs : List ℕ) → AreOf t vs → IsInteger t → AllByRecursion (λ v. is_value_of t v ≡ true) vs
+values_of t [] h u = tt
+values_of t (v ∷ vs) h u = (h.0 u, values_of t vs h.1 u)
+
+pub global_formed : (o : Object) → IsFormedObject o → IsWellFormedGlobal o.global
+global_formed o h = record {
+  given = h.words.given;
+  values = λ u. All-from_recursion (λ v. is_value_of o.global.ctype v ≡ true) o.global.first (values_of o.global.ctype o.global.first h.words.values u);
+}
+
+-- ---- the type of a declared object
+
+-- what is known of the domain that a declaration of an entity gives
+abbrev pub IsDomainFor : Entity → Option (List ℕ) → Type 0
+IsDomainFor e None = Unit {0}
+IsDomainFor e (Some vs) = (t : CType) × IsVoidOrInteger t × IsHolderOf t e × IsDomain (IsOf t) vs
+
+integer_of : (t : CType) → IsVoidOrInteger t → is_void t ≡ false → IsInteger t
+integer_of Void h q = absurd (cc)
+integer_of (Scalar k) h q = tt
+integer_of (Pointer s) h q = absurd h
+
+type_switch : (place : Place) (e : Entity) (given : Option Initial) (domain : Option (List ℕ)) → IsDomainFor e domain →
+    IfGood (object_type place e given) (λ l. IsSwitchIf l.ctype l.size domain)
+unfolding object_type
+type_switch place e given None h = any (object_type place e given)
+  where
+    any : (j : Judged Local) → IfGood j (λ l. IsSwitchIf l.ctype l.size None)
+    any (Good l) = tt
+    any (Broken p rule) = tt
+type_switch place (entity.Scalar t fixed) given (Some vs) h =
+    if_kept (λ (l : Local). IsSwitch l.ctype l.size vs) (is_void t) place 8 (Good (scalar t)) (λ q. record {
+      integer = integer_of t (subst IsVoidOrInteger (sym h.2) h.1) q;
+      scalar = refl;
+      domain = subst (λ u. IsDomain (IsOf u) vs) (sym h.2) h.3;
+    })
+type_switch place (entity.Array t fixed size) given (Some vs) h = absurd h.2
+type_switch place (entity.Function f) given (Some vs) h = tt
+
+module _ (place : Place) (before : Option Meaning) (objects : List Object) (given block : Bool) (domain : Option (List ℕ)) where
+  abbrev Allowed : Local → Type 0
+  Allowed l = IsSwitchIf l.ctype l.size domain × (may_declare before objects l given domain ≡ true)
+
+  unless_kept : (l : Local) (allowed b : Bool) → allowed ≡ may_declare before objects l given domain → IsSwitchIf l.ctype l.size domain →
+      IfGood (unless_broken place (broken_rule allowed b) l) Allowed
+  unless_kept l true true q h = tt
+  unless_kept l true false q h = (h, sym q)
+  unless_kept l false b q h = tt
+
+  rules_kept : (j : Judged Local) → IfGood j (λ l. IsSwitchIf l.ctype l.size domain) → IfGood (type_by_rules place before objects j given block domain) Allowed
+  unfolding type_by_rules
+  rules_kept (Broken p rule) h = if_kept Allowed (is_none before) p rule (Broken place 2) (λ q. tt)
+  rules_kept (Good l) h = unless_kept l (may_declare before objects l given domain) block refl h
+
+-- ---- one more declaration of an object
+
+size_is : (m n : Option ℕ) → same_size m n ≡ true → m ≡ n
+size_is None None h = refl
+size_is (Some m) (Some n) h = ap Some (same_number m n h)
+size_is None (Some n) h = absurd (cc)
+size_is (Some m) None h = absurd (cc)
+
+module _ (l : Local) (words : List ℕ) (fit : AreWords l.ctype l.size words) (given : Bool) (domain : Option (List ℕ)) (switch : IsSwitchIf l.ctype l.size domain) where
+  new_formed : (name : List ℕ) → IsFormedObject (new_object name l words given domain)
+  new_formed name = record { words = fit; switch = switch }
+
+  again_formed : (o : Object) → IsFormedObject o → agrees o l given domain ≡ true → IsFormedObject (again o words given domain)
+  again_formed o h q = record { words = first given; switch = either o.domain h.switch }
+    where
+      types : o.global.ctype ≡ l.ctype
+      types = same_is o.global.ctype l.ctype (and_true (same_type o.global.ctype l.ctype) _ q).0
+
+      sizes : o.global.size ≡ l.size
+      sizes = size_is o.global.size l.size (and_true (same_size o.global.size l.size) _ (and_true (same_type o.global.ctype l.ctype) _ q).1).0
+
+      first : (b : Bool) → AreWords o.global.ctype o.global.size (if b then words else o.global.first)
+      first true = subst (λ n. AreWords o.global.ctype n words) (sym sizes) (subst (λ t. AreWords t l.size words) (sym types) fit)
+      first false = h.words
+
+      either : (d : Option (List ℕ)) → IsSwitchIf o.global.ctype o.global.size d → IsSwitchIf o.global.ctype o.global.size (either_domain d domain)
+      either None k = subst (λ n. IsSwitchIf o.global.ctype n domain) (sym sizes) (subst (λ t. IsSwitchIf t l.size domain) (sym types) switch)
+      either (Some vs) k = k
+
+  replaced_formed : (objects : List Object) (n : ℕ) (o : Option Object) → slice_get objects n ≡ o → AllByRecursion IsFormedObject objects →
+      agrees_with o l given domain ≡ true → AllByRecursion IsFormedObject (replaced objects n o words given domain)
+  replaced_formed objects n None q h k = h
+  replaced_formed objects n (Some o) q h k =
+      all_set IsFormedObject objects n (again o words given domain) (again_formed o (all_at IsFormedObject objects n o h q) k) h
+
+  numbered_formed : (objects : List Object) (n : Option ℕ) → AllByRecursion IsFormedObject objects → agrees_with (object_at objects n) l given domain ≡ true →
+      AllByRecursion IsFormedObject (objects_again objects n words given domain)
+  numbered_formed objects None h k = h
+  numbered_formed objects (Some n) h k = replaced_formed objects n (slice_get objects n) refl h k
+
+  behind_formed : (objects : List Object) (name : List ℕ) (before : Option Meaning) → AllByRecursion IsFormedObject objects →
+      may_declare before objects l given domain ≡ true → AllByRecursion IsFormedObject (objects_behind objects name before l words given domain)
+  unfolding objects_behind
+  behind_formed objects name None h k = all_last IsFormedObject objects (new_object name l words given domain) h (new_formed name)
+  behind_formed objects name (Some m) h k = numbered_formed objects (number_of m) h k
+
+-- ---- a declarator that designates an object
+
+module _ (k : Foreknown) (d : Declarator) (name : List ℕ) (domain : Option (List ℕ)) (c : Contents) (formed : AreFormed c) where
+  initialised_formed : (before : Option Meaning) (l : Local) → IsSwitchIf l.ctype l.size domain → may_declare before c.objects l (is_some d.initial) domain ≡ true →
+      IfGood (initialised k d name before domain l c) AreFormed
+  initialised_formed before l switch allowed =
+      let s : Scope = object_scope k name before l (length c.objects) c.scope in
+      if_then (AreWords l.ctype l.size) AreFormed (global_words d.place l d.initial s) _ (words_are d.place l d.initial s) (λ words fit.
+      behind_formed l words fit (is_some d.initial) domain switch c.objects name before formed allowed)
+
+  object_behind_formed : (e : Entity) (block : Bool) (before : Option Meaning) → IsDomainFor e domain → IfGood (object_behind k d name e domain block c before) AreFormed
+  object_behind_formed e block before h =
+      if_then (Allowed d.place before c.objects (is_some d.initial) block domain) AreFormed
+      (type_by_rules d.place before c.objects (object_type d.place e d.initial) (is_some d.initial) block domain) _
+      (rules_kept d.place before c.objects (is_some d.initial) block domain (object_type d.place e d.initial) (type_switch d.place e d.initial domain h))
+      (λ l a. initialised_formed before l a.0 a.1)
+
+  pub object_formed : (e : Entity) (block : Bool) → IsDomainFor e domain → IfGood (object_judgement k d name e domain block c) AreFormed
+  unfolding object_judgement
+  object_formed e block h = object_behind_formed e block (named name c.scope.names.here) h

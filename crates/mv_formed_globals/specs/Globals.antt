@@ -1,0 +1,17 @@
+-- The globals and the switches of a unit that keeps the rules.
+use Rattle.std.specs.Prelude.{◌≡◌, ℕ, ◌<◌, All, length}
+use Rattle.mv_ast.specs.declared.program.Program.{Program}
+use Rattle.mv_ast.specs.declared.unit.Unit as unit
+use Rattle.mv_judge.specs.Judged.{Good}
+use Rattle.mv_numbering.specs.Typing.{IsIntegerSwitch}
+use Rattle.mv_lowered_programs.specs.WellFormed.{IsWellFormedGlobal, IsWellFormedSwitch}
+use Rattle.mv_types.specs.Units.{unit_judgement}
+
+-- a program whose globals and switches are well formed, and each of whose switches is an integer
+pub record HasFormedGlobals (p : Program) : Type 0 where
+  pub globals : All IsWellFormedGlobal p.globals
+  pub switches : All (IsWellFormedSwitch p) p.switches
+  pub integers : (s : ℕ) → s < length p.switches → IsIntegerSwitch p s
+
+abbrev pub GlobalsAreFormed : Type 0
+GlobalsAreFormed = (u : unit.Unit) (p : Program) → unit_judgement u ≡ Good p → HasFormedGlobals p

@@ -1,0 +1,22 @@
+//! The globals and the switches of a unit that keeps the rules are well formed.
+#![tactic(auto)]
+
+ghost use Rattle.mv_formed_globals.specs.Globals.{GlobalsAreFormed};
+ghost use Rattle.mv_formed_globals.specs.FirstValues.{FirstValuesAreTyped};
+
+use mv_typing::{constants_come_to_their_values, good_expressions_are_typed};
+
+/// The globals of a unit that keeps the rules are given no more values than they have words, and values of their types (C11 6.7.9); its
+/// switches are scalar globals of integer types, with different values of these. The call does nothing: its contract is the law.
+pub fn good_globals_are_formed()
+    ensures { GlobalsAreFormed }
+{}
+
+/// The words that a global is given are first values of its type in each program that has what the scope of its declaration says: of a
+/// function pointer the addresses of functions of its type, and null (C11 6.6). The call does nothing: its contract is the law.
+pub fn good_first_values_are_typed()
+    ensures { FirstValuesAreTyped }
+{
+    constants_come_to_their_values();
+    good_expressions_are_typed();
+}
