@@ -1,9 +1,9 @@
 pub mod Judging
-mod Places
+pub mod Places
 pub mod Names
 pub mod Growing
-mod Specified
-mod Designated
+pub mod Specified
+pub mod Designated
 pub mod Property
 pub mod Leading
 mod Declared

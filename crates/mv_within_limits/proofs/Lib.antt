@@ -1,0 +1,10 @@
+mod Reported
+mod Weights
+mod Made
+mod Expressions
+mod Totals
+mod Locals
+mod Statements
+mod Definitions
+mod Units
+mod Main

@@ -1,0 +1,24 @@
+//! Checked programs are within the limits that the layers above ask for.
+#![tactic(auto)]
+
+ghost use Rattle.mv_within_limits.specs.Limits.{WithinLimits};
+ghost use Rattle.mv_within_limits.specs.Main.{MainIsTyped};
+ghost use Rattle.mv_within_limits.specs.Nodes.{UnitsAreSmall};
+
+/// A program of which no limit is reported, and whose nodes are few enough, is within all limits. The call does nothing: its contract is
+/// the law.
+pub fn unreported_programs_are_within_limits()
+    ensures { WithinLimits }
+{}
+
+/// The program of a unit that keeps the rules has at most four times as many nodes as the unit. The call does nothing: its contract is the
+/// law.
+pub fn programs_of_small_units_are_small()
+    ensures { UnitsAreSmall }
+{}
+
+/// The `main` of a unit that keeps the rules has no parameters and gives an integer (C11 5.1.2.2.1), where the program has what names mean
+/// at the end of the unit. The call does nothing: its contract is the law.
+pub fn main_is_typed()
+    ensures { MainIsTyped }
+{}
