@@ -1,0 +1,7 @@
+mod Lists
+mod NameLists
+mod Turns
+mod Items
+mod Designated
+mod Functions
+mod Attributed

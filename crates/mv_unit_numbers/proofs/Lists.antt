@@ -1,0 +1,81 @@
+-- Lists at a place, and with one element changed.
+use Rattle.std.proofs.Common.{◌≡◌, ℕ, zero, suc, refl, sym, ◌∙◌, ap, subst, ◌⊎◌, inl, inr, Bool, true, false, ◌||◌, List, [], ◌∷◌, ◌++◌, length, map, filter, Option, Some, None, slice_get, if◌then◌else◌}
+use Rattle.std.specs.Prelude.{slice_set}
+use Rattle.std.specs.List.{AllByRecursion}
+
+module _ {A : Type 0} where
+  pub all_there : (P : A → Type 0) (xs : List A) → AllByRecursion P xs → (i : ℕ) (x : A) → slice_get xs i ≡ Some x → P x
+  all_there P [] h i x q = absurd (cc)
+  all_there P (y ∷ ys) h zero x q = let e : y ≡ x = cc in subst P e h.0
+  all_there P (y ∷ ys) h (suc i) x q = all_there P ys h.1 i x q
+
+  pub by_places : (P : A → Type 0) (xs : List A) → ((i : ℕ) (x : A) → slice_get xs i ≡ Some x → P x) → AllByRecursion P xs
+  by_places P [] h = tt
+  by_places P (x ∷ xs) h = (h zero x refl, by_places P xs (λ i y q. h (suc i) y q))
+
+  pub all_more : (P Q : A → Type 0) (xs : List A) → ((x : A) → P x → Q x) → AllByRecursion P xs → AllByRecursion Q xs
+  all_more P Q [] f h = tt
+  all_more P Q (x ∷ xs) f h = (f x h.0, all_more P Q xs f h.1)
+
+  pub all_both : (P Q R : A → Type 0) → ((x : A) → P x → Q x → R x) → (xs : List A) → AllByRecursion P xs → AllByRecursion Q xs → AllByRecursion R xs
+  all_both P Q R f [] h k = tt
+  all_both P Q R f (x ∷ xs) h k = (f x h.0 k.0, all_both P Q R f xs h.1 k.1)
+
+  pub all_kept : (P : A → Type 0) (p : A → Bool) (xs : List A) → AllByRecursion P xs → AllByRecursion P (filter p xs)
+  all_kept P p [] h = tt
+  all_kept P p (x ∷ xs) h = by (p x) (all_kept P p xs h.1)
+    where
+      by : (b : Bool) → AllByRecursion P (filter p xs) → AllByRecursion P (if b then x ∷ filter p xs else filter p xs)
+      by true rest = (h.0, rest)
+      by false rest = rest
+
+  -- what an element that is put at a place has, and all others
+  pub set_all : (P : A → Type 0) (xs : List A) (i : ℕ) (y : A) → AllByRecursion P xs → P y → AllByRecursion P (slice_set xs i y)
+  set_all P [] i y h k = tt
+  set_all P (x ∷ xs) zero y h k = (k, h.1)
+  set_all P (x ∷ xs) (suc i) y h k = (h.0, set_all P xs i y h.1 k)
+
+  pub there_set : (xs : List A) (i : ℕ) (x y : A) → slice_get xs i ≡ Some x → slice_get (slice_set xs i y) i ≡ Some y
+  there_set [] i x y h = absurd (cc)
+  there_set (z ∷ zs) zero x y h = refl
+  there_set (z ∷ zs) (suc i) x y h = there_set zs i x y h
+
+  -- what stands at a place is what stood there, or what is put there
+  pub set_there : (xs : List A) (i : ℕ) (y : A) (j : ℕ) (x : A) → slice_get (slice_set xs i y) j ≡ Some x → (slice_get xs j ≡ Some x) ⊎ ((i ≡ j) × (y ≡ x))
+  set_there [] i y j x h = inl h
+  set_there (z ∷ zs) zero y zero x h = inr (refl, cc)
+  set_there (z ∷ zs) zero y (suc j) x h = inl h
+  set_there (z ∷ zs) (suc i) y zero x h = inl h
+  set_there (z ∷ zs) (suc i) y (suc j) x h = by (set_there zs i y j x h)
+    where
+      by : (slice_get zs j ≡ Some x) ⊎ ((i ≡ j) × (y ≡ x)) → (slice_get (z ∷ zs) (suc j) ≡ Some x) ⊎ ((suc i ≡ suc j) × (y ≡ x))
+      by (inl q) = inl q
+      by (inr q) = inr (ap suc q.0, q.1)
+
+module _ {A B : Type 0} where
+  -- a change that leaves alone what is read of an element
+  pub set_same : (f : A → B) (xs : List A) (i : ℕ) (x y : A) → slice_get xs i ≡ Some x → f y ≡ f x → map f (slice_set xs i y) ≡ map f xs
+  set_same f [] i x y h e = refl
+  set_same f (z ∷ zs) zero x y h e = let q : z ≡ x = cc in ap (λ b. b ∷ map f zs) (e ∙ sym (ap f q))
+  set_same f (z ∷ zs) (suc i) x y h e = ap (λ bs. f z ∷ bs) (set_same f zs i x y h e)
+
+  pub all_of_map : (P : B → Type 0) (f : A → B) (xs : List A) → AllByRecursion (λ x. P (f x)) xs → AllByRecursion P (map f xs)
+  all_of_map P f [] h = tt
+  all_of_map P f (x ∷ xs) h = (h.0, all_of_map P f xs h.1)
+
+  pub unmapped_there : (f : A → B) (xs : List A) (i : ℕ) (b : B) → slice_get (map f xs) i ≡ Some b → (x : A) × (slice_get xs i ≡ Some x) × (f x ≡ b)
+  unmapped_there f [] i b h = absurd (cc)
+  unmapped_there f (x ∷ xs) zero b h = (x, refl, cc)
+  unmapped_there f (x ∷ xs) (suc i) b h = unmapped_there f xs i b h
+
+  -- a filter by what stays the same in a map
+  pub filter_map : (p : A → Bool) (q : B → Bool) (f : A → B) (xs : List A) → AllByRecursion (λ x. p x ≡ q (f x)) xs → map f (filter p xs) ≡ filter q (map f xs)
+  filter_map p q f [] h = refl
+  filter_map p q f (x ∷ xs) h = by (p x) (q (f x)) h.0 (filter_map p q f xs h.1)
+    where
+      by : (b c : Bool) → b ≡ c → map f (filter p xs) ≡ filter q (map f xs) →
+          map f (if b then x ∷ filter p xs else filter p xs) ≡ (if c then f x ∷ filter q (map f xs) else filter q (map f xs))
+      by true true e r = ap (λ bs. f x ∷ bs) r
+      by false false e r = r
+      by true false e r = absurd (cc)
+      by false true e r = absurd (cc)

@@ -1,0 +1,9 @@
+use Rattle.mv_unit_numbers.proofs.Attributed.{attributed_counted}
+use Rattle.mv_unit_numbers.proofs.Functions.{functions_defined}
+use Rattle.mv_unit_numbers.proofs.functions_have_their_numbers.Goals as goal
+
+pub returns-clause-defined : goal.returns-clause-defined
+returns-clause-defined c items d q = functions_defined items d q
+
+pub returns-clause-attributed : goal.returns-clause-attributed
+returns-clause-attributed c items d main q = attributed_counted items d main q

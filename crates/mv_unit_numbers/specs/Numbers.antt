@@ -1,0 +1,59 @@
+-- The numbers that a unit's names have before its first declaration is judged are those that they have in its program.
+use Rattle.std.specs.Prelude.{◌≡◌, ℕ, All, List, map, length, Option, Some, slice_get, is_some}
+use Rattle.mv_ast.specs.declared.program.Function.{Function}
+use Rattle.mv_ast.specs.declared.program.Switch.{Switch}
+use Rattle.mv_ast.specs.declared.unit.Item.{Item}
+use Rattle.mv_ast.specs.Plans.{attributed_functions}
+use Rattle.mv_judge.specs.Judged.{Good}
+use Rattle.mv_declare.specs.Turns.{through}
+use Rattle.mv_outline.specs.Names.{place_of}
+use Rattle.mv_types.specs.declared.contents.Contents.{Contents}
+use Rattle.mv_types.specs.declared.contents.Foreknown.{Foreknown}
+use Rattle.mv_types.specs.Contents.{nothing_declared, present}
+use Rattle.mv_types.specs.Foreknown.{foreknown, is_attributed, attributed_number}
+use Rattle.mv_types.specs.Units.{item_judgement, program_of}
+
+-- what the items of a unit that keep the rules come to
+abbrev pub AreJudged : List Item → Contents → Type 0
+AreJudged items c = through (item_judgement (foreknown items)) items (nothing_declared (foreknown items)) ≡ Good c
+
+-- ---- functions
+
+-- All the functions that are known are defined, in their order. One has the attribute where any of its declarations has it.
+pub record AreDefined (k : Foreknown) (c : Contents) : Type 0 where
+  pub functions : List Function
+  pub all : c.functions ≡ map (λ f. Some f) functions
+  pub named : map (λ f. f.name) functions ≡ k.outline.functions
+  pub attributed : All (λ f. f.attributed ≡ is_attributed k f.name) functions
+
+abbrev pub FunctionsAreDefined : Type 0
+FunctionsAreDefined = (items : List Item) (c : Contents) → AreJudged items c → AreDefined (foreknown items) c
+
+-- the function with a number, by its name
+abbrev pub HasNumber : List Function → ℕ → List ℕ → Type 0
+HasNumber functions n name = (f : Function) × (slice_get functions n ≡ Some f) × (f.name ≡ name)
+
+-- The attributed functions of the program are those that are known, in their order; one that is defined has its number among them.
+pub record AreAttributed (k : Foreknown) (functions : List Function) : Type 0 where
+  pub named : map (λ f. f.name) functions ≡ k.outline.attributed
+  pub numbered : (name : List ℕ) (g n : ℕ) → place_of name k.outline.functions ≡ Some g → attributed_number k name ≡ Some n → HasNumber functions n name
+
+abbrev pub AttributedAreCounted : Type 0
+AttributedAreCounted =
+    (items : List Item) (c : Contents) (main : ℕ) → AreJudged items c → AreAttributed (foreknown items) (attributed_functions (program_of c main))
+
+-- ---- objects
+
+-- the switch with a number, by its global
+abbrev pub IsSwitchOf : List Switch → ℕ → ℕ → Type 0
+IsSwitchOf switches n global = (s : Switch) × (slice_get switches n ≡ Some s) × (s.global ≡ global)
+
+-- The objects are those that are known, in their order, and the switches those of them that are marked; a name has its number among them.
+pub record AreSwitches (k : Foreknown) (c : Contents) (switches : List Switch) : Type 0 where
+  pub named : map (λ o. o.global.name) c.objects ≡ k.outline.objects
+  pub globals : map (λ s. Some s.global) switches ≡ map (λ name. place_of name k.outline.objects) k.outline.switches
+  pub numbered : (name : List ℕ) (g n : ℕ) → place_of name k.outline.objects ≡ Some g → place_of name k.outline.switches ≡ Some n → IsSwitchOf switches n g
+
+abbrev pub SwitchesAreCounted : Type 0
+SwitchesAreCounted =
+    (items : List Item) (c : Contents) (main : ℕ) → AreJudged items c → AreSwitches (foreknown items) c (program_of c main).switches
