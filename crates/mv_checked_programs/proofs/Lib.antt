@@ -1,0 +1,5 @@
+mod Lists
+mod Units
+mod Fitting
+mod Functions
+mod Whole
