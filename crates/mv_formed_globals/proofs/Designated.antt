@@ -1,12 +1,11 @@
 -- What a declarator at file scope designates where it has an attribute: a scalar of the type of the specifiers, or a function.
-use Rattle.std.proofs.Common.{◌≡◌, ℕ, refl, sym, ◌∙◌, ap, subst, Bool, Option, Some, None}
+use Rattle.std.proofs.Common.{◌≡◌, refl, sym, subst, Bool}
 use Rattle.mv_ast.specs.declared.program.CType.{CType}
 use Rattle.mv_ast.specs.declared.unit.Declarator.{Declarator}
 use Rattle.mv_ast.specs.declared.unit.Param.{Param}
 use Rattle.mv_ast.specs.declared.unit.Shape.{Shape, Shape-F, out-Shape, map-Shape, fold_out-Shape}
 use Rattle.mv_ast.specs.declared.unit.Shape.TheOpen as shape
 use Rattle.mv_scope.specs.declared.scope.Scope.{Scope}
-use Rattle.mv_judge.specs.Judged.{Judged, Good, Broken}
 use Rattle.mv_declare.specs.declared.attributes.Position.TheVariants as position
 use Rattle.mv_declare.specs.declared.declarators.Entity.{Entity}
 use Rattle.mv_declare.specs.declared.declarators.Entity.TheVariants as entity
@@ -17,6 +16,7 @@ use Rattle.mv_declare.specs.Declarators.{Shapes, Declarators, Params, function_t
 use Rattle.mv_declare.specs.Globals.{file_declarator}
 use Rattle.mv_declare.specs.Specifiers.{scalar_kind}
 use Rattle.mv_typed_bodies.proofs.Judging.{IfGood, if_any, if_then}
+use Rattle.mv_formed_globals.proofs.Tests.{if_given}
 use Rattle.mv_formed_globals.proofs.Values.{IsOf}
 use Rattle.mv_formed_globals.proofs.Domains.{IsHeld, attributes_held, held_more}
 use Rattle.mv_formed_globals.proofs.Specified.{IsHolderShape, MayHold, file_holding, scalar_admits}
@@ -46,14 +46,10 @@ same_shape (shape.Pointer constant params) h = h
 same_shape (shape.PointerArray constant size params) h = h
 
 designated_is : (x : Shape) (t : CType) (fixed : Bool) (s : Scope) → IfGood (designated x t fixed s) (λ e. IsHolderShape (out-Shape x) → IsHolderOf t e.1)
-designated_is x t fixed s = later (designated x t fixed s) (λ h.
+designated_is x t fixed s =
+    if_given (IsHolderShape (out-Shape x)) (λ (e : Scope × Entity). IsHolderOf t e.1) (designated x t fixed s) (λ h.
     subst (λ (z : Shapes). IfGood (z t fixed s) (λ e. IsHolderOf t e.1)) (sym (fold_out-Shape Shapes Declarators Params shape_step declarator_step param_step x))
     (layer_is (layer_of (out-Shape x)) t fixed s (same_shape (out-Shape x) h)))
-  where
-    later : (j : Judged (Scope × Entity)) → (IsHolderShape (out-Shape x) → IfGood j (λ e. IsHolderOf t e.1)) →
-        IfGood j (λ e. IsHolderShape (out-Shape x) → IsHolderOf t e.1)
-    later (Good e) f = f
-    later (Broken place rule) f = tt
 
 -- whether a declarator has an attribute and what it designates, behind one of the specifiers that it may have
 pub file_is : (b : Specified) (d : Declarator) (s : Scope) → IsHeld (MayHold d) (IsOf b.ctype) b.attribute →

@@ -1,5 +1,5 @@
 -- The domains of switches: different values, each of which has a property; and what an attribute says of what holds it.
-use Rattle.std.proofs.Common.{◌≡◌, ◌≢◌, ℕ, ◌<◌, arith, ◌⊎◌, inl, inr, refl, sym, ◌∙◌, ap, subst, Bool, true, false, not, ◌||◌, ◌&&◌, is_some, nat_eq, if◌then◌else◌, List, [], ◌∷◌, ◌++◌, length, get_or, Option, Some, None, slice_get, AllPairs}
+use Rattle.std.proofs.Common.{◌≡◌, ◌≢◌, ℕ, arith, ◌⊎◌, inl, inr, refl, sym, subst, Bool, true, false, not, ◌||◌, is_some, nat_eq, if◌then◌else◌, List, [], ◌∷◌, ◌++◌, Option, Some, None, slice_get, AllPairs}
 use Rattle.std.specs.List.{AllByRecursion}
 use Rattle.std.proofs.lemmas.List.Quantifiers.{all_pairs_push}
 use Rattle.std.proofs.lemmas.List.Elements.{All-get_or, All-from_recursion}
@@ -7,20 +7,20 @@ use Rattle.mv_num.specs.declared.kind.Kind.{Kind}
 use Rattle.mv_num.specs.declared.kind.Kind.TheVariants.{Int}
 use Rattle.mv_ast.specs.declared.place.Place.{Place}
 use Rattle.mv_ast.specs.declared.program.CType.{CType}
-use Rattle.mv_ast.specs.declared.program.CType.TheVariants.{Void, Scalar, Pointer}
+use Rattle.mv_ast.specs.declared.program.CType.TheVariants.{Scalar}
 use Rattle.mv_ast.specs.declared.unit.Mark.{Mark, out-Mark}
 use Rattle.mv_ast.specs.declared.unit.Node.{Node}
 use Rattle.mv_ast.specs.Plans.{is_among}
 use Rattle.mv_scope.specs.declared.scope.Scope.{Scope}
 use Rattle.mv_judge.specs.declared.constant.Constant.{Constant}
-use Rattle.mv_judge.specs.Judged.{Judged, Good, Broken}
+use Rattle.mv_judge.specs.Judged.{Good}
 use Rattle.mv_judge.specs.NeededConstants.{constant_judgement}
 use Rattle.mv_declare.specs.declared.attributes.Attribute.{Attribute}
 use Rattle.mv_declare.specs.declared.attributes.Holder.{Holder}
 use Rattle.mv_declare.specs.Attributes.{fits, with_value, domain_value, domain, given_domain, holds, held, attribute, attributes}
 use Rattle.mv_declare.specs.Globals.{distinct_behind, values_of_enumeration, default_domain, domain_or, domain_of}
 use Rattle.mv_typed_bodies.proofs.Judging.{IfGood, if_any, if_then, if_kept, if_more, if_through, each_any, not_false, all_last}
-use Rattle.mv_formed_globals.proofs.Tests.{not_same, or_false, all_more}
+use Rattle.mv_formed_globals.proofs.Tests.{if_given, not_same, or_false, all_more}
 use Rattle.mv_formed_globals.proofs.Values.{IsOf, int_is, no_is, yes_is}
 
 -- different values that have a property
@@ -74,11 +74,7 @@ module _ (V : ℕ → Type 0) where
     value_kept : (s : Scope) (node : Node) (vs : List ℕ) → IfGood (domain_value kind s node vs) (Next vs)
     value_kept s node vs =
         if_then (λ c. Unit {0}) (Next vs) (constant_judgement s node) _ (if_any (constant_judgement s node)) (λ c u.
-        next vs (with_value node.place kind vs c) (λ h. with_kept node.place vs c h))
-      where
-        next : (vs : List ℕ) (j : Judged (List ℕ)) → (IsDomain V vs → IfGood j (IsDomain V)) → IfGood j (Next vs)
-        next vs (Good ws) f = f
-        next vs (Broken place rule) f = tt
+        if_given (IsDomain V vs) (IsDomain V) (with_value node.place kind vs c) (λ h. with_kept node.place vs c h))
 
     domain_is : (s : Scope) (nodes : List Node) → IfGood (domain kind s nodes) (IsDomain V)
     domain_is s nodes =

@@ -1,5 +1,5 @@
 -- The words that a global is given are first values of its type.
-use Rattle.std.proofs.Common.{◌≡◌, ℕ, suc, ◌+◌, arith, ◌⊎◌, inl, inr, Bool, true, false, not, ◌&&◌, ◌||◌, refl, sym, ◌∙◌, ap, subst, is_some, nat_eq, nat_le, if◌then◌else◌, List, [], ◌∷◌, ◌++◌, map, length, Option, Some, None}
+use Rattle.std.proofs.Common.{◌≡◌, ℕ, suc, ◌+◌, arith, ◌⊎◌, inl, inr, Bool, true, false, not, ◌&&◌, ◌||◌, refl, sym, ◌∙◌, subst, is_some, if◌then◌else◌, List, [], ◌∷◌, ◌++◌, map, length, Option, Some, None}
 use Rattle.std.specs.List.{AllByRecursion}
 use Rattle.std.proofs.lemmas.List.Elements.{All-from_recursion}
 use Rattle.mv_ast.specs.declared.place.Place.{Place}
@@ -27,7 +27,7 @@ use Rattle.mv_declare.specs.Initials.{has_room}
 use Rattle.mv_numbering.specs.Typing.{ComesTo, HasType, IsFunctionOf, IsFirstValue}
 use Rattle.mv_numbering.proofs.Typed.{TypedExpr, expr_node}
 use Rattle.mv_typing.specs.Soundness.{Fits, GoodIsTyped}
-use Rattle.mv_typed_bodies.proofs.Judging.{IfGood, of_good, by_good, if_any, if_then, if_kept, if_more, if_through, each_any, not_false, and_true, all_last}
+use Rattle.mv_typed_bodies.proofs.Judging.{IfGood, of_good, by_good, if_then, if_kept, if_more, if_through, each_any, not_false, and_true, all_last}
 use Rattle.mv_formed_globals.specs.FirstValues.{FirstValuesAreTyped}
 use Rattle.mv_formed_globals.proofs.Tests.{same_number, same_is, or_false}
 use Rattle.mv_formed_globals.proofs.Nulls.{pointer_null}

@@ -9,3 +9,4 @@ mod Switches
 mod Units
 mod Nulls
 mod FirstWords
+mod FirstObjects

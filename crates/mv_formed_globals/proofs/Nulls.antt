@@ -1,7 +1,7 @@
 -- A constant of a pointer type is null: it comes to 0.
-use Rattle.std.proofs.Common.{◌≡◌, ℕ, ◌⊎◌, inl, inr, Bool, true, false, refl, sym, ◌∙◌, ap, subst, List, [], Option, Some, None, if◌then◌else◌, nat_eq}
+use Rattle.std.proofs.Common.{◌≡◌, ℕ, ◌⊎◌, inl, inr, Bool, true, false, refl, sym, ◌∙◌, ap, subst, [], Option, Some, None, if◌then◌else◌, nat_eq}
 use Rattle.mv_ast.specs.declared.program.CType.{CType}
-use Rattle.mv_ast.specs.declared.program.CType.TheVariants.{Void, Scalar, Pointer}
+use Rattle.mv_ast.specs.declared.program.CType.TheVariants.{Pointer}
 use Rattle.mv_ast.specs.declared.program.Program.{Program}
 use Rattle.mv_ast.specs.declared.program.Function.{Function}
 use Rattle.mv_ast.specs.declared.program.Expr.{Expr, Expr-F, roll-Expr, map-Expr, ind-Expr, fold_out-Expr}
@@ -9,11 +9,11 @@ use Rattle.mv_ast.specs.declared.program.Form.{Form, Form-F, roll-Form, out-Form
 use Rattle.mv_ast.specs.declared.program.Form.TheOpen as form
 use Rattle.mv_ast.specs.declared.program.Target.{Target, Target-F, roll-Target, map-Target, fold-Target}
 use Rattle.mv_ast.specs.Operators.{converted}
-use Rattle.mv_ast.specs.Worlds.{World, Outcome, Came}
+use Rattle.mv_ast.specs.Worlds.{World, Came}
 use Rattle.mv_scope.specs.Constants.{Evaluated, of_one, by_test, value_form, value_target, value_expr, evaluated, computed}
 use Rattle.mv_meaning.specs.declared.state.Frame.{Frame}
-use Rattle.mv_meaning.specs.Meaning.{Context, context_at}
-use Rattle.mv_numbering.specs.Typing.{IsInteger, ComesTo, ConvertsTo, IsTypedExpr, HasType}
+use Rattle.mv_meaning.specs.Meaning.{context_at}
+use Rattle.mv_numbering.specs.Typing.{ComesTo, ConvertsTo, HasType}
 use Rattle.mv_numbering.proofs.Typed.{TypedExpr, FormParts, form_parts, expr_form, expr_node}
 
 -- ---- what a computed value comes from

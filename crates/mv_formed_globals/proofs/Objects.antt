@@ -1,5 +1,5 @@
 -- The objects of a unit: each is a well-formed global, and an integer scalar where it has a domain.
-use Rattle.std.proofs.Common.{◌≡◌, ℕ, ◌≤◌, refl, sym, ◌∙◌, ap, subst, Bool, true, false, not, ◌&&◌, ◌||◌, is_some, is_none, nat_eq, if◌then◌else◌, List, [], ◌∷◌, ◌++◌, length, Option, Some, None, slice_get, slice_set, All}
+use Rattle.std.proofs.Common.{◌≡◌, ℕ, refl, sym, ap, subst, Bool, true, false, is_some, is_none, if◌then◌else◌, List, [], ◌∷◌, length, Option, Some, None, slice_get}
 use Rattle.std.specs.List.{AllByRecursion}
 use Rattle.std.proofs.lemmas.List.Elements.{All-from_recursion}
 use Rattle.mv_ast.specs.declared.place.Place.{Place}
@@ -23,8 +23,8 @@ use Rattle.mv_lowered_programs.specs.WellFormed.{IsWellFormedGlobal}
 use Rattle.mv_types.specs.declared.contents.Contents.{Contents}
 use Rattle.mv_types.specs.declared.contents.Foreknown.{Foreknown}
 use Rattle.mv_types.specs.declared.contents.Object.{Object}
-use Rattle.mv_types.specs.Objects.{number_of, object_at, same_size, same_domain, agrees, agrees_with, may_declare, broken_rule, unless_broken, type_by_rules, object_scope, new_object, either_domain, again, replaced, objects_again, with_new, objects_behind, initialised, object_behind, object_judgement}
-use Rattle.mv_typed_bodies.proofs.Judging.{IfGood, if_then, if_kept, if_more, and_true, all_last}
+use Rattle.mv_types.specs.Objects.{number_of, object_at, same_size, agrees, agrees_with, may_declare, broken_rule, unless_broken, type_by_rules, object_scope, new_object, either_domain, again, replaced, objects_again, objects_behind, initialised, object_behind, object_judgement}
+use Rattle.mv_typed_bodies.proofs.Judging.{IfGood, if_then, if_kept, and_true, all_last}
 use Rattle.mv_formed_globals.proofs.Tests.{same_number, same_is, all_at, all_set}
 use Rattle.mv_formed_globals.proofs.Values.{IsOf}
 use Rattle.mv_formed_globals.proofs.Words.{AreOf, AreWords, words_are}
@@ -89,17 +89,16 @@ type_switch place (entity.Scalar t fixed) given (Some vs) h =
 type_switch place (entity.Array t fixed size) given (Some vs) h = absurd h.2
 type_switch place (entity.Function f) given (Some vs) h = tt
 
-module _ (place : Place) (before : Option Meaning) (objects : List Object) (given block : Bool) (domain : Option (List ℕ)) where
-  abbrev Allowed : Local → Type 0
-  Allowed l = IsSwitchIf l.ctype l.size domain × (may_declare before objects l given domain ≡ true)
+module _ (X : Local → Type 0) (place : Place) (before : Option Meaning) (objects : List Object) (given block : Bool) (domain : Option (List ℕ)) where
+  abbrev pub Allowed : Local → Type 0
+  Allowed l = X l × (may_declare before objects l given domain ≡ true)
 
-  unless_kept : (l : Local) (allowed b : Bool) → allowed ≡ may_declare before objects l given domain → IsSwitchIf l.ctype l.size domain →
-      IfGood (unless_broken place (broken_rule allowed b) l) Allowed
+  unless_kept : (l : Local) (allowed b : Bool) → allowed ≡ may_declare before objects l given domain → X l → IfGood (unless_broken place (broken_rule allowed b) l) Allowed
   unless_kept l true true q h = tt
   unless_kept l true false q h = (h, sym q)
   unless_kept l false b q h = tt
 
-  rules_kept : (j : Judged Local) → IfGood j (λ l. IsSwitchIf l.ctype l.size domain) → IfGood (type_by_rules place before objects j given block domain) Allowed
+  pub rules_kept : (j : Judged Local) → IfGood j X → IfGood (type_by_rules place before objects j given block domain) Allowed
   unfolding type_by_rules
   rules_kept (Broken p rule) h = if_kept Allowed (is_none before) p rule (Broken place 2) (λ q. tt)
   rules_kept (Good l) h = unless_kept l (may_declare before objects l given domain) block refl h
@@ -112,18 +111,42 @@ size_is (Some m) (Some n) h = ap Some (same_number m n h)
 size_is None (Some n) h = absurd (cc)
 size_is (Some m) None h = absurd (cc)
 
-module _ (l : Local) (words : List ℕ) (fit : AreWords l.ctype l.size words) (given : Bool) (domain : Option (List ℕ)) (switch : IsSwitchIf l.ctype l.size domain) where
-  new_formed : (name : List ℕ) → IsFormedObject (new_object name l words given domain)
-  new_formed name = record { words = fit; switch = switch }
+-- the declared type and size are those that the object has
+pub same_types : (o : Object) (l : Local) (given : Bool) (domain : Option (List ℕ)) → agrees o l given domain ≡ true → o.global.ctype ≡ l.ctype
+same_types o l given domain q = same_is o.global.ctype l.ctype (and_true (same_type o.global.ctype l.ctype) _ q).0
 
+same_sizes : (o : Object) (l : Local) (given : Bool) (domain : Option (List ℕ)) → agrees o l given domain ≡ true → o.global.size ≡ l.size
+same_sizes o l given domain q =
+    size_is o.global.size l.size (and_true (same_size o.global.size l.size) _ (and_true (same_type o.global.ctype l.ctype) _ q).1).0
+
+-- what holds of a new object and of one with one more declaration holds of all
+module _ (P : Object → Type 0) (l : Local) (words : List ℕ) (given : Bool) (domain : Option (List ℕ))
+    (new : (name : List ℕ) → P (new_object name l words given domain)) (more : (o : Object) → P o → agrees o l given domain ≡ true → P (again o words given domain)) where
+  replaced_have : (objects : List Object) (n : ℕ) (o : Option Object) → slice_get objects n ≡ o → AllByRecursion P objects → agrees_with o l given domain ≡ true →
+      AllByRecursion P (replaced objects n o words given domain)
+  replaced_have objects n None q h k = h
+  replaced_have objects n (Some o) q h k = all_set P objects n (again o words given domain) (more o (all_at P objects n o h q) k) h
+
+  numbered_have : (objects : List Object) (n : Option ℕ) → AllByRecursion P objects → agrees_with (object_at objects n) l given domain ≡ true →
+      AllByRecursion P (objects_again objects n words given domain)
+  numbered_have objects None h k = h
+  numbered_have objects (Some n) h k = replaced_have objects n (slice_get objects n) refl h k
+
+  pub behind_have : (objects : List Object) (name : List ℕ) (before : Option Meaning) → AllByRecursion P objects → may_declare before objects l given domain ≡ true →
+      AllByRecursion P (objects_behind objects name before l words given domain)
+  unfolding objects_behind
+  behind_have objects name None h k = all_last P objects (new_object name l words given domain) h (new name)
+  behind_have objects name (Some m) h k = numbered_have objects (number_of m) h k
+
+module _ (l : Local) (words : List ℕ) (fit : AreWords l.ctype l.size words) (given : Bool) (domain : Option (List ℕ)) (switch : IsSwitchIf l.ctype l.size domain) where
   again_formed : (o : Object) → IsFormedObject o → agrees o l given domain ≡ true → IsFormedObject (again o words given domain)
   again_formed o h q = record { words = first given; switch = either o.domain h.switch }
     where
       types : o.global.ctype ≡ l.ctype
-      types = same_is o.global.ctype l.ctype (and_true (same_type o.global.ctype l.ctype) _ q).0
+      types = same_types o l given domain q
 
       sizes : o.global.size ≡ l.size
-      sizes = size_is o.global.size l.size (and_true (same_size o.global.size l.size) _ (and_true (same_type o.global.ctype l.ctype) _ q).1).0
+      sizes = same_sizes o l given domain q
 
       first : (b : Bool) → AreWords o.global.ctype o.global.size (if b then words else o.global.first)
       first true = subst (λ n. AreWords o.global.ctype n words) (sym sizes) (subst (λ t. AreWords t l.size words) (sym types) fit)
@@ -133,22 +156,10 @@ module _ (l : Local) (words : List ℕ) (fit : AreWords l.ctype l.size words) (g
       either None k = subst (λ n. IsSwitchIf o.global.ctype n domain) (sym sizes) (subst (λ t. IsSwitchIf t l.size domain) (sym types) switch)
       either (Some vs) k = k
 
-  replaced_formed : (objects : List Object) (n : ℕ) (o : Option Object) → slice_get objects n ≡ o → AllByRecursion IsFormedObject objects →
-      agrees_with o l given domain ≡ true → AllByRecursion IsFormedObject (replaced objects n o words given domain)
-  replaced_formed objects n None q h k = h
-  replaced_formed objects n (Some o) q h k =
-      all_set IsFormedObject objects n (again o words given domain) (again_formed o (all_at IsFormedObject objects n o h q) k) h
-
-  numbered_formed : (objects : List Object) (n : Option ℕ) → AllByRecursion IsFormedObject objects → agrees_with (object_at objects n) l given domain ≡ true →
-      AllByRecursion IsFormedObject (objects_again objects n words given domain)
-  numbered_formed objects None h k = h
-  numbered_formed objects (Some n) h k = replaced_formed objects n (slice_get objects n) refl h k
-
   behind_formed : (objects : List Object) (name : List ℕ) (before : Option Meaning) → AllByRecursion IsFormedObject objects →
       may_declare before objects l given domain ≡ true → AllByRecursion IsFormedObject (objects_behind objects name before l words given domain)
-  unfolding objects_behind
-  behind_formed objects name None h k = all_last IsFormedObject objects (new_object name l words given domain) h (new_formed name)
-  behind_formed objects name (Some m) h k = numbered_formed objects (number_of m) h k
+  behind_formed objects name before h k =
+      behind_have IsFormedObject l words given domain (λ name. record { words = fit; switch = switch }) again_formed objects name before h k
 
 -- ---- a declarator that designates an object
 
@@ -162,9 +173,10 @@ module _ (k : Foreknown) (d : Declarator) (name : List ℕ) (domain : Option (Li
 
   object_behind_formed : (e : Entity) (block : Bool) (before : Option Meaning) → IsDomainFor e domain → IfGood (object_behind k d name e domain block c before) AreFormed
   object_behind_formed e block before h =
-      if_then (Allowed d.place before c.objects (is_some d.initial) block domain) AreFormed
+      let X : Local → Type 0 = λ l. IsSwitchIf l.ctype l.size domain in
+      if_then (Allowed X d.place before c.objects (is_some d.initial) block domain) AreFormed
       (type_by_rules d.place before c.objects (object_type d.place e d.initial) (is_some d.initial) block domain) _
-      (rules_kept d.place before c.objects (is_some d.initial) block domain (object_type d.place e d.initial) (type_switch d.place e d.initial domain h))
+      (rules_kept X d.place before c.objects (is_some d.initial) block domain (object_type d.place e d.initial) (type_switch d.place e d.initial domain h))
       (λ l a. initialised_formed before l a.0 a.1)
 
   pub object_formed : (e : Entity) (block : Bool) → IsDomainFor e domain → IfGood (object_judgement k d name e domain block c) AreFormed

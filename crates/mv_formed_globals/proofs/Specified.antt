@@ -1,5 +1,5 @@
 -- What specifiers at file scope say: a type that is no pointer, an enumeration only with `int`, and an attribute that all of their declarators may have.
-use Rattle.std.proofs.Common.{◌≡◌, ℕ, ◌⊎◌, inl, inr, refl, sym, ◌∙◌, ap, subst, Bool, true, false, not, ◌||◌, ◌&&◌, is_some, nat_eq, if◌then◌else◌, List, [], ◌∷◌, map, length, take, drop, Option, Some, None}
+use Rattle.std.proofs.Common.{◌≡◌, ℕ, ◌⊎◌, inl, inr, refl, sym, ◌∙◌, ap, subst, Bool, true, false, not, ◌&&◌, is_some, nat_eq, if◌then◌else◌, List, [], ◌∷◌, map, length, take, drop, Option, Some, None}
 use Rattle.std.specs.List.{AllByRecursion}
 use Rattle.mv_num.specs.declared.kind.Kind.{Kind}
 use Rattle.mv_num.specs.declared.kind.Kind.TheVariants.{Int}
@@ -14,7 +14,7 @@ use Rattle.mv_ast.specs.declared.unit.Shape.TheOpen as shape
 use Rattle.mv_ast.specs.declared.unit.Specs.{Specs, out-Specs}
 use Rattle.mv_scope.specs.declared.scope.Scope.{Scope}
 use Rattle.mv_judge.specs.declared.constant.Constant.{Constant}
-use Rattle.mv_judge.specs.Judged.{Judged, Good, Broken}
+use Rattle.mv_judge.specs.Judged.{Broken}
 use Rattle.mv_judge.specs.TypeNames.{are, named_kind, named_type, as_scalar, any_is, undeclared_enum, type_or_broken, type_of}
 use Rattle.mv_declare.specs.declared.attributes.Attribute.{Attribute}
 use Rattle.mv_declare.specs.declared.attributes.Holder.{Holder}

@@ -1,5 +1,5 @@
 -- The switches of a program are those of its objects that have a domain.
-use Rattle.std.proofs.Common.{◌≡◌, ℕ, zero, suc, ◌+◌, ◌<◌, arith, refl, sym, ◌∙◌, ap, subst, List, [], ◌∷◌, ◌++◌, map, length, true, Option, Some, None, slice_get}
+use Rattle.std.proofs.Common.{◌≡◌, ℕ, zero, suc, ◌+◌, ◌<◌, arith, refl, subst, List, [], ◌∷◌, map, length, true, Option, Some, None, slice_get}
 use Rattle.std.specs.List.{AllByRecursion}
 use Rattle.std.proofs.lemmas.List.Elements.{All-from_recursion}
 use Rattle.mv_ast.specs.declared.program.CType.{CType}
@@ -16,8 +16,7 @@ use Rattle.mv_types.specs.Units.{program_of}
 use Rattle.mv_typed_bodies.proofs.Judging.{all_append}
 use Rattle.mv_formed_globals.specs.Globals.{HasFormedGlobals}
 use Rattle.mv_formed_globals.proofs.Tests.{mapped_at, all_mapped, all_more}
-use Rattle.mv_formed_globals.proofs.Values.{IsOf}
-use Rattle.mv_formed_globals.proofs.Objects.{IsSwitch, IsSwitchIf, IsFormedObject, AreFormed, global_formed, values_of}
+use Rattle.mv_formed_globals.proofs.Objects.{IsSwitchIf, IsFormedObject, AreFormed, global_formed, values_of}
 
 module _ (p : Program) where
   -- a switch is well formed and its global is an integer

@@ -1,5 +1,5 @@
 -- What tests on numbers, types and lists say.
-use Rattle.std.proofs.Common.{◌≡◌, ℕ, zero, suc, ◌<◌, ◌≤◌, ◌≢◌, arith, refl, sym, ◌∙◌, ap, subst, Bool, true, false, ◌||◌, if◌then◌else◌, nat_eq, nat_lt, nat_le, List, [], ◌∷◌, length, map, set, Option, Some, None, slice_get, slice_set}
+use Rattle.std.proofs.Common.{◌≡◌, ℕ, zero, suc, ◌<◌, ◌≤◌, ◌≢◌, arith, refl, sym, ◌∙◌, ap, subst, Bool, true, false, ◌||◌, if◌then◌else◌, nat_eq, nat_lt, nat_le, List, [], ◌∷◌, length, map, Some, slice_get, slice_set}
 use Rattle.std.specs.List.{AllByRecursion}
 use Rattle.std.proofs.lemmas.Bool.Decides.{nat_tests}
 use Rattle.std.proofs.lemmas.List.Elements.{All-set, All-from_recursion, recursion_from_All}
@@ -8,6 +8,8 @@ use Rattle.mv_num.specs.declared.kind.Kind.TheVariants as kind
 use Rattle.mv_ast.specs.declared.program.CType.{CType}
 use Rattle.mv_ast.specs.declared.program.CType.TheVariants.{Void, Scalar, Pointer}
 use Rattle.mv_scope.specs.Conversions.{kind_number, same_type}
+use Rattle.mv_judge.specs.Judged.{Judged, Good, Broken}
+use Rattle.mv_typed_bodies.proofs.Judging.{IfGood}
 
 -- ---- numbers
 
@@ -96,3 +98,10 @@ all_more P Q f (x ∷ xs) h = (f x h.0, all_more P Q f xs h.1)
 pub all_mapped : {A B : Type 0} (P : B → Type 0) (g : A → B) (xs : List A) → AllByRecursion (λ x. P (g x)) xs → AllByRecursion P (map g xs)
 all_mapped P g [] h = tt
 all_mapped P g (x ∷ xs) h = (h.0, all_mapped P g xs h.1)
+
+-- ---- judgements
+
+-- what holds of each good outcome under a premise
+pub if_given : {A : Type 0} (F : Type 0) (P : A → Type 0) (j : Judged A) → (F → IfGood j P) → IfGood j (λ a. F → P a)
+if_given F P (Good a) f = f
+if_given F P (Broken place rule) f = tt

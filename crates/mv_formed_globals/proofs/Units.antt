@@ -1,12 +1,10 @@
 -- The objects of a unit's contents are formed, through all of its declarations.
-use Rattle.std.proofs.Common.{◌≡◌, ℕ, ◌⊎◌, inl, inr, refl, sym, ◌∙◌, ap, subst, Bool, true, false, not, ◌&&◌, is_some, if◌then◌else◌, List, [], ◌∷◌, Option, Some, None, codes, slice_get}
+use Rattle.std.proofs.Common.{◌≡◌, ℕ, ◌⊎◌, Bool, true, false, is_some, if◌then◌else◌, List, [], ◌∷◌, Option, Some, None}
 use Rattle.std.specs.List.{list_any, AllByRecursion}
 use Rattle.mv_ast.specs.declared.place.Place.{Place}
 use Rattle.mv_ast.specs.declared.program.CType.{CType}
 use Rattle.mv_ast.specs.declared.program.CType.TheVariants.{Scalar}
 use Rattle.mv_num.specs.declared.kind.Kind.TheVariants.{Int}
-use Rattle.mv_ast.specs.declared.program.Function.{Function}
-use Rattle.mv_ast.specs.declared.program.Program.{Program}
 use Rattle.mv_ast.specs.declared.unit.Declarator.{Declarator}
 use Rattle.mv_ast.specs.declared.unit.Item.{Item}
 use Rattle.mv_ast.specs.declared.unit.Line.{Line}
@@ -14,7 +12,7 @@ use Rattle.mv_ast.specs.declared.unit.Param.{Param}
 use Rattle.mv_ast.specs.declared.unit.Specs.{out-Specs}
 use Rattle.mv_ast.specs.declared.unit.Unit as unit
 use Rattle.mv_scope.specs.declared.scope.Scope.{Scope}
-use Rattle.mv_judge.specs.Judged.{Judged, Good, Broken}
+use Rattle.mv_judge.specs.Judged.{Judged}
 use Rattle.mv_declare.specs.declared.attributes.Attribute.{Attribute}
 use Rattle.mv_declare.specs.declared.attributes.Position.TheVariants as position
 use Rattle.mv_declare.specs.declared.declarators.Entity.{Entity}
@@ -26,44 +24,50 @@ use Rattle.mv_declare.specs.Specifiers.{specifiers}
 use Rattle.mv_declare.specs.Turns.{through}
 use Rattle.mv_types.specs.declared.contents.Contents.{Contents}
 use Rattle.mv_types.specs.declared.contents.Foreknown.{Foreknown}
+use Rattle.mv_types.specs.declared.contents.Object.{Object}
 use Rattle.mv_types.specs.declared.functions.Before.{Before}
 use Rattle.mv_types.specs.Contents.{nothing_declared, in_scope}
 use Rattle.mv_types.specs.Foreknown.{foreknown}
 use Rattle.mv_types.specs.Functions as functions
 use Rattle.mv_types.specs.Functions.{function_of, function_scope, params_of, defined, before_of, rule_of, function_behind, function_judgement, definition_parameters}
-use Rattle.mv_types.specs.Objects.{object_judgement, domain_by}
-use Rattle.mv_types.specs.Units.{by_entity, named_declarator, base_of, declarator_judgement, declares_constant, holders, declares_nothing, names_judgement, item_judgement, program_or_broken, program_of, main_of, program_judgement, unit_judgement}
+use Rattle.mv_types.specs.Objects.{domain_by}
+use Rattle.mv_types.specs.Units.{by_entity, named_declarator, base_of, declarator_judgement, declares_constant, holders, declares_nothing, names_judgement, item_judgement, program_or_broken, program_judgement, unit_judgement}
 use Rattle.mv_typed_bodies.proofs.Judging.{IfGood, of_good, if_any, if_then, if_kept, if_more, if_through, each_any}
 use Rattle.mv_formed_globals.specs.Globals.{HasFormedGlobals, GlobalsAreFormed}
+use Rattle.mv_formed_globals.proofs.Tests.{if_given}
 use Rattle.mv_formed_globals.proofs.Values.{IsOf}
 use Rattle.mv_formed_globals.proofs.Domains.{IsHeld, held_more, domain_of_is}
 use Rattle.mv_formed_globals.proofs.Specified.{IsVoidOrInteger, MayHold, MayAllHold, IsSpecified, specifiers_are}
 use Rattle.mv_formed_globals.proofs.Designated.{IsHolderOf, file_is}
-use Rattle.mv_formed_globals.proofs.Objects.{AreFormed, IsFormedObject, IsDomainFor, object_formed}
+use Rattle.mv_formed_globals.proofs.Objects.{IsFormedObject, AreFormed, IsDomainFor, object_formed}
 use Rattle.mv_formed_globals.proofs.Switches.{program_formed}
 
 -- ---- functions are no objects
 
-defined_formed : (k : Foreknown) (name : List ℕ) (result : CType) (params : List Param) (body : Option Line) (number : Option ℕ) (c : Contents) → AreFormed c →
-    IfGood (defined k name result params body number c) AreFormed
-defined_formed k name result params None number c h = h
-defined_formed k name result params (Some body) number c h =
-    if_then (λ f. Unit {0}) AreFormed (function_of k name result params body c.scope) _ (if_any (function_of k name result params body c.scope)) (λ f u. h)
+module _ (P : List Object → Type 0) where
+  abbrev Have : Contents → Type 0
+  Have c = P c.objects
 
-unless_formed : (place : Place) (rule : Option ℕ) (j : Judged Contents) → IfGood j AreFormed → IfGood (functions.unless_broken place rule j) AreFormed
-unless_formed place None j h = h
-unless_formed place (Some rule) j h = tt
+  defined_have : (k : Foreknown) (name : List ℕ) (result : CType) (params : List Param) (body : Option Line) (number : Option ℕ) (c : Contents) → Have c →
+      IfGood (defined k name result params body number c) Have
+  defined_have k name result params None number c h = h
+  defined_have k name result params (Some body) number c h =
+      if_then (λ f. Unit {0}) Have (function_of k name result params body c.scope) _ (if_any (function_of k name result params body c.scope)) (λ f u. h)
 
-function_behind_formed : (k : Foreknown) (d : Declarator) (name : List ℕ) (result : CType) (signature : ℕ) (body : Option Line) (c : Contents) (b : Before) → AreFormed c →
-    IfGood (function_behind k d name result signature body c b) AreFormed
-function_behind_formed k d name result signature body c b h =
-    unless_formed d.place (rule_of d signature body c b) (defined k name result (params_of d) body b.number (in_scope c (function_scope k name signature b.meaning b.builtin c.scope)))
-    (defined_formed k name result (params_of d) body b.number (in_scope c (function_scope k name signature b.meaning b.builtin c.scope)) h)
+  unless_have : (place : Place) (rule : Option ℕ) (j : Judged Contents) → IfGood j Have → IfGood (functions.unless_broken place rule j) Have
+  unless_have place None j h = h
+  unless_have place (Some rule) j h = tt
 
-function_formed : (k : Foreknown) (d : Declarator) (name : List ℕ) (result : CType) (signature : ℕ) (body : Option Line) (c : Contents) → AreFormed c →
-    IfGood (function_judgement k d name result signature body c) AreFormed
-unfolding function_judgement
-function_formed k d name result signature body c h = function_behind_formed k d name result signature body c (before_of k name c.scope) h
+  function_behind_has : (k : Foreknown) (d : Declarator) (name : List ℕ) (result : CType) (signature : ℕ) (body : Option Line) (c : Contents) (b : Before) → Have c →
+      IfGood (function_behind k d name result signature body c b) Have
+  function_behind_has k d name result signature body c b h =
+      unless_have d.place (rule_of d signature body c b) (defined k name result (params_of d) body b.number (in_scope c (function_scope k name signature b.meaning b.builtin c.scope)))
+      (defined_have k name result (params_of d) body b.number (in_scope c (function_scope k name signature b.meaning b.builtin c.scope)) h)
+
+  pub function_has : (k : Foreknown) (d : Declarator) (name : List ℕ) (result : CType) (signature : ℕ) (body : Option Line) (c : Contents) → Have c →
+      IfGood (function_judgement k d name result signature body c) Have
+  unfolding function_judgement
+  function_has k d name result signature body c h = function_behind_has k d name result signature body c (before_of k name c.scope) h
 
 -- ---- declarators
 
@@ -77,7 +81,7 @@ domain_for b e (Some a) s plain enum h = (b.ctype, plain, h.0, domain_of_is b.ct
 
 entity_formed : (k : Foreknown) (b : Specified) (body : Option Line) (d : Declarator) (name : List ℕ) (e : Entity) (a : Option Attribute) (c : Contents) → AreFormed c →
     IsVoidOrInteger b.ctype → IsEnumerated b → IsHeld (IsHolderOf b.ctype e) (IsOf b.ctype) a → IfGood (by_entity k b body d name e a c) AreFormed
-entity_formed k b body d name (entity.Function signature) a c formed plain enum h = function_formed k d name b.ctype signature body c formed
+entity_formed k b body d name (entity.Function signature) a c formed plain enum h = function_has (AllByRecursion IsFormedObject) k d name b.ctype signature body c formed
 entity_formed k b body d name (entity.Scalar t fixed) a c formed plain enum h =
     object_formed k d name (domain_by c.scope b.enumeration a) c formed (entity.Scalar t fixed) (is_some body) (domain_for b (entity.Scalar t fixed) a c.scope plain enum h)
 entity_formed k b body d name (entity.Array t fixed size) a c formed plain enum h =
@@ -127,16 +131,11 @@ each_held k ds b h = all ds (held_more (MayAllHold (holders k ds)) (AllByRecursi
 abbrev Next : Contents → Contents → Type 0
 Next c e = AreFormed c → AreFormed e
 
--- a step of formed contents to formed ones is a step of the relation
-step_of : (c : Contents) (j : Judged Contents) → (AreFormed c → IfGood j AreFormed) → IfGood j (Next c)
-step_of c (Good e) f = f
-step_of c (Broken place rule) f = tt
-
 declarators_formed : (k : Foreknown) (b : Specified) (body : Option Line) (ds : List Declarator) (c : Contents) → IsVoidOrInteger b.ctype → IsEnumerated b →
     AllByRecursion (Holds b) ds → IfGood (through (declarator_judgement k b body) ds c) (Next c)
 declarators_formed k b body ds c plain enum h =
     if_through (declarator_judgement k b body) Next (Holds b) (λ c f. f) (λ c d e f g h. g (f h))
-    (λ d q c. step_of c (declarator_judgement k b body d c) (λ f. declarator_formed k b body d c f plain enum q)) ds h c
+    (λ d q c. if_given (AreFormed c) AreFormed (declarator_judgement k b body d c) (λ f. declarator_formed k b body d c f plain enum q)) ds h c
 
 names_formed : (k : Foreknown) (b : Specified) (i : Item) (c : Contents) → IsSpecified (holders k i.names) b → IfGood (names_judgement k b i c) (Next c)
 names_formed k b i c h =

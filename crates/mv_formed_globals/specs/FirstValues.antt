@@ -4,15 +4,36 @@ use Rattle.mv_ast.specs.declared.place.Place.{Place}
 use Rattle.mv_ast.specs.declared.program.Program.{Program}
 use Rattle.mv_ast.specs.declared.program.Function.{Function}
 use Rattle.mv_ast.specs.declared.program.Local.{Local}
+use Rattle.mv_ast.specs.declared.unit.Declarator.{Declarator}
 use Rattle.mv_ast.specs.declared.unit.Initial.{Initial}
+use Rattle.mv_ast.specs.declared.unit.Line.{Line}
 use Rattle.mv_scope.specs.declared.scope.Scope.{Scope}
 use Rattle.mv_judge.specs.Judged.{Good}
+use Rattle.mv_declare.specs.declared.specifiers.Specified.{Specified}
 use Rattle.mv_declare.specs.Globals.{global_words}
 use Rattle.mv_numbering.specs.Typing.{IsFirstValue}
 use Rattle.mv_typing.specs.Soundness.{Fits}
+use Rattle.mv_types.specs.declared.contents.Contents.{Contents}
+use Rattle.mv_types.specs.declared.contents.Foreknown.{Foreknown}
+use Rattle.mv_types.specs.Units.{declarator_judgement, program_of}
 
 -- In a program that has what the scope says, the words that a global is given are first values of its type.
 abbrev pub FirstValuesAreTyped : Type 0
 FirstValuesAreTyped =
     (p : Program) (f : Function) (place : Place) (l : Local) (given : Option Initial) (s : Scope) (words : List ℕ) → Fits p f s →
     global_words place l given s ≡ Good words → All (IsFirstValue p l.ctype) words
+
+-- what the objects so far are given are first values of their types
+abbrev pub HaveFirstValues : Program → Contents → Type 0
+HaveFirstValues p c = All (λ o. All (IsFirstValue p o.global.ctype) o.global.first) c.objects
+
+-- This stays so behind a declarator where the program has what the scope behind it says.
+abbrev pub FirstValuesAreKept : Type 0
+FirstValuesAreKept =
+    (p : Program) (f : Function) (k : Foreknown) (b : Specified) (body : Option Line) (d : Declarator) (before after : Contents) →
+    declarator_judgement k b body d before ≡ Good after → Fits p f after.scope → HaveFirstValues p before → HaveFirstValues p after
+
+-- What is so of the objects at the end is so of the program's globals.
+abbrev pub GlobalsHaveFirstValues : Type 0
+GlobalsHaveFirstValues =
+    (p : Program) (c : Contents) (main : ℕ) → HaveFirstValues p c → All (λ g. All (IsFirstValue p g.ctype) g.first) (program_of c main).globals

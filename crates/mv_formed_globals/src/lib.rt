@@ -2,7 +2,7 @@
 #![tactic(auto)]
 
 ghost use Rattle.mv_formed_globals.specs.Globals.{GlobalsAreFormed};
-ghost use Rattle.mv_formed_globals.specs.FirstValues.{FirstValuesAreTyped};
+ghost use Rattle.mv_formed_globals.specs.FirstValues.{FirstValuesAreTyped, FirstValuesAreKept, GlobalsHaveFirstValues};
 
 use mv_typing::{constants_come_to_their_values, good_expressions_are_typed};
 
@@ -13,9 +13,12 @@ pub fn good_globals_are_formed()
 {}
 
 /// The words that a global is given are first values of its type in each program that has what the scope of its declaration says: of a
-/// function pointer the addresses of functions of its type, and null (C11 6.6). The call does nothing: its contract is the law.
+/// function pointer the addresses of functions of its type, and null (C11 6.6). So they stay behind each declarator at file scope, and
+/// those of the objects at the end are those of the program's globals. The call does nothing: its contract is the law.
 pub fn good_first_values_are_typed()
-    ensures { FirstValuesAreTyped }
+    ensures words { FirstValuesAreTyped }
+    ensures objects { FirstValuesAreKept }
+    ensures globals { GlobalsHaveFirstValues }
 {
     constants_come_to_their_values();
     good_expressions_are_typed();
