@@ -1,5 +1,5 @@
 -- Functions and objects at file scope: what a declarator adds to the contents is at most four times as many nodes as the declarator and its body.
-use Rattle.std.proofs.Common.{◌≡◌, ℕ, zero, suc, ◌+◌, ◌*◌, ◌≤◌, Bool, true, false, not, ◌||◌, refl, sym, ◌∙◌, ap, arith, Option, Some, None, is_none, is_some, if◌then◌else◌, List, [], ◌∷◌, ◌++◌, map, length, length-append, slice_get}
+use Rattle.std.proofs.Common.{◌≡◌, ℕ, zero, suc, ◌+◌, ◌*◌, ◌≤◌, Bool, true, false, not, ◌||◌, refl, ap, arith, Option, Some, None, is_some, if◌then◌else◌, List, [], ◌∷◌, ◌++◌, map, length, length-append, slice_get}
 use Rattle.std.specs.Prelude.{sum, slice_set, unwrap_or}
 use Rattle.std.proofs.lemmas.List.{length-map}
 use Rattle.std.proofs.lemmas.List.Sums.{sum_by-cons}
@@ -9,7 +9,7 @@ use Rattle.mv_ast.specs.declared.program.Expr.{Expr}
 use Rattle.mv_ast.specs.declared.program.Function.{Function}
 use Rattle.mv_ast.specs.declared.program.Local.{Local}
 use Rattle.mv_ast.specs.declared.program.Stmt.{Stmt}
-use Rattle.mv_ast.specs.declared.unit.Declarator.{Declarator, fold-Declarator, fold_out-Declarator}
+use Rattle.mv_ast.specs.declared.unit.Declarator.{Declarator, fold_out-Declarator}
 use Rattle.mv_ast.specs.declared.unit.Initial.{Initial}
 use Rattle.mv_ast.specs.declared.unit.Initial.TheVariants as initial
 use Rattle.mv_ast.specs.declared.unit.Line.{Line}
@@ -21,7 +21,7 @@ use Rattle.mv_ast.specs.Counts.{stmt_nodes, nodes}
 use Rattle.mv_ast.specs.Operators.{converted}
 use Rattle.mv_scope.specs.declared.meaning.Meaning.{Meaning}
 use Rattle.mv_scope.specs.declared.scope.Scope.{Scope}
-use Rattle.mv_judge.specs.Judged.{Judged, Good, Broken}
+use Rattle.mv_judge.specs.Judged.{Judged, Good}
 use Rattle.mv_judge.specs.Judgements.{value_judgement}
 use Rattle.mv_declare.specs.declared.declarators.Entity.{Entity}
 use Rattle.mv_declare.specs.declared.globals.Words.{Words}
@@ -34,15 +34,14 @@ use Rattle.mv_types.specs.declared.contents.Contents.{Contents}
 use Rattle.mv_types.specs.declared.contents.Foreknown.{Foreknown}
 use Rattle.mv_types.specs.declared.contents.Object.{Object}
 use Rattle.mv_types.specs.declared.functions.Before.{Before}
-use Rattle.mv_types.specs.Contents.{in_scope, with_function}
+use Rattle.mv_types.specs.Contents.{in_scope}
 use Rattle.mv_types.specs.Foreknown.{is_attributed}
-use Rattle.mv_types.specs.Functions.{params_of, params_of_form, body_entered, left_with, function_of, defined, unless_broken, rule_of, before_of, function_scope, function_behind, function_judgement}
-use Rattle.mv_types.specs.Objects as objects
+use Rattle.mv_types.specs.Functions.{params_of, params_of_form, body_entered, left_with, function_of, defined, unless_broken, rule_of, before_of, function_scope, function_judgement}
 use Rattle.mv_types.specs.Objects.{object_scope, new_object, again, replaced, objects_again, objects_behind, number_of, type_by_rules, initialised, object_judgement}
 use Rattle.mv_scope.specs.Spaces.{named}
 use Rattle.mv_typed_bodies.proofs.Judging.{IfGood, if_any, if_then, if_kept, if_more}
 use Rattle.mv_typed_bodies.proofs.Parameters.{Adds, parameters_add}
-use Rattle.mv_within_limits.specs.Nodes.{optional_nodes, node_nodes, initial_nodes, shape_count, declarator_count, param_count, declarator_nodes, line_nodes, body_nodes}
+use Rattle.mv_within_limits.specs.Nodes.{initial_nodes, shape_count, declarator_count, param_count, declarator_nodes, line_nodes, body_nodes}
 use Rattle.mv_within_limits.proofs.Totals.{total, total_append, sum_total, stmts_nodes}
 use Rattle.mv_within_limits.proofs.Locals.{LinesFew, declarator_has}
 use Rattle.mv_within_limits.proofs.Statements.{body_few}

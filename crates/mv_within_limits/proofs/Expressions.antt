@@ -1,5 +1,5 @@
 -- The value of an expression that keeps the rules has fewer than twice as many nodes as the expression: by induction over it.
-use Rattle.std.proofs.Common.{◌≡◌, ℕ, ◌+◌, ◌*◌, ◌≤◌, Bool, true, false, refl, sym, ◌∙◌, ap, subst, arith, Option, None, List, [], ◌∷◌, map}
+use Rattle.std.proofs.Common.{◌≡◌, ℕ, ◌+◌, ◌*◌, ◌≤◌, Bool, true, false, sym, ◌∙◌, ap, subst, arith, Option, None, List, [], ◌∷◌, map}
 use Rattle.std.specs.Prelude.{sum}
 use Rattle.std.proofs.lemmas.List.Sums.{sum_by-cons}
 use Rattle.mv_ast.specs.declared.place.Place.{Place}
@@ -28,7 +28,6 @@ use Rattle.mv_judge.specs.Found.{Layer, found}
 use Rattle.mv_judge.specs.Breaches.{breaches, if_broken, least, unless_broken, concluded, by_itself}
 use Rattle.mv_judge.specs.Judgements.{operand_use, cast_use, judgement, judgements, value_judgement, effect_judgement}
 use Rattle.mv_judge.proofs.Equations.{judged-Number, judged-Name, judged-Unary, judged-Binary, judged-Choose, judged-Assign, judged-Before, judged-After, judged-Index, judged-Call, judged-Cast}
-use Rattle.mv_scope.specs.Conversions.{typed}
 use Rattle.mv_typed_bodies.proofs.Judging.{IfGood, if_then, if_any}
 use Rattle.mv_within_limits.specs.Nodes.{what_count, enum_count, mark_count, member_count, node_count, specs_count, node_nodes, mark_nodes, specs_nodes}
 use Rattle.mv_within_limits.proofs.Weights.{nodes_number}

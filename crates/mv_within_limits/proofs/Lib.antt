@@ -8,3 +8,4 @@ mod Statements
 mod Definitions
 mod Units
 mod Main
+mod Marked

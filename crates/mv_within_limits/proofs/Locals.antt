@@ -1,5 +1,5 @@
 -- What local declarations come to: a local for each declarator, and a statement that clears it with its values.
-use Rattle.std.proofs.Common.{◌≡◌, ℕ, ◌+◌, ◌*◌, ◌≤◌, Bool, not, ◌||◌, refl, sym, ap, arith, Option, Some, None, is_some, List, [], ◌∷◌, ◌++◌, map, length, length-append}
+use Rattle.std.proofs.Common.{◌≡◌, ℕ, ◌+◌, ◌*◌, ◌≤◌, Bool, not, ◌||◌, refl, ap, arith, Option, Some, None, is_some, List, [], ◌∷◌, map, length, length-append}
 use Rattle.mv_ast.specs.declared.place.Place.{Place}
 use Rattle.mv_ast.specs.declared.program.CType.{CType}
 use Rattle.mv_ast.specs.declared.program.Expr.{Expr}
@@ -14,7 +14,7 @@ use Rattle.mv_ast.specs.Counts.{expr_nodes, stmt_nodes}
 use Rattle.mv_scope.specs.declared.meaning.Meaning.{Meaning}
 use Rattle.mv_scope.specs.declared.scope.Scope.{Scope}
 use Rattle.mv_scope.specs.Conversions.{is_void, converted_to}
-use Rattle.mv_judge.specs.Judged.{Judged, Good}
+use Rattle.mv_judge.specs.Judged.{Good}
 use Rattle.mv_judge.specs.Judgements.{value_judgement}
 use Rattle.mv_declare.specs.declared.attributes.Position.TheVariants as position
 use Rattle.mv_declare.specs.declared.declarators.Entity.{Entity}

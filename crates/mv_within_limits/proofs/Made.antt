@@ -1,5 +1,5 @@
 -- How many nodes what is made of some parts has at most: around each operand there is one conversion at most.
-use Rattle.std.proofs.Common.{◌≡◌, ℕ, ◌+◌, ◌≤◌, Bool, true, false, refl, sym, ◌∙◌, ap, subst, arith, Option, Some, None, nat_eq, if◌then◌else◌, List, [], ◌∷◌, map}
+use Rattle.std.proofs.Common.{◌≡◌, ℕ, ◌+◌, ◌≤◌, Bool, true, false, arith, Option, Some, None, nat_eq, if◌then◌else◌, List, [], ◌∷◌, map}
 use Rattle.std.specs.Prelude.{sum}
 use Rattle.std.proofs.lemmas.List.Sums.{sum_by-cons}
 use Rattle.mv_ast.specs.declared.program.CType.{CType}
@@ -20,7 +20,7 @@ use Rattle.mv_judge.specs.declared.seen.Seen.TheVariants as seen
 use Rattle.mv_judge.specs.declared.seen.Use.{Use}
 use Rattle.mv_judge.specs.declared.seen.Use.TheVariants as «use»
 use Rattle.mv_judge.specs.Calls.{pointed, result_of, callee_params, passed, named_index, named_function, direct_or_through, with_index, called_with, call_of}
-use Rattle.mv_judge.specs.Seen.{object_at, element_at, value_of, no_value, number_or_zero, array_of, object_of, switch_of, seen_name}
+use Rattle.mv_judge.specs.Seen.{object_at, element_at, value_of, no_value, number_or_zero, object_of, switch_of, seen_name}
 use Rattle.mv_judge.specs.Found.{is_address, is_indirection, is_both, is_either, unary_of, binary_of, choose_of, computed_of, left_type, right_type, result_type, common_type, change_of, assign_to, assign_of, one, before_of, after_of, element_of, named_switch, address_of, unary_seen, compound_operator}
 use Rattle.mv_within_limits.proofs.Weights.{target_nodes, nodes_number, nodes_read, nodes_function, nodes_unary, nodes_binary, nodes_both, nodes_either, nodes_choose, nodes_convert, nodes_set, nodes_change, nodes_after, nodes_direct, nodes_through, nodes_known, nodes_global, nodes_local, nodes_global_at, nodes_local_at}
 
@@ -165,8 +165,12 @@ passed_weight : (ts : List CType) (args : List Seen) → sum (map expr_nodes (pa
 passed_weight ts [] = omega arith
 passed_weight [] (a ∷ args) = omega arith
 passed_weight (t ∷ ts) (a ∷ args) =
-    omega (arith, converted_weight t (value_of a), passed_weight ts args,
-    sum_by-cons (λ x. x) (expr_nodes (converted_to t (value_of a))) (map expr_nodes (passed ts args)))
+    omega (
+      arith,
+      converted_weight t (value_of a),
+      passed_weight ts args,
+      sum_by-cons (λ x. x) (expr_nodes (converted_to t (value_of a))) (map expr_nodes (passed ts args)),
+    )
 
 through_weight : (o : Option ℕ) (t : CType) (e : Expr) (args : List Expr) → expr_nodes (typed t (direct_or_through o e args)) ≤ 1 + (expr_nodes e + sum (map expr_nodes args))
 through_weight None t e args = omega (arith, nodes_through t args e)

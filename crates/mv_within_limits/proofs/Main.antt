@@ -1,5 +1,5 @@
 -- The `main` of a unit has the type that is asked of it.
-use Rattle.std.proofs.Common.{◌≡◌, ℕ, ◌≤◌, Bool, true, false, ◌&&◌, refl, sym, ◌∙◌, ap, subst, arith, Option, Some, None, if◌then◌else◌, List, [], ◌∷◌, map, length, take, slice_get}
+use Rattle.std.proofs.Common.{◌≡◌, ℕ, Bool, true, false, refl, sym, ◌∙◌, ap, subst, Option, Some, None, if◌then◌else◌, List, [], ◌∷◌, length, take, slice_get}
 use Rattle.std.specs.Prelude.{codes}
 use Rattle.std.proofs.lemmas.List.{length-map, length-take-le}
 use Rattle.mv_ast.specs.declared.place.Place.{Place}
@@ -12,7 +12,6 @@ use Rattle.mv_ast.specs.declared.program.Signature.{Signature}
 use Rattle.mv_scope.specs.declared.meaning.Meaning.{Meaning}
 use Rattle.mv_scope.specs.declared.meaning.Meaning.TheVariants as meaning
 use Rattle.mv_scope.specs.declared.meaning.Routine.{Routine}
-use Rattle.mv_scope.specs.declared.scope.Scope.{Scope}
 use Rattle.mv_scope.specs.Conversions.{int, same_type, same_types}
 use Rattle.mv_scope.specs.Known.{known_function}
 use Rattle.mv_scope.specs.Scoped.{meaning_of, unless_declared}
@@ -89,7 +88,7 @@ main_typed place c p f q fits has =
     let found = main_found c.scope.signatures (named name c.scope.names.here) p.main (main_is place c p (main_of c.scope.signatures (named name c.scope.names.here)) q) in
     let r : Routine = found.0 in
     let means : meaning_of c.scope name ≡ Some (meaning.Function r) =
-        ap (λ o. unless_declared (or_else o (meaning_in c.scope.names.around name)) (known_function name)) found.1 in
+    ap (λ o. unless_declared (or_else o (meaning_in c.scope.names.around name)) (known_function name)) found.1 in
     let type = main_type (slice_get c.scope.signatures r.signature) found.3 in
     let there = fits.signatures r.signature type.0 type.1 in
     let g = (fits.names name (meaning.Function r) means).0 p.main found.2 in

@@ -1,40 +1,36 @@
 -- The statements of a body that keeps the rules, with its locals, are at most four times as many nodes as the body: by induction over it.
-use Rattle.std.proofs.Common.{◌≡◌, ℕ, ◌+◌, ◌*◌, ◌≤◌, Bool, true, false, not, refl, sym, ap, subst, arith, Option, Some, None, if◌then◌else◌, List, [], ◌∷◌, ◌++◌, map, length, length-append}
+use Rattle.std.proofs.Common.{◌≡◌, ℕ, ◌+◌, ◌*◌, ◌≤◌, Bool, true, false, not, sym, subst, arith, Option, Some, None, if◌then◌else◌, List, [], ◌∷◌, ◌++◌, map, length, length-append}
 use Rattle.mv_ast.specs.declared.place.Place.{Place}
-use Rattle.mv_ast.specs.declared.program.Arm.{Arm}
 use Rattle.mv_ast.specs.declared.program.CType.{CType}
 use Rattle.mv_ast.specs.declared.program.Expr.{Expr}
 use Rattle.mv_ast.specs.declared.program.Stmt.{Stmt}
 use Rattle.mv_ast.specs.declared.program.Stmt.TheVariants as stmt
 use Rattle.mv_ast.specs.declared.unit.Act.{Act, Act-F, roll-Act, map-Act, fold-Act, fold-roll-Act}
 use Rattle.mv_ast.specs.declared.unit.Act.TheOpen as act
-use Rattle.mv_ast.specs.declared.unit.Declarator.{Declarator}
 use Rattle.mv_ast.specs.declared.unit.Line.{Line, Line-F, roll-Line, map-Line, ind-Line, fold-roll-Line}
 use Rattle.mv_ast.specs.declared.unit.Node.{Node}
-use Rattle.mv_ast.specs.declared.unit.Specs.{Specs}
 use Rattle.mv_ast.specs.Counts.{expr_nodes, stmt_nodes}
 use Rattle.mv_ast.specs.Operators.{converted}
 use Rattle.mv_ast.specs.Plans.{is_among}
 use Rattle.mv_scope.specs.declared.scope.Scope.{Scope}
 use Rattle.mv_scope.specs.Constants.{converts}
 use Rattle.mv_scope.specs.Conversions.{is_integer, is_void, promotion, promoted, converted_to}
-use Rattle.mv_scope.specs.Scoped.{block_entered, block_left}
+use Rattle.mv_scope.specs.Scoped.{block_entered}
 use Rattle.mv_judge.specs.declared.constant.Constant.{Constant}
-use Rattle.mv_judge.specs.Judged.{Judged, Good, Broken, and_then}
+use Rattle.mv_judge.specs.Judged.{Judged, Good, and_then}
 use Rattle.mv_judge.specs.Judgements.{value_judgement, effect_judgement}
 use Rattle.mv_judge.specs.NeededConstants.{constant_judgement}
 use Rattle.mv_declare.specs.Locals.{locals_judgement}
-use Rattle.mv_declare.specs.Turns.{Behind}
 use Rattle.mv_statement_rules.specs.declared.around.Around.{Around}
 use Rattle.mv_statement_rules.specs.declared.arms.Arms.{Arms}
-use Rattle.mv_statement_rules.specs.Statements.{Judges, Layer, act_step, line_step, judges_of, lines_in_turn, arms_in_turn, misplaced_declaration, misplaced_case, break_judgement, continue_judgement, returned, return_judgement, switch_of, switched, optional, expression_judgement, alone, for_judgement, statement_of, line_of, arm_of, switch_body_of, function_body_of, body_judgement}
+use Rattle.mv_statement_rules.specs.Statements.{Judges, Layer, act_step, line_step, judges_of, lines_in_turn, arms_in_turn, break_judgement, continue_judgement, returned, return_judgement, switch_of, switched, optional, expression_judgement, alone, for_judgement, statement_of, line_of, arm_of, switch_body_of, function_body_of, body_judgement}
 use Rattle.mv_statement_rules.specs.Surroundings.{in_function, in_loop, in_switch}
 use Rattle.mv_statement_rules.specs.SwitchBodies.{no_arm, no_arms, has_statements, at_label, labelled, labelled_other, with_case, with_default, with_statement, arms_of, converts_constant, case_label, default_label}
 use Rattle.mv_typed_bodies.proofs.Judging.{IfGood, if_any, if_then, if_kept, if_so, if_more}
-use Rattle.mv_within_limits.specs.Nodes.{if_there, node_nodes, optional_nodes, declarator_nodes, act_count, line_count, line_nodes}
+use Rattle.mv_within_limits.specs.Nodes.{node_nodes, optional_nodes, declarator_nodes, act_count, line_count, line_nodes}
 use Rattle.mv_within_limits.proofs.Made.{converted_weight}
 use Rattle.mv_within_limits.proofs.Expressions.{ValueFew, value_few, effect_few}
-use Rattle.mv_within_limits.proofs.Totals.{total, total_append, sum_total, arm_nodes, stmts_nodes, optional_weight, nodes_block, nodes_express, nodes_if, nodes_while, nodes_do, nodes_for, nodes_switch, nodes_break, nodes_continue, nodes_return, nodes_arm}
+use Rattle.mv_within_limits.proofs.Totals.{total, total_append, sum_total, arm_nodes, optional_weight, nodes_block, nodes_express, nodes_if, nodes_while, nodes_do, nodes_for, nodes_switch, nodes_break, nodes_continue, nodes_return, nodes_arm}
 use Rattle.mv_within_limits.proofs.Locals.{StmtFew, LinesFew, locals_few}
 
 -- ---- arms

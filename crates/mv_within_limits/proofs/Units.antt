@@ -1,5 +1,5 @@
 -- The program of a unit is at most four times as many nodes as the unit.
-use Rattle.std.proofs.Common.{◌≡◌, ℕ, zero, suc, ◌+◌, ◌*◌, ◌≤◌, Bool, refl, sym, ◌∙◌, ap, arith, Option, Some, None, is_some, List, [], ◌∷◌, map, length}
+use Rattle.std.proofs.Common.{◌≡◌, ℕ, zero, suc, ◌+◌, ◌*◌, ◌≤◌, refl, arith, Option, Some, None, is_some, List, [], ◌∷◌, map, length}
 use Rattle.std.specs.Prelude.{sum, replicate, codes}
 use Rattle.std.proofs.lemmas.List.Sums.{sum_by-cons}
 use Rattle.mv_ast.specs.declared.place.Place.{Place}
@@ -12,7 +12,7 @@ use Rattle.mv_ast.specs.declared.unit.Item.{Item}
 use Rattle.mv_ast.specs.declared.unit.Line.{Line}
 use Rattle.mv_ast.specs.declared.unit.Unit as unit
 use Rattle.mv_ast.specs.Counts.{nodes}
-use Rattle.mv_judge.specs.Judged.{Judged, Good, Broken}
+use Rattle.mv_judge.specs.Judged.{Good}
 use Rattle.mv_declare.specs.declared.attributes.Attribute.{Attribute}
 use Rattle.mv_declare.specs.declared.attributes.Position.TheVariants as position
 use Rattle.mv_declare.specs.declared.declarators.Entity.{Entity}
@@ -29,7 +29,7 @@ use Rattle.mv_types.specs.Contents.{nothing_declared, in_scope, present, switche
 use Rattle.mv_types.specs.Foreknown.{foreknown}
 use Rattle.mv_types.specs.Functions.{definition_parameters}
 use Rattle.mv_types.specs.Objects.{domain_by}
-use Rattle.mv_types.specs.Units.{by_entity, named_declarator, base_of, declarator_judgement, holders, declares_nothing, names_judgement, item_judgement, main_of, with_switches, program_of, program_or_broken, program_judgement, unit_judgement}
+use Rattle.mv_types.specs.Units.{by_entity, named_declarator, base_of, declarator_judgement, holders, declares_nothing, item_judgement, main_of, with_switches, program_of, program_or_broken, program_judgement, unit_judgement}
 use Rattle.mv_scope.specs.Spaces.{named}
 use Rattle.mv_typed_bodies.proofs.Judging.{IfGood, of_good, if_any, if_then, if_kept, if_more}
 use Rattle.mv_lowered_programs.specs.WellFormed.{program_nodes}

@@ -1,5 +1,5 @@
 -- The nodes of each form of expression.
-use Rattle.std.proofs.Common.{◌≡◌, ℕ, ◌+◌, Bool, refl, ◌∙◌, ap, arith, List, [], ◌∷◌, map}
+use Rattle.std.proofs.Common.{◌≡◌, ℕ, ◌+◌, Bool, ◌∙◌, ap, arith, List, [], ◌∷◌, map}
 use Rattle.std.specs.Prelude.{sum}
 use Rattle.std.proofs.lemmas.List.Sums.{sum_by-append}
 use Rattle.mv_ast.specs.declared.program.CType.{CType}
