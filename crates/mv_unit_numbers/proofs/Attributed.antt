@@ -1,7 +1,9 @@
 -- The attributed functions of a program are those that are known.
-use Rattle.std.proofs.Common.{◌≡◌, ℕ, refl, sym, ◌∙◌, ap, ap₂, subst, Bool, true, false, ◌&&◌, if◌then◌else◌, List, [], ◌∷◌, map, filter, Option, Some, None, slice_get}
+use Rattle.std.proofs.Common.{◌≡◌, ℕ, refl, sym, ◌∙◌, ap, ap₂, subst, Bool, true, false, ◌&&◌, if◌then◌else◌, List, [], ◌∷◌, map, length, nat_lt, filter, Option, Some, None, slice_get}
 use Rattle.std.specs.Prelude.{unwrap_or}
 use Rattle.std.specs.List.{AllByRecursion}
+use Rattle.std.proofs.lemmas.Bool.{lt-ltb}
+use Rattle.std.proofs.lemmas.Option.{slice_get_within}
 use Rattle.std.proofs.lemmas.List.Elements.{recursion_from_All}
 use Rattle.mv_ast.specs.declared.program.Function.{Function}
 use Rattle.mv_ast.specs.declared.program.Switch.{Switch}
@@ -20,10 +22,6 @@ use Rattle.mv_unit_numbers.proofs.Lists.{all_of_map, filter_map, unmapped_there}
 use Rattle.mv_unit_numbers.proofs.NameLists.{Different, among_here, among_kept, among_is, kept_different, at_place, place_among}
 use Rattle.mv_unit_numbers.proofs.Functions.{known_functions, known_different, functions_defined}
 
-present_all : (fs : List Function) → present (map (λ f. Some f) fs) ≡ fs
-present_all [] = refl
-present_all (f ∷ fs) = ap (λ xs. f ∷ xs) (present_all fs)
-
 same_names : (switches : List Switch) (fs : List Function) → map (λ f. f.name) (map (with_switches switches) fs) ≡ map (λ f. f.name) fs
 same_names switches [] = refl
 same_names switches (f ∷ fs) = ap (λ xs. f.name ∷ xs) (same_names switches fs)
@@ -31,6 +29,9 @@ same_names switches (f ∷ fs) = ap (λ xs. f.name ∷ xs) (same_names switches 
 program_functions : (c : Contents) (main : ℕ) → (program_of c main).functions ≡ map (with_switches (switches_from 0 c.objects)) (present c.functions)
 unfolding program_of
 program_functions c main = refl
+
+below : (fs : List Function) (n : ℕ) (name : List ℕ) → HasNumber fs n name → nat_lt n (length fs) ≡ true
+below fs n name h = lt-ltb n (length fs) (slice_get_within fs n h.0 h.1)
 
 module _ (items : List Item) where
   abbrev k : Foreknown
@@ -47,13 +48,13 @@ module _ (items : List Item) where
   attributed_names : (c : Contents) (main : ℕ) → AreDefined k c → map (λ f. f.name) (attributed_functions (program_of c main)) ≡ k.outline.attributed
   attributed_names c main d =
       let switches : List Switch = switches_from 0 c.objects in
-      let gs : List Function = map (with_switches switches) d.functions in
-      let all : (program_of c main).functions ≡ gs = program_functions c main ∙ ap (map (with_switches switches)) (ap present d.all ∙ present_all d.functions) in
+      let gs : List Function = map (with_switches switches) (present c.functions) in
+      let all : (program_of c main).functions ≡ gs = program_functions c main in
       ap (λ fs. map (λ f. f.name) (filter (λ f. f.attributed) fs)) all ∙
       (filter_map (λ f. f.attributed) (is_attributed k) (λ f. f.name) gs
-          (all_of_map (λ f. f.attributed ≡ is_attributed k f.name) (with_switches switches) d.functions
-          (recursion_from_All (λ f. f.attributed ≡ is_attributed k f.name) d.functions d.attributed)) ∙
-      (ap (filter (is_attributed k)) (same_names switches d.functions ∙ d.named) ∙ sym attributed_is))
+      (all_of_map (λ f. f.attributed ≡ is_attributed k f.name) (with_switches switches) (present c.functions)
+      (recursion_from_All (λ f. f.attributed ≡ is_attributed k f.name) (present c.functions) d.attributed)) ∙
+      (ap (filter (is_attributed k)) (same_names switches (present c.functions) ∙ d.named) ∙ sym attributed_is))
 
   numbered : (fs : List Function) → map (λ f. f.name) fs ≡ k.outline.attributed → (name : List ℕ) (g n : ℕ) → place_of name k.outline.functions ≡ Some g →
       attributed_number k name ≡ Some n → HasNumber fs n name
@@ -81,4 +82,8 @@ module _ (items : List Item) where
   pub attributed_counted : (c : Contents) (main : ℕ) → AreJudged items c → AreAttributed k (attributed_functions (program_of c main))
   attributed_counted c main q =
       let e = attributed_names c main (functions_defined items c q) in
-      record { named = e; numbered = numbered (attributed_functions (program_of c main)) e }
+      record {
+        named = e;
+        numbered = numbered (attributed_functions (program_of c main)) e;
+        below = λ name g n p r. below (attributed_functions (program_of c main)) n name (numbered (attributed_functions (program_of c main)) e name g n p r);
+      }

@@ -7,9 +7,14 @@ use Rattle.mv_ast.specs.declared.unit.Shape.{Shape, Shape-F, out-Shape, map-Shap
 use Rattle.mv_ast.specs.declared.unit.Shape.TheOpen as shape
 use Rattle.mv_ast.specs.declared.unit.Shape.TheViews.{roll-out-Shape}
 use Rattle.mv_scope.specs.declared.scope.Scope.{Scope}
-use Rattle.mv_outline.specs.Outlined.{is_function_form}
+use Rattle.mv_outline.specs.Outlined.{is_function, is_function_form}
 use Rattle.mv_declare.specs.declared.declarators.Entity.{Entity}
 use Rattle.mv_declare.specs.declared.declarators.Entity.TheVariants as entity
+use Rattle.mv_declare.specs.declared.attributes.Position.TheVariants as position
+use Rattle.mv_declare.specs.declared.specifiers.Specified.{Specified}
+use Rattle.mv_declare.specs.Attributes.{attributes, holder_of}
+use Rattle.mv_declare.specs.Globals.{file_declarator}
+use Rattle.mv_declare.specs.Specifiers.{scalar_kind}
 use Rattle.mv_declare.specs.Declarators.{function_type, Shapes, Declarators, Params, size_of, shape_step, declarator_step, param_step, designated, parameter, parameter_declarator}
 use Rattle.mv_typed_bodies.proofs.Judging.{IfGood, if_any, if_then}
 
@@ -46,3 +51,9 @@ shape_alike x =
     subst (λ b. IsAlike b (designated x)) (form_kept (out-Shape x))
     (subst (IsAlike (is_function_form y)) (sym (fold-roll-Shape Shapes Declarators Params shape_step declarator_step param_step (out-Shape x)) ∙ ap designated (roll-out-Shape x))
     (step_alike y))
+
+pub file_alike : (b : Specified) (d : Declarator) (s : Scope) → IfGood (file_declarator b d s) (λ e. is_function_entity e.1.entity ≡ is_function d)
+file_alike b d s =
+    if_then (λ e. is_function_entity e.1 ≡ is_function d) (λ e. is_function_entity e.1.entity ≡ is_function d) (designated d.shape b.ctype b.fixed s) _ (shape_alike d.shape b.ctype b.fixed s) (λ e q.
+    let given = attributes (holder_of position.File b.fixed d) (scalar_kind b.ctype) e.0 d.marks b.attribute in
+    if_then (λ a. Unit {0}) (λ x. is_function_entity x.1.entity ≡ is_function d) given _ (if_any given) (λ a u. q))

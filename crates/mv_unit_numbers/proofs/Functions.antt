@@ -1,6 +1,6 @@
 -- The functions that a unit defines by its outline are defined by its items.
 use Rattle.std.proofs.Common.{◌≡◌, ℕ, zero, suc, refl, sym, ◌∙◌, ap, ap₂, subst, ◌⊎◌, inl, inr, Bool, true, false, ◌&&◌, ◌||◌, if◌then◌else◌, List, [], ◌∷◌, ◌++◌, length, map, filter, replicate, Option, Some, None, is_some, slice_get, get_or, ◌<◌, arith}
-use Rattle.std.specs.Prelude.{slice_set, unwrap_or}
+use Rattle.std.specs.Prelude.{All, slice_set, unwrap_or}
 use Rattle.std.specs.List.{AllByRecursion}
 use Rattle.std.proofs.lemmas.List.{length-set, length-map, append-nil}
 use Rattle.std.proofs.lemmas.List.Elements.{All-from_recursion}
@@ -43,11 +43,11 @@ use Rattle.mv_types.specs.Foreknown.{foreknown, is_attributed}
 use Rattle.mv_types.specs.Functions.{is_defined, is_defined_at, body_entered, body_left, params_of, definition_parameters, function_of, function_scope, defined, unless_broken, before_of, rule_of, function_behind, function_judgement}
 use Rattle.mv_types.specs.Objects.{type_by_rules, initialised, object_behind, object_judgement, domain_by, object_scope}
 use Rattle.mv_types.specs.Units.{by_entity, named_declarator, base_of, declarator_judgement, holders, item_judgement}
-use Rattle.mv_unit_numbers.specs.Numbers.{AreDefined}
-use Rattle.mv_unit_numbers.proofs.Lists.{all_both, by_places, there_set, set_there, unmapped_there}
+use Rattle.mv_unit_numbers.specs.Numbers.{AreDefined, IsForeknown}
+use Rattle.mv_unit_numbers.proofs.Lists.{all_more, all_both, by_places, there_set, set_there, unmapped_there}
 use Rattle.mv_unit_numbers.proofs.NameLists.{Different, name_is, among_here, among_last, among_once, among_kept, among_different, at_place, place_there, place_among}
 use Rattle.mv_unit_numbers.proofs.Items.{one, IsNamed, AreNamed, all_named, items_done}
-use Rattle.mv_unit_numbers.proofs.Designated.{is_function_entity, shape_alike}
+use Rattle.mv_unit_numbers.proofs.Designated.{is_function_entity, file_alike}
 
 -- ---- lists of functions that are defined or not
 
@@ -93,6 +93,11 @@ same_list (x ∷ xs) (y ∷ ys) e h =
     let q : y ≡ x = (let r : Some y ≡ Some x = h zero x refl in cc) in
     ap₂ (λ a b. a ∷ b) (sym q) (same_list xs ys (omega (arith, e)) (λ i z r. h (suc i) z r))
 
+-- a rule that is broken or not
+pub if_unbroken : (Q : Contents → Type 0) (d : Declarator) (rule : Option ℕ) (j : Judged Contents) → IfGood j Q → IfGood (unless_broken d.place rule j) Q
+if_unbroken Q d None j h = h
+if_unbroken Q d (Some rule) j h = tt
+
 -- ---- what the functions so far are
 
 module _ (k : Foreknown) (different : Different k.outline.functions) where
@@ -123,9 +128,9 @@ module _ (k : Foreknown) (different : Different k.outline.functions) where
     there = λ m r. there m (same_name m name) refl (sym (among_last m done name) ∙ r);
   }
     where
-      right : (j : ℕ) (g : Function) → (slice_get fs j ≡ Some (Some g)) ⊎ ((n ≡ j) × (Some f ≡ Some g)) →
+      right : (j : ℕ) (g : Function) → ((slice_get fs j ≡ Some (Some g)) × (n ≡ j → ⊥)) ⊎ ((n ≡ j) × (Some f ≡ Some g)) →
           (slice_get names j ≡ Some g.name) × (g.attributed ≡ is_attributed k g.name)
-      right j g (inl r) = h.right j g r
+      right j g (inl r) = h.right j g r.0
       right j g (inr r) =
           let u : f ≡ g = (let v : Some f ≡ Some g = r.1 in cc) in
           subst (λ (x : Function). (slice_get names j ≡ Some x.name) × (x.attributed ≡ is_attributed k x.name)) u
@@ -180,10 +185,6 @@ module _ (k : Foreknown) (different : Different k.outline.functions) where
       subst (λ o. AreRight (done ++ name ∷ []) (slice_set c.functions (unwrap_or o 0) (Some f.1))) (sym there.1)
       (one_right done c.functions name there.0 f.1 h there.1 m.0 m.1))
 
-  if_unbroken : (Q : Contents → Type 0) (d : Declarator) (rule : Option ℕ) (j : Judged Contents) → IfGood j Q → IfGood (unless_broken d.place rule j) Q
-  if_unbroken Q d None j h = h
-  if_unbroken Q d (Some rule) j h = tt
-
   function_right : (done : List (List ℕ)) (d : Declarator) (name : List ℕ) (result : CType) (signature : ℕ) (body : Option Line) (c : Contents) → Right done c →
       (is_there body ≡ true → is_among name names ≡ true) → IfGood (function_judgement k d name result signature body c) (Right (onward done name body))
   unfolding function_judgement
@@ -224,12 +225,6 @@ module _ (k : Foreknown) (different : Different k.outline.functions) where
   unfolding named_declarator
   named_right done b body d None e c h function q g = tt
   named_right done b body d (Some name) e c h function q g = entity_right done b body d name e.entity e.attribute c h function q g
-
-  file_alike : (b : Specified) (d : Declarator) (s : Scope) → IfGood (file_declarator b d s) (λ e. is_function_entity e.1.entity ≡ is_function d)
-  file_alike b d s =
-      if_then (λ e. is_function_entity e.1 ≡ is_function d) (λ e. is_function_entity e.1.entity ≡ is_function d) (designated d.shape b.ctype b.fixed s) _ (shape_alike d.shape b.ctype b.fixed s) (λ e q.
-      let given = attributes (holder_of position.File b.fixed d) (scalar_kind b.ctype) e.0 d.marks b.attribute in
-      if_then (λ a. Unit {0}) (λ x. is_function_entity x.1.entity ≡ is_function d) given _ (if_any given) (λ a u. q))
 
   declarator_right : (i : Item) (b : Specified) → Unit {0} → (d : Declarator) → IsNamed wanted.DefinedFunctions names i d → (xs ys : List (List ℕ)) (c : Contents) → Right xs c →
       IfGood (declarator_judgement k b i.body d c) (Right (xs ++ one wanted.DefinedFunctions i d))
@@ -282,7 +277,7 @@ known_named items =
     all_both (AreNamed wanted.DefinedFunctions (all_names wanted.DefinedFunctions items)) (AreNamed wanted.Functions (all_names wanted.Functions items))
     (AreNamed wanted.DefinedFunctions (foreknown items).outline.functions)
     (λ i. all_both (IsNamed wanted.DefinedFunctions (all_names wanted.DefinedFunctions items) i) (IsNamed wanted.Functions (all_names wanted.Functions items) i)
-        (IsNamed wanted.DefinedFunctions (foreknown items).outline.functions i) (one_named i) i.names)
+    (IsNamed wanted.DefinedFunctions (foreknown items).outline.functions i) (one_named i) i.names)
     items (all_named wanted.DefinedFunctions items) (all_named wanted.Functions items)
   where
     one_named : (i : Item) (d : Declarator) → IsNamed wanted.DefinedFunctions (all_names wanted.DefinedFunctions items) i d →
@@ -290,7 +285,7 @@ known_named items =
     one_named i d h g q =
         subst (λ ns. is_among (name_of d) ns ≡ true) (sym (known_functions items))
         (among_functions (name_of d) items ∙ both (is_among (name_of d) (all_names wanted.DefinedFunctions items)) (is_among (name_of d) (all_names wanted.Functions items)) (h q)
-            (g (and_left (is_function d) (is_there i.body) q)))
+        (g (and_left (is_function d) (is_there i.body) q)))
 
 -- ---- all of them are defined
 
@@ -323,15 +318,20 @@ module _ (items : List Item) where
       by n o q x =
           told o (ap is_defined (sym q) ∙ (ap (is_defined_at fs) (sym (place_there known (known_different items) n x.0 x.1)) ∙ h.there x.0 (is_known x.0 n x.1)))
 
+  each : (fs : List (Option Function)) (gs : List Function) → fs ≡ map (λ f. Some f) gs → (g : ℕ) → g < length fs → (f : Function) × (slice_get fs g ≡ Some (Some f))
+  each fs gs e g lt =
+      let x = unmapped_there (λ f. Some f) gs g (get_or fs g None) (ap (λ xs. slice_get xs g) (sym e) ∙ slice_get-get_or fs g None lt) in
+      (x.0, slice_get-get_or fs g None lt ∙ ap (λ o. Some o) (sym x.2))
+
   are_defined : (c : Contents) → IsRight c.functions → AreDefined k c
   are_defined c h =
       let gs : List Function = present c.functions in
       let all : c.functions ≡ map (λ f. Some f) gs = all_present c.functions (defines c.functions h) in
       let right : (n : ℕ) (g : Function) → slice_get gs n ≡ Some g → (slice_get known n ≡ Some g.name) × (g.attributed ≡ is_attributed k g.name) =
-          (λ n g q. h.right n g (ap (λ fs. slice_get fs n) all ∙ mapped_there (λ f. Some f) gs n g q)) in
+      (λ n g q. h.right n g (ap (λ fs. slice_get fs n) all ∙ mapped_there (λ f. Some f) gs n g q)) in
       record {
-        functions = gs;
         all = all;
+        each = each c.functions gs all;
         named = same_list (map (λ f. f.name) gs) known
             (length-map gs (λ f. f.name) ∙ (sym (length-map gs (λ (f : Function). Some f)) ∙ (ap length (sym all) ∙ h.count)))
             (λ n name q. let x = unmapped_there (λ f. f.name) gs n name q in (right n x.0 x.1).0 ∙ ap (λ y. Some y) x.2);
@@ -342,3 +342,22 @@ module _ (items : List Item) where
   functions_defined c q =
       are_defined c
       (of_good (λ t. IsRight t.functions) (through (item_judgement k) items (nothing_declared k)) (all_right k (known_different items) items (known_named items)) c q)
+
+-- ---- each function that an item defines has a number
+
+module _ (items : List Item) where
+  abbrev ns : List (List ℕ)
+  ns = (foreknown items).outline.functions
+
+  abbrev HasPlace : Declarator → Type 0
+  HasPlace d = is_function d ≡ true → (g : ℕ) × (place_of (name_of d) ns ≡ Some g)
+
+  item_known : (i : Item) → AreNamed wanted.DefinedFunctions ns i → IsForeknown (foreknown items) i
+  item_known i h body q =
+      All-from_recursion HasPlace i.names
+      (all_more (IsNamed wanted.DefinedFunctions ns i) HasPlace i.names
+          (λ d f r. place_among (name_of d) ns (known_different items) (f (both (is_function d) (is_there i.body) r (ap is_there q)))) h)
+
+  pub items_known : All (IsForeknown (foreknown items)) items
+  items_known =
+      All-from_recursion (IsForeknown (foreknown items)) items (all_more (AreNamed wanted.DefinedFunctions ns) (IsForeknown (foreknown items)) items item_known (known_named items))

@@ -58,10 +58,11 @@ AreNamed w ns i = AllByRecursion (IsNamed w ns i) i.names
 
 some_named : (w : Wanted) (i : Item) (ds : List Declarator) → AllByRecursion (IsNamed w (some w i ds) i) ds
 some_named w i [] = tt
-some_named w i (d ∷ ds) =
-    (λ q. ap (λ b. is_among (name_of d) (map name_of (if b then d ∷ filter (is_wanted w i) ds else filter (is_wanted w i) ds))) q ∙
-        ap (λ b. b || is_among (name_of d) (some w i ds)) (name_itself (name_of d)),
-    all_more (IsNamed w (some w i ds) i) (IsNamed w (some w i (d ∷ ds)) i) ds (λ e h q. more (is_wanted w i d) e (h q)) (some_named w i ds))
+some_named w i (d ∷ ds) = (
+  λ q. ap (λ b. is_among (name_of d) (map name_of (if b then d ∷ filter (is_wanted w i) ds else filter (is_wanted w i) ds))) q ∙
+      ap (λ b. b || is_among (name_of d) (some w i ds)) (name_itself (name_of d)),
+  all_more (IsNamed w (some w i ds) i) (IsNamed w (some w i (d ∷ ds)) i) ds (λ e h q. more (is_wanted w i d) e (h q)) (some_named w i ds),
+)
   where
     later : (b : Bool) → (b || true) ≡ true
     later true = refl
@@ -74,22 +75,23 @@ some_named w i (d ∷ ds) =
 
 pub all_named : (w : Wanted) (items : List Item) → AllByRecursion (AreNamed w (all_names w items)) items
 all_named w [] = tt
-all_named w (i ∷ is) =
-    (all_more (IsNamed w (names_in w i) i) (IsNamed w (all_names w (i ∷ is)) i) i.names
-        (λ d h q. subst (λ ns. is_among (name_of d) ns ≡ true) (sym (flat_map-cons (names_in w) i is)) (among_more (name_of d) (names_in w i) (all_names w is) (h q)))
-        (some_named w i i.names),
-    all_more (AreNamed w (all_names w is)) (AreNamed w (all_names w (i ∷ is))) is
-        (λ j h. all_more (IsNamed w (all_names w is) j) (IsNamed w (all_names w (i ∷ is)) j) j.names
-            (λ d h q. subst (λ ns. is_among (name_of d) ns ≡ true) (sym (flat_map-cons (names_in w) i is)) (among_later (name_of d) (names_in w i) (all_names w is) (h q))) h)
-        (all_named w is))
+all_named w (i ∷ is) = (
+  all_more (IsNamed w (names_in w i) i) (IsNamed w (all_names w (i ∷ is)) i) i.names
+      (λ d h q. subst (λ ns. is_among (name_of d) ns ≡ true) (sym (flat_map-cons (names_in w) i is)) (among_more (name_of d) (names_in w i) (all_names w is) (h q)))
+      (some_named w i i.names),
+  all_more (AreNamed w (all_names w is)) (AreNamed w (all_names w (i ∷ is))) is
+      (λ j h. all_more (IsNamed w (all_names w is) j) (IsNamed w (all_names w (i ∷ is)) j) j.names
+      (λ d h q. subst (λ ns. is_among (name_of d) ns ≡ true) (sym (flat_map-cons (names_in w) i is)) (among_later (name_of d) (names_in w i) (all_names w is) (h q))) h)
+      (all_named w is),
+)
 
 -- ---- two lists of names that grow with the contents
 
 module _ (k : Foreknown) (w v : Wanted) (P : List (List ℕ) → List (List ℕ) → Contents → Type 0) (B : Item → Specified → Type 0) (G : Item → Declarator → Type 0)
     (first : (i : Item) (xs ys : List (List ℕ)) (c : Contents) → P xs ys c →
-        IfGood (specifiers position.File (holders k i.names) i.specs c.scope) (λ b. B i b.1 × P xs ys (in_scope c b.0)))
+    IfGood (specifiers position.File (holders k i.names) i.specs c.scope) (λ b. B i b.1 × P xs ys (in_scope c b.0)))
     (each : (i : Item) (b : Specified) → B i b → (d : Declarator) → G i d → (xs ys : List (List ℕ)) (c : Contents) → P xs ys c →
-        IfGood (declarator_judgement k b i.body d c) (P (xs ++ one w i d) (ys ++ one v i d))) where
+    IfGood (declarator_judgement k b i.body d c) (P (xs ++ one w i d) (ys ++ one v i d))) where
   moved : (xs xs' ys ys' : List (List ℕ)) (c : Contents) → xs ≡ xs' → ys ≡ ys' → P xs ys c → P xs' ys' c
   moved xs xs' ys ys' c e f h = subst (λ zs. P zs ys' c) e (subst (λ zs. P xs zs c) f h)
 
@@ -101,8 +103,8 @@ module _ (k : Foreknown) (w v : Wanted) (P : List (List ℕ) → List (List ℕ)
   one_more i b h xs ys ds d g c p =
       if_more (P ((xs ++ some w i ds) ++ one w i d) ((ys ++ some v i ds) ++ one v i d)) (Behind i xs ys (ds ++ d ∷ [])) (declarator_judgement k b i.body d c)
       (λ t. moved ((xs ++ some w i ds) ++ one w i d) (xs ++ some w i (ds ++ d ∷ [])) ((ys ++ some v i ds) ++ one v i d) (ys ++ some v i (ds ++ d ∷ [])) t
-          (append_assoc xs (some w i ds) (one w i d) ∙ ap (λ ns. xs ++ ns) (sym (some_more w i ds d)))
-          (append_assoc ys (some v i ds) (one v i d) ∙ ap (λ ns. ys ++ ns) (sym (some_more v i ds d))))
+      (append_assoc xs (some w i ds) (one w i d) ∙ ap (λ ns. xs ++ ns) (sym (some_more w i ds d)))
+      (append_assoc ys (some v i ds) (one v i d) ∙ ap (λ ns. ys ++ ns) (sym (some_more v i ds d))))
       (each i b h d g (xs ++ some w i ds) (ys ++ some v i ds) c p)
 
   abbrev After : List Item → Contents → Type 0
@@ -118,7 +120,7 @@ module _ (k : Foreknown) (w v : Wanted) (P : List (List ℕ) → List (List ℕ)
       if_more (Behind i xs ys i.names) (After (done ++ i ∷ [])) (through (declarator_judgement k b.1 i.body) i.names (in_scope c b.0))
       (λ t. moved (xs ++ names_in w i) (all_names w (done ++ i ∷ [])) (ys ++ names_in v i) (all_names v (done ++ i ∷ [])) t (sym (all_more_names w done i)) (sym (all_more_names v done i)))
       (if_done (declarator_judgement k b.1 i.body) (Behind i xs ys) (G i) (one_more i b.1 e.0 xs ys) i.names g [] (in_scope c b.0)
-          (moved xs (xs ++ []) ys (ys ++ []) (in_scope c b.0) (sym (append-nil xs)) (sym (append-nil ys)) e.1))))
+      (moved xs (xs ++ []) ys (ys ++ []) (in_scope c b.0) (sym (append-nil xs)) (sym (append-nil ys)) e.1))))
 
   pub items_done : (items : List Item) → AllByRecursion (λ i. AllByRecursion (G i) i.names) items → (c : Contents) → P [] [] c →
       IfGood (through (item_judgement k) items c) (P (all_names w items) (all_names v items))

@@ -5,3 +5,8 @@ mod Items
 mod Designated
 mod Functions
 mod Attributed
+mod Marks
+mod Spaces
+mod Objects
+mod DeclaredObjects
+mod Switches

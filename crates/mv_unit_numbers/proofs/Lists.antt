@@ -1,5 +1,5 @@
 -- Lists at a place, and with one element changed.
-use Rattle.std.proofs.Common.{◌≡◌, ℕ, zero, suc, refl, sym, ◌∙◌, ap, subst, ◌⊎◌, inl, inr, Bool, true, false, ◌||◌, List, [], ◌∷◌, ◌++◌, length, map, filter, Option, Some, None, slice_get, if◌then◌else◌}
+use Rattle.std.proofs.Common.{◌≡◌, ℕ, zero, suc, refl, sym, ◌∙◌, ap, subst, ◌⊎◌, inl, inr, Bool, true, false, ◌||◌, List, [], ◌∷◌, ◌++◌, length, map, filter, Option, Some, None, slice_get, if◌then◌else◌, arith}
 use Rattle.std.specs.Prelude.{slice_set}
 use Rattle.std.specs.List.{AllByRecursion}
 
@@ -41,15 +41,16 @@ module _ {A : Type 0} where
   there_set (z ∷ zs) (suc i) x y h = there_set zs i x y h
 
   -- what stands at a place is what stood there, or what is put there
-  pub set_there : (xs : List A) (i : ℕ) (y : A) (j : ℕ) (x : A) → slice_get (slice_set xs i y) j ≡ Some x → (slice_get xs j ≡ Some x) ⊎ ((i ≡ j) × (y ≡ x))
-  set_there [] i y j x h = inl h
+  pub set_there : (xs : List A) (i : ℕ) (y : A) (j : ℕ) (x : A) → slice_get (slice_set xs i y) j ≡ Some x →
+      ((slice_get xs j ≡ Some x) × (i ≡ j → ⊥)) ⊎ ((i ≡ j) × (y ≡ x))
+  set_there [] i y j x h = absurd (cc)
   set_there (z ∷ zs) zero y zero x h = inr (refl, cc)
-  set_there (z ∷ zs) zero y (suc j) x h = inl h
-  set_there (z ∷ zs) (suc i) y zero x h = inl h
+  set_there (z ∷ zs) zero y (suc j) x h = inl (h, λ e. omega (arith, e))
+  set_there (z ∷ zs) (suc i) y zero x h = inl (h, λ e. omega (arith, e))
   set_there (z ∷ zs) (suc i) y (suc j) x h = by (set_there zs i y j x h)
     where
-      by : (slice_get zs j ≡ Some x) ⊎ ((i ≡ j) × (y ≡ x)) → (slice_get (z ∷ zs) (suc j) ≡ Some x) ⊎ ((suc i ≡ suc j) × (y ≡ x))
-      by (inl q) = inl q
+      by : ((slice_get zs j ≡ Some x) × (i ≡ j → ⊥)) ⊎ ((i ≡ j) × (y ≡ x)) → ((slice_get (z ∷ zs) (suc j) ≡ Some x) × (suc i ≡ suc j → ⊥)) ⊎ ((suc i ≡ suc j) × (y ≡ x))
+      by (inl q) = inl (q.0, λ e. q.1 (omega (arith, e)))
       by (inr q) = inr (ap suc q.0, q.1)
 
 module _ {A B : Type 0} where

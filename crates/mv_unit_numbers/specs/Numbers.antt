@@ -1,12 +1,15 @@
 -- The numbers that a unit's names have before its first declaration is judged are those that they have in its program.
-use Rattle.std.specs.Prelude.{◌≡◌, ℕ, All, List, map, length, Option, Some, slice_get, is_some}
+use Rattle.std.specs.Prelude.{◌≡◌, ℕ, ◌<◌, true, All, List, map, length, Some, nat_lt, slice_get}
 use Rattle.mv_ast.specs.declared.program.Function.{Function}
 use Rattle.mv_ast.specs.declared.program.Switch.{Switch}
 use Rattle.mv_ast.specs.declared.unit.Item.{Item}
+use Rattle.mv_ast.specs.declared.unit.Declarator.{Declarator}
+use Rattle.mv_ast.specs.declared.unit.Line.{Line}
 use Rattle.mv_ast.specs.Plans.{attributed_functions}
 use Rattle.mv_judge.specs.Judged.{Good}
 use Rattle.mv_declare.specs.Turns.{through}
 use Rattle.mv_outline.specs.Names.{place_of}
+use Rattle.mv_outline.specs.Outlined.{is_function, name_of}
 use Rattle.mv_types.specs.declared.contents.Contents.{Contents}
 use Rattle.mv_types.specs.declared.contents.Foreknown.{Foreknown}
 use Rattle.mv_types.specs.Contents.{nothing_declared, present}
@@ -21,13 +24,21 @@ AreJudged items c = through (item_judgement (foreknown items)) items (nothing_de
 
 -- All the functions that are known are defined, in their order. One has the attribute where any of its declarations has it.
 pub record AreDefined (k : Foreknown) (c : Contents) : Type 0 where
-  pub functions : List Function
-  pub all : c.functions ≡ map (λ f. Some f) functions
-  pub named : map (λ f. f.name) functions ≡ k.outline.functions
-  pub attributed : All (λ f. f.attributed ≡ is_attributed k f.name) functions
+  pub all : c.functions ≡ map (λ f. Some f) (present c.functions)
+  pub each : (g : ℕ) → g < length c.functions → (f : Function) × (slice_get c.functions g ≡ Some (Some f))
+  pub named : map (λ f. f.name) (present c.functions) ≡ k.outline.functions
+  pub attributed : All (λ f. f.attributed ≡ is_attributed k f.name) (present c.functions)
 
 abbrev pub FunctionsAreDefined : Type 0
 FunctionsAreDefined = (items : List Item) (c : Contents) → AreJudged items c → AreDefined (foreknown items) c
+
+-- each function that an item defines has a number
+abbrev pub IsForeknown : Foreknown → Item → Type 0
+IsForeknown k i =
+    (body : Line) → i.body ≡ Some body → All (λ d. is_function d ≡ true → (g : ℕ) × (place_of (name_of d) k.outline.functions ≡ Some g)) i.names
+
+abbrev pub ItemsAreForeknown : Type 0
+ItemsAreForeknown = (items : List Item) → All (IsForeknown (foreknown items)) items
 
 -- the function with a number, by its name
 abbrev pub HasNumber : List Function → ℕ → List ℕ → Type 0
@@ -37,6 +48,7 @@ HasNumber functions n name = (f : Function) × (slice_get functions n ≡ Some f
 pub record AreAttributed (k : Foreknown) (functions : List Function) : Type 0 where
   pub named : map (λ f. f.name) functions ≡ k.outline.attributed
   pub numbered : (name : List ℕ) (g n : ℕ) → place_of name k.outline.functions ≡ Some g → attributed_number k name ≡ Some n → HasNumber functions n name
+  pub below : (name : List ℕ) (g n : ℕ) → place_of name k.outline.functions ≡ Some g → attributed_number k name ≡ Some n → nat_lt n (length functions) ≡ true
 
 abbrev pub AttributedAreCounted : Type 0
 AttributedAreCounted =
@@ -53,6 +65,7 @@ pub record AreSwitches (k : Foreknown) (c : Contents) (switches : List Switch) :
   pub named : map (λ o. o.global.name) c.objects ≡ k.outline.objects
   pub globals : map (λ s. Some s.global) switches ≡ map (λ name. place_of name k.outline.objects) k.outline.switches
   pub numbered : (name : List ℕ) (g n : ℕ) → place_of name k.outline.objects ≡ Some g → place_of name k.outline.switches ≡ Some n → IsSwitchOf switches n g
+  pub below : (name : List ℕ) (n : ℕ) → place_of name k.outline.switches ≡ Some n → nat_lt n (length switches) ≡ true
 
 abbrev pub SwitchesAreCounted : Type 0
 SwitchesAreCounted =

@@ -1,5 +1,5 @@
 use Rattle.mv_unit_numbers.proofs.Attributed.{attributed_counted}
-use Rattle.mv_unit_numbers.proofs.Functions.{functions_defined}
+use Rattle.mv_unit_numbers.proofs.Functions.{functions_defined, items_known}
 use Rattle.mv_unit_numbers.proofs.functions_have_their_numbers.Goals as goal
 
 pub returns-clause-defined : goal.returns-clause-defined
@@ -7,3 +7,6 @@ returns-clause-defined c items d q = functions_defined items d q
 
 pub returns-clause-attributed : goal.returns-clause-attributed
 returns-clause-attributed c items d main q = attributed_counted items d main q
+
+pub returns-clause-known : goal.returns-clause-known
+returns-clause-known c items = items_known items
