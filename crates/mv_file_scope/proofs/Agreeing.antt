@@ -126,17 +126,17 @@ pub record ParamHas (x : Params) : Type 0 where
 
 -- ---- parameters in their order
 
-abbrev Types : Type 0
+abbrev pub Types : Type 0
 Types = Scope × List CType
 
 -- what one more parameter gives
-record IsNext (x : Params) (c m : Types) : Type 0 where
-  given : Scope × CType
-  judged : x c.0 ≡ Good given
-  scope : given.0 ≡ m.0
-  types : c.1 ++ given.1 ∷ [] ≡ m.1
+pub record IsNext (x : Params) (c m : Types) : Type 0 where
+  pub given : Scope × CType
+  pub judged : x c.0 ≡ Good given
+  pub scope : given.0 ≡ m.0
+  pub types : c.1 ++ given.1 ∷ [] ≡ m.1
 
-part_good : (x : Params) (c m : Types) → next_part x c ≡ Good m → IsNext x c m
+pub part_good : (x : Params) (c m : Types) → next_part x c ≡ Good m → IsNext x c m
 part_good x c m q =
     let y = then_good (x c.0) (λ e. Good (e.0, c.1 ++ e.1 ∷ [])) m q in
     let r = good_same (y.0.0, c.1 ++ y.0.1 ∷ []) m y.2 in
@@ -145,7 +145,7 @@ part_good x c m q =
 part_keeps : (x : Params) → ParamHas x → (c m : Types) → IsNext x c m → Keeps c.0.signatures m.0.signatures
 part_keeps x h c m n = subst (λ (z : Scope). Keeps c.0.signatures z.signatures) n.scope (h.keeps c.0 n.given n.judged)
 
-parts_keep : (xs : List Params) → AllByRecursion ParamHas xs → (c d : Types) → in_turn xs c ≡ Good d → Keeps c.0.signatures d.0.signatures
+pub parts_keep : (xs : List Params) → AllByRecursion ParamHas xs → (c d : Types) → in_turn xs c ≡ Good d → Keeps c.0.signatures d.0.signatures
 parts_keep [] h c d q = subst (λ (z : Types). Keeps c.0.signatures z.0.signatures) (good_same c d q) (keeps_same c.0.signatures)
 parts_keep (x ∷ xs) h c d q =
     let m = then_good (next_part x c) (in_turn xs) d q in
@@ -288,20 +288,20 @@ new_gives : (place : Place) (name : Option (List ℕ)) (e : Entity) (s : Scope) 
 unfolding new_parameter
 new_gives place name e s = if_kept (Gives e s) (is_taken_by s name) place 2 (parameter_of place name e s) (λ q. parameter_gives place name e s)
 
-record IsOne (x : Declarator-F Shapes Declarators Params) (b : Specified) (s : Scope) (d : Scope × CType) : Type 0 where
-  entity : Scope × Entity
-  judged : x.shape b.ctype b.fixed s ≡ Good entity
-  type : type_in entity.1 ≡ Some d.1
-  signatures : d.0.signatures ≡ entity.0.signatures
+pub record IsOne (x : Declarator-F Shapes Declarators Params) (b : Specified) (s : Scope) (d : Scope × CType) : Type 0 where
+  pub entity : Scope × Entity
+  pub judged : x.shape b.ctype b.fixed s ≡ Good entity
+  pub type : type_in entity.1 ≡ Some d.1
+  pub signatures : d.0.signatures ≡ entity.0.signatures
 
-declarator_good : (x : Declarator-F Shapes Declarators Params) (b : Specified) (s : Scope) (d : Scope × CType) → declarator_step x b s ≡ Good d → IsOne x b s d
+pub declarator_good : (x : Declarator-F Shapes Declarators Params) (b : Specified) (s : Scope) (d : Scope × CType) → declarator_step x b s ≡ Good d → IsOne x b s d
 declarator_good x b s d q =
     let m = then_good (x.shape b.ctype b.fixed s) (λ e. and_then (attributes nothing_holds None e.0 x.marks b.attribute) (λ a. new_parameter x.place x.name e.1 e.0)) d q in
     let a = then_good (attributes nothing_holds None m.0.0 x.marks b.attribute) (λ a. new_parameter x.place x.name m.0.1 m.0.0) d m.2 in
     let g = of_good (Gives m.0.1 m.0.0) (new_parameter x.place x.name m.0.1 m.0.0) (new_gives x.place x.name m.0.1 m.0.0) d a.2 in
     record { entity = m.0; judged = m.1; type = g.0; signatures = g.1 }
 
-same_some : (x y : CType) → Some x ≡ Some y → x ≡ y
+pub same_some : (x y : CType) → Some x ≡ Some y → x ≡ y
 same_some x y r = cc
 
 declarator_has : (x : Declarator-F Shapes Declarators Params) → ShapeHas x.shape → DeclaratorHas (declarator_step x)
@@ -387,3 +387,7 @@ pub every_param : (x : Param) → ParamIs x
 every_param x =
     ind-Param ShapeIs DeclaratorIs ParamIs (λ x y q. subst (λ z. ShapeIs (roll-Shape z)) q (shape_is y))
     (λ x y q. subst (λ z. DeclaratorIs (roll-Declarator z)) q (declarator_is y)) (λ x y q. subst (λ z. ParamIs (roll-Param z)) q (param_is y)) x
+
+pub params_have : (ps : List Param) → AllByRecursion ParamHas (map parameter ps)
+params_have [] = tt
+params_have (p ∷ ps) = (every_param p, params_have ps)

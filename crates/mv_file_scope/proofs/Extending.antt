@@ -1,5 +1,5 @@
 -- How contents grow, and what stays true of them.
-use Rattle.std.proofs.Common.{◌≡◌, ℕ, ◌⊎◌, inl, inr, refl, sym, ◌∙◌, ap, subst, List, [], Some, None, slice_get}
+use Rattle.std.proofs.Common.{◌≡◌, ℕ, ◌⊎◌, inl, inr, refl, sym, ◌∙◌, ap, subst, List, [], length, Some, None, slice_get}
 use Rattle.mv_ast.specs.declared.program.CType.{CType}
 use Rattle.mv_ast.specs.declared.program.CType.TheVariants.{Pointer}
 use Rattle.mv_ast.specs.declared.program.Function.{Function}
@@ -19,7 +19,7 @@ use Rattle.mv_file_scope.specs.Declared.{IsStill, Extends, IsGlobal, IsDeclared,
 use Rattle.mv_file_scope.specs.Defined.{WasDefined, WereDefined}
 use Rattle.mv_file_scope.specs.Laws.{IsSoundBehind}
 
-still_same : (o : Object) (os : List Object) (n : ℕ) → slice_get os n ≡ Some o → IsStill o.global os n
+pub still_same : (o : Object) (os : List Object) (n : ℕ) → slice_get os n ≡ Some o → IsStill o.global os n
 still_same o os n h = record { object = o; there = h; name = refl; ctype = refl; size = refl }
 
 pub extends_same : (c : Contents) → Extends c c
@@ -109,3 +109,38 @@ module _ (k : Foreknown) where
       let x = h s in
       let y = j x.sound in
       record { extends = extends_joined b c d x.extends y.extends; sound = y.sound; defined = λ w. y.defined (x.defined w) }
+
+-- ---- contents in which no function is defined
+
+-- a name means what it meant, or what the contents have
+abbrev pub Named : Foreknown → Contents → Contents → Type 0
+Named k c d = (name : List ℕ) (m : Meaning) → named name d.scope.names.here ≡ Some m → (named name c.scope.names.here ≡ Some m) ⊎ IsDeclared k d name m
+
+pub record IsLike (k : Foreknown) (c d : Contents) : Type 0 where
+  pub extends : Extends c d
+  pub around : d.scope.names.around ≡ c.scope.names.around
+  pub locals : d.scope.locals ≡ c.scope.locals
+  pub results : AreListed c.scope.signatures → AreListed d.scope.signatures
+  pub functions : d.functions ≡ c.functions
+  pub names : Named k c d
+
+pub like_sound : (k : Foreknown) (c d : Contents) → IsLike k c d → To k c d
+like_sound k c d x s = record {
+  extends = x.extends;
+  sound = record {
+    around = x.around ∙ s.around;
+    locals = x.locals ∙ s.locals;
+    results = x.results s.results;
+    count = ap length x.functions ∙ s.count;
+    names = λ name m q. by name m (x.names name m q);
+    functions = λ g f q. definition_kept k c d x.extends g f (s.functions g f (there g f q));
+  };
+  defined = λ h g f q. was_kept k c d x.extends f (h g f (there g f q));
+}
+  where
+    there : (g : ℕ) (f : Function) → slice_get d.functions g ≡ Some (Some f) → slice_get c.functions g ≡ Some (Some f)
+    there g f q = subst (λ fs. slice_get fs g ≡ Some (Some f)) x.functions q
+
+    by : (name : List ℕ) (m : Meaning) → (named name c.scope.names.here ≡ Some m) ⊎ IsDeclared k d name m → IsDeclared k d name m
+    by name m (inl q) = declared_kept k c d x.extends name m (s.names name m q)
+    by name m (inr h) = h

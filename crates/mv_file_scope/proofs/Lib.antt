@@ -4,3 +4,8 @@ pub mod Signatures
 pub mod Extending
 pub mod Widening
 pub mod Agreeing
+pub mod Parameters
+pub mod Objects
+pub mod Functions
+pub mod Units
+pub mod Fitting
