@@ -2,4 +2,5 @@ mod Lists
 mod Units
 mod Fitting
 mod Functions
+mod Given
 mod Whole
