@@ -1,7 +1,6 @@
 -- The attributed functions of a program are those that are known.
-use Rattle.std.proofs.Common.{◌≡◌, ℕ, refl, sym, ◌∙◌, ap, ap₂, subst, Bool, true, false, ◌&&◌, if◌then◌else◌, List, [], ◌∷◌, map, length, nat_lt, filter, Option, Some, None, slice_get}
+use Rattle.std.proofs.Common.{◌≡◌, ℕ, refl, sym, ◌∙◌, ap, ap₂, subst, Bool, true, false, ◌&&◌, if◌then◌else◌, List, [], ◌∷◌, map, length, nat_lt, filter, Some, None, slice_get}
 use Rattle.std.specs.Prelude.{unwrap_or}
-use Rattle.std.specs.List.{AllByRecursion}
 use Rattle.std.proofs.lemmas.Bool.{lt-ltb}
 use Rattle.std.proofs.lemmas.Option.{slice_get_within}
 use Rattle.std.proofs.lemmas.List.Elements.{recursion_from_All}
@@ -9,9 +8,7 @@ use Rattle.mv_ast.specs.declared.program.Function.{Function}
 use Rattle.mv_ast.specs.declared.program.Switch.{Switch}
 use Rattle.mv_ast.specs.declared.unit.Item.{Item}
 use Rattle.mv_ast.specs.Plans.{attributed_functions}
-use Rattle.mv_outline.specs.declared.outline.Wanted.TheVariants as wanted
 use Rattle.mv_outline.specs.Names.{is_among, place_of, among}
-use Rattle.mv_outline.specs.Outlined as outlined
 use Rattle.mv_types.specs.declared.contents.Contents.{Contents}
 use Rattle.mv_types.specs.declared.contents.Foreknown.{Foreknown}
 use Rattle.mv_types.specs.Contents.{present, switches_from}
@@ -20,7 +17,7 @@ use Rattle.mv_types.specs.Units.{with_switches, program_of}
 use Rattle.mv_unit_numbers.specs.Numbers.{AreJudged, AreDefined, HasNumber, AreAttributed}
 use Rattle.mv_unit_numbers.proofs.Lists.{all_of_map, filter_map, unmapped_there}
 use Rattle.mv_unit_numbers.proofs.NameLists.{Different, among_here, among_kept, among_is, kept_different, at_place, place_among}
-use Rattle.mv_unit_numbers.proofs.Functions.{known_functions, known_different, functions_defined}
+use Rattle.mv_unit_numbers.proofs.Functions.{known_different, functions_defined}
 
 same_names : (switches : List Switch) (fs : List Function) → map (λ f. f.name) (map (with_switches switches) fs) ≡ map (λ f. f.name) fs
 same_names switches [] = refl

@@ -1,6 +1,7 @@
 -- The objects of a unit through its items.
-use Rattle.std.proofs.Common.{◌≡◌, ℕ, refl, sym, ◌∙◌, ap, ap₂, subst, Bool, true, false, ◌&&◌, ◌||◌, not, is_none, is_some, if◌then◌else◌, List, [], ◌∷◌, ◌++◌, length, Option, Some, None, slice_get}
+use Rattle.std.proofs.Common.{◌≡◌, ℕ, refl, sym, ◌∙◌, ap, subst, Bool, true, false, ◌&&◌, ◌||◌, not, is_none, is_some, if◌then◌else◌, List, [], ◌∷◌, ◌++◌, length, Option, Some, None, slice_get}
 use Rattle.std.specs.Prelude.{slice_set}
+use Rattle.std.proofs.Math.Bool.{or_comm}
 use Rattle.std.specs.List.{AllByRecursion}
 use Rattle.std.proofs.lemmas.List.{append-nil}
 use Rattle.mv_ast.specs.declared.place.Place.{Place}
@@ -15,9 +16,9 @@ use Rattle.mv_ast.specs.declared.unit.Specs.{out-Specs}
 use Rattle.mv_scope.specs.declared.meaning.Meaning.{Meaning}
 use Rattle.mv_scope.specs.declared.scope.Scope.{Scope}
 use Rattle.mv_scope.specs.Spaces.{named}
-use Rattle.mv_judge.specs.Judged.{Judged, Good, Broken, and_then}
+use Rattle.mv_judge.specs.Judged.{Judged, Good, Broken}
 use Rattle.mv_outline.specs.declared.outline.Wanted.TheVariants as wanted
-use Rattle.mv_outline.specs.Outlined.{is_function, is_filled, is_marked, name_of, all_names}
+use Rattle.mv_outline.specs.Outlined.{is_function, is_filled, is_marked, all_names}
 use Rattle.mv_declare.specs.declared.attributes.Attribute.{Attribute}
 use Rattle.mv_declare.specs.declared.attributes.Position.TheVariants as position
 use Rattle.mv_declare.specs.declared.declarators.Entity.{Entity}
@@ -43,7 +44,7 @@ use Rattle.mv_types.specs.declared.contents.Object.{Object}
 use Rattle.mv_types.specs.declared.functions.Before.{Before}
 use Rattle.mv_types.specs.Contents.{nothing_declared, in_scope}
 use Rattle.mv_types.specs.Foreknown.{is_attributed}
-use Rattle.mv_types.specs.Functions.{function_meaning, function_scope, params_of, body_entered, body_left, definition_parameters, function_of, defined, before_of, rule_of, function_judgement}
+use Rattle.mv_types.specs.Functions.{function_meaning, function_scope, params_of, body_entered, definition_parameters, function_of, defined, before_of, rule_of, function_judgement}
 use Rattle.mv_types.specs.Objects.{number_of, object_at, agrees_with, may_declare, broken_rule, unless_broken, type_by_rules, object_meaning, object_scope, new_object, again, replaced, objects_again, objects_behind, domain_by, initialised, object_judgement}
 use Rattle.mv_types.specs.Units.{by_entity, named_declarator, base_of, declarator_judgement, holders, item_judgement}
 use Rattle.mv_unit_numbers.proofs.Designated.{is_function_entity, file_alike}
@@ -51,7 +52,7 @@ use Rattle.mv_unit_numbers.proofs.Functions.{if_unbroken}
 use Rattle.mv_unit_numbers.proofs.Items.{one, items_done}
 use Rattle.mv_unit_numbers.proofs.Marks.{specifiers_marked, file_marked}
 use Rattle.mv_unit_numbers.proofs.Objects.{AreObjects, no_objects, others_added, if_marked, either_some, one_new, one_again}
-use Rattle.mv_unit_numbers.proofs.Spaces.{here, Adds, AddsTo, adds_same, adds_joined, adds_one, adds_nothing, specifiers_add}
+use Rattle.mv_unit_numbers.proofs.Spaces.{here, AddsTo, adds_same, adds_joined, adds_one, adds_nothing, specifiers_add}
 
 -- ---- what a declaration of an object may be
 
@@ -97,12 +98,6 @@ number_is k name n l (Some size) = refl
 domain_some : (s : Scope) (enumeration : Option ℕ) (a : Option Attribute) → is_some (domain_by s enumeration a) ≡ is_some a
 domain_some s enumeration None = refl
 domain_some s enumeration (Some a) = refl
-
-or_other : (a b : Bool) → (a || b) ≡ (b || a)
-or_other true true = refl
-or_other true false = refl
-or_other false true = refl
-or_other false false = refl
 
 every : (items : List Item) → AllByRecursion (λ i. AllByRecursion (λ d. Unit {0}) i.names) items
 every [] = tt
@@ -260,7 +255,7 @@ module _ (k : Foreknown) (bodies : BodyGrows) (fit : ParametersFit) where
       (λ e f.
       named_of b i.body d d.name e.1 (in_scope c e.0) xs ys
       (others_added xs ys (here c.scope) (here e.0) c.objects (adds_nothing c.scope e.0 (f.1.1 ∙ p)) h) (is_function d) (is_marked i d) f.0
-      (f.1.0 ∙ (ap (λ m. is_filled d.marks || m) tells.0 ∙ or_other (is_filled d.marks) (is_filled (out-Specs i.specs).marks)))))
+      (f.1.0 ∙ (ap (λ m. is_filled d.marks || m) tells.0 ∙ or_comm (is_filled d.marks) (is_filled (out-Specs i.specs).marks)))))
 
   first_of : (i : Item) (xs ys : List (List ℕ)) (c : Contents) → Of xs ys c →
       IfGood (specifiers position.File (holders k i.names) i.specs c.scope) (λ b. Tells i b.1 × Of xs ys (in_scope c b.0))

@@ -45,7 +45,7 @@ form_kept (shape.Function params) = refl
 form_kept (shape.Pointer constant params) = refl
 form_kept (shape.PointerArray constant size params) = refl
 
-pub shape_alike : (x : Shape) → IsAlike (is_function_form (out-Shape x)) (designated x)
+shape_alike : (x : Shape) → IsAlike (is_function_form (out-Shape x)) (designated x)
 shape_alike x =
     let y : Shape-F Shapes Declarators Params = map-Shape Shape Declarator Param Shapes Declarators Params designated parameter_declarator parameter (out-Shape x) in
     subst (λ b. IsAlike b (designated x)) (form_kept (out-Shape x))

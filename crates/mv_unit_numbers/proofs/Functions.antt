@@ -1,6 +1,7 @@
 -- The functions that a unit defines by its outline are defined by its items.
 use Rattle.std.proofs.Common.{◌≡◌, ℕ, zero, suc, refl, sym, ◌∙◌, ap, ap₂, subst, ◌⊎◌, inl, inr, Bool, true, false, ◌&&◌, ◌||◌, if◌then◌else◌, List, [], ◌∷◌, ◌++◌, length, map, filter, replicate, Option, Some, None, is_some, slice_get, get_or, ◌<◌, arith}
 use Rattle.std.specs.Prelude.{All, slice_set, unwrap_or}
+use Rattle.std.proofs.Math.Bool.{or-false}
 use Rattle.std.specs.List.{AllByRecursion}
 use Rattle.std.proofs.lemmas.List.{length-set, length-map, append-nil}
 use Rattle.std.proofs.lemmas.List.Elements.{All-from_recursion}
@@ -11,13 +12,11 @@ use Rattle.mv_ast.specs.declared.unit.Declarator.{Declarator}
 use Rattle.mv_ast.specs.declared.unit.Item.{Item}
 use Rattle.mv_ast.specs.declared.unit.Line.{Line}
 use Rattle.mv_ast.specs.declared.unit.Param.{Param}
-use Rattle.mv_ast.specs.declared.unit.Shape.{out-Shape}
 use Rattle.mv_scope.specs.declared.scope.Scope.{Scope}
-use Rattle.mv_scope.specs.declared.meaning.Meaning.{Meaning}
 use Rattle.mv_scope.specs.Spaces.{named}
-use Rattle.mv_judge.specs.Judged.{Judged, Good, Broken, and_then}
+use Rattle.mv_judge.specs.Judged.{Judged, Good}
 use Rattle.mv_outline.specs.declared.outline.Wanted.TheVariants as wanted
-use Rattle.mv_outline.specs.Names.{same_name, is_among, place_of, among}
+use Rattle.mv_outline.specs.Names.{same_name, is_among, place_of}
 use Rattle.mv_outline.specs.Outlined as outlined
 use Rattle.mv_outline.specs.Outlined.{is_function, is_function_form, is_there, is_wanted, name_of, all_names, functions}
 use Rattle.mv_declare.specs.declared.attributes.Attribute.{Attribute}
@@ -26,11 +25,9 @@ use Rattle.mv_declare.specs.declared.declarators.Entity.{Entity}
 use Rattle.mv_declare.specs.declared.declarators.Entity.TheVariants as entity
 use Rattle.mv_declare.specs.declared.globals.Designated.{Designated}
 use Rattle.mv_declare.specs.declared.specifiers.Specified.{Specified}
-use Rattle.mv_declare.specs.Attributes.{attributes, holder_of}
-use Rattle.mv_declare.specs.Declarators.{designated}
 use Rattle.mv_declare.specs.Globals.{file_declarator, global_words, object_type}
 use Rattle.mv_declare.specs.Parameters.{parameters_judgement}
-use Rattle.mv_declare.specs.Specifiers.{specifiers, scalar_kind}
+use Rattle.mv_declare.specs.Specifiers.{specifiers}
 use Rattle.mv_declare.specs.Turns.{through}
 use Rattle.mv_statement_rules.specs.Statements.{body_judgement}
 use Rattle.mv_typed_bodies.proofs.Judging.{IfGood, if_any, if_then, if_more, of_good}
@@ -38,13 +35,13 @@ use Rattle.mv_typed_bodies.proofs.Places.{mapped_there}
 use Rattle.mv_types.specs.declared.contents.Contents.{Contents}
 use Rattle.mv_types.specs.declared.contents.Foreknown.{Foreknown}
 use Rattle.mv_types.specs.declared.functions.Before.{Before}
-use Rattle.mv_types.specs.Contents.{nothing_declared, in_scope, with_function, present}
+use Rattle.mv_types.specs.Contents.{nothing_declared, in_scope, present}
 use Rattle.mv_types.specs.Foreknown.{foreknown, is_attributed}
-use Rattle.mv_types.specs.Functions.{is_defined, is_defined_at, body_entered, body_left, params_of, definition_parameters, function_of, function_scope, defined, unless_broken, before_of, rule_of, function_behind, function_judgement}
-use Rattle.mv_types.specs.Objects.{type_by_rules, initialised, object_behind, object_judgement, domain_by, object_scope}
+use Rattle.mv_types.specs.Functions.{is_defined, is_defined_at, body_entered, params_of, definition_parameters, function_of, function_scope, defined, unless_broken, before_of, rule_of, function_judgement}
+use Rattle.mv_types.specs.Objects.{type_by_rules, object_judgement, domain_by, object_scope}
 use Rattle.mv_types.specs.Units.{by_entity, named_declarator, base_of, declarator_judgement, holders, item_judgement}
 use Rattle.mv_unit_numbers.specs.Numbers.{AreDefined, IsForeknown}
-use Rattle.mv_unit_numbers.proofs.Lists.{all_more, all_both, by_places, there_set, set_there, unmapped_there}
+use Rattle.mv_unit_numbers.proofs.Lists.{all_more, all_both, by_places, set_there, unmapped_there}
 use Rattle.mv_unit_numbers.proofs.NameLists.{Different, name_is, among_here, among_last, among_once, among_kept, among_different, at_place, place_there, place_among}
 use Rattle.mv_unit_numbers.proofs.Items.{one, IsNamed, AreNamed, all_named, items_done}
 use Rattle.mv_unit_numbers.proofs.Designated.{is_function_entity, file_alike}
@@ -63,10 +60,6 @@ set_within : {A : Type 0} (xs : List A) (n : ℕ) (x : A) → n < length xs → 
 set_within [] n x lt = absurd (omega (arith, lt))
 set_within (y ∷ ys) zero x lt = refl
 set_within (y ∷ ys) (suc n) x lt = set_within ys n x (omega (arith, lt))
-
-or_no : (b : Bool) → (b || false) ≡ b
-or_no true = refl
-or_no false = refl
 
 abbrev nothing : Option Function
 nothing = None
@@ -144,7 +137,7 @@ module _ (k : Foreknown) (different : Different k.outline.functions) where
 
       there : (m : List ℕ) (b : Bool) → b ≡ same_name m name → (is_among m done || b) ≡ true → is_defined_at (slice_set fs n (Some f)) (place_of m names) ≡ true
       there m true u r = subst (λ x. is_defined_at (slice_set fs n (Some f)) (place_of x names) ≡ true) (sym (name_is m name (sym u))) here
-      there m false u r = still_defined fs n f (place_of m names) (h.there m (sym (or_no (is_among m done)) ∙ r))
+      there m false u r = still_defined fs n f (place_of m names) (h.there m (sym (or-false (is_among m done)) ∙ r))
 
   -- ---- objects
 
@@ -241,7 +234,7 @@ module _ (k : Foreknown) (different : Different k.outline.functions) where
       let judged = specifiers position.File (holders k i.names) i.specs c.scope in
       if_more (λ b. Unit {0}) (λ b. Unit {0} × Right xs (in_scope c b.0)) judged (λ b u. (tt, h)) (if_any judged)
 
-  pub all_right : (items : List Item) → AllByRecursion (AreNamed wanted.DefinedFunctions names) items →
+  all_right : (items : List Item) → AllByRecursion (AreNamed wanted.DefinedFunctions names) items →
       IfGood (through (item_judgement k) items (nothing_declared k)) (Right (all_names wanted.DefinedFunctions items))
   all_right items g =
       items_done k wanted.DefinedFunctions wanted.DefinedFunctions (λ xs ys c. Right xs c) (λ i b. Unit {0}) (IsNamed wanted.DefinedFunctions names)
@@ -249,7 +242,7 @@ module _ (k : Foreknown) (different : Different k.outline.functions) where
 
 -- ---- what is known of functions
 
-pub known_functions : (items : List Item) → (foreknown items).outline.functions ≡ functions items
+known_functions : (items : List Item) → (foreknown items).outline.functions ≡ functions items
 unfolding foreknown
 known_functions items = refl
 
@@ -356,7 +349,7 @@ module _ (items : List Item) where
   item_known i h body q =
       All-from_recursion HasPlace i.names
       (all_more (IsNamed wanted.DefinedFunctions ns i) HasPlace i.names
-          (λ d f r. place_among (name_of d) ns (known_different items) (f (both (is_function d) (is_there i.body) r (ap is_there q)))) h)
+      (λ d f r. place_among (name_of d) ns (known_different items) (f (both (is_function d) (is_there i.body) r (ap is_there q)))) h)
 
   pub items_known : All (IsForeknown (foreknown items)) items
   items_known =

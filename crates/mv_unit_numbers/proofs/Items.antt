@@ -1,6 +1,7 @@
 -- What holds of the contents behind some items, by the names that these declare.
-use Rattle.std.proofs.Common.{◌≡◌, ℕ, refl, sym, ◌∙◌, ap, ap₂, subst, Bool, true, false, ◌&&◌, ◌||◌, if◌then◌else◌, List, [], ◌∷◌, ◌++◌, map, filter}
-use Rattle.std.specs.List.{AllByRecursion, flat_map}
+use Rattle.std.proofs.Common.{◌≡◌, ℕ, refl, sym, ◌∙◌, ap, subst, Bool, true, false, ◌||◌, if◌then◌else◌, List, [], ◌∷◌, ◌++◌, map, filter}
+use Rattle.std.proofs.Math.Bool.{or-true}
+use Rattle.std.specs.List.{AllByRecursion}
 use Rattle.std.proofs.lemmas.Grind.{flat_map-append}
 use Rattle.std.proofs.lemmas.List.{append_assoc, append-nil, map-append}
 use Rattle.std.proofs.lemmas.List.Concat.{flat_map-cons}
@@ -8,7 +9,6 @@ use Rattle.std.proofs.lemmas.List.Elements.{filter-append}
 use Rattle.mv_ast.specs.declared.unit.Declarator.{Declarator}
 use Rattle.mv_ast.specs.declared.unit.Item.{Item}
 use Rattle.mv_ast.specs.declared.unit.Specs.{out-Specs}
-use Rattle.mv_scope.specs.declared.scope.Scope.{Scope}
 use Rattle.mv_outline.specs.declared.outline.Wanted.{Wanted}
 use Rattle.mv_outline.specs.Names.{same_name, is_among}
 use Rattle.mv_outline.specs.Outlined.{is_wanted, name_of, names_in, all_names}
@@ -64,13 +64,9 @@ some_named w i (d ∷ ds) = (
   all_more (IsNamed w (some w i ds) i) (IsNamed w (some w i (d ∷ ds)) i) ds (λ e h q. more (is_wanted w i d) e (h q)) (some_named w i ds),
 )
   where
-    later : (b : Bool) → (b || true) ≡ true
-    later true = refl
-    later false = refl
-
     more : (b : Bool) (e : Declarator) → is_among (name_of e) (some w i ds) ≡ true →
         is_among (name_of e) (map name_of (if b then d ∷ filter (is_wanted w i) ds else filter (is_wanted w i) ds)) ≡ true
-    more true e h = ap (λ b. same_name (name_of e) (name_of d) || b) h ∙ later (same_name (name_of e) (name_of d))
+    more true e h = ap (λ b. same_name (name_of e) (name_of d) || b) h ∙ or-true (same_name (name_of e) (name_of d))
     more false e h = h
 
 pub all_named : (w : Wanted) (items : List Item) → AllByRecursion (AreNamed w (all_names w items)) items

@@ -1,5 +1,5 @@
 -- Lists at a place, and with one element changed.
-use Rattle.std.proofs.Common.{◌≡◌, ℕ, zero, suc, refl, sym, ◌∙◌, ap, subst, ◌⊎◌, inl, inr, Bool, true, false, ◌||◌, List, [], ◌∷◌, ◌++◌, length, map, filter, Option, Some, None, slice_get, if◌then◌else◌, arith}
+use Rattle.std.proofs.Common.{◌≡◌, ℕ, zero, suc, refl, sym, ◌∙◌, ap, subst, ◌⊎◌, inl, inr, Bool, true, false, List, [], ◌∷◌, map, filter, Some, slice_get, if◌then◌else◌, arith}
 use Rattle.std.specs.Prelude.{slice_set}
 use Rattle.std.specs.List.{AllByRecursion}
 
@@ -28,17 +28,6 @@ module _ {A : Type 0} where
       by : (b : Bool) → AllByRecursion P (filter p xs) → AllByRecursion P (if b then x ∷ filter p xs else filter p xs)
       by true rest = (h.0, rest)
       by false rest = rest
-
-  -- what an element that is put at a place has, and all others
-  pub set_all : (P : A → Type 0) (xs : List A) (i : ℕ) (y : A) → AllByRecursion P xs → P y → AllByRecursion P (slice_set xs i y)
-  set_all P [] i y h k = tt
-  set_all P (x ∷ xs) zero y h k = (k, h.1)
-  set_all P (x ∷ xs) (suc i) y h k = (h.0, set_all P xs i y h.1 k)
-
-  pub there_set : (xs : List A) (i : ℕ) (x y : A) → slice_get xs i ≡ Some x → slice_get (slice_set xs i y) i ≡ Some y
-  there_set [] i x y h = absurd (cc)
-  there_set (z ∷ zs) zero x y h = refl
-  there_set (z ∷ zs) (suc i) x y h = there_set zs i x y h
 
   -- what stands at a place is what stood there, or what is put there
   pub set_there : (xs : List A) (i : ℕ) (y : A) (j : ℕ) (x : A) → slice_get (slice_set xs i y) j ≡ Some x →

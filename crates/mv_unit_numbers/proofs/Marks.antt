@@ -1,5 +1,6 @@
 -- Specifiers and a declarator give an attribute where there is a mark.
-use Rattle.std.proofs.Common.{◌≡◌, ℕ, zero, suc, ◌+◌, refl, sym, ◌∙◌, ap, ap₂, subst, Bool, true, false, ◌||◌, not, List, [], ◌∷◌, take, drop, Option, Some, None, is_some, arith}
+use Rattle.std.proofs.Common.{◌≡◌, ℕ, zero, suc, ◌+◌, refl, sym, ◌∙◌, ap, ap₂, Bool, true, ◌||◌, not, List, [], ◌∷◌, take, drop, Option, Some, is_some, arith}
+use Rattle.std.proofs.Math.Bool.{or-false, or-true}
 use Rattle.mv_num.specs.declared.kind.Kind.{Kind}
 use Rattle.mv_ast.specs.declared.place.Place.{Place}
 use Rattle.mv_ast.specs.declared.unit.Declarator.{Declarator}
@@ -7,7 +8,7 @@ use Rattle.mv_ast.specs.declared.unit.EnumSpec.{EnumSpec, out-EnumSpec}
 use Rattle.mv_ast.specs.declared.unit.Mark.{Mark, out-Mark}
 use Rattle.mv_ast.specs.declared.unit.Specs.{Specs, out-Specs}
 use Rattle.mv_scope.specs.declared.scope.Scope.{Scope}
-use Rattle.mv_judge.specs.Judged.{Judged, Good, Broken, and_then}
+use Rattle.mv_judge.specs.Judged.{Good}
 use Rattle.mv_judge.specs.TypeNames.{type_of}
 use Rattle.mv_outline.specs.Outlined.{is_filled}
 use Rattle.mv_declare.specs.declared.attributes.Attribute.{Attribute}
@@ -20,16 +21,7 @@ use Rattle.mv_declare.specs.Attributes.{given_domain, holds, held, attribute, at
 use Rattle.mv_declare.specs.Declarators.{designated}
 use Rattle.mv_declare.specs.Globals.{file_declarator}
 use Rattle.mv_declare.specs.Specifiers.{enumeration_of, count_before_list, nothing_said, enum_specifier, enum_specifiers, kind_of, scalar_kind, type_by_rules, specifiers}
-use Rattle.mv_declare.specs.Turns.{through}
 use Rattle.mv_typed_bodies.proofs.Judging.{IfGood, if_any, if_then, if_kept, if_through, if_more, each_any}
-
-or_no : (b : Bool) → (b || false) ≡ b
-or_no true = refl
-or_no false = refl
-
-or_yes : (b : Bool) → (b || true) ≡ true
-or_yes true = refl
-or_yes false = refl
 
 -- ---- attributes
 
@@ -42,13 +34,13 @@ attribute_there h k s m before =
     let f = out-Mark m in
     if_then (λ a. Unit {0}) (λ b. is_some b ≡ true) (given_domain k s f.values) _ (if_any (given_domain k s f.values)) (λ a u. held_there f.place h before a)
 
-pub attributes_there : (h : Holder) (k : Option Kind) (s : Scope) (ms : List Mark) (before : Option Attribute) →
+attributes_there : (h : Holder) (k : Option Kind) (s : Scope) (ms : List Mark) (before : Option Attribute) →
     IfGood (attributes h k s ms before) (λ a. is_some a ≡ (is_filled ms || is_some before))
 attributes_there h k s [] before = refl
 attributes_there h k s (m ∷ ms) before =
     if_then (λ b. is_some b ≡ true) (λ a. is_some a ≡ true) (attribute h k s m before) (attributes h k s ms) (attribute_there h k s m before) (λ b q.
     if_more (λ a. is_some a ≡ (is_filled ms || is_some b)) (λ a. is_some a ≡ true) (attributes h k s ms b)
-    (λ a r. r ∙ (ap (λ c. is_filled ms || c) q ∙ or_yes (is_filled ms))) (attributes_there h k s ms b))
+    (λ a r. r ∙ (ap (λ c. is_filled ms || c) q ∙ or-true (is_filled ms))) (attributes_there h k s ms b))
 
 -- ---- specifiers
 
@@ -67,7 +59,7 @@ drop_more (suc m) n (x ∷ xs) = ap (λ j. drop j (x ∷ xs)) (let e : suc m + n
 parts_filled : (n : ℕ) (ms : List Mark) (b : Bool) → (is_filled (drop n ms) || (is_filled (take n ms) || b)) ≡ (is_filled ms || b)
 parts_filled zero ms b = refl
 parts_filled (suc n) [] b = refl
-parts_filled (suc n) (m ∷ ms) b = or_yes (is_filled (drop n ms))
+parts_filled (suc n) (m ∷ ms) b = or-true (is_filled (drop n ms))
 
 -- whether there is a mark, in what is left or in what was said
 abbrev Left : List Mark → Scope × Said → Bool
@@ -91,7 +83,7 @@ specifiers_marked position names specs s =
     let k : Option Kind = kind_of (type_of s specs) in
     if_then (λ x. Left f.marks x ≡ is_filled f.marks) (λ d. is_some d.1.attribute ≡ is_filled f.marks) (enum_specifiers h k f.marks f.tags s) _
     (if_more (λ x. Left f.marks x ≡ Left f.marks (s, nothing_said)) (λ x. Left f.marks x ≡ is_filled f.marks) (enum_specifiers h k f.marks f.tags s)
-    (λ x q. q ∙ or_no (is_filled f.marks))
+    (λ x q. q ∙ or-false (is_filled f.marks))
     (if_through (enum_specifier h k f.marks) (λ x y. Left f.marks y ≡ Left f.marks x) (λ e. Unit {0}) (λ x. refl) (λ x y z p q. q ∙ p)
     (λ e u x. enum_left h k f.marks e x) f.tags (each_any f.tags) (s, nothing_said)))
     (λ x q.

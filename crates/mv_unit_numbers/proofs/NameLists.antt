@@ -1,6 +1,7 @@
 -- Lists of names: what is among them, and the place of a name where each stands once.
-use Rattle.std.proofs.Common.{◌≡◌, ℕ, zero, suc, refl, sym, ◌∙◌, ap, ap₂, subst, Bool, true, false, ◌||◌, ◌&&◌, not, cond, nat_eq, nat_lt, ◌<◌, if◌then◌else◌, List, [], ◌∷◌, ◌++◌, length, map, filter, fold, Option, Some, None, position, slice_get, get_or, ◌+◌, arith}
-use Rattle.std.specs.List.{AllByRecursion, list_any, position_or_len, prefix_len}
+use Rattle.std.proofs.Common.{◌≡◌, ℕ, zero, suc, refl, sym, ◌∙◌, ap, ap₂, subst, Bool, true, false, ◌||◌, ◌&&◌, not, cond, nat_lt, ◌<◌, if◌then◌else◌, List, [], ◌∷◌, ◌++◌, length, filter, Some, None, slice_get, get_or, ◌+◌, arith}
+use Rattle.std.proofs.Math.Bool.{or-false, or-true, or_assoc}
+use Rattle.std.specs.List.{AllByRecursion, position_or_len}
 use Rattle.std.specs.Cmp.Lexicographic.{same_text}
 use Rattle.std.proofs.lemmas.Bool.{lt-ltb}
 use Rattle.std.proofs.lemmas.Cmp.{nat_list_eq_equiv}
@@ -10,7 +11,7 @@ use Rattle.std.proofs.lemmas.List.Quantifiers.{position-Some}
 use Rattle.std.proofs.lemmas.Map.Views.{any-filter_same}
 use Rattle.std.proofs.lemmas.Option.{slice_get-get_or, slice_get_within}
 use Rattle.mv_outline.specs.Names.{same_name, is_among, with_name, with_names, each_once, place_of, among}
-use Rattle.mv_unit_numbers.proofs.Lists.{all_kept, all_more}
+use Rattle.mv_unit_numbers.proofs.Lists.{all_kept}
 
 -- ---- one name
 
@@ -25,46 +26,34 @@ other_way = nat_list_eq_equiv.symm
 
 -- ---- what is among some names
 
-or_false : (b : Bool) → (b || false) ≡ b
-or_false true = refl
-or_false false = refl
-
-or_true : (b : Bool) → (b || true) ≡ true
-or_true true = refl
-or_true false = refl
-
 -- whether a name is among some, or is one more
 pub among_last : (n : List ℕ) (ns : List (List ℕ)) (m : List ℕ) → is_among n (ns ++ m ∷ []) ≡ (is_among n ns || same_name n m)
-among_last n ns m = list_any-append (same_name n) ns (m ∷ []) ∙ ap (λ b. is_among n ns || b) (or_false (same_name n m))
+among_last n ns m = list_any-append (same_name n) ns (m ∷ []) ∙ ap (λ b. is_among n ns || b) (or-false (same_name n m))
 
 pub among_more : (n : List ℕ) (ms ns : List (List ℕ)) → is_among n ms ≡ true → is_among n (ms ++ ns) ≡ true
 among_more n ms ns h = list_any-append (same_name n) ms ns ∙ ap (λ b. b || is_among n ns) h
 
 pub among_later : (n : List ℕ) (ms ns : List (List ℕ)) → is_among n ns ≡ true → is_among n (ms ++ ns) ≡ true
-among_later n ms ns h = list_any-append (same_name n) ms ns ∙ (ap (λ b. is_among n ms || b) h ∙ or_true (is_among n ms))
+among_later n ms ns h = list_any-append (same_name n) ms ns ∙ (ap (λ b. is_among n ms || b) h ∙ or-true (is_among n ms))
 
 pub among_here : (n : List ℕ) (ns : List (List ℕ)) (i : ℕ) → slice_get ns i ≡ Some n → is_among n ns ≡ true
 among_here n [] i h = absurd (cc)
 among_here n (m ∷ ms) zero h = let q : m ≡ n = cc in ap (λ x. same_name n x || is_among n ms) q ∙ ap (λ b. b || is_among n ms) (name_itself n)
-among_here n (m ∷ ms) (suc i) h = ap (λ b. same_name n m || b) (among_here n ms i h) ∙ or_true (same_name n m)
+among_here n (m ∷ ms) (suc i) h = ap (λ b. same_name n m || b) (among_here n ms i h) ∙ or-true (same_name n m)
 
 among_with : (n : List ℕ) (ns : List (List ℕ)) (m : List ℕ) → is_among n (with_name ns m) ≡ (is_among n ns || same_name n m)
 among_with n ns m = by (is_among m ns) refl
   where
     known : is_among m ns ≡ true → (c : Bool) → c ≡ same_name n m → is_among n ns ≡ (is_among n ns || c)
-    known q true e = subst (λ x. is_among x ns ≡ true) (sym (name_is n m (sym e))) q ∙ sym (or_true (is_among n ns))
-    known q false e = sym (or_false (is_among n ns))
+    known q true e = subst (λ x. is_among x ns ≡ true) (sym (name_is n m (sym e))) q ∙ sym (or-true (is_among n ns))
+    known q false e = sym (or-false (is_among n ns))
 
     by : (b : Bool) → b ≡ is_among m ns → is_among n (if b then ns else ns ++ m ∷ []) ≡ (is_among n ns || same_name n m)
     by true q = known (sym q) (same_name n m) refl
     by false q = among_last n ns m
 
-or_assoc : (a b c : Bool) → ((a || b) || c) ≡ (a || (b || c))
-or_assoc true b c = refl
-or_assoc false b c = refl
-
 among_all : (n : List ℕ) (old new : List (List ℕ)) → is_among n (with_names old new) ≡ (is_among n old || is_among n new)
-among_all n old [] = sym (or_false (is_among n old))
+among_all n old [] = sym (or-false (is_among n old))
 among_all n old (m ∷ ms) =
     among_all n (with_name old m) ms ∙ (ap (λ b. b || is_among n ms) (among_with n old m) ∙ or_assoc (is_among n old) (same_name n m) (is_among n ms))
 
@@ -76,7 +65,7 @@ among_kept p n ns = any-filter_same (same_name n) p (p n) (λ m q. ap p (sym (na
 
 -- ---- names of which each stands once
 
-abbrev pub IsOther : List ℕ → List ℕ → Type 0
+abbrev IsOther : List ℕ → List ℕ → Type 0
 IsOther m n = same_name m n ≡ false
 
 abbrev pub Different : List (List ℕ) → Type 0
@@ -140,7 +129,7 @@ none_old : (ns : List (List ℕ)) → AreNew [] ns
 none_old [] = tt
 none_old (n ∷ ns) = (refl, none_old ns)
 
-pub once_already : (ns : List (List ℕ)) → Different ns → each_once ns ≡ ns
+once_already : (ns : List (List ℕ)) → Different ns → each_once ns ≡ ns
 once_already ns h = once_more [] ns h (none_old ns)
 
 -- those of different names that stand among others

@@ -1,6 +1,7 @@
 -- The objects so far, by the names that are declared.
-use Rattle.std.proofs.Common.{◌≡◌, ℕ, zero, suc, refl, sym, ◌∙◌, ap, ap₂, subst, ◌⊎◌, inl, inr, Bool, true, false, ◌&&◌, ◌||◌, if◌then◌else◌, List, [], ◌∷◌, ◌++◌, length, map, Option, Some, None, is_some, slice_get}
+use Rattle.std.proofs.Common.{◌≡◌, ℕ, refl, sym, ◌∙◌, ap, ap₂, subst, ◌⊎◌, inl, inr, Bool, true, false, ◌&&◌, ◌||◌, if◌then◌else◌, List, [], ◌∷◌, ◌++◌, length, map, Option, Some, None, is_some, slice_get}
 use Rattle.std.specs.Prelude.{slice_set}
+use Rattle.std.proofs.Math.Bool.{or-false}
 use Rattle.std.specs.List.{AllByRecursion}
 use Rattle.std.proofs.lemmas.List.{append-nil, map-append}
 use Rattle.std.proofs.lemmas.List.Sums.{fold-append}
@@ -9,10 +10,10 @@ use Rattle.mv_scope.specs.Names.{Names}
 use Rattle.mv_scope.specs.Spaces.{named, or_else}
 use Rattle.mv_outline.specs.Names.{same_name, is_among, with_name, each_once}
 use Rattle.mv_types.specs.declared.contents.Object.{Object}
-use Rattle.mv_types.specs.Objects.{number_of, either_domain, again}
+use Rattle.mv_types.specs.Objects.{number_of, either_domain}
 use Rattle.mv_typed_bodies.proofs.Judging.{all_last}
 use Rattle.mv_typed_bodies.proofs.Places.{keeps_more, last_there, there_before, mapped_there}
-use Rattle.mv_unit_numbers.proofs.Lists.{all_there, by_places, all_more, set_there, set_same, unmapped_there}
+use Rattle.mv_unit_numbers.proofs.Lists.{all_there, by_places, set_there, set_same, unmapped_there}
 use Rattle.mv_unit_numbers.proofs.NameLists.{name_itself, name_is, among_last, among_here, among_once, once_different, place_there, standing}
 use Rattle.mv_unit_numbers.proofs.Spaces.{named_last, still_named, named_behind, Adds}
 
@@ -67,21 +68,13 @@ others_added xs ys space later objects a h = record {
 abbrev pub if_marked : Bool → List ℕ → List (List ℕ)
 if_marked mark name = if mark then name ∷ [] else []
 
-or_no : (b : Bool) → (b || false) ≡ b
-or_no true = refl
-or_no false = refl
-
-or_yes : (b : Bool) → (b || true) ≡ true
-or_yes true = refl
-or_yes false = refl
-
 among_marked : (n : List ℕ) (ys : List (List ℕ)) (mark : Bool) (name : List ℕ) → is_among n (ys ++ if_marked mark name) ≡ (is_among n ys || (mark && same_name n name))
 among_marked n ys true name = among_last n ys name
-among_marked n ys false name = ap (is_among n) (append-nil ys) ∙ sym (or_no (is_among n ys))
+among_marked n ys false name = ap (is_among n) (append-nil ys) ∙ sym (or-false (is_among n ys))
 
 among_other : (n : List ℕ) (ys : List (List ℕ)) (mark : Bool) (name : List ℕ) → same_name n name ≡ false → is_among n (ys ++ if_marked mark name) ≡ is_among n ys
 among_other n ys mark name h =
-    among_marked n ys mark name ∙ (ap (λ b. is_among n ys || (mark && b)) h ∙ (ap (λ b. is_among n ys || b) (and_no mark) ∙ or_no (is_among n ys)))
+    among_marked n ys mark name ∙ (ap (λ b. is_among n ys || (mark && b)) h ∙ (ap (λ b. is_among n ys || b) (and_no mark) ∙ or-false (is_among n ys)))
   where
     and_no : (b : Bool) → (b && false) ≡ false
     and_no true = refl

@@ -1,5 +1,5 @@
 -- The names of a block in which nothing but what has no number is new.
-use Rattle.std.proofs.Common.{◌≡◌, ℕ, ◌⊎◌, inl, inr, refl, sym, ◌∙◌, ap, subst, Bool, true, false, not, ◌&&◌, nat_eq, is_some, if◌then◌else◌, List, [], ◌∷◌, ◌++◌, map, length, take, drop, Option, Some, None}
+use Rattle.std.proofs.Common.{◌≡◌, ℕ, ◌⊎◌, inl, inr, refl, sym, ◌∙◌, ap, subst, Bool, true, false, nat_eq, is_some, if◌then◌else◌, List, [], ◌∷◌, ◌++◌, length, take, drop, Option, Some, None}
 use Rattle.std.specs.Cmp.Lexicographic.{pointwise}
 use Rattle.mv_num.specs.declared.kind.Kind.{Kind}
 use Rattle.mv_ast.specs.declared.place.Place.{Place}
@@ -23,7 +23,7 @@ use Rattle.mv_declare.specs.Attributes.{attributes, holder_of_all}
 use Rattle.mv_declare.specs.Enumerators.{is_taken, given_value, enumerator_of, new_enumerator, Enumerating, enumerator, enumerators}
 use Rattle.mv_declare.specs.Specifiers.{with_enumeration, tagged, enumeration_of, count_before_list, nothing_said, enum_specifier, enum_specifiers, kind_of, type_by_rules, specifiers}
 use Rattle.mv_declare.specs.Turns.{through}
-use Rattle.mv_typed_bodies.proofs.Judging.{IfGood, if_any, if_then, if_kept, if_more, if_through, each_any}
+use Rattle.mv_typed_bodies.proofs.Judging.{IfGood, if_any, if_then, if_kept, if_through, each_any}
 use Rattle.mv_types.specs.Objects.{number_of}
 
 pub named_last : (n : List ℕ) (xs : Names) (y : List ℕ × Meaning) → named n (xs ++ y ∷ []) ≡ or_else (named n xs) (named n (y ∷ []))

@@ -1,11 +1,13 @@
 -- The switches of a program are the objects that are marked.
-use Rattle.std.proofs.Common.{◌≡◌, ℕ, suc, ◌+◌, refl, sym, ◌∙◌, ap, subst, Bool, true, false, if◌then◌else◌, List, [], ◌∷◌, ◌++◌, map, length, nat_lt, filter, Option, Some, None, is_some, slice_get, arith}
+use Rattle.std.proofs.Common.{◌≡◌, ap₂, ◌&&◌, ℕ, suc, ◌+◌, refl, sym, ◌∙◌, ap, subst, Bool, true, false, if◌then◌else◌, List, [], ◌∷◌, ◌++◌, map, length, nat_lt, filter, Option, Some, None, is_some, slice_get, arith}
 use Rattle.std.specs.List.{AllByRecursion}
+use Rattle.std.specs.Prelude.{All}
+use Rattle.std.proofs.Math.Bool.{and-true}
+use Rattle.std.proofs.lemmas.List.Elements.{All-from_recursion}
 use Rattle.std.proofs.lemmas.Bool.{lt-ltb}
 use Rattle.std.proofs.lemmas.Option.{slice_get_within}
 use Rattle.mv_ast.specs.declared.program.Switch.{Switch}
 use Rattle.mv_ast.specs.declared.unit.Item.{Item}
-use Rattle.mv_judge.specs.Judged.{Good}
 use Rattle.mv_outline.specs.declared.outline.Wanted.TheVariants as wanted
 use Rattle.mv_outline.specs.Names.{is_among, each_once, place_of, among}
 use Rattle.mv_outline.specs.Outlined as outlined
@@ -22,8 +24,8 @@ use Rattle.mv_types.specs.Foreknown.{foreknown}
 use Rattle.mv_types.specs.Units.{item_judgement, program_of}
 use Rattle.mv_unit_numbers.specs.Numbers.{AreJudged, IsSwitchOf, AreSwitches}
 use Rattle.mv_unit_numbers.proofs.DeclaredObjects.{Of, objects_of}
-use Rattle.mv_unit_numbers.proofs.Lists.{all_more, unmapped_there}
-use Rattle.mv_unit_numbers.proofs.NameLists.{Different, among_once, among_is, once_different, at_place, place_there}
+use Rattle.mv_unit_numbers.proofs.Lists.{all_there, by_places, all_more, unmapped_there}
+use Rattle.mv_unit_numbers.proofs.NameLists.{Different, among_here, among_kept, among_once, among_is, once_different, at_place, place_there}
 use Rattle.mv_unit_numbers.proofs.Objects.{object_name}
 
 abbrev global : Switch → Option ℕ
@@ -109,6 +111,19 @@ module _ (items : List Item) where
       let x = unmapped_there global switches n (place name) (ap (λ xs. slice_get xs n) e ∙ mapped_there place k.outline.switches n name (at_place name k.outline.switches n q)) in
       lt-ltb n (length switches) (slice_get_within switches n x.0 x.1)
 
+  marked_are : (os : List Object) → map object_name os ≡ k.outline.objects →
+      AllByRecursion (λ o. is_some o.domain ≡ is_among (object_name o) (all_names wanted.MarkedObjects items)) os →
+      All (λ o. is_some o.domain ≡ is_among (object_name o) k.outline.switches) os
+  marked_are os e m =
+      All-from_recursion (λ o. is_some o.domain ≡ is_among (object_name o) k.outline.switches) os
+      (by_places (λ o. is_some o.domain ≡ is_among (object_name o) k.outline.switches) os (λ i o q.
+      let there : slice_get k.outline.objects i ≡ Some (object_name o) = ap (λ ns. slice_get ns i) (sym e) ∙ mapped_there object_name os i o q in
+      all_there (λ x. is_some x.domain ≡ is_among (object_name x) (all_names wanted.MarkedObjects items)) os m i o q ∙
+      sym (ap (is_among (object_name o)) switches_are ∙
+      (among_kept is_marked (object_name o) k.outline.objects ∙
+      (ap₂ (λ a b. a && b) (among_once (object_name o) (all_names wanted.MarkedObjects items)) (among_here (object_name o) k.outline.objects i there) ∙
+      and-true (is_among (object_name o) (all_names wanted.MarkedObjects items)))))))
+
   pub switches_counted : BodyGrows → ParametersFit → (c : Contents) (main : ℕ) → AreJudged items c → AreSwitches k c (program_of c main).switches
   switches_counted bodies fit c main q =
       let xs : List (List ℕ) = all_names wanted.Objects items in
@@ -116,4 +131,4 @@ module _ (items : List Item) where
       let h = of_good (Of k bodies fit xs ys) (through (item_judgement k) items (nothing_declared k)) (objects_of k bodies fit items) c q in
       let named : map object_name c.objects ≡ k.outline.objects = h.all ∙ sym known_objects in
       let globals : map global (program_of c main).switches ≡ map place k.outline.switches = ap (map global) (program_switches c main) ∙ globals_are c.objects named h.marked in
-      record { named = named; globals = globals; numbered = numbered (program_of c main).switches globals; below = below (program_of c main).switches globals }
+      record { named = named; marked = marked_are c.objects named h.marked; globals = globals; numbered = numbered (program_of c main).switches globals; below = below (program_of c main).switches globals }

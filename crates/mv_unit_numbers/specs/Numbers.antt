@@ -1,14 +1,13 @@
 -- The numbers that a unit's names have before its first declaration is judged are those that they have in its program.
-use Rattle.std.specs.Prelude.{◌≡◌, ℕ, ◌<◌, true, All, List, map, length, Some, nat_lt, slice_get}
+use Rattle.std.specs.Prelude.{◌≡◌, ℕ, ◌<◌, true, All, List, map, length, Some, nat_lt, is_some, slice_get}
 use Rattle.mv_ast.specs.declared.program.Function.{Function}
 use Rattle.mv_ast.specs.declared.program.Switch.{Switch}
 use Rattle.mv_ast.specs.declared.unit.Item.{Item}
-use Rattle.mv_ast.specs.declared.unit.Declarator.{Declarator}
 use Rattle.mv_ast.specs.declared.unit.Line.{Line}
 use Rattle.mv_ast.specs.Plans.{attributed_functions}
 use Rattle.mv_judge.specs.Judged.{Good}
 use Rattle.mv_declare.specs.Turns.{through}
-use Rattle.mv_outline.specs.Names.{place_of}
+use Rattle.mv_outline.specs.Names.{is_among, place_of}
 use Rattle.mv_outline.specs.Outlined.{is_function, name_of}
 use Rattle.mv_types.specs.declared.contents.Contents.{Contents}
 use Rattle.mv_types.specs.declared.contents.Foreknown.{Foreknown}
@@ -60,9 +59,10 @@ AttributedAreCounted =
 abbrev pub IsSwitchOf : List Switch → ℕ → ℕ → Type 0
 IsSwitchOf switches n global = (s : Switch) × (slice_get switches n ≡ Some s) × (s.global ≡ global)
 
--- The objects are those that are known, in their order, and the switches those of them that are marked; a name has its number among them.
+-- The objects are those that are known, in their order. Those that any declaration marks have a domain, and are the switches; a name has its number among them.
 pub record AreSwitches (k : Foreknown) (c : Contents) (switches : List Switch) : Type 0 where
   pub named : map (λ o. o.global.name) c.objects ≡ k.outline.objects
+  pub marked : All (λ o. is_some o.domain ≡ is_among o.global.name k.outline.switches) c.objects
   pub globals : map (λ s. Some s.global) switches ≡ map (λ name. place_of name k.outline.objects) k.outline.switches
   pub numbered : (name : List ℕ) (g n : ℕ) → place_of name k.outline.objects ≡ Some g → place_of name k.outline.switches ≡ Some n → IsSwitchOf switches n g
   pub below : (name : List ℕ) (n : ℕ) → place_of name k.outline.switches ≡ Some n → nat_lt n (length switches) ≡ true
