@@ -1,14 +1,12 @@
 -- The types of parameters come out the same where they are judged again in a later scope.
-use Rattle.std.proofs.Common.{◌≡◌, ℕ, suc, refl, sym, ◌∙◌, ap, subst, Bool, not, ◌&&◌, false, List, [], ◌∷◌, ◌++◌, map, length, drop, Option, Some, None}
+use Rattle.std.proofs.Common.{◌≡◌, ℕ, suc, refl, sym, ◌∙◌, ap, subst, Bool, not, ◌&&◌, List, [], ◌∷◌, ◌++◌, map, length, drop, Option, Some, None}
 use Rattle.std.specs.List.{AllByRecursion}
 use Rattle.mv_num.specs.declared.kind.Kind.{Kind}
 use Rattle.mv_ast.specs.declared.place.Place.{Place}
 use Rattle.mv_ast.specs.declared.program.CType.{CType}
 use Rattle.mv_ast.specs.declared.program.CType.TheVariants.{Pointer}
-use Rattle.mv_ast.specs.declared.program.Signature.{Signature}
 use Rattle.mv_ast.specs.declared.unit.Declarator.{Declarator, Declarator-F, roll-Declarator, map-Declarator, fold-roll-Declarator}
 use Rattle.mv_ast.specs.declared.unit.EnumSpec.{EnumSpec}
-use Rattle.mv_ast.specs.declared.unit.Node.{Node}
 use Rattle.mv_ast.specs.declared.unit.Param.{Param, Param-F, roll-Param, map-Param, ind-Param, fold-roll-Param}
 use Rattle.mv_ast.specs.declared.unit.Shape.{Shape, Shape-F, roll-Shape, map-Shape, ind-Shape, fold-roll-Shape}
 use Rattle.mv_ast.specs.declared.unit.Shape.TheOpen as shape

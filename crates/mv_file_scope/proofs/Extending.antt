@@ -1,22 +1,20 @@
 -- How contents grow, and what stays true of them.
-use Rattle.std.proofs.Common.{◌≡◌, ℕ, ◌⊎◌, inl, inr, refl, sym, ◌∙◌, ap, subst, List, [], length, Some, None, slice_get}
+use Rattle.std.proofs.Common.{◌≡◌, ℕ, ◌⊎◌, inl, inr, refl, ◌∙◌, ap, subst, List, length, Some, slice_get}
 use Rattle.mv_ast.specs.declared.program.CType.{CType}
 use Rattle.mv_ast.specs.declared.program.CType.TheVariants.{Pointer}
 use Rattle.mv_ast.specs.declared.program.Function.{Function}
-use Rattle.mv_ast.specs.declared.program.Global.{Global}
 use Rattle.mv_scope.specs.declared.meaning.Meaning.{Meaning}
 use Rattle.mv_scope.specs.declared.meaning.Meaning.TheVariants as meaning
 use Rattle.mv_scope.specs.declared.meaning.Storage.{Storage}
-use Rattle.mv_scope.specs.declared.scope.Scope.{Scope}
 use Rattle.mv_scope.specs.Spaces.{named}
-use Rattle.mv_typed_bodies.specs.Bodies.{Keeps, AreListed}
+use Rattle.mv_typed_bodies.specs.Bodies.{AreListed}
 use Rattle.mv_typed_bodies.proofs.Places.{keeps_same, keeps_joined, listed_kept}
 use Rattle.mv_types.specs.declared.contents.Contents.{Contents}
 use Rattle.mv_types.specs.declared.contents.Foreknown.{Foreknown}
 use Rattle.mv_types.specs.declared.contents.Object.{Object}
 use Rattle.mv_types.specs.Contents.{in_scope}
-use Rattle.mv_file_scope.specs.Declared.{IsStill, Extends, IsGlobal, IsDeclared, IsOfSignature, IsDefinition, IsSound}
-use Rattle.mv_file_scope.specs.Defined.{WasDefined, WereDefined}
+use Rattle.mv_file_scope.specs.Declared.{IsStill, Extends, IsGlobal, IsDeclared, IsDefinition, IsSound}
+use Rattle.mv_file_scope.specs.Defined.{WasDefined}
 use Rattle.mv_file_scope.specs.Laws.{IsSoundBehind}
 
 pub still_same : (o : Object) (os : List Object) (n : ℕ) → slice_get os n ≡ Some o → IsStill o.global os n

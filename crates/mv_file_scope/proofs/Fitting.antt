@@ -1,16 +1,14 @@
 -- What the names of a file scope mean is what the program at the end has.
-use Rattle.std.proofs.Common.{◌≡◌, ℕ, ◌<◌, ◌⊎◌, inl, inr, refl, sym, ◌∙◌, ap, subst, List, [], length, map, get_or, Option, Some, None, slice_get}
+use Rattle.std.proofs.Common.{◌≡◌, ℕ, ◌<◌, ◌⊎◌, inl, inr, refl, sym, ◌∙◌, ap, subst, List, [], length, map, Option, Some, None, slice_get}
 use Rattle.std.proofs.lemmas.List.Quantifiers.{position-Some}
 use Rattle.mv_ast.specs.declared.program.CType.{CType}
 use Rattle.mv_ast.specs.declared.program.Function.{Function}
 use Rattle.mv_ast.specs.declared.program.Known.{Known}
 use Rattle.mv_ast.specs.declared.program.Program.{Program}
-use Rattle.mv_ast.specs.declared.program.Switch.{Switch}
 use Rattle.mv_scope.specs.declared.meaning.Meaning.{Meaning}
 use Rattle.mv_scope.specs.declared.meaning.Meaning.TheVariants as meaning
 use Rattle.mv_scope.specs.declared.meaning.Routine.{Routine}
 use Rattle.mv_scope.specs.declared.meaning.Storage.{Storage}
-use Rattle.mv_scope.specs.declared.meaning.Storage.TheVariants as storage
 use Rattle.mv_scope.specs.declared.scope.Scope.{Scope}
 use Rattle.mv_scope.specs.Known.{known_function}
 use Rattle.mv_scope.specs.Scoped.{unless_declared, meaning_of}
@@ -24,7 +22,7 @@ use Rattle.mv_types.specs.declared.contents.Foreknown.{Foreknown}
 use Rattle.mv_types.specs.declared.contents.Object.{Object}
 use Rattle.mv_types.specs.Contents.{present, switches_from}
 use Rattle.mv_types.specs.Units.{with_switches, program_of}
-use Rattle.mv_file_scope.specs.Declared.{Extends, IsGlobal, IsDeclared, IsDefinition, IsSound}
+use Rattle.mv_file_scope.specs.Declared.{Extends, IsGlobal, IsDeclared, IsSound}
 use Rattle.mv_file_scope.specs.Laws.{AllAreDefined}
 use Rattle.mv_file_scope.proofs.Lists.{some_same, present_there}
 use Rattle.mv_file_scope.proofs.Named.{same_place}

@@ -1,5 +1,5 @@
 -- Contents stay sound where a function is declared or defined.
-use Rattle.std.proofs.Common.{◌≡◌, ℕ, ◌⊎◌, inl, inr, refl, sym, ◌∙◌, ap, subst, Bool, true, false, not, ◌&&◌, is_some, nat_eq, if◌then◌else◌, List, [], ◌∷◌, ◌++◌, map, length, take, Option, Some, None, slice_get, slice_set, unwrap_or, length-set}
+use Rattle.std.proofs.Common.{◌≡◌, ℕ, ◌⊎◌, inl, inr, refl, sym, ◌∙◌, ap, subst, Bool, true, false, ◌&&◌, is_some, List, [], map, length, take, Option, Some, None, slice_get, unwrap_or, length-set}
 use Rattle.mv_ast.specs.declared.place.Place.{Place}
 use Rattle.mv_ast.specs.declared.program.CType.{CType}
 use Rattle.mv_ast.specs.declared.program.CType.TheVariants.{Pointer}
@@ -17,14 +17,13 @@ use Rattle.mv_scope.specs.declared.scope.Scope.{Scope}
 use Rattle.mv_scope.specs.Scoped.{block_entered}
 use Rattle.mv_scope.specs.Signatures.{with_signature}
 use Rattle.mv_scope.specs.Spaces.{named}
-use Rattle.mv_judge.specs.Judged.{Judged, Good, Broken, and_then}
+use Rattle.mv_judge.specs.Judged.{Judged, Good, and_then}
 use Rattle.mv_outline.specs.Names.{place_of}
 use Rattle.mv_declare.specs.Declarators.{signature_of, function_type, parameter}
 use Rattle.mv_declare.specs.Parameters.{parameters_judgement}
-use Rattle.mv_numbering.specs.Typing.{parameter_types}
 use Rattle.mv_statement_rules.specs.Statements.{body_judgement}
 use Rattle.mv_typing.specs.Soundness.{IsListed}
-use Rattle.mv_typed_bodies.specs.Bodies.{Keeps, AreListed, Grows, BodyGrows, AddsScalars, AreParameters, ParametersFit}
+use Rattle.mv_typed_bodies.specs.Bodies.{Keeps, Grows, BodyGrows, AreParameters, ParametersFit}
 use Rattle.mv_typed_bodies.proofs.Judging.{IfGood, by_good, if_then}
 use Rattle.mv_typed_bodies.proofs.Names.{left_is}
 use Rattle.mv_typed_bodies.proofs.Places.{keeps_same, keeps_joined}
@@ -33,16 +32,16 @@ use Rattle.mv_types.specs.declared.contents.Contents.{Contents}
 use Rattle.mv_types.specs.declared.contents.Foreknown.{Foreknown}
 use Rattle.mv_types.specs.Contents.{in_scope, with_function}
 use Rattle.mv_types.specs.Foreknown.{is_attributed}
-use Rattle.mv_types.specs.Functions.{may_declare, is_defined, is_defined_at, broken_rule, function_meaning, function_scope, params_of, body_entered, body_left, left_with, function_of, defined, unless_broken, before_of, rule_of, function_behind, function_judgement}
-use Rattle.mv_file_scope.specs.Declared.{IsStill, Extends, IsDeclared, IsOfSignature, IsDefinition, IsSound}
+use Rattle.mv_types.specs.Functions.{may_declare, is_defined, is_defined_at, broken_rule, function_meaning, function_scope, params_of, body_entered, body_left, left_with, function_of, defined, unless_broken, before_of, rule_of, function_judgement}
+use Rattle.mv_file_scope.specs.Declared.{Extends, IsDeclared, IsDefinition, IsSound}
 use Rattle.mv_file_scope.specs.Defined.{WasDefined, WereDefined}
 use Rattle.mv_file_scope.specs.Laws.{IsSoundBehind}
-use Rattle.mv_file_scope.proofs.Lists.{some_same, keeps_take, keeps_length, set_there, set_elsewhere, set_before}
+use Rattle.mv_file_scope.proofs.Lists.{some_same, keeps_take, set_elsewhere, set_before}
 use Rattle.mv_file_scope.proofs.Named.{names_kept, names_behind, name_there}
 use Rattle.mv_file_scope.proofs.Signatures.{same_number, signature_at}
 use Rattle.mv_file_scope.proofs.Extending.{To, to_joined, IsLike, like_sound, still_same, extends_same, extends_joined, declared_kept, definition_kept, was_kept}
 use Rattle.mv_file_scope.proofs.Widening.{Widens, names_same, widens_sound}
-use Rattle.mv_file_scope.proofs.Agreeing.{then_good, good_same, Types, IsType, type_good}
+use Rattle.mv_file_scope.proofs.Agreeing.{then_good, good_same, IsType, type_good}
 use Rattle.mv_file_scope.proofs.Parameters.{parameters_match}
 use Rattle.mv_typed_bodies.proofs.Places.{signature_kept}
 
@@ -137,7 +136,7 @@ module _ (fit : ParametersFit) (grow : BodyGrows) where
   built_good k name result params body s d q =
       let attributed : Bool = is_attributed k name in
       let p = then_good (parameters_judgement (body_entered attributed s) params)
-          (λ p. and_then (body_judgement result body p) (λ b. Good (left_with name attributed result (length params) b.1 b.0))) d q in
+      (λ p. and_then (body_judgement result body p) (λ b. Good (left_with name attributed result (length params) b.1 b.0))) d q in
       let b = then_good (body_judgement result body p.0) (λ b. Good (left_with name attributed result (length params) b.1 b.0)) d p.2 in
       record { first = p.0; parameters = p.1; behind = b.0; judged = b.1; built = good_same (left_with name attributed result (length params) b.0.1 b.0.0) d b.2 }
 
@@ -308,12 +307,16 @@ module _ (fit : ParametersFit) (grow : BodyGrows) (k : Foreknown) (d : Declarato
   there = Scoped k name signature c before builtin
 
   declared_sound : To k c there
-  declared_sound = like_sound k c there (scope_like k name signature c before builtin (its c.scope.signatures result (params_of d) signature number,
-      its_there c.scope.signatures result (params_of d) signature number))
+  declared_sound = like_sound k c there (scope_like k name signature c before builtin (
+    its c.scope.signatures result (params_of d) signature number,
+    its_there c.scope.signatures result (params_of d) signature number,
+  ))
 
   same_signatures : Keeps c.scope.signatures there.scope.signatures
-  same_signatures = (scope_like k name signature c before builtin (its c.scope.signatures result (params_of d) signature number,
-      its_there c.scope.signatures result (params_of d) signature number)).extends.signatures
+  same_signatures = (scope_like k name signature c before builtin (
+    its c.scope.signatures result (params_of d) signature number,
+    its_there c.scope.signatures result (params_of d) signature number,
+  )).extends.signatures
 
   same_functions : there.functions ≡ c.functions
   same_functions = refl

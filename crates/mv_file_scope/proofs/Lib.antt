@@ -9,3 +9,4 @@ pub mod Objects
 pub mod Functions
 pub mod Units
 pub mod Fitting
+pub mod Typing

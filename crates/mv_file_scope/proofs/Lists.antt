@@ -1,5 +1,5 @@
 -- What stands at the places of lists that grow or change.
-use Rattle.std.proofs.Common.{◌≡◌, ℕ, zero, suc, ◌<◌, ◌⊎◌, inl, inr, refl, sym, ◌∙◌, ap, List, [], ◌∷◌, length, map, take, Option, Some, None, slice_get, slice_set, replicate, arith}
+use Rattle.std.proofs.Common.{◌≡◌, ℕ, zero, suc, ◌<◌, ◌⊎◌, inl, inr, refl, ◌∙◌, ap, List, [], ◌∷◌, length, map, take, Option, Some, None, slice_get, slice_set, replicate, arith}
 use Rattle.std.specs.List.{AllByRecursion}
 use Rattle.mv_ast.specs.declared.program.Function.{Function}
 use Rattle.mv_types.specs.Contents.{present}

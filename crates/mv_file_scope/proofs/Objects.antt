@@ -12,7 +12,7 @@ use Rattle.mv_scope.specs.declared.scope.Scope.{Scope}
 use Rattle.mv_scope.specs.Conversions.{is_void}
 use Rattle.mv_scope.specs.Scoped.{declared}
 use Rattle.mv_scope.specs.Spaces.{named}
-use Rattle.mv_judge.specs.Judged.{Judged, Good, Broken, and_then}
+use Rattle.mv_judge.specs.Judged.{Judged, Good, Broken}
 use Rattle.mv_declare.specs.declared.declarators.Entity.{Entity}
 use Rattle.mv_declare.specs.declared.declarators.Entity.TheVariants as entity
 use Rattle.mv_declare.specs.Globals.{object_type, sized, global_words}
@@ -25,11 +25,11 @@ use Rattle.mv_typed_bodies.proofs.Designated.{IsListedEntity}
 use Rattle.mv_types.specs.declared.contents.Contents.{Contents}
 use Rattle.mv_types.specs.declared.contents.Foreknown.{Foreknown}
 use Rattle.mv_types.specs.declared.contents.Object.{Object}
-use Rattle.mv_types.specs.Objects.{number_of, may_declare, broken_rule, unless_broken, type_by_rules, object_meaning, object_scope, new_object, again, replaced, objects_again, objects_behind, initialised, object_behind, object_judgement}
+use Rattle.mv_types.specs.Objects.{number_of, may_declare, broken_rule, unless_broken, type_by_rules, object_meaning, object_scope, new_object, again, replaced, objects_again, objects_behind, initialised, object_judgement}
 use Rattle.mv_file_scope.specs.Declared.{IsStill, IsGlobal, IsDeclared}
 use Rattle.mv_file_scope.proofs.Lists.{some_same, set_there, set_before}
 use Rattle.mv_file_scope.proofs.Named.{names_kept, names_behind}
-use Rattle.mv_file_scope.proofs.Extending.{To, IsLike, like_sound, still_same, extends_same}
+use Rattle.mv_file_scope.proofs.Extending.{To, IsLike, like_sound, still_same}
 
 -- ---- the type of an object is listed
 

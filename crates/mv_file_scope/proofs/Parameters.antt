@@ -9,7 +9,7 @@ use Rattle.mv_ast.specs.declared.unit.Param.{Param, Param-F, fold-roll-Param}
 use Rattle.mv_ast.specs.declared.unit.Shape.{Shape}
 use Rattle.mv_scope.specs.declared.scope.Scope.{Scope}
 use Rattle.mv_scope.specs.Conversions.{is_void}
-use Rattle.mv_judge.specs.Judged.{Judged, Good, and_then}
+use Rattle.mv_judge.specs.Judged.{Good, and_then}
 use Rattle.mv_declare.specs.declared.attributes.Position.TheVariants as position
 use Rattle.mv_declare.specs.declared.declarators.Entity.{Entity}
 use Rattle.mv_declare.specs.declared.declarators.Entity.TheVariants as entity
@@ -22,10 +22,10 @@ use Rattle.mv_declare.specs.Specifiers.{specifiers}
 use Rattle.mv_declare.specs.Turns.{in_turn, next_part, through}
 use Rattle.mv_typed_bodies.specs.Bodies.{Keeps}
 use Rattle.mv_typed_bodies.proofs.Judging.{IfGood, of_good, if_kept}
-use Rattle.mv_typed_bodies.proofs.Places.{keeps_same, keeps_joined}
+use Rattle.mv_typed_bodies.proofs.Places.{keeps_joined}
 use Rattle.mv_typed_bodies.proofs.Specified.{Specifies, specifiers_specify}
 use Rattle.mv_typed_bodies.proofs.Designated.{Designates, shape_designates}
-use Rattle.mv_file_scope.proofs.Agreeing.{then_good, good_same, same_ctype, specifiers_keep, type_in, Types, IsNext, part_good, parts_keep, IsOne, declarator_good, same_some, every_shape, params_have}
+use Rattle.mv_file_scope.proofs.Agreeing.{then_good, good_same, same_ctype, type_in, Types, part_good, parts_keep, IsOne, declarator_good, same_some, every_shape, params_have}
 
 -- ---- a parameter of a definition
 
@@ -60,14 +60,14 @@ record IsAdded (p : Param) (u v : Scope) : Type 0 where
 added : (p : Param) (u v : Scope) → parameter_judgement p u ≡ Good v → IsAdded p u v
 added p u v q =
     let b = then_good (specifiers position.Parameter [] p.specs u) (λ b.
-        and_then (designated p.name.shape b.1.ctype b.1.fixed b.0) (λ e.
-        and_then (attributes nothing_holds None e.0 p.name.marks b.1.attribute) (λ a. new_defined p.name.place p.name.name e.1 e.0))) v q in
+    and_then (designated p.name.shape b.1.ctype b.1.fixed b.0) (λ e.
+    and_then (attributes nothing_holds None e.0 p.name.marks b.1.attribute) (λ a. new_defined p.name.place p.name.name e.1 e.0))) v q in
     let e = then_good (designated p.name.shape b.0.1.ctype b.0.1.fixed b.0.0) (λ e.
-        and_then (attributes nothing_holds None e.0 p.name.marks b.0.1.attribute) (λ a. new_defined p.name.place p.name.name e.1 e.0)) v b.2 in
+    and_then (attributes nothing_holds None e.0 p.name.marks b.0.1.attribute) (λ a. new_defined p.name.place p.name.name e.1 e.0)) v b.2 in
     let a = then_good (attributes nothing_holds None e.0.0 p.name.marks b.0.1.attribute) (λ a. new_defined p.name.place p.name.name e.0.1 e.0.0) v e.2 in
     let says = of_good (Specifies u) (specifiers position.Parameter [] p.specs u) (specifiers_specify position.Parameter [] p.specs u) b.0 b.1 in
     let gives = of_good (Designates b.0.0) (designated p.name.shape b.0.1.ctype b.0.1.fixed b.0.0)
-        (shape_designates p.name.shape b.0.1.ctype b.0.1.fixed b.0.0 says.plain) e.0 e.1 in
+    (shape_designates p.name.shape b.0.1.ctype b.0.1.fixed b.0.0 says.plain) e.0 e.1 in
     record {
       base = b.0;
       specified = b.1;
@@ -108,8 +108,8 @@ param_matches p s u d v q r k =
     let z = added p u v r in
     let same = same_ctype position.Parameter position.Parameter [] [] p.specs s u m.0 z.base m.1 z.specified in
     let types = (every_shape p.name.shape).agrees z.base.1.ctype m.0.1.fixed z.base.1.fixed m.0.0 z.base.0 y.entity z.entity
-        (subst (λ t. designated p.name.shape t m.0.1.fixed m.0.0 ≡ Good y.entity) same y.judged) z.judged
-        (keeps_joined y.entity.0.signatures u.signatures z.base.0.signatures (subst (λ w. Keeps w u.signatures) y.signatures k) z.keeps) in
+    (subst (λ t. designated p.name.shape t m.0.1.fixed m.0.0 ≡ Good y.entity) same y.judged) z.judged
+    (keeps_joined y.entity.0.signatures u.signatures z.base.0.signatures (subst (λ w. Keeps w u.signatures) y.signatures k) z.keeps) in
     let type : z.adds.0 ≡ d.1 = same_some z.adds.0 d.1 (sym z.adds.1 ∙ (sym types ∙ y.type)) in
     record {
       locals = z.adds.2 ∙ (ap (λ ls. ls ++ scalar z.adds.0 ∷ []) z.same ∙ ap (λ t. u.locals ++ scalar t ∷ []) type);

@@ -1,5 +1,5 @@
 -- Signatures that are the same, and their numbers in lists that grow.
-use Rattle.std.proofs.Common.{◌≡◌, ℕ, zero, suc, ◌+◌, refl, sym, ◌∙◌, ap, ap₂, subst, Bool, true, false, ◌&&◌, if◌then◌else◌, nat_eq, List, [], ◌∷◌, length, Some, slice_get, arith}
+use Rattle.std.proofs.Common.{◌≡◌, ℕ, suc, ◌+◌, refl, sym, ◌∙◌, ap, ap₂, Bool, true, false, ◌&&◌, if◌then◌else◌, nat_eq, List, [], ◌∷◌, Some, slice_get, arith}
 use Rattle.mv_num.specs.declared.kind.Kind.{Kind}
 use Rattle.mv_num.specs.declared.kind.Kind.TheVariants as kind
 use Rattle.mv_ast.specs.declared.program.CType.{CType}
@@ -10,7 +10,7 @@ use Rattle.mv_scope.specs.Signatures.{place_of, with_signature}
 use Rattle.mv_declare.specs.Declarators.{signature_of}
 use Rattle.mv_typed_bodies.specs.Bodies.{Keeps}
 use Rattle.mv_typed_bodies.proofs.Judging.{and_true}
-use Rattle.mv_file_scope.proofs.Lists.{some_same, kept_first}
+use Rattle.mv_file_scope.proofs.Lists.{kept_first}
 
 -- ---- signatures that are the same are equal
 

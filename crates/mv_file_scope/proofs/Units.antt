@@ -1,18 +1,21 @@
 -- Contents stay sound through the declarations of a unit.
-use Rattle.std.proofs.Common.{◌≡◌, ℕ, inl, refl, sym, ◌∙◌, ap, subst, Bool, true, false, is_some, if◌then◌else◌, List, [], ◌∷◌, map, length, All, Option, Some, None}
+use Rattle.std.proofs.Common.{◌≡◌, ℕ, zero, suc, refl, sym, ◌∙◌, ap, subst, Bool, true, false, is_some, List, [], ◌∷◌, map, length, replicate, Option, Some, None, slice_get}
 use Rattle.std.specs.List.{AllByRecursion}
 use Rattle.std.proofs.lemmas.List.Elements.{recursion_from_All}
 use Rattle.mv_ast.specs.declared.program.CType.{CType}
 use Rattle.mv_ast.specs.declared.program.CType.TheVariants.{Pointer}
+use Rattle.mv_ast.specs.declared.program.Function.{Function}
+use Rattle.mv_ast.specs.declared.program.Signature.{Signature}
 use Rattle.mv_ast.specs.declared.unit.Declarator.{Declarator}
 use Rattle.mv_ast.specs.declared.unit.Item.{Item}
 use Rattle.mv_ast.specs.declared.unit.Line.{Line}
-use Rattle.mv_ast.specs.declared.unit.Param.{Param, Param-F}
-use Rattle.mv_ast.specs.declared.unit.Shape.{Shape, Shape-F, out-Shape, roll-Shape, map-Shape, fold-roll-Shape, roll-out-Shape}
+use Rattle.mv_ast.specs.declared.unit.Param.{Param}
+use Rattle.mv_ast.specs.declared.unit.Shape.{Shape, Shape-F, out-Shape, map-Shape, fold-roll-Shape, roll-out-Shape}
 use Rattle.mv_ast.specs.declared.unit.Shape.TheOpen as shape
 use Rattle.mv_ast.specs.declared.unit.Specs.{out-Specs}
+use Rattle.mv_scope.specs.declared.meaning.Meaning.{Meaning}
 use Rattle.mv_scope.specs.declared.scope.Scope.{Scope}
-use Rattle.mv_judge.specs.Judged.{Judged, Good, Broken, and_then}
+use Rattle.mv_judge.specs.Judged.{Good, and_then}
 use Rattle.mv_outline.specs.Names.{place_of}
 use Rattle.mv_outline.specs.Outlined.{is_function, is_function_form, name_of}
 use Rattle.mv_declare.specs.declared.attributes.Attribute.{Attribute}
@@ -35,17 +38,19 @@ use Rattle.mv_typed_bodies.proofs.Growing.{declares_same, declares_joined}
 use Rattle.mv_typed_bodies.proofs.Designated.{Designates, IsListedEntity, shape_designates}
 use Rattle.mv_types.specs.declared.contents.Contents.{Contents}
 use Rattle.mv_types.specs.declared.contents.Foreknown.{Foreknown}
-use Rattle.mv_types.specs.Contents.{in_scope}
+use Rattle.mv_types.specs.Contents.{in_scope, nothing_declared}
 use Rattle.mv_types.specs.Functions.{params_of, params_of_form, body_entered, body_left, definition_parameters}
 use Rattle.mv_types.specs.Objects.{domain_by}
 use Rattle.mv_types.specs.Units.{by_entity, named_declarator, base_of, declarator_judgement, holders, declares_nothing, names_judgement, item_judgement}
 use Rattle.mv_file_scope.specs.Declared.{IsSound}
-use Rattle.mv_file_scope.specs.Laws.{IsSoundBehind, IsForeknown}
+use Rattle.mv_file_scope.specs.Defined.{WereDefined}
+use Rattle.mv_file_scope.specs.Laws.{IsForeknown}
+use Rattle.mv_file_scope.proofs.Lists.{nothing_there}
 use Rattle.mv_file_scope.proofs.Extending.{To, to_same, to_joined}
 use Rattle.mv_file_scope.proofs.Widening.{Widens, names_same, names_joined, specifiers_widen, widens_sound}
 use Rattle.mv_file_scope.proofs.Agreeing.{then_good, good_same}
 use Rattle.mv_file_scope.proofs.Objects.{object_sound}
-use Rattle.mv_file_scope.proofs.Functions.{HasNumber, block_widens, function_sound}
+use Rattle.mv_file_scope.proofs.Functions.{block_widens, function_sound}
 
 widens_same : (s : Scope) → Widens s s
 widens_same s = record { declares = declares_same s; names = names_same s s refl }
@@ -111,7 +116,7 @@ file_good : (b : Specified) (d : Declarator) (s : Scope) (e : Scope × Designate
     designated d.shape b.ctype b.fixed s ≡ Good (e.0, e.1.entity)
 file_good b d s e q =
     let m = then_good (designated d.shape b.ctype b.fixed s) (λ z.
-        and_then (attributes (holder_of position.File b.fixed d) (scalar_kind b.ctype) z.0 d.marks b.attribute) (λ a. Good (z.0, record { entity = z.1; attribute = a }))) e q in
+    and_then (attributes (holder_of position.File b.fixed d) (scalar_kind b.ctype) z.0 d.marks b.attribute) (λ a. Good (z.0, record { entity = z.1; attribute = a }))) e q in
     let a = then_good (attributes (holder_of position.File b.fixed d) (scalar_kind b.ctype) m.0.0 d.marks b.attribute) (λ a. Good (m.0.0, record { entity = m.0.1; attribute = a })) e m.2 in
     m.1 ∙ ap (λ (z : Scope × Designated). Good (z.0, z.1.entity)) (good_same (m.0.0, record { entity = m.0.1; attribute = a.0 }) e a.2)
 
@@ -164,7 +169,7 @@ module _ (fit : ParametersFit) (grow : BodyGrows) (k : Foreknown) where
       let z = of_good (Designates m.0) (designated d.shape b.ctype f m.0) (shape_designates d.shape b.ctype f m.0 plain) (e.0.0, e.0.1.entity) g in
       let w = widens_joined c.scope m.0 e.0.0 (definition_widens d body c.scope m.0 s.locals m.1) (record { declares = z.declares; names = names_same m.0 e.0.0 z.names }) in
       let rest = of_good (To k (in_scope c e.0.0)) (named_declarator k b body d d.name e.0.1 (in_scope c e.0.0))
-          (named_sound b f body d d.name e.0.1 m.0 (in_scope c e.0.0) g z.listed refl known) after e.2 in
+      (named_sound b f body d d.name e.0.1 m.0 (in_scope c e.0.0) g z.listed refl known) after e.2 in
       to_joined k c (in_scope c e.0.0) after (λ t. widens_sound k c e.0.0 w t) rest s)
 
   -- ---- an item
@@ -190,3 +195,31 @@ module _ (fit : ParametersFit) (grow : BodyGrows) (k : Foreknown) where
 
   pub items_sound : (is : List Item) → AllByRecursion (IsForeknown k) is → (c : Contents) → IfGood (through (item_judgement k) is c) (To k c)
   items_sound is h c = if_through (item_judgement k) (To k) (IsForeknown k) (to_same k) (to_joined k) (λ i g t. item_sound i g t) is h c
+
+-- ---- the start
+
+replicate_length : {A : Type 0} (n : ℕ) (a : A) → length (replicate n a) ≡ n
+replicate_length zero a = refl
+replicate_length (suc n) a = ap suc (replicate_length n a)
+
+none_defined : (k : Foreknown) (g : ℕ) (f : Function) → slice_get (nothing_declared k).functions g ≡ Some (Some f) → ⊥
+none_defined k g f q = nothing_there (length k.outline.functions) g f q
+
+pub sound_start : (k : Foreknown) → IsSound k (nothing_declared k)
+sound_start k = record {
+  around = refl;
+  locals = refl;
+  results = λ n s q. absurd (no_signature n s q);
+  count = replicate_length (length k.outline.functions) None;
+  names = λ name m q. absurd (no_name m q);
+  functions = λ g f q. absurd (none_defined k g f q);
+}
+  where
+    no_signature : (n : ℕ) (s : Signature) → slice_get [] n ≡ Some s → ⊥
+    no_signature n s q = absurd (cc)
+
+    no_name : (m : Meaning) → None ≡ Some m → ⊥
+    no_name m q = absurd (cc)
+
+pub defined_start : (k : Foreknown) → WereDefined k (nothing_declared k)
+defined_start k g f q = absurd (none_defined k g f q)

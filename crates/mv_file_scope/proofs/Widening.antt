@@ -1,9 +1,7 @@
 -- A scope in which only signatures, tags and enumerators are new.
-use Rattle.std.proofs.Common.{◌≡◌, ℕ, ◌+◌, ◌⊎◌, inl, inr, refl, sym, ◌∙◌, ap, subst, Bool, true, false, is_some, if◌then◌else◌, List, [], ◌∷◌, ◌++◌, length, take, drop, Option, Some, None, slice_get}
+use Rattle.std.proofs.Common.{◌≡◌, ℕ, ◌⊎◌, inl, inr, refl, sym, ◌∙◌, ap, subst, Bool, true, false, is_some, if◌then◌else◌, List, [], length, take, drop, Option, Some, None}
 use Rattle.mv_num.specs.declared.kind.Kind.{Kind}
 use Rattle.mv_ast.specs.declared.place.Place.{Place}
-use Rattle.mv_ast.specs.declared.program.Function.{Function}
-use Rattle.mv_ast.specs.declared.program.Local.{Local}
 use Rattle.mv_ast.specs.declared.unit.Declarator.{Declarator}
 use Rattle.mv_ast.specs.declared.unit.EnumSpec.{EnumSpec, out-EnumSpec}
 use Rattle.mv_ast.specs.declared.unit.Mark.{Mark}
@@ -15,26 +13,22 @@ use Rattle.mv_scope.specs.declared.scope.Scope.{Scope}
 use Rattle.mv_scope.specs.declared.space.NameSpace.{NameSpace}
 use Rattle.mv_scope.specs.Spaces.{named}
 use Rattle.mv_scope.specs.Scoped.{declared, tag_declared}
-use Rattle.mv_judge.specs.Judged.{Judged, Good, and_then}
 use Rattle.mv_judge.specs.TypeNames.{type_of}
 use Rattle.mv_declare.specs.declared.attributes.Holder.{Holder}
 use Rattle.mv_declare.specs.declared.attributes.Position.{Position}
 use Rattle.mv_declare.specs.declared.specifiers.Enumeration.{Enumeration}
 use Rattle.mv_declare.specs.declared.specifiers.Said.{Said}
-use Rattle.mv_declare.specs.declared.specifiers.Specified.{Specified}
 use Rattle.mv_declare.specs.Attributes.{attributes, holder_of_all}
 use Rattle.mv_declare.specs.Enumerators.{is_taken, given_value, enumerator_of, new_enumerator, Enumerating, enumerator, enumerators}
 use Rattle.mv_declare.specs.Specifiers.{with_enumeration, tagged, enumeration_of, count_before_list, nothing_said, enum_specifier, enum_specifiers, kind_of, type_by_rules, specifiers}
 use Rattle.mv_declare.specs.Turns.{through}
-use Rattle.mv_typed_bodies.specs.Bodies.{Keeps, AreListed}
-use Rattle.mv_typed_bodies.proofs.Judging.{IfGood, of_good, if_any, if_then, if_kept, if_more, if_both, if_through, each_any}
+use Rattle.mv_typed_bodies.proofs.Judging.{IfGood, if_any, if_then, if_kept, if_more, if_both, if_through, each_any}
 use Rattle.mv_typed_bodies.proofs.Growing.{Declares}
 use Rattle.mv_typed_bodies.proofs.Specified.{Specifies, specifiers_specify}
 use Rattle.mv_types.specs.declared.contents.Contents.{Contents}
 use Rattle.mv_types.specs.declared.contents.Foreknown.{Foreknown}
 use Rattle.mv_types.specs.Contents.{in_scope}
-use Rattle.mv_file_scope.specs.Declared.{IsStill, Extends, IsDeclared, IsSound}
-use Rattle.mv_file_scope.specs.Defined.{WereDefined}
+use Rattle.mv_file_scope.specs.Declared.{Extends, IsDeclared, IsSound}
 use Rattle.mv_file_scope.specs.Laws.{IsSoundBehind}
 use Rattle.mv_file_scope.proofs.Named.{names_kept, names_behind}
 use Rattle.mv_file_scope.proofs.Extending.{declared_kept, definition_kept, was_kept}

@@ -1,5 +1,5 @@
 -- What the names of a unit's file scope mean, behind some of its declarations.
-use Rattle.std.specs.Prelude.{◌≡◌, ℕ, All, List, [], length, take, Option, Some, None, slice_get}
+use Rattle.std.specs.Prelude.{◌≡◌, ℕ, List, [], length, Some, None, slice_get}
 use Rattle.mv_ast.specs.declared.program.CType.{CType}
 use Rattle.mv_ast.specs.declared.program.CType.TheVariants.{Pointer}
 use Rattle.mv_ast.specs.declared.program.Function.{Function}

@@ -1,28 +1,18 @@
 -- What holds of a unit that keeps the rules, through its declarations and at its end.
-use Rattle.std.specs.Prelude.{◌≡◌, ℕ, ◌<◌, ◌≤◌, All, true, false, List, length, map, take, Option, Some, None, nat_lt, slice_get}
+use Rattle.std.specs.Prelude.{◌≡◌, ℕ, ◌<◌, All, true, List, length, Some, slice_get}
 use Rattle.mv_ast.specs.declared.program.Function.{Function}
-use Rattle.mv_ast.specs.declared.program.Program.{Program}
-use Rattle.mv_ast.specs.declared.unit.Declarator.{Declarator}
 use Rattle.mv_ast.specs.declared.unit.Item.{Item}
 use Rattle.mv_ast.specs.declared.unit.Line.{Line}
-use Rattle.mv_ast.specs.Plans.{attributed_functions}
 use Rattle.mv_judge.specs.Judged.{Good}
 use Rattle.mv_outline.specs.Names.{place_of}
 use Rattle.mv_outline.specs.Outlined.{is_function, name_of}
 use Rattle.mv_declare.specs.Turns.{through}
 use Rattle.mv_numbering.specs.Typing.{IsTypedStmt}
-use Rattle.mv_lowering.specs.Lower.{all_of, is_void}
-use Rattle.mv_lowering.specs.LowerStatements.{stmt_is_well_formed}
-use Rattle.mv_lowering.specs.Functions.{size_in}
-use Rattle.mv_lowered_programs.specs.Jumps.{all_jump, stmt_jumps}
-use Rattle.mv_lowered_programs.specs.Labels.{stmt_labelled}
-use Rattle.mv_lowered_programs.specs.Named.{all_expressions, calls_known}
 use Rattle.mv_typing.specs.Soundness.{Fits}
 use Rattle.mv_types.specs.declared.contents.Contents.{Contents}
 use Rattle.mv_types.specs.declared.contents.Foreknown.{Foreknown}
-use Rattle.mv_types.specs.declared.contents.Object.{Object}
 use Rattle.mv_types.specs.Contents.{nothing_declared}
-use Rattle.mv_types.specs.Foreknown.{foreknown, attributed_number}
+use Rattle.mv_types.specs.Foreknown.{foreknown}
 use Rattle.mv_types.specs.Units.{item_judgement, program_of}
 use Rattle.mv_file_scope.specs.Declared.{Extends, IsSound}
 use Rattle.mv_file_scope.specs.Defined.{WereDefined}
@@ -52,6 +42,10 @@ AreBehind items c = let k = foreknown items in through (item_judgement k) items 
 abbrev pub FileScopeIsSound : Type 0
 FileScopeIsSound = (items : List Item) (c : Contents) → AreBehind items c → IsSound (foreknown items) c × WereDefined (foreknown items) c
 
+-- what the outline of a unit gives
+abbrev pub ItemsAreForeknown : Type 0
+ItemsAreForeknown = (items : List Item) → All (IsForeknown (foreknown items)) items
+
 -- ---- at the end
 
 -- each function that the unit defines is defined
@@ -69,25 +63,3 @@ abbrev pub FunctionsAreTyped : Type 0
 FunctionsAreTyped =
     (k : Foreknown) (c : Contents) (main : ℕ) → IsSound k c → WereDefined k c → AllAreDefined c →
     All (λ f. All (IsTypedStmt (program_of c main) f) f.body) (program_of c main).functions
-
--- Each switch that a name is and each attributed function has its number, and arrays are no switches.
-pub record AreNumbered (k : Foreknown) (c : Contents) (p : Program) : Type 0 where
-  pub switches : (name : List ℕ) (n : ℕ) → place_of name k.outline.switches ≡ Some n → nat_lt n (length p.switches) ≡ true
-  pub attributed :
-    (name : List ℕ) (g n : ℕ) → place_of name k.outline.functions ≡ Some g → attributed_number k name ≡ Some n →
-    nat_lt n (length (attributed_functions p)) ≡ true
-  pub scalars : (n size : ℕ) (o : Object) → slice_get c.objects n ≡ Some o → o.global.size ≡ Some size → o.domain ≡ None
-
--- the function with a number in a program, without what is said of the declarations of its locals and of its own switches
-pub record IsFormedFunction (p : Program) (own : ℕ) (f : Function) : Type 0 where
-  pub parameters : f.params ≤ length f.locals
-  pub scalars : All (λ l. l.size ≡ None) (take f.params f.locals)
-  pub named : all_of (map (stmt_is_well_formed p own (length f.locals) (size_in f.locals) (is_void f.result)) f.body) ≡ true
-  pub jumps : all_jump (map stmt_jumps f.body) false false ≡ true
-  pub labels : all_of (map stmt_labelled f.body) ≡ true
-  pub known : all_of (map (all_expressions (calls_known p)) f.body) ≡ true
-
-abbrev pub FunctionsAreFormed : Type 0
-FunctionsAreFormed =
-    (k : Foreknown) (c : Contents) (main : ℕ) → IsSound k c → WereDefined k c → AllAreDefined c → AreNumbered k c (program_of c main) →
-    (own : ℕ) (f : Function) → slice_get (program_of c main).functions own ≡ Some f → IsFormedFunction (program_of c main) own f
