@@ -1,6 +1,5 @@
--- Contents are sound from the start of a unit to its end, and the values that its globals are given are of their types.
-use Rattle.std.proofs.Common.{◌≡◌, ℕ, refl, false, List, [], ◌∷◌, length, replicate, map, Option, Some, None, slice_get}
-use Rattle.std.specs.Prelude.{All}
+-- The values that the globals of a unit are given are of their types.
+use Rattle.std.proofs.Common.{◌≡◌, false, List, [], Option, Some}
 use Rattle.std.specs.List.{AllByRecursion}
 use Rattle.mv_ast.specs.declared.program.CType.TheVariants.{Void}
 use Rattle.mv_ast.specs.declared.program.Function.{Function}
@@ -9,7 +8,6 @@ use Rattle.mv_ast.specs.declared.unit.Declarator.{Declarator}
 use Rattle.mv_ast.specs.declared.unit.Item.{Item}
 use Rattle.mv_ast.specs.declared.unit.Line.{Line}
 use Rattle.mv_ast.specs.declared.unit.Specs.{out-Specs}
-use Rattle.std.proofs.lemmas.List.{length-replicate}
 use Rattle.std.proofs.lemmas.List.Elements.{recursion_from_All}
 use Rattle.mv_judge.specs.Judged.{Judged, Good, and_then}
 use Rattle.mv_declare.specs.declared.attributes.Position.TheVariants as position
@@ -24,30 +22,13 @@ use Rattle.mv_typed_bodies.proofs.Specified.{Specifies}
 use Rattle.mv_formed_globals.specs.FirstValues.{HaveFirstValues, FirstValuesAreKept}
 use Rattle.mv_types.specs.declared.contents.Contents.{Contents}
 use Rattle.mv_types.specs.declared.contents.Foreknown.{Foreknown}
-use Rattle.mv_types.specs.Contents.{nothing_declared, in_scope}
+use Rattle.mv_types.specs.Contents.{in_scope}
 use Rattle.mv_types.specs.Units.{declarator_judgement, holders, declares_nothing, names_judgement, item_judgement}
 use Rattle.mv_file_scope.specs.Declared.{Extends, IsSound}
-use Rattle.mv_file_scope.specs.Defined.{WereDefined}
 use Rattle.mv_file_scope.specs.Laws.{IsSoundBehind, IsForeknown}
-use Rattle.mv_file_scope.proofs.Lists.{nothing_there}
 use Rattle.mv_file_scope.proofs.Extending.{To, extends_same, extends_joined, to_same, to_joined}
 use Rattle.mv_file_scope.proofs.Widening.{Widens, specifiers_widen, widens_sound}
 use Rattle.mv_file_scope.proofs.Units.{Numbered, Known, spread, declarator_sound}
-
--- ---- the start
-
-pub start_sound : (k : Foreknown) → IsSound k (nothing_declared k)
-start_sound k = record {
-  around = refl;
-  locals = refl;
-  results = λ s signature h. absurd (cc);
-  count = length-replicate (length k.outline.functions) None;
-  names = λ name m h. absurd (cc);
-  functions = λ g f h. absurd (nothing_there (length k.outline.functions) g f h);
-}
-
-pub none_defined : (k : Foreknown) → WereDefined k (nothing_declared k)
-none_defined k g f h = absurd (nothing_there (length k.outline.functions) g f h)
 
 -- a function, to speak of the file scope
 pub nobody : Function

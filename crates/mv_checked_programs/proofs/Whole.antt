@@ -27,18 +27,18 @@ use Rattle.mv_types.specs.Contents.{nothing_declared, present}
 use Rattle.mv_types.specs.Units.{item_judgement, program_of, unit_judgement}
 use Rattle.mv_file_scope.specs.Declared.{Extends, IsSound}
 use Rattle.mv_file_scope.specs.Defined.{WereDefined}
-use Rattle.mv_file_scope.specs.Laws.{IsForeknown}
+use Rattle.mv_file_scope.specs.Laws.{IsForeknown, FileScopeIsSound}
 use Rattle.mv_formed_globals.specs.Globals.{HasFormedGlobals, GlobalsAreFormed}
 use Rattle.mv_formed_globals.specs.FirstValues.{HaveFirstValues, FirstValuesAreKept, GlobalsHaveFirstValues}
 use Rattle.mv_unit_numbers.specs.Numbers.{AreDefined, FunctionsAreDefined, ItemsAreForeknown, AreAttributed, AttributedAreCounted, AreSwitches, SwitchesAreCounted}
 use Rattle.mv_within_limits.specs.Limits.{WithinLimits}
 use Rattle.mv_within_limits.specs.Main.{MainIsTyped, MainIsUnmarked}
-use Rattle.mv_file_scope.proofs.Extending.{To, extends_same}
-use Rattle.mv_file_scope.proofs.Units.{items_sound}
+use Rattle.mv_file_scope.proofs.Extending.{extends_same}
+use Rattle.mv_file_scope.proofs.Units.{sound_start}
 use Rattle.mv_checked_programs.proofs.Lists.{all_at, all_by}
 use Rattle.mv_checked_programs.proofs.Units.{ComesFrom, comes_from, IsMade, is_made}
 use Rattle.mv_checked_programs.proofs.Fitting.{file_fits}
-use Rattle.mv_checked_programs.proofs.Given.{start_sound, none_defined, nobody, Goes, items_go}
+use Rattle.mv_checked_programs.proofs.Given.{nobody, Goes, items_go}
 use Rattle.mv_checked_programs.proofs.Functions.{MainIs, has_parameters, function_formed, functions_typed, main_plain}
 
 -- what holds of bodies, of definitions, of declarations and of limits
@@ -49,6 +49,7 @@ pub record Laws : Type 0 where
   pub formed : DefinitionIsFormed
   pub own : OwnSwitchesAreNamed
   pub known : ItemsAreForeknown
+  pub scope : FileScopeIsSound
   pub defined : FunctionsAreDefined
   pub attributed : AttributedAreCounted
   pub switches : SwitchesAreCounted
@@ -83,9 +84,7 @@ module _ (laws : Laws) where
     known = recursion_from_All (IsForeknown k) u.items (laws.known u.items)
 
     sound : IsSound k c × WereDefined k c
-    sound =
-        let t = of_good (To k (nothing_declared k)) (through (item_judgement k) u.items (nothing_declared k)) (items_sound laws.fit laws.grow k u.items known (nothing_declared k)) c from.2 (start_sound k) in
-        (t.sound, t.defined (none_defined k))
+    sound = laws.scope u.items c from.2
 
     formed : HasFormedGlobals p
     formed = laws.globals u p q
@@ -114,7 +113,7 @@ module _ (laws : Laws) where
     first_values : HaveFirstValues p c
     first_values =
         (of_good (Goes laws.fit laws.grow k c p fits laws.kept (nothing_declared k)) (through (item_judgement k) u.items (nothing_declared k))
-        (items_go laws.fit laws.grow k c p fits laws.kept u.items known (nothing_declared k)) c from.2 (start_sound k)).1 (extends_same c)
+        (items_go laws.fit laws.grow k c p fits laws.kept u.items known (nothing_declared k)) c from.2 (sound_start k)).1 (extends_same c)
         (all_by (λ (o : Object). All (IsFirstValue p o.global.ctype) o.global.first) [] (λ i o h. absurd (cc)))
 
     globals_typed : All (λ g. All (IsFirstValue p g.ctype) g.first) p.globals

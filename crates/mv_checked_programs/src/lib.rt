@@ -3,6 +3,7 @@
 
 ghost use Rattle.mv_checked_programs.specs.Checked.{CheckedAreWellFormed};
 
+use mv_file_scope::good_units_are_sound;
 use mv_formed_bodies::good_definitions_are_well_formed;
 use mv_formed_globals::{good_first_values_are_typed, good_globals_are_formed};
 use mv_own_switches::own_switches_are_named;
@@ -21,6 +22,7 @@ pub fn checked_programs_are_well_formed()
     own_switches_are_named();
     functions_have_their_numbers();
     objects_have_their_numbers();
+    good_units_are_sound();
     good_globals_are_formed();
     good_first_values_are_typed();
     main_is_typed();

@@ -10,6 +10,7 @@ returns c u p q none small =
       formed = c.good_definitions_are_well_formed.ensures.formed;
       own = c.own_switches_are_named.ensures;
       known = c.functions_have_their_numbers.ensures.known;
+      scope = c.good_units_are_sound.ensures c.functions_have_their_numbers.ensures.known;
       defined = c.functions_have_their_numbers.ensures.defined;
       attributed = c.functions_have_their_numbers.ensures.attributed;
       switches = c.objects_have_their_numbers.ensures;
