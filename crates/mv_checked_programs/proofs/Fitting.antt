@@ -1,25 +1,21 @@
 -- What the names of a unit's file scope mean is what its program has.
-use Rattle.std.proofs.Common.{◌≡◌, ℕ, ◌<◌, ◌⊎◌, inl, inr, refl, sym, ◌∙◌, ap, subst, Bool, true, false, ◌||◌, nat_eq, nat_lt, List, [], ◌∷◌, length, map, get_or, Option, Some, None, slice_get}
+use Rattle.std.proofs.Common.{◌≡◌, ℕ, ◌<◌, ◌⊎◌, inl, inr, refl, sym, ◌∙◌, ap, subst, Bool, true, false, ◌||◌, nat_eq, nat_lt, List, [], ◌∷◌, length, map, Option, Some, None, slice_get}
 use Rattle.std.specs.Prelude.{All, codes, if◌then◌else◌}
 use Rattle.std.specs.List.{AllByRecursion}
-use Rattle.std.specs.Cmp.Lexicographic.{pointwise, same_text}
 use Rattle.std.proofs.lemmas.Bool.{eqb-true}
 use Rattle.std.proofs.lemmas.List.{length-map}
 use Rattle.std.proofs.lemmas.List.Quantifiers.{position-Some}
 use Rattle.mv_ast.specs.declared.program.CType.{CType}
-use Rattle.mv_ast.specs.declared.program.CType.TheVariants.{Pointer}
 use Rattle.mv_ast.specs.declared.program.Function.{Function}
 use Rattle.mv_ast.specs.declared.program.Global.{Global}
 use Rattle.mv_ast.specs.declared.program.Known.{Known}
 use Rattle.mv_ast.specs.declared.program.Known.TheVariants as known
 use Rattle.mv_ast.specs.declared.program.Program.{Program}
-use Rattle.mv_ast.specs.declared.program.Switch.{Switch}
 use Rattle.mv_ast.specs.Plans.{attributed_functions, is_among, switch_global, global_or_none}
 use Rattle.mv_scope.specs.declared.meaning.Meaning.{Meaning}
 use Rattle.mv_scope.specs.declared.meaning.Meaning.TheVariants as meaning
 use Rattle.mv_scope.specs.declared.meaning.Routine.{Routine}
 use Rattle.mv_scope.specs.declared.meaning.Storage.{Storage}
-use Rattle.mv_scope.specs.declared.meaning.Storage.TheVariants as storage
 use Rattle.mv_scope.specs.declared.scope.Scope.{Scope}
 use Rattle.mv_scope.specs.Known.{is_named, known_function}
 use Rattle.mv_scope.specs.Scoped.{unless_declared, meaning_of}
@@ -28,8 +24,7 @@ use Rattle.mv_outline.specs.Names.{same_name, place_of}
 use Rattle.mv_numbering.specs.Typing.{global_types, IsFunctionOf}
 use Rattle.mv_lowering.specs.Lower.{is_own_switch}
 use Rattle.mv_lowered_programs.specs.WellFormed.{IsWellFormedSwitch}
-use Rattle.mv_typing.specs.Soundness.{IsListed, IsStored, IsMeant, Fits}
-use Rattle.mv_typed_bodies.specs.Bodies.{Keeps}
+use Rattle.mv_typing.specs.Soundness.{IsStored, IsMeant, Fits}
 use Rattle.mv_formed_bodies.specs.Declared.{IsIn, IsCovered, Covers}
 use Rattle.mv_formed_bodies.specs.Formed.{IsScalar, IsArray, IsKindOfOrder, IsShaped, AreShaped}
 use Rattle.mv_types.specs.declared.contents.Contents.{Contents}
@@ -40,7 +35,7 @@ use Rattle.mv_types.specs.Units.{with_switches}
 use Rattle.mv_file_scope.specs.Declared.{IsStill, Extends, IsGlobal, IsDeclared, IsDefinition, IsSound}
 use Rattle.mv_file_scope.proofs.Lists.{some_same}
 use Rattle.mv_file_scope.proofs.Named.{same_place}
-use Rattle.mv_checked_programs.proofs.Lists.{below, one_there, all_at, mapped}
+use Rattle.mv_checked_programs.proofs.Lists.{one_there, all_at, mapped}
 use Rattle.mv_checked_programs.proofs.Units.{IsMade}
 
 -- ---- a name at file scope
@@ -120,8 +115,7 @@ module _ (k : Foreknown) (c : Contents) (functions : List Function) (main : ℕ)
     still : (s : Storage) (t : CType) (o : IsGlobal before s t) →
         (g : Global) × (slice_get p.globals o.number ≡ Some g) × (g.ctype ≡ t) × (g.size ≡ o.object.global.size)
     still s t o =
-        let x : IsStill o.object.global c.objects o.number = extends.objects o.number o.object o.there in
-        (
+        let x : IsStill o.object.global c.objects o.number = extends.objects o.number o.object o.there in (
           x.object.global,
           ap (λ gs. slice_get gs o.number) made.globals ∙ mapped (λ (y : Object). y.global) c.objects o.number x.object x.there,
           x.ctype ∙ o.ctype,
@@ -142,7 +136,7 @@ module _ (k : Foreknown) (c : Contents) (functions : List Function) (main : ℕ)
         let e : x.0.name ≡ name = same_place x.0.name name k.outline.functions g d.number h in
         let later : named name c.scope.names.here ≡ Some (meaning.Function r) = extends.names name (meaning.Function r) q in
         let same : d.routine ≡ r = routine_same d.routine r (some_same (meaning.Function d.routine) (meaning.Function r)
-          (sym (subst (λ n. named n c.scope.names.here ≡ Some (meaning.Function d.routine)) e d.meaning) ∙ later)) in
+        (sym (subst (λ n. named n c.scope.names.here ≡ Some (meaning.Function d.routine)) e d.meaning) ∙ later)) in
         subst (λ (y : Routine). IsFunctionOf p y.signature g) same (record {
           signature = d.typed.signature;
           function = with_switches p.switches x.0;

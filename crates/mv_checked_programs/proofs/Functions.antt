@@ -1,14 +1,9 @@
 -- Each function of a unit's program is well typed and well formed.
-use Rattle.std.proofs.Common.{◌≡◌, ℕ, zero, suc, ◌<◌, ◌≤◌, refl, sym, ◌∙◌, ap, subst, Bool, true, false, ◌&&◌, if◌then◌else◌, List, [], ◌∷◌, length, map, take, Option, Some, None, slice_get, nat_lt, arith}
+use Rattle.std.proofs.Common.{◌≡◌, ℕ, ◌<◌, ◌≤◌, refl, sym, ◌∙◌, ap, subst, Bool, true, false, if◌then◌else◌, List, [], length, map, Option, Some, None, slice_get, nat_lt}
 use Rattle.std.specs.Prelude.{All, codes}
 use Rattle.std.specs.List.{AllByRecursion}
-use Rattle.mv_ast.specs.declared.program.CType.{CType}
-use Rattle.mv_ast.specs.declared.program.CType.TheVariants.{Void, Scalar, Pointer}
 use Rattle.mv_ast.specs.declared.program.Function.{Function}
-use Rattle.mv_ast.specs.declared.program.Local.{Local}
 use Rattle.mv_ast.specs.declared.program.Program.{Program}
-use Rattle.mv_ast.specs.declared.program.Signature.{Signature}
-use Rattle.mv_ast.specs.declared.program.Stmt.{Stmt}
 use Rattle.mv_ast.specs.declared.unit.Line.{Line}
 use Rattle.mv_ast.specs.declared.unit.Param.{Param}
 use Rattle.mv_ast.specs.Plans.{attributed_functions}
@@ -16,19 +11,15 @@ use Rattle.mv_scope.specs.declared.meaning.Meaning.{Meaning}
 use Rattle.mv_scope.specs.declared.meaning.Meaning.TheVariants as meaning
 use Rattle.mv_scope.specs.declared.meaning.Routine.{Routine}
 use Rattle.mv_scope.specs.declared.scope.Scope.{Scope}
-use Rattle.mv_scope.specs.Conversions.{int, same_type, same_types, same_signature}
-use Rattle.mv_scope.specs.Scoped.{meaning_of}
 use Rattle.mv_scope.specs.Spaces.{named}
-use Rattle.mv_judge.specs.Judged.{Judged, Good, Broken, and_then}
+use Rattle.mv_judge.specs.Judged.{Good, and_then}
 use Rattle.mv_outline.specs.Names.{place_of}
-use Rattle.mv_declare.specs.Declarators.{signature_of}
 use Rattle.mv_declare.specs.Parameters.{parameters_judgement}
 use Rattle.mv_statement_rules.specs.Statements.{body_judgement}
-use Rattle.mv_numbering.specs.Typing.{IsInteger, IsIntegerSwitch, IsTypedFunction, HasTypedMain, parameter_types}
+use Rattle.mv_numbering.specs.Typing.{IsIntegerSwitch, IsTypedFunction}
 use Rattle.mv_lowered_programs.specs.WellFormed.{IsWellFormedSwitch, IsWellFormedFunction}
 use Rattle.mv_typing.specs.Soundness.{Fits}
 use Rattle.mv_typed_bodies.specs.Bodies.{Keeps}
-use Rattle.mv_typed_bodies.proofs.Judging.{and_true}
 use Rattle.mv_typed_bodies.proofs.Names.{entered_means}
 use Rattle.mv_formed_bodies.specs.Declared.{Covers}
 use Rattle.mv_formed_bodies.specs.Formed.{AreShaped, HasParameters}
@@ -40,7 +31,6 @@ use Rattle.mv_types.specs.declared.contents.Foreknown.{Foreknown}
 use Rattle.mv_types.specs.Foreknown.{attributed_number, is_attributed}
 use Rattle.mv_types.specs.Functions.{body_entered, left_with}
 use Rattle.mv_types.specs.Units.{is_main_type, main_of, with_switches}
-use Rattle.mv_file_scope.specs.Declared as file
 use Rattle.mv_file_scope.specs.Declared.{IsSound}
 use Rattle.mv_file_scope.specs.Defined.{WasDefined, WereDefined}
 use Rattle.mv_file_scope.proofs.Lists.{some_same, mapped_back}
@@ -83,16 +73,15 @@ module _ (k : Foreknown) (c : Contents) (functions : List Function) (main : ℕ)
   defines f w =
       let a = is_attributed k w.name in
       let x = good_both (parameters_judgement (body_entered a w.before.scope) w.params)
-        (λ m. and_then (body_judgement w.result w.body m) (λ b. Good (left_with w.name a w.result (length w.params) b.1 b.0))) (w.behind, f) w.judged in
+      (λ m. and_then (body_judgement w.result w.body m) (λ b. Good (left_with w.name a w.result (length w.params) b.1 b.0))) (w.behind, f) w.judged in
       let y = good_both (body_judgement w.result w.body x.0) (λ b. Good (left_with w.name a w.result (length w.params) b.1 b.0)) (w.behind, f) x.2 in
-      let e : left_with w.name a w.result (length w.params) y.0.1 y.0.0 ≡ (w.behind, f) = good_same _ _ y.2 in
-      (
+      let e : left_with w.name a w.result (length w.params) y.0.1 y.0.0 ≡ (w.behind, f) = good_same _ _ y.2 in (
         w.params,
         w.body,
         a,
         y.0.0,
         subst (λ (z : Scope × Function). IsDefinition (with_switches p.switches z.1) w.params w.body (body_entered a w.before.scope) y.0.0) e
-        (record { middle = x.0; judged_parameters = x.1; judged_body = y.1; none_before = refl; count = refl; locals = refl }),
+            (record { middle = x.0; judged_parameters = x.1; judged_body = y.1; none_before = refl; count = refl; locals = refl }),
         λ i s h. ap (λ ss. slice_get ss i) made.signatures ∙ w.extends_behind.signatures i s (subst (λ (z : Scope × Function). slice_get z.0.signatures i ≡ Some s) e h),
       )
 
@@ -163,7 +152,7 @@ module _ (k : Foreknown) (c : Contents) (functions : List Function) (main : ℕ)
           let x = found own g h in
           subst (IsTypedFunction p) x.2 (record {
             switches = all_recursive (IsIntegerSwitch p) (with_switches p.switches x.0).switches
-              (all_recursive_more (λ s. s < length p.switches) (IsIntegerSwitch p) integers (with_switches p.switches x.0).switches (numbers x.0));
+                (all_recursive_more (λ s. s < length p.switches) (IsIntegerSwitch p) integers (with_switches p.switches x.0).switches (numbers x.0));
             body = (is_formed own x.0 x.1).typed;
           }))
 

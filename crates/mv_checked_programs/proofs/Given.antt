@@ -1,5 +1,5 @@
 -- The values that the globals of a unit are given are of their types.
-use Rattle.std.proofs.Common.{◌≡◌, false, List, [], Option, Some}
+use Rattle.std.proofs.Common.{false, List, [], Option}
 use Rattle.std.specs.List.{AllByRecursion}
 use Rattle.mv_ast.specs.declared.program.CType.TheVariants.{Void}
 use Rattle.mv_ast.specs.declared.program.Function.{Function}
@@ -9,7 +9,6 @@ use Rattle.mv_ast.specs.declared.unit.Item.{Item}
 use Rattle.mv_ast.specs.declared.unit.Line.{Line}
 use Rattle.mv_ast.specs.declared.unit.Specs.{out-Specs}
 use Rattle.std.proofs.lemmas.List.Elements.{recursion_from_All}
-use Rattle.mv_judge.specs.Judged.{Judged, Good, and_then}
 use Rattle.mv_declare.specs.declared.attributes.Position.TheVariants as position
 use Rattle.mv_declare.specs.declared.specifiers.Specified.{Specified}
 use Rattle.mv_declare.specs.Specifiers.{specifiers}
@@ -26,7 +25,7 @@ use Rattle.mv_types.specs.Contents.{in_scope}
 use Rattle.mv_types.specs.Units.{declarator_judgement, holders, declares_nothing, names_judgement, item_judgement}
 use Rattle.mv_file_scope.specs.Declared.{Extends, IsSound}
 use Rattle.mv_file_scope.specs.Laws.{IsSoundBehind, IsForeknown}
-use Rattle.mv_file_scope.proofs.Extending.{To, extends_same, extends_joined, to_same, to_joined}
+use Rattle.mv_file_scope.proofs.Extending.{To, extends_joined, to_same, to_joined}
 use Rattle.mv_file_scope.proofs.Widening.{Widens, specifiers_widen, widens_sound}
 use Rattle.mv_file_scope.proofs.Units.{Numbered, Known, spread, declarator_sound}
 

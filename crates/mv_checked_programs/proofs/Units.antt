@@ -1,5 +1,5 @@
 -- What a unit's program is made of.
-use Rattle.std.proofs.Common.{◌≡◌, ℕ, refl, sym, ◌∙◌, ap, subst, List, map, Option, Some, None}
+use Rattle.std.proofs.Common.{◌≡◌, ℕ, refl, ◌∙◌, ap, List, map, Option, Some, None}
 use Rattle.std.specs.Prelude.{codes}
 use Rattle.mv_ast.specs.declared.program.Function.{Function}
 use Rattle.mv_ast.specs.declared.program.Program.{Program}
@@ -12,7 +12,7 @@ use Rattle.mv_types.specs.declared.contents.Contents.{Contents}
 use Rattle.mv_types.specs.Contents.{nothing_declared, present, switches_from}
 use Rattle.mv_types.specs.Foreknown.{foreknown}
 use Rattle.mv_types.specs.Units.{item_judgement, main_of, with_switches, program_of, program_or_broken, program_judgement, unit_judgement}
-use Rattle.mv_unit_numbers.specs.Numbers.{AreJudged, AreDefined}
+use Rattle.mv_unit_numbers.specs.Numbers.{AreJudged}
 use Rattle.mv_checked_programs.proofs.Lists.{present_is}
 
 pub good_both : {A B : Type 0} (j : Judged A) (next : A → Judged B) (b : B) → and_then j next ≡ Good b → (a : A) × (j ≡ Good a) × (next a ≡ Good b)

@@ -1,6 +1,6 @@
 -- The program of a unit that keeps the rules.
-use Rattle.std.proofs.Common.{◌≡◌, ℕ, ◌<◌, ◌≤◌, refl, sym, ◌∙◌, ap, subst, true, false, List, [], length, map, Some, None, slice_get, nat_lt}
-use Rattle.std.specs.Prelude.{All, codes}
+use Rattle.std.proofs.Common.{◌≡◌, ℕ, ◌≤◌, sym, ◌∙◌, ap, subst, false, [], Some, None, slice_get}
+use Rattle.std.specs.Prelude.{All}
 use Rattle.mv_ast.specs.declared.program.Function.{Function}
 use Rattle.mv_ast.specs.declared.program.Global.{Global}
 use Rattle.mv_ast.specs.declared.program.Program.{Program}
@@ -14,7 +14,6 @@ use Rattle.mv_typing.specs.Soundness.{Fits}
 use Rattle.mv_typed_bodies.specs.Bodies.{BodyGrows, ParametersFit}
 use Rattle.mv_typed_bodies.proofs.Judging.{of_good}
 use Rattle.mv_limits.specs.Limits.{first_exceeded}
-use Rattle.mv_outline.specs.Names.{same_name, place_of}
 use Rattle.mv_numbering.specs.Typing.{IsFirstValue, IsTypedFunction, HasTypedMain}
 use Rattle.mv_lowered_programs.specs.WellFormed.{IsWellFormedFunction, IsWellFormed, program_nodes}
 use Rattle.mv_formed_bodies.specs.Definitions.{DefinitionHasParameters, DefinitionIsFormed}
@@ -22,9 +21,9 @@ use Rattle.mv_own_switches.specs.OwnSwitches.{OwnSwitchesAreNamed}
 use Rattle.mv_types.specs.declared.contents.Contents.{Contents}
 use Rattle.mv_types.specs.declared.contents.Foreknown.{Foreknown}
 use Rattle.mv_types.specs.declared.contents.Object.{Object}
-use Rattle.mv_types.specs.Foreknown.{foreknown, is_attributed, attributed_number}
+use Rattle.mv_types.specs.Foreknown.{foreknown, is_attributed}
 use Rattle.mv_types.specs.Contents.{nothing_declared, present}
-use Rattle.mv_types.specs.Units.{item_judgement, program_of, unit_judgement}
+use Rattle.mv_types.specs.Units.{item_judgement, unit_judgement}
 use Rattle.mv_file_scope.specs.Declared.{Extends, IsSound}
 use Rattle.mv_file_scope.specs.Defined.{WereDefined}
 use Rattle.mv_file_scope.specs.Laws.{IsForeknown, FileScopeIsSound}
@@ -39,7 +38,7 @@ use Rattle.mv_checked_programs.proofs.Lists.{all_at, all_by}
 use Rattle.mv_checked_programs.proofs.Units.{ComesFrom, comes_from, IsMade, is_made}
 use Rattle.mv_checked_programs.proofs.Fitting.{file_fits}
 use Rattle.mv_checked_programs.proofs.Given.{nobody, Goes, items_go}
-use Rattle.mv_checked_programs.proofs.Functions.{MainIs, has_parameters, function_formed, functions_typed, main_plain}
+use Rattle.mv_checked_programs.proofs.Functions.{has_parameters, function_formed, functions_typed, main_plain}
 
 -- what holds of bodies, of definitions, of declarations and of limits
 pub record Laws : Type 0 where
