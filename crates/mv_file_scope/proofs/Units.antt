@@ -125,10 +125,10 @@ name_is d name q = ap (λ (o : Option (List ℕ)). name_of (record d { name = o 
 
 module _ (fit : ParametersFit) (grow : BodyGrows) (k : Foreknown) where
   -- a function that it defines has a number
-  abbrev Numbered : Declarator → Type 0
+  abbrev pub Numbered : Declarator → Type 0
   Numbered d = is_function d ≡ true → (g : ℕ) × (place_of (name_of d) k.outline.functions ≡ Some g)
 
-  abbrev Known : Option Line → Declarator → Type 0
+  abbrev pub Known : Option Line → Declarator → Type 0
   Known body d = (line : Line) → body ≡ Some line → Numbered d
 
   definition_widens : (d : Declarator) (body : Option Line) (s t : Scope) → s.locals ≡ [] → definition_parameters d body s ≡ Good t → Widens s t
@@ -158,7 +158,7 @@ module _ (fit : ParametersFit) (grow : BodyGrows) (k : Foreknown) where
   named_sound b fixed body d None e s c q listed named known = tt
   named_sound b fixed body d (Some name) e s c q listed named known = entity_sound b fixed body d name e.entity e.attribute s c q listed named known
 
-  declarator_sound : (b : Specified) → IsPlain b.ctype → (body : Option Line) (d : Declarator) → Known body d → (c : Contents) →
+  pub declarator_sound : (b : Specified) → IsPlain b.ctype → (body : Option Line) (d : Declarator) → Known body d → (c : Contents) →
       IfGood (declarator_judgement k b body d c) (To k c)
   unfolding declarator_judgement
   declarator_sound b plain body d known c = by_good (To k c) (declarator_judgement k b body d c) (λ after q s.
@@ -174,7 +174,7 @@ module _ (fit : ParametersFit) (grow : BodyGrows) (k : Foreknown) where
 
   -- ---- an item
 
-  spread : (body : Option Line) (ds : List Declarator) → ((line : Line) → body ≡ Some line → AllByRecursion Numbered ds) → AllByRecursion (Known body) ds
+  pub spread : (body : Option Line) (ds : List Declarator) → ((line : Line) → body ≡ Some line → AllByRecursion Numbered ds) → AllByRecursion (Known body) ds
   spread body [] h = tt
   spread body (d ∷ ds) h = (λ line q. (h line q).0, spread body ds (λ line q. (h line q).1))
 

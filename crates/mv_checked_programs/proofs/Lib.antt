@@ -1,0 +1,6 @@
+mod Lists
+mod Units
+mod Fitting
+mod Functions
+mod Given
+mod Whole

@@ -1,0 +1,42 @@
+//! The program of a unit that keeps the rules, and is within the limits, is what the layers above ask for.
+#![tactic(auto)]
+
+ghost use Rattle.mv_checked_programs.specs.Checked.{CheckedAreWellFormed, SmallUnitsAreWellFormed};
+
+use mv_file_scope::good_units_are_sound;
+use mv_formed_bodies::good_definitions_are_well_formed;
+use mv_formed_globals::{good_first_values_are_typed, good_globals_are_formed};
+use mv_own_switches::own_switches_are_named;
+use mv_typed_bodies::{good_bodies_are_typed, good_parameters_fit};
+use mv_unit_numbers::{functions_have_their_numbers, objects_have_their_numbers};
+use mv_within_limits::{
+    main_is_typed, main_is_unmarked, programs_of_small_units_are_small,
+    unreported_programs_are_within_limits,
+};
+
+/// The program of a unit whose declarations keep the rules (C11 6.9) is well typed and well formed, where no limit is reported and its
+/// nodes are few enough. The call does nothing: its contract is the law.
+pub fn checked_programs_are_well_formed()
+    ensures { CheckedAreWellFormed }
+{
+    good_parameters_fit();
+    good_bodies_are_typed();
+    good_definitions_are_well_formed();
+    own_switches_are_named();
+    functions_have_their_numbers();
+    objects_have_their_numbers();
+    good_units_are_sound();
+    good_globals_are_formed();
+    good_first_values_are_typed();
+    main_is_typed();
+    main_is_unmarked();
+    unreported_programs_are_within_limits();
+}
+
+/// So is the program of such a unit that has few enough nodes itself. The call does nothing: its contract is the law.
+pub fn programs_of_small_units_are_well_formed()
+    ensures { SmallUnitsAreWellFormed }
+{
+    checked_programs_are_well_formed();
+    programs_of_small_units_are_small();
+}

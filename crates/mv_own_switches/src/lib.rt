@@ -1,0 +1,10 @@
+//! A function whose switches are those that its statements name names no other switch.
+#![tactic(auto)]
+
+ghost use Rattle.mv_own_switches.specs.OwnSwitches.{OwnSwitchesAreNamed};
+
+/// Where the switches of a function are listed as those that its statements name, each switch that an expression in it names is one of
+/// them. The call does nothing: its contract is the law.
+pub fn own_switches_are_named()
+    ensures { OwnSwitchesAreNamed }
+{}
