@@ -61,7 +61,7 @@ fn many(alloc: Global, rest: &str) -> Result<Outcome, AllocError> {
     Ok(checked(alloc, text.as_bytes()))
 }
 
-fn outcome(alloc: Global, line: &str) -> Result<Outcome, AllocError> {
+fn outcome_of(alloc: Global, line: &str) -> Result<Outcome, AllocError> {
     match line.split_once(' ') {
         Some(("unit", text)) => {
             let text = text.replace(alloc, "`", "\n")?;
@@ -85,7 +85,7 @@ fn print_outcome(rt: &HostRuntime, outcome: Outcome) -> io::Result<()> {
 fn main(rt: HostRuntime) -> io::Result<()> {
     for line in rt.lines(rt.alloc()) {
         let line = line?;
-        let outcome = outcome(rt.alloc(), line.as_str())?;
+        let outcome = outcome_of(rt.alloc(), line.as_str())?;
         print!(rt; "{}: ", line.as_str())?;
         print_outcome(&rt, outcome)?;
     }
