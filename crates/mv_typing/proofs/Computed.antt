@@ -14,7 +14,7 @@ use Rattle.mv_numbering.proofs.Constants.{comes_number, comes_unary, comes_conve
 
 -- ---- what a computed value comes from
 
-from_one : (r : Option ℕ) (f : ℕ → ℕ) (v : ℕ) → of_one r f ≡ Some v → (u : ℕ) × (r ≡ Some u) × (f u ≡ v)
+pub from_one : (r : Option ℕ) (f : ℕ → ℕ) (v : ℕ) → of_one r f ≡ Some v → (u : ℕ) × (r ≡ Some u) × (f u ≡ v)
 from_one None f v h = absurd (cc)
 from_one (Some u) f v h = (u, refl, cc)
 
@@ -44,18 +44,12 @@ truth_is n = by (nat_eq n 0)
 
 -- ---- the equations of computing
 
-form_fold : Form → CType → Option ℕ
-form_fold = fold-Form (CType → Option ℕ) (Unit {0}) Evaluated value_form value_target value_expr
-
-target_fold : Target → Unit {0}
-target_fold = fold-Target (CType → Option ℕ) (Unit {0}) Evaluated value_form value_target value_expr
-
-abbrev layer_of : Form-F Form Target Expr → Form-F (CType → Option ℕ) (Unit {0}) Evaluated
+abbrev pub layer_of : Form-F Form Target Expr → Form-F (CType → Option ℕ) (Unit {0}) Evaluated
 layer_of = map-Form Form Target Expr (CType → Option ℕ) (Unit {0}) Evaluated
     (fold-Form (CType → Option ℕ) (Unit {0}) Evaluated value_form value_target value_expr)
     (fold-Target (CType → Option ℕ) (Unit {0}) Evaluated value_form value_target value_expr) evaluated
 
-computed_is : (e : Expr) (z : Form-F Form Target Expr) → out-Form e.what ≡ z → computed e ≡ value_form (layer_of z) e.ctype
+pub computed_is : (e : Expr) (z : Form-F Form Target Expr) → out-Form e.what ≡ z → computed e ≡ value_form (layer_of z) e.ctype
 computed_is e z h =
     ap (λ s. s.value) (fold_out-Expr (CType → Option ℕ) (Unit {0}) Evaluated value_form value_target value_expr e) ∙
     (ap (λ g. g e.ctype) (fold_out-Form (CType → Option ℕ) (Unit {0}) Evaluated value_form value_target value_expr e.what) ∙
