@@ -26,11 +26,10 @@ host() {
 
 few=1000000
 many=3000000
-for guest in "${@:-count sort}"; do
-    for name in $guest; do
-        c=$(($(host "$scratch/loop" "$here/$name.bin" $many) - $(host "$scratch/loop" "$here/$name.bin" $few)))
-        machine=$(($(host "$scratch/crates/mv_bench/out/mv_bench" "$here/$name.bin" $many) - $(host "$scratch/crates/mv_bench/out/mv_bench" "$here/$name.bin" $few)))
-        awk -v name="$name" -v c="$c" -v m="$machine" -v n=$((many - few)) \
-            'BEGIN { printf "%s: host instructions a guest instruction: C %.1f, machine %.1f, ratio %.2f\n", name, c / n, m / n, m / c }'
-    done
+[ $# -gt 0 ] || set -- count sort
+for name; do
+    c=$(($(host "$scratch/loop" "$here/$name.bin" $many) - $(host "$scratch/loop" "$here/$name.bin" $few)))
+    machine=$(($(host "$scratch/crates/mv_bench/out/mv_bench" "$here/$name.bin" $many) - $(host "$scratch/crates/mv_bench/out/mv_bench" "$here/$name.bin" $few)))
+    awk -v name="$name" -v c="$c" -v m="$machine" -v n=$((many - few)) \
+        'BEGIN { printf "%s: host instructions a guest instruction: C %.1f, machine %.1f, ratio %.2f\n", name, c / n, m / n, m / c }'
 done

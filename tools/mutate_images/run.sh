@@ -14,4 +14,4 @@ grep -E '^(mv_num|mv_descriptors|mv_image):' "$here/../../crates.txt" > "$scratc
 echo 'mutate_images: mv_image anyhow' >> "$scratch/crates.txt"
 cp "$here/main.rt.in" "$scratch/crates/mutate_images/src/main.rt"
 cd "$scratch/crates/mutate_images"
-time rt run -- "${1:-100000}" < "${2:-$here/image.bin}"
+rt run -- "${1:-100000}" < "${2:-$here/image.bin}"

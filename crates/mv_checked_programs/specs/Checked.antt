@@ -1,7 +1,8 @@
 -- Checked programs are well formed.
-use Rattle.std.specs.Prelude.{◌≡◌, ◌≤◌, None}
+use Rattle.std.specs.Prelude.{◌≡◌, ◌≤◌, ℕ, List, None}
 use Rattle.mv_ast.specs.declared.program.Program.{Program}
 use Rattle.mv_ast.specs.declared.unit.Unit as unit
+use Rattle.mv_front.specs.Verdicts.{IsProgram}
 use Rattle.mv_judge.specs.Judged.{Good}
 use Rattle.mv_limits.specs.Limits.{first_exceeded}
 use Rattle.mv_lowered_programs.specs.WellFormed.{IsWellFormed, program_nodes}
@@ -17,3 +18,7 @@ CheckedAreWellFormed =
 abbrev pub SmallUnitsAreWellFormed : Type 0
 SmallUnitsAreWellFormed =
     (u : unit.Unit) (p : Program) → unit_judgement u ≡ Good p → first_exceeded p ≡ None → unit_nodes u ≤ 4194304 → IsWellFormed p
+
+-- the program of a text, of which nothing more is asked
+abbrev pub ProgramsOfTextsAreWellFormed : Type 0
+ProgramsOfTextsAreWellFormed = (text : List ℕ) (p : Program) → IsProgram text p → IsWellFormed p

@@ -1,7 +1,7 @@
 //! The program of a unit that keeps the rules, and is within the limits, is what the layers above ask for.
 #![tactic(auto)]
 
-ghost use Rattle.mv_checked_programs.specs.Checked.{CheckedAreWellFormed, SmallUnitsAreWellFormed};
+ghost use Rattle.mv_checked_programs.specs.Checked.{CheckedAreWellFormed, ProgramsOfTextsAreWellFormed, SmallUnitsAreWellFormed};
 
 use mv_file_scope::good_units_are_sound;
 use mv_formed_bodies::good_definitions_are_well_formed;
@@ -9,6 +9,7 @@ use mv_formed_globals::{good_first_values_are_typed, good_globals_are_formed};
 use mv_own_switches::own_switches_are_named;
 use mv_typed_bodies::{good_bodies_are_typed, good_parameters_fit};
 use mv_unit_numbers::{functions_have_their_numbers, objects_have_their_numbers};
+use mv_unit_sizes::units_of_texts_are_small;
 use mv_within_limits::{
     main_is_typed, main_is_unmarked, programs_of_small_units_are_small,
     unreported_programs_are_within_limits,
@@ -39,4 +40,13 @@ pub fn programs_of_small_units_are_well_formed()
 {
     checked_programs_are_well_formed();
     programs_of_small_units_are_small();
+}
+
+/// So is the program of each text that the front end accepts: its unit has no more nodes than the text has bytes, of which there are at
+/// most 1,048,576. The call does nothing: its contract is the law.
+pub fn programs_of_texts_are_well_formed()
+    ensures { ProgramsOfTextsAreWellFormed }
+{
+    programs_of_small_units_are_well_formed();
+    units_of_texts_are_small();
 }
