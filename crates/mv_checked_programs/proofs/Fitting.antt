@@ -176,10 +176,7 @@ module _ (k : Foreknown) (c : Contents) (functions : List Function) (main : ℕ)
     covered : (name : List ℕ) (m : Meaning) → IsDeclared k before name m → IsCovered (λ l. false) m
     covered name (meaning.Object v) d = global_in v.storage v.ctype d.0
     covered name (meaning.Array a) d = global_in a.storage a.ctype d.0
-    covered name (meaning.Function r) d = tt
-    covered name (meaning.Enumerator v) d = tt
-    covered name (meaning.Tag n) d = tt
-    covered name (meaning.Known x) d = tt
+    covered name x d = tt
 
     pub file_covers : Covers (λ l. false) before.scope
     file_covers name m h = by (at_file before.scope earlier.around name m h)

@@ -162,17 +162,12 @@ module _ (k : Foreknown) (c : Contents) (functions : List Function) (main : ℕ)
     IsMain o = (r : Routine) × (o ≡ Some (meaning.Function r)) × (r.number ≡ Some main)
 
     main_means : (o : Option Meaning) → main_of c.scope.signatures o ≡ Some main → IsMain o
-    main_means None q = absurd (cc)
-    main_means (Some (meaning.Object v)) q = absurd (cc)
-    main_means (Some (meaning.Array a)) q = absurd (cc)
-    main_means (Some (meaning.Enumerator v)) q = absurd (cc)
-    main_means (Some (meaning.Tag n)) q = absurd (cc)
-    main_means (Some (meaning.Known x)) q = absurd (cc)
     main_means (Some (meaning.Function r)) q = by (is_main_type (slice_get c.scope.signatures r.signature)) q
       where
         by : (b : Bool) → (if b then r.number else None) ≡ Some main → IsMain (Some (meaning.Function r))
         by true h = (r, refl, h)
         by false h = absurd (cc)
+    main_means x q = absurd (cc)
 
     -- the function that `main` is
     pub record MainIs (f : Function) : Type 0 where

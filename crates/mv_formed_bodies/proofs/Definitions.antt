@@ -81,10 +81,7 @@ array_in p own g n (storage.Local l) q h = subst (λ k. nat_lt l k ≡ true) q (
 shaped_covered : (p : Program) (own : ℕ) (g : Function) (n : ℕ) (m : Meaning) → length g.locals ≡ n → IsShaped p own g m → IsCovered (λ l. nat_lt l n) m
 shaped_covered p own g n (meaning.Object v) q h = scalar_in g n v.storage q h.0
 shaped_covered p own g n (meaning.Array a) q h = array_in p own g n a.storage q h
-shaped_covered p own g n (meaning.Function r) q h = tt
-shaped_covered p own g n (meaning.Enumerator v) q h = tt
-shaped_covered p own g n (meaning.Tag k) q h = tt
-shaped_covered p own g n (meaning.Known c) q h = tt
+shaped_covered p own g n x q h = tt
 
 -- ---- definitions
 

@@ -39,21 +39,11 @@ module _ (x : ExprProperty) where
 
   function_has : (a : Seen) (args : List Seen) → Fine x «use».Function a → NamesAttributed x.scope (named_index (a ∷ args))
   function_has (seen.Function r) args h = attributed_has r.attributed r refl h.1 h.0
-  function_has (seen.Value e) args h = absurd (let q = h.1 in cc)
-  function_has (seen.Object o) args h = absurd (let q = h.1 in cc)
-  function_has (seen.Array e) args h = absurd (let q = h.1 in cc)
-  function_has (seen.Designator e) args h = absurd (let q = h.1 in cc)
-  function_has (seen.Known k) args h = absurd (let q = h.1 in cc)
-  function_has (seen.Switch n) args h = absurd (let q = h.1 in cc)
+  function_has x args h = absurd (let q = h.1 in cc)
 
   named_switch_has : (a : Seen) (args : List Seen) → Fine x «use».Switch a → NamesSwitch x.scope (named_index (a ∷ args))
   named_switch_has (seen.Switch n) args h = h.0
-  named_switch_has (seen.Function r) args h = absurd (let q = h.1 in cc)
-  named_switch_has (seen.Value e) args h = absurd (let q = h.1 in cc)
-  named_switch_has (seen.Object o) args h = absurd (let q = h.1 in cc)
-  named_switch_has (seen.Array e) args h = absurd (let q = h.1 in cc)
-  named_switch_has (seen.Designator e) args h = absurd (let q = h.1 in cc)
-  named_switch_has (seen.Known k) args h = absurd (let q = h.1 in cc)
+  named_switch_has x args h = absurd (let q = h.1 in cc)
 
   planned : (code : ℕ) (b : Bool) → nat_lt code 2 ≡ b → (c : Bool) → nat_lt code 4 ≡ c → (args : List Seen) →
       AllFine (if b then «use».Value else if c then «use».Function else «use».Switch) args → nat_eq (length args) (if b then 0 else 1) ≡ true → IsPlanned x.scope code (named_index args)

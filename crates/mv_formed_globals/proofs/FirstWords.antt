@@ -39,20 +39,7 @@ use Rattle.mv_formed_globals.proofs.Nulls.{pointer_null}
 word_case : (x : Form-F Form Target Expr) (o : Option ℕ) (w : ℕ) → address_or (address_form x) o ≡ Some w →
     ((g : ℕ) × (x ≡ form.Function g) × (w ≡ g + 1)) ⊎ (o ≡ Some w)
 word_case (form.Function g) o w h = inl (g, refl, cc)
-word_case (form.Number n) o w h = inr h
-word_case (form.Read t) o w h = inr h
-word_case (form.Unary op a) o w h = inr h
-word_case (form.Binary op a b) o w h = inr h
-word_case (form.Both a b) o w h = inr h
-word_case (form.Either a b) o w h = inr h
-word_case (form.Choose c a b) o w h = inr h
-word_case (form.Convert a) o w h = inr h
-word_case (form.Set t a) o w h = inr h
-word_case (form.Change op kind t a) o w h = inr h
-word_case (form.After up t) o w h = inr h
-word_case (form.Direct g args) o w h = inr h
-word_case (form.Through args callee) o w h = inr h
-word_case (form.Known k args) o w h = inr h
+word_case x o w h = inr h
 
 value_is : (b : Bool) (r : Option ℕ) (w : ℕ) → (if b then r else None) ≡ Some w → r ≡ Some w
 value_is true r w h = h

@@ -74,8 +74,6 @@ module _ (p : Program) (f : Function) (comes : (e : Expr) (v : ℕ) → computed
 
     by_form : (y : Form-F F T E) → FormParts p f (below y) → HasType p f (Pointer s) (below y) → value_form (layer_of (below y)) (Pointer s) ≡ Some v → v ≡ 0
     by_form (form.Number n) h t w = let q : n ≡ v = cc in sym q ∙ t
-    by_form (form.Read x) h t w = absurd (cc)
-    by_form (form.Function g) h t w = absurd (cc)
     by_form (form.Unary op a) h t w = absurd t.0
     by_form (form.Binary op a b) h t w = absurd t.0
     by_form (form.Both a b) h t w = absurd t
@@ -83,12 +81,7 @@ module _ (p : Program) (f : Function) (comes : (e : Expr) (v : ℕ) → computed
     by_form (form.Choose c a b) h t w = choose_null a.0 b.0 a.1 b.1 h.1 h.2 t.0 t.1 (from_test (computed c.0) (computed a.0) (computed b.0) v w)
     by_form (form.Convert a) h t w =
         let r = from_one (computed a.0) (converted (Pointer s)) v w in sym r.2 ∙ convert_null a.0 a.1 h t r.0 r.1
-    by_form (form.Set x a) h t w = absurd (cc)
-    by_form (form.Change op kind x a) h t w = absurd (cc)
-    by_form (form.After up x) h t w = absurd (cc)
-    by_form (form.Direct g args) h t w = absurd (cc)
-    by_form (form.Through args callee) h t w = absurd (cc)
-    by_form (form.Known k args) h t w = absurd (cc)
+    by_form x h t w = absurd (cc)
 
   form_case : (x : Form-F Form Target Expr) (y : Form-F F T E) → below y ≡ x → FormNull (roll-Form x)
   form_case x y q e w h s t v c =

@@ -31,20 +31,7 @@ use Rattle.mv_typing.proofs.Forms.{IsGood, IsGoodSeen, value_good}
 -- the expression is a function's name
 function_is : (z : Form-F Form Target Expr) (g : ℕ) → function_form z ≡ Some g → z ≡ open_form.Function g
 function_is (open_form.Function f) g h = let q : f ≡ g = cc in ap (λ x. open_form.Function x) q
-function_is (open_form.Number n) g h = absurd (cc)
-function_is (open_form.Read t) g h = absurd (cc)
-function_is (open_form.Unary op a) g h = absurd (cc)
-function_is (open_form.Binary op a b) g h = absurd (cc)
-function_is (open_form.Both a b) g h = absurd (cc)
-function_is (open_form.Either a b) g h = absurd (cc)
-function_is (open_form.Choose c a b) g h = absurd (cc)
-function_is (open_form.Convert a) g h = absurd (cc)
-function_is (open_form.Set t a) g h = absurd (cc)
-function_is (open_form.Change op s t a) g h = absurd (cc)
-function_is (open_form.After up t) g h = absurd (cc)
-function_is (open_form.Direct f args) g h = absurd (cc)
-function_is (open_form.Through args c) g h = absurd (cc)
-function_is (open_form.Known k args) g h = absurd (cc)
+function_is x g h = absurd (cc)
 
 -- the types of as many arguments as there are parameters
 passed_types : (ts : List CType) (args : List Seen) → length args ≡ length ts → types_of (passed ts args) ≡ ts

@@ -64,13 +64,7 @@ module _ (p : Program) (f : Function) (scope : Scope) (fits : Fits p f scope) wh
   address_good : (u : Use) (x : Seen) → GoodSeen x → GoodSeen (address_of u x)
   address_good «use».Function x h = h
   address_good «use».Switch x h = switch_good (switch_of x)
-  address_good «use».Value x h = value_good p f scope.signatures x h
-  address_good «use».Base x h = value_good p f scope.signatures x h
-  address_good «use».Callee x h = value_good p f scope.signatures x h
-  address_good «use».Place x h = value_good p f scope.signatures x h
-  address_good «use».Effect x h = value_good p f scope.signatures x h
-  address_good «use».Discarded x h = value_good p f scope.signatures x h
-  address_good «use».Address x h = value_good p f scope.signatures x h
+  address_good u x h = value_good p f scope.signatures x h
 
   unary_is : (u : Use) (op : ℕ) (x : Seen) → GoodSeen x → (not (is_address op || is_indirection op || takes_one op (value_of x).ctype)) ≡ false → GoodSeen (unary_seen u op x)
   unary_is u op x h k = by (is_address op) (is_indirection op) (not-false (is_address op || is_indirection op || takes_one op (value_of x).ctype) k)
@@ -92,51 +86,24 @@ module _ (p : Program) (f : Function) (scope : Scope) (fits : Fits p f scope) wh
       by false g i =
           let s = and_parts (is_integer o.ctype) (is_integer (value_of y).ctype) g in
           change_good p f scope.signatures (compound_operator op) o (value_of y) h (value_good p f scope.signatures y k).0 (integer_is o.ctype s.0) (integer_is (value_of y).ctype s.1)
-  assign_is op (seen.Value e) y h k a b c = absurd (cc)
-  assign_is op (seen.Array e) y h k a b c = absurd (cc)
-  assign_is op (seen.Function r) y h k a b c = absurd (cc)
-  assign_is op (seen.Designator e) y h k a b c = absurd (cc)
-  assign_is op (seen.Known n) y h k a b c = absurd (cc)
-  assign_is op (seen.Switch s) y h k a b c = absurd (cc)
+  assign_is op x y h k a b c = absurd (cc)
 
   before_is : (up : Bool) (x : Seen) → GoodSeen x → not (is_integer (value_of x).ctype) ≡ false → not (is_assignable x) ≡ false → IsGood p f scope.signatures (before_of up (object_of x))
   before_is up (seen.Object o) h a b = change_good p f scope.signatures (if up then 12 else 13) o one h (number_made p f int 1 tt) (integer_is o.ctype (not-false (is_integer o.ctype) a)) tt
-  before_is up (seen.Value e) h a b = absurd (cc)
-  before_is up (seen.Array e) h a b = absurd (cc)
-  before_is up (seen.Function r) h a b = absurd (cc)
-  before_is up (seen.Designator e) h a b = absurd (cc)
-  before_is up (seen.Known n) h a b = absurd (cc)
-  before_is up (seen.Switch s) h a b = absurd (cc)
+  before_is up x h a b = absurd (cc)
 
   after_is : (up : Bool) (x : Seen) → GoodSeen x → not (is_integer (value_of x).ctype) ≡ false → not (is_assignable x) ≡ false → IsGood p f scope.signatures (after_of up (object_of x))
   after_is up (seen.Object o) h a b = after_good p f scope.signatures up o h (integer_is o.ctype (not-false (is_integer o.ctype) a))
-  after_is up (seen.Value e) h a b = absurd (cc)
-  after_is up (seen.Array e) h a b = absurd (cc)
-  after_is up (seen.Function r) h a b = absurd (cc)
-  after_is up (seen.Designator e) h a b = absurd (cc)
-  after_is up (seen.Known n) h a b = absurd (cc)
-  after_is up (seen.Switch s) h a b = absurd (cc)
+  after_is up x h a b = absurd (cc)
 
   index_is : (x y : Seen) → GoodSeen x → GoodSeen y → not (is_integer (value_of y).ctype) ≡ false → is_none (array_of x) ≡ false → GoodSeen (element_of (array_of x) (value_of y))
   index_is (seen.Array a) y h k m n =
       element_good p f scope.signatures a (value_of y) None h.0 h.1 (value_good p f scope.signatures y k).0 (integer_is (value_of y).ctype (not-false (is_integer (value_of y).ctype) m))
-  index_is (seen.Object o) y h k m n = absurd (cc)
-  index_is (seen.Value e) y h k m n = absurd (cc)
-  index_is (seen.Function r) y h k m n = absurd (cc)
-  index_is (seen.Designator e) y h k m n = absurd (cc)
-  index_is (seen.Known c) y h k m n = absurd (cc)
-  index_is (seen.Switch s) y h k m n = absurd (cc)
+  index_is x y h k m n = absurd (cc)
 
   to_integer : (u : Use) (k : Kind) (s : CType) → is_wrong_cast u (Scalar k) s ≡ false → is_integer s ≡ true
-  to_integer «use».Value k s h = not-false (is_integer s) h
-  to_integer «use».Base k s h = not-false (is_integer s) h
-  to_integer «use».Callee k s h = not-false (is_integer s) h
-  to_integer «use».Place k s h = not-false (is_integer s) h
   to_integer «use».Effect k s h = not-false (is_integer s) h
-  to_integer «use».Discarded k s h = not-false (is_integer s) h
-  to_integer «use».Address k s h = not-false (is_integer s) h
-  to_integer «use».Function k s h = not-false (is_integer s) h
-  to_integer «use».Switch k s h = not-false (is_integer s) h
+  to_integer u k s h = not-false (is_integer s) h
 
   cast_is : (u : Use) (t : CType) (e : Expr) → IsPlain t → IsTypedExpr p f e → is_wrong_cast u t e.ctype ≡ false → IsGood p f scope.signatures (converted_to t e)
   cast_is u Void e k h w = (converted_typed p f Void e h tt, subst (IsListed scope.signatures) (sym (converted_type Void e)) tt)

@@ -28,12 +28,7 @@ same_is Void Void h = refl
 same_is (Scalar k) (Scalar l) h =
     ap Scalar (sym (kind_back k) ∙ (ap kind_of (eqb-true (kind_number k) (kind_number l) h) ∙ kind_back l))
 same_is (Pointer s) (Pointer t) h = ap Pointer (eqb-true s t h)
-same_is Void (Scalar l) h = absurd (cc)
-same_is Void (Pointer t) h = absurd (cc)
-same_is (Scalar k) Void h = absurd (cc)
-same_is (Scalar k) (Pointer t) h = absurd (cc)
-same_is (Pointer s) Void h = absurd (cc)
-same_is (Pointer s) (Scalar l) h = absurd (cc)
+same_is s t h = absurd (cc)
 
 pub integer_is : (t : CType) → is_integer t ≡ true → IsInteger t
 integer_is Void h = absurd (cc)

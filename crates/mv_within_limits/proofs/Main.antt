@@ -47,17 +47,12 @@ abbrev IsMain : List Signature → Option Meaning → ℕ → Type 0
 IsMain signatures m n = (r : Routine) × (m ≡ Some (meaning.Function r)) × (r.number ≡ Some n) × (is_main_type (slice_get signatures r.signature) ≡ true)
 
 main_found : (signatures : List Signature) (m : Option Meaning) (n : ℕ) → main_of signatures m ≡ Some n → IsMain signatures m n
-main_found signatures None n h = absurd (cc)
-main_found signatures (Some (meaning.Object v)) n h = absurd (cc)
-main_found signatures (Some (meaning.Array a)) n h = absurd (cc)
-main_found signatures (Some (meaning.Enumerator v)) n h = absurd (cc)
-main_found signatures (Some (meaning.Tag v)) n h = absurd (cc)
-main_found signatures (Some (meaning.Known k)) n h = absurd (cc)
 main_found signatures (Some (meaning.Function r)) n h = by (is_main_type (slice_get signatures r.signature)) refl h
   where
     by : (b : Bool) → is_main_type (slice_get signatures r.signature) ≡ b → (if b then r.number else None) ≡ Some n → IsMain signatures (Some (meaning.Function r)) n
     by true q g = (r, refl, g, q)
     by false q g = absurd (cc)
+main_found signatures x n h = absurd (cc)
 
 main_is : (place : Place) (c : Contents) (p : Program) (o : Option ℕ) → program_or_broken place c o ≡ Good p → o ≡ Some p.main
 unfolding program_of

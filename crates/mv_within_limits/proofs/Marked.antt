@@ -153,10 +153,7 @@ holder_none fixed d q =
   where
     by : {A B C : Type 0} (x : Shape-F A B C) → is_function_form x ≡ true → is_main d.name ≡ true → HoldsNone (shape_holder fixed d.name x)
     by (shape.Function params) g r = (ap not r, refl)
-    by shape.Plain g r = absurd (cc)
-    by (shape.Array size) g r = absurd (cc)
-    by (shape.Pointer constant params) g r = absurd (cc)
-    by (shape.PointerArray constant size params) g r = absurd (cc)
+    by x g r = absurd (cc)
 
 still_none : (fixed : Bool) (ds : List Declarator) (h : Holder) → HoldsNone h → HoldsNone (all_hold position.File fixed h ds)
 still_none fixed [] h n = n
