@@ -7,27 +7,21 @@ use Rattle.mv_ast.specs.declared.program.Program.{Program}
 use Rattle.mv_ast.specs.declared.unit.Declarator.{Declarator}
 use Rattle.mv_ast.specs.declared.unit.Item.{Item}
 use Rattle.mv_ast.specs.declared.unit.Line.{Line}
-use Rattle.mv_ast.specs.declared.unit.Specs.{out-Specs}
-use Rattle.std.proofs.lemmas.List.Elements.{recursion_from_All}
-use Rattle.mv_declare.specs.declared.attributes.Position.TheVariants as position
 use Rattle.mv_declare.specs.declared.specifiers.Specified.{Specified}
-use Rattle.mv_declare.specs.Specifiers.{specifiers}
 use Rattle.mv_declare.specs.Turns.{through}
 use Rattle.mv_typing.specs.Soundness.{Fits}
 use Rattle.mv_typing.proofs.Plain.{IsPlain}
 use Rattle.mv_typed_bodies.specs.Bodies.{BodyGrows, ParametersFit}
-use Rattle.mv_typed_bodies.proofs.Judging.{IfGood, of_good, by_good, if_then, if_kept, if_more, if_through}
-use Rattle.mv_typed_bodies.proofs.Specified.{Specifies}
+use Rattle.mv_typed_bodies.proofs.Judging.{IfGood, of_good, by_good}
 use Rattle.mv_formed_globals.specs.FirstValues.{HaveFirstValues, FirstValuesAreKept}
 use Rattle.mv_types.specs.declared.contents.Contents.{Contents}
 use Rattle.mv_types.specs.declared.contents.Foreknown.{Foreknown}
-use Rattle.mv_types.specs.Contents.{in_scope}
-use Rattle.mv_types.specs.Units.{declarator_judgement, holders, declares_nothing, names_judgement, item_judgement}
+use Rattle.mv_types.specs.Units.{declarator_judgement, item_judgement}
 use Rattle.mv_file_scope.specs.Declared.{Extends, IsSound}
 use Rattle.mv_file_scope.specs.Laws.{IsSoundBehind}
 use Rattle.mv_file_scope.proofs.Extending.{To, extends_joined, to_same, to_joined}
-use Rattle.mv_file_scope.proofs.Widening.{Widens, specifiers_widen, widens_sound}
-use Rattle.mv_file_scope.proofs.Units.{Numbered, Known, spread, declarator_sound}
+use Rattle.mv_file_scope.proofs.Widening.{widens_sound}
+use Rattle.mv_file_scope.proofs.Units.{Known, declarator_sound, items_keep}
 use Rattle.mv_unit_numbers.specs.Numbers.{IsForeknown}
 
 -- a function, to speak of the file scope
@@ -60,20 +54,5 @@ module _ (fit : ParametersFit) (grow : BodyGrows) (k : Foreknown) (end : Content
       let t = of_good (To k c) (declarator_judgement k b body d c) (declarator_sound fit grow k b plain body d known c) after q s in
       (t, λ e h. kept p nobody k b body d c after q (fits after t.sound e) h))
 
-  names_go : (b : Specified) → IsPlain b.ctype → (i : Item) → IsForeknown k i → (c : Contents) → IfGood (names_judgement k b i c) (Goes c)
-  names_go b plain i h c =
-      if_kept (Goes c) (declares_nothing i) (out-Specs i.specs).place 22 (through (declarator_judgement k b i.body) i.names c) (λ q.
-      if_through (declarator_judgement k b i.body) Goes (Known fit grow k i.body) goes_same goes_joined (λ d known t. declarator_goes b plain i.body d known t) i.names
-      (spread fit grow k i.body i.names (λ line r. recursion_from_All (Numbered fit grow k) i.names (h line r))) c)
-
-  item_goes : (i : Item) → IsForeknown k i → (c : Contents) → IfGood (item_judgement k i c) (Goes c)
-  unfolding item_judgement
-  item_goes i h c =
-      if_then (λ d. Widens c.scope d.0 × Specifies c.scope d) (Goes c) (specifiers position.File (holders k i.names) i.specs c.scope) _
-      (specifiers_widen position.File (holders k i.names) i.specs c.scope) (λ b w.
-      if_more (Goes (in_scope c b.0)) (Goes c) (names_judgement k b.1 i (in_scope c b.0))
-      (λ after g. goes_joined c (in_scope c b.0) after (λ s. (widens_sound k c b.0 w.0 s, λ e v. v)) g)
-      (names_go b.1 w.1.plain i h (in_scope c b.0)))
-
   pub items_go : (is : List Item) → AllByRecursion (IsForeknown k) is → (c : Contents) → IfGood (through (item_judgement k) is c) (Goes c)
-  items_go is h c = if_through (item_judgement k) Goes (IsForeknown k) goes_same goes_joined (λ i g t. item_goes i g t) is h c
+  items_go = items_keep fit grow k Goes goes_same goes_joined (λ c t w s. (widens_sound k c t w s, λ e v. v)) declarator_goes

@@ -30,7 +30,7 @@ use Rattle.mv_typed_bodies.proofs.Places.{keeps_same, keeps_joined, signature_ke
 use Rattle.mv_typed_bodies.proofs.Specified.{Specifies, specifiers_specify, specifiers_name}
 use Rattle.mv_typed_bodies.proofs.NamedTypes.{IsNamed}
 use Rattle.mv_typed_bodies.proofs.Shapes.{ShapeParts, every_shape, every_params}
-use Rattle.mv_file_scope.proofs.Signatures.{number_kept}
+use Rattle.mv_typed_bodies.proofs.Signatures.{number_kept}
 use Rattle.mv_typing.proofs.Kept.{went_on, same_good}
 
 -- ---- judgements that are good

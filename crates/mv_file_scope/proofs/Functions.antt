@@ -41,7 +41,7 @@ use Rattle.mv_file_scope.specs.Defined.{WasDefined, WereDefined}
 use Rattle.mv_file_scope.specs.Laws.{IsSoundBehind}
 use Rattle.mv_file_scope.proofs.Lists.{set_elsewhere, set_before}
 use Rattle.mv_file_scope.proofs.Named.{names_behind, name_there}
-use Rattle.mv_file_scope.proofs.Signatures.{signature_at}
+use Rattle.mv_typed_bodies.proofs.Signatures.{signature_at}
 use Rattle.mv_file_scope.proofs.Extending.{To, to_joined, IsLike, like_sound, still_same, extends_same, extends_joined, declared_kept, definition_kept, was_kept}
 use Rattle.mv_file_scope.proofs.Widening.{Widens, names_same, widens_sound}
 use Rattle.mv_file_scope.proofs.Agreeing.{IsType, type_good}

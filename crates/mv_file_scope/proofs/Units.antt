@@ -180,23 +180,32 @@ module _ (fit : ParametersFit) (grow : BodyGrows) (k : Foreknown) where
   spread body [] h = tt
   spread body (d ∷ ds) h = (λ line q. (h line q).0, spread body ds (λ line q. (h line q).1))
 
-  names_sound : (b : Specified) → IsPlain b.ctype → (i : Item) → IsForeknown k i → (c : Contents) → IfGood (names_judgement k b i c) (To k c)
-  names_sound b plain i h c =
-      if_kept (To k c) (declares_nothing i) (out-Specs i.specs).place 22 (through (declarator_judgement k b i.body) i.names c) (λ q.
-      if_through (declarator_judgement k b i.body) (To k) (Known i.body) (to_same k) (to_joined k) (λ d known t. declarator_sound b plain i.body d known t) i.names
-      (spread i.body i.names (λ line r. recursion_from_All Numbered i.names (h line r))) c)
+  -- a relation of contents that wider scopes and declarators keep
+  module _ (R : Contents → Contents → Type 0) (same : (c : Contents) → R c c) (joined : (b c d : Contents) → R b c → R c d → R b d)
+      (widened : (c : Contents) (t : Scope) → Widens c.scope t → R c (in_scope c t))
+      (declarator : (b : Specified) → IsPlain b.ctype → (body : Option Line) (d : Declarator) → Known body d → (c : Contents) → IfGood (declarator_judgement k b body d c) (R c)) where
+    names_keep : (b : Specified) → IsPlain b.ctype → (i : Item) → IsForeknown k i → (c : Contents) → IfGood (names_judgement k b i c) (R c)
+    names_keep b plain i h c =
+        if_kept (R c) (declares_nothing i) (out-Specs i.specs).place 22 (through (declarator_judgement k b i.body) i.names c) (λ q.
+        if_through (declarator_judgement k b i.body) R (Known i.body) same joined (λ d known t. declarator b plain i.body d known t) i.names
+        (spread i.body i.names (λ line r. recursion_from_All Numbered i.names (h line r))) c)
+
+    pub item_keeps : (i : Item) → IsForeknown k i → (c : Contents) → IfGood (item_judgement k i c) (R c)
+    unfolding item_judgement
+    item_keeps i h c =
+        if_then (λ d. Widens c.scope d.0 × Specifies c.scope d) (R c) (specifiers position.File (holders k i.names) i.specs c.scope) _
+        (specifiers_widen position.File (holders k i.names) i.specs c.scope) (λ b w.
+        if_more (R (in_scope c b.0)) (R c) (names_judgement k b.1 i (in_scope c b.0)) (λ after t. joined c (in_scope c b.0) after (widened c b.0 w.0) t)
+        (names_keep b.1 w.1.plain i h (in_scope c b.0)))
+
+    pub items_keep : (is : List Item) → AllByRecursion (IsForeknown k) is → (c : Contents) → IfGood (through (item_judgement k) is c) (R c)
+    items_keep is h c = if_through (item_judgement k) R (IsForeknown k) same joined (λ i g t. item_keeps i g t) is h c
 
   pub item_sound : (i : Item) → IsForeknown k i → (c : Contents) → IfGood (item_judgement k i c) (To k c)
-  unfolding item_judgement
-  item_sound i h c =
-      if_then (λ d. Widens c.scope d.0 × Specifies c.scope d) (To k c) (specifiers position.File (holders k i.names) i.specs c.scope) _
-      (specifiers_widen position.File (holders k i.names) i.specs c.scope) (λ b w.
-      if_more (To k (in_scope c b.0)) (To k c) (names_judgement k b.1 i (in_scope c b.0))
-      (λ after t. to_joined k c (in_scope c b.0) after (λ s. widens_sound k c b.0 w.0 s) t)
-      (names_sound b.1 w.1.plain i h (in_scope c b.0)))
+  item_sound = item_keeps (To k) (to_same k) (to_joined k) (widens_sound k) declarator_sound
 
   pub items_sound : (is : List Item) → AllByRecursion (IsForeknown k) is → (c : Contents) → IfGood (through (item_judgement k) is c) (To k c)
-  items_sound is h c = if_through (item_judgement k) (To k) (IsForeknown k) (to_same k) (to_joined k) (λ i g t. item_sound i g t) is h c
+  items_sound = items_keep (To k) (to_same k) (to_joined k) (widens_sound k) declarator_sound
 
 -- ---- the start
 

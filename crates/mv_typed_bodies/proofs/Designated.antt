@@ -26,10 +26,11 @@ use Rattle.mv_declare.specs.Turns.{next_part, in_turn}
 use Rattle.mv_typing.specs.Soundness.{IsListed}
 use Rattle.mv_typing.proofs.Plain.{IsPlain}
 use Rattle.mv_typed_bodies.proofs.Judging.{IfGood, if_any, if_then, if_kept, if_more, if_through}
-use Rattle.mv_typed_bodies.proofs.Places.{plain_listed, signature_there}
+use Rattle.mv_typed_bodies.proofs.Places.{plain_listed}
 use Rattle.mv_typed_bodies.proofs.Growing.{Declares, declares_same, declares_joined, declares_declared, declares_numbered, declares_block, names_back}
 use Rattle.mv_typed_bodies.proofs.Specified.{Specifies, specifiers_specify}
 use Rattle.mv_typed_bodies.proofs.Shapes.{ShapeParts, every_shape}
+use Rattle.mv_typed_bodies.proofs.Signatures.{signature_at}
 
 abbrev pub IsListedEntity : List Signature → Entity → Type 0
 IsListedEntity signatures (entity.Scalar t fixed) = IsListed signatures t
@@ -71,7 +72,7 @@ type_numbers t params plain h s =
     (λ d g. record {
       declares = declares_joined s (block_left d.0) (numbered t d.1 (block_left d.0)).0 (declares_block s d.0 g) (declares_numbered t d.1 (block_left d.0) plain);
       names = names_back s d.0 g.grows;
-      listed = signature_there (signature_of t d.1) d.0.signatures;
+      listed = (signature_of t d.1, signature_at (signature_of t d.1) d.0.signatures);
     })
 
 as_it_is : (s : Scope) (e : Entity) → IsListedEntity s.signatures e → Designates s (s, e)

@@ -2,6 +2,7 @@ pub mod Lists
 pub mod Judging
 pub mod Places
 pub mod Names
+pub mod Signatures
 pub mod Growing
 pub mod NamedTypes
 pub mod Specified

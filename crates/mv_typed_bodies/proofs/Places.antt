@@ -1,11 +1,11 @@
 -- What stands at the places of a list that grows.
-use Rattle.std.proofs.Common.{◌≡◌, ℕ, zero, suc, ◌⊎◌, inl, inr, refl, sym, ◌∙◌, ap, subst, List, [], ◌∷◌, ◌++◌, length, Some, slice_get, Bool, true, false, if◌then◌else◌, ◌+◌, arith, None, take}
+use Rattle.std.proofs.Common.{◌≡◌, ℕ, zero, suc, ◌⊎◌, inl, inr, refl, sym, ◌∙◌, ap, subst, List, [], ◌∷◌, ◌++◌, length, Some, slice_get, Bool, true, false, if◌then◌else◌, None, take}
 use Rattle.std.proofs.lemmas.Option.{same_Some}
 use Rattle.mv_ast.specs.declared.program.CType.{CType}
 use Rattle.mv_ast.specs.declared.program.CType.TheVariants.{Void, Scalar, Pointer}
 use Rattle.mv_ast.specs.declared.program.Signature.{Signature}
 use Rattle.mv_scope.specs.Conversions.{same_signature}
-use Rattle.mv_scope.specs.Signatures.{place_of, with_signature}
+use Rattle.mv_scope.specs.Signatures.{with_signature}
 use Rattle.mv_typing.specs.Soundness.{IsListed}
 use Rattle.mv_typing.proofs.Plain.{IsPlain}
 use Rattle.mv_typed_bodies.specs.Bodies.{Keeps, AreListed}
@@ -78,19 +78,6 @@ signature_kept s ts = by (added_or_not s ts)
     by : (with_signature s ts ≡ ts) ⊎ (with_signature s ts ≡ ts ++ s ∷ []) → Keeps ts (with_signature s ts)
     by (inl q) = subst (λ z. Keeps ts z) (sym q) (keeps_same ts)
     by (inr q) = subst (λ z. Keeps ts z) (sym q) (keeps_more ts (s ∷ []))
-
--- its number leads to one like it
-pub signature_there : (s : Signature) (ts : List Signature) → (t : Signature) × (slice_get (with_signature s ts) (place_of s ts) ≡ Some t)
-signature_there s [] = (s, refl)
-signature_there s (t ∷ ts) = by (same_signature s t) (signature_there s ts)
-  where
-    by : (b : Bool) → ((x : Signature) × (slice_get (with_signature s ts) (place_of s ts) ≡ Some x)) →
-        (x : Signature) × (slice_get (if b then t ∷ ts else t ∷ with_signature s ts) (if b then 0 else place_of s ts + 1) ≡ Some x)
-    by true h = (t, refl)
-    by false h = (h.0, ap (slice_get (t ∷ with_signature s ts)) (after (place_of s ts)) ∙ h.1)
-      where
-        after : (n : ℕ) → n + 1 ≡ suc n
-        after n = omega arith
 
 pub results_listed : (s : Signature) (ts : List Signature) → IsPlain s.result → AreListed ts → AreListed (with_signature s ts)
 results_listed s ts plain h = by (added_or_not s ts)
