@@ -9,8 +9,8 @@ use crate::words::word_at;
 use std::alloc::{AllocError, Global};
 use std::marker::Model;
 
-/// For each number the position behind its last interval, and for each two numbers the lesser one, of which there is the
-/// same again.
+/// For each number the position behind its last interval, and above them the same table over the lesser of each two: a
+/// tree of minima, a level each.
 #[cycle(ends)]
 #[derive(Drop)]
 pub struct Ends {
@@ -149,8 +149,8 @@ impl Ends {
         ensures { self.new ≡ slice_set self.old number end }
     {
         self.ends[number] = end;
-        self.pairs
-            .set(number / 2, lesser_at(self.ends.as_slice(), number));
+        let lesser = lesser_at(self.ends.as_slice(), number);
+        self.pairs.set(number / 2, lesser);
     }
 
     /// One number more. Where memory lacks, the ends are as they were.
@@ -162,8 +162,8 @@ impl Ends {
         let number = self.ends.len();
         self.ends.reserve(1)?;
         if number % 2 == 1 {
-            let alloc = *self.ends.allocator();
-            self.pairs.push(alloc, self.ends[number - 1].min(end))?;
+            let lesser = self.ends[number - 1].min(end);
+            self.pairs.push(*self.ends.allocator(), lesser)?;
         }
         self.ends.push_reserved(end);
         Ok(())
