@@ -5,6 +5,7 @@ use Rattle.std.specs.List.{AllByRecursion}
 use Rattle.std.proofs.lemmas.Bool.{eqb-true}
 use Rattle.std.proofs.lemmas.List.{length-map}
 use Rattle.std.proofs.lemmas.List.Quantifiers.{position-Some}
+use Rattle.std.proofs.lemmas.Option.{same_Some}
 use Rattle.mv_ast.specs.declared.program.CType.{CType}
 use Rattle.mv_ast.specs.declared.program.Function.{Function}
 use Rattle.mv_ast.specs.declared.program.Global.{Global}
@@ -33,10 +34,10 @@ use Rattle.mv_types.specs.declared.contents.Object.{Object}
 use Rattle.mv_types.specs.Foreknown.{attributed_number}
 use Rattle.mv_types.specs.Units.{with_switches}
 use Rattle.mv_file_scope.specs.Declared.{IsStill, Extends, IsGlobal, IsDeclared, IsDefinition, IsSound}
-use Rattle.mv_file_scope.proofs.Lists.{some_same}
 use Rattle.mv_file_scope.proofs.Named.{same_place}
-use Rattle.mv_checked_programs.proofs.Lists.{one_there, all_at, mapped}
+use Rattle.mv_checked_programs.proofs.Lists.{one_there, all_at}
 use Rattle.mv_checked_programs.proofs.Units.{IsMade}
+use Rattle.mv_typed_bodies.proofs.Lists.{mapped_there}
 
 -- ---- a name at file scope
 
@@ -53,14 +54,14 @@ at_file s around name m h =
         (o ≡ Some m) ⊎ ((k : Known) × (m ≡ meaning.Known k) × (builtin ≡ Some k))
     by (Some x) builtin q = inl q
     by None None q = absurd (cc)
-    by None (Some k) q = inr (k, sym (some_same (meaning.Known k) m q), refl)
+    by None (Some k) q = inr (k, sym (same_Some (meaning.Known k) m q), refl)
 
 -- the known functions are of these kinds
 kind_known : (name : List ℕ) (k : Known) → known_function name ≡ Some k → IsKindOfOrder k
 kind_known name k h = by (is_named name (codes "getchar")) (is_named name (codes "putchar")) (is_named name (codes "multiverse_poll")) h
   where
     is : (x : Known) → IsKindOfOrder x → Some x ≡ Some k → IsKindOfOrder k
-    is x a q = subst IsKindOfOrder (some_same x k q) a
+    is x a q = subst IsKindOfOrder (same_Some x k q) a
 
     order : (a b d e f g : Bool) →
         (if a then Some (known.Plan 0 0) else if b then Some (known.Plan 1 0) else if d then Some (known.Plan 2 0) else if e then Some (known.Plan 3 0)
@@ -94,13 +95,13 @@ kind_known name k h = by (is_named name (codes "getchar")) (is_named name (codes
 module _ (k : Foreknown) (c : Contents) (functions : List Function) (main : ℕ) (p : Program) (made : IsMade c functions main p) (all : c.functions ≡ map (λ f. Some f) functions)
     (sound : IsSound k c) where
   global_there : (n : ℕ) (t : CType) (g : Global) → slice_get p.globals n ≡ Some g → g.ctype ≡ t → slice_get (global_types p) n ≡ Some t
-  global_there n t g h e = mapped (λ (x : Global). x.ctype) p.globals n g h ∙ ap (λ u. Some u) e
+  global_there n t g h e = mapped_there (λ (x : Global). x.ctype) p.globals n g h ∙ ap (λ u. Some u) e
 
   -- the number of a function that is foreknown is that of one that is defined
   pub defined_at : (name : List ℕ) (g : ℕ) → place_of name k.outline.functions ≡ Some g → (f : Function) × (slice_get functions g ≡ Some f) × IsDefinition k c g f
   defined_at name g h =
       let x = one_there functions g (within (position-Some (same_name name) k.outline.functions g [] h).0) in
-      (x.0, x.1, sound.functions g x.0 (ap (λ fs. slice_get fs g) all ∙ mapped (λ (f : Function). Some f) functions g x.0 x.1))
+      (x.0, x.1, sound.functions g x.0 (ap (λ fs. slice_get fs g) all ∙ mapped_there (λ (f : Function). Some f) functions g x.0 x.1))
     where
       counted : length functions ≡ length k.outline.functions
       counted = sym (ap length all ∙ length-map functions (λ (f : Function). Some f)) ∙ sound.count
@@ -109,7 +110,7 @@ module _ (k : Foreknown) (c : Contents) (functions : List Function) (main : ℕ)
       within l = subst (λ n. g < n) (sym counted) l
 
   pub function_at : (g : ℕ) (f : Function) → slice_get functions g ≡ Some f → slice_get p.functions g ≡ Some (with_switches p.switches f)
-  function_at g f h = ap (λ fs. slice_get fs g) made.defined ∙ mapped (with_switches p.switches) functions g f h
+  function_at g f h = ap (λ fs. slice_get fs g) made.defined ∙ mapped_there (with_switches p.switches) functions g f h
 
   module _ (before : Contents) (earlier : IsSound k before) (extends : Extends before c) where
     still : (s : Storage) (t : CType) (o : IsGlobal before s t) →
@@ -117,7 +118,7 @@ module _ (k : Foreknown) (c : Contents) (functions : List Function) (main : ℕ)
     still s t o =
         let x : IsStill o.object.global c.objects o.number = extends.objects o.number o.object o.there in (
           x.object.global,
-          ap (λ gs. slice_get gs o.number) made.globals ∙ mapped (λ (y : Object). y.global) c.objects o.number x.object x.there,
+          ap (λ gs. slice_get gs o.number) made.globals ∙ mapped_there (λ (y : Object). y.global) c.objects o.number x.object x.there,
           x.ctype ∙ o.ctype,
           x.size,
         )
@@ -135,7 +136,7 @@ module _ (k : Foreknown) (c : Contents) (functions : List Function) (main : ℕ)
         let d : IsDefinition k c g x.0 = x.2 in
         let e : x.0.name ≡ name = same_place x.0.name name k.outline.functions g d.number h in
         let later : named name c.scope.names.here ≡ Some (meaning.Function r) = extends.names name (meaning.Function r) q in
-        let same : d.routine ≡ r = routine_same d.routine r (some_same (meaning.Function d.routine) (meaning.Function r)
+        let same : d.routine ≡ r = routine_same d.routine r (same_Some (meaning.Function d.routine) (meaning.Function r)
         (sym (subst (λ n. named n c.scope.names.here ≡ Some (meaning.Function d.routine)) e d.meaning) ∙ later)) in
         subst (λ (y : Routine). IsFunctionOf p y.signature g) same (record {
           signature = d.typed.signature;
@@ -175,10 +176,7 @@ module _ (k : Foreknown) (c : Contents) (functions : List Function) (main : ℕ)
     covered : (name : List ℕ) (m : Meaning) → IsDeclared k before name m → IsCovered (λ l. false) m
     covered name (meaning.Object v) d = global_in v.storage v.ctype d.0
     covered name (meaning.Array a) d = global_in a.storage a.ctype d.0
-    covered name (meaning.Function r) d = tt
-    covered name (meaning.Enumerator v) d = tt
-    covered name (meaning.Tag n) d = tt
-    covered name (meaning.Known x) d = tt
+    covered name x d = tt
 
     pub file_covers : Covers (λ l. false) before.scope
     file_covers name m h = by (at_file before.scope earlier.around name m h)
@@ -198,7 +196,7 @@ module _ (k : Foreknown) (c : Contents) (functions : List Function) (main : ℕ)
           let x = one_there p.switches s l in
           let w : IsWellFormedSwitch p x.0 = all_at (IsWellFormedSwitch p) p.switches formed s x.0 x.1 in
           let same : n ≡ x.0.global = eqb-true n (switch_global p s) e ∙ ap global_or_none x.1 in
-          let other : g ≡ w.global = some_same g w.global (sym there ∙ (ap (λ i. slice_get p.globals i) same ∙ w.there)) in
+          let other : g ≡ w.global = same_Some g w.global (sym there ∙ (ap (λ i. slice_get p.globals i) same ∙ w.there)) in
           no size (sym is ∙ (ap (λ (y : Global). y.size) other ∙ w.scalar))
         where
           no : (i : ℕ) → Some i ≡ None → ⊥

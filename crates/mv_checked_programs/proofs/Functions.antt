@@ -2,6 +2,8 @@
 use Rattle.std.proofs.Common.{◌≡◌, ℕ, ◌<◌, ◌≤◌, refl, sym, ◌∙◌, ap, subst, Bool, true, false, if◌then◌else◌, List, [], length, map, Option, Some, None, slice_get, nat_lt}
 use Rattle.std.specs.Prelude.{All, codes}
 use Rattle.std.specs.List.{AllByRecursion}
+use Rattle.std.proofs.lemmas.Option.{same_Some}
+use Rattle.std.proofs.lemmas.List.Elements.{All-from_recursion}
 use Rattle.mv_ast.specs.declared.program.Function.{Function}
 use Rattle.mv_ast.specs.declared.program.Program.{Program}
 use Rattle.mv_ast.specs.declared.unit.Line.{Line}
@@ -19,8 +21,10 @@ use Rattle.mv_statement_rules.specs.Statements.{body_judgement}
 use Rattle.mv_numbering.specs.Typing.{IsIntegerSwitch, IsTypedFunction}
 use Rattle.mv_lowered_programs.specs.WellFormed.{IsWellFormedSwitch, IsWellFormedFunction}
 use Rattle.mv_typing.specs.Soundness.{Fits}
+use Rattle.mv_typing.proofs.Kept.{went_on, same_good}
 use Rattle.mv_typed_bodies.specs.Bodies.{Keeps}
 use Rattle.mv_typed_bodies.proofs.Names.{entered_means}
+use Rattle.mv_typed_bodies.proofs.Lists.{mapped_back, mapped_there, all_more}
 use Rattle.mv_formed_bodies.specs.Declared.{Covers}
 use Rattle.mv_formed_bodies.specs.Formed.{AreShaped, HasParameters}
 use Rattle.mv_formed_bodies.specs.Definitions.{IsDefinition, HasScalarParameters, DefinitionHasParameters, IsFormed, DefinitionIsFormed}
@@ -33,14 +37,10 @@ use Rattle.mv_types.specs.Functions.{body_entered, left_with}
 use Rattle.mv_types.specs.Units.{is_main_type, main_of, with_switches}
 use Rattle.mv_file_scope.specs.Declared.{IsSound}
 use Rattle.mv_file_scope.specs.Defined.{WasDefined, WereDefined}
-use Rattle.mv_file_scope.proofs.Lists.{some_same, mapped_back}
 use Rattle.mv_file_scope.proofs.Named.{same_place}
-use Rattle.mv_checked_programs.proofs.Lists.{all_by, all_recursive, all_recursive_more, mapped, named_below}
-use Rattle.mv_checked_programs.proofs.Units.{IsMade, good_both}
+use Rattle.mv_checked_programs.proofs.Lists.{all_by, named_below}
+use Rattle.mv_checked_programs.proofs.Units.{IsMade}
 use Rattle.mv_checked_programs.proofs.Fitting.{defined_at, function_at, file_fits, file_covers, file_shaped}
-
-good_same : {A : Type 0} (x y : A) → Good x ≡ Good y → x ≡ y
-good_same x y h = cc
 
 -- ---- scopes that a block of parameters enters
 
@@ -60,7 +60,7 @@ entered_shaped p own f s attributed h name m q = h name m (sym (entered_means s 
 module _ (k : Foreknown) (c : Contents) (functions : List Function) (main : ℕ) (p : Program) (made : IsMade c functions main p) (all : c.functions ≡ map (λ f. Some f) functions)
     (sound : IsSound k c) (were : WereDefined k c) where
   was : (own : ℕ) (f : Function) → slice_get functions own ≡ Some f → WasDefined k c f
-  was own f h = were own f (ap (λ fs. slice_get fs own) all ∙ mapped (λ (g : Function). Some g) functions own f h)
+  was own f h = were own f (ap (λ fs. slice_get fs own) all ∙ mapped_there (λ (g : Function). Some g) functions own f h)
 
   -- ---- definitions
 
@@ -72,10 +72,10 @@ module _ (k : Foreknown) (c : Contents) (functions : List Function) (main : ℕ)
   defines : (f : Function) (w : WasDefined k c f) → Defines (with_switches p.switches f) w.before
   defines f w =
       let a = is_attributed k w.name in
-      let x = good_both (parameters_judgement (body_entered a w.before.scope) w.params)
+      let x = went_on (parameters_judgement (body_entered a w.before.scope) w.params)
       (λ m. and_then (body_judgement w.result w.body m) (λ b. Good (left_with w.name a w.result (length w.params) b.1 b.0))) (w.behind, f) w.judged in
-      let y = good_both (body_judgement w.result w.body x.0) (λ b. Good (left_with w.name a w.result (length w.params) b.1 b.0)) (w.behind, f) x.2 in
-      let e : left_with w.name a w.result (length w.params) y.0.1 y.0.0 ≡ (w.behind, f) = good_same _ _ y.2 in (
+      let y = went_on (body_judgement w.result w.body x.0) (λ b. Good (left_with w.name a w.result (length w.params) b.1 b.0)) (w.behind, f) x.2 in
+      let e : left_with w.name a w.result (length w.params) y.0.1 y.0.0 ≡ (w.behind, f) = same_good _ _ y.2 in (
         w.params,
         w.body,
         a,
@@ -151,8 +151,8 @@ module _ (k : Foreknown) (c : Contents) (functions : List Function) (main : ℕ)
       functions_typed = all_by (IsTypedFunction p) p.functions (λ own g h.
           let x = found own g h in
           subst (IsTypedFunction p) x.2 (record {
-            switches = all_recursive (IsIntegerSwitch p) (with_switches p.switches x.0).switches
-                (all_recursive_more (λ s. s < length p.switches) (IsIntegerSwitch p) integers (with_switches p.switches x.0).switches (numbers x.0));
+            switches = All-from_recursion (IsIntegerSwitch p) (with_switches p.switches x.0).switches
+                (all_more (λ s. s < length p.switches) (IsIntegerSwitch p) integers (with_switches p.switches x.0).switches (numbers x.0));
             body = (is_formed own x.0 x.1).typed;
           }))
 
@@ -162,17 +162,12 @@ module _ (k : Foreknown) (c : Contents) (functions : List Function) (main : ℕ)
     IsMain o = (r : Routine) × (o ≡ Some (meaning.Function r)) × (r.number ≡ Some main)
 
     main_means : (o : Option Meaning) → main_of c.scope.signatures o ≡ Some main → IsMain o
-    main_means None q = absurd (cc)
-    main_means (Some (meaning.Object v)) q = absurd (cc)
-    main_means (Some (meaning.Array a)) q = absurd (cc)
-    main_means (Some (meaning.Enumerator v)) q = absurd (cc)
-    main_means (Some (meaning.Tag n)) q = absurd (cc)
-    main_means (Some (meaning.Known x)) q = absurd (cc)
     main_means (Some (meaning.Function r)) q = by (is_main_type (slice_get c.scope.signatures r.signature)) q
       where
         by : (b : Bool) → (if b then r.number else None) ≡ Some main → IsMain (Some (meaning.Function r))
         by true h = (r, refl, h)
         by false h = absurd (cc)
+    main_means x q = absurd (cc)
 
     -- the function that `main` is
     pub record MainIs (f : Function) : Type 0 where
@@ -192,4 +187,4 @@ module _ (k : Foreknown) (c : Contents) (functions : List Function) (main : ℕ)
       main_plain g h =
           let x = main_is in
           let there = function_at k c functions main p made all sound main x.0 x.1.there in
-          (x.0, x.1, ap (λ (y : Function). y.attributed) (some_same g (with_switches p.switches x.0) (sym h ∙ (ap (λ n. slice_get p.functions n) made.entry ∙ there))))
+          (x.0, x.1, ap (λ (y : Function). y.attributed) (same_Some g (with_switches p.switches x.0) (sym h ∙ (ap (λ n. slice_get p.functions n) made.entry ∙ there))))

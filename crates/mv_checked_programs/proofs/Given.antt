@@ -14,9 +14,9 @@ use Rattle.mv_declare.specs.declared.specifiers.Specified.{Specified}
 use Rattle.mv_declare.specs.Specifiers.{specifiers}
 use Rattle.mv_declare.specs.Turns.{through}
 use Rattle.mv_typing.specs.Soundness.{Fits}
+use Rattle.mv_typing.proofs.Plain.{IsPlain}
 use Rattle.mv_typed_bodies.specs.Bodies.{BodyGrows, ParametersFit}
 use Rattle.mv_typed_bodies.proofs.Judging.{IfGood, of_good, by_good, if_then, if_kept, if_more, if_through}
-use Rattle.mv_typed_bodies.proofs.Places.{IsPlain}
 use Rattle.mv_typed_bodies.proofs.Specified.{Specifies}
 use Rattle.mv_formed_globals.specs.FirstValues.{HaveFirstValues, FirstValuesAreKept}
 use Rattle.mv_types.specs.declared.contents.Contents.{Contents}
@@ -24,10 +24,11 @@ use Rattle.mv_types.specs.declared.contents.Foreknown.{Foreknown}
 use Rattle.mv_types.specs.Contents.{in_scope}
 use Rattle.mv_types.specs.Units.{declarator_judgement, holders, declares_nothing, names_judgement, item_judgement}
 use Rattle.mv_file_scope.specs.Declared.{Extends, IsSound}
-use Rattle.mv_file_scope.specs.Laws.{IsSoundBehind, IsForeknown}
+use Rattle.mv_file_scope.specs.Laws.{IsSoundBehind}
 use Rattle.mv_file_scope.proofs.Extending.{To, extends_joined, to_same, to_joined}
 use Rattle.mv_file_scope.proofs.Widening.{Widens, specifiers_widen, widens_sound}
 use Rattle.mv_file_scope.proofs.Units.{Numbered, Known, spread, declarator_sound}
+use Rattle.mv_unit_numbers.specs.Numbers.{IsForeknown}
 
 -- a function, to speak of the file scope
 pub nobody : Function

@@ -1,5 +1,5 @@
 -- What stands at the places of lists.
-use Rattle.std.proofs.Common.{◌≡◌, ℕ, zero, suc, ◌+◌, ◌<◌, refl, ap, subst, Bool, true, false, cond, List, [], ◌∷◌, length, map, get_or, Some, slice_get, nat_lt, arith}
+use Rattle.std.proofs.Common.{◌≡◌, ℕ, suc, ◌+◌, ◌<◌, refl, ap, subst, Bool, true, false, cond, List, [], ◌∷◌, length, map, get_or, Some, slice_get, arith}
 use Rattle.std.specs.Prelude.{All}
 use Rattle.std.specs.List.{AllByRecursion}
 use Rattle.std.proofs.lemmas.Option.{slice_get_within, slice_get-get_or, get_or_from_slice_get}
@@ -7,10 +7,6 @@ use Rattle.mv_ast.specs.declared.program.Function.{Function}
 use Rattle.mv_ast.specs.declared.program.Switch.{Switch}
 use Rattle.mv_types.specs.Contents.{present}
 use Rattle.mv_uses.specs.Uses.{numbers_from, switches_named}
-use Rattle.mv_file_scope.proofs.Lists.{some_same}
-
-pub below : (m n : ℕ) → m < n → nat_lt m n ≡ true
-below m n h = grind (arith, h)
 
 module _ {A : Type 0} where
   pub all_at : (P : A → Type 0) (xs : List A) → All P xs → (i : ℕ) (x : A) → slice_get xs i ≡ Some x → P x
@@ -25,24 +21,6 @@ module _ {A : Type 0} where
       no : (n : ℕ) → n < 0 → ⊥
       no n h = omega (arith, h)
   one_there (x ∷ xs) i h = (get_or (x ∷ xs) i x, slice_get-get_or (x ∷ xs) i x h)
-
-  pub all_recursive : (P : A → Type 0) (xs : List A) → AllByRecursion P xs → All P xs
-  all_recursive P xs h = all_by P xs (there xs h)
-    where
-      there : (ys : List A) → AllByRecursion P ys → (i : ℕ) (y : A) → slice_get ys i ≡ Some y → P y
-      there [] k i y q = absurd (cc)
-      there (z ∷ zs) k zero y q = subst P (some_same z y q) k.0
-      there (z ∷ zs) k (suc i) y q = there zs k.1 i y q
-
-  pub all_recursive_more : (P Q : A → Type 0) → ((x : A) → P x → Q x) → (xs : List A) → AllByRecursion P xs → AllByRecursion Q xs
-  all_recursive_more P Q f [] h = tt
-  all_recursive_more P Q f (x ∷ xs) h = (f x h.0, all_recursive_more P Q f xs h.1)
-
-module _ {A B : Type 0} where
-  pub mapped : (f : A → B) (xs : List A) (i : ℕ) (x : A) → slice_get xs i ≡ Some x → slice_get (map f xs) i ≡ Some (f x)
-  mapped f [] i x h = absurd (cc)
-  mapped f (y ∷ ys) zero x h = ap (λ z. Some (f z)) (some_same y x h)
-  mapped f (y ∷ ys) (suc i) x h = mapped f ys i x h
 
 pub present_is : (fs : List Function) → present (map (λ f. Some f) fs) ≡ fs
 present_is [] = refl

@@ -6,7 +6,7 @@ use Rattle.mv_ast.specs.declared.program.Program.{Program}
 use Rattle.mv_ast.specs.declared.place.Place.{Place}
 use Rattle.mv_ast.specs.declared.unit.Unit as unit
 use Rattle.mv_scope.specs.Spaces.{named}
-use Rattle.mv_judge.specs.Judged.{Judged, Good, Broken, and_then}
+use Rattle.mv_judge.specs.Judged.{Good}
 use Rattle.mv_declare.specs.Turns.{through}
 use Rattle.mv_types.specs.declared.contents.Contents.{Contents}
 use Rattle.mv_types.specs.Contents.{nothing_declared, present, switches_from}
@@ -14,10 +14,7 @@ use Rattle.mv_types.specs.Foreknown.{foreknown}
 use Rattle.mv_types.specs.Units.{item_judgement, main_of, with_switches, program_of, program_or_broken, program_judgement, unit_judgement}
 use Rattle.mv_unit_numbers.specs.Numbers.{AreJudged}
 use Rattle.mv_checked_programs.proofs.Lists.{present_is}
-
-pub good_both : {A B : Type 0} (j : Judged A) (next : A → Judged B) (b : B) → and_then j next ≡ Good b → (a : A) × (j ≡ Good a) × (next a ≡ Good b)
-good_both (Good a) next b q = (a, refl, q)
-good_both (Broken place rule) next b q = absurd (cc)
+use Rattle.mv_typing.proofs.Kept.{went_on}
 
 -- the contents behind the declarations, and the function that `main` is
 abbrev pub ComesFrom : unit.Unit → Program → Type 0
@@ -36,7 +33,7 @@ main_judged place c p q = main_there place c p (main_of c.scope.signatures (name
 
 unit_judged : (u : unit.Unit) (p : Program) → unit_judgement u ≡ Good p → (c : Contents) × AreJudged u.items c × (program_judgement u.end c ≡ Good p)
 unfolding unit_judgement
-unit_judged u p q = good_both (through (item_judgement (foreknown u.items)) u.items (nothing_declared (foreknown u.items))) (program_judgement u.end) p q
+unit_judged u p q = went_on (through (item_judgement (foreknown u.items)) u.items (nothing_declared (foreknown u.items))) (program_judgement u.end) p q
 
 pub comes_from : (u : unit.Unit) (p : Program) → unit_judgement u ≡ Good p → ComesFrom u p
 comes_from u p q =

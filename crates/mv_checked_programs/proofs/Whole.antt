@@ -26,10 +26,10 @@ use Rattle.mv_types.specs.Contents.{nothing_declared, present}
 use Rattle.mv_types.specs.Units.{item_judgement, unit_judgement}
 use Rattle.mv_file_scope.specs.Declared.{Extends, IsSound}
 use Rattle.mv_file_scope.specs.Defined.{WereDefined}
-use Rattle.mv_file_scope.specs.Laws.{IsForeknown, FileScopeIsSound}
+use Rattle.mv_file_scope.specs.Laws.{FileScopeIsSound}
 use Rattle.mv_formed_globals.specs.Globals.{HasFormedGlobals, GlobalsAreFormed}
 use Rattle.mv_formed_globals.specs.FirstValues.{HaveFirstValues, FirstValuesAreKept, GlobalsHaveFirstValues}
-use Rattle.mv_unit_numbers.specs.Numbers.{AreDefined, FunctionsAreDefined, ItemsAreForeknown, AreAttributed, AttributedAreCounted, AreSwitches, SwitchesAreCounted}
+use Rattle.mv_unit_numbers.specs.Numbers.{AreDefined, FunctionsAreDefined, ItemsAreForeknown, AreAttributed, AttributedAreCounted, AreSwitches, SwitchesAreCounted, IsForeknown}
 use Rattle.mv_within_limits.specs.Limits.{WithinLimits}
 use Rattle.mv_within_limits.specs.Main.{MainIsTyped, MainIsUnmarked}
 use Rattle.mv_file_scope.proofs.Extending.{extends_same}

@@ -1,5 +1,7 @@
 -- Contents stay sound where a function is declared or defined.
 use Rattle.std.proofs.Common.{◌≡◌, ℕ, ◌⊎◌, inl, inr, refl, sym, ◌∙◌, ap, subst, Bool, true, false, ◌&&◌, is_some, List, [], map, length, take, Option, Some, None, slice_get, unwrap_or, length-set}
+use Rattle.std.proofs.lemmas.Option.{same_Some}
+use Rattle.std.proofs.lemmas.Bool.{eqb-true}
 use Rattle.mv_ast.specs.declared.place.Place.{Place}
 use Rattle.mv_ast.specs.declared.program.CType.{CType}
 use Rattle.mv_ast.specs.declared.program.CType.TheVariants.{Pointer}
@@ -23,10 +25,11 @@ use Rattle.mv_declare.specs.Declarators.{signature_of, function_type, parameter}
 use Rattle.mv_declare.specs.Parameters.{parameters_judgement}
 use Rattle.mv_statement_rules.specs.Statements.{body_judgement}
 use Rattle.mv_typing.specs.Soundness.{IsListed}
+use Rattle.mv_typing.proofs.Kept.{went_on, same_good}
 use Rattle.mv_typed_bodies.specs.Bodies.{Keeps, Grows, BodyGrows, AreParameters, ParametersFit}
 use Rattle.mv_typed_bodies.proofs.Judging.{IfGood, by_good, if_then}
-use Rattle.mv_typed_bodies.proofs.Names.{left_is}
-use Rattle.mv_typed_bodies.proofs.Places.{keeps_same, keeps_joined}
+use Rattle.mv_typed_bodies.proofs.Names.{left_is, names_kept}
+use Rattle.mv_typed_bodies.proofs.Places.{keeps_same, keeps_joined, keeps_take}
 use Rattle.mv_typed_bodies.proofs.Growing.{grows_joined}
 use Rattle.mv_types.specs.declared.contents.Contents.{Contents}
 use Rattle.mv_types.specs.declared.contents.Foreknown.{Foreknown}
@@ -36,12 +39,12 @@ use Rattle.mv_types.specs.Functions.{may_declare, is_defined, is_defined_at, bro
 use Rattle.mv_file_scope.specs.Declared.{Extends, IsDeclared, IsDefinition, IsSound}
 use Rattle.mv_file_scope.specs.Defined.{WasDefined, WereDefined}
 use Rattle.mv_file_scope.specs.Laws.{IsSoundBehind}
-use Rattle.mv_file_scope.proofs.Lists.{some_same, keeps_take, set_elsewhere, set_before}
-use Rattle.mv_file_scope.proofs.Named.{names_kept, names_behind, name_there}
-use Rattle.mv_file_scope.proofs.Signatures.{same_number, signature_at}
+use Rattle.mv_file_scope.proofs.Lists.{set_elsewhere, set_before}
+use Rattle.mv_file_scope.proofs.Named.{names_behind, name_there}
+use Rattle.mv_file_scope.proofs.Signatures.{signature_at}
 use Rattle.mv_file_scope.proofs.Extending.{To, to_joined, IsLike, like_sound, still_same, extends_same, extends_joined, declared_kept, definition_kept, was_kept}
 use Rattle.mv_file_scope.proofs.Widening.{Widens, names_same, widens_sound}
-use Rattle.mv_file_scope.proofs.Agreeing.{then_good, good_same, IsType, type_good}
+use Rattle.mv_file_scope.proofs.Agreeing.{IsType, type_good}
 use Rattle.mv_file_scope.proofs.Parameters.{parameters_match}
 use Rattle.mv_typed_bodies.proofs.Places.{signature_kept}
 
@@ -114,7 +117,7 @@ module _ (k : Foreknown) (name : List ℕ) (signature : ℕ) (c : Contents) wher
   unfolding function_scope
   means_it None None q h = (_, name_there c.scope.names.here name (function_meaning k name signature) q, refl)
   means_it None (Some known) q h = absurd (cc)
-  means_it (Some (meaning.Function r)) builtin q h = (r, q, same_number r.signature signature h)
+  means_it (Some (meaning.Function r)) builtin q h = (r, q, eqb-true r.signature signature h)
   means_it (Some (meaning.Object v)) builtin q h = absurd (cc)
   means_it (Some (meaning.Array a)) builtin q h = absurd (cc)
   means_it (Some (meaning.Enumerator v)) builtin q h = absurd (cc)
@@ -135,10 +138,10 @@ module _ (fit : ParametersFit) (grow : BodyGrows) where
       function_of k name result params body s ≡ Good d → IsBuilt k name result params body s d
   built_good k name result params body s d q =
       let attributed : Bool = is_attributed k name in
-      let p = then_good (parameters_judgement (body_entered attributed s) params)
+      let p = went_on (parameters_judgement (body_entered attributed s) params)
       (λ p. and_then (body_judgement result body p) (λ b. Good (left_with name attributed result (length params) b.1 b.0))) d q in
-      let b = then_good (body_judgement result body p.0) (λ b. Good (left_with name attributed result (length params) b.1 b.0)) d p.2 in
-      record { first = p.0; parameters = p.1; behind = b.0; judged = b.1; built = good_same (left_with name attributed result (length params) b.0.1 b.0.0) d b.2 }
+      let b = went_on (body_judgement result body p.0) (λ b. Good (left_with name attributed result (length params) b.1 b.0)) d p.2 in
+      record { first = p.0; parameters = p.1; behind = b.0; judged = b.1; built = same_good (left_with name attributed result (length params) b.0.1 b.0.0) d b.2 }
 
   -- a block that is entered and left
   pub block_widens : (attributed : Bool) (s t : Scope) → s.locals ≡ [] → Grows (body_entered attributed s) t → Widens s (body_left t)
@@ -243,7 +246,7 @@ module _ (fit : ParametersFit) (grow : BodyGrows) where
       where
         by : (slice_get c.functions i ≡ Some (Some f)) ⊎ ((i ≡ g) × (Some d.1 ≡ Some f)) → IsDefinition k after i f
         by (inl e) = definition_kept k left after extends_left i f (behind.sound.functions i f e)
-        by (inr e) = subst (λ j. IsDefinition k after j f) (sym e.0) (subst (λ x. IsDefinition k after g x) (some_same d.1 f e.1) new_definition)
+        by (inr e) = subst (λ j. IsDefinition k after j f) (sym e.0) (subst (λ x. IsDefinition k after g x) (same_Some d.1 f e.1) new_definition)
 
     new_defined : WasDefined k after d.1
     new_defined = record {
@@ -264,7 +267,7 @@ module _ (fit : ParametersFit) (grow : BodyGrows) where
       where
         by : (slice_get c.functions i ≡ Some (Some f)) ⊎ ((i ≡ g) × (Some d.1 ≡ Some f)) → WasDefined k after f
         by (inl e) = was_kept k c after extends_all f (w i f e)
-        by (inr e) = subst (λ x. WasDefined k after x) (some_same d.1 f e.1) new_defined
+        by (inr e) = subst (λ x. WasDefined k after x) (same_Some d.1 f e.1) new_defined
 
     definition_sound : IsSoundBehind k c after
     definition_sound = record {

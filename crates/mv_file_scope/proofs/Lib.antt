@@ -8,5 +8,3 @@ pub mod Parameters
 pub mod Objects
 pub mod Functions
 pub mod Units
-pub mod Fitting
-pub mod Typing

@@ -6,31 +6,16 @@ use Rattle.mv_scope.specs.declared.meaning.Meaning.{Meaning}
 use Rattle.mv_scope.specs.Names.{Names}
 use Rattle.mv_scope.specs.Spaces.{named}
 use Rattle.mv_outline.specs.Names.{same_name, place_of}
-use Rattle.mv_file_scope.proofs.Lists.{some_same}
-
-pub names_kept : (n : List ℕ) (xs : Names) (y : List ℕ × Meaning) (k : Meaning) → named n xs ≡ Some k → named n (xs ++ y ∷ []) ≡ Some k
-names_kept n [] y k h = absurd (cc)
-names_kept n (x ∷ xs) y k h = by (pointwise nat_eq n x.0) (names_kept n xs y k) h
-  where
-    by : (b : Bool) → (named n xs ≡ Some k → named n (xs ++ y ∷ []) ≡ Some k) → (if b then Some x.1 else named n xs) ≡ Some k →
-        (if b then Some x.1 else named n (xs ++ y ∷ [])) ≡ Some k
-    by true f q = q
-    by false f q = f q
+use Rattle.mv_typed_bodies.proofs.Names.{named_behind}
 
 -- a name means what it meant, or is the new one
 pub names_behind : (n : List ℕ) (xs : Names) (name : List ℕ) (m k : Meaning) → named n (xs ++ (name, m) ∷ []) ≡ Some k →
     (named n xs ≡ Some k) ⊎ ((n ≡ name) × (m ≡ k))
-names_behind n [] name m k h = by (pointwise nat_eq n name) refl h
+names_behind n xs name m k h = by (named_behind n xs name m k h)
   where
-    by : (b : Bool) → b ≡ pointwise nat_eq n name → (if b then Some m else None) ≡ Some k → (named n [] ≡ Some k) ⊎ ((n ≡ name) × (m ≡ k))
-    by true e q = inr (same_text n name e, some_same m k q)
-    by false e q = absurd (cc)
-names_behind n (x ∷ xs) name m k h = by (pointwise nat_eq n x.0) (names_behind n xs name m k) h
-  where
-    by : (b : Bool) → (named n (xs ++ (name, m) ∷ []) ≡ Some k → (named n xs ≡ Some k) ⊎ ((n ≡ name) × (m ≡ k))) →
-        (if b then Some x.1 else named n (xs ++ (name, m) ∷ [])) ≡ Some k → ((if b then Some x.1 else named n xs) ≡ Some k) ⊎ ((n ≡ name) × (m ≡ k))
-    by true f q = inl q
-    by false f q = f q
+    by : (named n xs ≡ Some k) ⊎ ((pointwise nat_eq n name ≡ true) × (m ≡ k)) → (named n xs ≡ Some k) ⊎ ((n ≡ name) × (m ≡ k))
+    by (inl q) = inl q
+    by (inr q) = inr (same_text n name (sym q.0), q.1)
 
 pub name_there : (xs : Names) (name : List ℕ) (m : Meaning) → named name xs ≡ None → named name (xs ++ (name, m) ∷ []) ≡ Some m
 name_there [] name m h = by (pointwise nat_eq name name) refl

@@ -1,5 +1,6 @@
 -- Contents stay sound where an object is declared.
 use Rattle.std.proofs.Common.{◌≡◌, ℕ, ◌⊎◌, inl, inr, refl, sym, ◌∙◌, ap, subst, Bool, true, false, is_some, is_none, if◌then◌else◌, List, [], ◌∷◌, ◌++◌, length, Option, Some, None, slice_get, slice_set}
+use Rattle.std.proofs.lemmas.Option.{same_Some}
 use Rattle.mv_ast.specs.declared.place.Place.{Place}
 use Rattle.mv_ast.specs.declared.program.CType.{CType}
 use Rattle.mv_ast.specs.declared.program.Local.{Local}
@@ -22,13 +23,14 @@ use Rattle.mv_typing.specs.Soundness.{IsListed}
 use Rattle.mv_typed_bodies.proofs.Judging.{IfGood, if_any, if_then, if_kept}
 use Rattle.mv_typed_bodies.proofs.Places.{keeps_same, keeps_more, last_there}
 use Rattle.mv_typed_bodies.proofs.Designated.{IsListedEntity}
+use Rattle.mv_typed_bodies.proofs.Names.{names_kept}
 use Rattle.mv_types.specs.declared.contents.Contents.{Contents}
 use Rattle.mv_types.specs.declared.contents.Foreknown.{Foreknown}
 use Rattle.mv_types.specs.declared.contents.Object.{Object}
 use Rattle.mv_types.specs.Objects.{number_of, may_declare, broken_rule, unless_broken, type_by_rules, object_meaning, object_scope, new_object, again, replaced, objects_again, objects_behind, initialised, object_judgement}
 use Rattle.mv_file_scope.specs.Declared.{IsStill, IsGlobal, IsDeclared}
-use Rattle.mv_file_scope.proofs.Lists.{some_same, set_there, set_before}
-use Rattle.mv_file_scope.proofs.Named.{names_kept, names_behind}
+use Rattle.mv_file_scope.proofs.Lists.{set_there, set_before}
+use Rattle.mv_file_scope.proofs.Named.{names_behind}
 use Rattle.mv_file_scope.proofs.Extending.{To, IsLike, like_sound, still_same}
 
 -- ---- the type of an object is listed
@@ -111,7 +113,7 @@ module _ (objects : List Object) (words : List ℕ) (given : Bool) (domain : Opt
       (slice_get (slice_set objects n (other y)) i ≡ Some o) ⊎ (i ≡ n) → IsStill o.global (slice_set objects n (other y)) i
   one_still n i y o there h (inl q) = still_same o (slice_set objects n (other y)) i q
   one_still n i y o there h (inr q) =
-      let same : y ≡ o = some_same y o (sym there ∙ (ap (λ j. slice_get objects j) (sym q) ∙ h)) in
+      let same : y ≡ o = same_Some y o (sym there ∙ (ap (λ j. slice_get objects j) (sym q) ∙ h)) in
       record {
         object = other y;
         there = ap (λ j. slice_get (slice_set objects n (other y)) j) q ∙ set_there objects n y (other y) there;

@@ -1,6 +1,7 @@
 -- The locals that are the parameters of a function that is defined have the types that its declarator gives them.
 use Rattle.std.proofs.Common.{◌≡◌, ℕ, refl, sym, ◌∙◌, ap, subst, Bool, List, [], ◌∷◌, ◌++◌, map, Option, Some, None}
 use Rattle.std.proofs.lemmas.List.{append_assoc, append-nil}
+use Rattle.std.proofs.lemmas.Option.{same_Some}
 use Rattle.mv_ast.specs.declared.place.Place.{Place}
 use Rattle.mv_ast.specs.declared.program.CType.{CType}
 use Rattle.mv_ast.specs.declared.program.Local.{Local}
@@ -25,7 +26,8 @@ use Rattle.mv_typed_bodies.proofs.Judging.{IfGood, of_good, if_kept}
 use Rattle.mv_typed_bodies.proofs.Places.{keeps_joined}
 use Rattle.mv_typed_bodies.proofs.Specified.{Specifies, specifiers_specify}
 use Rattle.mv_typed_bodies.proofs.Designated.{Designates, shape_designates}
-use Rattle.mv_file_scope.proofs.Agreeing.{then_good, good_same, same_ctype, type_in, Types, part_good, parts_keep, IsOne, declarator_good, same_some, every_shape, params_have}
+use Rattle.mv_file_scope.proofs.Agreeing.{same_ctype, type_in, Types, part_good, parts_keep, IsOne, declarator_good, params_have, shapes_have}
+use Rattle.mv_typing.proofs.Kept.{went_on, same_good}
 
 -- ---- a parameter of a definition
 
@@ -59,12 +61,12 @@ record IsAdded (p : Param) (u v : Scope) : Type 0 where
 
 added : (p : Param) (u v : Scope) → parameter_judgement p u ≡ Good v → IsAdded p u v
 added p u v q =
-    let b = then_good (specifiers position.Parameter [] p.specs u) (λ b.
+    let b = went_on (specifiers position.Parameter [] p.specs u) (λ b.
     and_then (designated p.name.shape b.1.ctype b.1.fixed b.0) (λ e.
     and_then (attributes nothing_holds None e.0 p.name.marks b.1.attribute) (λ a. new_defined p.name.place p.name.name e.1 e.0))) v q in
-    let e = then_good (designated p.name.shape b.0.1.ctype b.0.1.fixed b.0.0) (λ e.
+    let e = went_on (designated p.name.shape b.0.1.ctype b.0.1.fixed b.0.0) (λ e.
     and_then (attributes nothing_holds None e.0 p.name.marks b.0.1.attribute) (λ a. new_defined p.name.place p.name.name e.1 e.0)) v b.2 in
-    let a = then_good (attributes nothing_holds None e.0.0 p.name.marks b.0.1.attribute) (λ a. new_defined p.name.place p.name.name e.0.1 e.0.0) v e.2 in
+    let a = went_on (attributes nothing_holds None e.0.0 p.name.marks b.0.1.attribute) (λ a. new_defined p.name.place p.name.name e.0.1 e.0.0) v e.2 in
     let says = of_good (Specifies u) (specifiers position.Parameter [] p.specs u) (specifiers_specify position.Parameter [] p.specs u) b.0 b.1 in
     let gives = of_good (Designates b.0.0) (designated p.name.shape b.0.1.ctype b.0.1.fixed b.0.0)
     (shape_designates p.name.shape b.0.1.ctype b.0.1.fixed b.0.0 says.plain) e.0 e.1 in
@@ -103,14 +105,14 @@ record IsMatched (t : CType) (u v : Scope) : Type 0 where
 param_matches : (p : Param) (s u : Scope) (d : Scope × CType) (v : Scope) → parameter p s ≡ Good d → parameter_judgement p u ≡ Good v →
     Keeps d.0.signatures u.signatures → IsMatched d.1 u v
 param_matches p s u d v q r k =
-    let m = then_good (specifiers position.Parameter [] p.specs s) (λ b. parameter_declarator p.name b.1 b.0) d (param_open p s d q) in
+    let m = went_on (specifiers position.Parameter [] p.specs s) (λ b. parameter_declarator p.name b.1 b.0) d (param_open p s d q) in
     let y = declarator_open p.name m.0.1 m.0.0 d m.2 in
     let z = added p u v r in
     let same = same_ctype position.Parameter position.Parameter [] [] p.specs s u m.0 z.base m.1 z.specified in
-    let types = (every_shape p.name.shape).agrees z.base.1.ctype m.0.1.fixed z.base.1.fixed m.0.0 z.base.0 y.entity z.entity
+    let types = (shapes_have p.name.shape).agrees z.base.1.ctype m.0.1.fixed z.base.1.fixed m.0.0 z.base.0 y.entity z.entity
     (subst (λ t. designated p.name.shape t m.0.1.fixed m.0.0 ≡ Good y.entity) same y.judged) z.judged
     (keeps_joined y.entity.0.signatures u.signatures z.base.0.signatures (subst (λ w. Keeps w u.signatures) y.signatures k) z.keeps) in
-    let type : z.adds.0 ≡ d.1 = same_some z.adds.0 d.1 (sym z.adds.1 ∙ (sym types ∙ y.type)) in
+    let type : z.adds.0 ≡ d.1 = same_Some z.adds.0 d.1 (sym z.adds.1 ∙ (sym types ∙ y.type)) in
     record {
       locals = z.adds.2 ∙ (ap (λ ls. ls ++ scalar z.adds.0 ∷ []) z.same ∙ ap (λ t. u.locals ++ scalar t ∷ []) type);
       keeps = subst (λ w. Keeps u.signatures w) (sym z.adds.3) (keeps_joined u.signatures z.base.0.signatures z.entity.0.signatures z.keeps z.more);
@@ -126,12 +128,12 @@ params_match : (ps : List Param) (c d : Types) (u v : Scope) → in_turn (map pa
     Keeps d.0.signatures u.signatures → AreMatched c d u v
 params_match [] c d u v q r k = record {
   more = [];
-  locals = ap (λ (z : Scope). z.locals) (sym (good_same u v r)) ∙ sym (append-nil u.locals);
-  types = ap (λ (z : Types). z.1) (sym (good_same c d q)) ∙ sym (append-nil c.1);
+  locals = ap (λ (z : Scope). z.locals) (sym (same_good u v r)) ∙ sym (append-nil u.locals);
+  types = ap (λ (z : Types). z.1) (sym (same_good c d q)) ∙ sym (append-nil c.1);
 }
 params_match (p ∷ ps) c d u v q r k =
-    let m = then_good (next_part (parameter p) c) (in_turn (map parameter ps)) d q in
-    let w = then_good (parameter_judgement p u) (through parameter_judgement ps) v r in
+    let m = went_on (next_part (parameter p) c) (in_turn (map parameter ps)) d q in
+    let w = went_on (parameter_judgement p u) (through parameter_judgement ps) v r in
     let y = part_good (parameter p) c m.0 m.1 in
     let before = keeps_joined m.0.0.signatures d.0.signatures u.signatures (parts_keep (map parameter ps) (params_have ps) m.0 d m.2) k in
     let one = param_matches p c.0 u y.given w.0 y.judged w.1 (subst (λ (z : Scope). Keeps z.signatures u.signatures) (sym y.scope) before) in

@@ -1,7 +1,6 @@
 -- Signatures that are the same, and their numbers in lists that grow.
-use Rattle.std.proofs.Common.{◌≡◌, ℕ, suc, ◌+◌, refl, sym, ◌∙◌, ap, ap₂, Bool, true, false, ◌&&◌, if◌then◌else◌, nat_eq, List, [], ◌∷◌, Some, slice_get, arith}
-use Rattle.mv_num.specs.declared.kind.Kind.{Kind}
-use Rattle.mv_num.specs.declared.kind.Kind.TheVariants as kind
+use Rattle.std.proofs.Common.{◌≡◌, ℕ, suc, ◌+◌, refl, sym, ◌∙◌, ap, ap₂, Bool, true, false, ◌&&◌, if◌then◌else◌, List, [], ◌∷◌, Some, slice_get, arith}
+use Rattle.std.proofs.lemmas.Bool.{and_parts, eq-eqb}
 use Rattle.mv_ast.specs.declared.program.CType.{CType}
 use Rattle.mv_ast.specs.declared.program.CType.TheVariants.{Void, Scalar, Pointer}
 use Rattle.mv_ast.specs.declared.program.Signature.{Signature}
@@ -9,62 +8,29 @@ use Rattle.mv_scope.specs.Conversions.{kind_number, same_type, same_types, same_
 use Rattle.mv_scope.specs.Signatures.{place_of, with_signature}
 use Rattle.mv_declare.specs.Declarators.{signature_of}
 use Rattle.mv_typed_bodies.specs.Bodies.{Keeps}
-use Rattle.mv_typed_bodies.proofs.Judging.{and_true}
-use Rattle.mv_file_scope.proofs.Lists.{kept_first}
+use Rattle.mv_typed_bodies.proofs.Places.{kept_first}
+use Rattle.mv_typing.proofs.Types.{same_is}
 
 -- ---- signatures that are the same are equal
-
-kind_of : ℕ → Kind
-kind_of n =
-    if nat_eq n 0 then kind.Bool else if nat_eq n 1 then kind.SChar else if nat_eq n 2 then kind.UChar else if nat_eq n 3 then kind.Short
-    else if nat_eq n 4 then kind.UShort else if nat_eq n 5 then kind.Int else kind.UInt
-
-kind_back : (k : Kind) → kind_of (kind_number k) ≡ k
-unfolding kind_of
-kind_back kind.Bool = refl
-kind_back kind.SChar = refl
-kind_back kind.UChar = refl
-kind_back kind.Short = refl
-kind_back kind.UShort = refl
-kind_back kind.Int = refl
-kind_back kind.UInt = refl
-
-pub same_number : (m n : ℕ) → nat_eq m n ≡ true → m ≡ n
-same_number m n h = grind (arith, h)
-
-pub type_is : (s t : CType) → same_type s t ≡ true → s ≡ t
-type_is Void Void h = refl
-type_is (Scalar k) (Scalar l) h =
-    ap Scalar (sym (kind_back k) ∙ (ap kind_of (same_number (kind_number k) (kind_number l) h) ∙ kind_back l))
-type_is (Pointer s) (Pointer t) h = ap Pointer (same_number s t h)
-type_is Void (Scalar l) h = absurd (cc)
-type_is Void (Pointer t) h = absurd (cc)
-type_is (Scalar k) Void h = absurd (cc)
-type_is (Scalar k) (Pointer t) h = absurd (cc)
-type_is (Pointer s) Void h = absurd (cc)
-type_is (Pointer s) (Scalar l) h = absurd (cc)
 
 types_are : (ss ts : List CType) → same_types ss ts ≡ true → ss ≡ ts
 types_are [] [] h = refl
 types_are [] (t ∷ ts) h = absurd (cc)
 types_are (s ∷ ss) [] h = absurd (cc)
 types_are (s ∷ ss) (t ∷ ts) h =
-    let b = and_true (same_type s t) (same_types ss ts) h in
+    let b = and_parts (same_type s t) (same_types ss ts) h in
     let cons : CType → List CType → List CType = λ x xs. x ∷ xs in
-    ap₂ cons (type_is s t b.0) (types_are ss ts b.1)
+    ap₂ cons (same_is s t b.0) (types_are ss ts b.1)
 
 signature_is : (s t : Signature) → same_signature s t ≡ true → s ≡ t
 signature_is s t h =
-    let b = and_true (same_type s.result t.result) (same_types s.params t.params) h in
-    ap₂ signature_of (type_is s.result t.result b.0) (types_are s.params t.params b.1)
-
-number_same : (n : ℕ) → nat_eq n n ≡ true
-number_same n = grind (arith)
+    let b = and_parts (same_type s.result t.result) (same_types s.params t.params) h in
+    ap₂ signature_of (same_is s.result t.result b.0) (types_are s.params t.params b.1)
 
 type_same : (t : CType) → same_type t t ≡ true
 type_same Void = refl
-type_same (Scalar k) = number_same (kind_number k)
-type_same (Pointer s) = number_same s
+type_same (Scalar k) = eq-eqb (kind_number k) (kind_number k) refl
+type_same (Pointer s) = eq-eqb s s refl
 
 types_same : (ts : List CType) → same_types ts ts ≡ true
 types_same [] = refl

@@ -1,7 +1,8 @@
 -- Contents stay sound through the declarations of a unit.
-use Rattle.std.proofs.Common.{◌≡◌, ℕ, zero, suc, refl, sym, ◌∙◌, ap, subst, Bool, true, false, is_some, List, [], ◌∷◌, map, length, replicate, Option, Some, None, slice_get}
+use Rattle.std.proofs.Common.{◌≡◌, ℕ, refl, sym, ◌∙◌, ap, subst, Bool, true, false, is_some, List, [], ◌∷◌, map, length, Option, Some, None, slice_get}
 use Rattle.std.specs.List.{AllByRecursion}
 use Rattle.std.proofs.lemmas.List.Elements.{recursion_from_All}
+use Rattle.std.proofs.lemmas.List.{length-replicate}
 use Rattle.mv_ast.specs.declared.program.CType.{CType}
 use Rattle.mv_ast.specs.declared.program.CType.TheVariants.{Pointer}
 use Rattle.mv_ast.specs.declared.program.Function.{Function}
@@ -32,7 +33,7 @@ use Rattle.mv_declare.specs.Specifiers.{scalar_kind, specifiers}
 use Rattle.mv_declare.specs.Turns.{through}
 use Rattle.mv_typed_bodies.specs.Bodies.{BodyGrows, ParametersFit}
 use Rattle.mv_typed_bodies.proofs.Judging.{IfGood, of_good, by_good, if_then, if_kept, if_more, if_through}
-use Rattle.mv_typed_bodies.proofs.Places.{IsPlain, keeps_same}
+use Rattle.mv_typed_bodies.proofs.Places.{keeps_same}
 use Rattle.mv_typed_bodies.proofs.Specified.{Specifies}
 use Rattle.mv_typed_bodies.proofs.Growing.{declares_same, declares_joined}
 use Rattle.mv_typed_bodies.proofs.Designated.{Designates, IsListedEntity, shape_designates}
@@ -44,13 +45,14 @@ use Rattle.mv_types.specs.Objects.{domain_by}
 use Rattle.mv_types.specs.Units.{by_entity, named_declarator, base_of, declarator_judgement, holders, declares_nothing, names_judgement, item_judgement}
 use Rattle.mv_file_scope.specs.Declared.{IsSound}
 use Rattle.mv_file_scope.specs.Defined.{WereDefined}
-use Rattle.mv_file_scope.specs.Laws.{IsForeknown}
 use Rattle.mv_file_scope.proofs.Lists.{nothing_there}
 use Rattle.mv_file_scope.proofs.Extending.{To, to_same, to_joined}
 use Rattle.mv_file_scope.proofs.Widening.{Widens, names_same, names_joined, specifiers_widen, widens_sound}
-use Rattle.mv_file_scope.proofs.Agreeing.{then_good, good_same}
 use Rattle.mv_file_scope.proofs.Objects.{object_sound}
 use Rattle.mv_file_scope.proofs.Functions.{block_widens, function_sound}
+use Rattle.mv_typing.proofs.Kept.{went_on, same_good}
+use Rattle.mv_typing.proofs.Plain.{IsPlain}
+use Rattle.mv_unit_numbers.specs.Numbers.{IsForeknown}
 
 widens_same : (s : Scope) → Widens s s
 widens_same s = record { declares = declares_same s; names = names_same s s refl }
@@ -88,21 +90,21 @@ module _ (t : CType) (fixed : Bool) (s : Scope) (e : Scope) (n : ℕ) where
   step_says : (y : Shape-F Shape Declarator Param) →
       shape_step (map-Shape Shape Declarator Param Shapes Declarators Params designated parameter_declarator parameter y) t fixed s ≡ Good (e, entity.Function n) → Says y
   unfolding number_in is_number
-  step_says shape.Plain q = absurd (other (s, entity.Scalar t fixed) refl (good_same (s, entity.Scalar t fixed) (e, entity.Function n) q))
+  step_says shape.Plain q = absurd (other (s, entity.Scalar t fixed) refl (same_good (s, entity.Scalar t fixed) (e, entity.Function n) q))
   step_says (shape.Array size) q =
-      let m = then_good (size_of s size) (λ z. Good (s, entity.Array t fixed z)) (e, entity.Function n) q in
-      absurd (other (s, entity.Array t fixed m.0) refl (good_same (s, entity.Array t fixed m.0) (e, entity.Function n) m.2))
+      let m = went_on (size_of s size) (λ z. Good (s, entity.Array t fixed z)) (e, entity.Function n) q in
+      absurd (other (s, entity.Array t fixed m.0) refl (same_good (s, entity.Array t fixed m.0) (e, entity.Function n) m.2))
   step_says (shape.Function params) q =
-      let m = then_good (function_type t (map parameter params) s) (λ d. Good (d.0, entity.Function d.1)) (e, entity.Function n) q in
-      let r = good_same (m.0.0, entity.Function m.0.1) (e, entity.Function n) m.2 in
+      let m = went_on (function_type t (map parameter params) s) (λ d. Good (d.0, entity.Function d.1)) (e, entity.Function n) q in
+      let r = same_good (m.0.0, entity.Function m.0.1) (e, entity.Function n) m.2 in
       (refl, m.1 ∙ ap (λ (z : Scope × Entity). Good (z.0, number_in z.1)) r)
   step_says (shape.Pointer constant params) q =
-      let m = then_good (function_type t (map parameter params) s) (λ d. Good (d.0, entity.Scalar (Pointer d.1) constant)) (e, entity.Function n) q in
-      absurd (other (m.0.0, entity.Scalar (Pointer m.0.1) constant) refl (good_same _ (e, entity.Function n) m.2))
+      let m = went_on (function_type t (map parameter params) s) (λ d. Good (d.0, entity.Scalar (Pointer d.1) constant)) (e, entity.Function n) q in
+      absurd (other (m.0.0, entity.Scalar (Pointer m.0.1) constant) refl (same_good _ (e, entity.Function n) m.2))
   step_says (shape.PointerArray constant size params) q =
-      let i = then_good (size_of s size) (λ z. and_then (function_type t (map parameter params) s) (λ d. Good (d.0, entity.Array (Pointer d.1) constant z))) (e, entity.Function n) q in
-      let m = then_good (function_type t (map parameter params) s) (λ d. Good (d.0, entity.Array (Pointer d.1) constant i.0)) (e, entity.Function n) i.2 in
-      absurd (other (m.0.0, entity.Array (Pointer m.0.1) constant i.0) refl (good_same _ (e, entity.Function n) m.2))
+      let i = went_on (size_of s size) (λ z. and_then (function_type t (map parameter params) s) (λ d. Good (d.0, entity.Array (Pointer d.1) constant z))) (e, entity.Function n) q in
+      let m = went_on (function_type t (map parameter params) s) (λ d. Good (d.0, entity.Array (Pointer d.1) constant i.0)) (e, entity.Function n) i.2 in
+      absurd (other (m.0.0, entity.Array (Pointer m.0.1) constant i.0) refl (same_good _ (e, entity.Function n) m.2))
 
   shape_says : (x : Shape) → designated x t fixed s ≡ Good (e, entity.Function n) → Says (out-Shape x)
   shape_says x q =
@@ -115,10 +117,10 @@ module _ (t : CType) (fixed : Bool) (s : Scope) (e : Scope) (n : ℕ) where
 file_good : (b : Specified) (d : Declarator) (s : Scope) (e : Scope × Designated) → file_declarator b d s ≡ Good e →
     designated d.shape b.ctype b.fixed s ≡ Good (e.0, e.1.entity)
 file_good b d s e q =
-    let m = then_good (designated d.shape b.ctype b.fixed s) (λ z.
+    let m = went_on (designated d.shape b.ctype b.fixed s) (λ z.
     and_then (attributes (holder_of position.File b.fixed d) (scalar_kind b.ctype) z.0 d.marks b.attribute) (λ a. Good (z.0, record { entity = z.1; attribute = a }))) e q in
-    let a = then_good (attributes (holder_of position.File b.fixed d) (scalar_kind b.ctype) m.0.0 d.marks b.attribute) (λ a. Good (m.0.0, record { entity = m.0.1; attribute = a })) e m.2 in
-    m.1 ∙ ap (λ (z : Scope × Designated). Good (z.0, z.1.entity)) (good_same (m.0.0, record { entity = m.0.1; attribute = a.0 }) e a.2)
+    let a = went_on (attributes (holder_of position.File b.fixed d) (scalar_kind b.ctype) m.0.0 d.marks b.attribute) (λ a. Good (m.0.0, record { entity = m.0.1; attribute = a })) e m.2 in
+    m.1 ∙ ap (λ (z : Scope × Designated). Good (z.0, z.1.entity)) (same_good (m.0.0, record { entity = m.0.1; attribute = a.0 }) e a.2)
 
 name_is : (d : Declarator) (name : List ℕ) → d.name ≡ Some name → name_of d ≡ name
 name_is d name q = ap (λ (o : Option (List ℕ)). name_of (record d { name = o })) q
@@ -132,10 +134,10 @@ module _ (fit : ParametersFit) (grow : BodyGrows) (k : Foreknown) where
   Known body d = (line : Line) → body ≡ Some line → Numbered d
 
   definition_widens : (d : Declarator) (body : Option Line) (s t : Scope) → s.locals ≡ [] → definition_parameters d body s ≡ Good t → Widens s t
-  definition_widens d None s t empty q = subst (λ z. Widens s z) (good_same s t q) (widens_same s)
+  definition_widens d None s t empty q = subst (λ z. Widens s z) (same_good s t q) (widens_same s)
   definition_widens d (Some line) s t empty q =
-      let m = then_good (parameters_judgement (body_entered false s) (params_of d)) (λ p. Good (body_left p)) t q in
-      subst (λ z. Widens s z) (good_same (body_left m.0) t m.2)
+      let m = went_on (parameters_judgement (body_entered false s) (params_of d)) (λ p. Good (body_left p)) t q in
+      subst (λ z. Widens s z) (same_good (body_left m.0) t m.2)
       (block_widens fit grow false s m.0 empty (fit (params_of d) (body_entered false s) m.0 m.1).grows)
 
   entity_sound : (b : Specified) (fixed : Bool) (body : Option Line) (d : Declarator) (name : List ℕ) (e : Entity) (a : Option Attribute) (s : Scope) (c : Contents) →
@@ -163,8 +165,8 @@ module _ (fit : ParametersFit) (grow : BodyGrows) (k : Foreknown) where
   unfolding declarator_judgement
   declarator_sound b plain body d known c = by_good (To k c) (declarator_judgement k b body d c) (λ after q s.
       let f : Bool = (base_of k d b).fixed in
-      let m = then_good (definition_parameters d body c.scope) (λ t. and_then (file_declarator (base_of k d b) d t) (λ e. named_declarator k b body d d.name e.1 (in_scope c e.0))) after q in
-      let e = then_good (file_declarator (base_of k d b) d m.0) (λ e. named_declarator k b body d d.name e.1 (in_scope c e.0)) after m.2 in
+      let m = went_on (definition_parameters d body c.scope) (λ t. and_then (file_declarator (base_of k d b) d t) (λ e. named_declarator k b body d d.name e.1 (in_scope c e.0))) after q in
+      let e = went_on (file_declarator (base_of k d b) d m.0) (λ e. named_declarator k b body d d.name e.1 (in_scope c e.0)) after m.2 in
       let g = file_good (base_of k d b) d m.0 e.0 e.1 in
       let z = of_good (Designates m.0) (designated d.shape b.ctype f m.0) (shape_designates d.shape b.ctype f m.0 plain) (e.0.0, e.0.1.entity) g in
       let w = widens_joined c.scope m.0 e.0.0 (definition_widens d body c.scope m.0 s.locals m.1) (record { declares = z.declares; names = names_same m.0 e.0.0 z.names }) in
@@ -198,10 +200,6 @@ module _ (fit : ParametersFit) (grow : BodyGrows) (k : Foreknown) where
 
 -- ---- the start
 
-replicate_length : {A : Type 0} (n : ℕ) (a : A) → length (replicate n a) ≡ n
-replicate_length zero a = refl
-replicate_length (suc n) a = ap suc (replicate_length n a)
-
 none_defined : (k : Foreknown) (g : ℕ) (f : Function) → slice_get (nothing_declared k).functions g ≡ Some (Some f) → ⊥
 none_defined k g f q = nothing_there (length k.outline.functions) g f q
 
@@ -210,7 +208,7 @@ sound_start k = record {
   around = refl;
   locals = refl;
   results = λ n s q. absurd (no_signature n s q);
-  count = replicate_length (length k.outline.functions) None;
+  count = length-replicate (length k.outline.functions) None;
   names = λ name m q. absurd (no_name m q);
   functions = λ g f q. absurd (none_defined k g f q);
 }

@@ -1,6 +1,7 @@
 -- Numbers of arguments, and tests that fail together.
-use Rattle.std.proofs.Common.{◌≡◌, ℕ, ◌≤◌, Bool, true, false, ◌||◌, refl, sym, ◌∙◌, ap, suc, List, [], ◌∷◌, ◌++◌, map, take, length, Some, slice_get, nat_eq, arith}
-use Rattle.std.proofs.lemmas.List.{length-take-le}
+use Rattle.std.proofs.Common.{◌≡◌, ℕ, ◌≤◌, Bool, true, false, refl, sym, ◌∙◌, ap, List, [], ◌∷◌, ◌++◌, take, length, Some, slice_get, nat_eq}
+use Rattle.std.proofs.lemmas.List.{length-take-le, length-map}
+use Rattle.std.proofs.lemmas.Bool.{and_from, or_parts, eq-eqb}
 use Rattle.mv_ast.specs.declared.program.CType.{CType}
 use Rattle.mv_ast.specs.declared.program.CType.TheVariants.{Void, Scalar, Pointer}
 use Rattle.mv_ast.specs.declared.program.Program.{Program}
@@ -13,23 +14,11 @@ use Rattle.mv_scope.specs.Conversions as conversions
 use Rattle.mv_numbering.specs.Typing.{types_of, parameter_types}
 use Rattle.mv_lowering.specs.Lower.{is_void, takes, is_callable}
 use Rattle.mv_formed_bodies.specs.Formed.{HasParameters}
-use Rattle.mv_formed_bodies.proofs.Tests.{both}
-
-pub mapped : {A B : Type 0} (g : A → B) (xs : List A) → length (map g xs) ≡ length xs
-mapped g [] = refl
-mapped g (x ∷ xs) = ap suc (mapped g xs)
-
-pub or_false : (a b : Bool) → (a || b) ≡ false → (a ≡ false) × (b ≡ false)
-or_false true b h = absurd (cc)
-or_false false b h = (refl, h)
 
 pub any_last : (bs : List Bool) (b : Bool) → any_of (bs ++ b ∷ []) ≡ false → (any_of bs ≡ false) × (b ≡ false)
-any_last [] b h = (refl, (or_false b false h).0)
+any_last [] b h = (refl, (or_parts b false h).0)
 any_last (true ∷ bs) b h = absurd (cc)
 any_last (false ∷ bs) b h = any_last bs b h
-
-pub same_number : (m n : ℕ) → m ≡ n → nat_eq m n ≡ true
-same_number m n h = grind (arith, h)
 
 same_itself : (a : Bool) → same_truth a a ≡ true
 same_itself true = refl
@@ -43,13 +32,13 @@ void_is (Pointer s) b h = h
 
 -- as many arguments as parameters
 parameters_count : (callee : Function) → callee.params ≤ length callee.locals → length (parameter_types callee) ≡ callee.params
-parameters_count callee h = mapped (λ (l : Local). l.ctype) (take callee.params callee.locals) ∙ length-take-le callee.params callee.locals h
+parameters_count callee h = length-map (take callee.params callee.locals) (λ (l : Local). l.ctype) ∙ length-take-le callee.params callee.locals h
 
 pub callable : (p : Program) → HasParameters p → (g : ℕ) (callee : Function) (t : CType) (args : List Expr) (n : ℕ) → n ≡ length args →
     slice_get p.functions g ≡ Some callee → t ≡ callee.result → types_of args ≡ parameter_types callee → is_callable p g n (is_void t) ≡ true
 callable p has g callee t args n count there result types =
-    let q : callee.params ≡ n = sym (parameters_count callee (has g callee there)) ∙ (ap length (sym types) ∙ (mapped (λ (e : Expr). e.ctype) args ∙ sym count)) in
+    let q : callee.params ≡ n = sym (parameters_count callee (has g callee there)) ∙ (ap length (sym types) ∙ (length-map args (λ (e : Expr). e.ctype) ∙ sym count)) in
     let takes_it : takes (Some callee) n (is_void t) ≡ true =
-    both (nat_eq callee.params n) (same_truth (is_void callee.result) (is_void t)) (same_number callee.params n q)
+    and_from (nat_eq callee.params n) (same_truth (is_void callee.result) (is_void t)) (eq-eqb callee.params n q)
     (ap (λ u. same_truth (is_void callee.result) (is_void u)) result ∙ same_itself (is_void callee.result)) in
     ap (λ o. takes o n (is_void t)) there ∙ takes_it

@@ -1,5 +1,6 @@
 -- That the locals that an expression names are declared comes from its parts.
 use Rattle.std.proofs.Common.{◌≡◌, ℕ, Bool, true, false, refl, ◌∙◌, ap, if◌then◌else◌, map}
+use Rattle.std.proofs.lemmas.Bool.{and_from}
 use Rattle.mv_ast.specs.declared.program.CType.{CType}
 use Rattle.mv_ast.specs.declared.program.Expr.{Expr, fold_out-Expr}
 use Rattle.mv_ast.specs.declared.program.Form.{Form, Form-F, map-Form, out-Form, fold-Form, fold_out-Form}
@@ -21,7 +22,7 @@ use Rattle.mv_judge.specs.Seen.{object_at, element_at}
 use Rattle.mv_judge.specs.Calls.{with_index}
 use Rattle.mv_lowered_programs.specs.Scopes.{form_in, target_in, layer_in, names_declared}
 use Rattle.mv_formed_bodies.specs.Declared.{IsIn, Covers}
-use Rattle.mv_formed_bodies.proofs.Tests.{both, all_tested, all_last_tested, one_tested, two_tested, three_tested}
+use Rattle.mv_formed_bodies.proofs.Tests.{all_tested, all_last_tested, one_tested, two_tested, three_tested}
 use Rattle.mv_formed_bodies.proofs.ExprProperty.{ExprProperty}
 
 module _ (scope : ℕ → Bool) where
@@ -30,9 +31,6 @@ module _ (scope : ℕ → Bool) where
 
   abbrev target_fold : Target → Bool
   target_fold = fold-Target Bool Bool Bool form_in (target_in scope) layer_in
-
-  abbrev form_fold : Form → Bool
-  form_fold = fold-Form Bool Bool Bool form_in (target_in scope) layer_in
 
   abbrev layer_of : Form-F Form Target Expr → Bool
   layer_of z = form_in (map-Form Form Target Expr Bool Bool Bool (fold-Form Bool Bool Bool form_in (target_in scope) layer_in) (fold-Target Bool Bool Bool form_in (target_in scope) layer_in) (names_declared scope) z)
@@ -54,7 +52,7 @@ module _ (scope : ℕ → Bool) where
 
   element_declared : (s : Storage) (i : Expr) → IsIn scope s → K i → target_fold (element_at s i) ≡ true
   element_declared (storage.Global g) i h k = by_target _ (open_form.GlobalAt g i) (outs-GlobalAt g i) k
-  element_declared (storage.Local l) i h k = by_target _ (open_form.LocalAt l i) (outs-LocalAt l i) (both (scope l) (names_declared scope i) h k)
+  element_declared (storage.Local l) i h k = by_target _ (open_form.LocalAt l i) (outs-LocalAt l i) (and_from (scope l) (names_declared scope i) h k)
 
   module _ (s : Scope) (covers : Covers scope s) where
     abbrev declaring : ExprProperty

@@ -1,6 +1,7 @@
 -- That locals are named only where they are declared comes from the parts of a statement, from the scope before it to the scope behind it.
-use Rattle.std.proofs.Common.{◌≡◌, ℕ, ◌⊎◌, inl, inr, Bool, true, false, ◌&&◌, ◌||◌, refl, sym, ◌∙◌, ap, subst, List, [], ◌∷◌, ◌++◌, map, length, Option, Some, None, nat_eq, if◌then◌else◌, arith}
+use Rattle.std.proofs.Common.{◌≡◌, ℕ, ◌⊎◌, inl, inr, Bool, true, false, ◌||◌, refl, sym, ◌∙◌, ap, subst, List, [], ◌∷◌, ◌++◌, map, length, Option, Some, None, nat_eq, if◌then◌else◌, arith}
 use Rattle.std.specs.List.{AllByRecursion}
+use Rattle.std.proofs.lemmas.Bool.{and_from, and_parts}
 use Rattle.mv_ast.specs.declared.program.Arm.{Arm, fold_out-Arm}
 use Rattle.mv_ast.specs.declared.program.Program.{Program}
 use Rattle.mv_ast.specs.declared.program.Function.{Function}
@@ -34,14 +35,14 @@ use Rattle.mv_lowered_programs.specs.Scopes.{Scoped, with_declared, names_declar
 use Rattle.mv_lowered_programs.specs.WellFormed.{parameters}
 use Rattle.mv_typing.specs.Soundness.{Fits}
 use Rattle.mv_typed_bodies.specs.Bodies.{Keeps}
-use Rattle.mv_typed_bodies.proofs.Judging.{IfGood, by_good, of_good, all_last}
+use Rattle.mv_typed_bodies.proofs.Judging.{IfGood, by_good, of_good}
 use Rattle.mv_typed_bodies.proofs.Names.{declared_means, entered_means}
 use Rattle.mv_typed_bodies.proofs.Growing.{Enumerates}
 use Rattle.mv_typed_bodies.proofs.Property.{OfOption, MeansLocal, Passage}
 use Rattle.mv_typed_bodies.proofs.Bodies.{lines_have}
 use Rattle.mv_typed_bodies.proofs.Values.{initials_have}
+use Rattle.mv_typed_bodies.proofs.Lists.{all_last}
 use Rattle.mv_formed_bodies.specs.Declared.{IsIn, IsCovered, Covers}
-use Rattle.mv_formed_bodies.proofs.Tests.{both}
 use Rattle.mv_formed_bodies.proofs.DeclaredExpressions.{converted_declared, value_declared, effect_declared}
 
 abbrev Set : Type 0
@@ -107,15 +108,11 @@ Holds D ss = all_scoped (map stmt_scoped ss) D ≡ true
 abbrev behind : Set → List Stmt → Set
 behind D ss = scope_behind (map stmt_scoped ss) D
 
-and_true : (a b : Bool) → (a && b) ≡ true → (a ≡ true) × (b ≡ true)
-and_true true b h = (refl, h)
-and_true false b h = absurd (cc)
-
 joined_holds : (ss ts : List Stmt) (D : Set) → Holds D ss → Holds (behind D ss) ts → Holds D (ss ++ ts)
 joined_holds [] ts D h k = k
 joined_holds (s ∷ ss) ts D h k =
-    let b = and_true ((stmt_scoped s).holds D) (all_scoped (map stmt_scoped ss) (with_declared (stmt_scoped s).declares D)) h in
-    both _ _ b.0 (joined_holds ss ts (with_declared (stmt_scoped s).declares D) b.1 k)
+    let b = and_parts ((stmt_scoped s).holds D) (all_scoped (map stmt_scoped ss) (with_declared (stmt_scoped s).declares D)) h in
+    and_from _ _ b.0 (joined_holds ss ts (with_declared (stmt_scoped s).declares D) b.1 k)
 
 joined_behind : (ss ts : List Stmt) (D : Set) → behind D (ss ++ ts) ≡ behind (behind D ss) ts
 joined_behind [] ts D = refl
@@ -148,7 +145,7 @@ one_behind : (x : Stmt) (D : Set) → (stmt_scoped x).declares ≡ None → behi
 one_behind x D q = ap (λ o. with_declared o D) q
 
 one_holds : (s t : Scope) (x : Stmt) → OfStmt s t x → (D : Set) → Covers D s → Holds D (x ∷ [])
-one_holds s t x h D c = both ((stmt_scoped x).holds D) true (h.1 D c).0 refl
+one_holds s t x h D c = and_from ((stmt_scoped x).holds D) true (h.1 D c).0 refl
 
 stmt_by : (s t : Scope) (w : Stmt) (z : Stmt-F Stmt Arm) → out-Stmt w ≡ z → (layer_of z).declares ≡ None →
     ((D : Set) → Covers D s → ((layer_of z).holds D ≡ true) × Covers D t) → OfStmt s t w
@@ -163,7 +160,7 @@ arm_is a D h = ap (λ (g : (ℕ → Bool) → Bool). g D) (fold_out-Arm Scoped (
 
 arms_are : (arms : List Arm) (D : Set) → AllByRecursion (BodyHolds D) arms → all_of (map (λ (g : (ℕ → Bool) → Bool). g D) (map arm_scoped arms)) ≡ true
 arms_are [] D h = refl
-arms_are (a ∷ arms) D h = both _ _ (arm_is a D h.0) (arms_are arms D h.1)
+arms_are (a ∷ arms) D h = and_from _ _ (arm_is a D h.0) (arms_are arms D h.1)
 
 label_has : (s t : Scope) (y : Arms) → OfArms s t y → OfArms s t (at_label y)
 unfolding at_label
@@ -193,7 +190,7 @@ option_is s (Some e) h D c = h D c
 
 values_are : (s : Scope) (es : List Expr) → AllByRecursion (OfValue s) es → (D : Set) → Covers D s → all_of (map (names_declared D) es) ≡ true
 values_are s [] h D c = refl
-values_are s (e ∷ es) h D c = both _ _ (h.0 D c) (values_are s es h.1 D c)
+values_are s (e ∷ es) h D c = and_from _ _ (h.0 D c) (values_are s es h.1 D c)
 
 value_is : (s : Scope) (n : Node) → IfGood (value_judgement s n) (OfValue s)
 value_is s n = by_good (OfValue s) (value_judgement s n) (λ e q D c. of_good (λ y. names_declared D y ≡ true) (value_judgement s n) (value_declared D s c n) e q)
@@ -211,7 +208,7 @@ clear_has s t name l m es n means h D c =
     let more : Covers (scopes.with_local (length t.locals) D) u = local_covers s t name l m D n means c in
     let q : stmt_scoped w ≡ layer_of (open_stmt.Clear (length t.locals) es) =
     fold_out-Stmt Scoped ((ℕ → Bool) → Bool) scoped_layer arm_scoped_layer w ∙ ap layer_of (outs-Clear (length t.locals) es) in (
-      both ((stmt_scoped w).holds D) true (ap (λ (x : Scoped). x.holds D) q ∙ values_are u es h (scopes.with_local (length t.locals) D) more) refl,
+      and_from ((stmt_scoped w).holds D) true (ap (λ (x : Scoped). x.holds D) q ∙ values_are u es h (scopes.with_local (length t.locals) D) more) refl,
       subst (λ (x : Scoped). Covers (with_declared x.declares D) u) (sym q) more,
     )
 
@@ -249,13 +246,13 @@ module _ (p : Program) (f : Function) where
         (λ D e. ((h D (entered_covers s D e)).0, same_covers s (block_left t) D n e));
     express_form = λ b c s e h. stmt_by s s (stmt.Express e) (open_stmt.Express e) (outs-Express e) refl (λ D k. (h D k, k));
     if_form = λ b c s t u e ss ts h i j. stmt_by s u (stmt.If e ss ts) (open_stmt.If e ss ts) (outs-If e ss ts) refl
-        (λ D k. let x = i D k in let y = j D x.1 in (both _ _ (h D k) (both _ _ x.0 y.0), y.1));
-    while_form = λ b c s t e ss h i. stmt_by s t (stmt.While e ss) (open_stmt.While e ss) (outs-While e ss) refl (λ D k. let x = i D k in (both _ _ (h D k) x.0, x.1));
-    do_form = λ b c s t ss e i h. stmt_by s t (stmt.Do ss e) (open_stmt.Do ss e) (outs-Do ss e) refl (λ D k. let x = i D k in (both _ _ (h D x.1) x.0, x.1));
+        (λ D k. let x = i D k in let y = j D x.1 in (and_from _ _ (h D k) (and_from _ _ x.0 y.0), y.1));
+    while_form = λ b c s t e ss h i. stmt_by s t (stmt.While e ss) (open_stmt.While e ss) (outs-While e ss) refl (λ D k. let x = i D k in (and_from _ _ (h D k) x.0, x.1));
+    do_form = λ b c s t ss e i h. stmt_by s t (stmt.Do ss e) (open_stmt.Do ss e) (outs-Do ss e) refl (λ D k. let x = i D k in (and_from _ _ (h D x.1) x.0, x.1));
     for_form = λ b c s t u first test step ss n h i j k.
         stmt_by s (block_left u) (stmt.For first test step ss) (open_stmt.For first test step ss) (outs-For first test step ss) refl (λ D e.
         let x = h D (entered_covers s D e) in (
-          both _ _ x.0 (both _ _ (option_is t test i (behind D first) x.1) (both _ _ (option_is t step j (behind D first) x.1) (k (behind D first) x.1).0)),
+          and_from _ _ x.0 (and_from _ _ (option_is t test i (behind D first) x.1) (and_from _ _ (option_is t step j (behind D first) x.1) (k (behind D first) x.1).0)),
           same_covers s (block_left u) D n e,
         ));
     break_form = λ c s. stmt_by s s stmt.Break open_stmt.Break outs-Break refl (λ D e. (refl, e));
@@ -264,7 +261,7 @@ module _ (p : Program) (f : Function) where
     return_form = λ b c s e q k h. stmt_by s s (stmt.Return (Some (converted_to f.result e))) (open_stmt.Return (Some (converted_to f.result e))) (outs-Return (Some (converted_to f.result e))) refl
         (λ D i. (converted_declared D f.result e (h D i), i));
     switch_form = λ b c s t e y q h k. stmt_by s t (stmt.Switch (promoted e) (arms_of y)) (open_stmt.Switch (promoted e) (arms_of y)) (outs-Switch (promoted e) (arms_of y)) refl
-        (λ D i. let x = k D i in (both _ _ (converted_declared D (promotion e.ctype) e (h D i)) (arms_are (arms_of y) D (all_last (BodyHolds D) y.done y.last x.0 x.1)), x.3));
+        (λ D i. let x = k D i in (and_from _ _ (converted_declared D (promotion e.ctype) e (h D i)) (arms_are (arms_of y) D (all_last (BodyHolds D) y.done y.last x.0 x.1)), x.3));
     no_arm_form = λ c s D e. (tt, refl, refl, e);
     case_form = λ c s t v y h. label_has s t y h;
     default_form = λ c s t y q h. label_has s t y h;

@@ -1,7 +1,8 @@
 -- Definitions of functions that keep the rules are well formed: parameters, and then the body.
-use Rattle.std.proofs.Common.{◌≡◌, ℕ, ◌≤◌, ◌<◌, suc, true, false, refl, sym, ◌∙◌, ap, subst, List, [], ◌∷◌, ◌++◌, length, take, Some, None, nat_lt, arith}
+use Rattle.std.proofs.Common.{◌≡◌, ℕ, ◌≤◌, suc, true, false, refl, sym, ◌∙◌, ap, subst, List, [], ◌∷◌, ◌++◌, length, take, Some, None, nat_lt, arith}
 use Rattle.std.specs.Prelude.{All}
 use Rattle.std.proofs.lemmas.Option.{slice_get_within}
+use Rattle.std.proofs.lemmas.Bool.{lt-ltb}
 use Rattle.mv_ast.specs.declared.program.CType.{CType}
 use Rattle.mv_ast.specs.declared.program.Program.{Program}
 use Rattle.mv_ast.specs.declared.program.Function.{Function}
@@ -17,6 +18,7 @@ use Rattle.mv_scope.specs.declared.scope.Scope.{Scope}
 use Rattle.mv_lowered_programs.specs.WellFormed.{parameters}
 use Rattle.mv_typing.specs.Soundness.{IsStored, IsMeant, Fits}
 use Rattle.mv_typed_bodies.specs.Bodies.{Keeps, BodyGrows, BodyIsTyped, AreParameters, ParametersFit}
+use Rattle.mv_typed_bodies.proofs.Places.{keeps_take}
 use Rattle.mv_formed_bodies.specs.Formed.{IsScalar, IsArray, IsShaped, AreShaped, HasParameters, BodyIsFormed, ParametersAreShaped}
 use Rattle.mv_formed_bodies.specs.Declared.{IsIn, IsCovered, Covers, BodyNamesDeclared}
 use Rattle.mv_formed_bodies.specs.Definitions.{IsDefinition, HasScalarParameters, IsFormed}
@@ -24,13 +26,6 @@ use Rattle.mv_formed_bodies.specs.Definitions.{IsDefinition, HasScalarParameters
 -- ---- a list that is kept is the beginning
 
 module _ {A : Type 0} where
-  kept_begins : (xs ys : List A) → Keeps xs ys → take (length xs) ys ≡ xs
-  kept_begins [] ys h = refl
-  kept_begins (x ∷ xs) [] h = absurd (let q : None ≡ Some x = h 0 x refl in cc)
-  kept_begins (x ∷ xs) (y ∷ ys) h =
-      let q : y ≡ x = let r : Some y ≡ Some x = h 0 x refl in cc in
-      ap (λ z. z ∷ take (length xs) ys) q ∙ ap (λ zs. x ∷ zs) (kept_begins xs ys (λ i z r. h (suc i) z r))
-
   kept_shorter : (xs ys : List A) → Keeps xs ys → length xs ≤ length ys
   kept_shorter [] ys h = omega arith
   kept_shorter (x ∷ xs) [] h = absurd (let q : None ≡ Some x = h 0 x refl in cc)
@@ -75,24 +70,18 @@ any_fits p f g s none fits = record {
 
 -- ---- what the parameters of a function name
 
-below : (l n : ℕ) → l < n → nat_lt l n ≡ true
-below l n h = grind (arith, h)
-
 scalar_in : (g : Function) (n : ℕ) (s : Storage) → length g.locals ≡ n → IsScalar g s → IsIn (λ l. nat_lt l n) s
 scalar_in g n (storage.Global k) q h = tt
-scalar_in g n (storage.Local l) q h = subst (λ k. nat_lt l k ≡ true) q (below l (length g.locals) (slice_get_within g.locals l h.0 h.1))
+scalar_in g n (storage.Local l) q h = subst (λ k. nat_lt l k ≡ true) q (lt-ltb l (length g.locals) (slice_get_within g.locals l h.0 h.1))
 
 array_in : (p : Program) (own : ℕ) (g : Function) (n : ℕ) (s : Storage) → length g.locals ≡ n → IsArray p own g s → IsIn (λ l. nat_lt l n) s
 array_in p own g n (storage.Global k) q h = tt
-array_in p own g n (storage.Local l) q h = subst (λ k. nat_lt l k ≡ true) q (below l (length g.locals) (slice_get_within g.locals l h.0 h.2))
+array_in p own g n (storage.Local l) q h = subst (λ k. nat_lt l k ≡ true) q (lt-ltb l (length g.locals) (slice_get_within g.locals l h.0 h.2))
 
 shaped_covered : (p : Program) (own : ℕ) (g : Function) (n : ℕ) (m : Meaning) → length g.locals ≡ n → IsShaped p own g m → IsCovered (λ l. nat_lt l n) m
 shaped_covered p own g n (meaning.Object v) q h = scalar_in g n v.storage q h.0
 shaped_covered p own g n (meaning.Array a) q h = array_in p own g n a.storage q h
-shaped_covered p own g n (meaning.Function r) q h = tt
-shaped_covered p own g n (meaning.Enumerator v) q h = tt
-shaped_covered p own g n (meaning.Tag k) q h = tt
-shaped_covered p own g n (meaning.Known c) q h = tt
+shaped_covered p own g n x q h = tt
 
 -- ---- definitions
 
@@ -117,7 +106,7 @@ module _ (body_grows : BodyGrows) (parameters_fit : ParametersFit) where
     unfolding are
     has_parameters = record {
       there = subst (λ n. n ≤ length f.locals) counted (kept_shorter d.middle.locals f.locals kept);
-      scalars = subst (All (λ (l : Local). l.size ≡ None)) (sym (ap (λ n. take n f.locals) (sym counted) ∙ (kept_begins d.middle.locals f.locals kept ∙ only_those))) are.scalars.3;
+      scalars = subst (All (λ (l : Local). l.size ≡ None)) (sym (ap (λ n. take n f.locals) (sym counted) ∙ (keeps_take d.middle.locals f.locals kept ∙ only_those))) are.scalars.3;
     }
 
     module _ (p : Program) (own : ℕ) (typed : BodyIsTyped) (formed : BodyIsFormed) (declared : BodyNamesDeclared) (shapes : ParametersAreShaped)

@@ -1,6 +1,7 @@
 -- Calls that keep the rules have a property where their parts have it.
-use Rattle.std.proofs.Common.{◌≡◌, ℕ, inl, inr, Bool, true, false, not, refl, sym, ap, subst, Option, Some, None, is_some, nat_eq, nat_lt, suc, arith, if◌then◌else◌, List, [], ◌∷◌, length}
+use Rattle.std.proofs.Common.{◌≡◌, ℕ, inl, inr, Bool, true, false, not, refl, sym, ap, subst, Option, Some, None, is_some, nat_eq, nat_lt, suc, if◌then◌else◌, List, [], ◌∷◌, length}
 use Rattle.std.specs.List.{AllByRecursion}
+use Rattle.std.proofs.lemmas.Bool.{eqb-true}
 use Rattle.mv_ast.specs.declared.program.CType.{CType}
 use Rattle.mv_ast.specs.declared.program.Expr.{Expr}
 use Rattle.mv_ast.specs.declared.program.Known.{Known}
@@ -38,21 +39,11 @@ module _ (x : ExprProperty) where
 
   function_has : (a : Seen) (args : List Seen) → Fine x «use».Function a → NamesAttributed x.scope (named_index (a ∷ args))
   function_has (seen.Function r) args h = attributed_has r.attributed r refl h.1 h.0
-  function_has (seen.Value e) args h = absurd (let q = h.1 in cc)
-  function_has (seen.Object o) args h = absurd (let q = h.1 in cc)
-  function_has (seen.Array e) args h = absurd (let q = h.1 in cc)
-  function_has (seen.Designator e) args h = absurd (let q = h.1 in cc)
-  function_has (seen.Known k) args h = absurd (let q = h.1 in cc)
-  function_has (seen.Switch n) args h = absurd (let q = h.1 in cc)
+  function_has x args h = absurd (let q = h.1 in cc)
 
   named_switch_has : (a : Seen) (args : List Seen) → Fine x «use».Switch a → NamesSwitch x.scope (named_index (a ∷ args))
   named_switch_has (seen.Switch n) args h = h.0
-  named_switch_has (seen.Function r) args h = absurd (let q = h.1 in cc)
-  named_switch_has (seen.Value e) args h = absurd (let q = h.1 in cc)
-  named_switch_has (seen.Object o) args h = absurd (let q = h.1 in cc)
-  named_switch_has (seen.Array e) args h = absurd (let q = h.1 in cc)
-  named_switch_has (seen.Designator e) args h = absurd (let q = h.1 in cc)
-  named_switch_has (seen.Known k) args h = absurd (let q = h.1 in cc)
+  named_switch_has x args h = absurd (let q = h.1 in cc)
 
   planned : (code : ℕ) (b : Bool) → nat_lt code 2 ≡ b → (c : Bool) → nat_lt code 4 ≡ c → (args : List Seen) →
       AllFine (if b then «use».Value else if c then «use».Function else «use».Switch) args → nat_eq (length args) (if b then 0 else 1) ≡ true → IsPlanned x.scope code (named_index args)
@@ -69,9 +60,6 @@ module _ (x : ExprProperty) where
 
   -- ---- calls
 
-  same_number : (m n : ℕ) → nat_eq m n ≡ true → m ≡ n
-  same_number m n h = grind (arith, h)
-
   passed_count : (ts : List CType) (args : List Seen) → length args ≡ length ts → length (passed ts args) ≡ length ts
   passed_count [] [] h = refl
   passed_count (t ∷ ts) [] h = absurd (cc)
@@ -83,7 +71,7 @@ module _ (x : ExprProperty) where
   none_passed (a ∷ args) = refl
 
   known_count : (k : Known) (args : List Seen) → nat_eq (length args) (known_arity k) ≡ true → length (passed (known_params k) args) ≡ length (known_params k)
-  known_count known.Putchar args h = passed_count (int ∷ []) args (same_number (length args) 1 h)
+  known_count known.Putchar args h = passed_count (int ∷ []) args (eqb-true (length args) 1 h)
   known_count known.Getchar args h = none_passed args
   known_count known.Poll args h = none_passed args
   known_count (known.Plan code unknown) args h = none_passed args

@@ -103,12 +103,7 @@ module _ (x : ExprProperty) where
 
   pub object_has : (y : Seen) → SeenHas y → OptionHas (object_of y)
   object_has (seen.Object o) h = h
-  object_has (seen.Value e) h = tt
-  object_has (seen.Array a) h = tt
-  object_has (seen.Function r) h = tt
-  object_has (seen.Designator e) h = tt
-  object_has (seen.Known k) h = tt
-  object_has (seen.Switch n) h = tt
+  object_has x h = tt
 
   pub assign_has : (op : ℕ) (o : Option Object) (b : Expr) → OptionHas o → E b → E (assign_of op o b)
   assign_has op None b h k = nothing_has
@@ -124,12 +119,7 @@ module _ (x : ExprProperty) where
 
   pub element_has : (y : Seen) (i : Expr) → SeenHas y → E i → SeenHas (element_of (array_of y) i)
   element_has (seen.Array a) i h k = (x.element h.0 a (promoted i) h.1 (converted_has (promotion i.ctype) i k), λ n q. absurd (cc))
-  element_has (seen.Object o) i h k = nothing_has
-  element_has (seen.Value e) i h k = nothing_has
-  element_has (seen.Function r) i h k = nothing_has
-  element_has (seen.Designator e) i h k = nothing_has
-  element_has (seen.Known c) i h k = nothing_has
-  element_has (seen.Switch n) i h k = nothing_has
+  element_has x i h k = nothing_has
 
   -- ---- names
 
@@ -139,23 +129,12 @@ module _ (x : ExprProperty) where
 
   switches_has : (y : Seen) → SeenHas y → (n : ℕ) → switch_of y ≡ Some n → NamesSwitch x.scope n
   switches_has (seen.Object o) h n q = h.1 n q
-  switches_has (seen.Value e) h n q = absurd (cc)
-  switches_has (seen.Array a) h n q = absurd (cc)
-  switches_has (seen.Function r) h n q = absurd (cc)
-  switches_has (seen.Designator e) h n q = absurd (cc)
-  switches_has (seen.Known k) h n q = absurd (cc)
-  switches_has (seen.Switch s) h n q = absurd (cc)
+  switches_has x h n q = absurd (cc)
 
   address_has : (u : Use) (y : Seen) → SeenHas y → SeenHas (address_of u y)
   address_has «use».Function y h = h
   address_has «use».Switch y h = switch_has (switch_of y) (switches_has y h)
-  address_has «use».Value y h = value_has y h
-  address_has «use».Base y h = value_has y h
-  address_has «use».Callee y h = value_has y h
-  address_has «use».Place y h = value_has y h
-  address_has «use».Effect y h = value_has y h
-  address_has «use».Discarded y h = value_has y h
-  address_has «use».Address y h = value_has y h
+  address_has x y h = value_has y h
 
   pub one_has : (u : Use) (op : ℕ) (y : Seen) → SeenHas y → SeenHas (unary_seen u op y)
   one_has u op y h = by (is_address op) (is_indirection op)

@@ -1,6 +1,7 @@
 -- That each jump has its target comes from the parts of a statement.
 use Rattle.std.proofs.Common.{◌≡◌, Bool, true, false, refl, ◌∙◌, ap, List, [], ◌∷◌, map, Some, None}
 use Rattle.std.specs.List.{AllByRecursion}
+use Rattle.std.proofs.lemmas.Bool.{and_from}
 use Rattle.mv_ast.specs.declared.program.Arm.{Arm, fold_out-Arm}
 use Rattle.mv_ast.specs.declared.program.Program.{Program}
 use Rattle.mv_ast.specs.declared.program.Function.{Function}
@@ -23,14 +24,13 @@ use Rattle.mv_typed_bodies.proofs.Bodies.{body_has}
 use Rattle.mv_typed_bodies.proofs.Judging.{if_any}
 use Rattle.mv_typed_bodies.proofs.Property.{Property}
 use Rattle.mv_typed_bodies.proofs.SwitchBodies.{BodyHas, BodiesHave, arms_have, label_leaves, statement_has}
-use Rattle.mv_formed_bodies.proofs.Tests.{both}
 
 abbrev Jump : Bool → Bool → Stmt → Type 0
 Jump b c s = stmt_jumps s b c ≡ true
 
 all_have_jump : (b c : Bool) (ss : List Stmt) → AllByRecursion (Jump b c) ss → all_jump (map stmt_jumps ss) b c ≡ true
 all_have_jump b c [] h = refl
-all_have_jump b c (s ∷ ss) h = both (stmt_jumps s b c) (all_jump (map stmt_jumps ss) b c) h.0 (all_have_jump b c ss h.1)
+all_have_jump b c (s ∷ ss) h = and_from (stmt_jumps s b c) (all_jump (map stmt_jumps ss) b c) h.0 (all_have_jump b c ss h.1)
 
 abbrev layer_of : Stmt-F Stmt Arm → Jumping
 layer_of z = jumps_layer (map-Stmt Stmt Arm Jumping Jumping stmt_jumps arm_jumps z)
@@ -41,7 +41,7 @@ jumps_by w z b c o h = ap (λ (j : Jumping). j b c) (fold_out-Stmt Jumping Jumpi
 arms_jump : (c : Bool) (arms : List Arm) → AllByRecursion (BodyHas (Jump true c)) arms → all_jump (map arm_jumps arms) true c ≡ true
 arms_jump c [] h = refl
 arms_jump c (a ∷ arms) h =
-    both (arm_jumps a true c) (all_jump (map arm_jumps arms) true c)
+    and_from (arm_jumps a true c) (all_jump (map arm_jumps arms) true c)
     (ap (λ (j : Jumping). j true c) (fold_out-Arm Jumping Jumping jumps_layer arm_jumps_layer a) ∙ all_have_jump true c a.body h.0) (arms_jump c arms h.1)
 
 abbrev jumping : Program → Function → Property
@@ -63,11 +63,11 @@ jumping p f = record {
   clear_form = λ b c n l es there h. jumps_by (stmt.Clear n es) (open_stmt.Clear n es) b c (outs-Clear n es) refl;
   express_form = λ b c e h. jumps_by (stmt.Express e) (open_stmt.Express e) b c (outs-Express e) refl;
   if_form = λ b c e ss ts h i j. jumps_by (stmt.If e ss ts) (open_stmt.If e ss ts) b c (outs-If e ss ts)
-      (both (all_jump (map stmt_jumps ss) b c) (all_jump (map stmt_jumps ts) b c) (all_have_jump b c ss i) (all_have_jump b c ts j));
+      (and_from (all_jump (map stmt_jumps ss) b c) (all_jump (map stmt_jumps ts) b c) (all_have_jump b c ss i) (all_have_jump b c ts j));
   while_form = λ b c e ss h i. jumps_by (stmt.While e ss) (open_stmt.While e ss) b c (outs-While e ss) (all_have_jump true true ss i);
   do_form = λ b c ss e i h. jumps_by (stmt.Do ss e) (open_stmt.Do ss e) b c (outs-Do ss e) (all_have_jump true true ss i);
   for_form = λ b c first test step ss h i j k. jumps_by (stmt.For first test step ss) (open_stmt.For first test step ss) b c (outs-For first test step ss)
-      (both (all_jump (map stmt_jumps first) b c) (all_jump (map stmt_jumps ss) true true) (all_have_jump b c first h) (all_have_jump true true ss k));
+      (and_from (all_jump (map stmt_jumps first) b c) (all_jump (map stmt_jumps ss) true true) (all_have_jump b c first h) (all_have_jump true true ss k));
   break_form = λ c. jumps_by stmt.Break open_stmt.Break true c outs-Break refl;
   continue_form = λ b. jumps_by stmt.Continue open_stmt.Continue b true outs-Continue refl;
   nothing_form = λ b c q. jumps_by (stmt.Return None) (open_stmt.Return None) b c (outs-Return None) refl;

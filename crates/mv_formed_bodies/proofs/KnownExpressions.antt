@@ -1,5 +1,7 @@
 -- That known functions are called with their arguments comes from the parts of an expression.
-use Rattle.std.proofs.Common.{◌≡◌, ℕ, inl, inr, Bool, true, false, refl, ◌∙◌, ap, if◌then◌else◌, List, [], ◌∷◌, map, length, nat_eq, nat_lt, suc, arith}
+use Rattle.std.proofs.Common.{◌≡◌, ℕ, inl, inr, Bool, true, false, refl, ◌∙◌, ap, if◌then◌else◌, List, map, length, nat_eq, nat_lt}
+use Rattle.std.proofs.lemmas.Bool.{and_from, eq-eqb}
+use Rattle.std.proofs.lemmas.List.{length-map}
 use Rattle.mv_ast.specs.declared.program.CType.{CType}
 use Rattle.mv_ast.specs.declared.program.Program.{Program}
 use Rattle.mv_ast.specs.declared.program.Function.{Function}
@@ -27,7 +29,7 @@ use Rattle.mv_judge.specs.Calls.{known_params, with_index}
 use Rattle.mv_lowered_programs.specs.Scopes.{layer_in}
 use Rattle.mv_lowered_programs.specs.Named.{known_parameters, order_is_there, known_is_there, form_calls_known, target_in_parts, calls_known}
 use Rattle.mv_formed_bodies.specs.Formed.{AreShaped}
-use Rattle.mv_formed_bodies.proofs.Tests.{both, all_tested, all_last_tested, one_tested, two_tested, three_tested}
+use Rattle.mv_formed_bodies.proofs.Tests.{all_tested, all_last_tested, one_tested, two_tested, three_tested}
 use Rattle.mv_formed_bodies.proofs.ExprProperty.{NamesKnown, IsPlanned, IsOrder, ExprProperty}
 
 module _ (p : Program) where
@@ -36,9 +38,6 @@ module _ (p : Program) where
 
   abbrev target_fold : Target → Bool
   target_fold = fold-Target Bool Bool Bool (form_calls_known p) target_in_parts layer_in
-
-  abbrev form_fold : Form → Bool
-  form_fold = fold-Form Bool Bool Bool (form_calls_known p) target_in_parts layer_in
 
   abbrev layer_of : Form-F Form Target Expr → Bool
   layer_of z = form_calls_known p (map-Form Form Target Expr Bool Bool Bool (fold-Form Bool Bool Bool (form_calls_known p) target_in_parts layer_in) (fold-Target Bool Bool Bool (form_calls_known p) target_in_parts layer_in) (calls_known p) z)
@@ -64,9 +63,6 @@ module _ (p : Program) where
 
   -- ---- orders
 
-  same : (m n : ℕ) → m ≡ n → nat_eq m n ≡ true
-  same m n h = grind (arith, h)
-
   module _ (own : ℕ) (f : Function) (s : Scope) (shaped : AreShaped p own f s) where
     planned_there : (code n : ℕ) → nat_lt code 6 ≡ true → IsPlanned s code n → order_is_there p code n ≡ true
     planned_there code n six (inl q) = rw q refl
@@ -75,7 +71,7 @@ module _ (p : Program) where
         rw (h.0, h.1) there
     planned_there code n six (inr (inr h)) =
         let there : nat_lt n (length p.switches) ≡ true = (shaped h.2.0 (meaning.Object h.2.1) h.2.2).1 n h.2.3 in
-        rw (h.0, h.1) (both (nat_lt code 6) (nat_lt n (length p.switches)) six there)
+        rw (h.0, h.1) (and_from (nat_lt code 6) (nat_lt n (length p.switches)) six there)
 
     call_there : (k : Known) (n : ℕ) → NamesKnown s k → IsOrder s k n → known_is_there p (with_index k n) ≡ true
     call_there (Plan code unknown) n h o = planned_there code n (shaped h.0 (meaning.Known (Plan code unknown)) h.1) o
@@ -83,15 +79,11 @@ module _ (p : Program) where
     call_there Putchar n h o = refl
     call_there Poll n h o = refl
 
-    mapped : (es : List Expr) → length (map (calls_known p) es) ≡ length es
-    mapped [] = refl
-    mapped (e ∷ es) = ap suc (mapped es)
-
     count_there : (k : Known) (n : ℕ) (es : List Expr) → length es ≡ length (known_params k) → nat_eq (length (map (calls_known p) es)) (known_parameters (with_index k n)) ≡ true
-    count_there (Plan code unknown) n es h = same _ _ (mapped es ∙ h)
-    count_there Getchar n es h = same _ _ (mapped es ∙ h)
-    count_there Putchar n es h = same _ _ (mapped es ∙ h)
-    count_there Poll n es h = same _ _ (mapped es ∙ h)
+    count_there (Plan code unknown) n es h = eq-eqb _ _ (length-map es (calls_known p) ∙ h)
+    count_there Getchar n es h = eq-eqb _ _ (length-map es (calls_known p) ∙ h)
+    count_there Putchar n es h = eq-eqb _ _ (length-map es (calls_known p) ∙ h)
+    count_there Poll n es h = eq-eqb _ _ (length-map es (calls_known p) ∙ h)
 
     abbrev calling : ExprProperty
     calling = record {
@@ -115,7 +107,7 @@ module _ (p : Program) where
       direct = λ t g args h. by_form t (form.Direct g args) (open_form.Direct g args) (outs-Direct g args) (all_tested (calls_known p) args h);
       through = λ t args e h k. by_form t (form.Through args e) (open_form.Through args e) (outs-Through args e) (all_last_tested (map (calls_known p) args) (calls_known p e) (all_tested (calls_known p) args h) k);
       call = λ k n args names order count h. by_form int (form.Known (with_index k n) args) (open_form.Known (with_index k n) args) (outs-Known (with_index k n) args)
-          (both _ _ (call_there k n names order) (both _ _ (count_there k n args count) (all_tested (calls_known p) args h)));
+          (and_from _ _ (call_there k n names order) (and_from _ _ (count_there k n args count) (all_tested (calls_known p) args h)));
     }
 
   pub converted_known : (t : CType) (e : Expr) → calls_known p e ≡ true → calls_known p (converted_to t e) ≡ true

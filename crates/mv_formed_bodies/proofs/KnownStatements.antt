@@ -1,6 +1,7 @@
 -- That known functions are called with their arguments comes from the parts of a statement.
 use Rattle.std.proofs.Common.{◌≡◌, ℕ, Bool, true, refl, ◌∙◌, ap, List, [], ◌∷◌, ◌++◌, map, Option, Some, None, option_to_list}
 use Rattle.std.specs.List.{AllByRecursion}
+use Rattle.std.proofs.lemmas.Bool.{and_from}
 use Rattle.mv_ast.specs.declared.program.Arm.{Arm, fold-Arm, fold_out-Arm}
 use Rattle.mv_ast.specs.declared.program.Program.{Program}
 use Rattle.mv_ast.specs.declared.program.Function.{Function}
@@ -29,7 +30,7 @@ use Rattle.mv_typed_bodies.proofs.Property.{OfOption, Property, passage}
 use Rattle.mv_typed_bodies.proofs.SwitchBodies.{BodyHas, BodiesHave, arms_have, label_leaves, statement_has}
 use Rattle.mv_typed_bodies.proofs.Values.{initials_have}
 use Rattle.mv_formed_bodies.specs.Formed.{IsShaped, AreShaped}
-use Rattle.mv_formed_bodies.proofs.Tests.{both, all_tested, all_both_tested, one_tested, two_tested}
+use Rattle.mv_formed_bodies.proofs.Tests.{all_tested, all_both_tested, one_tested, two_tested}
 use Rattle.mv_formed_bodies.proofs.KnownExpressions.{converted_known, value_known, effect_known}
 use Rattle.mv_formed_bodies.proofs.Shapes.{scalar_shaped, array_shaped}
 
@@ -51,14 +52,14 @@ module _ (p : Program) where
 
   arms_hold : (arms : List Arm) → AllByRecursion (BodyHas H) arms → all_of (map (fold-Arm Bool Bool (all_layer (calls_known p)) all_arm_layer) arms) ≡ true
   arms_hold [] h = refl
-  arms_hold (a ∷ arms) h = both _ _ (fold_out-Arm Bool Bool (all_layer (calls_known p)) all_arm_layer a ∙ all_tested (all_expressions (calls_known p)) a.body h.0) (arms_hold arms h.1)
+  arms_hold (a ∷ arms) h = and_from _ _ (fold_out-Arm Bool Bool (all_layer (calls_known p)) all_arm_layer a ∙ all_tested (all_expressions (calls_known p)) a.body h.0) (arms_hold arms h.1)
 
   one_of : (e : Expr) → K e → all_of (map (calls_known p) (e ∷ [])) ≡ true
   one_of e h = one_tested (calls_known p e) h
 
   for_holds : (first : List Stmt) (test step : Option Expr) (ss : List Stmt) → AllByRecursion H first → OfOption K test → OfOption K step → AllByRecursion H ss →
       layer_of (open_stmt.For first test step ss) ≡ true
-  for_holds first test step ss h i j k = both _ _ (by test step i j) (all_both_tested (map (all_expressions (calls_known p)) first) (map (all_expressions (calls_known p)) ss) (all_tested _ first h) (all_tested _ ss k))
+  for_holds first test step ss h i j k = and_from _ _ (by test step i j) (all_both_tested (map (all_expressions (calls_known p)) first) (map (all_expressions (calls_known p)) ss) (all_tested _ first h) (all_tested _ ss k))
     where
       by : (a b : Option Expr) → OfOption K a → OfOption K b → all_of (map (calls_known p) (option_to_list a ++ option_to_list b)) ≡ true
       by None None l m = refl
@@ -83,20 +84,20 @@ module _ (p : Program) where
       effect = λ s k e. effect_known p own f s k.names e;
       initials = λ s k place l given. initials_have s K (λ e. value_known p own f s k.names e) (λ t e. K e) (λ t e h q. converted_known p t e h) place l given;
       block_form = λ b c ss h. holds_by (stmt.Block ss) (open_stmt.Block ss) (outs-Block ss) (all_tested holds ss h);
-      clear_form = λ b c n l es there h. holds_by (stmt.Clear n es) (open_stmt.Clear n es) (outs-Clear n es) (both _ true (all_tested (calls_known p) es h) refl);
-      express_form = λ b c e h. holds_by (stmt.Express e) (open_stmt.Express e) (outs-Express e) (both _ true (one_of e h) refl);
+      clear_form = λ b c n l es there h. holds_by (stmt.Clear n es) (open_stmt.Clear n es) (outs-Clear n es) (and_from _ true (all_tested (calls_known p) es h) refl);
+      express_form = λ b c e h. holds_by (stmt.Express e) (open_stmt.Express e) (outs-Express e) (and_from _ true (one_of e h) refl);
       if_form = λ b c e ss ts h i j. holds_by (stmt.If e ss ts) (open_stmt.If e ss ts) (outs-If e ss ts)
-          (both _ _ (one_of e h) (all_both_tested (map holds ss) (map holds ts) (all_tested holds ss i) (all_tested holds ts j)));
-      while_form = λ b c e ss h i. holds_by (stmt.While e ss) (open_stmt.While e ss) (outs-While e ss) (both _ _ (one_of e h) (all_tested holds ss i));
-      do_form = λ b c ss e i h. holds_by (stmt.Do ss e) (open_stmt.Do ss e) (outs-Do ss e) (both _ _ (one_of e h) (all_tested holds ss i));
+          (and_from _ _ (one_of e h) (all_both_tested (map holds ss) (map holds ts) (all_tested holds ss i) (all_tested holds ts j)));
+      while_form = λ b c e ss h i. holds_by (stmt.While e ss) (open_stmt.While e ss) (outs-While e ss) (and_from _ _ (one_of e h) (all_tested holds ss i));
+      do_form = λ b c ss e i h. holds_by (stmt.Do ss e) (open_stmt.Do ss e) (outs-Do ss e) (and_from _ _ (one_of e h) (all_tested holds ss i));
       for_form = λ b c first test step ss h i j k. holds_by (stmt.For first test step ss) (open_stmt.For first test step ss) (outs-For first test step ss) (for_holds first test step ss h i j k);
       break_form = λ c. holds_by stmt.Break open_stmt.Break outs-Break refl;
       continue_form = λ b. holds_by stmt.Continue open_stmt.Continue outs-Continue refl;
       nothing_form = λ b c q. holds_by (stmt.Return None) (open_stmt.Return None) (outs-Return None) refl;
       return_form = λ b c e q k h. holds_by (stmt.Return (Some (converted_to f.result e))) (open_stmt.Return (Some (converted_to f.result e))) (outs-Return (Some (converted_to f.result e)))
-          (both _ true (one_of (converted_to f.result e) (converted_known p f.result e h)) refl);
+          (and_from _ true (one_of (converted_to f.result e) (converted_known p f.result e h)) refl);
       switch_form = λ b c e y q h k. holds_by (stmt.Switch (promoted e) (arms_of y)) (open_stmt.Switch (promoted e) (arms_of y)) (outs-Switch (promoted e) (arms_of y))
-          (both _ _ (one_of (promoted e) (converted_known p (promotion e.ctype) e h)) (arms_hold (arms_of y) (arms_have H y k)));
+          (and_from _ _ (one_of (promoted e) (converted_known p (promotion e.ctype) e h)) (arms_hold (arms_of y) (arms_have H y k)));
       no_arm_form = λ c. (tt, tt);
       case_form = λ c v y h. label_leaves H y h;
       default_form = λ c y q h. label_leaves H y h;

@@ -1,6 +1,7 @@
 -- That the arms of each `switch` are labelled as they should be comes from the parts of a statement.
 use Rattle.std.proofs.Common.{◌≡◌, ℕ, Bool, true, false, not, ◌||◌, refl, ◌∙◌, ap, if◌then◌else◌, List, [], ◌∷◌, ◌++◌, map, Some, None}
 use Rattle.std.specs.List.{AllByRecursion}
+use Rattle.std.proofs.lemmas.Bool.{and_from}
 use Rattle.mv_ast.specs.declared.program.Arm.{Arm, fold_out-Arm}
 use Rattle.mv_ast.specs.declared.program.Program.{Program}
 use Rattle.mv_ast.specs.declared.program.Function.{Function}
@@ -23,10 +24,11 @@ use Rattle.mv_statement_rules.specs.Statements.{body_judgement}
 use Rattle.mv_typing.specs.Soundness.{Fits}
 use Rattle.mv_typed_bodies.specs.Bodies.{Keeps}
 use Rattle.mv_typed_bodies.proofs.Bodies.{body_has}
-use Rattle.mv_typed_bodies.proofs.Judging.{if_any, all_last}
+use Rattle.mv_typed_bodies.proofs.Judging.{if_any}
 use Rattle.mv_typed_bodies.proofs.Property.{Property}
 use Rattle.mv_typed_bodies.proofs.SwitchBodies.{BodyHas, BodiesHave, arms_have, label_leaves, statement_has}
-use Rattle.mv_formed_bodies.proofs.Tests.{both, all_tested}
+use Rattle.mv_typed_bodies.proofs.Lists.{all_last}
+use Rattle.mv_formed_bodies.proofs.Tests.{all_tested}
 
 abbrev Labelled : Stmt → Type 0
 Labelled s = stmt_labelled s ≡ true
@@ -54,11 +56,11 @@ defaults_are (a ∷ arms) = rw (ap (λ (l : ArmLabels). l.is_default) (arm_is a)
 
 labels_are : (arms : List Arm) → AllByRecursion (λ a. label_of a ≡ true) arms → all_of (map (λ (a : ArmLabels). a.is_labelled) (map arm_labels arms)) ≡ true
 labels_are [] h = refl
-labels_are (a ∷ arms) h = both _ _ (ap (λ (l : ArmLabels). l.is_labelled) (arm_is a) ∙ h.0) (labels_are arms h.1)
+labels_are (a ∷ arms) h = and_from _ _ (ap (λ (l : ArmLabels). l.is_labelled) (arm_is a) ∙ h.0) (labels_are arms h.1)
 
 bodies_hold : (arms : List Arm) → AllByRecursion (BodyHas Labelled) arms → all_of (map (λ (a : ArmLabels). a.holds) (map arm_labels arms)) ≡ true
 bodies_hold [] h = refl
-bodies_hold (a ∷ arms) h = both _ _ (ap (λ (l : ArmLabels). l.holds) (arm_is a) ∙ all_tested stmt_labelled a.body h.0) (bodies_hold arms h.1)
+bodies_hold (a ∷ arms) h = and_from _ _ (ap (λ (l : ArmLabels). l.holds) (arm_is a) ∙ all_tested stmt_labelled a.body h.0) (bodies_hold arms h.1)
 
 -- all behind the first have a label
 abbrev LaterLabelled : List Arm → Type 0
@@ -79,8 +81,8 @@ pub record AreLabelled (y : Arms) : Type 0 where
 
 arms_hold : (y : Arms) → AreLabelled y → arms_labelled (map arm_labels (arms_of y)) ≡ true
 arms_hold y h =
-    both _ _ (ap at_most_one (defaults_are (arms_of y)) ∙ h.default)
-    (both _ _ (later_hold (arms_of y) h.later) (bodies_hold (arms_of y) (arms_have Labelled y h.bodies)))
+    and_from _ _ (ap at_most_one (defaults_are (arms_of y)) ∙ h.default)
+    (and_from _ _ (later_hold (arms_of y) h.later) (bodies_hold (arms_of y) (arms_have Labelled y h.bodies)))
 
 -- the last of some arms gets another label, or an arm with a label comes behind them
 last_labelled : (arms : List Arm) (a b : Arm) → label_of b ≡ true → LaterLabelled (arms ++ a ∷ []) → LaterLabelled (arms ++ b ∷ [])
@@ -230,11 +232,11 @@ labelling p f = record {
   block_form = λ b c ss h. labelled_by (stmt.Block ss) (open_stmt.Block ss) (outs-Block ss) (all_tested stmt_labelled ss h);
   clear_form = λ b c n l es there h. labelled_by (stmt.Clear n es) (open_stmt.Clear n es) (outs-Clear n es) refl;
   express_form = λ b c e h. labelled_by (stmt.Express e) (open_stmt.Express e) (outs-Express e) refl;
-  if_form = λ b c e ss ts h i j. labelled_by (stmt.If e ss ts) (open_stmt.If e ss ts) (outs-If e ss ts) (both _ _ (all_tested stmt_labelled ss i) (all_tested stmt_labelled ts j));
+  if_form = λ b c e ss ts h i j. labelled_by (stmt.If e ss ts) (open_stmt.If e ss ts) (outs-If e ss ts) (and_from _ _ (all_tested stmt_labelled ss i) (all_tested stmt_labelled ts j));
   while_form = λ b c e ss h i. labelled_by (stmt.While e ss) (open_stmt.While e ss) (outs-While e ss) (all_tested stmt_labelled ss i);
   do_form = λ b c ss e i h. labelled_by (stmt.Do ss e) (open_stmt.Do ss e) (outs-Do ss e) (all_tested stmt_labelled ss i);
   for_form = λ b c first test step ss h i j k. labelled_by (stmt.For first test step ss) (open_stmt.For first test step ss) (outs-For first test step ss)
-      (both _ _ (all_tested stmt_labelled first h) (all_tested stmt_labelled ss k));
+      (and_from _ _ (all_tested stmt_labelled first h) (all_tested stmt_labelled ss k));
   break_form = λ c. labelled_by stmt.Break open_stmt.Break outs-Break refl;
   continue_form = λ b. labelled_by stmt.Continue open_stmt.Continue outs-Continue refl;
   nothing_form = λ b c q. labelled_by (stmt.Return None) (open_stmt.Return None) (outs-Return None) refl;

@@ -1,7 +1,9 @@
 -- That an expression names what there is comes from its parts, and from its being well typed.
-use Rattle.std.proofs.Common.{◌≡◌, ℕ, ◌<◌, Bool, true, false, not, ◌||◌, refl, sym, ◌∙◌, ap, subst, if◌then◌else◌, List, [], ◌∷◌, map, length, nat_eq, nat_lt, arith}
+use Rattle.std.proofs.Common.{◌≡◌, ℕ, Bool, true, false, not, ◌||◌, refl, sym, ◌∙◌, ap, subst, if◌then◌else◌, List, [], ◌∷◌, map, length, nat_eq}
 use Rattle.std.specs.List.{AllByRecursion}
 use Rattle.std.proofs.lemmas.Option.{slice_get_within}
+use Rattle.std.proofs.lemmas.Bool.{and_from, or_parts, eq-eqb, lt-ltb}
+use Rattle.std.proofs.lemmas.List.{length-map}
 use Rattle.mv_ast.specs.declared.program.CType.{CType}
 use Rattle.mv_ast.specs.declared.program.Program.{Program}
 use Rattle.mv_ast.specs.declared.program.Function.{Function}
@@ -28,8 +30,7 @@ use Rattle.mv_lowering.specs.Lower.{all_of, is_scalar, names_target, names_form,
 use Rattle.mv_lowering.specs.Functions.{size_of_local, size_in}
 use Rattle.mv_typed_bodies.proofs.Judging.{IfGood}
 use Rattle.mv_formed_bodies.specs.Formed.{IsScalar, IsArray, AreShaped, HasParameters}
-use Rattle.mv_formed_bodies.proofs.Tests.{both}
-use Rattle.mv_formed_bodies.proofs.Counted.{or_false, any_last, same_number, mapped, callable}
+use Rattle.mv_formed_bodies.proofs.Counted.{any_last, callable}
 use Rattle.mv_formed_bodies.proofs.ExprProperty.{ExprProperty}
 use Rattle.mv_formed_bodies.proofs.ExprJudged.{value_kept, effect_kept}
 
@@ -106,33 +107,30 @@ module _ (p : Program) (own : ℕ) (f : Function) where
 
   -- ---- lvalues
 
-  below : (l n : ℕ) → l < n → nat_lt l n ≡ true
-  below l n h = grind (arith, h)
-
   -- a local that is named is free
   is_free : (free : ℕ → Bool) (l : ℕ) (rest : ℕ → Bool) → ((k : ℕ) → free k ≡ false → (nat_eq l k || rest k) ≡ false) → free l ≡ true
   is_free free l rest h = by (free l) refl
     where
       by : (b : Bool) → free l ≡ b → b ≡ true
       by true q = refl
-      by false q = absurd (let r : nat_eq l l ≡ false = (or_false (nat_eq l l) (rest l) (h l q)).0 in let s : nat_eq l l ≡ true = same_number l l refl in cc)
+      by false q = absurd (let r : nat_eq l l ≡ false = (or_parts (nat_eq l l) (rest l) (h l q)).0 in let s : nat_eq l l ≡ true = eq-eqb l l refl in cc)
 
   object_named : (s : Storage) → IsScalar f s → IsNamedTarget (object_at s)
   object_named (storage.Global g) h = by_target _ (open_form.Global g) (outs-Global g) (λ parts free apart. refl)
   object_named (storage.Local l) h =
       by_target _ (open_form.Local l) (outs-Local l) (λ parts free apart.
-      both _ _ (below l (length f.locals) (slice_get_within f.locals l h.0 h.1))
-      (both _ _ (is_free free l (λ k. false) apart) (ap (λ o. is_scalar (size_of_local o)) h.1 ∙ ap is_scalar h.2)))
+      and_from _ _ (lt-ltb l (length f.locals) (slice_get_within f.locals l h.0 h.1))
+      (and_from _ _ (is_free free l (λ k. false) apart) (ap (λ o. is_scalar (size_of_local o)) h.1 ∙ ap is_scalar h.2)))
 
   element_named : (s : Storage) (i : Expr) → IsArray p own f s → IsNamed i → IsNamedTarget (element_at s i)
   element_named (storage.Global g) i h k =
       by_target _ (open_form.GlobalAt g i) (outs-GlobalAt g i) (λ parts free apart.
-      both _ _ (ap not h) (k parts free (λ l q. (or_false _ _ (or_false false _ (apart l q)).1).0)))
+      and_from _ _ (ap not h) (k parts free (λ l q. (or_parts _ _ (or_parts false _ (apart l q)).1).0)))
   element_named (storage.Local m) i h k =
       by_target _ (open_form.LocalAt m i) (outs-LocalAt m i) (λ parts free apart.
-      both _ _ (below m (length f.locals) (slice_get_within f.locals m h.0 h.2))
-      (both _ _ (is_free free m (λ k. names_local k i || false) apart)
-      (both _ _ (ap (λ o. not (is_scalar (size_of_local o))) h.2 ∙ ap (λ o. not (is_scalar o)) h.3) (k parts free (λ l q. (or_false _ _ (or_false (nat_eq m l) _ (apart l q)).1).0)))))
+      and_from _ _ (lt-ltb m (length f.locals) (slice_get_within f.locals m h.0 h.2))
+      (and_from _ _ (is_free free m (λ k. names_local k i || false) apart)
+      (and_from _ _ (ap (λ o. not (is_scalar (size_of_local o))) h.2 ∙ ap (λ o. not (is_scalar o)) h.3) (k parts free (λ l q. (or_parts _ _ (or_parts (nat_eq m l) _ (apart l q)).1).0)))))
 
   -- ---- arguments
 
@@ -140,11 +138,11 @@ module _ (p : Program) (own : ℕ) (f : Function) where
       all_of (map (named_expr free) args) ≡ true
   all_named [] h t free apart = refl
   all_named (e ∷ es) h t free apart =
-      both _ _ (h.0 t.0 free (λ l q. (or_false (names_local l e) (any_of (map (names_local l) es)) (apart l q)).0))
-      (all_named es h.1 t.1 free (λ l q. (or_false (names_local l e) (any_of (map (names_local l) es)) (apart l q)).1))
+      and_from _ _ (h.0 t.0 free (λ l q. (or_parts (names_local l e) (any_of (map (names_local l) es)) (apart l q)).0))
+      (all_named es h.1 t.1 free (λ l q. (or_parts (names_local l e) (any_of (map (names_local l) es)) (apart l q)).1))
 
   convert_named : (t : CType) (a : Expr) → IsNamed a → IsNamed (typed t (form.Convert a))
-  convert_named t a h = by_form t (form.Convert a) (open_form.Convert a) (outs-Convert a) (λ parts node free apart. h parts free (λ k q. (or_false _ _ (apart k q)).0))
+  convert_named t a h = by_form t (form.Convert a) (open_form.Convert a) (outs-Convert a) (λ parts node free apart. h parts free (λ k q. (or_parts _ _ (apart k q)).0))
 
   pub converted_named : (t : CType) (e : Expr) → IsNamed e → IsNamed (converted_to t e)
   unfolding converted_to
@@ -166,27 +164,27 @@ module _ (p : Program) (own : ℕ) (f : Function) where
       element = λ name a i q h. element_named a.storage i (shaped name (meaning.Array a) q) h;
       number = λ t n. by_form t (form.Number n) (open_form.Number n) (outs-Number n) (λ parts node free apart. refl);
       function = λ t g. by_form t (form.Function g) (open_form.Function g) (outs-Function g) (λ parts node free apart. refl);
-      read = λ t l h. by_form t (form.Read l) (open_form.Read l) (outs-Read l) (λ parts node free apart. h parts free (λ k q. (or_false _ _ (apart k q)).0));
-      unary = λ t op a h. by_form t (form.Unary op a) (open_form.Unary op a) (outs-Unary op a) (λ parts node free apart. h parts free (λ k q. (or_false _ _ (apart k q)).0));
+      read = λ t l h. by_form t (form.Read l) (open_form.Read l) (outs-Read l) (λ parts node free apart. h parts free (λ k q. (or_parts _ _ (apart k q)).0));
+      unary = λ t op a h. by_form t (form.Unary op a) (open_form.Unary op a) (outs-Unary op a) (λ parts node free apart. h parts free (λ k q. (or_parts _ _ (apart k q)).0));
       binary = λ t op a b h i. by_form t (form.Binary op a b) (open_form.Binary op a b) (outs-Binary op a b) (λ parts node free apart.
-          both _ _ (h parts.0 free (λ k q. (or_false _ _ (apart k q)).0)) (i parts.1 free (λ k q. (or_false _ _ (or_false _ _ (apart k q)).1).0)));
+          and_from _ _ (h parts.0 free (λ k q. (or_parts _ _ (apart k q)).0)) (i parts.1 free (λ k q. (or_parts _ _ (or_parts _ _ (apart k q)).1).0)));
       both = λ t a b h i. by_form t (form.Both a b) (open_form.Both a b) (outs-Both a b) (λ parts node free apart.
-          both _ _ (h parts.0 free (λ k q. (or_false _ _ (apart k q)).0)) (i parts.1 free (λ k q. (or_false _ _ (or_false _ _ (apart k q)).1).0)));
+          and_from _ _ (h parts.0 free (λ k q. (or_parts _ _ (apart k q)).0)) (i parts.1 free (λ k q. (or_parts _ _ (or_parts _ _ (apart k q)).1).0)));
       either = λ t a b h i. by_form t (form.Either a b) (open_form.Either a b) (outs-Either a b) (λ parts node free apart.
-          both _ _ (h parts.0 free (λ k q. (or_false _ _ (apart k q)).0)) (i parts.1 free (λ k q. (or_false _ _ (or_false _ _ (apart k q)).1).0)));
+          and_from _ _ (h parts.0 free (λ k q. (or_parts _ _ (apart k q)).0)) (i parts.1 free (λ k q. (or_parts _ _ (or_parts _ _ (apart k q)).1).0)));
       choose = λ t c a b g h i. by_form t (form.Choose c a b) (open_form.Choose c a b) (outs-Choose c a b) (λ parts node free apart.
-          both _ _ (g parts.0 free (λ k q. (or_false _ _ (apart k q)).0)) (both _ _ (h parts.1 free (λ k q. (or_false _ _ (or_false _ _ (apart k q)).1).0))
-          (i parts.2 free (λ k q. (or_false _ _ (or_false _ _ (or_false _ _ (apart k q)).1).1).0))));
+          and_from _ _ (g parts.0 free (λ k q. (or_parts _ _ (apart k q)).0)) (and_from _ _ (h parts.1 free (λ k q. (or_parts _ _ (or_parts _ _ (apart k q)).1).0))
+          (i parts.2 free (λ k q. (or_parts _ _ (or_parts _ _ (or_parts _ _ (apart k q)).1).1).0))));
       convert = λ t a h. convert_named t a h;
       assign = λ t l a h i. by_form t (form.Set l a) (open_form.Set l a) (outs-Set l a) (λ parts node free apart.
-          both _ _ (h parts.0 free (λ k q. (or_false _ _ (apart k q)).0)) (i parts.1 free (λ k q. (or_false _ _ (or_false _ _ (apart k q)).1).0)));
+          and_from _ _ (h parts.0 free (λ k q. (or_parts _ _ (apart k q)).0)) (i parts.1 free (λ k q. (or_parts _ _ (or_parts _ _ (apart k q)).1).0)));
       change = λ t op kind l a h i. by_form t (form.Change op kind l a) (open_form.Change op kind l a) (outs-Change op kind l a) (λ parts node free apart.
-          both _ _ (h parts.0 free (λ k q. (or_false _ _ (apart k q)).0)) (i parts.1 free (λ k q. (or_false _ _ (or_false _ _ (apart k q)).1).0)));
-      after = λ t up l h. by_form t (form.After up l) (open_form.After up l) (outs-After up l) (λ parts node free apart. h parts free (λ k q. (or_false _ _ (apart k q)).0));
+          and_from _ _ (h parts.0 free (λ k q. (or_parts _ _ (apart k q)).0)) (i parts.1 free (λ k q. (or_parts _ _ (or_parts _ _ (apart k q)).1).0)));
+      after = λ t up l h. by_form t (form.After up l) (open_form.After up l) (outs-After up l) (λ parts node free apart. h parts free (λ k q. (or_parts _ _ (apart k q)).0));
       direct = λ t g args h. by_form t (form.Direct g args) (open_form.Direct g args) (outs-Direct g args) (λ parts node free apart.
-          both _ _ (callable p has g node.0 t args _ (mapped (named_expr free) args) node.1 node.2 node.3) (all_named args h parts free apart));
+          and_from _ _ (callable p has g node.0 t args _ (length-map args (named_expr free)) node.1 node.2 node.3) (all_named args h parts free apart));
       through = λ t args e h i. by_form t (form.Through args e) (open_form.Through args e) (outs-Through args e) (λ parts node free apart.
-          both _ _ (all_named args h parts.0 free (λ k q. (any_last (map (names_local k) args) (names_local k e) (apart k q)).0))
+          and_from _ _ (all_named args h parts.0 free (λ k q. (any_last (map (names_local k) args) (names_local k e) (apart k q)).0))
           (i parts.1 free (λ k q. (any_last (map (names_local k) args) (names_local k e) (apart k q)).1)));
       call = λ k n args names order count h. by_form int (form.Known (with_index k n) args) (open_form.Known (with_index k n) args) (outs-Known (with_index k n) args)
           (λ parts node free apart. all_named args h parts free apart);

@@ -8,14 +8,13 @@ ghost use Rattle.mv_formed_bodies.specs.Definitions.{DefinitionHasParameters, De
 ghost use Rattle.mv_formed_bodies.specs.Formed.{BodyIsFormed, ParametersAreShaped};
 
 use mv_typed_bodies::{good_bodies_are_typed, good_parameters_fit};
-use mv_typing::{constants_come_to_their_values, good_expressions_are_typed};
+use mv_typing::good_expressions_are_typed;
 
 /// The statements of a body that keeps the rules (C11 6.8) name what the program has and call known functions with their arguments, each
 /// jump has its target, and the arms of each `switch` have labels. The call does nothing: its contract is the law.
 pub fn good_bodies_are_well_formed()
     ensures { BodyIsFormed }
 {
-    constants_come_to_their_values();
     good_expressions_are_typed();
 }
 

@@ -3,6 +3,7 @@ use Rattle.std.proofs.Common.{◌≡◌, ◌≢◌, ℕ, arith, ◌⊎◌, inl, 
 use Rattle.std.specs.List.{AllByRecursion}
 use Rattle.std.proofs.lemmas.List.Quantifiers.{all_pairs_push}
 use Rattle.std.proofs.lemmas.List.Elements.{All-get_or, All-from_recursion}
+use Rattle.std.proofs.lemmas.Bool.{not-false, or_parts}
 use Rattle.mv_num.specs.declared.kind.Kind.{Kind}
 use Rattle.mv_num.specs.declared.kind.Kind.TheVariants.{Int}
 use Rattle.mv_ast.specs.declared.place.Place.{Place}
@@ -19,8 +20,9 @@ use Rattle.mv_declare.specs.declared.attributes.Attribute.{Attribute}
 use Rattle.mv_declare.specs.declared.attributes.Holder.{Holder}
 use Rattle.mv_declare.specs.Attributes.{fits, with_value, domain_value, domain, given_domain, holds, held, attribute, attributes}
 use Rattle.mv_declare.specs.Globals.{distinct_behind, values_of_enumeration, default_domain, domain_or, domain_of}
-use Rattle.mv_typed_bodies.proofs.Judging.{IfGood, if_any, if_then, if_kept, if_more, if_through, each_any, not_false, all_last}
-use Rattle.mv_formed_globals.proofs.Tests.{if_given, not_same, or_false, all_more}
+use Rattle.mv_typed_bodies.proofs.Judging.{IfGood, if_any, if_then, if_kept, if_more, if_through}
+use Rattle.mv_typed_bodies.proofs.Lists.{each_any, all_last, all_more}
+use Rattle.mv_formed_globals.proofs.Tests.{if_given, not_same}
 use Rattle.mv_formed_globals.proofs.Values.{IsOf, int_is, no_is, yes_is}
 
 -- different values that have a property
@@ -30,7 +32,7 @@ pub record IsDomain (V : ℕ → Type 0) (vs : List ℕ) : Type 0 where
 
 not_among : (v : ℕ) (vs : List ℕ) → is_among v vs ≡ false → AllByRecursion (λ w. w ≢ v) vs
 not_among v [] h = tt
-not_among v (w ∷ ws) h = let r = or_false (nat_eq v w) (is_among v ws) h in (not_same v w r.0, not_among v ws r.1)
+not_among v (w ∷ ws) h = let r = or_parts (nat_eq v w) (is_among v ws) h in (not_same v w r.0, not_among v ws r.1)
 
 abbrev OptionDomain : (ℕ → Type 0) → Option (List ℕ) → Type 0
 OptionDomain V None = Unit {0}
@@ -66,7 +68,7 @@ module _ (V : ℕ → Type 0) where
     unfolding with_value
     with_kept place vs c h =
         if_kept (IsDomain V) (not (fits kind c) || is_among c.value vs) place 16 (Good (vs ++ c.value ∷ [])) (λ q.
-        let r = or_false (not (fits kind c)) (is_among c.value vs) q in one_more vs c.value h (admits c (not_false (fits kind c) r.0)) r.1)
+        let r = or_parts (not (fits kind c)) (is_among c.value vs) q in one_more vs c.value h (admits c (not-false (fits kind c) r.0)) r.1)
 
     abbrev Next : List ℕ → List ℕ → Type 0
     Next vs ws = IsDomain V vs → IsDomain V ws
@@ -90,7 +92,7 @@ module _ (V : ℕ → Type 0) where
       unfolding held
       held_is place before a h =
           if_kept (IsHeld G V) (is_some before || not (holds holder a)) place 14 (Good (Some a))
-          (λ q. (holding a (not_false (holds holder a) (or_false (is_some before) (not (holds holder a)) q).1), h))
+          (λ q. (holding a (not-false (holds holder a) (or_parts (is_some before) (not (holds holder a)) q).1), h))
 
       abbrev HeldNext : Option Attribute → Option Attribute → Type 0
       HeldNext x y = IsHeld G V x → IsHeld G V y

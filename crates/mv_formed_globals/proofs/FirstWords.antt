@@ -1,7 +1,8 @@
 -- The words that a global is given are first values of its type.
-use Rattle.std.proofs.Common.{◌≡◌, ℕ, suc, ◌+◌, arith, ◌⊎◌, inl, inr, Bool, true, false, not, ◌&&◌, ◌||◌, refl, sym, ◌∙◌, subst, is_some, if◌then◌else◌, List, [], ◌∷◌, ◌++◌, map, length, Option, Some, None}
+use Rattle.std.proofs.Common.{◌≡◌, ℕ, suc, ◌+◌, arith, ◌⊎◌, inl, inr, Bool, true, false, not, ◌||◌, refl, sym, ◌∙◌, subst, is_some, if◌then◌else◌, List, [], ◌∷◌, ◌++◌, map, length, Option, Some, None}
 use Rattle.std.specs.List.{AllByRecursion}
 use Rattle.std.proofs.lemmas.List.Elements.{All-from_recursion}
+use Rattle.std.proofs.lemmas.Bool.{not-false, and_parts, eqb-true, or_parts}
 use Rattle.mv_ast.specs.declared.place.Place.{Place}
 use Rattle.mv_ast.specs.declared.program.CType.{CType}
 use Rattle.mv_ast.specs.declared.program.CType.TheVariants.{Void, Scalar, Pointer}
@@ -27,29 +28,18 @@ use Rattle.mv_declare.specs.Initials.{has_room}
 use Rattle.mv_numbering.specs.Typing.{ComesTo, HasType, IsFunctionOf, IsFirstValue}
 use Rattle.mv_numbering.proofs.Typed.{TypedExpr, expr_node}
 use Rattle.mv_typing.specs.Soundness.{Fits, GoodIsTyped}
-use Rattle.mv_typed_bodies.proofs.Judging.{IfGood, of_good, by_good, if_then, if_kept, if_more, if_through, each_any, not_false, and_true, all_last}
+use Rattle.mv_typing.proofs.Converted.{to_pointer}
+use Rattle.mv_typing.proofs.Types.{same_is}
+use Rattle.mv_typed_bodies.proofs.Judging.{IfGood, of_good, by_good, if_then, if_kept, if_more, if_through}
+use Rattle.mv_typed_bodies.proofs.Lists.{each_any, all_last}
 use Rattle.mv_formed_globals.specs.FirstValues.{FirstValuesAreTyped}
-use Rattle.mv_formed_globals.proofs.Tests.{same_number, same_is, or_false}
 use Rattle.mv_formed_globals.proofs.Nulls.{pointer_null}
 
 -- a word is one more than the number of the function that an expression names, or the value of a constant
 word_case : (x : Form-F Form Target Expr) (o : Option ℕ) (w : ℕ) → address_or (address_form x) o ≡ Some w →
     ((g : ℕ) × (x ≡ form.Function g) × (w ≡ g + 1)) ⊎ (o ≡ Some w)
 word_case (form.Function g) o w h = inl (g, refl, cc)
-word_case (form.Number n) o w h = inr h
-word_case (form.Read t) o w h = inr h
-word_case (form.Unary op a) o w h = inr h
-word_case (form.Binary op a b) o w h = inr h
-word_case (form.Both a b) o w h = inr h
-word_case (form.Either a b) o w h = inr h
-word_case (form.Choose c a b) o w h = inr h
-word_case (form.Convert a) o w h = inr h
-word_case (form.Set t a) o w h = inr h
-word_case (form.Change op kind t a) o w h = inr h
-word_case (form.After up t) o w h = inr h
-word_case (form.Direct g args) o w h = inr h
-word_case (form.Through args callee) o w h = inr h
-word_case (form.Known k args) o w h = inr h
+word_case x o w h = inr h
 
 value_is : (b : Bool) (r : Option ℕ) (w : ℕ) → (if b then r else None) ≡ Some w → r ≡ Some w
 value_is true r w h = h
@@ -57,12 +47,7 @@ value_is false r w h = absurd (cc)
 
 zero_is : (o : Option ℕ) (w : ℕ) → o ≡ Some w → is_zero o ≡ true → w ≡ 0
 zero_is None w h k = absurd (cc)
-zero_is (Some n) w h k = let q : n ≡ w = cc in sym q ∙ same_number n 0 k
-
-to_pointer : (a b c : Bool) → ((a && false) || (true && (b || c))) ≡ true → (b ≡ true) ⊎ (c ≡ true)
-to_pointer a true c h = inl refl
-to_pointer true false c h = inr h
-to_pointer false false c h = inr h
+zero_is (Some n) w h k = let q : n ≡ w = cc in sym q ∙ eqb-true n 0 k
 
 no_pointer : (t : CType) (s : ℕ) → is_integer t ≡ true → t ≡ Pointer s → ⊥
 no_pointer t s h q = let r : is_integer (Pointer s) ≡ true = subst (λ z. is_integer z ≡ true) q h in cc
@@ -81,12 +66,12 @@ module _ (p : Program) (f : Function) (comes : (e : Expr) (v : ℕ) → computed
       inr (g, r ∙ next, subst (λ n. IsFunctionOf p n g) same x.2)
   address_first s e g w h q r (inr k) =
       let x = function_typed e g h q in
-      absurd (no_pointer e.ctype x.0 (and_true (is_integer e.ctype) (is_zero (constant_value e)) k).0 x.1)
+      absurd (no_pointer e.ctype x.0 (and_parts (is_integer e.ctype) (is_zero (constant_value e)) k).0 x.1)
 
   constant_first : (s : ℕ) (e : Expr) (w : ℕ) → TypedExpr p f e → constant_value e ≡ Some w →
       (same_type e.ctype (Pointer s) ≡ true) ⊎ (is_null e ≡ true) → IsFirstValue p (Pointer s) w
   constant_first s e w h q (inl k) = inl (pointer_null p f comes e h s (same_is e.ctype (Pointer s) k) w (value_is (is_constant e) (computed e) w q))
-  constant_first s e w h q (inr k) = inl (zero_is (constant_value e) w q (and_true (is_integer e.ctype) (is_zero (constant_value e)) k).1)
+  constant_first s e w h q (inr k) = inl (zero_is (constant_value e) w q (and_parts (is_integer e.ctype) (is_zero (constant_value e)) k).1)
 
   either_first : (s : ℕ) (e : Expr) (w : ℕ) → TypedExpr p f e → (same_type e.ctype (Pointer s) ≡ true) ⊎ (is_null e ≡ true) →
       ((g : ℕ) × (out-Form e.what ≡ form.Function g) × (w ≡ g + 1)) ⊎ (constant_value e ≡ Some w) → IsFirstValue p (Pointer s) w
@@ -116,7 +101,7 @@ module _ (p : Program) (f : Function) (comes : (e : Expr) (v : ℕ) → computed
     more_first : (place : Place) (x : Words) (e : Expr) (o : Option ℕ) → constant_word e ≡ o → TypedExpr p f e → IfGood (word_or_broken place t x e o) (Next x)
     more_first place x e None q h = tt
     more_first place x e (Some w) q h = λ k a.
-        let b = and_true x.all (converts e t) a in
+        let b = and_parts x.all (converts e t) a in
         all_last (IsFirstValue p t) x.words (converted t w) (k b.0) (word_first t e w h q b.1)
 
     node_first : (node : Node) (x : Words) → IfGood (first_word t s node x) (Next x)
@@ -132,13 +117,13 @@ module _ (p : Program) (f : Function) (comes : (e : Expr) (v : ℕ) → computed
     single_first : (place : Place) (size : Option ℕ) (x : Words) → IfAll x → IfGood (single_word place size x) AreFirst
     unfolding single_word
     single_first place size x h =
-        if_kept AreFirst (is_some size || not x.all) place 5 (Good x.words) (λ q. h (not_false x.all (or_false (is_some size) (not x.all) q).1))
+        if_kept AreFirst (is_some size || not x.all) place 5 (Good x.words) (λ q. h (not-false x.all (or_parts (is_some size) (not x.all) q).1))
 
     listed_first : (place : Place) (size : Option ℕ) (x : Words) → IfAll x → IfGood (listed_words place size x) AreFirst
     unfolding listed_words
     listed_first place size x h =
         if_kept AreFirst (not x.all) place 5 _ (λ q.
-        if_kept AreFirst (not (has_room size (length x.words))) place 10 (Good x.words) (λ r. h (not_false x.all q)))
+        if_kept AreFirst (not (has_room size (length x.words))) place 10 (Good x.words) (λ r. h (not-false x.all q)))
 
   -- characters are integers
   characters_first : (t : CType) (ws : List ℕ) → is_char t ≡ true → AllByRecursion (IsFirstValue p t) ws
@@ -152,7 +137,7 @@ module _ (p : Program) (f : Function) (comes : (e : Expr) (v : ℕ) → computed
   string_first place l bytes =
       if_kept (AllByRecursion (IsFirstValue p l.ctype)) (not (string_fits l (length bytes))) place 10 _ (λ q.
       characters_first l.ctype (map (converted l.ctype) bytes ++ (if room_behind l.size (length bytes) then 0 ∷ [] else []))
-      (and_true (is_char l.ctype) (has_room l.size (length bytes)) (not_false (string_fits l (length bytes)) q)).0)
+      (and_parts (is_char l.ctype) (has_room l.size (length bytes)) (not-false (string_fits l (length bytes)) q)).0)
 
   module _ (typed : (scope : Scope) (node : Node) (e : Expr) → Fits p f scope → value_judgement scope node ≡ Good e → TypedExpr p f e)
       (s : Scope) (fits : Fits p f s) where

@@ -1,26 +1,22 @@
 -- A constant of a pointer type is null: it comes to 0.
-use Rattle.std.proofs.Common.{◌≡◌, ℕ, ◌⊎◌, inl, inr, Bool, true, false, refl, sym, ◌∙◌, ap, subst, [], Option, Some, None, if◌then◌else◌, nat_eq}
-use Rattle.mv_ast.specs.declared.program.CType.{CType}
+use Rattle.std.proofs.Common.{◌≡◌, ℕ, ◌⊎◌, inl, inr, Bool, true, false, sym, ◌∙◌, ap, subst, [], Option, Some, None, if◌then◌else◌, nat_eq}
 use Rattle.mv_ast.specs.declared.program.CType.TheVariants.{Pointer}
 use Rattle.mv_ast.specs.declared.program.Program.{Program}
 use Rattle.mv_ast.specs.declared.program.Function.{Function}
-use Rattle.mv_ast.specs.declared.program.Expr.{Expr, Expr-F, roll-Expr, map-Expr, ind-Expr, fold_out-Expr}
-use Rattle.mv_ast.specs.declared.program.Form.{Form, Form-F, roll-Form, out-Form, out-roll-Form, map-Form, fold-Form, fold_out-Form}
+use Rattle.mv_ast.specs.declared.program.Expr.{Expr, Expr-F, roll-Expr, map-Expr, ind-Expr}
+use Rattle.mv_ast.specs.declared.program.Form.{Form, Form-F, roll-Form, out-Form, out-roll-Form, map-Form}
 use Rattle.mv_ast.specs.declared.program.Form.TheOpen as form
-use Rattle.mv_ast.specs.declared.program.Target.{Target, Target-F, roll-Target, map-Target, fold-Target}
+use Rattle.mv_ast.specs.declared.program.Target.{Target, Target-F, roll-Target, map-Target}
 use Rattle.mv_ast.specs.Operators.{converted}
 use Rattle.mv_ast.specs.Worlds.{World, Came}
-use Rattle.mv_scope.specs.Constants.{Evaluated, of_one, by_test, value_form, value_target, value_expr, evaluated, computed}
+use Rattle.mv_scope.specs.Constants.{by_test, value_form, computed}
 use Rattle.mv_meaning.specs.declared.state.Frame.{Frame}
 use Rattle.mv_meaning.specs.Meaning.{context_at}
 use Rattle.mv_numbering.specs.Typing.{ComesTo, ConvertsTo, HasType}
 use Rattle.mv_numbering.proofs.Typed.{TypedExpr, FormParts, form_parts, expr_form, expr_node}
+use Rattle.mv_typing.proofs.Computed.{from_one, layer_of, computed_is}
 
 -- ---- what a computed value comes from
-
-from_one : (r : Option ℕ) (f : ℕ → ℕ) (v : ℕ) → of_one r f ≡ Some v → (u : ℕ) × (r ≡ Some u) × (f u ≡ v)
-from_one None f v h = absurd (cc)
-from_one (Some u) f v h = (u, refl, cc)
 
 from_test : (r s t : Option ℕ) (v : ℕ) → by_test r s t ≡ Some v → (s ≡ Some v) ⊎ (t ≡ Some v)
 from_test None s t v h = absurd (cc)
@@ -29,17 +25,6 @@ from_test (Some x) s t v h = by (nat_eq x 0) h
     by : (b : Bool) → (if b then t else s) ≡ Some v → (s ≡ Some v) ⊎ (t ≡ Some v)
     by true g = inr g
     by false g = inl g
-
-abbrev layer_of : Form-F Form Target Expr → Form-F (CType → Option ℕ) (Unit {0}) Evaluated
-layer_of = map-Form Form Target Expr (CType → Option ℕ) (Unit {0}) Evaluated
-    (fold-Form (CType → Option ℕ) (Unit {0}) Evaluated value_form value_target value_expr)
-    (fold-Target (CType → Option ℕ) (Unit {0}) Evaluated value_form value_target value_expr) evaluated
-
-computed_is : (e : Expr) (z : Form-F Form Target Expr) → out-Form e.what ≡ z → computed e ≡ value_form (layer_of z) e.ctype
-computed_is e z h =
-    ap (λ s. s.value) (fold_out-Expr (CType → Option ℕ) (Unit {0}) Evaluated value_form value_target value_expr e) ∙
-    (ap (λ g. g e.ctype) (fold_out-Form (CType → Option ℕ) (Unit {0}) Evaluated value_form value_target value_expr e.what) ∙
-    ap (λ y. value_form (layer_of y) e.ctype) h)
 
 -- ---- by induction over the expression
 
@@ -89,8 +74,6 @@ module _ (p : Program) (f : Function) (comes : (e : Expr) (v : ℕ) → computed
 
     by_form : (y : Form-F F T E) → FormParts p f (below y) → HasType p f (Pointer s) (below y) → value_form (layer_of (below y)) (Pointer s) ≡ Some v → v ≡ 0
     by_form (form.Number n) h t w = let q : n ≡ v = cc in sym q ∙ t
-    by_form (form.Read x) h t w = absurd (cc)
-    by_form (form.Function g) h t w = absurd (cc)
     by_form (form.Unary op a) h t w = absurd t.0
     by_form (form.Binary op a b) h t w = absurd t.0
     by_form (form.Both a b) h t w = absurd t
@@ -98,12 +81,7 @@ module _ (p : Program) (f : Function) (comes : (e : Expr) (v : ℕ) → computed
     by_form (form.Choose c a b) h t w = choose_null a.0 b.0 a.1 b.1 h.1 h.2 t.0 t.1 (from_test (computed c.0) (computed a.0) (computed b.0) v w)
     by_form (form.Convert a) h t w =
         let r = from_one (computed a.0) (converted (Pointer s)) v w in sym r.2 ∙ convert_null a.0 a.1 h t r.0 r.1
-    by_form (form.Set x a) h t w = absurd (cc)
-    by_form (form.Change op kind x a) h t w = absurd (cc)
-    by_form (form.After up x) h t w = absurd (cc)
-    by_form (form.Direct g args) h t w = absurd (cc)
-    by_form (form.Through args callee) h t w = absurd (cc)
-    by_form (form.Known k args) h t w = absurd (cc)
+    by_form x h t w = absurd (cc)
 
   form_case : (x : Form-F Form Target Expr) (y : Form-F F T E) → below y ≡ x → FormNull (roll-Form x)
   form_case x y q e w h s t v c =

@@ -2,6 +2,7 @@
 use Rattle.std.proofs.Common.{◌≡◌, ℕ, refl, sym, ap, subst, Bool, true, false, is_some, is_none, if◌then◌else◌, List, [], ◌∷◌, length, Option, Some, None, slice_get}
 use Rattle.std.specs.List.{AllByRecursion}
 use Rattle.std.proofs.lemmas.List.Elements.{All-from_recursion}
+use Rattle.std.proofs.lemmas.Bool.{and_parts, eqb-true}
 use Rattle.mv_ast.specs.declared.place.Place.{Place}
 use Rattle.mv_ast.specs.declared.program.CType.{CType}
 use Rattle.mv_ast.specs.declared.program.CType.TheVariants.{Void, Scalar, Pointer}
@@ -24,13 +25,15 @@ use Rattle.mv_types.specs.declared.contents.Contents.{Contents}
 use Rattle.mv_types.specs.declared.contents.Foreknown.{Foreknown}
 use Rattle.mv_types.specs.declared.contents.Object.{Object}
 use Rattle.mv_types.specs.Objects.{number_of, object_at, same_size, agrees, agrees_with, may_declare, broken_rule, unless_broken, type_by_rules, object_scope, new_object, either_domain, again, replaced, objects_again, objects_behind, initialised, object_behind, object_judgement}
-use Rattle.mv_typed_bodies.proofs.Judging.{IfGood, if_then, if_kept, and_true, all_last}
-use Rattle.mv_formed_globals.proofs.Tests.{same_number, same_is, all_at, all_set}
+use Rattle.mv_typed_bodies.proofs.Judging.{IfGood, if_then, if_kept}
+use Rattle.mv_typed_bodies.proofs.Lists.{all_last, all_at}
+use Rattle.mv_formed_globals.proofs.Tests.{all_set}
 use Rattle.mv_formed_globals.proofs.Values.{IsOf}
 use Rattle.mv_formed_globals.proofs.Words.{AreOf, AreWords, words_are}
 use Rattle.mv_formed_globals.proofs.Domains.{IsDomain}
-use Rattle.mv_formed_globals.proofs.Specified.{IsVoidOrInteger}
 use Rattle.mv_formed_globals.proofs.Designated.{IsHolderOf}
+use Rattle.mv_typing.proofs.Types.{same_is}
+use Rattle.mv_typing.proofs.Plain.{IsPlain}
 
 -- an integer scalar, with different values of its type
 pub record IsSwitch (t : CType) (size : Option ℕ) (vs : List ℕ) : Type 0 where
@@ -65,9 +68,9 @@ global_formed o h = record {
 -- what is known of the domain that a declaration of an entity gives
 abbrev pub IsDomainFor : Entity → Option (List ℕ) → Type 0
 IsDomainFor e None = Unit {0}
-IsDomainFor e (Some vs) = (t : CType) × IsVoidOrInteger t × IsHolderOf t e × IsDomain (IsOf t) vs
+IsDomainFor e (Some vs) = (t : CType) × IsPlain t × IsHolderOf t e × IsDomain (IsOf t) vs
 
-integer_of : (t : CType) → IsVoidOrInteger t → is_void t ≡ false → IsInteger t
+integer_of : (t : CType) → IsPlain t → is_void t ≡ false → IsInteger t
 integer_of Void h q = absurd (cc)
 integer_of (Scalar k) h q = tt
 integer_of (Pointer s) h q = absurd h
@@ -82,7 +85,7 @@ type_switch place e given None h = any (object_type place e given)
     any (Broken p rule) = tt
 type_switch place (entity.Scalar t fixed) given (Some vs) h =
     if_kept (λ (l : Local). IsSwitch l.ctype l.size vs) (is_void t) place 8 (Good (scalar t)) (λ q. record {
-      integer = integer_of t (subst IsVoidOrInteger (sym h.2) h.1) q;
+      integer = integer_of t (subst IsPlain (sym h.2) h.1) q;
       scalar = refl;
       domain = subst (λ u. IsDomain (IsOf u) vs) (sym h.2) h.3;
     })
@@ -107,17 +110,17 @@ module _ (X : Local → Type 0) (place : Place) (before : Option Meaning) (objec
 
 size_is : (m n : Option ℕ) → same_size m n ≡ true → m ≡ n
 size_is None None h = refl
-size_is (Some m) (Some n) h = ap Some (same_number m n h)
+size_is (Some m) (Some n) h = ap Some (eqb-true m n h)
 size_is None (Some n) h = absurd (cc)
 size_is (Some m) None h = absurd (cc)
 
 -- the declared type and size are those that the object has
 pub same_types : (o : Object) (l : Local) (given : Bool) (domain : Option (List ℕ)) → agrees o l given domain ≡ true → o.global.ctype ≡ l.ctype
-same_types o l given domain q = same_is o.global.ctype l.ctype (and_true (same_type o.global.ctype l.ctype) _ q).0
+same_types o l given domain q = same_is o.global.ctype l.ctype (and_parts (same_type o.global.ctype l.ctype) _ q).0
 
 same_sizes : (o : Object) (l : Local) (given : Bool) (domain : Option (List ℕ)) → agrees o l given domain ≡ true → o.global.size ≡ l.size
 same_sizes o l given domain q =
-    size_is o.global.size l.size (and_true (same_size o.global.size l.size) _ (and_true (same_type o.global.ctype l.ctype) _ q).1).0
+    size_is o.global.size l.size (and_parts (same_size o.global.size l.size) _ (and_parts (same_type o.global.ctype l.ctype) _ q).1).0
 
 -- what holds of a new object and of one with one more declaration holds of all
 module _ (P : Object → Type 0) (l : Local) (words : List ℕ) (given : Bool) (domain : Option (List ℕ))
@@ -125,7 +128,7 @@ module _ (P : Object → Type 0) (l : Local) (words : List ℕ) (given : Bool) (
   replaced_have : (objects : List Object) (n : ℕ) (o : Option Object) → slice_get objects n ≡ o → AllByRecursion P objects → agrees_with o l given domain ≡ true →
       AllByRecursion P (replaced objects n o words given domain)
   replaced_have objects n None q h k = h
-  replaced_have objects n (Some o) q h k = all_set P objects n (again o words given domain) (more o (all_at P objects n o h q) k) h
+  replaced_have objects n (Some o) q h k = all_set P objects n (again o words given domain) (more o (all_at P objects h n o q) k) h
 
   numbered_have : (objects : List Object) (n : Option ℕ) → AllByRecursion P objects → agrees_with (object_at objects n) l given domain ≡ true →
       AllByRecursion P (objects_again objects n words given domain)

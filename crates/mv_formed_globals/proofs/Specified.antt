@@ -1,6 +1,8 @@
 -- What specifiers at file scope say: a type that is no pointer, an enumeration only with `int`, and an attribute that all of their declarators may have.
-use Rattle.std.proofs.Common.{◌≡◌, ℕ, ◌⊎◌, inl, inr, refl, sym, ◌∙◌, ap, subst, Bool, true, false, not, ◌&&◌, is_some, nat_eq, if◌then◌else◌, List, [], ◌∷◌, map, length, take, drop, Option, Some, None}
+use Rattle.std.proofs.Common.{◌≡◌, ℕ, ◌⊎◌, inl, inr, refl, sym, ◌∙◌, ap, subst, Bool, true, false, ◌&&◌, is_some, nat_eq, if◌then◌else◌, List, [], ◌∷◌, map, length, take, drop, Option, Some, None}
 use Rattle.std.specs.List.{AllByRecursion}
+use Rattle.std.proofs.lemmas.Bool.{and_parts}
+use Rattle.std.proofs.lemmas.List.{length-map}
 use Rattle.mv_num.specs.declared.kind.Kind.{Kind}
 use Rattle.mv_num.specs.declared.kind.Kind.TheVariants.{Int}
 use Rattle.mv_ast.specs.declared.place.Place.{Place}
@@ -22,11 +24,14 @@ use Rattle.mv_declare.specs.declared.attributes.Position.TheVariants as position
 use Rattle.mv_declare.specs.declared.specifiers.Said.{Said}
 use Rattle.mv_declare.specs.declared.specifiers.Specified.{Specified}
 use Rattle.mv_declare.specs.Attributes.{fits, shape_holder, holder_of, both_hold, all_hold, holder_of_all, holds, attributes}
-use Rattle.mv_declare.specs.Specifiers.{count_before_list, nothing_said, enumeration_of, enum_specifier, enum_specifiers, scalar_kind, kind_of, at_file, type_by_rules, specifiers}
-use Rattle.mv_typed_bodies.proofs.Judging.{IfGood, if_any, if_then, if_kept, if_more, if_through, each_any, and_true}
-use Rattle.mv_formed_globals.proofs.Tests.{mapped_length, not_none}
+use Rattle.mv_declare.specs.Specifiers.{count_before_list, nothing_said, enumeration_of, enum_specifier, enum_specifiers, scalar_kind, kind_of, type_by_rules, specifiers}
+use Rattle.mv_typed_bodies.proofs.Judging.{IfGood, if_any, if_then, if_more, if_through}
+use Rattle.mv_typed_bodies.proofs.NamedTypes.{IsNamed, rules_named, named_is_plain}
+use Rattle.mv_typed_bodies.proofs.Lists.{each_any}
+use Rattle.mv_formed_globals.proofs.Tests.{not_none}
 use Rattle.mv_formed_globals.proofs.Values.{IsOf, constant_is, int_is}
 use Rattle.mv_formed_globals.proofs.Domains.{IsHeld, attributes_held, held_more}
+use Rattle.mv_typing.proofs.Plain.{IsPlain}
 
 -- ---- what may have an attribute
 
@@ -57,8 +62,8 @@ holds_some h a q = by (is_some a.values) q
     by false r = inl r
 
 both_some : (g h : Holder) → HoldsSome (both_hold g h) → HoldsSome g × HoldsSome h
-both_some g h (inl q) = let r = and_true g.plainly h.plainly q in (inl r.0, inl r.1)
-both_some g h (inr q) = let r = and_true g.with_values h.with_values q in (inr r.0, inr r.1)
+both_some g h (inl q) = let r = and_parts g.plainly h.plainly q in (inl r.0, inl r.1)
+both_some g h (inr q) = let r = and_parts g.with_values h.with_values q in (inr r.0, inr r.1)
 
 shape_some : {A B C : Type 0} (fixed : Bool) (name : Option (List ℕ)) (x : Shape-F A B C) → HoldsSome (shape_holder fixed name x) → IsHolderShape x
 shape_some fixed name shape.Plain h = tt
@@ -89,49 +94,6 @@ pub file_holding : (fixed : Bool) (d : Declarator) (a : Attribute) → holds (ho
 file_holding fixed d a q = some_holds fixed d (holds_some (holder_of position.File fixed d) a q)
 
 -- ---- types
-
-abbrev pub IsVoidOrInteger : CType → Type 0
-IsVoidOrInteger Void = Unit {0}
-IsVoidOrInteger (Scalar k) = Unit {0}
-IsVoidOrInteger (Pointer s) = ⊥
-
-abbrev PlainOption : Option CType → Type 0
-PlainOption None = Unit {0}
-PlainOption (Some t) = IsVoidOrInteger t
-
-named_plain : (enums : ℕ) (words : List ℕ) → PlainOption (named_type enums words)
-named_plain enums words = by (nat_eq enums 0) (are words (19 ∷ [])) (nat_eq enums 1 && nat_eq (length words) 0) (named_kind words)
-  where
-    by : (a b c : Bool) (k : Option Kind) → PlainOption (if a then (if b then Some Void else as_scalar k) else if c then Some (Scalar Int) else None)
-    by true true c k = tt
-    by true false c None = tt
-    by true false c (Some k) = tt
-    by false b true k = tt
-    by false b false k = tt
-
--- the type that specifiers name
-abbrev IsNamed : Specs → CType → Type 0
-IsNamed specs t = let f = out-Specs specs in named_type (length f.tags) f.words ≡ Some t
-
-option_named : (place : Place) (o : Option CType) → IfGood (type_or_broken place o) (λ t. o ≡ Some t)
-option_named place None = tt
-option_named place (Some t) = refl
-
-type_named : (s : Scope) (specs : Specs) → IfGood (type_of s specs) (IsNamed specs)
-type_named s specs =
-    let f = out-Specs specs in
-    let flags : List Bool = map (undeclared_enum s) f.tags in
-    if_kept (IsNamed specs) (any_is flags) f.place 1 (type_or_broken f.place (named_type (length flags) f.words)) (λ q.
-    if_more (λ t. named_type (length flags) f.words ≡ Some t) (IsNamed specs) (type_or_broken f.place (named_type (length flags) f.words))
-    (λ t h. ap (λ n. named_type n f.words) (sym (mapped_length (undeclared_enum s) f.tags)) ∙ h) (option_named f.place (named_type (length flags) f.words)))
-
-rules_named : (again : Bool) (specs : Specs) (s : Scope) → IfGood (type_by_rules position.File again specs s) (IsNamed specs)
-unfolding type_by_rules
-rules_named again specs s =
-    let f = out-Specs specs in
-    if_kept (IsNamed specs) (any_is (map (undeclared_enum s) f.tags)) f.place 1 _ (λ q.
-    if_kept (IsNamed specs) again f.place 2 _ (λ r.
-    if_kept (IsNamed specs) (f.hidden && not (at_file position.File)) f.place 22 (type_of s specs) (λ u. type_named s specs)))
 
 -- with an enum it is `int`
 int_named : (tags : List EnumSpec) (words : List ℕ) (t : CType) → named_type (length tags) words ≡ Some t → (tags ≡ []) ⊎ (t ≡ Scalar Int)
@@ -167,7 +129,7 @@ type_admits s specs t n c h = by (any_is flags) refl h (int_named tags words t n
     flags = map (undeclared_enum s) tags
 
     here : named_type (length flags) words ≡ Some t
-    here = ap (λ m. named_type m words) (mapped_length (undeclared_enum s) tags) ∙ n
+    here = ap (λ m. named_type m words) (length-map tags (undeclared_enum s)) ∙ n
 
     none : tags ≡ [] → any_is flags ≡ false
     none q = ap (λ (x : List EnumSpec). any_is (map (undeclared_enum s) x)) q
@@ -221,7 +183,7 @@ module _ (fixed : Bool) (names : List Declarator) (k : Option Kind) where
 -- ---- specifiers
 
 pub record IsSpecified (names : List Declarator) (b : Specified) : Type 0 where
-  pub plain : IsVoidOrInteger b.ctype
+  pub plain : IsPlain b.ctype
   pub enumeration : (b.enumeration ≡ None) ⊎ (b.ctype ≡ Scalar Int)
   pub attribute : IsHeld (MayAllHold names) (IsOf b.ctype) b.attribute
 
@@ -237,8 +199,8 @@ specifiers_are names specs s =
     if_then (Behind f.fixed names k f.tags) (λ d. IsSpecified names d.1) (enum_specifiers holder k f.marks f.tags s) _ (enums_held f.fixed names k f.marks f.tags s) (λ x e.
     let given = attributes holder k x.0 (drop x.1.used f.marks) x.1.attribute in
     if_then (λ a. Held f.fixed names k x.1.attribute → Held f.fixed names k a) (λ d. IsSpecified names d.1) given _ (held f.fixed names k x.0 (drop x.1.used f.marks) x.1.attribute) (λ a g.
-    if_then (IsNamed specs) (λ d. IsSpecified names d.1) (type_by_rules position.File x.1.again specs x.0) _ (rules_named x.1.again specs x.0) (λ t n. record {
-      plain = subst PlainOption n (named_plain (length f.tags) f.words);
+    if_then (IsNamed specs) (λ d. IsSpecified names d.1) (type_by_rules position.File x.1.again specs x.0) _ (rules_named position.File x.1.again specs x.0) (λ t n. record {
+      plain = named_is_plain specs t n;
       enumeration = number_is f.tags x.1.number t e.1 (int_named f.tags f.words t n);
       attribute = held_more (MayAllHold names) (MayAllHold names) (FitsKind k) (IsOf t) (λ q. q)
           (λ v q. subst (IsOf t) q.2 (type_admits s specs t n q.0 q.1)) a (g e.0);

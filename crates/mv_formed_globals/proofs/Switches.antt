@@ -13,10 +13,9 @@ use Rattle.mv_types.specs.declared.contents.Contents.{Contents}
 use Rattle.mv_types.specs.declared.contents.Object.{Object}
 use Rattle.mv_types.specs.Contents.{switch_of, switches_from}
 use Rattle.mv_types.specs.Units.{program_of}
-use Rattle.mv_typed_bodies.proofs.Judging.{all_append}
 use Rattle.mv_formed_globals.specs.Globals.{HasFormedGlobals}
-use Rattle.mv_formed_globals.proofs.Tests.{mapped_at, all_mapped, all_more}
 use Rattle.mv_formed_globals.proofs.Objects.{IsSwitchIf, IsFormedObject, AreFormed, global_formed, values_of}
+use Rattle.mv_typed_bodies.proofs.Lists.{all_append, mapped_there, all_mapped, all_more}
 
 module _ (p : Program) where
   -- a switch is well formed and its global is an integer
@@ -41,7 +40,7 @@ module _ (p : Program) where
           different = h.domain.different;
         };
         ctype = o.global.ctype;
-        there = mapped_at (λ (g : Global). g.ctype) p.globals n o.global q;
+        there = mapped_there (λ (g : Global). g.ctype) p.globals n o.global q;
         integer = h.integer;
       }
 
@@ -70,7 +69,7 @@ pub program_formed : (c : Contents) (main : ℕ) → AreFormed c → HasFormedGl
 unfolding program_of
 program_formed c main h =
     let p : Program = program_of c main in
-    let there : AreThere p 0 c.objects = λ i o q. let e : i ≡ i + 0 = omega arith in subst (λ m. slice_get (map (λ (o : Object). o.global) c.objects) m ≡ Some o.global) e (mapped_at (λ (o : Object). o.global) c.objects i o q) in
+    let there : AreThere p 0 c.objects = λ i o q. let e : i ≡ i + 0 = omega arith in subst (λ m. slice_get (map (λ (o : Object). o.global) c.objects) m ≡ Some o.global) e (mapped_there (λ (o : Object). o.global) c.objects i o q) in
     let switches : AllByRecursion (IsFormed p) (switches_from 0 c.objects) = from_formed p 0 c.objects there h in
     record {
       globals = All-from_recursion IsWellFormedGlobal (map (λ (o : Object). o.global) c.objects)

@@ -32,15 +32,17 @@ use Rattle.mv_types.specs.Functions as functions
 use Rattle.mv_types.specs.Functions.{function_of, function_scope, params_of, defined, before_of, rule_of, function_behind, function_judgement, definition_parameters}
 use Rattle.mv_types.specs.Objects.{domain_by}
 use Rattle.mv_types.specs.Units.{by_entity, named_declarator, base_of, declarator_judgement, declares_constant, holders, declares_nothing, names_judgement, item_judgement, program_or_broken, program_judgement, unit_judgement}
-use Rattle.mv_typed_bodies.proofs.Judging.{IfGood, of_good, if_any, if_then, if_kept, if_more, if_through, each_any}
+use Rattle.mv_typed_bodies.proofs.Judging.{IfGood, of_good, if_any, if_then, if_kept, if_more, if_through}
+use Rattle.mv_typed_bodies.proofs.Lists.{each_any}
 use Rattle.mv_formed_globals.specs.Globals.{HasFormedGlobals, GlobalsAreFormed}
 use Rattle.mv_formed_globals.proofs.Tests.{if_given}
 use Rattle.mv_formed_globals.proofs.Values.{IsOf}
 use Rattle.mv_formed_globals.proofs.Domains.{IsHeld, held_more, domain_of_is}
-use Rattle.mv_formed_globals.proofs.Specified.{IsVoidOrInteger, MayHold, MayAllHold, IsSpecified, specifiers_are}
+use Rattle.mv_formed_globals.proofs.Specified.{MayHold, MayAllHold, IsSpecified, specifiers_are}
 use Rattle.mv_formed_globals.proofs.Designated.{IsHolderOf, file_is}
 use Rattle.mv_formed_globals.proofs.Objects.{IsFormedObject, AreFormed, IsDomainFor, object_formed}
 use Rattle.mv_formed_globals.proofs.Switches.{program_formed}
+use Rattle.mv_typing.proofs.Plain.{IsPlain}
 
 -- ---- functions are no objects
 
@@ -74,13 +76,13 @@ module _ (P : List Object → Type 0) where
 abbrev IsEnumerated : Specified → Type 0
 IsEnumerated b = (b.enumeration ≡ None) ⊎ (b.ctype ≡ Scalar Int)
 
-domain_for : (b : Specified) (e : Entity) (a : Option Attribute) (s : Scope) → IsVoidOrInteger b.ctype → IsEnumerated b → IsHeld (IsHolderOf b.ctype e) (IsOf b.ctype) a →
+domain_for : (b : Specified) (e : Entity) (a : Option Attribute) (s : Scope) → IsPlain b.ctype → IsEnumerated b → IsHeld (IsHolderOf b.ctype e) (IsOf b.ctype) a →
     IsDomainFor e (domain_by s b.enumeration a)
 domain_for b e None s plain enum h = tt
 domain_for b e (Some a) s plain enum h = (b.ctype, plain, h.0, domain_of_is b.ctype s b.enumeration enum (IsHolderOf b.ctype e) a h)
 
 entity_formed : (k : Foreknown) (b : Specified) (body : Option Line) (d : Declarator) (name : List ℕ) (e : Entity) (a : Option Attribute) (c : Contents) → AreFormed c →
-    IsVoidOrInteger b.ctype → IsEnumerated b → IsHeld (IsHolderOf b.ctype e) (IsOf b.ctype) a → IfGood (by_entity k b body d name e a c) AreFormed
+    IsPlain b.ctype → IsEnumerated b → IsHeld (IsHolderOf b.ctype e) (IsOf b.ctype) a → IfGood (by_entity k b body d name e a c) AreFormed
 entity_formed k b body d name (entity.Function signature) a c formed plain enum h = function_has (AllByRecursion IsFormedObject) k d name b.ctype signature body c formed
 entity_formed k b body d name (entity.Scalar t fixed) a c formed plain enum h =
     object_formed k d name (domain_by c.scope b.enumeration a) c formed (entity.Scalar t fixed) (is_some body) (domain_for b (entity.Scalar t fixed) a c.scope plain enum h)
@@ -88,13 +90,13 @@ entity_formed k b body d name (entity.Array t fixed size) a c formed plain enum 
     object_formed k d name (domain_by c.scope b.enumeration a) c formed (entity.Array t fixed size) (is_some body) (domain_for b (entity.Array t fixed size) a c.scope plain enum h)
 
 named_formed : (k : Foreknown) (b : Specified) (body : Option Line) (d : Declarator) (name : Option (List ℕ)) (e : Designated) (c : Contents) → AreFormed c →
-    IsVoidOrInteger b.ctype → IsEnumerated b → IsHeld (IsHolderOf b.ctype e.entity) (IsOf b.ctype) e.attribute → IfGood (named_declarator k b body d name e c) AreFormed
+    IsPlain b.ctype → IsEnumerated b → IsHeld (IsHolderOf b.ctype e.entity) (IsOf b.ctype) e.attribute → IfGood (named_declarator k b body d name e c) AreFormed
 unfolding named_declarator
 named_formed k b body d None e c formed plain enum h = tt
 named_formed k b body d (Some name) e c formed plain enum h = entity_formed k b body d name e.entity e.attribute c formed plain enum h
 
 declarator_formed : (k : Foreknown) (b : Specified) (body : Option Line) (d : Declarator) (c : Contents) → AreFormed c →
-    IsVoidOrInteger b.ctype → IsEnumerated b → IsHeld (MayHold d) (IsOf b.ctype) b.attribute → IfGood (declarator_judgement k b body d c) AreFormed
+    IsPlain b.ctype → IsEnumerated b → IsHeld (MayHold d) (IsOf b.ctype) b.attribute → IfGood (declarator_judgement k b body d c) AreFormed
 unfolding declarator_judgement
 declarator_formed k b body d c formed plain enum h =
     if_then (λ s. Unit {0}) AreFormed (definition_parameters d body c.scope) _ (if_any (definition_parameters d body c.scope)) (λ s u.
@@ -131,7 +133,7 @@ each_held k ds b h = all ds (held_more (MayAllHold (holders k ds)) (AllByRecursi
 abbrev Next : Contents → Contents → Type 0
 Next c e = AreFormed c → AreFormed e
 
-declarators_formed : (k : Foreknown) (b : Specified) (body : Option Line) (ds : List Declarator) (c : Contents) → IsVoidOrInteger b.ctype → IsEnumerated b →
+declarators_formed : (k : Foreknown) (b : Specified) (body : Option Line) (ds : List Declarator) (c : Contents) → IsPlain b.ctype → IsEnumerated b →
     AllByRecursion (Holds b) ds → IfGood (through (declarator_judgement k b body) ds c) (Next c)
 declarators_formed k b body ds c plain enum h =
     if_through (declarator_judgement k b body) Next (Holds b) (λ c f. f) (λ c d e f g h. g (f h))

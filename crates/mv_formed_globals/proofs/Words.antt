@@ -1,7 +1,8 @@
 -- The words that a global is given: as many as it has room for, and values of its type.
 use Rattle.std.proofs.Common.{◌≡◌, ℕ, ◌+◌, ◌≤◌, arith, refl, sym, subst, Bool, true, false, not, nat_le, nat_lt, if◌then◌else◌, List, [], ◌∷◌, ◌++◌, map, length, Option, Some, None}
 use Rattle.std.specs.List.{AllByRecursion}
-use Rattle.std.proofs.lemmas.List.{length-append}
+use Rattle.std.proofs.lemmas.List.{length-append, length-map}
+use Rattle.std.proofs.lemmas.Bool.{not-false, and_parts, leb-true, ltb-true}
 use Rattle.mv_ast.specs.declared.place.Place.{Place}
 use Rattle.mv_ast.specs.declared.program.CType.{CType}
 use Rattle.mv_ast.specs.declared.program.Expr.{Expr}
@@ -17,8 +18,8 @@ use Rattle.mv_judge.specs.Judgements.{value_judgement}
 use Rattle.mv_declare.specs.declared.globals.Words.{Words}
 use Rattle.mv_declare.specs.Globals.{constant_word, word_or_broken, first_word, no_words, first_words, single_word, listed_words, is_char, string_fits, room_behind, string_words, global_words}
 use Rattle.mv_declare.specs.Initials.{has_room}
-use Rattle.mv_typed_bodies.proofs.Judging.{IfGood, if_any, if_then, if_kept, if_more, if_through, each_any, not_false, and_true, all_append, all_last}
-use Rattle.mv_formed_globals.proofs.Tests.{at_most_is, less_is, mapped_length}
+use Rattle.mv_typed_bodies.proofs.Judging.{IfGood, if_any, if_then, if_kept, if_more, if_through}
+use Rattle.mv_typed_bodies.proofs.Lists.{each_any, all_append, all_last}
 use Rattle.mv_formed_globals.proofs.Values.{IsOf, converted_is, no_is}
 
 abbrev pub AreOf : CType → List ℕ → Type 0
@@ -68,7 +69,7 @@ listed_are place t None x h = if_kept (AreWords t None) (not x.all) place 5 _ (�
 listed_are place t (Some n) x h =
     if_kept (AreWords t (Some n)) (not x.all) place 5 _ (λ q.
     if_kept (AreWords t (Some n)) (not (nat_le (length x.words) n)) place 10 (Good x.words) (λ r. record {
-      given = at_most_is (length x.words) n (not_false (nat_le (length x.words) n) r);
+      given = leb-true (length x.words) n (not-false (nat_le (length x.words) n) r);
       values = h;
     }))
 
@@ -88,13 +89,13 @@ ending_is t false = tt
 room : (t : CType) (bytes : List ℕ) (n : ℕ) (b : Bool) → nat_lt (length bytes) n ≡ b → nat_le (length bytes) n ≡ true → length (map (converted t) bytes ++ ending b) ≤ n
 room t bytes n true q h =
     let e : length (map (converted t) bytes ++ ending true) ≡ length (map (converted t) bytes) + 1 = length-append (map (converted t) bytes) (ending true) in
-    let m = mapped_length (converted t) bytes in
-    let less = less_is (length bytes) n q in
+    let m = length-map bytes (converted t) in
+    let less = ltb-true (length bytes) n q in
     omega (arith, e, m, less)
 room t bytes n false q h =
     let e : length (map (converted t) bytes ++ ending false) ≡ length (map (converted t) bytes) + 0 = length-append (map (converted t) bytes) (ending false) in
-    let m = mapped_length (converted t) bytes in
-    let most = at_most_is (length bytes) n h in
+    let m = length-map bytes (converted t) in
+    let most = leb-true (length bytes) n h in
     omega (arith, e, m, most)
 
 characters_are : (t : CType) (size : Option ℕ) (bytes : List ℕ) → has_room size (length bytes) ≡ true →
@@ -109,7 +110,7 @@ string_are : (place : Place) (l : Local) (bytes : List ℕ) → IfGood (string_w
 unfolding string_words
 string_are place l bytes =
     if_kept (AreWords l.ctype l.size) (not (string_fits l (length bytes))) place 10 _
-    (λ q. characters_are l.ctype l.size bytes (and_true (is_char l.ctype) (has_room l.size (length bytes)) (not_false (string_fits l (length bytes)) q)).1)
+    (λ q. characters_are l.ctype l.size bytes (and_parts (is_char l.ctype) (has_room l.size (length bytes)) (not-false (string_fits l (length bytes)) q)).1)
 
 pub words_are : (place : Place) (l : Local) (given : Option Initial) (s : Scope) → IfGood (global_words place l given s) (AreWords l.ctype l.size)
 words_are place l None s = record { given = omega arith; values = tt }

@@ -54,19 +54,15 @@ module _ (p : Program) (f : Function) where
   parts (form.Read t) h = one _ _ h
   parts (form.Function g) h = refl
   parts (form.Unary op a) h = one _ _ h
-  parts (form.Binary op a b) h = two _ _ _ _ h.0 h.1
-  parts (form.Both a b) h = two _ _ _ _ h.0 h.1
-  parts (form.Either a b) h = two _ _ _ _ h.0 h.1
   parts (form.Choose z a b) h = cons _ _ _ _ h.0 (two _ _ _ _ h.1 h.2)
   parts (form.Convert a) h = one _ _ h
-  parts (form.Set t a) h = two _ _ _ _ h.0 h.1
-  parts (form.Change op kind t a) h = two _ _ _ _ h.0 h.1
   parts (form.After up t) h = one _ _ h
   parts (form.Direct g args) h = same_tests (is_own p f) (names_own p f) expr_globals args h
   parts (form.Through args callee) h =
       joined _ _ _ _ (same_tests (is_own p f) (names_own p f) expr_globals args h.0) (one _ _ h.1) ∙
       sym (map-append own (map expr_globals args) (expr_globals callee ∷ []))
   parts (form.Known k args) h = same_tests (is_own p f) (names_own p f) expr_globals args h
+  parts x h = two _ _ _ _ h.0 h.1
 
   form_step : (x : Form-F Form Target Expr) → FormChildren P Q S x → P (roll-Form x)
   unfolding form_globals target_globals expr_globals

@@ -1,6 +1,8 @@
 -- Tests of all numbers of a list, and of lists of lists.
-use Rattle.std.proofs.Common.{◌≡◌, ℕ, Bool, true, false, ◌&&◌, ◌||◌, refl, ◌∙◌, ap, List, [], ◌∷◌, ◌++◌, map, nat_eq, arith}
+use Rattle.std.proofs.Common.{◌≡◌, ℕ, Bool, true, false, ◌&&◌, ◌||◌, refl, ◌∙◌, ap, List, [], ◌∷◌, ◌++◌, map, nat_eq}
 use Rattle.std.specs.List.{concat}
+use Rattle.std.proofs.lemmas.Bool.{and_from, eq-eqb}
+use Rattle.std.proofs.Math.Bool.{or-true}
 use Rattle.mv_ast.specs.Plans.{is_among}
 use Rattle.mv_ir.proofs.Induction.{Each}
 use Rattle.mv_lowering.specs.Lower.{all_of}
@@ -10,17 +12,6 @@ cons a b xs ys h k = ap (λ c. c ∷ xs) h ∙ ap (λ zs. b ∷ zs) k
 
 pub joined : (xs ys zs ws : List Bool) → xs ≡ zs → ys ≡ ws → (xs ++ ys) ≡ (zs ++ ws)
 joined xs ys zs ws h k = ap (λ vs. vs ++ ys) h ∙ ap (λ vs. zs ++ vs) k
-
-or_true : (a : Bool) → (a || true) ≡ true
-or_true true = refl
-or_true false = refl
-
-and_true : (a b : Bool) → a ≡ true → b ≡ true → (a && b) ≡ true
-and_true true b h k = k
-and_true false b h k = absurd (cc)
-
-same_number : (n : ℕ) → nat_eq n n ≡ true
-same_number n = grind arith
 
 pub each_all : {A : Type 0} (P : A → Type 0) → ((x : A) → P x) → (xs : List A) → Each P xs
 each_all P h [] = tt
@@ -50,5 +41,5 @@ module _ (own : ℕ → Bool) where
   pub all_among : (xs : List ℕ) → ((n : ℕ) → is_among n xs ≡ true → own n ≡ true) → all_own xs ≡ true
   all_among [] h = refl
   all_among (x ∷ xs) h =
-      and_true (own x) (all_own xs) (h x (ap (λ b. b || is_among x xs) (same_number x)))
-      (all_among xs (λ n m. h n (ap (λ b. nat_eq n x || b) m ∙ or_true (nat_eq n x))))
+      and_from (own x) (all_own xs) (h x (ap (λ b. b || is_among x xs) (eq-eqb x x refl)))
+      (all_among xs (λ n m. h n (ap (λ b. nat_eq n x || b) m ∙ or-true (nat_eq n x))))

@@ -28,8 +28,9 @@ use Rattle.mv_declare.specs.Specifiers.{specifiers}
 use Rattle.mv_declare.specs.Turns.{Behind, next_part, in_turn}
 use Rattle.mv_numbering.specs.Typing.{local_types}
 use Rattle.mv_typing.specs.Soundness.{IsListed, IsMeant}
+use Rattle.mv_typing.proofs.Plain.{IsPlain}
 use Rattle.mv_typed_bodies.proofs.Judging.{IfGood, by_good, of_good, if_any, if_then, if_kept, if_more, if_through}
-use Rattle.mv_typed_bodies.proofs.Places.{IsPlain, last_there, mapped_there}
+use Rattle.mv_typed_bodies.proofs.Places.{last_there}
 use Rattle.mv_typed_bodies.proofs.Names.{declared_means}
 use Rattle.mv_typed_bodies.proofs.Growing.{grows_joined, grows_declared, grows_local}
 use Rattle.mv_typed_bodies.proofs.Specified.{Specifies, specifiers_specify}
@@ -37,6 +38,7 @@ use Rattle.mv_typed_bodies.proofs.Designated.{IsListedEntity, Designates, shape_
 use Rattle.mv_typed_bodies.proofs.Property.{MeansLocal, Passage}
 use Rattle.mv_typed_bodies.specs.Bodies.{Grows}
 use Rattle.mv_typed_bodies.proofs.Leading.{IsWithin, Leads, leads_here, leads_more, leads_joined, leads_renamed, leads_enumerated, later}
+use Rattle.mv_typed_bodies.proofs.Lists.{mapped_there}
 
 module _ (x : Passage) where
   abbrev f : Function

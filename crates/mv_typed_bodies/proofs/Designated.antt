@@ -1,13 +1,13 @@
 -- What declarators designate, and how scopes grow by them.
-use Rattle.std.proofs.Common.{◌≡◌, ℕ, refl, sym, subst, Bool, List, [], ◌∷◌, map, Option, Some, None}
+use Rattle.std.proofs.Common.{◌≡◌, ℕ, refl, Bool, List, [], Option, Some, None}
 use Rattle.std.specs.List.{AllByRecursion}
 use Rattle.mv_ast.specs.declared.place.Place.{Place}
 use Rattle.mv_ast.specs.declared.program.CType.{CType}
 use Rattle.mv_ast.specs.declared.program.CType.TheVariants.{Pointer}
 use Rattle.mv_ast.specs.declared.program.Signature.{Signature}
-use Rattle.mv_ast.specs.declared.unit.Declarator.{Declarator, Declarator-F, roll-Declarator, map-Declarator, fold-roll-Declarator}
-use Rattle.mv_ast.specs.declared.unit.Param.{Param, Param-F, roll-Param, map-Param, fold-roll-Param}
-use Rattle.mv_ast.specs.declared.unit.Shape.{Shape, Shape-F, roll-Shape, map-Shape, ind-Shape, fold-roll-Shape}
+use Rattle.mv_ast.specs.declared.unit.Declarator.{Declarator-F}
+use Rattle.mv_ast.specs.declared.unit.Param.{Param-F}
+use Rattle.mv_ast.specs.declared.unit.Shape.{Shape, Shape-F}
 use Rattle.mv_ast.specs.declared.unit.Shape.TheOpen as shape
 use Rattle.mv_scope.specs.declared.meaning.Meaning.TheVariants as meaning
 use Rattle.mv_scope.specs.declared.meaning.Storage.TheVariants as storage
@@ -20,14 +20,16 @@ use Rattle.mv_declare.specs.declared.declarators.Entity.{Entity}
 use Rattle.mv_declare.specs.declared.declarators.Entity.TheVariants as entity
 use Rattle.mv_declare.specs.declared.specifiers.Specified.{Specified}
 use Rattle.mv_declare.specs.Attributes.{attributes, nothing_holds}
-use Rattle.mv_declare.specs.Declarators.{signature_of, numbered, function_type, Shapes, Declarators, Params, size_of, shape_step, is_taken_by, parameter_declared, parameter_of, new_parameter, declarator_step, param_step, designated, parameter, parameter_declarator}
+use Rattle.mv_declare.specs.Declarators.{signature_of, numbered, function_type, Shapes, Declarators, Params, size_of, shape_step, is_taken_by, parameter_declared, parameter_of, new_parameter, declarator_step, param_step, designated}
 use Rattle.mv_declare.specs.Specifiers.{specifiers}
 use Rattle.mv_declare.specs.Turns.{next_part, in_turn}
 use Rattle.mv_typing.specs.Soundness.{IsListed}
+use Rattle.mv_typing.proofs.Plain.{IsPlain}
 use Rattle.mv_typed_bodies.proofs.Judging.{IfGood, if_any, if_then, if_kept, if_more, if_through}
-use Rattle.mv_typed_bodies.proofs.Places.{IsPlain, plain_listed, signature_there}
+use Rattle.mv_typed_bodies.proofs.Places.{plain_listed, signature_there}
 use Rattle.mv_typed_bodies.proofs.Growing.{Declares, declares_same, declares_joined, declares_declared, declares_numbered, declares_block, names_back}
 use Rattle.mv_typed_bodies.proofs.Specified.{Specifies, specifiers_specify}
+use Rattle.mv_typed_bodies.proofs.Shapes.{ShapeParts, every_shape}
 
 abbrev pub IsListedEntity : List Signature → Entity → Type 0
 IsListedEntity signatures (entity.Scalar t fixed) = IsListed signatures t
@@ -72,17 +74,10 @@ type_numbers t params plain h s =
       listed = signature_there (signature_of t d.1) d.0.signatures;
     })
 
-abbrev ShapeParts : Shape-F Shapes Declarators Params → Type 0
-ShapeParts shape.Plain = Unit {0}
-ShapeParts (shape.Array size) = Unit {0}
-ShapeParts (shape.Function params) = AllByRecursion ParamDeclares params
-ShapeParts (shape.Pointer constant params) = AllByRecursion ParamDeclares params
-ShapeParts (shape.PointerArray constant size params) = AllByRecursion ParamDeclares params
-
 as_it_is : (s : Scope) (e : Entity) → IsListedEntity s.signatures e → Designates s (s, e)
 as_it_is s e h = record { declares = declares_same s; names = refl; listed = h }
 
-shape_good : (x : Shape-F Shapes Declarators Params) → ShapeParts x → ShapeDesignates (shape_step x)
+shape_good : (x : Shape-F Shapes Declarators Params) → ShapeParts ParamDeclares x → ShapeDesignates (shape_step x)
 shape_good shape.Plain h t fixed s plain = as_it_is s (entity.Scalar t fixed) (plain_listed s.signatures t plain)
 shape_good (shape.Array size) h t fixed s plain =
     if_then (λ n. Unit {0}) (Designates s) (size_of s size) _ (if_any (size_of s size)) (λ n u. as_it_is s (entity.Array t fixed n) (plain_listed s.signatures t plain))
@@ -127,55 +122,5 @@ param_good x h s =
 
 -- ---- by induction over the declarator
 
-abbrev ShapeIs : Shape → Type 0
-ShapeIs x = ShapeDesignates (designated x)
-
-abbrev DeclaratorIs : Declarator → Type 0
-DeclaratorIs x = DeclaratorDeclares (parameter_declarator x)
-
-abbrev ParamIs : Param → Type 0
-ParamIs x = ParamDeclares (parameter x)
-
-abbrev S : Type 0
-S = (x : Shape) × ShapeIs x
-
-abbrev D : Type 0
-D = (x : Declarator) × DeclaratorIs x
-
-abbrev P : Type 0
-P = (x : Param) × ParamIs x
-
-params_are : (xs : List P) → AllByRecursion ParamDeclares (map parameter (map (λ (x : P). x.0) xs))
-params_are [] = tt
-params_are (x ∷ xs) = (x.1, params_are xs)
-
-shape_is : (y : Shape-F S D P) → ShapeIs (roll-Shape (map-Shape S D P Shape Declarator Param (λ a. a.0) (λ a. a.0) (λ a. a.0) y))
-shape_is y =
-    let x : Shape-F Shape Declarator Param = map-Shape S D P Shape Declarator Param (λ a. a.0) (λ a. a.0) (λ a. a.0) y in
-    subst ShapeDesignates (sym (fold-roll-Shape Shapes Declarators Params shape_step declarator_step param_step x))
-    (shape_good (map-Shape Shape Declarator Param Shapes Declarators Params designated parameter_declarator parameter x) (parts y))
-  where
-    parts : (z : Shape-F S D P) →
-        ShapeParts (map-Shape Shape Declarator Param Shapes Declarators Params designated parameter_declarator parameter (map-Shape S D P Shape Declarator Param (λ a. a.0) (λ a. a.0) (λ a. a.0) z))
-    parts shape.Plain = tt
-    parts (shape.Array size) = tt
-    parts (shape.Function params) = params_are params
-    parts (shape.Pointer constant params) = params_are params
-    parts (shape.PointerArray constant size params) = params_are params
-
-declarator_is : (y : Declarator-F S D P) → DeclaratorIs (roll-Declarator (map-Declarator S D P Shape Declarator Param (λ a. a.0) (λ a. a.0) (λ a. a.0) y))
-declarator_is y =
-    let x : Declarator-F Shape Declarator Param = map-Declarator S D P Shape Declarator Param (λ a. a.0) (λ a. a.0) (λ a. a.0) y in
-    subst DeclaratorDeclares (sym (fold-roll-Declarator Shapes Declarators Params shape_step declarator_step param_step x))
-    (declarator_good (map-Declarator Shape Declarator Param Shapes Declarators Params designated parameter_declarator parameter x) y.shape.1)
-
-param_is : (y : Param-F S D P) → ParamIs (roll-Param (map-Param S D P Shape Declarator Param (λ a. a.0) (λ a. a.0) (λ a. a.0) y))
-param_is y =
-    let x : Param-F Shape Declarator Param = map-Param S D P Shape Declarator Param (λ a. a.0) (λ a. a.0) (λ a. a.0) y in
-    subst ParamDeclares (sym (fold-roll-Param Shapes Declarators Params shape_step declarator_step param_step x))
-    (param_good (map-Param Shape Declarator Param Shapes Declarators Params designated parameter_declarator parameter x) y.name.1)
-
 pub shape_designates : (x : Shape) → ShapeDesignates (designated x)
-shape_designates x =
-    ind-Shape ShapeIs DeclaratorIs ParamIs (λ x y q. subst (λ z. ShapeIs (roll-Shape z)) q (shape_is y))
-    (λ x y q. subst (λ z. DeclaratorIs (roll-Declarator z)) q (declarator_is y)) (λ x y q. subst (λ z. ParamIs (roll-Param z)) q (param_is y)) x
+shape_designates = every_shape ShapeDesignates DeclaratorDeclares ParamDeclares shape_good declarator_good param_good

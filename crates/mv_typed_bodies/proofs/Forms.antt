@@ -1,6 +1,7 @@
 -- Each form of a statement leads to the scope behind it, and has a property where its parts have it.
 use Rattle.std.proofs.Common.{◌≡◌, refl, sym, ◌∙◌, ap, subst, true, not, List, [], ◌∷◌, Option, Some, None}
 use Rattle.std.specs.List.{AllByRecursion}
+use Rattle.std.proofs.lemmas.Bool.{not-false}
 use Rattle.mv_ast.specs.declared.place.Place.{Place}
 use Rattle.mv_ast.specs.declared.program.CType.{CType}
 use Rattle.mv_ast.specs.declared.program.Expr.{Expr}
@@ -22,7 +23,7 @@ use Rattle.mv_statement_rules.specs.declared.arms.Arms.{Arms}
 use Rattle.mv_statement_rules.specs.Surroundings.{in_loop, in_switch}
 use Rattle.mv_statement_rules.specs.SwitchBodies.{arms_of}
 use Rattle.mv_statement_rules.specs.Statements.{Judges, lines_in_turn, misplaced_declaration, misplaced_case, break_judgement, continue_judgement, returned, return_judgement, switched, optional, expression_judgement, alone, otherwise, first_clause, block_judgement, if_judgement, while_judgement, do_judgement, for_judgement, switch_judgement}
-use Rattle.mv_typed_bodies.proofs.Judging.{IfGood, by_good, of_good, if_any, if_then, if_kept, if_so, if_through, not_false}
+use Rattle.mv_typed_bodies.proofs.Judging.{IfGood, by_good, of_good, if_any, if_then, if_kept, if_so, if_through}
 use Rattle.mv_typed_bodies.proofs.Growing.{enumerates_same, grows_joined, names_back}
 use Rattle.mv_typed_bodies.proofs.Leading.{Holding, Leads, leads_here, leads_more, leads_joined, leads_block}
 use Rattle.mv_typed_bodies.proofs.Property.{OfOption, Passage}
@@ -117,7 +118,7 @@ module _ (x : Passage) where
         if_kept (λ y. x.of_value s e → Here s s y) (is_void t) place 13 _ (λ q.
         if_kept (λ y. x.of_value s e → Here s s y) (not (converts e t)) place 5 (Good (stmt.Return (Some (converted_to t e)))) (λ k h.
         subst (λ u. Here s s (stmt.Return (Some (converted_to u e)))) (sym r)
-        (x.return_form a.breaks a.continues s e (ap is_void (sym r) ∙ q) (ap (converts e) (sym r) ∙ not_false (converts e t) k) h)))
+        (x.return_form a.breaks a.continues s e (ap is_void (sym r) ∙ q) (ap (converts e) (sym r) ∙ not-false (converts e t) k) h)))
 
     pub return_leads : (place : Place) (t : CType) → t ≡ x.function.result → (e : Option Node) (s : Scope) → IfGood (return_judgement place t e s) (ToStmt a s)
     return_leads place t r None s =
@@ -212,7 +213,7 @@ module _ (x : Passage) where
     switched_has place s t e None = if_kept (λ r. x.of_value s e → Unit {0} → Here a returns s t r) (not (is_integer e.ctype)) place 3 (Broken place 11) (λ q. tt)
     switched_has place s t e (Some y) =
         if_kept (λ r. x.of_value s e → x.of_arms a.continues s t y → Here a returns s t r) (not (is_integer e.ctype)) place 3 (Good (stmt.Switch (promoted e) (arms_of y)))
-        (λ q h k. x.switch_form a.breaks a.continues s t e y (not_false (is_integer e.ctype) q) h k)
+        (λ q h k. x.switch_form a.breaks a.continues s t e y (not-false (is_integer e.ctype) q) h k)
 
     pub switch_leads : (place : Place) (e : Node) (j : Judges) → AllLead j → (s : Scope) → IfGood (switch_judgement place e j a s) (ToStmt a s)
     switch_leads place e j h s =

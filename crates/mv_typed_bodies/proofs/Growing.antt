@@ -9,7 +9,8 @@ use Rattle.mv_scope.specs.Scoped.{meaning_of, declared, with_local, block_entere
 use Rattle.mv_declare.specs.Declarators.{signature_of, numbered}
 use Rattle.mv_typed_bodies.specs.Bodies.{Grows}
 use Rattle.mv_typed_bodies.proofs.Names.{left_is, declared_means}
-use Rattle.mv_typed_bodies.proofs.Places.{IsPlain, keeps_same, keeps_joined, keeps_more, signature_kept, results_listed}
+use Rattle.mv_typed_bodies.proofs.Places.{keeps_same, keeps_joined, keeps_more, signature_kept, results_listed}
+use Rattle.mv_typing.proofs.Plain.{IsPlain}
 
 pub grows_same : (s : Scope) → Grows s s
 grows_same s = record { locals = keeps_same s.locals; signatures = keeps_same s.signatures; around = refl; results = λ h. h }

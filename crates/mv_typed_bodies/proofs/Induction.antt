@@ -12,18 +12,12 @@ module _ (P : Judges → Type 0) where
   -- P of each part of a statement
   abbrev pub LayerHas : Layer → Type 0
   LayerHas (act.Block ls) = AllByRecursion P ls
-  LayerHas (act.Declare specs names) = Unit {0}
-  LayerHas (act.Express e) = Unit {0}
   LayerHas (act.If e first second) = P first × OfOption P second
   LayerHas (act.While e l) = P l
   LayerHas (act.Do l e) = P l
   LayerHas (act.For first test step l) = OfOption P first × P l
   LayerHas (act.Switch e l) = P l
-  LayerHas (act.Case e) = Unit {0}
-  LayerHas act.Default = Unit {0}
-  LayerHas act.Break = Unit {0}
-  LayerHas act.Continue = Unit {0}
-  LayerHas (act.Return e) = Unit {0}
+  LayerHas x = Unit {0}
 
   module _ (by_parts : (x : Layer) → LayerHas x → (place : Place) → P (act_step x place)) where
     abbrev ActIs : Act → Type 0
@@ -50,8 +44,6 @@ module _ (P : Judges → Type 0) where
 
     parts : (y : Act-F A L) → LayerHas (judged (below y))
     parts (act.Block ls) = lines_are ls
-    parts (act.Declare specs names) = tt
-    parts (act.Express e) = tt
     parts (act.If e first None) = (first.1, tt)
     parts (act.If e first (Some second)) = (first.1, second.1)
     parts (act.While e l) = l.1
@@ -59,11 +51,7 @@ module _ (P : Judges → Type 0) where
     parts (act.For None test step l) = (tt, l.1)
     parts (act.For (Some first) test step l) = (first.1, l.1)
     parts (act.Switch e l) = l.1
-    parts (act.Case e) = tt
-    parts act.Default = tt
-    parts act.Break = tt
-    parts act.Continue = tt
-    parts (act.Return e) = tt
+    parts x = tt
 
     act_is : (y : Act-F A L) → ActIs (roll-Act (below y))
     act_is y place =

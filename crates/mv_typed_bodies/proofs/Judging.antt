@@ -1,5 +1,5 @@
 -- What holds of each good outcome of a judgement.
-use Rattle.std.proofs.Common.{◌≡◌, ℕ, Bool, true, false, not, ◌&&◌, refl, subst, List, [], ◌∷◌, ◌++◌}
+use Rattle.std.proofs.Common.{◌≡◌, ℕ, Bool, true, false, refl, subst, List, [], ◌∷◌}
 use Rattle.std.specs.List.{AllByRecursion}
 use Rattle.mv_ast.specs.declared.place.Place.{Place}
 use Rattle.mv_judge.specs.Judged.{Judged, Good, Broken, and_then}
@@ -49,26 +49,7 @@ module _ {S X : Type 0} (step : X → S → Judged S) (R : S → S → Type 0) (
       if_then (R s) (R s) (step x s) (through step xs) (each x h.0 s)
       (λ t r. if_more (R t) (R s) (through step xs t) (λ u. joined s t u r) (if_through xs h.1 t))
 
-pub each_any : {X : Type 0} (xs : List X) → AllByRecursion (λ x. Unit {0}) xs
-each_any [] = tt
-each_any (x ∷ xs) = (tt, each_any xs)
-
-pub not_false : (a : Bool) → not a ≡ false → a ≡ true
-not_false true h = refl
-not_false false h = absurd (cc)
-
-pub and_true : (a b : Bool) → (a && b) ≡ true → (a ≡ true) × (b ≡ true)
-and_true true b h = (refl, h)
-and_true false b h = absurd (cc)
-
 -- ---- lists
-
-pub all_append : {A : Type 0} (P : A → Type 0) (xs ys : List A) → AllByRecursion P xs → AllByRecursion P ys → AllByRecursion P (xs ++ ys)
-all_append P [] ys h k = k
-all_append P (x ∷ xs) ys h k = (h.0, all_append P xs ys h.1 k)
-
-pub all_last : {A : Type 0} (P : A → Type 0) (xs : List A) (y : A) → AllByRecursion P xs → P y → AllByRecursion P (xs ++ y ∷ [])
-all_last P xs y h k = all_append P xs (y ∷ []) h (k, tt)
 
 pub if_both : {A : Type 0} (P Q : A → Type 0) (j : Judged A) → IfGood j P → IfGood j Q → IfGood j (λ a. P a × Q a)
 if_both P Q (Good a) h k = (h, k)

@@ -1,8 +1,11 @@
+pub mod Lists
 pub mod Judging
 pub mod Places
 pub mod Names
 pub mod Growing
+pub mod NamedTypes
 pub mod Specified
+pub mod Shapes
 pub mod Designated
 pub mod Property
 pub mod Leading

@@ -12,7 +12,7 @@ use Rattle.mv_scope.specs.Scoped.{unless_declared, meaning_of, declared, block_e
 
 -- ---- declarations
 
-named_last : (n : List ℕ) (xs : Names) (y : List ℕ × Meaning) → named n (xs ++ y ∷ []) ≡ or_else (named n xs) (named n (y ∷ []))
+pub named_last : (n : List ℕ) (xs : Names) (y : List ℕ × Meaning) → named n (xs ++ y ∷ []) ≡ or_else (named n xs) (named n (y ∷ []))
 named_last n [] y = refl
 named_last n (x ∷ xs) y = by (pointwise nat_eq n x.0) (named_last n xs y)
   where
@@ -20,6 +20,19 @@ named_last n (x ∷ xs) y = by (pointwise nat_eq n x.0) (named_last n xs y)
         (if b then Some x.1 else named n (xs ++ y ∷ [])) ≡ or_else (if b then Some x.1 else named n xs) (named n (y ∷ []))
     by true q = refl
     by false q = q
+
+pub names_kept : (n : List ℕ) (xs : Names) (y : List ℕ × Meaning) (m : Meaning) → named n xs ≡ Some m → named n (xs ++ y ∷ []) ≡ Some m
+names_kept n xs y m h = named_last n xs y ∙ ap (λ o. or_else o (named n (y ∷ []))) h
+
+-- what a name means behind one more
+pub named_behind : (n : List ℕ) (xs : Names) (name : List ℕ) (k m : Meaning) → named n (xs ++ (name, k) ∷ []) ≡ Some m →
+    (named n xs ≡ Some m) ⊎ ((pointwise nat_eq n name ≡ true) × (k ≡ m))
+named_behind n xs name k m h = by (named n xs) (pointwise nat_eq n name) refl (sym (named_last n xs (name, k)) ∙ h)
+  where
+    by : (o : Option Meaning) (b : Bool) → b ≡ pointwise nat_eq n name → or_else o (if b then Some k else None) ≡ Some m → (o ≡ Some m) ⊎ ((pointwise nat_eq n name ≡ true) × (k ≡ m))
+    by (Some x) b e q = inl q
+    by None true e q = inr (sym e, cc)
+    by None false e q = absurd (cc)
 
 -- a name means what it meant, or what is declared
 pub declared_means : (s : Scope) (name : List ℕ) (m : Meaning) (n : List ℕ) (k : Meaning) → meaning_of (declared s name m) n ≡ Some k → (meaning_of s n ≡ Some k) ⊎ (m ≡ k)

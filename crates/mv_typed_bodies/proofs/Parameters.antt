@@ -16,12 +16,13 @@ use Rattle.mv_declare.specs.Declarators.{designated, is_taken_by}
 use Rattle.mv_declare.specs.Locals.{scalar}
 use Rattle.mv_declare.specs.Parameters.{named_parameter, defined_parameter, new_defined, parameter_judgement, parameters_judgement}
 use Rattle.mv_declare.specs.Specifiers.{specifiers}
-use Rattle.mv_typed_bodies.proofs.Judging.{IfGood, if_any, if_then, if_kept, if_more, if_through, each_any, all_append}
+use Rattle.mv_typed_bodies.proofs.Judging.{IfGood, if_any, if_then, if_kept, if_more, if_through}
 use Rattle.mv_typed_bodies.proofs.Specified.{Specifies, specifiers_specify}
 use Rattle.mv_typed_bodies.proofs.Designated.{IsListedEntity, Designates, shape_designates}
 use Rattle.mv_typed_bodies.proofs.Property.{Passage}
 use Rattle.mv_typed_bodies.proofs.Leading.{Leads, leads_here, leads_more, leads_joined, leads_renamed, leads_enumerated}
 use Rattle.mv_typed_bodies.proofs.Declared.{scalar_leads}
+use Rattle.mv_typed_bodies.proofs.Lists.{each_any, all_append}
 
 module _ (x : Passage) where
   abbrev To : Scope → Scope → Type 0

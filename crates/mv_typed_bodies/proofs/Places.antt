@@ -1,11 +1,13 @@
 -- What stands at the places of a list that grows.
-use Rattle.std.proofs.Common.{◌≡◌, ℕ, zero, suc, ◌⊎◌, inl, inr, refl, sym, ◌∙◌, ap, subst, List, [], ◌∷◌, ◌++◌, length, map, Some, slice_get, Bool, true, false, if◌then◌else◌, ◌+◌, arith}
+use Rattle.std.proofs.Common.{◌≡◌, ℕ, zero, suc, ◌⊎◌, inl, inr, refl, sym, ◌∙◌, ap, subst, List, [], ◌∷◌, ◌++◌, length, Some, slice_get, Bool, true, false, if◌then◌else◌, ◌+◌, arith, None, take}
+use Rattle.std.proofs.lemmas.Option.{same_Some}
 use Rattle.mv_ast.specs.declared.program.CType.{CType}
 use Rattle.mv_ast.specs.declared.program.CType.TheVariants.{Void, Scalar, Pointer}
 use Rattle.mv_ast.specs.declared.program.Signature.{Signature}
 use Rattle.mv_scope.specs.Conversions.{same_signature}
 use Rattle.mv_scope.specs.Signatures.{place_of, with_signature}
 use Rattle.mv_typing.specs.Soundness.{IsListed}
+use Rattle.mv_typing.proofs.Plain.{IsPlain}
 use Rattle.mv_typed_bodies.specs.Bodies.{Keeps, AreListed}
 
 module _ {A : Type 0} where
@@ -14,6 +16,20 @@ module _ {A : Type 0} where
 
   pub keeps_joined : (xs ys zs : List A) → Keeps xs ys → Keeps ys zs → Keeps xs zs
   keeps_joined xs ys zs h k i x q = k i x (h i x q)
+
+  -- a list that keeps another begins with it
+  pub kept_first : (x : A) (xs ys : List A) → Keeps (x ∷ xs) ys → (zs : List A) × (ys ≡ x ∷ zs) × Keeps xs zs
+  kept_first x xs [] k = absurd (none (k zero x refl))
+    where
+      none : None ≡ Some x → ⊥
+      none h = absurd (cc)
+  kept_first x xs (y ∷ ys) k = (ys, ap (λ z. z ∷ ys) (same_Some y x (k zero x refl)), λ i z h. k (suc i) z h)
+
+  pub keeps_take : (xs ys : List A) → Keeps xs ys → take (length xs) ys ≡ xs
+  keeps_take [] ys k = refl
+  keeps_take (x ∷ xs) ys k =
+      let f = kept_first x xs ys k in
+      ap (λ zs. take (suc (length xs)) zs) f.1 ∙ ap (λ zs. x ∷ zs) (keeps_take xs f.0 f.2)
 
   pub keeps_more : (xs ys : List A) → Keeps xs (xs ++ ys)
   keeps_more [] ys i x h = absurd (cc)
@@ -30,18 +46,7 @@ module _ {A : Type 0} where
   there_before (z ∷ zs) y zero x h = inl h
   there_before (z ∷ zs) y (suc i) x h = there_before zs y i x h
 
-  pub mapped_there : {B : Type 0} (g : A → B) (xs : List A) (i : ℕ) (x : A) → slice_get xs i ≡ Some x → slice_get (map g xs) i ≡ Some (g x)
-  mapped_there g [] i x h = absurd (cc)
-  mapped_there g (y ∷ ys) zero x h = let q : y ≡ x = cc in ap (λ z. Some (g z)) q
-  mapped_there g (y ∷ ys) (suc i) x h = mapped_there g ys i x h
-
 -- ---- signatures
-
--- a type that is no pointer
-abbrev pub IsPlain : CType → Type 0
-IsPlain Void = Unit {0}
-IsPlain (Scalar k) = Unit {0}
-IsPlain (Pointer s) = ⊥
 
 pub plain_listed : (signatures : List Signature) (t : CType) → IsPlain t → IsListed signatures t
 plain_listed signatures Void h = tt

@@ -24,7 +24,8 @@ use Rattle.mv_statement_rules.specs.declared.arms.Arms.{Arms}
 use Rattle.mv_statement_rules.specs.SwitchBodies.{no_arms, with_case, with_default, with_statement, arms_of}
 use Rattle.mv_typing.specs.Soundness.{Fits}
 use Rattle.mv_typed_bodies.proofs.Growing.{Enumerates}
-use Rattle.mv_typed_bodies.proofs.Judging.{IfGood, all_append}
+use Rattle.mv_typed_bodies.proofs.Judging.{IfGood}
+use Rattle.mv_typed_bodies.proofs.Lists.{all_append}
 
 module _ {A : Type 0} (P : A → Type 0) where
   abbrev pub OfOption : Option A → Type 0

@@ -5,7 +5,7 @@ use Rattle.mv_ast.specs.declared.program.Arm.{Arm}
 use Rattle.mv_ast.specs.declared.program.Stmt.{Stmt}
 use Rattle.mv_statement_rules.specs.declared.arms.Arms.{Arms}
 use Rattle.mv_statement_rules.specs.SwitchBodies.{no_arm, has_statements, at_label, with_statement, arms_of}
-use Rattle.mv_typed_bodies.proofs.Judging.{all_last}
+use Rattle.mv_typed_bodies.proofs.Lists.{all_last}
 
 module _ (P : Stmt → Type 0) where
   abbrev pub BodyHas : Arm → Type 0

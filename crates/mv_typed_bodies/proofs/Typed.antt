@@ -1,5 +1,5 @@
 -- To be well typed is a property of statements that comes from their parts: so the bodies of functions that keep the rules are well typed.
-use Rattle.std.proofs.Common.{◌≡◌, ℕ, false, refl, List, [], length, Option, Some, None}
+use Rattle.std.proofs.Common.{◌≡◌, false, refl, List, [], length, Option, Some, None}
 use Rattle.std.specs.List.{AllByRecursion}
 use Rattle.std.proofs.lemmas.List.Elements.{All-from_recursion}
 use Rattle.mv_ast.specs.declared.program.CType.{CType}
@@ -14,23 +14,23 @@ use Rattle.mv_ast.specs.declared.program.CType.TheVariants.{Void}
 use Rattle.mv_declare.specs.Parameters.{parameters_judgement}
 use Rattle.mv_typed_bodies.proofs.Parameters.{Adds, parameters_lead, parameters_add}
 use Rattle.mv_scope.specs.declared.scope.Scope.{Scope}
-use Rattle.mv_scope.specs.Constants.{computed}
 use Rattle.mv_judge.specs.Judged.{Good}
 use Rattle.mv_judge.specs.Judgements.{value_judgement, effect_judgement}
-use Rattle.mv_numbering.specs.Typing.{ComesTo, IsTypedExpr, IsTypedAt, IsTypedOption, IsTypedStmt}
+use Rattle.mv_numbering.specs.Typing.{IsTypedExpr, IsTypedAt, IsTypedOption, IsTypedStmt}
 use Rattle.mv_typing.specs.Soundness.{Fits, GoodIsTyped, EffectIsTyped}
+use Rattle.mv_typing.proofs.Types.{integer_is}
 use Rattle.mv_statement_rules.specs.SwitchBodies.{arms_of}
 use Rattle.mv_typed_bodies.proofs.SwitchBodies.{BodiesHave, arms_have, label_leaves, statement_has}
 use Rattle.mv_statement_rules.specs.Statements.{body_judgement}
 use Rattle.mv_typed_bodies.specs.Bodies.{Keeps, Grows, IsTypedBehind, AddsScalars, AreParameters}
 use Rattle.mv_typed_bodies.proofs.Judging.{of_good, by_good}
 use Rattle.mv_typed_bodies.proofs.Property.{OfOption, Property, passage}
-use Rattle.mv_typed_bodies.proofs.Conversions.{integer_is, converted_at, promoted_at}
+use Rattle.mv_typed_bodies.proofs.Conversions.{converted_at, promoted_at}
 use Rattle.mv_typed_bodies.proofs.Values.{initials_have}
 use Rattle.mv_typed_bodies.proofs.Made.{block_made, clear_made, express_made, if_made, while_made, do_made, for_made, break_made, continue_made, return_made, switch_made}
-use Rattle.mv_typed_bodies.proofs.Places.{mapped_there}
 use Rattle.mv_typed_bodies.proofs.Bodies.{body_leads, body_has}
 use Rattle.mv_typed_bodies.proofs.Leading.{Leads}
+use Rattle.mv_typed_bodies.proofs.Lists.{mapped_there}
 
 module _ (p : Program) (f : Function) where
   -- ---- the property
@@ -39,7 +39,7 @@ module _ (p : Program) (f : Function) where
   option_typed None h = tt
   option_typed (Some e) h = h
 
-  module _ (values : GoodIsTyped) (effects : EffectIsTyped) (comes : (p : Program) (e : Expr) (v : ℕ) → computed e ≡ Some v → ComesTo p e v) where
+  module _ (values : GoodIsTyped) (effects : EffectIsTyped) where
     abbrev typed : Property
     typed = record {
       program = p;
@@ -55,7 +55,7 @@ module _ (p : Program) (f : Function) where
       value = λ s k e. by_good (IsTypedExpr p f) (value_judgement s e) (λ y q. values p f s e y k.fits q);
       effect = λ s k e. by_good (IsTypedExpr p f) (effect_judgement s e) (λ y q. effects p f s e y k.fits q);
       initials = λ s k place l given.
-          initials_have s (IsTypedExpr p f) (λ e. by_good (IsTypedExpr p f) (value_judgement s e) (λ y q. values p f s e y k.fits q)) (IsTypedAt p f) (converted_at p (comes p) f) place l given;
+          initials_have s (IsTypedExpr p f) (λ e. by_good (IsTypedExpr p f) (value_judgement s e) (λ y q. values p f s e y k.fits q)) (IsTypedAt p f) (converted_at p f) place l given;
       block_form = λ b c ss h. block_made p f ss h;
       clear_form = λ b c n l es there h. clear_made p f n l.ctype es (mapped_there (λ (k : Local). k.ctype) f.locals n l there) h;
       express_form = λ b c e h. express_made p f e h;
@@ -66,8 +66,8 @@ module _ (p : Program) (f : Function) where
       break_form = λ c. break_made p f;
       continue_form = λ b. continue_made p f;
       nothing_form = λ b c q. return_made p f None tt;
-      return_form = λ b c e q k h. return_made p f (Some _) (converted_at p (comes p) f f.result e h k);
-      switch_form = λ b c e y q h k. let i = promoted_at p (comes p) f e h (integer_is e.ctype q) in switch_made p f _ (arms_of y) i.0 i.1 (arms_have (IsTypedStmt p f) y k);
+      return_form = λ b c e q k h. return_made p f (Some _) (converted_at p f f.result e h k);
+      switch_form = λ b c e y q h k. let i = promoted_at p f e h (integer_is e.ctype q) in switch_made p f _ (arms_of y) i.0 i.1 (arms_have (IsTypedStmt p f) y k);
       no_arm_form = λ c. (tt, tt);
       case_form = λ c v y h. label_leaves (IsTypedStmt p f) y h;
       default_form = λ c y q h. label_leaves (IsTypedStmt p f) y h;
@@ -84,7 +84,7 @@ module _ (p : Program) (f : Function) where
     body_grows t r body s u ss q = (body_leads (passage typed) t r body s u ss q).grows
 
 -- whatever the program is
-module _ (values : GoodIsTyped) (effects : EffectIsTyped) (comes : (p : Program) (e : Expr) (v : ℕ) → computed e ≡ Some v → ComesTo p e v) where
+module _ (values : GoodIsTyped) (effects : EffectIsTyped) where
   abbrev no_program : Program
   no_program = record { signatures = []; globals = []; functions = []; switches = []; main = 0 }
 
@@ -92,11 +92,11 @@ module _ (values : GoodIsTyped) (effects : EffectIsTyped) (comes : (p : Program)
   no_function t = record { name = []; attributed = false; result = t; params = 0; locals = []; switches = []; body = [] }
 
   pub any_grows : (t : CType) (body : Line) (s u : Scope) (ss : List Stmt) → body_judgement t body s ≡ Good (u, ss) → Grows s u
-  any_grows t body s u ss q = body_grows no_program (no_function t) values effects comes t refl body s u ss q
+  any_grows t body s u ss q = body_grows no_program (no_function t) values effects t refl body s u ss q
 
-  params_lead : (p : Program) (f : Function) (params : List Param) (s u : Scope) → parameters_judgement s params ≡ Good u → Leads (passage (typed p f values effects comes)) s u (Unit {0})
+  params_lead : (p : Program) (f : Function) (params : List Param) (s u : Scope) → parameters_judgement s params ≡ Good u → Leads (passage (typed p f values effects)) s u (Unit {0})
   params_lead p f params s u q =
-      of_good (λ t. Leads (passage (typed p f values effects comes)) s t (Unit {0})) (parameters_judgement s params) (parameters_lead (passage (typed p f values effects comes)) params s) u q
+      of_good (λ t. Leads (passage (typed p f values effects)) s t (Unit {0})) (parameters_judgement s params) (parameters_lead (passage (typed p f values effects)) params s) u q
 
   params_add : (params : List Param) (s u : Scope) → parameters_judgement s params ≡ Good u → AddsScalars (length params) s u
   params_add params s u q =

@@ -1,6 +1,7 @@
 -- The values that a local is given: what holds of each, converted, and how many there are.
-use Rattle.std.proofs.Common.{◌≡◌, ℕ, refl, Bool, true, false, not, ◌||◌, is_some, nat_le, ap, arith, List, length, Option, Some, None}
+use Rattle.std.proofs.Common.{◌≡◌, ℕ, refl, true, not, ◌||◌, is_some, nat_le, ap, arith, List, length, Option, Some, None}
 use Rattle.std.specs.List.{AllByRecursion}
+use Rattle.std.proofs.lemmas.Bool.{not-false, and_parts, or_parts}
 use Rattle.mv_ast.specs.declared.place.Place.{Place}
 use Rattle.mv_ast.specs.declared.program.CType.{CType}
 use Rattle.mv_ast.specs.declared.program.Local.{Local}
@@ -16,11 +17,8 @@ use Rattle.mv_judge.specs.Judged.{Good}
 use Rattle.mv_judge.specs.Judgements.{value_judgement}
 use Rattle.mv_declare.specs.declared.initials.Converted.{Converted}
 use Rattle.mv_declare.specs.Initials.{with_converted, converted_value, none_converted, converted_values, has_room, single_value, listed_values, initial_values}
-use Rattle.mv_typed_bodies.proofs.Judging.{IfGood, if_any, if_then, if_kept, if_more, if_through, each_any, not_false, and_true, all_last}
-
-or_false : (a b : Bool) → (a || b) ≡ false → (a ≡ false) × (b ≡ false)
-or_false true b h = absurd (cc)
-or_false false b h = (refl, h)
+use Rattle.mv_typed_bodies.proofs.Judging.{IfGood, if_any, if_then, if_kept, if_more, if_through}
+use Rattle.mv_typed_bodies.proofs.Lists.{each_any, all_last}
 
 -- where a value that keeps the rules is V, and W of a type once it is converted to it
 module _ (s : Scope) (V : Expr → Type 0) (value : (node : Node) → IfGood (value_judgement s node) V)
@@ -31,7 +29,7 @@ module _ (s : Scope) (V : Expr → Type 0) (value : (node : Node) → IfGood (va
     IsConverted x = x.all ≡ true → AllByRecursion (W t) x.values
 
     one_more : (x : Converted) (e : Expr) → IsConverted x → V e → IsConverted (with_converted t x e)
-    one_more x e h k q = let b = and_true x.all (converts e t) q in all_last (W t) x.values (converted_to t e) (h b.0) (convert t e k b.1)
+    one_more x e h k q = let b = and_parts x.all (converts e t) q in all_last (W t) x.values (converted_to t e) (h b.0) (convert t e k b.1)
 
     value_converted : (node : Node) (x : Converted) → IsConverted x → IfGood (converted_value t s node x) IsConverted
     value_converted node x h = if_then V IsConverted (value_judgement s node) _ (value node) (λ e k. one_more x e h k)
@@ -50,13 +48,13 @@ module _ (s : Scope) (V : Expr → Type 0) (value : (node : Node) → IfGood (va
     single_have : (place : Place) (size : Option ℕ) (x : Converted) → IsConverted x → IfGood (single_value place size x) (AllByRecursion (W t))
     unfolding single_value
     single_have place size x h =
-        if_kept (AllByRecursion (W t)) (is_some size || not x.all) place 5 (Good x.values) (λ q. h (not_false x.all (or_false (is_some size) (not x.all) q).1))
+        if_kept (AllByRecursion (W t)) (is_some size || not x.all) place 5 (Good x.values) (λ q. h (not-false x.all (or_parts (is_some size) (not x.all) q).1))
 
     listed_have : (place : Place) (size : Option ℕ) (x : Converted) → IsConverted x → IfGood (listed_values place size x) (AllByRecursion (W t))
     unfolding listed_values
     listed_have place size x h =
         if_kept (AllByRecursion (W t)) (not x.all) place 5 _ (λ q.
-        if_kept (AllByRecursion (W t)) (not (has_room size (length x.values))) place 10 (Good x.values) (λ r. h (not_false x.all q)))
+        if_kept (AllByRecursion (W t)) (not (has_room size (length x.values))) place 10 (Good x.values) (λ r. h (not-false x.all q)))
 
   pub initials_have : (place : Place) (l : Local) (given : Option Initial) → IfGood (initial_values place l given s) (AllByRecursion (W l.ctype))
   initials_have place l None = tt
@@ -82,7 +80,7 @@ unfolding listed_values
 listed_fit place None x = if_kept (λ es. nat_le (length es) 1 ≡ true) (not x.all) place 5 _ (λ q. tt)
 listed_fit place (Some n) x =
     if_kept (λ es. nat_le (length es) n ≡ true) (not x.all) place 5 _ (λ q.
-    if_kept (λ es. nat_le (length es) n ≡ true) (not (nat_le (length x.values) n)) place 10 (Good x.values) (λ r. not_false (nat_le (length x.values) n) r))
+    if_kept (λ es. nat_le (length es) n ≡ true) (not (nat_le (length x.values) n)) place 10 (Good x.values) (λ r. not-false (nat_le (length x.values) n) r))
 
 none_fit : (n : ℕ) → nat_le 0 n ≡ true
 none_fit n = grind arith

@@ -3,7 +3,7 @@
 
 ghost use Rattle.mv_typed_bodies.specs.Bodies.{BodyGrows, BodyIsTyped, ParametersFit};
 
-use mv_typing::{constants_come_to_their_values, good_expressions_are_typed};
+use mv_typing::good_expressions_are_typed;
 
 /// The body of a function that keeps the rules (C11 6.8) only adds to the scope before it, and is well typed in each program and function that
 /// have the signatures and the locals behind it and what the scope before it says. The call does nothing: its contract is the law.
@@ -11,7 +11,6 @@ pub fn good_bodies_are_typed()
     ensures grows { BodyGrows }
     ensures typed { BodyIsTyped }
 {
-    constants_come_to_their_values();
     good_expressions_are_typed();
 }
 
@@ -20,6 +19,5 @@ pub fn good_bodies_are_typed()
 pub fn good_parameters_fit()
     ensures { ParametersFit }
 {
-    constants_come_to_their_values();
     good_expressions_are_typed();
 }

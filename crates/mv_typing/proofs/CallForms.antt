@@ -2,6 +2,7 @@
 use Rattle.std.proofs.Common.{◌≡◌, ℕ, true, ◌&&◌, refl, sym, ◌∙◌, ap, subst, Option, Some, None, nat_eq, slice_get, List, [], ◌∷◌, length}
 use Rattle.std.specs.Prelude.{All}
 use Rattle.std.proofs.lemmas.List.Elements.{All-nil, All-cons}
+use Rattle.std.proofs.lemmas.Bool.{and_parts, eqb-true}
 use Rattle.mv_ast.specs.declared.program.CType.{CType}
 use Rattle.mv_ast.specs.declared.program.CType.TheVariants.{Pointer}
 use Rattle.mv_ast.specs.declared.program.Program.{Program}
@@ -22,7 +23,7 @@ use Rattle.mv_judge.specs.Seen.{value_of}
 use Rattle.mv_judge.specs.Calls.{pointed, params_of, result_of, known_params, known_arity, callee_params, takes_count, passed, all_convert, named_index, function_form, named_function, direct_or_through, with_index, called_with, call_of}
 use Rattle.mv_numbering.specs.Typing.{IsInteger, types_of, HasType, IsTypedExpr}
 use Rattle.mv_typing.specs.Soundness.{IsListed}
-use Rattle.mv_typing.proofs.Types.{and_true, same_number, pointer_is}
+use Rattle.mv_typing.proofs.Types.{pointer_is}
 use Rattle.mv_typing.proofs.Converted.{converted_type, converted_typed, converts_is}
 use Rattle.mv_typing.proofs.Made.{AllTyped, direct_made, through_made, known_made}
 use Rattle.mv_typing.proofs.Forms.{IsGood, IsGoodSeen, value_good}
@@ -30,20 +31,7 @@ use Rattle.mv_typing.proofs.Forms.{IsGood, IsGoodSeen, value_good}
 -- the expression is a function's name
 function_is : (z : Form-F Form Target Expr) (g : ℕ) → function_form z ≡ Some g → z ≡ open_form.Function g
 function_is (open_form.Function f) g h = let q : f ≡ g = cc in ap (λ x. open_form.Function x) q
-function_is (open_form.Number n) g h = absurd (cc)
-function_is (open_form.Read t) g h = absurd (cc)
-function_is (open_form.Unary op a) g h = absurd (cc)
-function_is (open_form.Binary op a b) g h = absurd (cc)
-function_is (open_form.Both a b) g h = absurd (cc)
-function_is (open_form.Either a b) g h = absurd (cc)
-function_is (open_form.Choose c a b) g h = absurd (cc)
-function_is (open_form.Convert a) g h = absurd (cc)
-function_is (open_form.Set t a) g h = absurd (cc)
-function_is (open_form.Change op s t a) g h = absurd (cc)
-function_is (open_form.After up t) g h = absurd (cc)
-function_is (open_form.Direct f args) g h = absurd (cc)
-function_is (open_form.Through args c) g h = absurd (cc)
-function_is (open_form.Known k args) g h = absurd (cc)
+function_is x g h = absurd (cc)
 
 -- the types of as many arguments as there are parameters
 passed_types : (ts : List CType) (args : List Seen) → length args ≡ length ts → types_of (passed ts args) ≡ ts
@@ -60,7 +48,7 @@ none_passed (a ∷ args) = refl
 
 known_types : (k : Known) (args : List Seen) → nat_eq (length args) (known_arity k) ≡ true → All IsInteger (types_of (passed (known_params k) args))
 known_types known.Putchar args h =
-    subst (All IsInteger) (sym (passed_types (int ∷ []) args (same_number (length args) 1 h))) (All-cons IsInteger int [] tt (All-nil IsInteger))
+    subst (All IsInteger) (sym (passed_types (int ∷ []) args (eqb-true (length args) 1 h))) (All-cons IsInteger int [] tt (All-nil IsInteger))
 known_types known.Getchar args h = subst (λ es. All IsInteger (types_of es)) (sym (none_passed args)) (All-nil IsInteger)
 known_types known.Poll args h = subst (λ es. All IsInteger (types_of es)) (sym (none_passed args)) (All-nil IsInteger)
 known_types (known.Plan code index) args h = subst (λ es. All IsInteger (types_of es)) (sym (none_passed args)) (All-nil IsInteger)
@@ -74,7 +62,7 @@ module _ (p : Program) (f : Function) (signatures : List Signature) where
   passed_typed ts [] h k = tt
   passed_typed [] (a ∷ args) h k = tt
   passed_typed (t ∷ ts) (a ∷ args) h k =
-      let s = and_true (converts (value_of a) t) (all_convert ts args) h in
+      let s = and_parts (converts (value_of a) t) (all_convert ts args) h in
       (converted_typed p f t (value_of a) (value_good p f signatures a k.0).0 (converts_is p (value_of a) t s.0), passed_typed ts args s.1 k.1)
 
   known_good : (k : Known) (index : ℕ) (args : List Seen) → AllGood args → all_convert (known_params k) args ≡ true → nat_eq (length args) (known_arity k) ≡ true →
@@ -108,7 +96,7 @@ module _ (p : Program) (f : Function) (signatures : List Signature) where
         (direct_or_through (named_function (value_of x)) (value_of x) (passed (params_of (pointed signatures (value_of x).ctype)) args)))
     function_good x args h k c n =
         let v = value_good p f signatures x h in
-        let b = and_true (is_pointer (value_of x).ctype) (nat_eq (length args) (length (params_of (pointed signatures (value_of x).ctype)))) n in
+        let b = and_parts (is_pointer (value_of x).ctype) (nat_eq (length args) (length (params_of (pointed signatures (value_of x).ctype)))) n in
         let s = pointer_is (value_of x).ctype b.0 in
         let g = subst (IsListed signatures) s.1 v.1 in
         let is : pointed signatures (value_of x).ctype ≡ Some g.0 = ap (pointed signatures) s.1 ∙ g.1 in
@@ -117,7 +105,7 @@ module _ (p : Program) (f : Function) (signatures : List Signature) where
         let n' : nat_eq (length args) (length g.0.params) ≡ true = subst (λ o. nat_eq (length args) (length (params_of o)) ≡ true) is b.1 in
         subst P (sym is)
         (pointer_good (value_of x) s.0 g.0 (passed g.0.params args) v.0 s.1 g.1 (passed_typed g.0.params args c' k)
-        (passed_types g.0.params args (same_number (length args) (length g.0.params) n')))
+        (passed_types g.0.params args (eqb-true (length args) (length g.0.params) n')))
 
     pub call_good : (x : Seen) (args : List Seen) → IsGoodSeen p f signatures x → AllGood args → all_convert (callee_params signatures x) args ≡ true →
         takes_count signatures x (length args) ≡ true → IsGood p f signatures (call_of signatures x args)

@@ -14,7 +14,7 @@ use Rattle.mv_numbering.proofs.Constants.{comes_number, comes_unary, comes_conve
 
 -- ---- what a computed value comes from
 
-from_one : (r : Option ℕ) (f : ℕ → ℕ) (v : ℕ) → of_one r f ≡ Some v → (u : ℕ) × (r ≡ Some u) × (f u ≡ v)
+pub from_one : (r : Option ℕ) (f : ℕ → ℕ) (v : ℕ) → of_one r f ≡ Some v → (u : ℕ) × (r ≡ Some u) × (f u ≡ v)
 from_one None f v h = absurd (cc)
 from_one (Some u) f v h = (u, refl, cc)
 
@@ -44,18 +44,12 @@ truth_is n = by (nat_eq n 0)
 
 -- ---- the equations of computing
 
-form_fold : Form → CType → Option ℕ
-form_fold = fold-Form (CType → Option ℕ) (Unit {0}) Evaluated value_form value_target value_expr
-
-target_fold : Target → Unit {0}
-target_fold = fold-Target (CType → Option ℕ) (Unit {0}) Evaluated value_form value_target value_expr
-
-abbrev layer_of : Form-F Form Target Expr → Form-F (CType → Option ℕ) (Unit {0}) Evaluated
+abbrev pub layer_of : Form-F Form Target Expr → Form-F (CType → Option ℕ) (Unit {0}) Evaluated
 layer_of = map-Form Form Target Expr (CType → Option ℕ) (Unit {0}) Evaluated
     (fold-Form (CType → Option ℕ) (Unit {0}) Evaluated value_form value_target value_expr)
     (fold-Target (CType → Option ℕ) (Unit {0}) Evaluated value_form value_target value_expr) evaluated
 
-computed_is : (e : Expr) (z : Form-F Form Target Expr) → out-Form e.what ≡ z → computed e ≡ value_form (layer_of z) e.ctype
+pub computed_is : (e : Expr) (z : Form-F Form Target Expr) → out-Form e.what ≡ z → computed e ≡ value_form (layer_of z) e.ctype
 computed_is e z h =
     ap (λ s. s.value) (fold_out-Expr (CType → Option ℕ) (Unit {0}) Evaluated value_form value_target value_expr e) ∙
     (ap (λ g. g e.ctype) (fold_out-Form (CType → Option ℕ) (Unit {0}) Evaluated value_form value_target value_expr e.what) ∙
@@ -139,20 +133,13 @@ module _ (p : Program) where
   by_form (form.Number n) e o v h =
       let q : n ≡ v = let q : Some n ≡ Some v = sym (computed_is e (form.Number n) o) ∙ h in cc in
       subst (λ x. ComesTo p e x) q (comes_number p e n o)
-  by_form (form.Read t) e o v h = no_value e v _ o refl h
-  by_form (form.Function g) e o v h = no_value e v _ o refl h
   by_form (form.Unary op a) e o v h = unary e v op a.0 o a.1 h
   by_form (form.Binary op a b) e o v h = binary e v op a.0 b.0 o a.1 b.1 h
   by_form (form.Both a b) e o v h = both e v a.0 b.0 o a.1 b.1 h
   by_form (form.Either a b) e o v h = either e v a.0 b.0 o a.1 b.1 h
   by_form (form.Choose c a b) e o v h = choose e v c.0 a.0 b.0 o c.1 a.1 b.1 h
   by_form (form.Convert a) e o v h = convert e v a.0 o a.1 h
-  by_form (form.Set t a) e o v h = no_value e v _ o refl h
-  by_form (form.Change op kind t a) e o v h = no_value e v _ o refl h
-  by_form (form.After up t) e o v h = no_value e v _ o refl h
-  by_form (form.Direct g args) e o v h = no_value e v _ o refl h
-  by_form (form.Through args callee) e o v h = no_value e v _ o refl h
-  by_form (form.Known k args) e o v h = no_value e v _ o refl h
+  by_form x e o v h = no_value e v _ o refl h
 
   form_case : (x : Form-F Form Target Expr) (y : Form-F F T E) → below y ≡ x → FormComes (roll-Form x)
   form_case x y q e w = by_form y e (ap out-Form w ∙ (out-roll-Form x ∙ sym q))

@@ -1,5 +1,6 @@
 -- Conversions that the rules allow are well typed.
 use Rattle.std.proofs.Common.{◌≡◌, ℕ, ◌⊎◌, inl, inr, Bool, true, false, ◌&&◌, ◌||◌, refl, sym, ◌∙◌, ap, subst, Option, Some, None, if◌then◌else◌}
+use Rattle.std.proofs.lemmas.Bool.{and_parts, or_cases, eqb-true}
 use Rattle.mv_ast.specs.declared.program.CType.{CType}
 use Rattle.mv_ast.specs.declared.program.CType.TheVariants.{Void, Scalar, Pointer}
 use Rattle.mv_ast.specs.declared.program.Program.{Program}
@@ -11,7 +12,7 @@ use Rattle.mv_scope.specs.Constants.{is_constant, computed, constant_value, is_z
 use Rattle.mv_judge.specs.Found.{common_type}
 use Rattle.mv_judge.specs.Rules.{are_integers, meet}
 use Rattle.mv_numbering.specs.Typing.{IsInteger, IsNull, ConvertsTo, IsTypedExpr}
-use Rattle.mv_typing.proofs.Types.{and_true, or_true, same_is, same_number, integer_is, pointer_is, usual_integer}
+use Rattle.mv_typing.proofs.Types.{same_is, integer_is, pointer_is, usual_integer}
 use Rattle.mv_typing.proofs.Computed.{comes}
 use Rattle.mv_typing.proofs.Made.{convert_made}
 
@@ -29,25 +30,25 @@ converted_type t e = by (same_type t e.ctype) refl
 
 zero_is : (b : Bool) (r : Option ℕ) → is_zero (if b then r else None) ≡ true → r ≡ Some 0
 zero_is true None h = absurd (cc)
-zero_is true (Some n) h = ap Some (same_number n 0 h)
+zero_is true (Some n) h = ap Some (eqb-true n 0 h)
 zero_is false r h = absurd (cc)
 
 pub null_is : (p : Program) (e : Expr) → is_null e ≡ true → IsNull p e
 null_is p e h =
-    let s = and_true (is_integer e.ctype) (is_zero (constant_value e)) h in
+    let s = and_parts (is_integer e.ctype) (is_zero (constant_value e)) h in
     (integer_is e.ctype s.0, comes p e 0 (zero_is (is_constant e) (computed e) s.1))
 
 -- ---- conversions as by assignment
 
+to_scalar : (a b c : Bool) → ((a && true) || (false && (b || c))) ≡ true → a ≡ true
+to_scalar true b c h = refl
+to_scalar false b c h = absurd (cc)
+
+pub to_pointer : (a b c : Bool) → ((a && false) || (true && (b || c))) ≡ true → (b ≡ true) ⊎ (c ≡ true)
+to_pointer true b c h = or_cases b c h
+to_pointer false b c h = or_cases b c h
+
 module _ (p : Program) where
-  to_scalar : (a b c : Bool) → ((a && true) || (false && (b || c))) ≡ true → a ≡ true
-  to_scalar true b c h = refl
-  to_scalar false b c h = absurd (cc)
-
-  to_pointer : (a b c : Bool) → ((a && false) || (true && (b || c))) ≡ true → (b ≡ true) ⊎ (c ≡ true)
-  to_pointer true b c h = or_true b c h
-  to_pointer false b c h = or_true b c h
-
   pub converts_is : (e : Expr) (t : CType) → converts e t ≡ true → ConvertsTo p t e
   converts_is e Void h = tt
   converts_is e (Scalar k) h = integer_is e.ctype (to_scalar (is_integer e.ctype) (same_type e.ctype (Scalar k)) (is_null e) h)
@@ -95,7 +96,7 @@ module _ (p : Program) where
 
   pub integers_meet : (a b : Expr) → are_integers a.ctype b.ctype ≡ true → Meets a b
   integers_meet a b h =
-      let s = and_true (is_integer a.ctype) (is_integer b.ctype) h in
+      let s = and_parts (is_integer a.ctype) (is_integer b.ctype) h in
       integers_meet_at a b a.ctype b.ctype refl refl (integer_is a.ctype s.0) (integer_is b.ctype s.1)
 
   left_pointer : (a b : Expr) → is_pointer a.ctype ≡ true → converts b a.ctype ≡ true → Meets a b
@@ -135,10 +136,10 @@ module _ (p : Program) where
   pub meet_is : (a b : Expr) → meet a b ≡ true → Meets a b
   unfolding meet
   meet_is a b h =
-      elim (or_true (are_integers a.ctype b.ctype || (is_pointer a.ctype && converts b a.ctype)) (is_pointer b.ctype && converts a b.ctype) h) [
-        | inl q ↦ elim (or_true (are_integers a.ctype b.ctype) (is_pointer a.ctype && converts b a.ctype) q) [
+      elim (or_cases (are_integers a.ctype b.ctype || (is_pointer a.ctype && converts b a.ctype)) (is_pointer b.ctype && converts a b.ctype) h) [
+        | inl q ↦ elim (or_cases (are_integers a.ctype b.ctype) (is_pointer a.ctype && converts b a.ctype) q) [
           | inl r ↦ integers_meet a b r
-          | inr r ↦ let s = and_true (is_pointer a.ctype) (converts b a.ctype) r in left_pointer a b s.0 s.1
+          | inr r ↦ let s = and_parts (is_pointer a.ctype) (converts b a.ctype) r in left_pointer a b s.0 s.1
         ]
-        | inr q ↦ let s = and_true (is_pointer b.ctype) (converts a b.ctype) q in right_pointer a b (is_pointer a.ctype) refl s.0 s.1
+        | inr q ↦ let s = and_parts (is_pointer b.ctype) (converts a b.ctype) q in right_pointer a b (is_pointer a.ctype) refl s.0 s.1
       ]

@@ -1,5 +1,6 @@
 -- What a form is found to be is well typed where its parts are and it keeps the rules: operators, assignments, objects.
 use Rattle.std.proofs.Common.{◌≡◌, ℕ, ◌⊎◌, inl, inr, Bool, true, false, ◌&&◌, ◌||◌, refl, sym, ◌∙◌, ap, subst, Option, Some, nat_eq, if◌then◌else◌, List}
+use Rattle.std.proofs.lemmas.Bool.{and_parts, or_cases, eqb-true}
 use Rattle.mv_ast.specs.declared.program.CType.{CType}
 use Rattle.mv_ast.specs.declared.program.CType.TheVariants.{Void, Scalar, Pointer}
 use Rattle.mv_ast.specs.declared.program.Program.{Program}
@@ -21,7 +22,7 @@ use Rattle.mv_judge.specs.Found.{is_shift, is_equality, is_comparison, is_both, 
 use Rattle.mv_judge.specs.Rules.{are_integers, is_scalar, meet, takes_one, takes_two}
 use Rattle.mv_numbering.specs.Typing.{IsInteger, ConvertsTo, LvalueHasType, IsFunctionOf, IsTypedExpr, TakesTwo}
 use Rattle.mv_typing.specs.Soundness.{IsListed, IsStored}
-use Rattle.mv_typing.proofs.Types.{and_true, or_true, same_number, integer_is, promotion_integer, usual_integer}
+use Rattle.mv_typing.proofs.Types.{integer_is, promotion_integer, usual_integer}
 use Rattle.mv_typing.proofs.Converted.{converted_type, converted_typed, integer_converts, Meets, meet_is}
 use Rattle.mv_typing.proofs.Made.{TypedTarget, unary_made, number_made, function_made, read_made, binary_made, both_made, either_made, choose_made, set_made, change_made, after_made, global_made, local_made, global_at_made, local_at_made}
 
@@ -105,7 +106,7 @@ module _ (p : Program) (f : Function) (signatures : List Signature) where
 
       by : (b : Bool) → nat_eq op 11 ≡ b → (is_integer a.ctype || (b && is_pointer a.ctype)) ≡ true →
           IsGood (if b then typed int (form.Unary op a) else typed (promotion a.ctype) (form.Unary op (promoted a)))
-      by true q g = (unary_made p f int op a h (tt, inr (same_number op 11 q)), tt)
+      by true q g = (unary_made p f int op a h (tt, inr (eqb-true op 11 q)), tt)
       by false q g =
           let n = integer_is a.ctype (integer (is_integer a.ctype) g) in (
             unary_made p f (promotion a.ctype) op (promoted a) (promoted_typed a h n) (promotion_integer a.ctype n, inl (promoted_integer a n)),
@@ -159,7 +160,7 @@ module _ (p : Program) (f : Function) (signatures : List Signature) where
 
   -- `==` and `!=`
   equality_is : (op : ℕ) → is_equality op ≡ true → (op ≡ 29) ⊎ (op ≡ 30)
-  equality_is op h = elim (or_true (nat_eq op 29) (nat_eq op 30) h) [ inl q ↦ inl (same_number op 29 q) | inr q ↦ inr (same_number op 30 q) ]
+  equality_is op h = elim (or_cases (nat_eq op 29) (nat_eq op 30) h) [ inl q ↦ inl (eqb-true op 29 q) | inr q ↦ inr (eqb-true op 30 q) ]
 
   meeting : (op : ℕ) (a b : Expr) (t : CType) → Typed a → Typed b → ConvertsTo p t a → ConvertsTo p t b → (IsInteger t ⊎ ((s : ℕ) × (t ≡ Pointer s))) →
       (op ≡ 29) ⊎ (op ≡ 30) → IsGood (typed int (form.Binary op (converted_to t a) (converted_to t b)))
@@ -182,9 +183,9 @@ module _ (p : Program) (f : Function) (signatures : List Signature) where
   pub computed_good : (op : ℕ) (a b : Expr) → Typed a → Typed b → (are_integers a.ctype b.ctype || (is_equality op && meet a b)) ≡ true →
       IsGood (computed_of op (left_type op a.ctype b.ctype) (right_type op a.ctype b.ctype) a b)
   computed_good op a b h k q =
-      elim (or_true (are_integers a.ctype b.ctype) (is_equality op && meet a b) q) [
-        | inl r ↦ let s = and_true (is_integer a.ctype) (is_integer b.ctype) r in integers_good op a b h k (integer_is a.ctype s.0) (integer_is b.ctype s.1)
-        | inr r ↦ let s = and_true (is_equality op) (meet a b) r in equality_good op a b (equality_is op s.0) h k (meet_is p a b s.1)
+      elim (or_cases (are_integers a.ctype b.ctype) (is_equality op && meet a b) q) [
+        | inl r ↦ let s = and_parts (is_integer a.ctype) (is_integer b.ctype) r in integers_good op a b h k (integer_is a.ctype s.0) (integer_is b.ctype s.1)
+        | inr r ↦ let s = and_parts (is_equality op) (meet a b) r in equality_good op a b (equality_is op s.0) h k (meet_is p a b s.1)
       ]
 
   pub binary_good : (op : ℕ) (a b : Expr) → Typed a → Typed b → takes_two op a b ≡ true → IsGood (binary_of op a b)

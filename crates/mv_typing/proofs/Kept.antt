@@ -10,6 +10,9 @@ pub went_on : {A B : Type 0} → (j : Judged A) (next : A → Judged B) (y : B) 
 went_on (Good x) next y h = (x, refl, h)
 went_on (Broken place rule) next y h = absurd (cc)
 
+pub same_good : {A : Type 0} (x y : A) → Good x ≡ Good y → x ≡ y
+same_good x y h = cc
+
 -- the rules that a node keeps
 pub record Keeps (b : Breaches) : Type 0 where
   pub undeclared : b.undeclared ≡ false
@@ -66,8 +69,5 @@ module _ (place : Place) (x y : Seen) where
           undefined = a19.0;
           misplaced = a20.0;
         },
-        good a20.1,
+        same_good x y a20.1,
       )
-    where
-      good : Good x ≡ Good y → x ≡ y
-      good q = cc

@@ -1,8 +1,10 @@
 mod CallForms
-mod Computed
-mod Converted
+pub mod Computed
+pub mod Converted
 mod Forms
-mod Kept
+pub mod Induction
+pub mod Kept
 mod Made
+pub mod Plain
 mod Sound
-mod Types
+pub mod Types

@@ -1,27 +1,12 @@
 -- What tests on types say.
-use Rattle.std.proofs.Common.{◌≡◌, ℕ, ◌⊎◌, inl, inr, Bool, true, false, not, ◌&&◌, ◌||◌, refl, sym, ◌∙◌, ap, nat_eq, if◌then◌else◌, arith}
+use Rattle.std.proofs.Common.{◌≡◌, ℕ, Bool, true, false, ◌||◌, refl, sym, ◌∙◌, ap, nat_eq, if◌then◌else◌}
+use Rattle.std.proofs.lemmas.Bool.{eqb-true}
 use Rattle.mv_num.specs.declared.kind.Kind.{Kind}
 use Rattle.mv_num.specs.declared.kind.Kind.TheVariants as kind
 use Rattle.mv_ast.specs.declared.program.CType.{CType}
 use Rattle.mv_ast.specs.declared.program.CType.TheVariants.{Void, Scalar, Pointer}
 use Rattle.mv_scope.specs.Conversions.{kind_number, same_type, is_integer, is_pointer, promotion, usual, int, unsigned}
 use Rattle.mv_numbering.specs.Typing.{IsInteger}
-
-pub and_true : (a b : Bool) → (a && b) ≡ true → (a ≡ true) × (b ≡ true)
-and_true true b h = (refl, h)
-and_true false b h = absurd (cc)
-
-pub or_true : (a b : Bool) → (a || b) ≡ true → (a ≡ true) ⊎ (b ≡ true)
-or_true true b h = inl refl
-or_true false b h = inr h
-
-pub or_false : (a b : Bool) → (a || b) ≡ false → (a ≡ false) × (b ≡ false)
-or_false true b h = absurd (cc)
-or_false false b h = (refl, h)
-
-pub not_false : (a : Bool) → not a ≡ false → a ≡ true
-not_false true h = refl
-not_false false h = absurd (cc)
 
 kind_of : ℕ → Kind
 kind_of n =
@@ -38,20 +23,12 @@ kind_back kind.UShort = refl
 kind_back kind.Int = refl
 kind_back kind.UInt = refl
 
-pub same_number : (m n : ℕ) → nat_eq m n ≡ true → m ≡ n
-same_number m n h = grind (arith, h)
-
 pub same_is : (s t : CType) → same_type s t ≡ true → s ≡ t
 same_is Void Void h = refl
 same_is (Scalar k) (Scalar l) h =
-    ap Scalar (sym (kind_back k) ∙ (ap kind_of (same_number (kind_number k) (kind_number l) h) ∙ kind_back l))
-same_is (Pointer s) (Pointer t) h = ap Pointer (same_number s t h)
-same_is Void (Scalar l) h = absurd (cc)
-same_is Void (Pointer t) h = absurd (cc)
-same_is (Scalar k) Void h = absurd (cc)
-same_is (Scalar k) (Pointer t) h = absurd (cc)
-same_is (Pointer s) Void h = absurd (cc)
-same_is (Pointer s) (Scalar l) h = absurd (cc)
+    ap Scalar (sym (kind_back k) ∙ (ap kind_of (eqb-true (kind_number k) (kind_number l) h) ∙ kind_back l))
+same_is (Pointer s) (Pointer t) h = ap Pointer (eqb-true s t h)
+same_is s t h = absurd (cc)
 
 pub integer_is : (t : CType) → is_integer t ≡ true → IsInteger t
 integer_is Void h = absurd (cc)

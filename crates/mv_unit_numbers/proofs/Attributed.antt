@@ -15,9 +15,10 @@ use Rattle.mv_types.specs.Contents.{present, switches_from}
 use Rattle.mv_types.specs.Foreknown.{foreknown, is_attributed, attributed_number}
 use Rattle.mv_types.specs.Units.{with_switches, program_of}
 use Rattle.mv_unit_numbers.specs.Numbers.{AreJudged, AreDefined, HasNumber, AreAttributed}
-use Rattle.mv_unit_numbers.proofs.Lists.{all_of_map, filter_map, unmapped_there}
+use Rattle.mv_unit_numbers.proofs.Lists.{filter_map}
 use Rattle.mv_unit_numbers.proofs.NameLists.{Different, among_here, among_kept, among_is, kept_different, at_place, place_among}
 use Rattle.mv_unit_numbers.proofs.Functions.{known_different, functions_defined}
+use Rattle.mv_typed_bodies.proofs.Lists.{all_mapped, mapped_back}
 
 same_names : (switches : List Switch) (fs : List Function) → map (λ f. f.name) (map (with_switches switches) fs) ≡ map (λ f. f.name) fs
 same_names switches [] = refl
@@ -49,7 +50,7 @@ module _ (items : List Item) where
       let all : (program_of c main).functions ≡ gs = program_functions c main in
       ap (λ fs. map (λ f. f.name) (filter (λ f. f.attributed) fs)) all ∙
       (filter_map (λ f. f.attributed) (is_attributed k) (λ f. f.name) gs
-      (all_of_map (λ f. f.attributed ≡ is_attributed k f.name) (with_switches switches) (present c.functions)
+      (all_mapped (λ f. f.attributed ≡ is_attributed k f.name) (with_switches switches) (present c.functions)
       (recursion_from_All (λ f. f.attributed ≡ is_attributed k f.name) (present c.functions) d.attributed)) ∙
       (ap (filter (is_attributed k)) (same_names switches (present c.functions) ∙ d.named) ∙ sym attributed_is))
 
@@ -66,7 +67,7 @@ module _ (items : List Item) where
       found : (i : ℕ) × (place_of name k.outline.attributed ≡ Some i) → Some (unwrap_or (place_of name k.outline.attributed) 0) ≡ Some n → HasNumber fs n name
       found x s =
           let t : x.0 ≡ n = (let u : Some x.0 ≡ Some n = ap (λ o. Some (unwrap_or o 0)) (sym x.1) ∙ s in cc) in
-          unmapped_there (λ f. f.name) fs n name
+          mapped_back (λ f. f.name) fs n name
           (ap (λ xs. slice_get xs n) e ∙ at_place name k.outline.attributed n (x.1 ∙ ap (λ i. Some i) t))
 
       different : Different k.outline.attributed

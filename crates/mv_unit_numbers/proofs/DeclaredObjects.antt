@@ -36,7 +36,6 @@ use Rattle.mv_typed_bodies.specs.Bodies.{BodyGrows, ParametersFit}
 use Rattle.mv_typed_bodies.proofs.Judging.{IfGood, if_any, if_then, if_more, if_both, by_good}
 use Rattle.mv_typed_bodies.proofs.Designated.{Designates, shape_designates}
 use Rattle.mv_typed_bodies.proofs.Names.{left_is}
-use Rattle.mv_typed_bodies.proofs.Places.{IsPlain}
 use Rattle.mv_typed_bodies.proofs.Specified.{Specifies, specifiers_specify}
 use Rattle.mv_types.specs.declared.contents.Contents.{Contents}
 use Rattle.mv_types.specs.declared.contents.Foreknown.{Foreknown}
@@ -53,6 +52,8 @@ use Rattle.mv_unit_numbers.proofs.Items.{one, items_done}
 use Rattle.mv_unit_numbers.proofs.Marks.{specifiers_marked, file_marked}
 use Rattle.mv_unit_numbers.proofs.Objects.{AreObjects, no_objects, others_added, if_marked, either_some, one_new, one_again}
 use Rattle.mv_unit_numbers.proofs.Spaces.{here, AddsTo, adds_same, adds_joined, adds_one, adds_nothing, specifiers_add}
+use Rattle.mv_unit_numbers.proofs.NameLists.{or_nothing}
+use Rattle.mv_typing.proofs.Plain.{IsPlain}
 
 -- ---- what a declaration of an object may be
 
@@ -217,10 +218,6 @@ module _ (k : Foreknown) (bodies : BodyGrows) (fit : ParametersFit) where
   entity_of b body d name (entity.Array t fixed size) a c xs ys h true mark q r = absurd (cc)
   entity_of b body d name (entity.Array t fixed size) a c xs ys h false mark q r =
       object_of d name (entity.Array t fixed size) (domain_by c.scope b.enumeration a) (is_some body) c mark xs ys h (domain_some c.scope b.enumeration a ∙ r)
-
-  abbrev or_nothing : Option (List ℕ) → List ℕ
-  or_nothing None = []
-  or_nothing (Some name) = name
 
   named_of : (b : Specified) (body : Option Line) (d : Declarator) (name : Option (List ℕ)) (e : Designated) (c : Contents) (xs ys : List (List ℕ)) → Of xs ys c →
       (function mark : Bool) → is_function_entity e.entity ≡ function → is_some e.attribute ≡ mark →

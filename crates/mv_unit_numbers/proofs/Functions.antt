@@ -3,9 +3,10 @@ use Rattle.std.proofs.Common.{◌≡◌, ℕ, zero, suc, refl, sym, ◌∙◌, a
 use Rattle.std.specs.Prelude.{All, slice_set, unwrap_or}
 use Rattle.std.proofs.Math.Bool.{or-false}
 use Rattle.std.specs.List.{AllByRecursion}
-use Rattle.std.proofs.lemmas.List.{length-set, length-map, append-nil}
+use Rattle.std.proofs.lemmas.List.{length-set, length-map, append-nil, length-replicate}
 use Rattle.std.proofs.lemmas.List.Elements.{All-from_recursion}
 use Rattle.std.proofs.lemmas.Option.{slice_get_within, slice_get-get_or}
+use Rattle.std.proofs.lemmas.Bool.{and_from}
 use Rattle.mv_ast.specs.declared.program.CType.{CType}
 use Rattle.mv_ast.specs.declared.program.Function.{Function}
 use Rattle.mv_ast.specs.declared.unit.Declarator.{Declarator}
@@ -31,7 +32,7 @@ use Rattle.mv_declare.specs.Specifiers.{specifiers}
 use Rattle.mv_declare.specs.Turns.{through}
 use Rattle.mv_statement_rules.specs.Statements.{body_judgement}
 use Rattle.mv_typed_bodies.proofs.Judging.{IfGood, if_any, if_then, if_more, of_good}
-use Rattle.mv_typed_bodies.proofs.Places.{mapped_there}
+use Rattle.mv_typed_bodies.proofs.Lists.{mapped_there, all_by, all_more, mapped_back}
 use Rattle.mv_types.specs.declared.contents.Contents.{Contents}
 use Rattle.mv_types.specs.declared.contents.Foreknown.{Foreknown}
 use Rattle.mv_types.specs.declared.functions.Before.{Before}
@@ -41,8 +42,8 @@ use Rattle.mv_types.specs.Functions.{is_defined, is_defined_at, body_entered, pa
 use Rattle.mv_types.specs.Objects.{type_by_rules, object_judgement, domain_by, object_scope}
 use Rattle.mv_types.specs.Units.{by_entity, named_declarator, base_of, declarator_judgement, holders, item_judgement}
 use Rattle.mv_unit_numbers.specs.Numbers.{AreDefined, IsForeknown}
-use Rattle.mv_unit_numbers.proofs.Lists.{all_more, all_both, by_places, set_there, unmapped_there}
-use Rattle.mv_unit_numbers.proofs.NameLists.{Different, name_is, among_here, among_last, among_once, among_kept, among_different, at_place, place_there, place_among}
+use Rattle.mv_unit_numbers.proofs.Lists.{all_both, set_there}
+use Rattle.mv_unit_numbers.proofs.NameLists.{Different, name_is, among_here, among_last, among_once, among_kept, among_different, at_place, place_there, place_among, or_nothing}
 use Rattle.mv_unit_numbers.proofs.Items.{one, IsNamed, AreNamed, all_named, items_done}
 use Rattle.mv_unit_numbers.proofs.Designated.{is_function_entity, file_alike}
 
@@ -68,10 +69,6 @@ none_there : (n j : ℕ) (f : Function) → slice_get (replicate n nothing) j �
 none_there zero j f h = absurd (cc)
 none_there (suc n) zero f h = absurd (cc)
 none_there (suc n) (suc j) f h = none_there n j f h
-
-long : {A : Type 0} (n : ℕ) (x : A) → length (replicate n x) ≡ n
-long zero x = refl
-long (suc n) x = ap suc (long n x)
 
 all_present : (fs : List (Option Function)) → AllByRecursion (λ o. is_some o ≡ true) fs → fs ≡ map (λ f. Some f) (present fs)
 all_present [] h = refl
@@ -104,7 +101,7 @@ module _ (k : Foreknown) (different : Different k.outline.functions) where
 
   nothing_right : AreRight [] (replicate (length names) nothing)
   nothing_right = record {
-    count = long (length names) nothing;
+    count = length-replicate (length names) nothing;
     right = λ n f h. absurd (none_there (length names) n f h);
     there = λ name h. absurd (cc);
   }
@@ -208,10 +205,6 @@ module _ (k : Foreknown) (different : Different k.outline.functions) where
   entity_right done b body d name (entity.Array t fixed size) a c h true q g = absurd (cc)
   entity_right done b body d name (entity.Array t fixed size) a c h false q g = object_right done d name (entity.Array t fixed size) (domain_by c.scope b.enumeration a) (is_some body) c h
 
-  abbrev or_nothing : Option (List ℕ) → List ℕ
-  or_nothing None = []
-  or_nothing (Some name) = name
-
   named_right : (done : List (List ℕ)) (b : Specified) (body : Option Line) (d : Declarator) (name : Option (List ℕ)) (e : Designated) (c : Contents) → Right done c →
       (function : Bool) → is_function_entity e.entity ≡ function → (function && is_there body ≡ true → is_among (or_nothing name) names ≡ true) →
       IfGood (named_declarator k b body d name e c) (Right (behind done function (or_nothing name) body))
@@ -253,9 +246,6 @@ and_left : (a b : Bool) → (a && b) ≡ true → a ≡ true
 and_left true b h = refl
 and_left false b h = absurd (cc)
 
-both : (a b : Bool) → a ≡ true → b ≡ true → (a && b) ≡ true
-both a b p q = ap₂ (λ x y. x && y) p q
-
 among_functions : (name : List ℕ) (items : List Item) →
     is_among name (functions items) ≡ (is_among name (all_names wanted.DefinedFunctions items) && is_among name (all_names wanted.Functions items))
 among_functions name items =
@@ -277,7 +267,7 @@ known_named items =
         IsNamed wanted.Functions (all_names wanted.Functions items) i d → IsNamed wanted.DefinedFunctions (foreknown items).outline.functions i d
     one_named i d h g q =
         subst (λ ns. is_among (name_of d) ns ≡ true) (sym (known_functions items))
-        (among_functions (name_of d) items ∙ both (is_among (name_of d) (all_names wanted.DefinedFunctions items)) (is_among (name_of d) (all_names wanted.Functions items)) (h q)
+        (among_functions (name_of d) items ∙ and_from (is_among (name_of d) (all_names wanted.DefinedFunctions items)) (is_among (name_of d) (all_names wanted.Functions items)) (h q)
         (g (and_left (is_function d) (is_there i.body) q)))
 
 -- ---- all of them are defined
@@ -293,7 +283,7 @@ module _ (items : List Item) where
   IsRight = AreRight k (known_different items) (all_names wanted.DefinedFunctions items)
 
   defines : (fs : List (Option Function)) → IsRight fs → AllByRecursion (λ o. is_some o ≡ true) fs
-  defines fs h = by_places (λ o. is_some o ≡ true) fs (λ n o q. by n o q (standing_at n (omega (arith, h.count, slice_get_within fs n o q))))
+  defines fs h = all_by (λ o. is_some o ≡ true) fs (λ n o q. by n o q (standing_at n (omega (arith, h.count, slice_get_within fs n o q))))
     where
       standing_at : (n : ℕ) → n < length known → (name : List ℕ) × (slice_get known n ≡ Some name)
       standing_at n lt = (get_or known n [], slice_get-get_or known n [] lt)
@@ -313,7 +303,7 @@ module _ (items : List Item) where
 
   each : (fs : List (Option Function)) (gs : List Function) → fs ≡ map (λ f. Some f) gs → (g : ℕ) → g < length fs → (f : Function) × (slice_get fs g ≡ Some (Some f))
   each fs gs e g lt =
-      let x = unmapped_there (λ f. Some f) gs g (get_or fs g None) (ap (λ xs. slice_get xs g) (sym e) ∙ slice_get-get_or fs g None lt) in
+      let x = mapped_back (λ f. Some f) gs g (get_or fs g None) (ap (λ xs. slice_get xs g) (sym e) ∙ slice_get-get_or fs g None lt) in
       (x.0, slice_get-get_or fs g None lt ∙ ap (λ o. Some o) (sym x.2))
 
   are_defined : (c : Contents) → IsRight c.functions → AreDefined k c
@@ -327,8 +317,8 @@ module _ (items : List Item) where
         each = each c.functions gs all;
         named = same_list (map (λ f. f.name) gs) known
             (length-map gs (λ f. f.name) ∙ (sym (length-map gs (λ (f : Function). Some f)) ∙ (ap length (sym all) ∙ h.count)))
-            (λ n name q. let x = unmapped_there (λ f. f.name) gs n name q in (right n x.0 x.1).0 ∙ ap (λ y. Some y) x.2);
-        attributed = All-from_recursion (λ f. f.attributed ≡ is_attributed k f.name) gs (by_places (λ f. f.attributed ≡ is_attributed k f.name) gs (λ n g q. (right n g q).1));
+            (λ n name q. let x = mapped_back (λ f. f.name) gs n name q in (right n x.0 x.1).0 ∙ ap (λ y. Some y) x.2);
+        attributed = All-from_recursion (λ f. f.attributed ≡ is_attributed k f.name) gs (all_by (λ f. f.attributed ≡ is_attributed k f.name) gs (λ n g q. (right n g q).1));
       }
 
   pub functions_defined : (c : Contents) → through (item_judgement k) items (nothing_declared k) ≡ Good c → AreDefined k c
@@ -348,9 +338,9 @@ module _ (items : List Item) where
   item_known : (i : Item) → AreNamed wanted.DefinedFunctions ns i → IsForeknown (foreknown items) i
   item_known i h body q =
       All-from_recursion HasPlace i.names
-      (all_more (IsNamed wanted.DefinedFunctions ns i) HasPlace i.names
-      (λ d f r. place_among (name_of d) ns (known_different items) (f (both (is_function d) (is_there i.body) r (ap is_there q)))) h)
+      (all_more (IsNamed wanted.DefinedFunctions ns i) HasPlace
+      (λ d f r. place_among (name_of d) ns (known_different items) (f (and_from (is_function d) (is_there i.body) r (ap is_there q)))) i.names h)
 
   pub items_known : All (IsForeknown (foreknown items)) items
   items_known =
-      All-from_recursion (IsForeknown (foreknown items)) items (all_more (AreNamed wanted.DefinedFunctions ns) (IsForeknown (foreknown items)) items item_known (known_named items))
+      All-from_recursion (IsForeknown (foreknown items)) items (all_more (AreNamed wanted.DefinedFunctions ns) (IsForeknown (foreknown items)) item_known items (known_named items))

@@ -17,11 +17,11 @@ use Rattle.mv_declare.specs.declared.specifiers.Specified.{Specified}
 use Rattle.mv_declare.specs.Specifiers.{specifiers}
 use Rattle.mv_declare.specs.Turns.{through}
 use Rattle.mv_typed_bodies.proofs.Judging.{IfGood, if_then, if_kept, if_more}
+use Rattle.mv_typed_bodies.proofs.Lists.{all_more}
 use Rattle.mv_types.specs.declared.contents.Contents.{Contents}
 use Rattle.mv_types.specs.declared.contents.Foreknown.{Foreknown}
 use Rattle.mv_types.specs.Contents.{in_scope}
 use Rattle.mv_types.specs.Units.{declarator_judgement, holders, declares_nothing, item_judgement}
-use Rattle.mv_unit_numbers.proofs.Lists.{all_more}
 use Rattle.mv_unit_numbers.proofs.NameLists.{name_itself, among_more, among_later}
 use Rattle.mv_unit_numbers.proofs.Turns.{if_done}
 
@@ -61,7 +61,7 @@ some_named w i [] = tt
 some_named w i (d ∷ ds) = (
   λ q. ap (λ b. is_among (name_of d) (map name_of (if b then d ∷ filter (is_wanted w i) ds else filter (is_wanted w i) ds))) q ∙
       ap (λ b. b || is_among (name_of d) (some w i ds)) (name_itself (name_of d)),
-  all_more (IsNamed w (some w i ds) i) (IsNamed w (some w i (d ∷ ds)) i) ds (λ e h q. more (is_wanted w i d) e (h q)) (some_named w i ds),
+  all_more (IsNamed w (some w i ds) i) (IsNamed w (some w i (d ∷ ds)) i) (λ e h q. more (is_wanted w i d) e (h q)) ds (some_named w i ds),
 )
   where
     more : (b : Bool) (e : Declarator) → is_among (name_of e) (some w i ds) ≡ true →
@@ -72,13 +72,13 @@ some_named w i (d ∷ ds) = (
 pub all_named : (w : Wanted) (items : List Item) → AllByRecursion (AreNamed w (all_names w items)) items
 all_named w [] = tt
 all_named w (i ∷ is) = (
-  all_more (IsNamed w (names_in w i) i) (IsNamed w (all_names w (i ∷ is)) i) i.names
+  all_more (IsNamed w (names_in w i) i) (IsNamed w (all_names w (i ∷ is)) i)
       (λ d h q. subst (λ ns. is_among (name_of d) ns ≡ true) (sym (flat_map-cons (names_in w) i is)) (among_more (name_of d) (names_in w i) (all_names w is) (h q)))
-      (some_named w i i.names),
-  all_more (AreNamed w (all_names w is)) (AreNamed w (all_names w (i ∷ is))) is
-      (λ j h. all_more (IsNamed w (all_names w is) j) (IsNamed w (all_names w (i ∷ is)) j) j.names
-      (λ d h q. subst (λ ns. is_among (name_of d) ns ≡ true) (sym (flat_map-cons (names_in w) i is)) (among_later (name_of d) (names_in w i) (all_names w is) (h q))) h)
-      (all_named w is),
+      i.names (some_named w i i.names),
+  all_more (AreNamed w (all_names w is)) (AreNamed w (all_names w (i ∷ is)))
+      (λ j h. all_more (IsNamed w (all_names w is) j) (IsNamed w (all_names w (i ∷ is)) j)
+      (λ d h q. subst (λ ns. is_among (name_of d) ns ≡ true) (sym (flat_map-cons (names_in w) i is)) (among_later (name_of d) (names_in w i) (all_names w is) (h q))) j.names h)
+      is (all_named w is),
 )
 
 -- ---- two lists of names that grow with the contents

@@ -1,22 +1,9 @@
 -- Lists at a place, and with one element changed.
-use Rattle.std.proofs.Common.{◌≡◌, ℕ, zero, suc, refl, sym, ◌∙◌, ap, subst, ◌⊎◌, inl, inr, Bool, true, false, List, [], ◌∷◌, map, filter, Some, slice_get, if◌then◌else◌, arith}
+use Rattle.std.proofs.Common.{◌≡◌, ℕ, zero, suc, refl, sym, ◌∙◌, ap, ◌⊎◌, inl, inr, Bool, true, false, List, [], ◌∷◌, map, filter, Some, slice_get, if◌then◌else◌, arith}
 use Rattle.std.specs.Prelude.{slice_set}
 use Rattle.std.specs.List.{AllByRecursion}
 
 module _ {A : Type 0} where
-  pub all_there : (P : A → Type 0) (xs : List A) → AllByRecursion P xs → (i : ℕ) (x : A) → slice_get xs i ≡ Some x → P x
-  all_there P [] h i x q = absurd (cc)
-  all_there P (y ∷ ys) h zero x q = let e : y ≡ x = cc in subst P e h.0
-  all_there P (y ∷ ys) h (suc i) x q = all_there P ys h.1 i x q
-
-  pub by_places : (P : A → Type 0) (xs : List A) → ((i : ℕ) (x : A) → slice_get xs i ≡ Some x → P x) → AllByRecursion P xs
-  by_places P [] h = tt
-  by_places P (x ∷ xs) h = (h zero x refl, by_places P xs (λ i y q. h (suc i) y q))
-
-  pub all_more : (P Q : A → Type 0) (xs : List A) → ((x : A) → P x → Q x) → AllByRecursion P xs → AllByRecursion Q xs
-  all_more P Q [] f h = tt
-  all_more P Q (x ∷ xs) f h = (f x h.0, all_more P Q xs f h.1)
-
   pub all_both : (P Q R : A → Type 0) → ((x : A) → P x → Q x → R x) → (xs : List A) → AllByRecursion P xs → AllByRecursion Q xs → AllByRecursion R xs
   all_both P Q R f [] h k = tt
   all_both P Q R f (x ∷ xs) h k = (f x h.0 k.0, all_both P Q R f xs h.1 k.1)
@@ -48,15 +35,6 @@ module _ {A B : Type 0} where
   set_same f [] i x y h e = refl
   set_same f (z ∷ zs) zero x y h e = let q : z ≡ x = cc in ap (λ b. b ∷ map f zs) (e ∙ sym (ap f q))
   set_same f (z ∷ zs) (suc i) x y h e = ap (λ bs. f z ∷ bs) (set_same f zs i x y h e)
-
-  pub all_of_map : (P : B → Type 0) (f : A → B) (xs : List A) → AllByRecursion (λ x. P (f x)) xs → AllByRecursion P (map f xs)
-  all_of_map P f [] h = tt
-  all_of_map P f (x ∷ xs) h = (h.0, all_of_map P f xs h.1)
-
-  pub unmapped_there : (f : A → B) (xs : List A) (i : ℕ) (b : B) → slice_get (map f xs) i ≡ Some b → (x : A) × (slice_get xs i ≡ Some x) × (f x ≡ b)
-  unmapped_there f [] i b h = absurd (cc)
-  unmapped_there f (x ∷ xs) zero b h = (x, refl, cc)
-  unmapped_there f (x ∷ xs) (suc i) b h = unmapped_there f xs i b h
 
   -- a filter by what stays the same in a map
   pub filter_map : (p : A → Bool) (q : B → Bool) (f : A → B) (xs : List A) → AllByRecursion (λ x. p x ≡ q (f x)) xs → map f (filter p xs) ≡ filter q (map f xs)

@@ -1,6 +1,7 @@
 -- Specifiers and a declarator give an attribute where there is a mark.
-use Rattle.std.proofs.Common.{◌≡◌, ℕ, zero, suc, ◌+◌, refl, sym, ◌∙◌, ap, ap₂, Bool, true, ◌||◌, not, List, [], ◌∷◌, take, drop, Option, Some, is_some, arith}
+use Rattle.std.proofs.Common.{◌≡◌, ℕ, zero, suc, refl, sym, ◌∙◌, ap, ap₂, Bool, true, ◌||◌, not, List, [], ◌∷◌, take, drop, Option, Some, is_some}
 use Rattle.std.proofs.Math.Bool.{or-false, or-true}
+use Rattle.std.proofs.lemmas.List.{drop-drop}
 use Rattle.mv_num.specs.declared.kind.Kind.{Kind}
 use Rattle.mv_ast.specs.declared.place.Place.{Place}
 use Rattle.mv_ast.specs.declared.unit.Declarator.{Declarator}
@@ -21,7 +22,8 @@ use Rattle.mv_declare.specs.Attributes.{given_domain, holds, held, attribute, at
 use Rattle.mv_declare.specs.Declarators.{designated}
 use Rattle.mv_declare.specs.Globals.{file_declarator}
 use Rattle.mv_declare.specs.Specifiers.{enumeration_of, count_before_list, nothing_said, enum_specifier, enum_specifiers, kind_of, scalar_kind, type_by_rules, specifiers}
-use Rattle.mv_typed_bodies.proofs.Judging.{IfGood, if_any, if_then, if_kept, if_through, if_more, each_any}
+use Rattle.mv_typed_bodies.proofs.Judging.{IfGood, if_any, if_then, if_kept, if_through, if_more}
+use Rattle.mv_typed_bodies.proofs.Lists.{each_any}
 
 -- ---- attributes
 
@@ -44,18 +46,6 @@ attributes_there h k s (m ∷ ms) before =
 
 -- ---- specifiers
 
-abbrev no_marks : List Mark
-no_marks = []
-
-drop_more : (m n : ℕ) (ms : List Mark) → drop (m + n) ms ≡ drop n (drop m ms)
-drop_more zero n ms = ap (λ j. drop j ms) (let e : 0 + n ≡ n = omega arith in e)
-drop_more (suc m) n [] = none (suc m + n) ∙ sym (none n)
-  where
-    none : (j : ℕ) → drop j no_marks ≡ no_marks
-    none zero = refl
-    none (suc j) = refl
-drop_more (suc m) n (x ∷ xs) = ap (λ j. drop j (x ∷ xs)) (let e : suc m + n ≡ suc (m + n) = omega arith in e) ∙ drop_more m n xs
-
 parts_filled : (n : ℕ) (ms : List Mark) (b : Bool) → (is_filled (drop n ms) || (is_filled (take n ms) || b)) ≡ (is_filled ms || b)
 parts_filled zero ms b = refl
 parts_filled (suc n) [] b = refl
@@ -73,7 +63,7 @@ enum_left h k marks e x =
     let given = attributes h k x.0 (take n rest) x.1.attribute in
     if_then (λ a. is_some a ≡ (is_filled (take n rest) || is_some x.1.attribute)) (λ y. Left marks y ≡ Left marks x) given _ (attributes_there h k x.0 (take n rest) x.1.attribute) (λ a q.
     if_then (λ d. Unit {0}) (λ y. Left marks y ≡ Left marks x) (enumeration_of x.0 f.tag f.members) _ (if_any (enumeration_of x.0 f.tag f.members)) (λ d u.
-    ap₂ (λ ms b. is_filled ms || b) (drop_more x.1.used n marks) q ∙ parts_filled n rest (is_some x.1.attribute)))
+    ap₂ (λ ms b. is_filled ms || b) (sym (drop-drop n x.1.used marks)) q ∙ parts_filled n rest (is_some x.1.attribute)))
 
 pub specifiers_marked : (position : Position) (names : List Declarator) (specs : Specs) (s : Scope) →
     IfGood (specifiers position names specs s) (λ d. is_some d.1.attribute ≡ is_filled (out-Specs specs).marks)

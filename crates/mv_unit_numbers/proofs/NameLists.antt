@@ -1,5 +1,5 @@
 -- Lists of names: what is among them, and the place of a name where each stands once.
-use Rattle.std.proofs.Common.{◌≡◌, ℕ, zero, suc, refl, sym, ◌∙◌, ap, ap₂, subst, Bool, true, false, ◌||◌, ◌&&◌, not, cond, nat_lt, ◌<◌, if◌then◌else◌, List, [], ◌∷◌, ◌++◌, length, filter, Some, None, slice_get, get_or, ◌+◌, arith}
+use Rattle.std.proofs.Common.{◌≡◌, ℕ, zero, suc, refl, sym, ◌∙◌, ap, ap₂, subst, Bool, true, false, ◌||◌, ◌&&◌, not, cond, nat_lt, ◌<◌, if◌then◌else◌, List, [], ◌∷◌, ◌++◌, length, filter, Some, None, slice_get, get_or, ◌+◌, arith, Option}
 use Rattle.std.proofs.Math.Bool.{or-false, or-true, or_assoc}
 use Rattle.std.specs.List.{AllByRecursion, position_or_len}
 use Rattle.std.specs.Cmp.Lexicographic.{same_text}
@@ -23,6 +23,10 @@ name_is m n h = same_text m n (sym h)
 
 other_way : (m n : List ℕ) → same_name m n ≡ same_name n m
 other_way = nat_list_eq_equiv.symm
+
+abbrev pub or_nothing : Option (List ℕ) → List ℕ
+or_nothing None = []
+or_nothing (Some name) = name
 
 -- ---- what is among some names
 

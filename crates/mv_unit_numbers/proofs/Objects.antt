@@ -11,11 +11,12 @@ use Rattle.mv_scope.specs.Spaces.{named, or_else}
 use Rattle.mv_outline.specs.Names.{same_name, is_among, with_name, each_once}
 use Rattle.mv_types.specs.declared.contents.Object.{Object}
 use Rattle.mv_types.specs.Objects.{number_of, either_domain}
-use Rattle.mv_typed_bodies.proofs.Judging.{all_last}
-use Rattle.mv_typed_bodies.proofs.Places.{keeps_more, last_there, there_before, mapped_there}
-use Rattle.mv_unit_numbers.proofs.Lists.{all_there, by_places, set_there, set_same, unmapped_there}
+use Rattle.mv_typed_bodies.proofs.Places.{keeps_more, last_there, there_before}
+use Rattle.mv_typed_bodies.proofs.Lists.{all_last, mapped_there, all_at, all_by, mapped_back}
+use Rattle.mv_typed_bodies.proofs.Names.{named_last, names_kept, named_behind}
+use Rattle.mv_unit_numbers.proofs.Lists.{set_there, set_same}
 use Rattle.mv_unit_numbers.proofs.NameLists.{name_itself, name_is, among_last, among_here, among_once, once_different, place_there, standing}
-use Rattle.mv_unit_numbers.proofs.Spaces.{named_last, still_named, named_behind, Adds}
+use Rattle.mv_unit_numbers.proofs.Spaces.{Adds}
 
 abbrev pub object_name : Object → List ℕ
 object_name o = o.global.name
@@ -114,7 +115,7 @@ module _ (xs ys : List (List ℕ)) (space : Names) (objects : List Object) (name
     where
       clash : (i : ℕ) × (slice_get (each_once xs) i ≡ Some name) → ⊥
       clash x =
-          let o = unmapped_there object_name objects x.0 name (ap (λ ns. slice_get ns x.0) h.all ∙ x.1) in
+          let o = mapped_back object_name objects x.0 name (ap (λ ns. slice_get ns x.0) h.all ∙ x.1) in
           let e : is_some no_meaning ≡ true = ap is_some (sym q) ∙ (ap (λ n. is_some (named n space)) (sym o.2) ∙ h.have x.0 o.0 o.1) in
           absurd (cc)
 
@@ -138,7 +139,7 @@ module _ (xs ys : List (List ℕ)) (space : Names) (objects : List Object) (name
     have = λ i x r. have i x (there_before objects o i x r);
     all = map-append object_name objects (o ∷ []) ∙ (ap₂ (λ ns n. ns ++ n ∷ []) h.all e ∙ (sym (ap (λ b. if b then each_once xs else each_once xs ++ name ∷ []) (not_yet q)) ∙ sym (once_last xs name)));
     marked = all_last (λ x. is_some x.domain ≡ is_among (object_name x) (ys ++ if_marked mark name)) objects o
-        (by_places (λ x. is_some x.domain ≡ is_among (object_name x) (ys ++ if_marked mark name)) objects old)
+        (all_by (λ x. is_some x.domain ≡ is_among (object_name x) (ys ++ if_marked mark name)) objects old)
         (domain ∙ (sym (among_same ys mark name ∙ ap (λ b. b || mark) (unmarked q)) ∙ ap (λ n. is_among n (ys ++ if_marked mark name)) (sym e)));
     among = λ n r. still_among xs ys mark name n (h.among n) r;
   }
@@ -156,7 +157,7 @@ module _ (xs ys : List (List ℕ)) (space : Names) (objects : List Object) (name
       have : (i : ℕ) (x : Object) → (slice_get objects i ≡ Some x) ⊎ (o ≡ x) → is_some (named (object_name x) (space ++ (name, m) ∷ [])) ≡ true
       have i x (inl r) =
           let y = there (named (object_name x) space) (h.have i x r) in
-          some_there (named (object_name x) (space ++ (name, m) ∷ [])) y.0 (still_named (object_name x) space (name, m) y.0 y.1)
+          some_there (named (object_name x) (space ++ (name, m) ∷ [])) y.0 (names_kept (object_name x) space (name, m) y.0 y.1)
       have i x (inr r) =
           subst (λ z. is_some (named (object_name z) (space ++ (name, m) ∷ [])) ≡ true) r (ap (λ n. is_some (named n (space ++ (name, m) ∷ []))) e ∙ here)
 
@@ -170,7 +171,7 @@ module _ (xs ys : List (List ℕ)) (space : Names) (objects : List Object) (name
 
       old : (i : ℕ) (x : Object) → slice_get objects i ≡ Some x → is_some x.domain ≡ is_among (object_name x) (ys ++ if_marked mark name)
       old i x r =
-          all_there (λ z. is_some z.domain ≡ is_among (object_name z) ys) objects h.marked i x r ∙
+          all_at (λ z. is_some z.domain ≡ is_among (object_name z) ys) objects h.marked i x r ∙
           sym (among_other (object_name x) ys mark name (other i x r (same_name (object_name x) name) refl))
 
   -- ---- one more declaration of an object
@@ -185,10 +186,10 @@ module _ (xs ys : List (List ℕ)) (space : Names) (objects : List Object) (name
       names_same = set_same object_name objects n o new at same
 
       found : (i : ℕ) (x : Object) → slice_get objects i ≡ Some x → (y : Object) × (slice_get (slice_set objects n new) i ≡ Some y) × (object_name y ≡ object_name x)
-      found i x q = unmapped_there object_name (slice_set objects n new) i (object_name x) (ap (λ ns. slice_get ns i) names_same ∙ mapped_there object_name objects i x q)
+      found i x q = mapped_back object_name (slice_set objects n new) i (object_name x) (ap (λ ns. slice_get ns i) names_same ∙ mapped_there object_name objects i x q)
 
       back : (i : ℕ) (y : Object) → slice_get (slice_set objects n new) i ≡ Some y → (x : Object) × (slice_get objects i ≡ Some x) × (object_name x ≡ object_name y)
-      back i y q = unmapped_there object_name objects i (object_name y) (ap (λ ns. slice_get ns i) (sym names_same) ∙ mapped_there object_name (slice_set objects n new) i y q)
+      back i y q = mapped_back object_name objects i (object_name y) (ap (λ ns. slice_get ns i) (sym names_same) ∙ mapped_there object_name (slice_set objects n new) i y q)
 
       other_place : (i : ℕ) (x : Object) → slice_get objects i ≡ Some x → (n ≡ i → ⊥) → (b : Bool) → b ≡ same_name (object_name x) name → same_name (object_name x) name ≡ false
       other_place i x q apart false u = sym u
@@ -207,19 +208,19 @@ module _ (xs ys : List (List ℕ)) (space : Names) (objects : List Object) (name
             (y.0, y.1, y.2 ∙ x.2);
         have = λ i y q. let x = back i y q in ap (λ m. is_some (named m space)) (sym x.2) ∙ h.have i x.0 x.1;
         all = names_same ∙ (h.all ∙ (sym (ap (λ b. if b then each_once xs else each_once xs ++ name ∷ []) (among_here name (each_once xs) n known_there)) ∙ sym (once_last xs name)));
-        marked = by_places (λ x. is_some x.domain ≡ is_among (object_name x) (ys ++ if_marked mark name)) (slice_set objects n new) (λ i x q. by i x (set_there objects n new i x q));
+        marked = all_by (λ x. is_some x.domain ≡ is_among (object_name x) (ys ++ if_marked mark name)) (slice_set objects n new) (λ i x q. by i x (set_there objects n new i x q));
         among = λ m q. still_among xs ys mark name m (h.among m) q;
       }
         where
           here : is_some new.domain ≡ is_among (object_name new) (ys ++ if_marked mark name)
           here =
               domain ∙
-              (ap (λ b. b || mark) (all_there (λ z. is_some z.domain ≡ is_among (object_name z) ys) objects h.marked n o at ∙ ap (λ z. is_among z ys) e) ∙
+              (ap (λ b. b || mark) (all_at (λ z. is_some z.domain ≡ is_among (object_name z) ys) objects h.marked n o at ∙ ap (λ z. is_among z ys) e) ∙
               (sym (among_same ys mark name) ∙ ap (λ z. is_among z (ys ++ if_marked mark name)) (sym (same ∙ e))))
 
           by : (i : ℕ) (x : Object) → ((slice_get objects i ≡ Some x) × (n ≡ i → ⊥)) ⊎ ((n ≡ i) × (new ≡ x)) →
               is_some x.domain ≡ is_among (object_name x) (ys ++ if_marked mark name)
           by i x (inl q) =
-              all_there (λ z. is_some z.domain ≡ is_among (object_name z) ys) objects h.marked i x q.0 ∙
+              all_at (λ z. is_some z.domain ≡ is_among (object_name z) ys) objects h.marked i x q.0 ∙
               sym (among_other (object_name x) ys mark name (other_place i x q.0 q.1 (same_name (object_name x) name) refl))
           by i x (inr q) = subst (λ z. is_some z.domain ≡ is_among (object_name z) (ys ++ if_marked mark name)) q.1 here

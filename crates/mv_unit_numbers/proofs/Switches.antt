@@ -15,7 +15,7 @@ use Rattle.mv_outline.specs.Outlined.{all_names}
 use Rattle.mv_declare.specs.Turns.{through}
 use Rattle.mv_typed_bodies.specs.Bodies.{BodyGrows, ParametersFit}
 use Rattle.mv_typed_bodies.proofs.Judging.{of_good}
-use Rattle.mv_typed_bodies.proofs.Places.{mapped_there}
+use Rattle.mv_typed_bodies.proofs.Lists.{mapped_there, all_at, all_by, all_more, mapped_back}
 use Rattle.mv_types.specs.declared.contents.Contents.{Contents}
 use Rattle.mv_types.specs.declared.contents.Foreknown.{Foreknown}
 use Rattle.mv_types.specs.declared.contents.Object.{Object}
@@ -24,7 +24,6 @@ use Rattle.mv_types.specs.Foreknown.{foreknown}
 use Rattle.mv_types.specs.Units.{item_judgement, program_of}
 use Rattle.mv_unit_numbers.specs.Numbers.{AreJudged, IsSwitchOf, AreSwitches}
 use Rattle.mv_unit_numbers.proofs.DeclaredObjects.{Of, objects_of}
-use Rattle.mv_unit_numbers.proofs.Lists.{all_there, by_places, all_more, unmapped_there}
 use Rattle.mv_unit_numbers.proofs.NameLists.{Different, among_here, among_kept, among_once, among_is, once_different, at_place, place_there}
 use Rattle.mv_unit_numbers.proofs.Objects.{object_name}
 
@@ -94,21 +93,21 @@ module _ (items : List Item) where
       (placed place 0 os (λ j o q.
       place_there k.outline.objects different j (object_name o) (ap (λ ns. slice_get ns j) (sym e) ∙ mapped_there object_name os j o q) ∙
       ap (λ n. Some n) (let r : j ≡ 0 + j = omega arith in r)))
-      (all_more (λ o. is_some o.domain ≡ is_among (object_name o) (all_names wanted.MarkedObjects items)) (λ o. is_some o.domain ≡ is_marked (object_name o)) os
-      (λ o q. q ∙ sym (among_once (object_name o) (all_names wanted.MarkedObjects items))) m) ∙
+      (all_more (λ o. is_some o.domain ≡ is_among (object_name o) (all_names wanted.MarkedObjects items)) (λ o. is_some o.domain ≡ is_marked (object_name o))
+      (λ o q. q ∙ sym (among_once (object_name o) (all_names wanted.MarkedObjects items))) os m) ∙
       ap (map place) (ap (filter is_marked) e ∙ sym switches_are)
 
   numbered : (switches : List Switch) → map global switches ≡ map place k.outline.switches → (name : List ℕ) (g n : ℕ) → place_of name k.outline.objects ≡ Some g →
       place_of name k.outline.switches ≡ Some n → IsSwitchOf switches n g
   numbered switches e name g n p q =
-      let x = unmapped_there global switches n (place name) (ap (λ xs. slice_get xs n) e ∙ mapped_there place k.outline.switches n name (at_place name k.outline.switches n q)) in
+      let x = mapped_back global switches n (place name) (ap (λ xs. slice_get xs n) e ∙ mapped_there place k.outline.switches n name (at_place name k.outline.switches n q)) in
       let r : Some x.0.global ≡ Some g = x.2 ∙ p in
       (x.0, x.1, cc)
 
   below : (switches : List Switch) → map global switches ≡ map place k.outline.switches → (name : List ℕ) (n : ℕ) → place_of name k.outline.switches ≡ Some n →
       nat_lt n (length switches) ≡ true
   below switches e name n q =
-      let x = unmapped_there global switches n (place name) (ap (λ xs. slice_get xs n) e ∙ mapped_there place k.outline.switches n name (at_place name k.outline.switches n q)) in
+      let x = mapped_back global switches n (place name) (ap (λ xs. slice_get xs n) e ∙ mapped_there place k.outline.switches n name (at_place name k.outline.switches n q)) in
       lt-ltb n (length switches) (slice_get_within switches n x.0 x.1)
 
   marked_are : (os : List Object) → map object_name os ≡ k.outline.objects →
@@ -116,9 +115,9 @@ module _ (items : List Item) where
       All (λ o. is_some o.domain ≡ is_among (object_name o) k.outline.switches) os
   marked_are os e m =
       All-from_recursion (λ o. is_some o.domain ≡ is_among (object_name o) k.outline.switches) os
-      (by_places (λ o. is_some o.domain ≡ is_among (object_name o) k.outline.switches) os (λ i o q.
+      (all_by (λ o. is_some o.domain ≡ is_among (object_name o) k.outline.switches) os (λ i o q.
       let there : slice_get k.outline.objects i ≡ Some (object_name o) = ap (λ ns. slice_get ns i) (sym e) ∙ mapped_there object_name os i o q in
-      all_there (λ x. is_some x.domain ≡ is_among (object_name x) (all_names wanted.MarkedObjects items)) os m i o q ∙
+      all_at (λ x. is_some x.domain ≡ is_among (object_name x) (all_names wanted.MarkedObjects items)) os m i o q ∙
       sym (ap (is_among (object_name o)) switches_are ∙
       (among_kept is_marked (object_name o) k.outline.objects ∙
       (ap₂ (λ a b. a && b) (among_once (object_name o) (all_names wanted.MarkedObjects items)) (among_here (object_name o) k.outline.objects i there) ∙

@@ -92,11 +92,8 @@ params_few [] = omega arith
 params_few (p ∷ ps) = omega (arith, one_for p, params_few ps, sum_by-cons (λ n. n) (param_nodes p) (map param_nodes ps))
 
 form_params : (x : Shape-F Shape Declarator Param) → length (params_of_form x) ≤ shape_count (map-Shape Shape Declarator Param ℕ ℕ ℕ shape_nodes declarator_nodes param_nodes x)
-form_params shape.Plain = omega arith
-form_params (shape.Array size) = omega arith
 form_params (shape.Function params) = params_few params
-form_params (shape.Pointer fixed params) = omega arith
-form_params (shape.PointerArray fixed size params) = omega arith
+form_params x = omega arith
 
 declarator_params : (d : Declarator) → 1 + length (params_of d) ≤ declarator_nodes d
 declarator_params d =

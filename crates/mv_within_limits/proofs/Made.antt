@@ -71,12 +71,7 @@ place_nodes (Some o) = 1 + target_nodes o.target
 
 pub place_weight : (y : Seen) → place_nodes (object_of y) ≤ expr_nodes (value_of y)
 place_weight (seen.Object o) = omega (arith, nodes_read o.ctype o.target)
-place_weight (seen.Value e) = omega arith
-place_weight (seen.Array a) = omega arith
-place_weight (seen.Function r) = omega arith
-place_weight (seen.Designator e) = omega arith
-place_weight (seen.Known k) = omega arith
-place_weight (seen.Switch n) = omega arith
+place_weight x = omega arith
 
 pub nothing_weight : expr_nodes no_value ≡ 1
 nothing_weight = nodes_number Void 0
@@ -123,28 +118,18 @@ element_weight (Some a) i =
     omega (arith, nodes_read a.ctype (element_at a.storage (promoted i)), at_weight a.storage (promoted i), converted_weight (promotion i.ctype) i)
 
 pub name_weight : (m : Option Meaning) → expr_nodes (value_of (seen_name m)) ≡ 1
-name_weight None = nothing_weight
 name_weight (Some (meaning.Object v)) = omega (arith, nodes_read v.ctype (object_at v.storage), object_weight v.storage)
-name_weight (Some (meaning.Array a)) = nothing_weight
 name_weight (Some (meaning.Function r)) = nodes_function (Pointer r.signature) (number_or_zero r.number)
 name_weight (Some (meaning.Enumerator n)) = nodes_number int n
-name_weight (Some (meaning.Tag n)) = nothing_weight
-name_weight (Some (meaning.Known k)) = nothing_weight
+name_weight x = nothing_weight
 
 switch_weight : (o : Option ℕ) → expr_nodes (value_of (named_switch o)) ≡ 1
 switch_weight None = nothing_weight
 switch_weight (Some n) = nothing_weight
 
 address_weight : (u : Use) (y : Seen) → expr_nodes (value_of (address_of u y)) ≤ 1 + expr_nodes (value_of y)
-address_weight «use».Function y = omega arith
 address_weight «use».Switch y = omega (arith, switch_weight (switch_of y))
-address_weight «use».Value y = omega arith
-address_weight «use».Base y = omega arith
-address_weight «use».Callee y = omega arith
-address_weight «use».Place y = omega arith
-address_weight «use».Effect y = omega arith
-address_weight «use».Discarded y = omega arith
-address_weight «use».Address y = omega arith
+address_weight x y = omega arith
 
 pub one_weight : (u : Use) (op : ℕ) (y : Seen) → expr_nodes (value_of (unary_seen u op y)) ≤ 2 + expr_nodes (value_of y)
 one_weight u op y = by (is_address op) (is_indirection op)

@@ -1,9 +1,8 @@
--- The `main` of a unit has the type that is asked of it, and not the attribute.
-use Rattle.std.proofs.Common.{◌≡◌, ℕ, zero, suc, Bool, true, false, refl, sym, ◌∙◌, ap, subst, Option, Some, None, if◌then◌else◌, List, [], ◌∷◌, map, length, take, slice_get}
-use Rattle.std.specs.Prelude.{All, codes}
-use Rattle.std.specs.List.{AllByRecursion}
-use Rattle.std.proofs.lemmas.List.Elements.{recursion_from_All}
+-- The `main` of a unit has the type that is asked of it.
+use Rattle.std.proofs.Common.{◌≡◌, ℕ, Bool, true, false, refl, sym, ◌∙◌, ap, subst, Option, Some, None, if◌then◌else◌, List, [], ◌∷◌, length, take, slice_get}
+use Rattle.std.specs.Prelude.{codes}
 use Rattle.std.proofs.lemmas.List.{length-map, length-take-le}
+use Rattle.std.proofs.lemmas.Bool.{and_parts}
 use Rattle.mv_ast.specs.declared.place.Place.{Place}
 use Rattle.mv_ast.specs.declared.program.CType.{CType}
 use Rattle.mv_ast.specs.declared.program.CType.TheVariants.{Void, Scalar, Pointer}
@@ -11,9 +10,6 @@ use Rattle.mv_ast.specs.declared.program.Function.{Function}
 use Rattle.mv_ast.specs.declared.program.Local.{Local}
 use Rattle.mv_ast.specs.declared.program.Program.{Program}
 use Rattle.mv_ast.specs.declared.program.Signature.{Signature}
-use Rattle.mv_ast.specs.declared.program.Switch.{Switch}
-use Rattle.mv_ast.specs.declared.unit.Item.{Item}
-use Rattle.mv_declare.specs.Turns.{through}
 use Rattle.mv_scope.specs.declared.meaning.Meaning.{Meaning}
 use Rattle.mv_scope.specs.declared.meaning.Meaning.TheVariants as meaning
 use Rattle.mv_scope.specs.declared.meaning.Routine.{Routine}
@@ -26,12 +22,7 @@ use Rattle.mv_numbering.specs.Typing.{IsInteger, IsFunctionOf, HasTypedMain, par
 use Rattle.mv_typing.specs.Soundness.{Fits}
 use Rattle.mv_formed_bodies.specs.Formed.{HasParameters}
 use Rattle.mv_types.specs.declared.contents.Contents.{Contents}
-use Rattle.mv_types.specs.declared.contents.Foreknown.{Foreknown}
-use Rattle.mv_types.specs.Contents.{nothing_declared, present, switches_from}
-use Rattle.mv_types.specs.Foreknown.{foreknown, is_attributed}
-use Rattle.mv_types.specs.Units.{item_judgement, is_main_type, main_of, with_switches, program_of, program_or_broken, program_judgement}
-use Rattle.mv_typed_bodies.proofs.Judging.{and_true}
-use Rattle.mv_within_limits.proofs.Marked.{main_unmarked}
+use Rattle.mv_types.specs.Units.{is_main_type, main_of, program_of, program_or_broken, program_judgement}
 
 -- ---- the type
 
@@ -47,7 +38,7 @@ no_params (t ∷ ts) h = absurd (cc)
 main_type : (o : Option Signature) → is_main_type o ≡ true → (t : Signature) × (o ≡ Some t) × IsInteger t.result × (t.params ≡ [])
 main_type None h = absurd (cc)
 main_type (Some t) h =
-    let both = and_true (same_type t.result int) (same_types t.params []) h in
+    let both = and_parts (same_type t.result int) (same_types t.params []) h in
     (t, refl, int_result t.result both.0, no_params t.params both.1)
 
 -- ---- the name
@@ -56,17 +47,12 @@ abbrev IsMain : List Signature → Option Meaning → ℕ → Type 0
 IsMain signatures m n = (r : Routine) × (m ≡ Some (meaning.Function r)) × (r.number ≡ Some n) × (is_main_type (slice_get signatures r.signature) ≡ true)
 
 main_found : (signatures : List Signature) (m : Option Meaning) (n : ℕ) → main_of signatures m ≡ Some n → IsMain signatures m n
-main_found signatures None n h = absurd (cc)
-main_found signatures (Some (meaning.Object v)) n h = absurd (cc)
-main_found signatures (Some (meaning.Array a)) n h = absurd (cc)
-main_found signatures (Some (meaning.Enumerator v)) n h = absurd (cc)
-main_found signatures (Some (meaning.Tag v)) n h = absurd (cc)
-main_found signatures (Some (meaning.Known k)) n h = absurd (cc)
 main_found signatures (Some (meaning.Function r)) n h = by (is_main_type (slice_get signatures r.signature)) refl h
   where
     by : (b : Bool) → is_main_type (slice_get signatures r.signature) ≡ b → (if b then r.number else None) ≡ Some n → IsMain signatures (Some (meaning.Function r)) n
     by true q g = (r, refl, g, q)
     by false q g = absurd (cc)
+main_found signatures x n h = absurd (cc)
 
 main_is : (place : Place) (c : Contents) (p : Program) (o : Option ℕ) → program_or_broken place c o ≡ Good p → o ≡ Some p.main
 unfolding program_of
@@ -107,32 +93,3 @@ main_typed place c p f q fits has =
       bare = bare p has p.main r.signature g type.0 there type.3;
       result = integer p has p.main r.signature g type.0 there type.2;
     }
-
--- ---- its attribute
-
-present_all : (fs : List Function) → present (map (λ f. Some f) fs) ≡ fs
-present_all [] = refl
-present_all (f ∷ fs) = ap (λ gs. f ∷ gs) (present_all fs)
-
-module _ (k : Foreknown) (switches : List Switch) where
-  attributed_at : (fs : List Function) → AllByRecursion (λ (f : Function). f.attributed ≡ is_attributed k f.name) fs → (i : ℕ) (name : List ℕ) (g : Function) →
-      slice_get (map (λ (f : Function). f.name) fs) i ≡ Some name → slice_get (map (with_switches switches) fs) i ≡ Some g → g.attributed ≡ is_attributed k name
-  attributed_at [] h i name g q r = absurd (cc)
-  attributed_at (f ∷ fs) h zero name g q r =
-      let a : f.name ≡ name = cc in
-      let b : with_switches switches f ≡ g = cc in
-      sym (ap (λ (x : Function). x.attributed) b) ∙ (h.0 ∙ ap (is_attributed k) a)
-  attributed_at (f ∷ fs) h (suc i) name g q r = attributed_at fs h.1 i name g q r
-
-pub main_unattributed : (items : List Item) (c : Contents) (functions : List Function) (main : ℕ) (g : Function) →
-    through (item_judgement (foreknown items)) items (nothing_declared (foreknown items)) ≡ Good c → c.functions ≡ map (λ f. Some f) functions →
-    All (λ f. f.attributed ≡ is_attributed (foreknown items) f.name) functions → slice_get (map (λ f. f.name) functions) main ≡ Some (codes "main") →
-    slice_get (program_of c main).functions main ≡ Some g → g.attributed ≡ false
-unfolding program_of
-main_unattributed items c functions main g judged defined attributed name there =
-    let k : Foreknown = foreknown items in
-    let switches : List Switch = switches_from 0 c.objects in
-    let same : present c.functions ≡ functions = ap present defined ∙ present_all functions in
-    attributed_at k switches functions (recursion_from_All (λ (f : Function). f.attributed ≡ is_attributed k f.name) functions attributed) main (codes "main") g name
-    (sym (ap (λ fs. slice_get (map (with_switches switches) fs) main) same) ∙ there) ∙
-    main_unmarked items c judged

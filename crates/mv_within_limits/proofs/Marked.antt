@@ -4,6 +4,7 @@ use Rattle.std.specs.Prelude.{codes, filter}
 use Rattle.std.specs.List.{list_any, flat_map}
 use Rattle.std.specs.Cmp.Lexicographic.{pointwise}
 use Rattle.std.proofs.lemmas.List.Folds.{list_any-append}
+use Rattle.std.proofs.lemmas.Bool.{and_parts, and_from, and_left, and_right, or_from, or_parts}
 use Rattle.mv_num.specs.declared.kind.Kind.{Kind}
 use Rattle.mv_ast.specs.declared.place.Place.{Place}
 use Rattle.mv_ast.specs.declared.unit.Declarator.{Declarator}
@@ -37,28 +38,12 @@ use Rattle.mv_types.specs.Contents.{nothing_declared, in_scope}
 use Rattle.mv_types.specs.Foreknown.{is_said, names_in, names, foreknown, is_attributed}
 use Rattle.mv_types.specs.Functions.{definition_parameters}
 use Rattle.mv_types.specs.Units.{base_of, declares_constant, declarator_judgement, holders, declares_nothing, item_judgement}
-use Rattle.mv_typed_bodies.proofs.Judging.{IfGood, of_good, if_any, if_then, if_kept, if_more, and_true}
+use Rattle.mv_typed_bodies.proofs.Judging.{IfGood, of_good, if_any, if_then, if_kept, if_more}
 
 abbrev main_name : List ℕ
 main_name = codes "main"
 
 -- ---- truth values and names
-
-both : (a b : Bool) → a ≡ true → b ≡ true → (a && b) ≡ true
-both true b h k = k
-both false b h k = absurd (cc)
-
-left_false : (a b : Bool) → a ≡ false → (a && b) ≡ false
-left_false false b h = refl
-left_false true b h = absurd (cc)
-
-right_false : (a b : Bool) → b ≡ false → (a && b) ≡ false
-right_false false b h = refl
-right_false true b h = h
-
-both_false : (a b : Bool) → a ≡ false → b ≡ false → (a || b) ≡ false
-both_false false b h k = k
-both_false true b h k = absurd (cc)
 
 turned_number : (m n : ℕ) → nat_eq m n ≡ true → nat_eq n m ≡ true
 turned_number m n h = grind (arith, h)
@@ -68,7 +53,7 @@ turned [] [] h = refl
 turned [] (y ∷ ys) h = absurd (cc)
 turned (x ∷ xs) [] h = absurd (cc)
 turned (x ∷ xs) (y ∷ ys) h =
-    let p = and_true (nat_eq x y) (pointwise nat_eq xs ys) h in both (nat_eq y x) (pointwise nat_eq ys xs) (turned_number x y p.0) (turned xs ys p.1)
+    let p = and_parts (nat_eq x y) (pointwise nat_eq xs ys) h in and_from (nat_eq y x) (pointwise nat_eq ys xs) (turned_number x y p.0) (turned xs ys p.1)
 
 -- a function that is named `main`
 abbrev is_bad : Declarator → Bool
@@ -163,21 +148,18 @@ module _ (h : Holder) (none : HoldsNone h) (k : Option Kind) where
 
 holder_none : (fixed : Bool) (d : Declarator) → is_bad d ≡ true → HoldsNone (holder_of position.File fixed d)
 holder_none fixed d q =
-    let p = and_true (is_function d) (same_name main_name (name_of d)) q in
+    let p = and_parts (is_function d) (same_name main_name (name_of d)) q in
     by (out-Shape d.shape) p.0 (named_main d p.1)
   where
     by : {A B C : Type 0} (x : Shape-F A B C) → is_function_form x ≡ true → is_main d.name ≡ true → HoldsNone (shape_holder fixed d.name x)
     by (shape.Function params) g r = (ap not r, refl)
-    by shape.Plain g r = absurd (cc)
-    by (shape.Array size) g r = absurd (cc)
-    by (shape.Pointer constant params) g r = absurd (cc)
-    by (shape.PointerArray constant size params) g r = absurd (cc)
+    by x g r = absurd (cc)
 
 still_none : (fixed : Bool) (ds : List Declarator) (h : Holder) → HoldsNone h → HoldsNone (all_hold position.File fixed h ds)
 still_none fixed [] h n = n
 still_none fixed (d ∷ ds) h n =
     let g : Holder = holder_of position.File fixed d in
-    still_none fixed ds (both_hold h g) (left_false h.plainly g.plainly n.0, left_false h.with_values g.with_values n.1)
+    still_none fixed ds (both_hold h g) (and_left h.plainly g.plainly n.0, and_left h.with_values g.with_values n.1)
 
 among_none : (fixed : Bool) (ds : List Declarator) (h : Holder) → list_any is_bad ds ≡ true → HoldsNone (all_hold position.File fixed h ds)
 among_none fixed [] h q = absurd (cc)
@@ -190,7 +172,7 @@ among_none fixed (d ∷ ds) h q =
     by true r z rest =
         let g : Holder = holder_of position.File fixed d in
         let n : HoldsNone g = holder_none fixed d r in
-        still_none fixed ds (both_hold h g) (right_false h.plainly g.plainly n.0, right_false h.with_values g.with_values n.1)
+        still_none fixed ds (both_hold h g) (and_right h.plainly g.plainly n.0, and_right h.with_values g.with_values n.1)
     by false r z rest = rest z
 
 all_none : (fixed : Bool) (ds : List Declarator) → list_any is_bad ds ≡ true → HoldsNone (holder_of_all position.File fixed ds)
@@ -235,15 +217,15 @@ module _ (k : Foreknown) (b : Specified) (body : Option Line) where
       goes_on rest q =
           if_then (λ e. Unit {0}) (λ z. list_any is_bad_itself (d ∷ ds) ≡ false) (declarator_judgement k b body d c) _ (if_any (declarator_judgement k b body d c)) (λ e u.
           if_more (λ z. list_any is_bad_itself ds ≡ false) (λ z. list_any is_bad_itself (d ∷ ds) ≡ false) (through (declarator_judgement k b body) ds e)
-          (λ z g. both_false (is_bad_itself d) (list_any is_bad_itself ds) q g) (rest e))
+          (λ z g. or_from (is_bad_itself d) (list_any is_bad_itself ds) q g) (rest e))
 
       by : (x : Bool) → is_bad d ≡ x → (y : Bool) → is_filled d.marks ≡ y →
           ((e : Contents) → IfGood (through (declarator_judgement k b body) ds e) (λ z. list_any is_bad_itself ds ≡ false)) →
           IfGood (through (declarator_judgement k b body) (d ∷ ds) c) (λ z. list_any is_bad_itself (d ∷ ds) ≡ false)
       by true q true r rest =
           if_then (λ e. ⊥) (λ z. list_any is_bad_itself (d ∷ ds) ≡ false) (declarator_judgement k b body d c) _ (declarator_none d c q r) (λ e z. absurd z)
-      by true q false r rest = goes_on rest (right_false (is_bad d) (is_filled d.marks) r)
-      by false q y r rest = goes_on rest (left_false (is_bad d) (is_filled d.marks) q)
+      by true q false r rest = goes_on rest (and_right (is_bad d) (is_filled d.marks) r)
+      by false q y r rest = goes_on rest (and_left (is_bad d) (is_filled d.marks) q)
 
 abbrev is_bad_in : Item → Declarator → Bool
 is_bad_in i d = is_bad d && is_marked i d
@@ -255,7 +237,7 @@ none_marked f (d ∷ ds) h = by (is_bad d) refl h (λ g. none_marked f ds g)
     by : (b : Bool) → is_bad d ≡ b → (b || list_any is_bad ds) ≡ false → (list_any is_bad ds ≡ false → list_any (λ d. is_bad d && f d) ds ≡ false) →
         ((is_bad d && f d) || list_any (λ d. is_bad d && f d) ds) ≡ false
     by true q g rest = absurd (cc)
-    by false q g rest = both_false (is_bad d && f d) (list_any (λ d. is_bad d && f d) ds) (left_false (is_bad d) (f d) q) (rest g)
+    by false q g rest = or_from (is_bad d && f d) (list_any (λ d. is_bad d && f d) ds) (and_left (is_bad d) (f d) q) (rest g)
 
 -- an attribute among the specifiers
 specifiers_none : (k : Foreknown) (i : Item) (c : Contents) → is_filled (out-Specs i.specs).marks ≡ true → list_any is_bad i.names ≡ true → IfGood (item_judgement k i c) (λ e. ⊥)
@@ -297,7 +279,7 @@ not_said i (d ∷ ds) h = by (is_function d) (is_marked i d) (same_name main_nam
         (list_any (is_bad_in i) ds ≡ false → is_among main_name (map name_of (filter (is_said said.Attributed i) ds)) ≡ false) →
         is_among main_name (map name_of (if f && m then d ∷ filter (is_said said.Attributed i) ds else filter (is_said said.Attributed i) ds)) ≡ false
     by true true true q g rest = absurd (cc)
-    by true true false q g rest = both_false (same_name main_name (name_of d)) (is_among main_name (map name_of (filter (is_said said.Attributed i) ds))) q (rest g)
+    by true true false q g rest = or_from (same_name main_name (name_of d)) (is_among main_name (map name_of (filter (is_said said.Attributed i) ds))) q (rest g)
     by true false true q g rest = rest g
     by true false false q g rest = rest g
     by false m s q g rest = rest g
@@ -309,12 +291,8 @@ items_none k (i ∷ is) c =
     if_more (λ z. is_among main_name (flat_map (names_in said.Attributed) is) ≡ false) (λ z. is_among main_name (flat_map (names_in said.Attributed) (i ∷ is)) ≡ false)
     (through (item_judgement k) is e)
     (λ z g. list_any-append (same_name main_name) (names_in said.Attributed i) (flat_map (names_in said.Attributed) is) ∙
-    both_false (is_among main_name (names_in said.Attributed i)) (is_among main_name (flat_map (names_in said.Attributed) is)) (not_said i i.names h) g)
+    or_from (is_among main_name (names_in said.Attributed i)) (is_among main_name (flat_map (names_in said.Attributed) is)) (not_said i i.names h) g)
     (items_none k is e))
-
-or_false : (a b : Bool) → (a || b) ≡ false → (a ≡ false) × (b ≡ false)
-or_false true b h = absurd (cc)
-or_false false b h = (refl, h)
 
 one_more : (names : List (List ℕ)) (n : List ℕ) → is_among main_name names ≡ false → same_name main_name n ≡ false → is_among main_name (with_name names n) ≡ false
 one_more names n h q = by (is_among n names)
@@ -323,12 +301,12 @@ one_more names n h q = by (is_among n names)
     by true = h
     by false =
         list_any-append (same_name main_name) names (n ∷ []) ∙
-        both_false (is_among main_name names) (is_among main_name (n ∷ [])) h (both_false (same_name main_name n) false q refl)
+        or_from (is_among main_name names) (is_among main_name (n ∷ [])) h (or_from (same_name main_name n) false q refl)
 
 all_more : (xs names : List (List ℕ)) → is_among main_name names ≡ false → is_among main_name xs ≡ false → is_among main_name (with_names names xs) ≡ false
 all_more [] names h g = h
 all_more (x ∷ xs) names h g =
-    let p = or_false (same_name main_name x) (is_among main_name xs) g in all_more xs (with_name names x) (one_more names x h p.0) p.1
+    let p = or_parts (same_name main_name x) (is_among main_name xs) g in all_more xs (with_name names x) (one_more names x h p.0) p.1
 
 pub main_unmarked : (items : List Item) (c : Contents) → through (item_judgement (foreknown items)) items (nothing_declared (foreknown items)) ≡ Good c →
     is_attributed (foreknown items) main_name ≡ false

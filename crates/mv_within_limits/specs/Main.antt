@@ -1,5 +1,5 @@
 -- The function `main` of a unit.
-use Rattle.std.specs.Prelude.{◌≡◌, ℕ, All, false, List, map, Some, codes, slice_get}
+use Rattle.std.specs.Prelude.{◌≡◌, false, List, codes}
 use Rattle.mv_ast.specs.declared.place.Place.{Place}
 use Rattle.mv_ast.specs.declared.program.Function.{Function}
 use Rattle.mv_ast.specs.declared.program.Program.{Program}
@@ -12,7 +12,7 @@ use Rattle.mv_formed_bodies.specs.Formed.{HasParameters}
 use Rattle.mv_types.specs.declared.contents.Contents.{Contents}
 use Rattle.mv_types.specs.Contents.{nothing_declared}
 use Rattle.mv_types.specs.Foreknown.{foreknown, is_attributed}
-use Rattle.mv_types.specs.Units.{item_judgement, program_of, program_judgement}
+use Rattle.mv_types.specs.Units.{item_judgement, program_judgement}
 
 -- where the program has what the names at the end of the unit mean, its `main` has no parameters and gives an integer
 abbrev pub MainIsTyped : Type 0
@@ -24,11 +24,3 @@ abbrev pub MainIsUnmarked : Type 0
 MainIsUnmarked =
     (items : List Item) (c : Contents) → through (item_judgement (foreknown items)) items (nothing_declared (foreknown items)) ≡ Good c →
     is_attributed (foreknown items) (codes "main") ≡ false
-
--- So it isn't attributed, where the functions that are known are defined, each with the attribute if any of its declarations has it.
-abbrev pub MainIsUnattributed : Type 0
-MainIsUnattributed =
-    (items : List Item) (c : Contents) (functions : List Function) (main : ℕ) (g : Function) →
-    through (item_judgement (foreknown items)) items (nothing_declared (foreknown items)) ≡ Good c → c.functions ≡ map (λ f. Some f) functions →
-    All (λ f. f.attributed ≡ is_attributed (foreknown items) f.name) functions → slice_get (map (λ f. f.name) functions) main ≡ Some (codes "main") →
-    slice_get (program_of c main).functions main ≡ Some g → g.attributed ≡ false

@@ -2,7 +2,7 @@
 #![tactic(auto)]
 
 ghost use Rattle.mv_within_limits.specs.Limits.{WithinLimits};
-ghost use Rattle.mv_within_limits.specs.Main.{MainIsTyped, MainIsUnattributed, MainIsUnmarked};
+ghost use Rattle.mv_within_limits.specs.Main.{MainIsTyped, MainIsUnmarked};
 ghost use Rattle.mv_within_limits.specs.Nodes.{UnitsAreSmall};
 
 /// A program of which no limit is reported, and whose nodes are few enough, is within all limits. The call does nothing: its contract is
@@ -26,9 +26,4 @@ pub fn main_is_typed()
 /// No declaration of `main` in a unit that keeps the rules has the attribute. The call does nothing: its contract is the law.
 pub fn main_is_unmarked()
     ensures { MainIsUnmarked }
-{}
-
-/// So `main` isn't attributed in the program. The call does nothing: its contract is the law.
-pub fn main_is_unattributed()
-    ensures { MainIsUnattributed }
 {}

@@ -7,7 +7,7 @@ use Rattle.mv_formed_bodies.proofs.good_bodies_are_well_formed.Goals as goal
 pub returns : goal.returns
 returns c p own f body before after ss q signatures locals has fits shaped =
     let typed = c.good_expressions_are_typed.ensures in
-    let names = names_hold p own f typed.value typed.effect c.constants_come_to_their_values.ensures has body before after ss q signatures locals fits shaped in
+    let names = names_hold p own f typed.value typed.effect has body before after ss q signatures locals fits shaped in
     record {
       shaped = names.0;
       named = names.1;
