@@ -44,7 +44,7 @@ fn if_broken(broken: bool, rule: u8, others: Option<u8>) -> Option<u8>
     if broken { Some(rule) } else { others }
 }
 
-// The least rule that is broken: each hides those above it.
+// The least rule that is broken, by the rules from the greatest down.
 #[tactic(auto, unfolding(crate::specs::Breaches::least))]
 fn least(breaches: Breaches) -> Option<u8>
     ensures { result ≡ least breaches }
