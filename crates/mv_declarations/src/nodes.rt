@@ -24,9 +24,9 @@ pub fn member(
 ) -> Result<Boxed<Member>, AllocError>
     ensures { IfOk result (λ member. member ≡ grammar.member_of (terminal text.now name.now) value) }
 {
-    let value = unboxed(value);
     let place = name.place;
     let name = text_of(alloc, text, name)?;
+    let value = unboxed(value);
     Boxed::new(alloc, Member { place, name, value })
 }
 
@@ -64,7 +64,10 @@ pub fn attributed(
     ensures { IfOk result (λ new. new ≡ grammar.attributed declarator mark) }
 {
     let mut declarator = declarator.into_inner();
-    declarator.marks.push(mark)?;
+    if let Err(failed) = declarator.marks.push(mark) {
+        drop(declarator);
+        return Err(failed.into());
+    }
     Boxed::new(alloc, declarator)
 }
 
@@ -77,7 +80,7 @@ pub fn initialised(
     ensures { IfOk result (λ new. new ≡ grammar.initialised declarator value) }
 {
     let mut declarator = declarator.into_inner();
-    declarator.initial = Some(value.into_inner());
+    drop(declarator.initial.replace(value.into_inner()));
     Boxed::new(alloc, declarator)
 }
 

@@ -2,7 +2,7 @@
 
 ghost use Rattle.std.specs.Prelude.{◌≡◌};
 ghost use Rattle.mv_judge.specs.Judged.{IsJudged};
-ghost use Rattle.mv_judge.specs.Breaches.{least, concluded, breaches_of_use};
+ghost use Rattle.mv_judge.specs.Breaches.{if_broken, least, concluded, breaches_of_use};
 ghost use Rattle.mv_judge.specs.Rules.{is_bare, is_valueless, is_misnamed};
 
 use crate::error::RuleError;
@@ -11,7 +11,7 @@ use mv_ast::place::Place;
 use mv_scope::convert::is_void;
 
 /// Which of the rules of expressions a node breaks.
-#[derive(Clone, Copy, PartialEq, Eq, Debug)]
+#[derive(Clone, Copy)]
 pub struct Breaches {
     /// Rule 1: a name isn't declared.
     pub undeclared: bool,
@@ -36,36 +36,30 @@ pub struct Breaches {
     /// Rule 20: `&`, `*`, a cast or a known function stands where it may not.
     pub misplaced: bool,
 }
-// The least rule that is broken.
+
+// A rule where it is broken, else what is found of the others.
+fn if_broken(broken: bool, rule: u8, others: Option<u8>) -> Option<u8>
+    ensures { result ≡ if_broken broken rule others }
+{
+    if broken { Some(rule) } else { others }
+}
+
+// The least rule that is broken, by the rules from the greatest down.
 #[tactic(auto, unfolding(crate::specs::Breaches::least))]
 fn least(breaches: Breaches) -> Option<u8>
     ensures { result ≡ least breaches }
 {
-    if breaches.undeclared {
-        Some(1)
-    } else if breaches.operands {
-        Some(3)
-    } else if breaches.assigned {
-        Some(4)
-    } else if breaches.converted {
-        Some(5)
-    } else if breaches.called {
-        Some(6)
-    } else if breaches.indexed {
-        Some(7)
-    } else if breaches.void {
-        Some(8)
-    } else if breaches.switch {
-        Some(15)
-    } else if breaches.named {
-        Some(17)
-    } else if breaches.undefined {
-        Some(19)
-    } else if breaches.misplaced {
-        Some(20)
-    } else {
-        None
-    }
+    let found = if_broken(breaches.misplaced, 20, None);
+    let found = if_broken(breaches.undefined, 19, found);
+    let found = if_broken(breaches.named, 17, found);
+    let found = if_broken(breaches.switch, 15, found);
+    let found = if_broken(breaches.void, 8, found);
+    let found = if_broken(breaches.indexed, 7, found);
+    let found = if_broken(breaches.called, 6, found);
+    let found = if_broken(breaches.converted, 5, found);
+    let found = if_broken(breaches.assigned, 4, found);
+    let found = if_broken(breaches.operands, 3, found);
+    if_broken(breaches.undeclared, 1, found)
 }
 
 /// What a node is, unless it breaks a rule.
@@ -75,7 +69,10 @@ pub fn concluded(place: Place, breaches: Breaches, seen: Seen) -> Result<Seen, R
 {
     match least(breaches) {
         None => Ok(seen),
-        Some(rule) => Err(RuleError::Rule(place, rule)),
+        Some(rule) => {
+            drop(seen);
+            Err(RuleError::Rule(place, rule))
+        }
     }
 }
 

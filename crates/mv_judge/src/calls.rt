@@ -129,7 +129,7 @@ fn pass(alloc: Global, mut params: &[CType], args: List<Seen>) -> Result<Passed,
     for arg in args.into_vec() {
         let value = value_of(arg);
         match params {
-            [] => {}
+            [] => drop(value),
             [t, rest @ ..] => {
                 convert = convert && converts(&value, *t);
                 let value = converted_to(alloc, *t, value)?;
@@ -155,7 +155,10 @@ fn direct_or_through(alloc: Global, callee: Expr, args: List<Expr>) -> Result<Fo
     ensures { IfOk result (λ r. r ≡ direct_or_through (named_function callee) callee args) }
 {
     match named_function(&callee) {
-        Some(f) => Ok(Form::Direct(f, args)),
+        Some(f) => {
+            drop(callee);
+            Ok(Form::Direct(f, args))
+        }
         None => Ok(Form::Through(args, Boxed::new(alloc, callee)?)),
     }
 }
@@ -206,7 +209,13 @@ pub fn call(
     let signatures = scope.signatures.as_slice();
     let called = !takes_count(signatures, &callee, args.len());
     let index = named_index(args.as_slice());
-    let Passed { values, convert } = pass(alloc, callee_params(signatures, &callee), args)?;
+    let Passed { values, convert } = match pass(alloc, callee_params(signatures, &callee), args) {
+        Ok(passed) => passed,
+        Err(_) => {
+            drop(callee);
+            return Err(RuleError::Memory);
+        }
+    };
     let seen = Seen::Value(called_with(alloc, signatures, callee, index, values)?);
     let breaches = Breaches {
         converted: !convert,

@@ -23,11 +23,11 @@ pub fn needed(alloc: Global, scope: &Scope, node: &Node) -> Result<Constant, Rul
     ensures { IsJudged (constant_judgement scope.now node.now) result }
 {
     let e = value(alloc, scope, node)?;
-    match constant_value(&e) {
-        Some(value) => Ok(Constant {
-            value,
-            ctype: e.ctype,
-        }),
+    let ctype = e.ctype;
+    let value = constant_value(&e);
+    drop(e);
+    match value {
+        Some(value) => Ok(Constant { value, ctype }),
         None => Err(RuleError::Rule(node.place, 9)),
     }
 }

@@ -5,7 +5,7 @@ ghost use Rattle.mv_ast.specs.declared.unit.What.TheOpen as what;
 ghost use Rattle.mv_judge.specs.Judged.{IsJudged};
 ghost use Rattle.mv_judge.specs.Breaches.{by_itself};
 ghost use Rattle.mv_judge.specs.Seen.{element_at};
-ghost use Rattle.mv_judge.specs.Found.{address_of, unary_seen, element_of};
+ghost use Rattle.mv_judge.specs.Found.{named_switch, address_of, unary_seen, element_of};
 ghost use Rattle.mv_judge.specs.Rules.{is_uncalled, is_wrong_operand, is_wrong_cast};
 
 use crate::breaches::{Breaches, breaches_of_use, concluded};
@@ -81,16 +81,26 @@ fn is_wrong_operand(used: Use, op: u8, seen: &Seen) -> bool
     op == INDIRECTION && !is_pointer(type_of(seen))
 }
 
+fn named_switch(switch: Option<u32>) -> Seen
+    ensures { result ≡ named_switch switch }
+{
+    match switch {
+        Some(switch) => Seen::Switch(switch),
+        None => Seen::Value(no_value()),
+    }
+}
+
 // What `&` before something is.
 fn address_of(used: Use, seen: Seen) -> Seen
     ensures { result ≡ address_of used seen }
 {
     match used {
         Use::Function => seen,
-        Use::Switch => match switch_of(&seen) {
-            Some(switch) => Seen::Switch(switch),
-            None => Seen::Value(no_value()),
-        },
+        Use::Switch => {
+            let switch = switch_of(&seen);
+            drop(seen);
+            named_switch(switch)
+        }
         _ => Seen::Value(value_of(seen)),
     }
 }

@@ -136,7 +136,10 @@ pub fn array_of(seen: Seen) -> Option<Elements>
 {
     match seen {
         Seen::Array(elements) => Some(elements),
-        _ => None,
+        other => {
+            drop(other);
+            None
+        }
     }
 }
 
@@ -146,7 +149,10 @@ pub fn object_of(seen: Seen) -> Option<Object>
 {
     match seen {
         Seen::Object(object) => Some(object),
-        _ => None,
+        other => {
+            drop(other);
+            None
+        }
     }
 }
 

@@ -166,6 +166,25 @@ fn converted_box(alloc: Global, t: CType, e: Expr) -> Result<Boxed<Expr>, AllocE
     Boxed::new(alloc, e)
 }
 
+// Two expressions, each converted to its type, on the heap.
+fn converted_boxes(
+    alloc: Global,
+    s: CType,
+    t: CType,
+    a: Expr,
+    b: Expr,
+) -> Result<(Boxed<Expr>, Boxed<Expr>), AllocError>
+    ensures { IfOk result (λ r. (r.0 ≡ converted_to s a) × (r.1 ≡ converted_to t b)) }
+{
+    match converted_box(alloc, s, a) {
+        Ok(a) => Ok((a, converted_box(alloc, t, b)?)),
+        Err(e) => {
+            drop(b);
+            Err(e)
+        }
+    }
+}
+
 // An operator that computes with operands of two types.
 fn computed_of(
     alloc: Global,
@@ -177,19 +196,30 @@ fn computed_of(
 ) -> Result<Expr, AllocError>
     ensures { IfOk result (λ r. r ≡ computed_of op s t a b) }
 {
-    let a = converted_box(alloc, s, a)?;
-    let b = converted_box(alloc, t, b)?;
+    let (a, b) = converted_boxes(alloc, s, t, a, b)?;
     Ok(Expr {
         ctype: result_type(op, s),
         what: Form::Binary(op, a, b),
     })
 }
 
+// Two expressions on the heap.
+fn boxes(alloc: Global, a: Expr, b: Expr) -> Result<(Boxed<Expr>, Boxed<Expr>), AllocError>
+    ensures { IfOk result (λ r. (r.0 ≡ a) × (r.1 ≡ b)) }
+{
+    match Boxed::new(alloc, a) {
+        Ok(a) => Ok((a, Boxed::new(alloc, b)?)),
+        Err(e) => {
+            drop(b);
+            Err(e)
+        }
+    }
+}
+
 fn both_of(alloc: Global, a: Expr, b: Expr) -> Result<Expr, AllocError>
     ensures { IfOk result (λ r. r ≡ typed int (form.Both a b)) }
 {
-    let a = Boxed::new(alloc, a)?;
-    let b = Boxed::new(alloc, b)?;
+    let (a, b) = boxes(alloc, a, b)?;
     Ok(Expr {
         ctype: INT,
         what: Form::Both(a, b),
@@ -199,8 +229,7 @@ fn both_of(alloc: Global, a: Expr, b: Expr) -> Result<Expr, AllocError>
 fn either_of(alloc: Global, a: Expr, b: Expr) -> Result<Expr, AllocError>
     ensures { IfOk result (λ r. r ≡ typed int (form.Either a b)) }
 {
-    let a = Boxed::new(alloc, a)?;
-    let b = Boxed::new(alloc, b)?;
+    let (a, b) = boxes(alloc, a, b)?;
     Ok(Expr {
         ctype: INT,
         what: Form::Either(a, b),
@@ -229,13 +258,16 @@ pub fn choose_of(alloc: Global, test: Expr, a: Expr, b: Expr) -> Result<Expr, Al
     ensures { IfOk result (λ r. r ≡ choose_of test a b) }
 {
     let ctype = common_type(a.ctype, b.ctype);
-    let test = Boxed::new(alloc, test)?;
-    let a = converted_box(alloc, ctype, a)?;
-    let b = converted_box(alloc, ctype, b)?;
-    Ok(Expr {
-        ctype,
-        what: Form::Choose(test, a, b),
-    })
+    match converted_boxes(alloc, ctype, ctype, a, b) {
+        Ok((a, b)) => Ok(Expr {
+            ctype,
+            what: Form::Choose(Boxed::new(alloc, test)?, a, b),
+        }),
+        Err(e) => {
+            drop(test);
+            Err(e)
+        }
+    }
 }
 
 // A compound assignment with an operator.
@@ -272,7 +304,10 @@ pub fn assign_of(alloc: Global, op: u8, object: Option<Object>, b: Expr) -> Resu
     ensures { IfOk result (λ r. r ≡ assign_of op object b) }
 {
     match object {
-        None => Ok(no_value()),
+        None => {
+            drop(b);
+            Ok(no_value())
+        }
         Some(object) => assign_to(alloc, op, object, b),
     }
 }

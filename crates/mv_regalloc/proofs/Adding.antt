@@ -7,7 +7,7 @@ use Rattle.mv_ir.specs.declared.tree.Tree.{Tree}
 use Rattle.mv_ir.specs.declared.stm.Stm.{Stm}
 use Rattle.mv_ir.specs.declared.stm.Stm as at
 use Rattle.mv_ir.specs.Live.{mark_at, any, marks_length}
-use Rattle.mv_regalloc.specs.Rows.{Bits, with_reads, either_bits, Enclosing, sets, inside, live_before, rows_in_order, stm_rows}
+use Rattle.mv_regalloc.specs.Rows.{Bits, own_trees, with_all_reads, either_bits, Enclosing, sets, inside, live_before, rows_in_order, stm_rows}
 use Rattle.mv_regalloc.specs.Spanned.{SpanTable, column, from_first, behind_last, Spanned, Adds, with_params}
 use Rattle.mv_regalloc.proofs.RowEquations.{live_if, live_block, rows_if, rows_loop, rows_block}
 
@@ -31,27 +31,32 @@ code_step code done s h e =
 -- ---- statements
 
 module _ (l : Enclosing) (t : Tree) (a b : List Stm) where
-  pub if_adds : (bits others after after' : Bits) (s s' s'' s''' : SpanTable) → others ≡ bits → after ≡ live_before (map stm_rows a) (sets l bits) → after' ≡ live_before (map stm_rows b) (sets l others) →
-      Adds (rows_in_order (map stm_rows b) (sets l others)) s s' → Adds (rows_in_order (map stm_rows a) (sets l bits)) s' s'' → Adds (with_reads t (either_bits after after') ∷ []) s'' s''' →
-      Adds ((stm_rows (at.If t a b)).rows (sets l bits)) s s'''
-  if_adds bits others after after' s s' s'' s''' e f g x y z =
+  pub if_adds : (bits start others after : Bits) (s s1 s2 s3 s4 : SpanTable) → others ≡ live_before (map stm_rows b) (sets l bits) → start ≡ bits → s2 ≡ s1 → after ≡ live_before (map stm_rows a) (sets l start) →
+      Adds (rows_in_order (map stm_rows b) (sets l bits)) s s1 → Adds (rows_in_order (map stm_rows a) (sets l start)) s2 s3 → Adds (with_all_reads (own_trees (at.If t a b)) (either_bits after others) ∷ []) s3 s4 →
+      Adds ((stm_rows (at.If t a b)).rows (sets l bits)) s s4
+  if_adds bits start others after s s1 s2 s3 s4 o st turn f x y z =
       let r = sets l bits in
       let xs = rows_in_order (map stm_rows b) r in
       let ys = rows_in_order (map stm_rows a) r in
-      let row = with_reads t (either_bits after after') in
-      let k : row ≡ (stm_rows (at.If t a b)).live r = ap (λ o. with_reads t (either_bits o after')) f ∙ ap (λ o. with_reads t (either_bits (live_before (map stm_rows a) r) o)) (g ∙ ap (λ o. live_before (map stm_rows b) (sets l o)) e) ∙ sym (live_if r t a b) in
-      let both = adds_two xs ys s s' s'' (subst (λ o. Adds (rows_in_order (map stm_rows b) (sets l o)) s s') e x) y in
-      subst (λ rows. Adds rows s s''') (ap (λ w. w ∷ (ys ++ xs)) k ∙ sym (rows_if r t a b)) (adds_two (ys ++ xs) (row ∷ []) s s'' s''' both z)
+      let row = with_all_reads (own_trees (at.If t a b)) (either_bits after others) in
+      let first : after ≡ live_before (map stm_rows a) r = f ∙ ap (λ o. live_before (map stm_rows a) (sets l o)) st in
+      let k : row ≡ (stm_rows (at.If t a b)).live r =
+      ap (λ u. with_all_reads (own_trees (at.If t a b)) (either_bits u others)) first ∙ ap (λ u. with_all_reads (own_trees (at.If t a b)) (either_bits (live_before (map stm_rows a) r) u)) o ∙ sym (live_if r t a b)
+      in
+      let y' : Adds ys s1 s3 = subst (λ u. Adds ys u s3) turn (subst (λ u. Adds (rows_in_order (map stm_rows a) (sets l u)) s2 s3) st y) in
+      subst (λ rows. Adds rows s s4) (ap (λ w. w ∷ (ys ++ xs)) k ∙ sym (rows_if r t a b)) (adds_two (ys ++ xs) (row ∷ []) s s3 s4 (adds_two xs ys s s1 s3 x y') z)
 
 module _ (l : Enclosing) (b : List Stm) where
-  pub loop_adds : (bits behind within row : Bits) (inner : Enclosing) (s s' s'' : SpanTable) → behind ≡ bits → row ≡ (stm_rows (at.Loop b)).live (sets l bits) → inner ≡ inside l behind row → within ≡ row → Adds (rows_in_order (map stm_rows b) (sets inner within)) s s' → Adds (row ∷ []) s' s'' → Adds ((stm_rows (at.Loop b)).rows (sets l bits)) s s''
-  loop_adds bits behind within row inner s s' s'' e k i w x z =
+  pub loop_adds : (bits within row last : Bits) (inner : Enclosing) (s s1 s2 s3 s4 : SpanTable) → row ≡ (stm_rows (at.Loop b)).live (sets l bits) → inner ≡ inside l bits row → within ≡ row → s1 ≡ s → last ≡ row → s3 ≡ s2 →
+      Adds (rows_in_order (map stm_rows b) (sets inner within)) s1 s2 → Adds (last ∷ []) s3 s4 → Adds ((stm_rows (at.Loop b)).rows (sets l bits)) s s4
+  loop_adds bits within row last inner s s1 s2 s3 s4 k i w e f g x z =
       let r = sets l bits in
       let start = (stm_rows (at.Loop b)).live r in
-      let level : inner ≡ inside l bits start = i ∙ ap (λ o. inside l o row) e ∙ ap (λ o. inside l bits o) k in
+      let level : inner ≡ inside l bits start = i ∙ ap (λ o. inside l bits o) k in
       let xs = rows_in_order (map stm_rows b) (sets (inside l bits start) start) in
-      let body : Adds xs s s' = subst (λ o. Adds (rows_in_order (map stm_rows b) (sets o start)) s s') level (subst (λ o. Adds (rows_in_order (map stm_rows b) (sets inner o)) s s') (w ∙ k) x) in
-      subst (λ rows. Adds rows s s'') (ap (λ o. o ∷ xs) k ∙ sym (rows_loop r b)) (adds_two xs (row ∷ []) s s' s'' body z)
+      let body : Adds xs s1 s2 = subst (λ o. Adds (rows_in_order (map stm_rows b) (sets o start)) s1 s2) level (subst (λ o. Adds (rows_in_order (map stm_rows b) (sets inner o)) s1 s2) (w ∙ k) x) in
+      let one : Adds (row ∷ []) s2 s4 = subst (λ u. Adds (row ∷ []) u s4) g (subst (λ o. Adds (o ∷ []) s3 s4) f z) in
+      subst (λ rows. Adds rows s s4) (ap (λ o. o ∷ xs) k ∙ sym (rows_loop r b)) (adds_two xs (row ∷ []) s s2 s4 (subst (λ u. Adds xs u s2) e body) one)
 
   pub block_adds : (bits row : Bits) (inner : Enclosing) (s s' s'' : SpanTable) → inner ≡ inside l bits l.none → row ≡ live_before (map stm_rows b) (sets inner bits) → Adds (rows_in_order (map stm_rows b) (sets inner bits)) s s' → Adds (row ∷ []) s' s'' → Adds ((stm_rows (at.Block b)).rows (sets l bits)) s s''
   block_adds bits row inner s s' s'' i f x z =

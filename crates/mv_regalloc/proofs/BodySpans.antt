@@ -46,7 +46,7 @@ zeros_at zero t = refl
 zeros_at (suc n) zero = refl
 zeros_at (suc n) (suc t) = zeros_at n t
 
-clear_at : (n t : ℕ) → mark_at (replicate n false) t ≡ false
+pub clear_at : (n t : ℕ) → mark_at (replicate n false) t ≡ false
 clear_at zero t = refl
 clear_at (suc n) zero = refl
 clear_at (suc n) (suc t) = clear_at n t

@@ -24,7 +24,7 @@ at_get (x ∷ xs) (suc t) = at_get xs t
 pub same_bits : (xs ys : Bits) → length xs ≡ length ys → ((t : ℕ) → t < length xs → mark_at xs t ≡ mark_at ys t) → xs ≡ ys
 same_bits xs ys e h = ext_get_or false xs ys e (λ t l. sym (at_get xs t) ∙ h t l ∙ at_get ys t)
 
-past_bit : (xs : Bits) (t : ℕ) → length xs ≤ t → mark_at xs t ≡ false
+pub past_bit : (xs : Bits) (t : ℕ) → length xs ≤ t → mark_at xs t ≡ false
 past_bit [] t h = refl
 past_bit (x ∷ xs) zero h = absurd (omega (arith, h))
 past_bit (x ∷ xs) (suc t) h = past_bit xs t (omega (arith, h))

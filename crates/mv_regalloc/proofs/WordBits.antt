@@ -1,11 +1,11 @@
 -- Bits in words: what an edit of a word does to them.
 use Rattle.std.proofs.Common.{arith, ◌≡◌, ℕ, zero, suc, ◌-◌, ◌*◌, ◌/◌, ◌%◌, ◌^◌, ◌<◌, ◌≤◌, min, max, Bool, true, false, cond, eqb, ltb, ◌&&◌, ◌||◌, List, [], ◌∷◌, length, get_or, refl, sym, ap, ◌∙◌, ◌⊎◌, inl, inr, w64, bit_or, bit_and}
 use Rattle.std.specs.Prelude.{slice_set, slice_index}
-use Rattle.std.specs.Int.{bit_at, bit_not}
+use Rattle.std.specs.Int.{bit_at, bit_not, trailing_zeros}
 use Rattle.std.proofs.lemmas.List.{get_or-set_same, get_or-set_other, get_or_past}
 use Rattle.std.proofs.lemmas.Bool.{cases_eq, cases_lt, eq-eqb, ne_eqb, lt-ltb, le-ltb}
-use Rattle.std.proofs.lemmas.Nat.{one_shl}
-use Rattle.std.proofs.lemmas.Nat.Bits.{bit_at_set_same, bit_at_set_other, bit_at_clear_same, bit_at_clear_other, bit_at_or, bit_at_and, bit_at-lt, bit_at-zero, bit_at_ones, bit_at_ones_above}
+use Rattle.std.proofs.lemmas.Nat.{one_shl, and_le_l}
+use Rattle.std.proofs.lemmas.Nat.Bits.{bit_at-trailing_zeros, bit_at_set_same, bit_at_set_other, bit_at_clear_same, bit_at_clear_other, bit_at_or, bit_at_and, bit_at-lt, bit_at-zero, bit_at_ones, bit_at_ones_above}
 use Rattle.mv_regalloc.specs.LiveBits.{in_word, word_bit}
 
 -- ---- lists of words
@@ -55,6 +55,35 @@ bit_cleared w u t e = by (cases_eq u t)
         ap (λ k. eqb (bit_at (bit_and w (bit_not w64 (1 * 2 ^ (u % 64) % 2 ^ 64))) (k % 64)) 1) (sym s) ∙ ap (λ v. eqb v 1) (bit_at_clear_same w64 w (u % 64) low) ∙ ap (λ c. cond c false (eqb (bit_at w (t % 64)) 1)) (sym (eq-eqb u t s))
     by (inr n) =
         ap (λ v. eqb v 1) (bit_at_clear_other w64 w (u % 64) low (t % 64) (omega arith) (λ s. n (omega (arith, s, e)))) ∙ ap (λ c. cond c false (eqb (bit_at w (t % 64)) 1)) (sym (ne_eqb u t n))
+
+pub bit_without : (w k t : ℕ) → k < 64 → in_word (bit_and w (bit_not w64 (1 * 2 ^ k % 2 ^ 64))) t ≡ cond (eqb (t % 64) k) false (in_word w t)
+unfolding in_word
+bit_without w k t low = by (cases_eq (t % 64) k)
+  where
+    by : (t % 64 ≡ k) ⊎ (t % 64 ≡ k → ⊥) → eqb (bit_at (bit_and w (bit_not w64 (1 * 2 ^ k % 2 ^ 64))) (t % 64)) 1 ≡ cond (eqb (t % 64) k) false (eqb (bit_at w (t % 64)) 1)
+    by (inl e) =
+        ap (λ i. eqb (bit_at (bit_and w (bit_not w64 (1 * 2 ^ k % 2 ^ 64))) i) 1) e ∙ ap (λ v. eqb v 1) (bit_at_clear_same w64 w k low) ∙ ap (λ c. cond c false (eqb (bit_at w (t % 64)) 1)) (sym (eq-eqb (t % 64) k e))
+    by (inr ne) =
+        ap (λ v. eqb v 1) (bit_at_clear_other w64 w k low (t % 64) (omega arith) ne) ∙ ap (λ c. cond c false (eqb (bit_at w (t % 64)) 1)) (sym (ne_eqb (t % 64) k ne))
+
+pub without_less : (w k : ℕ) → k < 64 → in_word w k ≡ true → bit_and w (bit_not w64 (1 * 2 ^ k % 2 ^ 64)) < w
+without_less w k low h = by (cases_lt (bit_and w (bit_not w64 (1 * 2 ^ k % 2 ^ 64))) w)
+  where
+    most : bit_and w (bit_not w64 (1 * 2 ^ k % 2 ^ 64)) ≤ w
+    most = and_le_l w (bit_not w64 (1 * 2 ^ k % 2 ^ 64))
+
+    here : k % 64 ≡ k
+    here = omega (arith, low)
+
+    by : (bit_and w (bit_not w64 (1 * 2 ^ k % 2 ^ 64)) < w) ⊎ (w ≤ bit_and w (bit_not w64 (1 * 2 ^ k % 2 ^ 64))) → bit_and w (bit_not w64 (1 * 2 ^ k % 2 ^ 64)) < w
+    by (inl l) = l
+    by (inr l) =
+        let same : bit_and w (bit_not w64 (1 * 2 ^ k % 2 ^ 64)) ≡ w = omega (arith, l, most) in
+        let d : false ≡ true = sym (bit_without w k k low ∙ ap (λ c. cond c false (in_word w k)) (eq-eqb (k % 64) k here)) ∙ ap (λ v. in_word v k) same ∙ h in absurd cc
+
+pub lowest_set : (w t : ℕ) → 0 < w → w < 2 ^ 64 → t % 64 ≡ trailing_zeros w64 w → in_word w t ≡ true
+unfolding in_word
+lowest_set w t some fits e = ap (λ i. eqb (bit_at w i) 1) e ∙ ap (λ v. eqb v 1) (bit_at-trailing_zeros w64 w some fits).1
 
 pub bits_either : (a b t : ℕ) → in_word (bit_or a b) t ≡ (in_word a t || in_word b t)
 unfolding in_word

@@ -1,90 +1,119 @@
-// Where the intervals of each number end: the first number that is free is found by a look at one position for 64
-// numbers.
+// Where the intervals of each number end: the first number that is free is found by a way down a tree, in which each
+// node has the lesser of two ends.
 
-ghost use Rattle.std.specs.Prelude.{ℕ, ◌≡◌, ◌<◌, ◌≤◌, ◌/◌, ◌++◌, ◌∷◌, [], length, slice_index, slice_set, MatchOption, OnOk};
-ghost use Rattle.mv_regalloc.specs.Tracked.{AreLeast, IsFirstEnded, IsFirstIn};
+ghost use Rattle.std.specs.Prelude.{ℕ, ◌≡◌, ◌<◌, ◌≤◌, ◌+◌, ◌*◌, ◌/◌, ◌++◌, ◌∷◌, [], length, min, List, slice_index, slice_set, IfOk, OnOk, OnErr};
+ghost use Rattle.mv_regalloc.specs.Paired.{lesser_of};
+ghost use Rattle.mv_regalloc.specs.Tracked.{AreLesser, IsFirstEnded};
 
-use crate::words::{end_within, grow, word_at};
+use crate::words::word_at;
 use std::alloc::{AllocError, Global};
 use std::marker::Model;
 
-/// For each number the position behind its last interval, and for 64 numbers each the least of these positions.
+/// For each number the position behind its last interval, and above them the same table over the lesser of each two: a
+/// tree of minima, a level each.
+#[cycle(ends)]
 #[derive(Drop)]
 pub struct Ends {
     ends: Vec<u64>,
-    least: Vec<u64>,
+    pairs: Pairs,
+}
+
+// The lesser end of each two numbers, which are 0 and 1, 2 and 3, and so on.
+#[cycle(ends)]
+#[derive(Drop)]
+enum Pairs {
+    Empty,
+    Lesser(Box<Ends>),
 }
 
 impl Model for Ends {
-    ghost use Rattle.std.specs.Prelude.{ℕ, List};
-    ghost use Rattle.mv_regalloc.specs.Tracked.{AreLeast};
+    ghost use Rattle.std.specs.Prelude.{ℕ, List, length};
 
     ghost Value = { List ℕ };
 
+    ghost use Rattle.mv_regalloc.specs.Paired.{IsPaired};
+
     ghost view = { λ e. e.ends.items };
 
-    ghost invariant = { λ e. AreLeast e.ends.items e.least.items };
+    ghost invariant = { λ e. IsPaired e.ends.items e.pairs };
+
+    ghost size = { length };
+
+    ghost use Rattle.mv_regalloc.specs.Halves.{pairs_fewer};
+
+    ghost size_decreases = { λ e h. pairs_fewer e.ends.items e.pairs h };
 }
 
-fn lesser(a: u64, b: u64) -> u64
-    ensures first { result ≤ a }
-    ensures second { result ≤ b }
+// The lesser end of a number's pair.
+fn lesser_at(ends: &[u64], number: usize) -> u64
+    requires { number < length ends.now }
+    ensures { result ≡ min (slice_index ends.now (number / 2 * 2)) (slice_index ends.now (number / 2 * 2 + 1)) }
 {
-    if a < b { a } else { b }
+    let first = number / 2 * 2;
+    word_at(ends, first).min(word_at(ends, first + 1))
 }
 
-// The least of a block's positions.
-fn least_in(ends: &[u64], block: usize) -> u64
-    ensures { (n : ℕ) → n < length ends.now → n / 64 ≡ block → result ≤ slice_index ends.now n }
+// The first number whose intervals have all ended before a position, by the first such pair.
+fn first_of_pair(ends: &[u64], pair: usize, at: u64) -> usize
+    requires { pair ≤ length ends.now / 2 }
+    ensures { (lesser : List ℕ) → AreLesser ends.now lesser → IsFirstEnded lesser at pair → IsFirstEnded ends.now at result }
 {
-    let from = block.saturating_mul(64);
-    let mut least = u64::MAX;
-    for n in from..end_within(from, ends.len()) {
-        least = lesser(least, ends[n]);
-    }
-    least
-}
-
-// The first number of a block whose intervals have all ended before a position.
-fn ended_in(ends: &[u64], block: usize, at: u64) -> Option<usize>
-    ensures { MatchOption result
-        ((n : ℕ) → n < length ends.now → n / 64 ≡ block → at < slice_index ends.now n)
-        (λ n. IsFirstIn ends.now at block n) }
-{
-    let from = block.saturating_mul(64);
-    for n in from..end_within(from, ends.len()) {
-        if ends[n] <= at {
-            return Some(n);
-        }
-    }
-    None
-}
-
-// The same, by the block's least position where that says that there is none.
-fn next_ended(ends: &[u64], least: &[u64], block: usize, at: u64) -> Option<usize>
-    requires { AreLeast ends.now least.now }
-    ensures { MatchOption result
-        ((n : ℕ) → n < length ends.now → n / 64 ≡ block → at < slice_index ends.now n)
-        (λ n. IsFirstIn ends.now at block n) }
-{
-    if word_at(least, block) <= at {
-        ended_in(ends, block, at)
+    let first = pair * 2;
+    if word_at(ends, first) <= at {
+        first
     } else {
-        None
+        first + 1
     }
 }
 
-// The first number whose intervals have all ended before a position.
-fn first_ended(ends: &[u64], least: &[u64], at: u64) -> usize
-    requires { AreLeast ends.now least.now }
-    ensures { IsFirstEnded ends.now at result }
+// The end of one number.
+fn single(alloc: Global, end: u64) -> Result<Box<Ends>, AllocError>
+    ensures { IfOk result (λ ends. ends.value ≡ end ∷ []) }
 {
-    for block in 0..ends.len() / 64 + 1 {
-        if let Some(n) = next_ended(ends, least, block, at) {
-            return n;
+    let mut ends = Vec::new(alloc);
+    ends.push(end)?;
+    let pairs = Pairs::Empty;
+    Ok(Box::new(alloc, Ends { ends, pairs })?)
+}
+
+impl Pairs {
+    // The first pair that has a number whose intervals have all ended before a position, or the next new one.
+    #[cycle(first_ended)]
+    fn first_ended(&self, at: u64) -> usize
+        ensures { IsFirstEnded (lesser_of self.now) at result }
+    {
+        match self {
+            Pairs::Empty => 0,
+            Pairs::Lesser(lesser) => lesser.first_ended(at),
         }
     }
-    ends.len()
+
+    // Another lesser end for a pair, if there is such a pair.
+    #[cycle(set)]
+    fn set(&mut self, pair: usize, end: u64)
+        ensures { lesser_of self.new ≡ slice_set (lesser_of self.old) pair end }
+    {
+        if let Pairs::Lesser(lesser) = self {
+            if pair < lesser.len() {
+                lesser.set(pair, end);
+            }
+        }
+    }
+
+    // One pair more.
+    #[cycle(push)]
+    fn push(&mut self, alloc: Global, end: u64) -> Result<(), AllocError>
+        ensures ok { OnOk result (lesser_of self.new ≡ lesser_of self.old ++ end ∷ []) }
+        ensures err { OnErr result (lesser_of self.new ≡ lesser_of self.old) }
+    {
+        match self {
+            Pairs::Empty => {
+                *self = Pairs::Lesser(single(alloc, end)?);
+                Ok(())
+            }
+            Pairs::Lesser(lesser) => lesser.push(end),
+        }
+    }
 }
 
 impl Ends {
@@ -94,7 +123,7 @@ impl Ends {
     {
         Ends {
             ends: Vec::new(alloc),
-            least: Vec::new(alloc),
+            pairs: Pairs::Empty,
         }
     }
 
@@ -106,32 +135,37 @@ impl Ends {
     }
 
     /// The first number whose intervals have all ended before a position, or the next new one.
+    #[cycle(first_ended)]
     pub fn first_ended(&self, at: u64) -> usize
         ensures { IsFirstEnded self.now at result }
     {
-        first_ended(self.ends.as_slice(), self.least.as_slice(), at)
+        first_of_pair(self.ends.as_slice(), self.pairs.first_ended(at), at)
     }
 
     /// Another end for a number.
-    pub fn set(&mut self, number: usize, end: u64) -> Result<(), AllocError>
+    #[cycle(set)]
+    pub fn set(&mut self, number: usize, end: u64)
         requires { number < length self.old }
-        ensures { OnOk result (self.new ≡ slice_set self.old number end) }
+        ensures { self.new ≡ slice_set self.old number end }
     {
-        let block = number / 64;
-        grow(&mut self.least, block + 1)?;
         self.ends[number] = end;
-        self.least[block] = least_in(self.ends.as_slice(), block);
-        Ok(())
+        let lesser = lesser_at(self.ends.as_slice(), number);
+        self.pairs.set(number / 2, lesser);
     }
 
-    /// One number more.
+    /// One number more. Where memory lacks, the ends are as they were.
+    #[cycle(push)]
     pub fn push(&mut self, end: u64) -> Result<(), AllocError>
-        ensures { OnOk result (self.new ≡ self.old ++ end ∷ []) }
+        ensures ok { OnOk result (self.new ≡ self.old ++ end ∷ []) }
+        ensures err { OnErr result (self.new ≡ self.old) }
     {
-        let block = self.ends.len() / 64;
-        grow(&mut self.least, block + 1)?;
-        self.ends.push(end)?;
-        self.least[block] = least_in(self.ends.as_slice(), block);
+        let number = self.ends.len();
+        self.ends.reserve(1)?;
+        if number % 2 == 1 {
+            let lesser = self.ends[number - 1].min(end);
+            self.pairs.push(*self.ends.allocator(), lesser)?;
+        }
+        self.ends.push_reserved(end);
         Ok(())
     }
 }

@@ -1,14 +1,28 @@
 // Where temporaries are live: a walk over some code from its end to its start.
 
-ghost use Rattle.std.specs.Prelude.{◌≡◌, map, OnOk};
-ghost use Rattle.mv_regalloc.specs.Rows.{sets, live_before, stm_rows};
+ghost use Rattle.std.specs.Prelude.{◌≡◌, false, map, OnOk};
+ghost use Rattle.mv_regalloc.specs.Rows.{own_trees, put_bit, sets, with_all_reads, live_before, stm_rows};
 
 use crate::levels::Levels;
 use crate::live_set::LiveSet;
-use crate::reads::{read_callee, read_tree, read_trees};
+use crate::reads::own_reads;
 use mv_ir::stm::Stm;
 use mv_num::list::List;
 use std::alloc::{AllocError, Global};
+
+/// The temporary that a statement writes isn't live before it, and those that its own trees read are.
+pub fn live_plain(
+    alloc: Global,
+    stm: &Stm,
+    written: Option<u32>,
+    bits: &mut LiveSet,
+) -> Result<(), AllocError>
+    ensures { OnOk result (bits.new ≡ with_all_reads (own_trees stm.now) (put_bit written false bits.old)) }
+{
+    let reads = own_reads(alloc, stm)?;
+    bits.remove_some(written);
+    bits.insert_all(reads.as_slice())
+}
 
 /// From what is live behind some code to what is live before it.
 #[cycle(live)]
@@ -41,32 +55,19 @@ pub fn live_stm(
     ensures levels { OnOk result (levels.new ≡ levels.old) }
 {
     match stm {
-        Stm::Set(t, v) => {
-            bits.remove(*t);
-            read_tree(bits, v)
-        }
-        Stm::SetGlobal(_, v) => read_tree(bits, v),
-        Stm::Divide(t, _, a, b) => {
-            bits.remove(*t);
-            read_tree(bits, a)?;
-            read_tree(bits, b)
-        }
-        Stm::Check(_, i) => read_tree(bits, i),
-        Stm::Read(t, _, i) => {
-            bits.remove(*t);
-            read_tree(bits, i)
-        }
-        Stm::Write(_, i, v) => {
-            read_tree(bits, i)?;
-            read_tree(bits, v)
-        }
+        Stm::Set(t, _) => live_plain(alloc, stm, Some(*t), bits),
+        Stm::SetGlobal(_, _) => live_plain(alloc, stm, None, bits),
+        Stm::Divide(t, _, _, _) => live_plain(alloc, stm, Some(*t), bits),
+        Stm::Check(_, _) => live_plain(alloc, stm, None, bits),
+        Stm::Read(t, _, _) => live_plain(alloc, stm, Some(*t), bits),
+        Stm::Write(_, _, _) => live_plain(alloc, stm, None, bits),
         Stm::Zero(_) => Ok(()),
-        Stm::If(t, a, b) => {
+        Stm::If(_, a, b) => {
             let mut others = bits.copied(alloc)?;
             live_code(alloc, a, bits, levels)?;
             live_code(alloc, b, &mut others, levels)?;
             bits.join(&others)?;
-            read_tree(bits, t)
+            live_plain(alloc, stm, None, bits)
         }
         Stm::Loop(b) => live_loop(alloc, b, bits, levels),
         Stm::Block(b) => live_block(alloc, b, bits, levels),
@@ -78,18 +79,11 @@ pub fn live_stm(
             *bits = levels.start(alloc, *n)?;
             Ok(())
         }
-        Stm::Call(t, f, args) => {
-            bits.remove_some(*t);
-            read_callee(bits, f)?;
-            read_trees(bits, args.as_slice())
-        }
-        Stm::Known(t, _, args) => {
-            bits.remove_some(*t);
-            read_trees(bits, args.as_slice())
-        }
-        Stm::Return(v) => {
+        Stm::Call(t, _, _) => live_plain(alloc, stm, *t, bits),
+        Stm::Known(t, _, _) => live_plain(alloc, stm, *t, bits),
+        Stm::Return(_) => {
             *bits = levels.none(alloc)?;
-            read_tree(bits, v)
+            live_plain(alloc, stm, None, bits)
         }
     }
 }

@@ -3,9 +3,9 @@
 ghost use Rattle.std.specs.Prelude.{ℕ, ◌≡◌, ◌≤◌, ◌/◌, ◌*◌, ◌||◌, false, true, IfOk, OnOk, replicate, slice_set};
 ghost use Rattle.mv_ir.specs.Live.{mark_at};
 ghost use Rattle.mv_regalloc.specs.LiveBits.{in_word, word_bit};
-ghost use Rattle.mv_regalloc.specs.Rows.{either_bits, put_bit};
+ghost use Rattle.mv_regalloc.specs.Rows.{either_bits, put_bit, with_temps};
 
-use crate::words::{below, clear_bit, grow, set_bit, word_at};
+use crate::words::{below, clear_bit, grow, has_bit, set_bit, word_at};
 use std::alloc::{AllocError, Global};
 use std::marker::Model;
 
@@ -68,6 +68,13 @@ impl LiveSet {
         below(word_at(self.words.as_slice(), place), place, self.temps)
     }
 
+    /// Whether a temporary's bit is set.
+    pub fn has(&self, temp: u32) -> bool
+        ensures { result ≡ mark_at self.now temp }
+    {
+        has_bit(self.word((temp / 64) as usize), temp as usize)
+    }
+
     /// Behind so many words no bit is set.
     pub fn count(&self) -> usize
         ensures { (t : ℕ) → result ≤ t / 64 → mark_at self.now t ≡ false }
@@ -85,19 +92,19 @@ impl LiveSet {
         Ok(())
     }
 
+    pub fn insert_all(&mut self, temps: &[u32]) -> Result<(), AllocError>
+        ensures { OnOk result (self.new ≡ with_temps temps.now self.old) }
+    {
+        for temp in temps {
+            self.insert(*temp)?;
+        }
+        Ok(())
+    }
+
     pub fn remove(&mut self, temp: u32)
         ensures { self.new ≡ slice_set self.old temp false }
     {
         clear_bit(&mut self.words, temp);
-    }
-
-    pub fn insert_some(&mut self, temp: Option<u32>) -> Result<(), AllocError>
-        ensures { OnOk result (self.new ≡ put_bit temp true self.old) }
-    {
-        if let Some(temp) = temp {
-            self.insert(temp)?;
-        }
-        Ok(())
     }
 
     pub fn remove_some(&mut self, temp: Option<u32>)

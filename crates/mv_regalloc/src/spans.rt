@@ -1,18 +1,18 @@
 // The first and the last position of each temporary: one walk from the end of a body to its start.
 
-ghost use Rattle.std.specs.Prelude.{◌≡◌, ◌∷◌, [], true, map, IfOk, OnOk};
+ghost use Rattle.std.specs.Prelude.{◌≡◌, ◌∷◌, [], false, true, map, IfOk, OnOk};
 ghost use Rattle.mv_ir.specs.Live.{all_marks};
-ghost use Rattle.mv_regalloc.specs.Rows.{sets, with_reads, either_bits, put_bit, live_before, rows_in_order, stm_rows};
+ghost use Rattle.mv_regalloc.specs.Rows.{sets, own_trees, with_all_reads, either_bits, put_bit, live_before, rows_in_order, stm_rows};
 ghost use Rattle.mv_regalloc.specs.Spanned.{Adds, AreSpansOf, with_params};
 
 use crate::levels::Levels;
-use crate::live::{live_loop, live_stm};
+use crate::live::{live_loop, live_plain};
 use crate::live_set::LiveSet;
-use crate::reads::read_tree;
+use crate::reads::own_reads;
 use crate::table::Spans;
+use crate::walk::Walk;
 use mv_ir::body::Body;
 use mv_ir::stm::Stm;
-use mv_ir::tree::Tree;
 use mv_num::list::List;
 use std::alloc::{AllocError, Global};
 
@@ -21,17 +21,18 @@ use std::alloc::{AllocError, Global};
 pub fn mark_code(
     alloc: Global,
     code: &List<Stm>,
-    bits: &mut LiveSet,
     levels: &mut Levels,
-    spans: &mut Spans,
+    walk: &mut Walk,
 ) -> Result<(), AllocError>
-    ensures live { OnOk result (bits.new ≡ live_before (map stm_rows code.now) (sets levels.old bits.old)) }
-    ensures rows { OnOk result (Adds (rows_in_order (map stm_rows code.now) (sets levels.old bits.old)) spans.old spans.new) }
+    ensures live { OnOk result (walk.new.live ≡ live_before (map stm_rows code.now) (sets levels.old walk.old.live)) }
+    ensures rows { OnOk result (
+        Adds (rows_in_order (map stm_rows code.now) (sets levels.old walk.old.live)) walk.old.spans walk.new.spans
+        ) }
     ensures levels { OnOk result (levels.new ≡ levels.old) }
 {
     let stms = code.as_slice();
     for done in 0..stms.len() {
-        mark_stm(alloc, &stms[stms.len() - 1 - done], bits, levels, spans)?;
+        mark_stm(alloc, &stms[stms.len() - 1 - done], levels, walk)?;
     }
     Ok(())
 }
@@ -41,35 +42,45 @@ pub fn mark_code(
 fn mark_stm(
     alloc: Global,
     stm: &Stm,
-    bits: &mut LiveSet,
     levels: &mut Levels,
-    spans: &mut Spans,
+    walk: &mut Walk,
 ) -> Result<(), AllocError>
-    ensures live { OnOk result (bits.new ≡ (stm_rows stm.now).live (sets levels.old bits.old)) }
-    ensures rows { OnOk result (Adds ((stm_rows stm.now).rows (sets levels.old bits.old)) spans.old spans.new) }
+    ensures live { OnOk result (walk.new.live ≡ (stm_rows stm.now).live (sets levels.old walk.old.live)) }
+    ensures rows { OnOk result (Adds ((stm_rows stm.now).rows (sets levels.old walk.old.live)) walk.old.spans walk.new.spans) }
     ensures levels { OnOk result (levels.new ≡ levels.old) }
 {
     match stm {
-        Stm::Set(t, _) => mark_plain(alloc, stm, Some(*t), bits, levels, spans),
-        Stm::SetGlobal(_, _) => mark_plain(alloc, stm, None, bits, levels, spans),
-        Stm::Divide(t, _, _, _) => mark_plain(alloc, stm, Some(*t), bits, levels, spans),
-        Stm::Check(_, _) => mark_plain(alloc, stm, None, bits, levels, spans),
-        Stm::Read(t, _, _) => mark_plain(alloc, stm, Some(*t), bits, levels, spans),
-        Stm::Write(_, _, _) => mark_plain(alloc, stm, None, bits, levels, spans),
-        Stm::Zero(_) => mark_plain(alloc, stm, None, bits, levels, spans),
-        Stm::If(t, a, b) => {
-            let mut others = bits.copied(alloc)?;
-            mark_code(alloc, b, &mut others, levels, spans)?;
-            mark_code(alloc, a, bits, levels, spans)?;
-            mark_test(t, bits, &others, spans)
+        Stm::Set(t, _) => mark_plain(alloc, stm, Some(*t), walk),
+        Stm::SetGlobal(_, _) => mark_plain(alloc, stm, None, walk),
+        Stm::Divide(t, _, _, _) => mark_plain(alloc, stm, Some(*t), walk),
+        Stm::Check(_, _) => mark_plain(alloc, stm, None, walk),
+        Stm::Read(t, _, _) => mark_plain(alloc, stm, Some(*t), walk),
+        Stm::Write(_, _, _) => mark_plain(alloc, stm, None, walk),
+        Stm::Zero(_) => mark_plain(alloc, stm, None, walk),
+        Stm::If(_, a, b) => {
+            let behind = walk.live().copied(alloc)?;
+            mark_code(alloc, b, levels, walk)?;
+            let others = walk.live().copied(alloc)?;
+            walk.turn(behind);
+            mark_code(alloc, a, levels, walk)?;
+            mark_test(alloc, stm, &others, walk)
         }
-        Stm::Loop(b) => mark_loop(alloc, b, bits, levels, spans),
-        Stm::Block(b) => mark_block(alloc, b, bits, levels, spans),
-        Stm::Break(_) => mark_plain(alloc, stm, None, bits, levels, spans),
-        Stm::Back(_) => mark_plain(alloc, stm, None, bits, levels, spans),
-        Stm::Call(t, _, _) => mark_plain(alloc, stm, *t, bits, levels, spans),
-        Stm::Known(t, _, _) => mark_plain(alloc, stm, *t, bits, levels, spans),
-        Stm::Return(_) => mark_plain(alloc, stm, None, bits, levels, spans),
+        Stm::Loop(b) => mark_loop(alloc, b, levels, walk),
+        Stm::Block(b) => mark_block(alloc, b, levels, walk),
+        Stm::Break(n) => {
+            walk.turn(levels.behind(alloc, *n)?);
+            mark_plain(alloc, stm, None, walk)
+        }
+        Stm::Back(n) => {
+            walk.turn(levels.start(alloc, *n)?);
+            mark_plain(alloc, stm, None, walk)
+        }
+        Stm::Call(t, _, _) => mark_plain(alloc, stm, *t, walk),
+        Stm::Known(t, _, _) => mark_plain(alloc, stm, *t, walk),
+        Stm::Return(_) => {
+            walk.turn(levels.none(alloc)?);
+            mark_plain(alloc, stm, None, walk)
+        }
     }
 }
 
@@ -77,23 +88,23 @@ fn mark_stm(
 fn mark_loop(
     alloc: Global,
     code: &List<Stm>,
-    bits: &mut LiveSet,
     levels: &mut Levels,
-    spans: &mut Spans,
+    walk: &mut Walk,
 ) -> Result<(), AllocError>
-    ensures live { OnOk result (bits.new ≡ (stm_rows (Stm.Loop code.now)).live (sets levels.old bits.old)) }
+    ensures live { OnOk result (walk.new.live ≡ (stm_rows (Stm.Loop code.now)).live (sets levels.old walk.old.live)) }
     ensures rows { OnOk result (
-        Adds ((stm_rows (Stm.Loop code.now)).rows (sets levels.old bits.old)) spans.old spans.new
+        Adds ((stm_rows (Stm.Loop code.now)).rows (sets levels.old walk.old.live)) walk.old.spans walk.new.spans
         ) }
     ensures levels { OnOk result (levels.new ≡ levels.old) }
 {
-    let behind = bits.copied(alloc)?;
-    live_loop(alloc, code, bits, levels)?;
-    levels.enter(alloc, &behind, bits)?;
-    let mut within = bits.copied(alloc)?;
-    mark_code(alloc, code, &mut within, levels, spans)?;
+    let mut bits = walk.live().copied(alloc)?;
+    live_loop(alloc, code, &mut bits, levels)?;
+    levels.enter(alloc, walk.live(), &bits)?;
+    walk.turn(bits.copied(alloc)?);
+    mark_code(alloc, code, levels, walk)?;
     levels.leave();
-    spans.mark(bits)
+    walk.turn(bits);
+    walk.mark()
 }
 
 #[cycle(spans)]
@@ -101,59 +112,50 @@ fn mark_loop(
 fn mark_block(
     alloc: Global,
     code: &List<Stm>,
-    bits: &mut LiveSet,
     levels: &mut Levels,
-    spans: &mut Spans,
+    walk: &mut Walk,
 ) -> Result<(), AllocError>
-    ensures live { OnOk result (bits.new ≡ (stm_rows (Stm.Block code.now)).live (sets levels.old bits.old)) }
+    ensures live { OnOk result (walk.new.live ≡ (stm_rows (Stm.Block code.now)).live (sets levels.old walk.old.live)) }
     ensures rows { OnOk result (
-        Adds ((stm_rows (Stm.Block code.now)).rows (sets levels.old bits.old)) spans.old spans.new
+        Adds ((stm_rows (Stm.Block code.now)).rows (sets levels.old walk.old.live)) walk.old.spans walk.new.spans
         ) }
     ensures levels { OnOk result (levels.new ≡ levels.old) }
 {
     let none = levels.none(alloc)?;
-    levels.enter(alloc, bits, &none)?;
-    mark_code(alloc, code, bits, levels, spans)?;
+    levels.enter(alloc, walk.live(), &none)?;
+    mark_code(alloc, code, levels, walk)?;
     levels.leave();
-    spans.mark(bits)
+    walk.mark()
 }
 
 // The position of an `If`, from what is live before its two lists.
-fn mark_test(
-    test: &Tree,
-    bits: &mut LiveSet,
-    others: &LiveSet,
-    spans: &mut Spans,
-) -> Result<(), AllocError>
-    ensures live { OnOk result (bits.new ≡ with_reads test.now (either_bits bits.old others.now)) }
+fn mark_test(alloc: Global, stm: &Stm, others: &LiveSet, walk: &mut Walk) -> Result<(), AllocError>
+    ensures live { OnOk result (walk.new.live ≡ with_all_reads (own_trees stm.now) (either_bits walk.old.live others.now)) }
     ensures rows { OnOk result (
-        Adds (with_reads test.now (either_bits bits.old others.now) ∷ []) spans.old spans.new
+        Adds (with_all_reads (own_trees stm.now) (either_bits walk.old.live others.now) ∷ []) walk.old.spans walk.new.spans
         ) }
 {
+    let mut bits = walk.live().copied(alloc)?;
     bits.join(others)?;
-    read_tree(bits, test)?;
-    spans.mark(bits)
+    live_plain(alloc, stm, None, &mut bits)?;
+    walk.turn(bits);
+    walk.mark()
 }
 
-// A statement without statements of its own, and the temporary that it writes.
+// The position of a statement without statements of its own, and the temporary that it writes.
 fn mark_plain(
     alloc: Global,
     stm: &Stm,
     written: Option<u32>,
-    bits: &mut LiveSet,
-    levels: &mut Levels,
-    spans: &mut Spans,
+    walk: &mut Walk,
 ) -> Result<(), AllocError>
-    ensures live { OnOk result (bits.new ≡ (stm_rows stm.now).live (sets levels.old bits.old)) }
+    ensures live { OnOk result (walk.new.live ≡ with_all_reads (own_trees stm.now) (put_bit written false walk.old.live)) }
     ensures rows { OnOk result (
-        Adds (put_bit written true ((stm_rows stm.now).live (sets levels.old bits.old)) ∷ []) spans.old spans.new
+        Adds (put_bit written true (with_all_reads (own_trees stm.now) (put_bit written false walk.old.live)) ∷ []) walk.old.spans walk.new.spans
         ) }
-    ensures levels { OnOk result (levels.new ≡ levels.old) }
 {
-    live_stm(alloc, stm, bits, levels)?;
-    let mut row = bits.copied(alloc)?;
-    row.insert_some(written)?;
-    spans.mark(&row)
+    let reads = own_reads(alloc, stm)?;
+    walk.step(written, reads.as_slice())
 }
 
 // The parameters are there at the start.
@@ -172,11 +174,12 @@ pub fn spans_of(alloc: Global, body: &Body) -> Result<Spans, AllocError>
     ensures { IfOk result (λ spans. AreSpansOf (all_marks body.now) body.now.temps spans) }
 {
     let temps = body.temps as usize;
-    let mut spans = Spans::none(alloc, temps)?;
-    let mut bits = LiveSet::none(alloc, temps);
+    let mut walk = Walk::new(alloc, temps)?;
     let mut levels = Levels::new(alloc, temps);
-    mark_code(alloc, &body.code, &mut bits, &mut levels, &mut spans)?;
+    mark_code(alloc, &body.code, &mut levels, &mut walk)?;
+    let mut bits = walk.live().copied(alloc)?;
     set_params(&mut bits, body.params)?;
-    spans.mark(&bits)?;
-    Ok(spans)
+    walk.turn(bits);
+    walk.mark()?;
+    Ok(walk.into_spans(alloc))
 }

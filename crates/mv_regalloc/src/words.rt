@@ -1,6 +1,6 @@
 // Bits in words: that of a temporary is in the word at a 64th of its number, and a word past the end is 0.
 
-ghost use Rattle.std.specs.Prelude.{ℕ, ◌≡◌, ◌≤◌, ◌+◌, ◌/◌, ◌||◌, ◌&&◌, false, cond, eqb, ltb, length, min, slice_index, OnOk};
+ghost use Rattle.std.specs.Prelude.{ℕ, ◌≡◌, ◌≤◌, ◌<◌, ◌+◌, ◌/◌, ◌%◌, ◌||◌, ◌&&◌, true, false, cond, eqb, ltb, length, min, slice_index, OnOk};
 ghost use Rattle.mv_regalloc.specs.LiveBits.{in_word, word_bit};
 
 use std::alloc::AllocError;
@@ -66,6 +66,25 @@ pub fn below(word: u64, place: usize, temps: usize) -> u64
     } else {
         0
     }
+}
+
+/// The place in a word of the lowest bit that is set.
+pub fn lowest(word: u64) -> u32
+    requires { 0 < word }
+    ensures place { result < 64 }
+    ensures set { (t : ℕ) → t % 64 ≡ result → in_word word t ≡ true }
+{
+    word.trailing_zeros()
+}
+
+/// The word without a bit that is set.
+pub fn without(word: u64, bit: u32) -> u64
+    requires place { bit < 64 }
+    requires set { in_word word bit ≡ true }
+    ensures bits { (t : ℕ) → in_word result t ≡ cond (eqb (t % 64) bit) false (in_word word t) }
+    ensures less { result < word }
+{
+    word & !(1 << bit)
 }
 
 /// Behind the 64 places from one on, but not behind the last one.
