@@ -1,4 +1,5 @@
--- The spans of temporaries in a table that leaves out where those begin that were marked at the last position.
+-- The spans of temporaries in a table that leaves out where those begin that were marked at the last position: the one
+-- that was added last, before all others.
 use Rattle.std.specs.Prelude.{ℕ, ◌≡◌, ◌<◌, ◌+◌, Bool, true, cond, eqb, not, ◌&&◌, List, length, map, slice_index, Option, Some, None}
 use Rattle.std.specs.List.{range_with_len}
 use Rattle.mv_ir.specs.Live.{mark_at}
@@ -30,6 +31,7 @@ pub record IsTurned (held row : Bits) (s s' : Table) : Type 0 where
 abbrev pub begin_of : Bits → Table → ℕ → ℕ
 begin_of held s t = cond (mark_at held t) s.positions (slice_index s.begins t)
 
+-- a table goes with the row that was marked at the last position
 pub record IsTable (held : Bits) (s : Table) : Type 0 where
   pub long : length s.ends ≡ length s.begins
   pub marked : (t : ℕ) → mark_at held t ≡ true → 0 < s.positions
@@ -38,6 +40,7 @@ pub record IsTable (held : Bits) (s : Table) : Type 0 where
 abbrev pub told : Bits → Table → SpanTable
 told held s = record { positions = s.positions; begins = map (λ t. begin_of held s t) (range_with_len 0 (length s.begins)); ends = s.ends }
 
+-- the same where none was marked there
 abbrev pub spans_in : Table → SpanTable
 spans_in s = record { positions = s.positions; begins = s.begins; ends = s.ends }
 

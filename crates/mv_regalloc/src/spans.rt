@@ -100,7 +100,8 @@ fn mark_loop(
     let mut bits = walk.live().copied(alloc)?;
     live_loop(alloc, code, &mut bits, levels)?;
     levels.enter(alloc, walk.live(), &bits)?;
-    walk.turn(bits.copied(alloc)?);
+    let within = bits.copied(alloc)?;
+    walk.turn(within);
     mark_code(alloc, code, levels, walk)?;
     levels.leave();
     walk.turn(bits);

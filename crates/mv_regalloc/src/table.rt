@@ -1,5 +1,5 @@
 // The first and the last position of each temporary, as positions are added before the others. Of a temporary that
-// was marked at the last position it isn't noted that it begins there: so one that stays costs nothing.
+// was marked at the last one added it isn't noted that it begins there: so one that stays costs nothing.
 
 ghost use Rattle.std.specs.Prelude.{ℕ, ◌≡◌, ◌<◌, ◌-◌, ◌/◌, ◌&&◌, eqb, false, length, not, replicate, slice_index, slice_set, true, IfOk, OnOk};
 ghost use Rattle.mv_ir.specs.Live.{mark_at};

@@ -49,7 +49,7 @@ mark_loop-returns-clause-rows t c =
     (loop_adds levels code walk.live c.turn.new.self.live row c.turn-2.new.self.live c.enter.new.self walk.spans c.turn.new.self.spans c.mark_code.new.walk.spans c.turn-2.new.self.spans c.mark.new.self.spans
     (c.in_ok-live_loop.ensures.live ∙ ap (λ b. (stm_rows (at.Loop code)).live (sets levels b)) (c.in_ok-bits.ensures ∙ c.live.ensures))
     (c.in_ok-enter.ensures ∙ ap (λ l. inside l c.live-2.result.now row) c.in_ok-live_loop.ensures.levels ∙ ap (λ b. inside levels b row) c.live-2.ensures)
-    (c.turn.ensures.live ∙ c.in_ok-copied.ensures) c.turn.ensures.spans c.turn-2.ensures.live c.turn-2.ensures.spans
+    (c.turn.ensures.live ∙ c.in_ok-within.ensures) c.turn.ensures.spans c.turn-2.ensures.live c.turn-2.ensures.spans
     c.in_ok-mark_code.ensures.rows)
     c.mark.ensures.spans
 
