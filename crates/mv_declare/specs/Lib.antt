@@ -8,3 +8,4 @@ pub mod Locals
 pub mod Parameters
 pub mod Specifiers
 pub mod Turns
+pub mod ValueSets

@@ -3,9 +3,9 @@
 ghost use Rattle.std.specs.Prelude.{◌≡◌, codes, IfOk};
 ghost use Rattle.mv_judge.specs.Judged.{IsJudged};
 ghost use Rattle.mv_declare.specs.Attributes.{fits, with_value, domain, given_domain, is_main, shape_holder, holder_of, holder_of_all, both_hold, nothing_holds, holds, held, attributes};
-ghost use Rattle.mv_ast.specs.Plans.{is_among};
 
 use crate::constants::is_value_of;
+use crate::value_set::ValueSet;
 use mv_ast::place::Place;
 use mv_ast::unit::{Declarator, Mark, Node, Shape};
 use mv_judge::constant::{Constant, needed};
@@ -45,31 +45,18 @@ fn fits(kind: Option<Kind>, constant: Constant) -> bool
     }
 }
 
-/// Whether a number is one of a list.
-pub fn is_among(value: u32, values: &[u32]) -> bool
-    ensures { result ≡ is_among value values.now }
-{
-    for v in values {
-        if value == *v {
-            return true;
-        }
-    }
-    false
-}
-
 #[tactic(auto, unfolding(crate::specs::Attributes::with_value))]
 fn with_value(
     place: Place,
     kind: Option<Kind>,
-    mut values: List<u32>,
+    mut values: ValueSet,
     constant: Constant,
-) -> Result<List<u32>, RuleError>
+) -> Result<ValueSet, RuleError>
     ensures { IsJudged (with_value place kind values constant) result }
 {
-    if !fits(kind, constant) || is_among(constant.value, values.as_slice()) {
+    if !fits(kind, constant) || !values.add(constant.value)? {
         return Err(RuleError::Rule(place, 16));
     }
-    values.push(constant.value)?;
     Ok(values)
 }
 
@@ -81,12 +68,12 @@ fn domain(
 ) -> Result<List<u32>, RuleError>
     ensures { IsJudged (domain kind scope.now nodes.now) result }
 {
-    let mut values = List::new(alloc);
+    let mut values = ValueSet::new(alloc);
     for node in nodes {
         let constant = needed(alloc, scope, node)?;
         values = with_value(node.place, kind, values, constant)?;
     }
-    Ok(values)
+    Ok(values.to_list(alloc)?)
 }
 
 fn given_domain(

@@ -8,10 +8,11 @@ ghost use Rattle.mv_judge.specs.Judged.{IsJudged};
 ghost use Rattle.mv_declare.specs.Turns.{IsBehind};
 ghost use Rattle.mv_declare.specs.Globals.{file_declarator, object_type, constant_word, with_word, first_word, first_words, single_word, listed_words, is_char, room_behind, string_words, global_words, distinct, values_of_enumeration, default_domain, domain_of};
 
-use crate::attributes::{Attribute, Position, attributes, copied, holder_of, is_among};
+use crate::attributes::{Attribute, Position, attributes, copied, holder_of};
 use crate::declarators::{Entity, designated};
 use crate::initials::{array_size, has_room};
 use crate::specifiers::{Specified, scalar_kind};
+use crate::value_set::ValueSet;
 use mv_ast::operators::converted;
 use mv_ast::place::Place;
 use mv_ast::program::{CType, Expr, Form, Local};
@@ -247,13 +248,11 @@ pub fn global_words(
 fn distinct(alloc: Global, values: &[u32]) -> Result<List<u32>, AllocError>
     ensures { IfOk result (λ list. list ≡ distinct values.now) }
 {
-    let mut done = List::new(alloc);
+    let mut done = ValueSet::new(alloc);
     for value in values {
-        if !is_among(*value, done.as_slice()) {
-            done.push(*value)?;
-        }
+        done.add(*value)?;
     }
-    Ok(done)
+    done.to_list(alloc)
 }
 
 // 0 and 1, or all values of the enumeration that the declared type is.
