@@ -10,3 +10,4 @@ pub mod initials;
 pub mod locals;
 pub mod parameters;
 pub mod specifiers;
+pub mod steps;
