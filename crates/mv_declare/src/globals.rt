@@ -118,9 +118,10 @@ fn first_word(
 {
     let Words { all, mut words } = done;
     let e = value(alloc, scope, node)?;
-    let word = constant_word(&e)?;
+    let word = constant_word(&e);
     let all = all && converts(&e, ctype);
-    match word {
+    drop(e);
+    match word? {
         None => Err(RuleError::Rule(node.place, 9)),
         Some(word) => {
             words.push(converted(ctype, word))?;

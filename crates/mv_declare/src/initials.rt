@@ -5,6 +5,7 @@ ghost use Rattle.mv_judge.specs.Judged.{IsJudged};
 ghost use Rattle.mv_declare.specs.Initials.{unless_zero, size_of_values, array_size, converted_value, converted_values, has_room, single_value, listed_values, initial_values};
 
 use crate::constants::is_positive;
+use crate::steps::{behind, with_last};
 use mv_ast::place::Place;
 use mv_ast::program::{CType, Expr, Local};
 use mv_ast::unit::{Initial, Node};
@@ -82,11 +83,11 @@ fn converted_value(
 ) -> Result<Converted, RuleError>
     ensures { IsJudged (converted_value ctype scope.now node.now done) result }
 {
-    let e = value(alloc, scope, node)?;
-    let Converted { all, mut values } = done;
+    let Converted { all, values } = done;
+    let (values, e) = behind(values, value(alloc, scope, node))?;
     let all = all && converts(&e, ctype);
-    let e = converted_to(alloc, ctype, e)?;
-    values.push(e)?;
+    let (values, e) = behind(values, converted_to(alloc, ctype, e))?;
+    let values = with_last(values, e)?;
     Ok(Converted { all, values })
 }
 
@@ -128,6 +129,7 @@ fn single_value(
 {
     let Converted { all, values } = converted;
     if size.is_some() || !all {
+        drop(values);
         Err(RuleError::Rule(place, 5))
     } else {
         Ok(values)
@@ -144,8 +146,10 @@ fn listed_values(
 {
     let Converted { all, values } = converted;
     if !all {
+        drop(values);
         Err(RuleError::Rule(place, 5))
     } else if !has_room(size, values.len()) {
+        drop(values);
         Err(RuleError::Rule(place, 10))
     } else {
         Ok(values)

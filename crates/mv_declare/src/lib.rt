@@ -10,4 +10,5 @@ pub mod initials;
 pub mod locals;
 pub mod parameters;
 pub mod specifiers;
+pub mod steps;
 pub mod value_set;

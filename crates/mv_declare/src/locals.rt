@@ -10,6 +10,7 @@ use crate::declarators::{Entity, designated};
 use crate::enumerators::is_taken;
 use crate::initials::{array_size, initial_values};
 use crate::specifiers::{Specified, specifiers};
+use crate::steps::{behind, with_last};
 use mv_ast::place::Place;
 use mv_ast::program::{CType, Local, Stmt};
 use mv_ast::unit::{Declarator, Initial, Specs};
@@ -183,8 +184,8 @@ pub fn declare_locals(
     } = specifiers(alloc, scope, Position::Block, names.as_slice(), specs)?;
     let mut done = List::new(alloc);
     for name in names.as_slice() {
-        let stmt = local(alloc, scope, ctype, fixed, name)?;
-        done.push(stmt)?;
+        let (before, stmt) = behind(done, local(alloc, scope, ctype, fixed, name))?;
+        done = with_last(before, stmt)?;
     }
     Ok(done)
 }

@@ -86,15 +86,27 @@ fn all_names(alloc: Global, said: Said, items: &[Item]) -> Result<Names, AllocEr
 pub fn foreknown_of(alloc: Global, unit: &Unit) -> Result<Foreknown, AllocError>
     ensures { IfOk result (λ known. known ≡ spec.foreknown unit.now.items) }
 {
-    let outline = outline_of(alloc, unit)?;
     let items = unit.items.as_slice();
     let attributed = all_names(alloc, Said::Attributed, items)?;
-    let constants = all_names(alloc, Said::Constant, items)?;
-    Ok(Foreknown {
-        outline,
-        attributed,
-        constants,
-    })
+    let constants = match all_names(alloc, Said::Constant, items) {
+        Ok(constants) => constants,
+        Err(e) => {
+            drop(attributed);
+            return Err(e);
+        }
+    };
+    match outline_of(alloc, unit) {
+        Ok(outline) => Ok(Foreknown {
+            outline,
+            attributed,
+            constants,
+        }),
+        Err(e) => {
+            drop(attributed);
+            drop(constants);
+            Err(e)
+        }
+    }
 }
 
 /// The number of a name among some. There is no memory for a 2^32nd name.

@@ -287,7 +287,9 @@ fn put_function(functions: &mut List<Option<Function>>, number: usize, function:
     ensures { functions.new ≡ slice_set functions.old number (Some function) }
 {
     if number < functions.len() {
-        let _ = functions.set(number, Some(function));
+        drop(functions.set(number, Some(function)));
+    } else {
+        drop(function);
     }
 }
 

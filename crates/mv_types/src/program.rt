@@ -17,6 +17,7 @@ use mv_scope::meaning::Meaning;
 use mv_scope::scope::Scope;
 use mv_uses::uses::switches_named;
 use std::alloc::{AllocError, Global};
+use std::mem;
 
 // Whether the signature with a number is that of `main`.
 fn is_main_type(signatures: &List<Signature>, number: u32) -> bool
@@ -120,25 +121,17 @@ fn with_switches(
 ) -> Result<Function, AllocError>
     ensures { IfOk result (λ f. f ≡ with_switches switches.now function) }
 {
-    let own = own_switches(alloc, switches, &function)?;
-    let Function {
-        name,
-        attributed,
-        result,
-        params,
-        locals,
-        switches: _,
-        body,
-    } = function;
-    Ok(Function {
-        name,
-        attributed,
-        result,
-        params,
-        locals,
-        switches: own,
-        body,
-    })
+    let mut function = function;
+    match own_switches(alloc, switches, &function) {
+        Ok(own) => {
+            function.switches = own;
+            Ok(function)
+        }
+        Err(e) => {
+            drop(function);
+            Err(e)
+        }
+    }
 }
 
 // The functions that are defined, each with its switches.
@@ -165,19 +158,35 @@ fn program_of(alloc: Global, contents: Contents, main: u32) -> Result<Program, A
     ensures { IfOk result (λ p. p ≡ program_of contents main) }
 {
     let Contents {
-        scope,
+        mut scope,
         objects,
         functions,
     } = contents;
-    let Globals { globals, switches } = globals_of(alloc, objects)?;
-    let functions = functions_of(alloc, &switches, functions)?;
-    Ok(Program {
-        signatures: scope.signatures,
-        globals,
-        functions,
-        switches,
-        main,
-    })
+    let signatures = mem::replace(&mut scope.signatures, List::new(alloc));
+    drop(scope);
+    let Globals { globals, switches } = match globals_of(alloc, objects) {
+        Ok(made) => made,
+        Err(e) => {
+            drop(signatures);
+            drop(functions);
+            return Err(e);
+        }
+    };
+    match functions_of(alloc, &switches, functions) {
+        Ok(functions) => Ok(Program {
+            signatures,
+            globals,
+            functions,
+            switches,
+            main,
+        }),
+        Err(e) => {
+            drop(signatures);
+            drop(globals);
+            drop(switches);
+            Err(e)
+        }
+    }
 }
 
 /// The program of a unit that ends at a place, by what its declarations come to. Rule 18 is broken where it has no `main`.
@@ -186,7 +195,10 @@ pub fn judge_program(alloc: Global, place: Place, contents: Contents) -> Result<
     ensures { IsJudged (program_judgement place contents) result }
 {
     match main_of(&contents.scope) {
-        None => Err(RuleError::Rule(place, 18)),
+        None => {
+            drop(contents);
+            Err(RuleError::Rule(place, 18))
+        }
         Some(main) => Ok(program_of(alloc, contents, main)?),
     }
 }

@@ -281,8 +281,13 @@ fn judge_known(alloc: Global, known: &Foreknown, unit: &Unit) -> Result<Program,
     ensures { IsJudged (and_then (through (item_judgement known.now) unit.now.items (nothing_declared known.now)) (program_judgement unit.now.end)) result }
 {
     let mut contents = nothing_declared(alloc, known)?;
-    judge_items(alloc, known, unit.items.as_slice(), &mut contents)?;
-    judge_program(alloc, unit.end, contents)
+    match judge_items(alloc, known, unit.items.as_slice(), &mut contents) {
+        Ok(()) => judge_program(alloc, unit.end, contents),
+        Err(e) => {
+            drop(contents);
+            Err(e)
+        }
+    }
 }
 
 /// The program of a unit, or the first place in it at which a rule is broken.
@@ -291,5 +296,7 @@ pub fn judge(alloc: Global, unit: &Unit) -> Result<Program, RuleError>
     ensures { IsJudged (unit_judgement unit.now) result }
 {
     let known = foreknown_of(alloc, unit)?;
-    judge_known(alloc, &known, unit)
+    let program = judge_known(alloc, &known, unit);
+    drop(known);
+    program
 }
