@@ -1,6 +1,6 @@
 // The arms of a `switch` (C11 6.8.4.2).
 
-ghost use Rattle.std.specs.Prelude.{◌≡◌, IfOk};
+ghost use Rattle.std.specs.Prelude.{◌≡◌, Some, None, IfOk, if◌then◌else◌};
 ghost use Rattle.mv_ast.specs.Plans.{is_among};
 ghost use Rattle.mv_judge.specs.Judged.{IsJudged};
 ghost use Rattle.mv_statement_rules.specs.SwitchBodies.{no_arm, no_arms, has_statements, at_label, with_case, with_default, with_statement, arms_of, converts_constant, case_label, default_label};
@@ -8,6 +8,7 @@ ghost use Rattle.mv_statement_rules.specs.SwitchBodies.{no_arm, no_arms, has_sta
 use mv_ast::operators::converted;
 use mv_ast::place::Place;
 use mv_ast::program::{Arm, CType, Expr, Form, Stmt};
+use mv_declare::value_set::ValueSet;
 use mv_judge::constant::Constant;
 use mv_judge::error::RuleError;
 use mv_num::list::List;
@@ -17,7 +18,7 @@ use std::alloc::{AllocError, Global};
 /// The arms of a `switch` so far: all labels, whether `default` is one of them, the arms behind which a label stands, and the last one.
 #[derive(Drop)]
 pub struct Arms {
-    pub labels: List<u32>,
+    pub labels: ValueSet,
     pub other: bool,
     pub done: List<Arm>,
     pub last: Arm,
@@ -42,17 +43,6 @@ fn has_statements(body: &List<Stmt>) -> bool
     }
 }
 
-fn is_among(value: u32, values: &[u32]) -> bool
-    ensures { result ≡ is_among value values.now }
-{
-    for v in values {
-        if value == *v {
-            return true;
-        }
-    }
-    false
-}
-
 fn converts_constant(constant: Constant, to: CType) -> bool
     ensures { result ≡ converts_constant constant to }
 {
@@ -69,7 +59,7 @@ impl Arms {
         ensures { result ≡ no_arms }
     {
         Arms {
-            labels: List::new(alloc),
+            labels: ValueSet::new(alloc),
             other: false,
             done: List::new(alloc),
             last: no_arm(alloc),
@@ -99,13 +89,17 @@ impl Arms {
         })
     }
 
-    fn with_case(self, alloc: Global, value: u32) -> Result<Arms, AllocError>
-        ensures { IfOk result (λ r. r ≡ with_case value self) }
+    // The arms with a label, and `None` where it is there already.
+    #[tactic(auto, using(crate::proofs::Labels::labels_kept))]
+    fn with_new_case(self, alloc: Global, value: u32) -> Result<Option<Arms>, AllocError>
+        ensures { IfOk result (λ r. r ≡ (if is_among value self.labels then None else Some (with_case value self))) }
     {
         let mut arms = self.at_label(alloc)?;
-        arms.labels.push(value)?;
+        if !arms.labels.add(value)? {
+            return Ok(None);
+        }
         arms.last.labels.push(value)?;
-        Ok(arms)
+        Ok(Some(arms))
     }
 
     fn with_default(self, alloc: Global) -> Result<Arms, AllocError>
@@ -132,10 +126,10 @@ impl Arms {
             return Err(RuleError::Rule(place, 5));
         }
         let value = converted(tested, constant.value);
-        if is_among(value, self.labels.as_slice()) {
-            return Err(RuleError::Rule(place, 11));
+        match self.with_new_case(alloc, value)? {
+            Some(arms) => Ok(arms),
+            None => Err(RuleError::Rule(place, 11)),
         }
-        Ok(self.with_case(alloc, value)?)
     }
 
     /// A `default`.
