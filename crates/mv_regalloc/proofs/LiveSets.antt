@@ -55,6 +55,9 @@ bits_below n ws t = by (cases_lt t n)
 pub bits_past : (n : ℕ) (ws : List ℕ) (t : ℕ) → length ws ≤ t / 64 → mark_at (bits_of n ws) t ≡ false
 bits_past n ws t l = bits_below n ws t ∙ ap (λ w. in_word w t && ltb t n) (get_or_past ws (t / 64) 0 l) ∙ ap (λ c. c && ltb t n) (none_in t)
 
+pub same_words : (n m : ℕ) (ws vs : List ℕ) (t : ℕ) → n ≡ m → slice_index ws (t / 64) ≡ slice_index vs (t / 64) → mark_at (bits_of n ws) t ≡ mark_at (bits_of m vs) t
+same_words n m ws vs t e h = bits_below n ws t ∙ ap (λ w. in_word w t && ltb t n) h ∙ ap (λ k. word_bit vs t && ltb t k) e ∙ sym (bits_below m vs t)
+
 pub bits_none : (n : ℕ) (ws : List ℕ) → ((t : ℕ) → word_bit ws t ≡ false) → bits_of n ws ≡ replicate n false
 bits_none n ws h =
     let a = bits_long n ws in

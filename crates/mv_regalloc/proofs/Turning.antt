@@ -124,3 +124,21 @@ all_places place t c h = by (cases_lt (t / 64) place)
     by : (t / 64 < place) ⊎ (place ≤ t / 64) → (ltb (t / 64) place && c) ≡ c
     by (inl l) = ap (λ d. d && c) (lt-ltb (t / 64) place l)
     by (inr l) = ap (λ d. ltb (t / 64) place && d) (h l) ∙ off (ltb (t / 64) place) ∙ sym (h l)
+
+-- of the temporaries of one place
+pub place_as : (place t : ℕ) (a b : Bool) → (t / 64 ≡ place → a ≡ b) → (eqb (t / 64) place && a) ≡ (eqb (t / 64) place && b)
+place_as place t a b h = by (cases_eq (t / 64) place)
+  where
+    by : (t / 64 ≡ place) ⊎ (t / 64 ≡ place → ⊥) → (eqb (t / 64) place && a) ≡ (eqb (t / 64) place && b)
+    by (inl e) = ap (λ c. eqb (t / 64) place && c) (h e)
+    by (inr ne) = ap (λ c. c && a) (ne_eqb (t / 64) place ne) ∙ ap (λ c. c && b) (sym (ne_eqb (t / 64) place ne))
+
+pub place_none : (place t : ℕ) (c : Bool) → (t / 64 ≡ place → c ≡ false) → (eqb (t / 64) place && c) ≡ false
+place_none place t c h = place_as place t c false h ∙ off (eqb (t / 64) place)
+
+pub same_stays : (a b : Bool) → a ≡ b → (a && not b) ≡ false
+same_stays a b e = ap (λ c. c && not b) e ∙ by b
+  where
+    by : (c : Bool) → (c && not c) ≡ false
+    by true = refl
+    by false = refl

@@ -75,6 +75,16 @@ impl LiveSet {
         has_bit(self.word((temp / 64) as usize), temp as usize)
     }
 
+    /// Whether the bits of 64 temporaries are known to be those of another set.
+    pub fn has_same(&self, other: &LiveSet, place: usize) -> bool
+        ensures { result ≡ true → (t : ℕ) → t / 64 ≡ place → mark_at self.now t ≡ mark_at other.now t }
+    {
+        if self.temps != other.temps {
+            return false;
+        }
+        word_at(self.words.as_slice(), place) == word_at(other.words.as_slice(), place)
+    }
+
     /// Behind so many words no bit is set.
     pub fn count(&self) -> usize
         ensures { (t : ℕ) → result ≤ t / 64 → mark_at self.now t ≡ false }

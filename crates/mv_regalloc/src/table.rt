@@ -77,21 +77,36 @@ fn turn_word(begins: &mut List<u64>, ends: &mut List<u64>, turn: Turn)
     }
 }
 
+// Turns the temporaries of one place in two rows.
+fn turn_place(table: &mut Table, held: &LiveSet, row: &LiveSet, place: usize)
+    requires { length table.old.ends ≡ length table.old.begins }
+    ensures positions { table.new.positions ≡ table.old.positions }
+    ensures begins { IsPut (λ t. eqb (t / 64) place && (mark_at held.now t && not (mark_at row.now t)))
+        table.old.positions table.old.begins table.new.begins }
+    ensures ends { IsPut
+        (λ t. eqb (t / 64) place && ((mark_at row.now t && not (mark_at held.now t)) && eqb (slice_index table.old.begins t) 0))
+        table.old.positions table.old.ends table.new.ends }
+{
+    if held.has_same(row, place) {
+        return;
+    }
+    let turn = Turn {
+        place,
+        held: held.word(place),
+        word: row.word(place),
+        positions: table.positions,
+    };
+    turn_word(&mut table.begins, &mut table.ends, turn);
+}
+
 /// Turns from the row that was marked at the last position to another one.
 pub fn turn_rows(table: &mut Table, held: &LiveSet, row: &LiveSet)
     requires { length table.old.ends ≡ length table.old.begins }
     ensures { IsTurned held.now row.now table.old table.new }
 {
-    let positions = table.positions;
     let count = held.count().max(row.count());
     for place in 0..count {
-        let turn = Turn {
-            place,
-            held: held.word(place),
-            word: row.word(place),
-            positions,
-        };
-        turn_word(&mut table.begins, &mut table.ends, turn);
+        turn_place(table, held, row, place);
     }
 }
 

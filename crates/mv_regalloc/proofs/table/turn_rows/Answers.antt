@@ -1,8 +1,8 @@
-use Rattle.std.proofs.Common.{◌≡◌, ◌≤◌, ◌+◌, ◌/◌, ◌&&◌, false, eqb, ltb, not, refl, ap, ◌∙◌, arith}
+use Rattle.std.proofs.Common.{◌≡◌, ◌≤◌, ◌+◌, ◌/◌, ◌&&◌, false, eqb, ltb, not, refl, ap, ◌∙◌, arith, subst}
 use Rattle.std.specs.Prelude.{slice_index}
 use Rattle.std.proofs.lemmas.Bool.{le-ltb}
 use Rattle.mv_ir.specs.Live.{mark_at}
-use Rattle.mv_regalloc.specs.LiveBits.{in_word}
+use Rattle.mv_regalloc.specs.Tables.{IsPut}
 use Rattle.mv_regalloc.proofs.Putting.{put_as, put_none, put_same, put_step}
 use Rattle.mv_regalloc.proofs.Turning.{place_next, place_here, all_places}
 use Rattle.mv_regalloc.proofs.table.turn_rows.Goals as goal
@@ -25,24 +25,23 @@ loop-place-preserved c =
     let held = c.args.held.now in
     let row = c.args.row.now in
     let s = c.args.table.now in
+    let now = c.loop-place.table in
     let place = c.loop-place.place in
     let h = c.loop-place.invariant in
-    let old = c.word.result in
-    let new = c.word-in-loop-place.result in
     record {
-      positions = h.positions;
+      positions = c.turn_place.ensures.positions ∙ h.positions;
       begins =
-          put_step (λ t. ltb (t / 64) place) (λ t. mark_at held t && not (mark_at row t)) s.positions s.begins c.loop-place.table.begins h.begins
-          (λ t. eqb (t / 64) place) (λ t. ltb (t / 64) (place + 1)) (λ t. in_word old t && not (in_word new t)) c.turn_word.new.begins c.turn_word.ensures.begins
-          (λ t l k. ap (λ a. a && not (in_word new t)) (c.word.ensures t (place_here place t k)) ∙ ap (λ b. mark_at held t && not b) (c.word-in-loop-place.ensures t (place_here place t k)))
-          (λ t l. place_next place t);
+          put_step (λ t. ltb (t / 64) place) (λ t. mark_at held t && not (mark_at row t)) s.positions s.begins now.begins h.begins
+          (λ t. eqb (t / 64) place) (λ t. ltb (t / 64) (place + 1)) (λ t. mark_at held t && not (mark_at row t)) c.turn_place.new.table.begins
+          (subst (λ v. IsPut (λ t. eqb (t / 64) place && (mark_at held t && not (mark_at row t))) v now.begins c.turn_place.new.table.begins) h.positions c.turn_place.ensures.begins)
+          (λ t l k. refl) (λ t l. place_next place t);
       ends =
-          put_step (λ t. ltb (t / 64) place) (λ t. (mark_at row t && not (mark_at held t)) && eqb (slice_index s.begins t) 0) s.positions s.ends c.loop-place.table.ends h.ends
-          (λ t. eqb (t / 64) place) (λ t. ltb (t / 64) (place + 1)) (λ t. (in_word new t && not (in_word old t)) && eqb (slice_index c.loop-place.table.begins t) 0) c.turn_word.new.ends c.turn_word.ensures.ends
+          put_step (λ t. ltb (t / 64) place) (λ t. (mark_at row t && not (mark_at held t)) && eqb (slice_index s.begins t) 0) s.positions s.ends now.ends h.ends
+          (λ t. eqb (t / 64) place) (λ t. ltb (t / 64) (place + 1)) (λ t. (mark_at row t && not (mark_at held t)) && eqb (slice_index now.begins t) 0) c.turn_place.new.table.ends
+          (subst (λ v. IsPut (λ t. eqb (t / 64) place && ((mark_at row t && not (mark_at held t)) && eqb (slice_index now.begins t) 0)) v now.ends c.turn_place.new.table.ends) h.positions c.turn_place.ensures.ends)
           (λ t l k. let at = place_here place t k in
-          ap (λ a. (a && not (in_word old t)) && eqb (slice_index c.loop-place.table.begins t) 0) (c.word-in-loop-place.ensures t at) ∙ ap (λ b. (mark_at row t && not b) && eqb (slice_index c.loop-place.table.begins t) 0) (c.word.ensures t at) ∙
           ap (λ v. (mark_at row t && not (mark_at held t)) && eqb v 0)
-          (put_same (λ t. ltb (t / 64) place) (λ t. mark_at held t && not (mark_at row t)) s.positions s.begins c.loop-place.table.begins h.begins t (let r = c.requires in omega (arith, r, l)) (le-ltb (t / 64) place (omega (arith, at)))))
+          (put_same (λ t. ltb (t / 64) place) (λ t. mark_at held t && not (mark_at row t)) s.positions s.begins now.begins h.begins t (let r = c.requires in omega (arith, r, l)) (le-ltb (t / 64) place (omega (arith, at)))))
           (λ t l. place_next place t);
     }
 
