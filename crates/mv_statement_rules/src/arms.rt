@@ -8,6 +8,7 @@ ghost use Rattle.mv_statement_rules.specs.SwitchBodies.{no_arm, no_arms, has_sta
 use mv_ast::operators::converted;
 use mv_ast::place::Place;
 use mv_ast::program::{Arm, CType, Expr, Form, Stmt};
+use mv_declare::steps::{behind, with_last};
 use mv_judge::constant::Constant;
 use mv_judge::error::RuleError;
 use mv_num::list::List;
@@ -60,7 +61,9 @@ fn converts_constant(constant: Constant, to: CType) -> bool
         ctype: constant.ctype,
         what: Form::Number(constant.value),
     };
-    converts(&e, to)
+    let converts = converts(&e, to);
+    drop(e);
+    converts
 }
 
 impl Arms {
@@ -87,10 +90,10 @@ impl Arms {
         let Arms {
             labels,
             other,
-            mut done,
+            done,
             last,
         } = self;
-        done.push(last)?;
+        let (labels, done) = behind(labels, with_last(done, last))?;
         Ok(Arms {
             labels,
             other,
@@ -144,6 +147,7 @@ impl Arms {
         ensures { IsJudged (default_label place self) result }
     {
         if self.other {
+            drop(self);
             return Err(RuleError::Rule(place, 11));
         }
         Ok(self.with_default(alloc)?)
@@ -154,7 +158,8 @@ impl Arms {
         ensures { IfOk result (λ r. r ≡ with_statement stmt self) }
     {
         let mut arms = self;
-        arms.last.body.push(stmt)?;
+        let pushed = arms.last.body.push(stmt);
+        let (arms, ()) = behind(arms, pushed)?;
         Ok(arms)
     }
 
@@ -163,12 +168,12 @@ impl Arms {
         ensures { IfOk result (λ r. r ≡ arms_of self) }
     {
         let Arms {
-            labels: _,
+            labels,
             other: _,
-            mut done,
+            done,
             last,
         } = self;
-        done.push(last)?;
-        Ok(done)
+        drop(labels);
+        with_last(done, last)
     }
 }
