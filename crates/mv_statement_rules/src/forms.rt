@@ -1,6 +1,6 @@
 // The forms of a statement: what a statement is, given what its parts are, and the rules that it breaks.
 
-ghost use Rattle.std.specs.Prelude.{◌≡◌, ◌++◌, OnOk};
+ghost use Rattle.std.specs.Prelude.{◌≡◌, ◌++◌, IfOk};
 ghost use Rattle.mv_judge.specs.Judged.{IsJudged, Good, and_then};
 ghost use Rattle.mv_judge.specs.Judgements.{value_judgement, effect_judgement};
 ghost use Rattle.mv_judge.specs.NeededConstants.{constant_judgement};
@@ -15,6 +15,7 @@ use mv_ast::place::Place;
 use mv_ast::program::{CType, Expr, Stmt};
 use mv_ast::unit::{Declarator, Node, Specs};
 use mv_declare::locals::declare_locals;
+use mv_declare::steps::behind;
 use mv_judge::constant::needed;
 use mv_judge::error::RuleError;
 use mv_judge::judge::{effect, value};
@@ -34,7 +35,7 @@ pub fn misplaced_declaration(
 ) -> Result<Stmt, RuleError>
     ensures { IsBehind (misplaced_declaration place specs.now names.now scope.old) result scope.new }
 {
-    let _ = declare_locals(alloc, scope, specs, names)?;
+    drop(declare_locals(alloc, scope, specs, names)?);
     Err(RuleError::Rule(place, 11))
 }
 
@@ -77,9 +78,11 @@ fn returned(alloc: Global, place: Place, to: CType, e: Expr) -> Result<Stmt, Rul
     ensures { IsJudged (returned place to e) result }
 {
     if is_void(to) {
+        drop(e);
         return Err(RuleError::Rule(place, 13));
     }
     if !converts(&e, to) {
+        drop(e);
         return Err(RuleError::Rule(place, 5));
     }
     let e = converted_to(alloc, to, e)?;
@@ -122,16 +125,14 @@ pub fn switched(
     ensures { IsJudged (switched place tested arms) result }
 {
     if !is_integer(tested.ctype) {
+        drop(tested);
+        drop(arms);
         return Err(RuleError::Rule(place, 3));
     }
-    match arms {
-        None => Err(RuleError::Rule(place, 11)),
-        Some(arms) => {
-            let arms = arms.into_list()?;
-            let tested = promoted(alloc, tested)?;
-            Ok(Stmt::Switch(tested, arms))
-        }
-    }
+    let (tested, arms) = behind(tested, arms.ok_or(RuleError::Rule(place, 11)))?;
+    let (tested, arms) = behind(tested, arms.into_list())?;
+    let (arms, tested) = behind(arms, promoted(alloc, tested))?;
+    Ok(Stmt::Switch(tested, arms))
 }
 
 /// A condition that may be left out.
@@ -195,9 +196,8 @@ pub fn declaration(
 ) -> Result<List<Stmt>, RuleError>
     ensures { IsBehind (and_then (locals_judgement scope.old specs.now names.now) (λ e. Good (e.0, done ++ e.1))) result scope.new }
 {
-    let mut done = done;
-    let clears = declare_locals(alloc, scope, specs, names)?;
-    append(&mut done, clears)?;
+    let (done, clears) = behind(done, declare_locals(alloc, scope, specs, names))?;
+    let done = joined(done, clears)?;
     Ok(done)
 }
 
@@ -212,7 +212,7 @@ pub fn case(
 ) -> Result<Arms, RuleError>
     ensures { IsBehind (and_then (constant_judgement scope.now constant.now) (λ c. and_then (case_label place tested c arms) (λ a. Good (scope.now, a)))) result scope.now }
 {
-    let constant = needed(alloc, scope, constant)?;
+    let (arms, constant) = behind(arms, needed(alloc, scope, constant))?;
     let arms = arms.case_label(alloc, place, tested, constant)?;
     Ok(arms)
 }
@@ -225,12 +225,12 @@ pub fn default(alloc: Global, scope: &Scope, place: Place, arms: Arms) -> Result
     Ok(arms)
 }
 
-// Puts statements behind others.
-fn append(done: &mut List<Stmt>, more: List<Stmt>) -> Result<(), AllocError>
-    ensures { OnOk result (done.new ≡ done.old ++ more) }
+// A list with the items of another behind its own.
+fn joined<T: Drop>(list: List<T>, more: List<T>) -> Result<List<T>, AllocError>
+    ensures { IfOk result (λ all. all ≡ list ++ more) }
 {
-    for stmt in more.into_vec() {
-        done.push(stmt)?;
-    }
-    Ok(())
+    let mut items = list.into_vec();
+    let mut more = more.into_vec();
+    items.append(&mut more)?;
+    Ok(List::from_vec(items))
 }
