@@ -7,6 +7,7 @@ ghost use Rattle.mv_types.specs.Foreknown as spec;
 
 use crate::contents::Foreknown;
 use mv_ast::unit::{Declarator, Item, Shape, Unit};
+use mv_declare::steps::behind;
 use mv_outline::names::Names;
 use mv_outline::outline::outline_of;
 use std::alloc::{AllocError, Global};
@@ -88,25 +89,16 @@ pub fn foreknown_of(alloc: Global, unit: &Unit) -> Result<Foreknown, AllocError>
 {
     let items = unit.items.as_slice();
     let attributed = all_names(alloc, Said::Attributed, items)?;
-    let constants = match all_names(alloc, Said::Constant, items) {
-        Ok(constants) => constants,
-        Err(e) => {
-            drop(attributed);
-            return Err(e);
-        }
-    };
-    match outline_of(alloc, unit) {
-        Ok(outline) => Ok(Foreknown {
-            outline,
-            attributed,
-            constants,
-        }),
-        Err(e) => {
-            drop(attributed);
-            drop(constants);
-            Err(e)
-        }
-    }
+    let (attributed, constants) = behind(attributed, all_names(alloc, Said::Constant, items))?;
+    let ((attributed, constants), outline) = behind(
+        (attributed, constants),
+        outline_of(alloc, unit),
+    )?;
+    Ok(Foreknown {
+        outline,
+        attributed,
+        constants,
+    })
 }
 
 /// The number of a name among some. There is no memory for a 2^32nd name.

@@ -11,6 +11,7 @@ use crate::contents::{Contents, Object};
 use crate::functions::is_plain_int;
 use mv_ast::place::Place;
 use mv_ast::program::{Function, Global as Variable, Program, Signature, Switch};
+use mv_declare::steps::behind;
 use mv_judge::error::RuleError;
 use mv_num::list::List;
 use mv_scope::meaning::Meaning;
@@ -121,17 +122,10 @@ fn with_switches(
 ) -> Result<Function, AllocError>
     ensures { IfOk result (λ f. f ≡ with_switches switches.now function) }
 {
-    let mut function = function;
-    match own_switches(alloc, switches, &function) {
-        Ok(own) => {
-            function.switches = own;
-            Ok(function)
-        }
-        Err(e) => {
-            drop(function);
-            Err(e)
-        }
-    }
+    let own = own_switches(alloc, switches, &function);
+    let (mut function, own) = behind(function, own)?;
+    function.switches = own;
+    Ok(function)
 }
 
 // The functions that are defined, each with its switches.
@@ -164,29 +158,23 @@ fn program_of(alloc: Global, contents: Contents, main: u32) -> Result<Program, A
     } = contents;
     let signatures = mem::replace(&mut scope.signatures, List::new(alloc));
     drop(scope);
-    let Globals { globals, switches } = match globals_of(alloc, objects) {
-        Ok(made) => made,
-        Err(e) => {
-            drop(signatures);
-            drop(functions);
-            return Err(e);
-        }
-    };
-    match functions_of(alloc, &switches, functions) {
-        Ok(functions) => Ok(Program {
-            signatures,
-            globals,
-            functions,
-            switches,
-            main,
-        }),
-        Err(e) => {
-            drop(signatures);
-            drop(globals);
-            drop(switches);
-            Err(e)
-        }
-    }
+    let ((signatures, functions), made) = behind(
+        (signatures, functions),
+        globals_of(alloc, objects),
+    )?;
+    let Globals { globals, switches } = made;
+    let functions = functions_of(alloc, &switches, functions);
+    let ((signatures, globals, switches), functions) = behind(
+        (signatures, globals, switches),
+        functions,
+    )?;
+    Ok(Program {
+        signatures,
+        globals,
+        functions,
+        switches,
+        main,
+    })
 }
 
 /// The program of a unit that ends at a place, by what its declarations come to. Rule 18 is broken where it has no `main`.

@@ -21,6 +21,7 @@ use mv_declare::attributes::{Position, copied};
 use mv_declare::declarators::Entity;
 use mv_declare::globals::{Designated, file_declarator};
 use mv_declare::specifiers::{Specified, specifiers};
+use mv_declare::steps::behind;
 use mv_judge::error::RuleError;
 use mv_num::list::List;
 use mv_scope::scope::Scope;
@@ -281,13 +282,9 @@ fn judge_known(alloc: Global, known: &Foreknown, unit: &Unit) -> Result<Program,
     ensures { IsJudged (and_then (through (item_judgement known.now) unit.now.items (nothing_declared known.now)) (program_judgement unit.now.end)) result }
 {
     let mut contents = nothing_declared(alloc, known)?;
-    match judge_items(alloc, known, unit.items.as_slice(), &mut contents) {
-        Ok(()) => judge_program(alloc, unit.end, contents),
-        Err(e) => {
-            drop(contents);
-            Err(e)
-        }
-    }
+    let judged = judge_items(alloc, known, unit.items.as_slice(), &mut contents);
+    let (contents, ()) = behind(contents, judged)?;
+    judge_program(alloc, unit.end, contents)
 }
 
 /// The program of a unit, or the first place in it at which a rule is broken.
