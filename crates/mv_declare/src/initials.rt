@@ -5,7 +5,7 @@ ghost use Rattle.mv_judge.specs.Judged.{IsJudged};
 ghost use Rattle.mv_declare.specs.Initials.{unless_zero, size_of_values, array_size, converted_value, converted_values, has_room, single_value, listed_values, initial_values};
 
 use crate::constants::is_positive;
-use crate::steps::{behind, with_last};
+use crate::steps::with_last;
 use mv_ast::place::Place;
 use mv_ast::program::{CType, Expr, Local};
 use mv_ast::unit::{Initial, Node};
@@ -13,6 +13,7 @@ use mv_judge::constant::Constant;
 use mv_judge::error::RuleError;
 use mv_judge::judge::value;
 use mv_num::list::List;
+use mv_num::results::both;
 use mv_scope::constant::converts;
 use mv_scope::convert::converted_to;
 use mv_scope::scope::Scope;
@@ -84,9 +85,9 @@ fn converted_value(
     ensures { IsJudged (converted_value ctype scope.now node.now done) result }
 {
     let Converted { all, values } = done;
-    let (values, e) = behind(values, value(alloc, scope, node))?;
+    let (values, e) = both(values, value(alloc, scope, node))?;
     let all = all && converts(&e, ctype);
-    let (values, e) = behind(values, converted_to(alloc, ctype, e))?;
+    let (values, e) = both(values, converted_to(alloc, ctype, e))?;
     let values = with_last(values, e)?;
     Ok(Converted { all, values })
 }

@@ -10,12 +10,13 @@ use crate::declarators::{Entity, designated};
 use crate::enumerators::is_taken;
 use crate::initials::{array_size, initial_values};
 use crate::specifiers::{Specified, specifiers};
-use crate::steps::{behind, with_last};
+use crate::steps::with_last;
 use mv_ast::place::Place;
 use mv_ast::program::{CType, Local, Stmt};
 use mv_ast::unit::{Declarator, Initial, Specs};
 use mv_judge::error::RuleError;
 use mv_num::list::List;
+use mv_num::results::both;
 use mv_num::text::Text;
 use mv_scope::convert::is_void;
 use mv_scope::meaning::{Elements, Meaning, Storage, Variable};
@@ -184,7 +185,7 @@ pub fn declare_locals(
     } = specifiers(alloc, scope, Position::Block, names.as_slice(), specs)?;
     let mut done = List::new(alloc);
     for name in names.as_slice() {
-        let (before, stmt) = behind(done, local(alloc, scope, ctype, fixed, name))?;
+        let (before, stmt) = both(done, local(alloc, scope, ctype, fixed, name))?;
         done = with_last(before, stmt)?;
     }
     Ok(done)

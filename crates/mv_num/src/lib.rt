@@ -5,6 +5,7 @@ pub mod boxed;
 pub mod bytes;
 pub mod kind;
 pub mod list;
+pub mod results;
 #[cfg(test)]
 mod tests;
 pub mod text;

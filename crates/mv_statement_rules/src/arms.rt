@@ -8,11 +8,12 @@ ghost use Rattle.mv_statement_rules.specs.SwitchBodies.{no_arm, no_arms, has_sta
 use mv_ast::operators::converted;
 use mv_ast::place::Place;
 use mv_ast::program::{Arm, CType, Expr, Form, Stmt};
-use mv_declare::steps::{behind, with_last};
+use mv_declare::steps::with_last;
 use mv_declare::value_set::ValueSet;
 use mv_judge::constant::Constant;
 use mv_judge::error::RuleError;
 use mv_num::list::List;
+use mv_num::results::both;
 use mv_scope::constant::converts;
 use std::alloc::{AllocError, Global};
 
@@ -83,7 +84,7 @@ impl Arms {
             done,
             last,
         } = self;
-        let (labels, done) = behind(labels, with_last(done, last))?;
+        let (labels, done) = both(labels, with_last(done, last))?;
         Ok(Arms {
             labels,
             other,
@@ -153,7 +154,7 @@ impl Arms {
     {
         let mut arms = self;
         let pushed = arms.last.body.push(stmt);
-        let (arms, ()) = behind(arms, pushed)?;
+        let (arms, ()) = both(arms, pushed)?;
         Ok(arms)
     }
 

@@ -20,11 +20,12 @@ use crate::forms::{
 use mv_ast::place::Place;
 use mv_ast::program::{CType, Expr, Stmt};
 use mv_ast::unit::{Act, Line, Node};
-use mv_declare::steps::{behind, with_last};
+use mv_declare::steps::with_last;
 use mv_judge::error::RuleError;
 use mv_judge::judge::value;
 use mv_num::boxed::Boxed;
 use mv_num::list::List;
+use mv_num::results::both;
 use mv_scope::convert::promotion;
 use mv_scope::scope::Scope;
 use std::alloc::Global;
@@ -65,7 +66,7 @@ fn statement(
         Act::Express(e) => expression_statement(alloc, scope, e),
         Act::If(test, first, second) => {
             let test = value(alloc, scope, test)?;
-            let (test, first) = behind(test, alone(alloc, scope, around, first.get()))?;
+            let (test, first) = both(test, alone(alloc, scope, around, first.get()))?;
             if_statement(alloc, scope, around, second, test, first)
         }
         Act::While(test, body) => while_statement(alloc, scope, around, body.get(), test),
@@ -128,7 +129,7 @@ fn if_statement(
 ) -> Result<Stmt, RuleError>
     ensures { IsBehind (and_then (otherwise (option_map judges_of second.now) around scope.old) (λ z. Good (z.0, stmt.If test first z.1))) result scope.new }
 {
-    let ((test, first), second) = behind((test, first), otherwise(alloc, scope, around, second))?;
+    let ((test, first), second) = both((test, first), otherwise(alloc, scope, around, second))?;
     Ok(Stmt::If(test, first, second))
 }
 
@@ -159,7 +160,7 @@ fn while_statement(
     ensures { IsBehind (while_judgement test.now (judges_of body.now) around scope.old) result scope.new }
 {
     let test = value(alloc, scope, test)?;
-    let (test, body) = behind(test, alone(alloc, scope, around.in_loop(), body))?;
+    let (test, body) = both(test, alone(alloc, scope, around.in_loop(), body))?;
     Ok(Stmt::While(test, body))
 }
 
@@ -174,7 +175,7 @@ fn do_statement(
     ensures { IsBehind (do_judgement (judges_of body.now) test.now around scope.old) result scope.new }
 {
     let body = alone(alloc, scope, around.in_loop(), body)?;
-    let (body, test) = behind(body, value(alloc, scope, test))?;
+    let (body, test) = both(body, value(alloc, scope, test))?;
     Ok(Stmt::Do(body, test))
 }
 
@@ -207,8 +208,8 @@ fn for_statement(
 ) -> Result<Stmt, RuleError>
     ensures { IsBehind (for_judgement test.now step.now (judges_of body.now) around (scope.old, first)) result scope.new }
 {
-    let (first, test) = behind(first, optional_value(alloc, scope, test))?;
-    let ((first, test), step) = behind((first, test), optional_effect(alloc, scope, step))?;
+    let (first, test) = both(first, optional_value(alloc, scope, test))?;
+    let ((first, test), step) = both((first, test), optional_effect(alloc, scope, step))?;
     for_body(alloc, scope, around, body, first, test, step)
 }
 
@@ -226,7 +227,7 @@ fn for_body(
     ensures { IsBehind (and_then (alone (judges_of body.now) (in_loop around) scope.old) (λ d. Good (block_left d.0, stmt.For first test step d.1))) result scope.new }
 {
     let clauses = (first, test, step);
-    let ((first, test, step), body) = behind(clauses, alone(alloc, scope, around.in_loop(), body))?;
+    let ((first, test, step), body) = both(clauses, alone(alloc, scope, around.in_loop(), body))?;
     scope.leave(alloc);
     Ok(Stmt::For(first, test, step, body))
 }
@@ -245,7 +246,7 @@ fn switch_statement(
     let tested = value(alloc, scope, tested)?;
     let promoted = promotion(tested.ctype);
     let around = around.in_switch();
-    let (tested, arms) = behind(tested, switch_body(alloc, scope, around, body, promoted))?;
+    let (tested, arms) = both(tested, switch_body(alloc, scope, around, body, promoted))?;
     let stmt = switched(alloc, place, tested, arms)?;
     Ok(stmt)
 }
@@ -343,7 +344,7 @@ fn one_more(
 ) -> Result<List<Stmt>, RuleError>
     ensures { IsBehind (next_part ((judges_of item.now).statement around) (scope.old, done)) result scope.new }
 {
-    let (done, stmt) = behind(done, statement(alloc, scope, around, item))?;
+    let (done, stmt) = both(done, statement(alloc, scope, around, item))?;
     let done = with_last(done, stmt)?;
     Ok(done)
 }
@@ -396,7 +397,7 @@ fn in_last_arm(
 ) -> Result<Arms, RuleError>
     ensures { IsBehind (and_then ((judges_of item.now).statement around scope.old) (λ e. Good (e.0, with_statement e.1 arms))) result scope.new }
 {
-    let (arms, stmt) = behind(arms, statement(alloc, scope, around, item))?;
+    let (arms, stmt) = both(arms, statement(alloc, scope, around, item))?;
     let arms = arms.with_statement(stmt)?;
     Ok(arms)
 }

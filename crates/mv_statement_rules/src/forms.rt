@@ -15,11 +15,11 @@ use mv_ast::place::Place;
 use mv_ast::program::{CType, Expr, Stmt};
 use mv_ast::unit::{Declarator, Node, Specs};
 use mv_declare::locals::declare_locals;
-use mv_declare::steps::behind;
 use mv_judge::constant::needed;
 use mv_judge::error::RuleError;
 use mv_judge::judge::{effect, value};
 use mv_num::list::List;
+use mv_num::results::both;
 use mv_scope::constant::converts;
 use mv_scope::convert::{converted_to, is_integer, is_void, promoted};
 use mv_scope::scope::Scope;
@@ -129,9 +129,9 @@ pub fn switched(
         drop(arms);
         return Err(RuleError::Rule(place, 3));
     }
-    let (tested, arms) = behind(tested, arms.ok_or(RuleError::Rule(place, 11)))?;
-    let (tested, arms) = behind(tested, arms.into_list())?;
-    let (arms, tested) = behind(arms, promoted(alloc, tested))?;
+    let (tested, arms) = both(tested, arms.ok_or(RuleError::Rule(place, 11)))?;
+    let (tested, arms) = both(tested, arms.into_list())?;
+    let (arms, tested) = both(arms, promoted(alloc, tested))?;
     Ok(Stmt::Switch(tested, arms))
 }
 
@@ -196,7 +196,7 @@ pub fn declaration(
 ) -> Result<List<Stmt>, RuleError>
     ensures { IsBehind (and_then (locals_judgement scope.old specs.now names.now) (λ e. Good (e.0, done ++ e.1))) result scope.new }
 {
-    let (done, clears) = behind(done, declare_locals(alloc, scope, specs, names))?;
+    let (done, clears) = both(done, declare_locals(alloc, scope, specs, names))?;
     let done = joined(done, clears)?;
     Ok(done)
 }
@@ -212,7 +212,7 @@ pub fn case(
 ) -> Result<Arms, RuleError>
     ensures { IsBehind (and_then (constant_judgement scope.now constant.now) (λ c. and_then (case_label place tested c arms) (λ a. Good (scope.now, a)))) result scope.now }
 {
-    let (arms, constant) = behind(arms, needed(alloc, scope, constant))?;
+    let (arms, constant) = both(arms, needed(alloc, scope, constant))?;
     let arms = arms.case_label(alloc, place, tested, constant)?;
     Ok(arms)
 }

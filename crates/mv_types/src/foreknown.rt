@@ -7,7 +7,7 @@ ghost use Rattle.mv_types.specs.Foreknown as spec;
 
 use crate::contents::Foreknown;
 use mv_ast::unit::{Declarator, Item, Shape, Unit};
-use mv_declare::steps::behind;
+use mv_num::results::both;
 use mv_outline::names::Names;
 use mv_outline::outline::outline_of;
 use std::alloc::{AllocError, Global};
@@ -89,8 +89,8 @@ pub fn foreknown_of(alloc: Global, unit: &Unit) -> Result<Foreknown, AllocError>
 {
     let items = unit.items.as_slice();
     let attributed = all_names(alloc, Said::Attributed, items)?;
-    let (attributed, constants) = behind(attributed, all_names(alloc, Said::Constant, items))?;
-    let ((attributed, constants), outline) = behind(
+    let (attributed, constants) = both(attributed, all_names(alloc, Said::Constant, items))?;
+    let ((attributed, constants), outline) = both(
         (attributed, constants),
         outline_of(alloc, unit),
     )?;

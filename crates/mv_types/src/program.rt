@@ -11,9 +11,9 @@ use crate::contents::{Contents, Object};
 use crate::functions::is_plain_int;
 use mv_ast::place::Place;
 use mv_ast::program::{Function, Global as Variable, Program, Signature, Switch};
-use mv_declare::steps::behind;
 use mv_judge::error::RuleError;
 use mv_num::list::List;
+use mv_num::results::both;
 use mv_scope::meaning::Meaning;
 use mv_scope::scope::Scope;
 use mv_uses::uses::switches_named;
@@ -123,7 +123,7 @@ fn with_switches(
     ensures { IfOk result (λ f. f ≡ with_switches switches.now function) }
 {
     let own = own_switches(alloc, switches, &function);
-    let (mut function, own) = behind(function, own)?;
+    let (mut function, own) = both(function, own)?;
     function.switches = own;
     Ok(function)
 }
@@ -158,13 +158,13 @@ fn program_of(alloc: Global, contents: Contents, main: u32) -> Result<Program, A
     } = contents;
     let signatures = mem::replace(&mut scope.signatures, List::new(alloc));
     drop(scope);
-    let ((signatures, functions), made) = behind(
+    let ((signatures, functions), made) = both(
         (signatures, functions),
         globals_of(alloc, objects),
     )?;
     let Globals { globals, switches } = made;
     let functions = functions_of(alloc, &switches, functions);
-    let ((signatures, globals, switches), functions) = behind(
+    let ((signatures, globals, switches), functions) = both(
         (signatures, globals, switches),
         functions,
     )?;

@@ -21,9 +21,9 @@ use mv_declare::attributes::{Position, copied};
 use mv_declare::declarators::Entity;
 use mv_declare::globals::{Designated, file_declarator};
 use mv_declare::specifiers::{Specified, specifiers};
-use mv_declare::steps::behind;
 use mv_judge::error::RuleError;
 use mv_num::list::List;
+use mv_num::results::both;
 use mv_scope::scope::Scope;
 use std::alloc::{AllocError, Global};
 
@@ -283,7 +283,7 @@ fn judge_known(alloc: Global, known: &Foreknown, unit: &Unit) -> Result<Program,
 {
     let mut contents = nothing_declared(alloc, known)?;
     let judged = judge_items(alloc, known, unit.items.as_slice(), &mut contents);
-    let (contents, ()) = behind(contents, judged)?;
+    let (contents, ()) = both(contents, judged)?;
     judge_program(alloc, unit.end, contents)
 }
 
