@@ -7,8 +7,11 @@ ghost use Rattle.mv_ast.specs.Plans.{free};
 /// `count` is the number of its switches, and the values behind them are 0. A free one has `count` 0 and zeros alone.
 #[derive(Clone, Copy, PartialEq, Eq, Debug)]
 pub struct Binding {
+    /// Whether it is bound to values at all.
     pub bound: bool,
+    /// The number of switches, at most 6.
     pub count: u32,
+    /// The value of each switch, and zeros behind them.
     pub values: [u32; 6],
 }
 
@@ -28,14 +31,18 @@ impl Binding {
 /// A changed binding, of the attributed function with this number among the attributed ones.
 #[derive(Clone, Copy, PartialEq, Eq, Debug)]
 pub struct Event {
+    /// The number among the attributed functions, in order of declaration from 0.
     pub function: u32,
+    /// The new binding.
     pub binding: Binding,
 }
 
 /// What the operator does at a poll: nothing, or a store of a value in a switch, by its number, with a commit of all functions.
 #[derive(Clone, Copy, PartialEq, Eq, Debug)]
 pub enum Action {
+    /// Nothing happens.
     Skip,
+    /// A value is stored in a switch, and all functions are committed.
     Flip { switch: u32, value: u32 },
 }
 
@@ -43,6 +50,8 @@ pub enum Action {
 /// Trap 1 is a division by zero, 2 an index outside the array, 3 a call of a null pointer, 4 a call at depth 512.
 #[derive(Clone, Copy, PartialEq, Eq, Debug)]
 pub enum Stop {
+    /// A trap, by its code from 1 to 4.
     Trapped(u8),
+    /// The bound is used up.
     Unfinished,
 }
