@@ -18,7 +18,6 @@ use mv_num::text::Text;
 use mv_scope::convert::is_void;
 use mv_scope::meaning::{Meaning, Storage, Variable};
 use mv_scope::scope::Scope;
-use mv_scope::signatures::signature_number;
 use std::alloc::Global;
 
 /// What a declarator designates (C11 6.7.6): a scalar or an array of a type, which may be `const`, with the size where it is written; or
