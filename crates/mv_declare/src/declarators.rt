@@ -13,6 +13,7 @@ use mv_ast::program::{CType, Signature};
 use mv_ast::unit::{Declarator, Node, Param, Shape};
 use mv_judge::constant::{Constant, needed};
 use mv_judge::error::RuleError;
+use mv_judge::rules;
 use mv_num::list::List;
 use mv_num::text::Text;
 use mv_scope::convert::is_void;
@@ -83,13 +84,16 @@ fn new_parameter(
     ensures { IsBehind (new_parameter place name.now entity scope.old) result scope.new }
 {
     if is_taken_by(scope, name) {
-        return Err(RuleError::Rule(place, 2));
+        return Err(RuleError::Rule(place, rules::REDECLARATIONS));
     }
     match entity {
-        Entity::Array(_, _, _) | Entity::Function(_) => Err(RuleError::Rule(place, 22)),
+        Entity::Array(_, _, _) | Entity::Function(_) => Err(RuleError::Rule(
+            place,
+            rules::DECLARATIONS,
+        )),
         Entity::Scalar(ctype, fixed) => {
             if is_void(ctype) {
-                return Err(RuleError::Rule(place, 8));
+                return Err(RuleError::Rule(place, rules::VOID));
             }
             match name {
                 None => Ok(ctype),
