@@ -32,6 +32,7 @@ pub enum Entity {
 
 // The number of a signature. There is no memory for a 2^32nd.
 fn number_signature(
+    alloc: Global,
     scope: &mut Scope,
     result_type: CType,
     params: List<CType>,
@@ -41,13 +42,11 @@ fn number_signature(
     if scope.signatures.len() > 0xFFFF_FFFF {
         return Err(RuleError::Memory);
     }
-    let number = signature_number(
-        &mut scope.signatures,
-        Signature {
-            result: result_type,
-            params,
-        },
-    )?;
+    let signature = Signature {
+        result: result_type,
+        params,
+    };
+    let number = scope.signatures.number(alloc, signature)?;
     Ok(number)
 }
 
@@ -161,7 +160,7 @@ fn function_type(
         types.push(ctype)?;
     }
     scope.leave(alloc);
-    number_signature(scope, result_type, types)
+    number_signature(alloc, scope, result_type, types)
 }
 
 #[cycle(shapes)]

@@ -82,7 +82,7 @@ fn is_prototype(known: Known, signature: &Signature) -> bool
 }
 
 fn may_declare(
-    signatures: &List<Signature>,
+    signatures: &[Signature],
     signature: u32,
     block: bool,
     before: Option<Meaning>,
@@ -347,7 +347,7 @@ fn rule_of(
     ensures { result ≡ spec.rule_of declarator.now signature body.now contents.now before }
 {
     let block = body.is_some();
-    let signatures = &contents.scope.signatures;
+    let signatures = contents.scope.signatures.as_slice();
     let allowed = may_declare(signatures, signature, block, before.meaning, before.builtin);
     let twice = block && is_defined_at(&contents.functions, before.number);
     broken_rule(allowed, twice, declarator.initial.is_some())

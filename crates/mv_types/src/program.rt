@@ -16,12 +16,13 @@ use mv_num::list::List;
 use mv_num::results::both;
 use mv_scope::meaning::Meaning;
 use mv_scope::scope::Scope;
+use mv_scope::signatures::SignatureList;
 use mv_uses::uses::switches_named;
 use std::alloc::{AllocError, Global};
 use std::mem;
 
 // Whether the signature with a number is that of `main`.
-fn is_main_type(signatures: &List<Signature>, number: u32) -> bool
+fn is_main_type(signatures: &[Signature], number: u32) -> bool
     ensures { result ≡ is_main_type (slice_get signatures.now number) }
 {
     match signatures.get(number as usize) {
@@ -36,7 +37,7 @@ fn main_of(scope: &Scope) -> Option<u32>
 {
     match scope.names.here.find(b"main".as_slice()) {
         Some(Meaning::Function(routine)) => {
-            if is_main_type(&scope.signatures, routine.signature) {
+            if is_main_type(scope.signatures.as_slice(), routine.signature) {
                 routine.number
             } else {
                 None
@@ -156,7 +157,7 @@ fn program_of(alloc: Global, contents: Contents, main: u32) -> Result<Program, A
         objects,
         functions,
     } = contents;
-    let signatures = mem::replace(&mut scope.signatures, List::new(alloc));
+    let signatures = mem::replace(&mut scope.signatures, SignatureList::new(alloc)).into_list();
     drop(scope);
     let ((signatures, functions), made) = both(
         (signatures, functions),
