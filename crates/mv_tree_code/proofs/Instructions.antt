@@ -7,7 +7,7 @@ use Rattle.mv_isa.specs.Execution.{Access, Outcome, Goes, reg, put, truth, upper
 use Rattle.mv_tree_code.specs.Straight.{Sets}
 
 -- an operator on operands that are known
-on : (op : ℕ → ℕ → ℕ) (x y a b v : ℕ) → x ≡ a → y ≡ b → op a b ≡ v → op x y ≡ v
+pub on : (op : ℕ → ℕ → ℕ) (x y a b v : ℕ) → x ≡ a → y ≡ b → op a b ≡ v → op x y ≡ v
 on op x y a b v e f g = ap (λ z. op z y) e ∙ ap (op a) f ∙ g
 
 module _ {M : Type 0} (access : Access M) (m : M) where

@@ -24,7 +24,7 @@ words = sum_by greatest_words
 words_append : (a b : List Line) → words (a ++ b) ≡ words a + words b
 words_append = sum_by-append greatest_words
 
-number_size : (n r : ℕ) → words (number_lines n r) ≤ 2
+pub number_size : (n r : ℕ) → words (number_lines n r) ≤ 2
 unfolding number_lines
 number_size n r = by_length (eqb (upper_bits n) 0)
   where

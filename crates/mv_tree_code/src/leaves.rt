@@ -22,26 +22,26 @@ pub fn place_of(rooms: &[Room], global: u32) -> u32
     0
 }
 
-// The upper 20 bits of a number, for LUI.
+/// The upper 20 bits of a number, for LUI.
 #[tactic(auto, unfolding(crate::specs::TreeCode::upper_bits))]
-fn upper_bits(n: u32) -> i32
+pub fn upper_bits(n: u32) -> i32
     ensures { result ≡ pos (upper_bits n) }
 {
     ((u64::from(n) + 2048) / 4096 % 1_048_576) as i32
 }
 
-// What is added to the upper bits of a number.
+/// What is added to the upper bits of a number.
 #[tactic(auto, unfolding(crate::specs::TreeCode::lower_bits))]
-fn lower_bits(n: u32) -> i32
+pub fn lower_bits(n: u32) -> i32
     ensures { result ≡ lower_bits n }
 {
     let low = (n % 4096) as i32;
     if low < 2048 { low } else { low - 4096 }
 }
 
-// A number into a register.
+/// Puts code at the end that leaves a number in a register.
 #[tactic(auto, unfolding(crate::specs::TreeCode::number_lines))]
-pub(crate) fn push_number(code: &mut List<Line>, n: u32, rd: u8) -> Result<(), AllocError>
+pub fn push_number(code: &mut List<Line>, n: u32, rd: u8) -> Result<(), AllocError>
     ensures { OnOk result (code.new ≡ code.old ++ number_lines n rd) }
 {
     let upper = upper_bits(n);
@@ -72,18 +72,18 @@ pub(crate) fn push_load(code: &mut List<Line>, address: u32, rd: u8) -> Result<(
     )
 }
 
-// The register of one of the first nine temporaries.
+/// The register of one of the first nine temporaries.
 #[tactic(auto, unfolding(crate::specs::TreeCode::temp_register))]
-fn temp_register(temp: u32) -> u8
+pub fn temp_register(temp: u32) -> u8
     requires { temp < 9 }
     ensures { result ≡ temp_register temp }
 {
     if temp == 0 { 9 } else { 17 + temp as u8 }
 }
 
-// The place of another temporary in the frame.
+/// The place of another temporary in the frame, in bytes above sp.
 #[tactic(auto, unfolding(crate::specs::TreeCode::temp_offset))]
-fn temp_offset(temp: u32) -> i32
+pub fn temp_offset(temp: u32) -> i32
     requires { temp < 507 }
     ensures { result ≡ pos (temp_offset temp) }
 {

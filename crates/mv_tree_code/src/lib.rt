@@ -8,7 +8,7 @@ mod operators;
 mod trees;
 
 pub use laws::tree_code_law;
-pub use leaves::place_of;
+pub use leaves::{lower_bits, place_of, push_number, temp_offset, temp_register, upper_bits};
 pub use lines::{push_one, push_two};
 pub use trees::push_tree;
 
