@@ -1,0 +1,4 @@
+pub mod Frames
+pub mod Laws
+pub mod Leads
+pub mod StatementCode
