@@ -1,5 +1,5 @@
 -- Statements take at most eight free temporaries for each level of depth of their expressions.
-use Rattle.std.proofs.Common.{◌≡◌, ℕ, ◌+◌, ◌*◌, ◌≤◌, Bool, true, cond, List, [], ◌∷◌, map, length, max, Option, Some, None, sym, ◌∙◌, ap, subst, arith}
+use Rattle.std.proofs.Common.{◌≡◌, ℕ, ◌+◌, ◌*◌, ◌≤◌, Bool, true, cond, List, [], ◌∷◌, map, max, Option, Some, None, sym, ◌∙◌, ap, subst, arith}
 use Rattle.std.specs.Prelude.{◌&&◌, nat_lt, option_to_list}
 use Rattle.mv_ir.proofs.Induction.{Each}
 use Rattle.mv_ir.proofs.Keeping.{map_append}
@@ -72,7 +72,7 @@ module _ (globals : Globals) (locals : ℕ) (sizes : ℕ → Option ℕ) (void :
   all_arms_top [] h declared b j = omega arith
   all_arms_top (arm ∷ arms) h declared b j =
       let bs = split ((arm_scope globals locals sizes arm).within declared) (arms_within (map (arm_scope globals locals sizes) arms) declared) b in
-      let k = h.0 declared bs.0 (in_arm (length (map (lower_arm locals sizes void) arms)) j) in
+      let k = h.0 declared bs.0 (in_arm j) in
       let l = all_arms_top arms h.1 declared bs.1 j in
       omega (arith, k, l)
 

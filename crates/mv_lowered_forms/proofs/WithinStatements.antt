@@ -19,7 +19,7 @@ use Rattle.mv_lowering.specs.LowerStatements.{but_for, named_option, stmt_named_
 use Rattle.mv_lowering.proofs.Expressions.{split, no}
 use Rattle.mv_lowered_programs.specs.Scopes.{Scope, Scoped, with_local, with_declared, all_scoped, scope_behind, names_declared, option_declared, scoped_layer, arm_scoped_layer, stmt_scoped, arm_scoped}
 use Rattle.mv_lowered_programs.specs.Named.{calls_known, all_layer, all_arm_layer, all_expressions}
-use Rattle.mv_lowered_programs.specs.Labels.{at_most_one, has_label, ArmLabels, later_arms, labels_layer, arm_labels_layer, stmt_labelled, arm_labels}
+use Rattle.mv_lowering.specs.Labels.{at_most_one, has_label, ArmLabels, later_arms, labels_layer, arm_labels_layer, stmt_labelled, arm_labels}
 use Rattle.mv_lowered_programs.specs.WellFormed.{IsWithinLimits}
 use Rattle.mv_lowered_forms.specs.Reads.{expr_reads, stmt_reads_layer, arm_reads_layer, stmt_reads, arm_reads}
 use Rattle.mv_lowered_forms.proofs.Asked as asked
