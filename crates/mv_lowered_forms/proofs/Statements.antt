@@ -17,7 +17,7 @@ use Rattle.mv_lowering.specs.Statements.{Jumps, Placed, LoweredArm, in_body, in_
 use Rattle.mv_lowering.specs.LowerStatements.{lower_optional, lower_stmt_layer, lower_arm_layer, lower_stmt, lower_arm}
 use Rattle.mv_lowering.proofs.Expressions.{split}
 use Rattle.mv_lowered_programs.specs.Scopes.{with_local}
-use Rattle.mv_lowered_forms.proofs.Asked.{Globals, Scope, ArmScope, all_within, all_behind, arms_within, bare_arms, is_within, all_exprs_within, optional_within, stmt_scope_layer, arm_scope_layer, stmt_scope, arm_scope}
+use Rattle.mv_lowered_forms.proofs.Asked.{Globals, Scope, ArmScope, all_within, all_behind, arms_within, is_within, all_exprs_within, optional_within, stmt_scope_layer, arm_scope_layer, stmt_scope, arm_scope}
 use Rattle.mv_lowered_forms.specs.Calls.{expr_weight, stmt_weight, arm_weight}
 use Rattle.mv_lowered_forms.proofs.Rules.{Allowed, Rules, BlockRules}
 use Rattle.mv_lowered_forms.proofs.Plain.{plain_set, covers_number, covers_none, covers_before, covers_binary, covers_swap}
@@ -181,7 +181,7 @@ module _ (globals : Globals) (locals : ℕ) (sizes : ℕ → Option ℕ) (void :
     pub weight : ℕ
     pub nodes : arm_total expr_nodes own_nodes (λ a. length a.labels) arm ≡ length l.labels + inner
     pub weighs : arm_weight direct through arm ≡ weight
-    pub body : locals < room → (i : ℕ) (declared : ℕ → Bool) → (arm_scope globals locals sizes arm).within declared ≡ true → (j : Jumps) → (l.body j).top ≤ room → CodePaid inner weight (arm_code locals i (l.body j).code)
+    pub body : locals < room → (i : ℕ) (declared : ℕ → Bool) → arm_scope globals locals sizes arm declared ≡ true → (j : Jumps) → (l.body j).top ≤ room → CodePaid inner weight (arm_code locals i (l.body j).code)
 
   abbrev A : Arm → Type 0
   A arm = ArmPaid arm (lower_arm locals sizes void arm)
@@ -205,7 +205,7 @@ module _ (globals : Globals) (locals : ℕ) (sizes : ℕ → Option ℕ) (void :
       ArmsPaid arms (arms_code locals i (arms_lowered arms) j)
   arms_paid there i [] h declared b j top = record { units = 0; nodes = 0; made = r.retree (covers_none []); few_units = omega arith; few_nodes = omega arith; few_words = omega arith }
   arms_paid there i (arm ∷ arms) h declared b j top =
-      let bs = split ((arm_scope globals locals sizes arm).within declared) (arms_within (map (arm_scope globals locals sizes) arms) declared) b in
+      let bs = split (arm_scope globals locals sizes arm declared) (arms_within (map (arm_scope globals locals sizes) arms) declared) b in
       let p = h.0.body there i declared bs.0 (in_arm j) (omega (arith, top)) in
       let rest = arms_paid there (suc i) arms h.1 declared bs.1 j (omega (arith, top)) in
       let n = sum_cons (arm_nodes arm) (map arm_nodes arms) in
@@ -338,9 +338,8 @@ module _ (globals : Globals) (locals : ℕ) (sizes : ℕ → Option ℕ) (void :
       (omega (arith, begun.few_units, tested.few_units, stepped.few_units, turn.few_units, n, n'))
       (omega (arith, begun.few_nodes, tested.few_nodes, stepped.few_nodes, turn.few_nodes, n, n')) (omega (arith, begun.few_words, tested.few_words, stepped.few_words, turn.few_words, n, n'))
   layer (stmt.Switch e arms) h declared b j top =
-      let bs = split (is_within globals locals sizes declared e) (nat_lt (bare_arms (map (arm_scope globals locals sizes) arms)) 3 && arms_within (map (arm_scope globals locals sizes) arms) declared) b in
-      let cs = split (nat_lt (bare_arms (map (arm_scope globals locals sizes) arms)) 3) (arms_within (map (arm_scope globals locals sizes) arms) declared) bs.1 in
-      stmt_as (omega arith) (omega arith) (switch_paid e arms h declared bs.0 cs.1 j top)
+      let bs = split (is_within globals locals sizes declared e) (arms_within (map (arm_scope globals locals sizes) arms) declared) b in
+      stmt_as (omega arith) (omega arith) (switch_paid e arms h declared bs.0 bs.1 j top)
   layer stmt.Break h declared b j top = one_more 1 0 (r.weaken (omega arith) (omega arith) (omega arith) (blocks.leaves j.leave)) (omega arith) (omega arith) (omega arith)
   layer stmt.Continue h declared b j top = one_more 1 0 (r.weaken (omega arith) (omega arith) (omega arith) (blocks.leaves j.again)) (omega arith) (omega arith) (omega arith)
   layer (stmt.Return None) h declared b j top = one_more 1 0 (r.weaken (omega arith) (omega arith) (omega arith) (blocks.leaves j.around)) (omega arith) (omega arith) (omega arith)
@@ -370,7 +369,7 @@ module _ (globals : Globals) (locals : ℕ) (sizes : ℕ → Option ℕ) (void :
         weight = sum (map (stmt_weight direct through) x.body);
         nodes = counted;
         weighs = weighed ∙ omega arith;
-        body = λ there i declared b j top. enters_paid there i x.body h declared (sym (ap (λ (z : ArmScope). z.within declared) scoped) ∙ b) j top;
+        body = λ there i declared b j top. enters_paid there i x.body h declared (sym (ap (λ (z : ArmScope). z declared) scoped) ∙ b) j top;
       })
 
   -- statements that are within the limits

@@ -24,7 +24,7 @@ use Rattle.mv_lowering.specs.LowerStatements.{lower_optional, lower_stmt_layer, 
 use Rattle.mv_lowering.proofs.Expressions.{split}
 use Rattle.mv_lowered_programs.specs.Jumps.{Jumping, all_jump, jumps_layer, arm_jumps_layer, stmt_jumps, arm_jumps}
 use Rattle.mv_lowered_programs.specs.Scopes.{with_local}
-use Rattle.mv_lowered_forms.proofs.Asked.{Globals, Scope, ArmScope, all_within, all_behind, arms_within, bare_arms, is_within, all_exprs_within, optional_within, stmt_scope_layer, arm_scope_layer, stmt_scope, arm_scope}
+use Rattle.mv_lowered_forms.proofs.Asked.{Globals, Scope, ArmScope, all_within, all_behind, arms_within, is_within, all_exprs_within, optional_within, stmt_scope_layer, arm_scope_layer, stmt_scope, arm_scope}
 use Rattle.mv_lowered_forms.proofs.Rules.{Allowed, Rules}
 use Rattle.mv_lowered_forms.proofs.Expressions.{allowed}
 use Rattle.mv_lowered_forms.proofs.Clears as clears
@@ -112,7 +112,7 @@ module _ (globals : Globals) (locals : ℕ) (sizes : ℕ → Option ℕ) (void :
   S s = (declared : ℕ → Bool) → (stmt_scope globals locals sizes s).within declared ≡ true → (u v : Bool) → stmt_jumps s u v ≡ true → (j : Jumps) (r : List Bool) → Leads u v j r → HasTargets r (lower_stmt locals sizes void s j).code
 
   abbrev A : Arm → Type 0
-  A arm = (declared : ℕ → Bool) → (arm_scope globals locals sizes arm).within declared ≡ true → (u v : Bool) → arm_jumps arm u v ≡ true → (j : Jumps) (r : List Bool) → Leads u v j r → HasTargets r ((lower_arm locals sizes void arm).body j).code
+  A arm = (declared : ℕ → Bool) → arm_scope globals locals sizes arm declared ≡ true → (u v : Bool) → arm_jumps arm u v ≡ true → (j : Jumps) (r : List Bool) → Leads u v j r → HasTargets r ((lower_arm locals sizes void arm).body j).code
 
   all_targets : (body : List Stmt) → Each S body → (declared : ℕ → Bool) → all_within (scopes body) declared ≡ true → (u v : Bool) → leading body u v ≡ true → (j : Jumps) (r : List Bool) → Leads u v j r → HasTargets r (lowered body j).code
   all_targets [] h declared b u v l j r k = refl
@@ -151,7 +151,7 @@ module _ (globals : Globals) (locals : ℕ) (sizes : ℕ → Option ℕ) (void :
       (j : Jumps) (r : List Bool) → Leads u v j r → HasTargets (false ∷ r) (arms_code locals i (arms_lowered arms) j)
   arms_targets i [] h declared b u v l j r k = refl
   arms_targets i (arm ∷ arms) h declared b u v l j r k =
-      let bs = split ((arm_scope globals locals sizes arm).within declared) (arms_within (map (arm_scope globals locals sizes) arms) declared) b in
+      let bs = split (arm_scope globals locals sizes arm declared) (arms_within (map (arm_scope globals locals sizes) arms) declared) b in
       let ls = split (arm_jumps arm true v) (all_jump (map arm_jumps arms) true v) l in
       let body = ((lower_arm locals sizes void arm).body (in_arm j)).code in
       targets_append (false ∷ r) (arm_code locals i body) (arms_code locals (suc i) (arms_lowered arms) j)
@@ -214,8 +214,7 @@ module _ (globals : Globals) (locals : ℕ) (sizes : ℕ → Option ℕ) (void :
       (test_targets (lower_optional 1 test) (enclosed code ∷ []) (true ∷ r) (omega arith) (optional 1 inside test b1.0 (true ∷ r)) (body_targets body h.1 inside b2.1 u v ls.1 j r k)) (optional 0 inside step b2.0 (true ∷ r))))
   layer (stmt.Switch e arms) h declared b u v l j r k =
       let scoped = map (arm_scope globals locals sizes) arms in
-      let bs = split (is_within globals locals sizes declared e) (nat_lt (bare_arms scoped) 3 && arms_within scoped declared) b in
-      let cs = split (nat_lt (bare_arms scoped) 3) (arms_within scoped declared) bs.1 in
+      let bs = split (is_within globals locals sizes declared e) (arms_within scoped declared) b in
       let ls = arms_lowered arms in
       let place = arm_place (λ (a : LoweredArm). a.other) 0 ls in
       let tested = all_tests locals ls in
@@ -226,7 +225,7 @@ module _ (globals : Globals) (locals : ℕ) (sizes : ℕ → Option ℕ) (void :
       (targets_one r (stm.Block whole)
       (targets_append (false ∷ r) (enclosed tested ∷ []) (arms_code locals 0 ls j)
       (targets_one (false ∷ r) (stm.Block tested) (targets_append (false ∷ false ∷ r) (test_arms locals 0 ls) (set locals (number place) ∷ []) (tests_targets 0 ls (false ∷ r)) (placed_targets place (false ∷ false ∷ r))))
-      (arms_targets 0 arms h declared cs.1 u v l j r k))))
+      (arms_targets 0 arms h declared bs.1 u v l j r k))))
   layer stmt.Break h declared b u v l j r k = break_target r j.leave (k.leave l)
   layer stmt.Continue h declared b u v l j r k = break_target r j.again (k.again l)
   layer (stmt.Return None) h declared b u v l j r k = break_target r j.around k.around
@@ -247,7 +246,7 @@ module _ (globals : Globals) (locals : ℕ) (sizes : ℕ → Option ℕ) (void :
       let scoped = fold-roll-Arm Scope ArmScope (stmt_scope_layer globals locals sizes) (arm_scope_layer globals locals sizes) x in
       let led = fold-roll-Arm Jumping Jumping jumps_layer arm_jumps_layer x in
       subst (λ (m : LoweredArm). HasTargets r (m.body j).code) (sym lowered_as)
-      (all_targets x.body h declared (sym (ap (λ (z : ArmScope). z.within declared) scoped) ∙ b) u v (sym (ap (λ (f : Jumping). f u v) led) ∙ l) j r k)
+      (all_targets x.body h declared (sym (ap (λ (z : ArmScope). z declared) scoped) ∙ b) u v (sym (ap (λ (f : Jumping). f u v) led) ∙ l) j r k)
 
   pub code_targets : (body : List Stmt) (declared : ℕ → Bool) → all_within (scopes body) declared ≡ true → (u v : Bool) → leading body u v ≡ true → (j : Jumps) (r : List Bool) → Leads u v j r → HasTargets r (lowered body j).code
   code_targets body = all_targets body (source.stmts_ind S A stmt_step arm_step body)

@@ -21,7 +21,7 @@ use Rattle.mv_lowering.specs.Statements.{Jumps, Placed, LoweredArm, in_body, in_
 use Rattle.mv_lowering.specs.LowerStatements.{lower_optional, lower_stmt_layer, lower_arm_layer, lower_stmt, lower_arm}
 use Rattle.mv_lowering.proofs.Expressions.{split, no}
 use Rattle.mv_lowered_programs.specs.Scopes.{with_local}
-use Rattle.mv_lowered_forms.proofs.Asked.{Globals, Scope, ArmScope, all_within, all_behind, arms_within, bare_arms, is_within, all_exprs_within, optional_within, stmt_scope_layer, arm_scope_layer, stmt_scope, arm_scope}
+use Rattle.mv_lowered_forms.proofs.Asked.{Globals, Scope, ArmScope, all_within, all_behind, arms_within, is_within, all_exprs_within, optional_within, stmt_scope_layer, arm_scope_layer, stmt_scope, arm_scope}
 use Rattle.mv_lowered_forms.proofs.Rules.{Allowed}
 use Rattle.mv_lowered_forms.proofs.Expressions.{allowed}
 use Rattle.mv_lowered_forms.proofs.Clears as clears
@@ -188,7 +188,7 @@ module _ (globals : Globals) (locals : ℕ) (sizes : ℕ → Option ℕ) (void :
 
   abbrev A : Arm → Type 0
   A arm =
-      (declared : ℕ → Bool) → (arm_scope globals locals sizes arm).within declared ≡ true → declared u ≡ false → (j : Jumps) → ((lower_arm locals sizes void arm).body j).top ≤ room → (r : Around) → IsShut j r → r.next ≡ false →
+      (declared : ℕ → Bool) → arm_scope globals locals sizes arm declared ≡ true → declared u ≡ false → (j : Jumps) → ((lower_arm locals sizes void arm).body j).top ≤ room → (r : Around) → IsShut j r → r.next ≡ false →
       live_at u ((lower_arm locals sizes void arm).body j).code r ≡ false
 
   abbrev arms_lowered : List Arm → List LoweredArm
@@ -237,7 +237,7 @@ module _ (globals : Globals) (locals : ℕ) (sizes : ℕ → Option ℕ) (void :
         (r : Around) → IsShut (in_arm j) r → r.next ≡ false → live_at u (arms_code locals i (arms_lowered arms) j) r ≡ false
     arms_dead i [] h declared b k j top r q n = n
     arms_dead i (arm ∷ arms) h declared b k j top r q n =
-        let bs = split ((arm_scope globals locals sizes arm).within declared) (arms_within (map (arm_scope globals locals sizes) arms) declared) b in
+        let bs = split (arm_scope globals locals sizes arm declared) (arms_within (map (arm_scope globals locals sizes) arms) declared) b in
         let body = ((lower_arm locals sizes void arm).body (in_arm j)).code in
         both_dead (arm_code locals i body) (arms_code locals (suc i) (arms_lowered arms) j) r (arms_dead (suc i) arms h.1 declared bs.1 k j (omega (arith, top)) r q n)
         (λ r1 e1 n1. arm_dead i body r1 n1
@@ -357,9 +357,8 @@ module _ (globals : Globals) (locals : ℕ) (sizes : ℕ → Option ℕ) (void :
       r1 = around_loop r false
   layer (stmt.Switch e arms) h declared b k j top r q n =
       let scoped = map (arm_scope globals locals sizes) arms in
-      let bs = split (is_within globals locals sizes declared e) (nat_lt (bare_arms scoped) 3 && arms_within scoped declared) b in
-      let cs = split (nat_lt (bare_arms scoped) 3) (arms_within scoped declared) bs.1 in
-      switch_dead e arms h declared bs.0 cs.1 k j top r q (n k)
+      let bs = split (is_within globals locals sizes declared e) (arms_within scoped declared) b in
+      switch_dead e arms h declared bs.0 bs.1 k j top r q (n k)
   layer stmt.Break h declared b k j top r q n = break_dead j.leave r q.leave
   layer stmt.Continue h declared b k j top r q n = break_dead j.again r q.again
   layer (stmt.Return None) h declared b k j top r q n = break_dead j.around r q.around
@@ -380,7 +379,7 @@ module _ (globals : Globals) (locals : ℕ) (sizes : ℕ → Option ℕ) (void :
       let lowered_as = fold-roll-Arm Placed LoweredArm (lower_stmt_layer locals sizes void) (lower_arm_layer locals sizes void) x in
       let scoped = fold-roll-Arm Scope ArmScope (stmt_scope_layer globals locals sizes) (arm_scope_layer globals locals sizes) x in
       subst (λ (l : LoweredArm). (l.body j).top ≤ room → (r : Around) → IsShut j r → r.next ≡ false → live_at u (l.body j).code r ≡ false) (sym lowered_as)
-      (λ top r q n. within_dead x.body h declared (sym (ap (λ (z : ArmScope). z.within declared) scoped) ∙ b) k j top r q n)
+      (λ top r q n. within_dead x.body h declared (sym (ap (λ (z : ArmScope). z declared) scoped) ∙ b) k j top r q n)
 
   pub body_dead : (body : List Stmt) (declared : ℕ → Bool) → all_within (scopes body) declared ≡ true → declared u ≡ false → (j : Jumps) → (lowered body j).top ≤ room → (r : Around) → IsShut j r → r.next ≡ false → live_at u (lowered body j).code r ≡ false
   body_dead body = within_dead body (source.stmts_ind S A stmt_step arm_step body)
