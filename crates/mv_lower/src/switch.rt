@@ -99,12 +99,7 @@ pub fn tests(alloc: Global, arms: &List<Arm>, n: u32) -> Result<List<Stm>, Alloc
 
 /// The code of an arm, skipped where the place in the temporary is a later one. Behind it control falls through: the place is the first.
 #[tactic(auto, using(mv_lower_expressions::proofs::Emitting::emitted, crate::proofs::Switching::arm_forms))]
-pub fn arm_code(
-    alloc: Global,
-    n: u32,
-    i: u32,
-    mut code: List<Stm>,
-) -> Result<List<Stm>, AllocError>
+pub fn arm_code(alloc: Global, n: u32, i: u32, mut code: List<Stm>) -> Result<List<Stm>, AllocError>
     ensures { IfOk result (λ c. c ≡ arm_code n i code) }
 {
     if is_empty(&code) {
@@ -113,7 +108,10 @@ pub fn arm_code(
     code.push(Stm::Set(n, Tree::Number(0)))?;
     let arm = Boxed::new(alloc, Tree::Number(i))?;
     let place = Boxed::new(alloc, Tree::Temp(n))?;
-    alone(alloc, Stm::If(Tree::Binary(10, arm, place), List::new(alloc), code))
+    alone(
+        alloc,
+        Stm::If(Tree::Binary(10, arm, place), List::new(alloc), code),
+    )
 }
 
 // Code behind a block that holds other code.

@@ -1,7 +1,7 @@
 //! Each form of statement once, and small programs. What counts is how many statements they become, worked out by hand.
 #![tactic(auto, using(crate::proofs::StatementForms::sizes, mv_lower_expressions::proofs::Forms::sizes, mv_lower_expressions::proofs::Leaves::leaf_sizes, crate::proofs::Leaves::leaf_sizes))]
 
-ghost use Rattle.std.specs.Prelude.{◌≡◌, ◌+◌, ◌≤◌, ◌<◌, ◌∷◌, [], length};
+ghost use Rattle.std.specs.Prelude.{◌≡◌, ◌+◌, ◌*◌, ◌≤◌, ◌<◌, ◌∷◌, [], length};
 ghost use Rattle.mv_lowered_programs.specs.WellFormed.{IsWellFormed};
 ghost use Rattle.mv_lower_expressions.specs.Expressions.{expr_size};
 ghost use Rattle.mv_lower.specs.Programs.{HasRoom, IsSmall};
