@@ -16,6 +16,7 @@ use mv_ast::program::{CType, Function, Known, Signature, Stmt};
 use mv_ast::unit::{Declarator, Line, Shape};
 use mv_declare::parameters::declare_parameters;
 use mv_judge::error::RuleError;
+use mv_judge::rules;
 use mv_num::kind::Kind;
 use mv_num::list::List;
 use mv_num::text::Text;
@@ -120,11 +121,11 @@ fn broken_rule(allowed: bool, twice: bool, given: bool) -> Option<u8>
     ensures { result ≡ spec.broken_rule allowed twice given }
 {
     if !allowed {
-        Some(2)
+        Some(rules::REDECLARATIONS)
     } else if twice {
-        Some(19)
+        Some(rules::DEFINITIONS)
     } else if given {
-        Some(22)
+        Some(rules::DECLARATIONS)
     } else {
         None
     }

@@ -12,6 +12,7 @@ use crate::functions::is_plain_int;
 use mv_ast::place::Place;
 use mv_ast::program::{Function, Global as Variable, Program, Signature, Switch};
 use mv_judge::error::RuleError;
+use mv_judge::rules;
 use mv_num::list::List;
 use mv_num::results::both;
 use mv_scope::meaning::Meaning;
@@ -178,7 +179,7 @@ fn program_of(alloc: Global, contents: Contents, main: u32) -> Result<Program, A
     })
 }
 
-/// The program of a unit that ends at a place, by what its declarations come to. Rule 18 is broken where it has no `main`.
+/// The program of a unit that ends at a place, by what its declarations come to. The rule of `main` is broken where it has no `main`.
 #[tactic(auto, unfolding(crate::specs::Units::program_judgement))]
 pub fn judge_program(alloc: Global, place: Place, contents: Contents) -> Result<Program, RuleError>
     ensures { IsJudged (program_judgement place contents) result }
@@ -186,7 +187,7 @@ pub fn judge_program(alloc: Global, place: Place, contents: Contents) -> Result<
     match main_of(&contents.scope) {
         None => {
             drop(contents);
-            Err(RuleError::Rule(place, 18))
+            Err(RuleError::Rule(place, rules::MAIN))
         }
         Some(main) => Ok(program_of(alloc, contents, main)?),
     }
