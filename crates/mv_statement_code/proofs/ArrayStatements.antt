@@ -281,7 +281,7 @@ module _ {M : Type 0} (access : Access M) (s : Site) (setting : ir.Setting) (fra
           let p = element_placed a (V i l) l z.after m below index z.shown in
           let value : reg p.after second ≡ V v l = p.beside ∙ z.changes.others second (inl (omega arith)) ∙ y.holds in
           let l' = with_elements a l (slice_set (elements a l) (V i l) (V v l)) in
-          let g = cell_written access s setting frame fit first second (element_offset (home_of s a)) (Element a (V i l)) (V v l) l l' p.after m p.to value y.below below (updates_element s l a (V i l) (V v l) many) p.shown in
+          let g = cell_written access s setting frame fit first second (element_offset (home_of s a)) (Element a (V i l)) (V v l) l l' p.after m p.to value y.below tt below (updates_element s l a (V i l) (V v l) many) p.shown in
           let placed = leads_more access s ks (sum_by greatest_words (element_lines (home_of s a)) + 1) 4 z.after m Past g.after g.memory (omega (arith, element_size a))
           (leads_straight access s (element_lines (home_of s a)) store 1 z.after p.after m Past g.after g.memory p.runs (leads_one access s (Sw first second (element_offset (home_of s a))) p.after m g.after g.memory g.moves)) in
           (g.after, g.memory, both (4 + 1 + 2) Past g.after g.memory (omega arith) (after_test a ks (4 + 1) l y.after m Past g.after g.memory z (passed a (V i l) 4 ks l y.after m g.after g.memory z index below placed)), g.shown)

@@ -1,5 +1,6 @@
 pub mod ArrayStatements
 pub mod Divisions
+pub mod EncodedCode
 pub mod Equations
 pub mod FrameChanges
 pub mod ScalarStatements

@@ -73,7 +73,7 @@ module _ {M : Type 0} (access : Access M) (s : Site) (setting : ir.Setting) (fra
       ap (λ z. add z (word_of (lower_bits at))) (put_same x.after second up (omega arith) (omega (arith, x.shown.are.count))) ∙ parts_add at below ∙ same in
       let value : reg mid first ≡ V v l = put_other x.after second first up (omega arith) (λ e. omega arith) ∙ x.holds in
       let l' = with_elements a l (slice_set (elements a l) 0 (V v l)) in
-      let w = cell_written access s setting frame fit second first (lower_bits at) (Element a 0) (V v l) l l' mid m to value x.below lt (updates_element s l a 0 (V v l) (omega (arith, lt, f.sizes a))) shown in
+      let w = cell_written access s setting frame fit second first (lower_bits at) (Element a 0) (V v l) l l' mid m to value x.below tt lt (updates_element s l a 0 (V v l) (omega (arith, lt, f.sizes a))) shown in
       let high = Lui second (pos (upper_bits at)) in
       let store = Sw second first (lower_bits at) in (
         w.after,

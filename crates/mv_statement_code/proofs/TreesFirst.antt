@@ -20,7 +20,7 @@ use Rattle.mv_tree_code.proofs.TreesRun.{tree_runs}
 use Rattle.mv_tree_code.proofs.Words.{word_of_pos, zero_add, add_word}
 use Rattle.mv_statement_code.specs.StatementCode.{write_temp}
 use Rattle.mv_statement_code.specs.Leads.{Moves}
-use Rattle.mv_statement_code.specs.Frames.{Site, Cell, TempCell, Element, address, IsThere, content, view_of, IsFine, IsFit, Shows}
+use Rattle.mv_statement_code.specs.Frames.{Site, Cell, TempCell, Element, address, IsOwn, IsThere, content, view_of, IsFine, IsFit, Shows}
 use Rattle.mv_statement_code.proofs.FrameChanges.{Updates, updates_temp, frame_scratch, frame_register, frame_stored}
 use Rattle.mv_statement_code.proofs.Walks.{sw_moves}
 
@@ -90,13 +90,13 @@ module _ {M : Type 0} (access : Access M) (s : Site) (setting : ir.Setting) (fra
 
   -- a word is stored to a cell
   pub cell_written : (rs1 rs2 : ℕ) (imm : ℤ) (x : Cell) (v : ℕ) (l l' : State) (regs : List ℕ) (m : M)
-      → add (reg regs rs1) (word_of imm) ≡ address s x → reg regs rs2 ≡ v → v < 2 ^ 32 → IsThere s x → Updates s l l' x v → Sh l regs m → Makes (Sw rs1 rs2 imm) l' regs m
-  cell_written rs1 rs2 imm x v l l' regs m a e b there u f =
+      → add (reg regs rs1) (word_of imm) ≡ address s x → reg regs rs2 ≡ v → v < 2 ^ 32 → IsOwn x → IsThere s x → Updates s l l' x v → Sh l regs m → Makes (Sw rs1 rs2 imm) l' regs m
+  cell_written rs1 rs2 imm x v l l' regs m a e b own there u f =
       let st = fit.stores m x v (content s l x) there b (f.in_memory x there) in
       record {
         after = regs;
         memory = st.after;
-        moves = (sw_moves access s rs1 rs2 imm regs m st.after (address s x) v a e st.stored, inr (x, v, there, b, st.stored));
+        moves = (sw_moves access s rs1 rs2 imm regs m st.after (address s x) v a e st.stored, inr (x, v, own, there, b, st.stored));
         shown = frame_stored s access setting frame fit l l' regs m x v there b u st f;
       }
 
@@ -123,4 +123,4 @@ module _ {M : Type 0} (access : Access M) (s : Site) (setting : ir.Setting) (fra
           let a : add (reg regs 2) (word_of (pos (temp_offset t))) ≡ address s (TempCell t) =
           add_word (reg regs 2) (temp_offset t) ∙ ap (λ z. add z (temp_offset t)) (f.left 2 (inl (omega arith))) ∙ add_small (s.register 2) (temp_offset t) (fit.addresses (TempCell t) (big, lt)) in
           subst (λ c. Makes (by_place t r c) (with_temp l t v) regs m) (sym (le-ltb t 9 big))
-          (cell_written 2 r (pos (temp_offset t)) (TempCell t) v l (with_temp l t v) regs m a e b (big, lt) (updates_temp s l t v (omega (arith, lt, f.count)) big) f)
+          (cell_written 2 r (pos (temp_offset t)) (TempCell t) v l (with_temp l t v) regs m a e b tt (big, lt) (updates_temp s l t v (omega (arith, lt, f.count)) big) f)

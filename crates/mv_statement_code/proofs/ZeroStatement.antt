@@ -80,7 +80,7 @@ module _ {M : Type 0} (access : Access M) (s : Site) (setting : ir.Setting) (fra
         let to : add (reg r.after 2) (word_of (pos at)) ≡ address s x =
         add_word (reg r.after 2) at ∙ ap (λ z. add z at) (r.shown.left 2 (inl (omega arith))) ∙ add_small (s.register 2) at (omega arith) ∙ moved n in
         let l' = with_elements (array.Local a) (X n) (slice_set (elements (array.Local a) (X n)) n 0) in
-        let w = cell_written access s setting frame fit 2 0 (pos at) x 0 (X n) l' r.after r.memory to (reg_zero r.after) (omega arith) there (updates_element s (X n) (array.Local a) n 0 inside) r.shown in
+        let w = cell_written access s setting frame fit 2 0 (pos at) x 0 (X n) l' r.after r.memory to (reg_zero r.after) (omega arith) tt there (updates_element s (X n) (array.Local a) n 0 inside) r.shown in
         record {
           after = w.after;
           memory = w.memory;

@@ -33,7 +33,12 @@ pub data Cell : Type 0 where
   Element : Array → ℕ → Cell
   Kept : ℕ → Cell
 
--- registers that only calls change: ra, sp, t0 to t2, s10 and s11
+-- the code of the frame may store to its temporaries and to elements
+abbrev pub IsOwn : Cell → Type 0
+IsOwn (Kept b) = ⊥
+IsOwn _ = Unit {0}
+
+-- the registers x0 to x8, s10 and s11, ra and sp among them, which only calls change
 abbrev pub IsLeft : ℕ → Type 0
 IsLeft q = (q < 9) ⊎ ((26 ≤ q) × (q < 28))
 

@@ -6,7 +6,7 @@ use Rattle.mv_isa.specs.declared.labelled.Line.{Line}
 use Rattle.mv_isa.specs.declared.labelled.Line.TheVariants.{Word, Label, Jump, Branch, Entry}
 use Rattle.mv_isa.specs.Execution.{Access, Goes, reg, put, execute}
 use Rattle.mv_isa.specs.LineSteps.{branch_holds}
-use Rattle.mv_statement_code.specs.Frames.{Site, Cell, IsThere, address}
+use Rattle.mv_statement_code.specs.Frames.{Site, Cell, IsOwn, IsThere, address}
 
 -- past the end of the lines, or to a label
 pub data Exit : Type 0 where
@@ -14,9 +14,9 @@ pub data Exit : Type 0 where
   To : ℕ → Exit
 
 module _ {M : Type 0} (access : Access M) (s : Site) where
-  -- memory is as it was, or a word was stored to a cell
+  -- memory is as it was, or a word was stored to a cell of the frame's own
   abbrev pub Writes : M → M → Type 0
-  Writes m m' = (m' ≡ m) ⊎ ((x : Cell) × (v : ℕ) × IsThere s x × (v < 2 ^ 32) × (access.store m (address s x) 4 v ≡ Some m'))
+  Writes m m' = (m' ≡ m) ⊎ ((x : Cell) × (v : ℕ) × IsOwn x × IsThere s x × (v < 2 ^ 32) × (access.store m (address s x) 4 v ≡ Some m'))
 
   -- wherever an instruction stands, it goes on to the next one
   abbrev pub Moves : Instr → List ℕ → M → List ℕ → M → Type 0

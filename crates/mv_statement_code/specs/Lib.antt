@@ -1,3 +1,4 @@
+pub mod Encoded
 pub mod Frames
 pub mod Laws
 pub mod Leads

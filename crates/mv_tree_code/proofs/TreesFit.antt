@@ -22,21 +22,21 @@ use Rattle.mv_tree_code.specs.TreeCode.{one, two, upper_bits, lower_bits, number
 use Rattle.mv_tree_code.specs.Laws.{TreesFit}
 use Rattle.mv_tree_code.proofs.Rolls.{lines_roll, temps_roll, depth_some}
 
-abbrev AllFit : List Line → Type 0
+abbrev pub AllFit : List Line → Type 0
 AllFit = All LineFits
 
-one_fits : (i : Instr) → Fits i → AllFit (one i)
+pub one_fits : (i : Instr) → Fits i → AllFit (one i)
 one_fits i h = All-cons LineFits (Word i) [] h (All-nil LineFits)
 
-two_fit : (i j : Instr) → Fits i → Fits j → AllFit (two i j)
+pub two_fit : (i j : Instr) → Fits i → Fits j → AllFit (two i j)
 two_fit i j h l = All-cons LineFits (Word i) (one j) h (one_fits j l)
 
 -- ---- immediates
 
-small_fits : (n : ℕ) → n < 2048 → IsSigned (2 ^ 11) (pos n)
+pub small_fits : (n : ℕ) → n < 2048 → IsSigned (2 ^ 11) (pos n)
 small_fits n h = (omega (arith, ints), omega (arith, ints))
 
-lower_fits : (n : ℕ) → IsSigned (2 ^ 11) (lower_bits n)
+pub lower_fits : (n : ℕ) → IsSigned (2 ^ 11) (lower_bits n)
 unfolding lower_bits
 lower_fits n = ⊎_elim low high (cases_lt (n % 4096) 2048)
   where
@@ -46,16 +46,16 @@ lower_fits n = ⊎_elim low high (cases_lt (n % 4096) 2048)
     high : 2048 ≤ n % 4096 → IsSigned (2 ^ 11) (cond (ltb (n % 4096) 2048) (pos (n % 4096)) (pos (n % 4096) -ℤ pos 4096))
     high h = rw (le-ltb (n % 4096) 2048 h) (omega (arith, ints), omega (arith, ints))
 
-upper_fits : (n : ℕ) → IsUnsigned (2 ^ 20) (pos (upper_bits n))
+pub upper_fits : (n : ℕ) → IsUnsigned (2 ^ 20) (pos (upper_bits n))
 unfolding upper_bits
 upper_fits n = (omega (arith, ints), omega (arith, ints))
 
-count_fits : (n : ℕ) → n < 32 → IsUnsigned 32 (pos n)
+pub count_fits : (n : ℕ) → n < 32 → IsUnsigned 32 (pos n)
 count_fits n h = (omega (arith, ints), omega (arith, ints))
 
 -- ---- leaves
 
-number_fits : (n r : ℕ) → r < 32 → AllFit (number_lines n r)
+pub number_fits : (n r : ℕ) → r < 32 → AllFit (number_lines n r)
 unfolding number_lines
 number_fits n r h = by_length (eqb (upper_bits n) 0)
   where
@@ -69,7 +69,7 @@ load_fits a r h = two_fit (Lui r (pos (upper_bits a))) (Lw r r (lower_bits a)) (
 entry_fits : (r f : ℕ) → r < 32 → AllFit (Entry r f ∷ [])
 entry_fits r f h = All-cons LineFits (Entry r f) [] h (All-nil LineFits)
 
-register_below : (t : ℕ) → t < 9 → temp_register t < 32
+pub register_below : (t : ℕ) → t < 9 → temp_register t < 32
 unfolding temp_register
 register_below zero h = omega arith
 register_below (suc t) h = rw (ne_eqb (suc t) 0 (λ e. omega arith)) (omega arith)

@@ -19,7 +19,7 @@ use Rattle.mv_tree_code.specs.View.{View, view_value, names_layer, is_in_view, A
 use Rattle.mv_tree_code.specs.Laws.{TreesRun}
 use Rattle.mv_tree_code.proofs.Rolls.{lines_roll, in_view_roll, depth_some}
 use Rattle.mv_tree_code.proofs.Words.{word_of_pos, zero_add, add_word}
-use Rattle.mv_tree_code.proofs.Registers.{changes_wider, scratch_part, scratch_low, scratch_high, frame_outside, temp_in_frame}
+use Rattle.mv_tree_code.proofs.Registers.{changes_wider, held_below, held_word, scratch_part, scratch_low, scratch_high, frame_outside, temp_in_frame}
 use Rattle.mv_tree_code.proofs.Instructions.{lw_sets, addi_sets}
 use Rattle.mv_tree_code.proofs.Gives.{Within, gives_after, one_gives, number_gives, entry_gives, load_gives}
 use Rattle.mv_tree_code.proofs.OperatorsGive.{unary_gives, binary_gives, narrow_gives}
@@ -134,9 +134,9 @@ module _ {M : Type 0} (access : Access M) (m : M) (v : View) where
         let sa = scratch_part r (r + suc n) r (r + na) (omega arith) (omega arith) s in
         let ga = h.0 r regs (and_left (is_in_view v a) (is_in_view v b) named) are temps sa in
         let gb = h.1 (r + 1) ga.after (and_right (is_in_view v a) (is_in_view v b) named) ga.changes.are (temps_kept r (r + na) regs ga.after sa ga.changes temps) (scratch_part r (r + suc n) (r + 1) (r + 1 + nb) (omega arith) (omega arith) s) in
-        let left : reg gb.after r ≡ view_value v a = gb.changes.others r (inl (omega arith)) ∙ ga.holds in
-        let wa = subst (λ z. z < 2 ^ 32) left (gb.changes.are.words r) in
-        let wb = subst (λ z. z < 2 ^ 32) gb.holds (gb.changes.are.words (r + 1)) in
+        let left : reg gb.after r ≡ view_value v a = held_below (r + 1) (r + 1 + nb) r (view_value v a) ga.after gb.after gb.changes (omega arith) ga.holds in
+        let wa = held_word r (view_value v a) gb.after gb.changes.are left in
+        let wb = held_word (r + 1) (view_value v b) gb.after gb.changes.are gb.holds in
         let u = binary o (view_value v a) (view_value v b) in
         at x r (suc n) u (λ r. tree_lines v.place a r ++ (tree_lines v.place b (r + 1) ++ binary_lines o r)) regs (depth_roll x) (value_of x) (lines_roll v.place x)
         (gives_after access m v.entry r (r + suc n) r u (tree_lines v.place a r) (tree_lines v.place b (r + 1) ++ binary_lines o r) regs ga.after ga.runs (changes_wider r (r + na) r (r + suc n) regs ga.after (omega arith) (omega arith) ga.changes)
