@@ -1,2 +1,3 @@
 mod Bounds
+pub mod FirstLimits
 mod Turns
