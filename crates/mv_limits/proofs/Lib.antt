@@ -1,3 +1,2 @@
 mod Bounds
-pub mod FirstLimits
 mod Turns

@@ -32,11 +32,8 @@ parameters_limit p = record {
   counts = map (λ s. length s.params) p.signatures ++ map (λ f. f.params) p.functions;
 }
 
-abbrev pub switch_count_limit : ℕ → Limit
-switch_count_limit count = record { number = 4; greatest = 64; counts = count ∷ [] }
-
 abbrev pub switches_limit : Program → Limit
-switches_limit p = switch_count_limit (length p.switches)
+switches_limit p = record { number = 4; greatest = 64; counts = length p.switches ∷ [] }
 
 -- values of the domain of each switch
 abbrev pub values_limit : Program → Limit
@@ -75,10 +72,6 @@ limits p =
     assignments_limit p ∷
     elements_limit p ∷
     []
-
--- those that ask neither for the domain of a switch nor for the switches of a function, of a program with this many switches
-abbrev pub first_limits : Program → ℕ → List Limit
-first_limits p switches = functions_limit p ∷ globals_limit p ∷ parameters_limit p ∷ switch_count_limit switches ∷ []
 
 -- the first of some counts that is above a bound
 abbrev pub first_above : ℕ → List ℕ → Option ℕ

@@ -1,7 +1,7 @@
 // The limits, by their numbers.
 
-ghost use Rattle.std.specs.Prelude.{◌≡◌, None, map};
-ghost use Rattle.mv_limits.specs.Limits.{reported, excess, functions_limit, globals_limit, parameters_limit, switch_count_limit, values_limit, switches_of_function_limit, assignments_limit, elements_limit, first_some, first_limits, first_exceeded};
+ghost use Rattle.std.specs.Prelude.{◌≡◌, None};
+ghost use Rattle.mv_limits.specs.Limits.{reported, excess, functions_limit, globals_limit, parameters_limit, switches_limit, values_limit, switches_of_function_limit, assignments_limit, elements_limit, first_exceeded};
 
 use crate::counts;
 use crate::excess::Exceeded;
@@ -38,10 +38,10 @@ fn parameters(program: &Program) -> Option<Exceeded>
 }
 
 #[tactic(auto, unfolding(crate::specs::Limits::excess))]
-fn switches(count: usize) -> Option<Exceeded>
-    ensures { result ≡ excess (switch_count_limit count) }
+fn switches(program: &Program) -> Option<Exceeded>
+    ensures { result ≡ excess (switches_limit program.now) }
 {
-    reported(4, counts::above(64, count as u64))
+    reported(4, counts::above(64, program.switches.len() as u64))
 }
 
 #[tactic(auto, unfolding(crate::specs::Limits::excess))]
@@ -74,10 +74,9 @@ fn elements(program: &Program) -> Option<Exceeded>
     reported(8, counts::all_elements(program))
 }
 
-/// The least of the first four limits that a program exceeds which has this many switches. They ask neither for the domain of a switch
-/// nor for the switches of a function, so they can be tested before these are told, which takes time for each of them.
-pub fn exceeded_at_first(program: &Program, switch_count: usize) -> Option<Exceeded>
-    ensures { result ≡ first_some (map excess (first_limits program.now switch_count)) }
+/// The least limit that a program exceeds, with the count of the first part in order of declaration that exceeds it.
+pub fn exceeded(program: &Program) -> Option<Exceeded>
+    ensures { result ≡ first_exceeded program.now }
 {
     if let Some(excess) = functions(program) {
         return Some(excess);
@@ -88,15 +87,7 @@ pub fn exceeded_at_first(program: &Program, switch_count: usize) -> Option<Excee
     if let Some(excess) = parameters(program) {
         return Some(excess);
     }
-    switches(switch_count)
-}
-
-/// The least limit that a program exceeds, with the count of the first part in order of declaration that exceeds it.
-#[tactic(auto, using(crate::proofs::FirstLimits::orders))]
-pub fn exceeded(program: &Program) -> Option<Exceeded>
-    ensures { result ≡ first_exceeded program.now }
-{
-    if let Some(excess) = exceeded_at_first(program, program.switches.len()) {
+    if let Some(excess) = switches(program) {
         return Some(excess);
     }
     if let Some(excess) = values(program) {
