@@ -3,7 +3,7 @@
 ghost use Rattle.std.specs.Prelude.{◌≡◌, ◌≤◌, ◌∷◌, [], false, true, map, IfOk, OnOk};
 ghost use Rattle.mv_ir.specs.Live.{all_marks};
 ghost use Rattle.mv_regalloc.specs.Rows.{sets, own_trees, with_reads, with_all_reads, either_bits, put_bit, live_before, rows_in_order, stm_rows};
-ghost use Rattle.mv_regalloc.specs.Spanned.{Adds, AreSpansOf, Rejoins, with_params};
+ghost use Rattle.mv_regalloc.specs.Spanned.{Adds, AreBegun, AreSpansOf, Rejoins, with_params};
 
 use crate::levels::Levels;
 use crate::live::live_loop;
@@ -154,12 +154,13 @@ fn mark_test(
 ) -> Result<(), AllocError>
     requires before { before.positions ≤ walk.old.spans.positions }
     requires held { held.positions ≤ walk.old.spans.positions }
+    requires known { AreBegun before.known walk.old.spans }
     ensures live { OnOk result (walk.new.live ≡ with_reads test.now (either_bits walk.old.live others.now)) }
     ensures rows { OnOk result (Rejoins held.row held.positions before.row before.positions
         (with_reads test.now (either_bits walk.old.live others.now)) walk.old.spans walk.new.spans) }
 {
     let bits = at_test(alloc, test, walk.live(), others)?;
-    walk.turn(bits);
+    walk.join(alloc, bits, &before.known)?;
     walk.resume(&before);
     walk.resume(&held);
     walk.mark()

@@ -2,10 +2,11 @@
 // position costs the temporaries that come or go there. Where some code begins, what was marked last is set aside, and
 // is told again before that code: so nothing is noted of temporaries that aren't live where the code ends in a jump.
 
-ghost use Rattle.std.specs.Prelude.{◌≡◌, ◌<◌, ◌≤◌, ◌∷◌, [], false, true, length, replicate, slice_index, IfOk, OnOk, Some};
+ghost use Rattle.std.specs.Prelude.{◌≡◌, ◌<◌, ◌≤◌, ◌∷◌, [], false, true, length, replicate, slice_index, IfOk, OnOk, Some, ◌&&◌, not, ltb};
+ghost use Rattle.mv_ir.specs.Live.{mark_at};
 ghost use Rattle.mv_regalloc.specs.Rows.{Bits, put_bit, with_temps};
-ghost use Rattle.mv_regalloc.specs.Spanned.{Adds, IsResumed, IsSuspended, Marks, SoFar, no_spans, shown};
-ghost use Rattle.mv_regalloc.specs.Tables.{IsTable, IsTurned, known_row, last_row, told};
+ghost use Rattle.mv_regalloc.specs.Spanned.{Adds, AreBegun, IsResumed, IsSuspended, Marks, SoFar, no_spans, shown};
+ghost use Rattle.mv_regalloc.specs.Tables.{IsPut, IsTable, IsTurned, known_row, last_row, told};
 
 use crate::live_set::LiveSet;
 use crate::table::{Spans, Table, enter_row, insert, raise_row, remove};
@@ -21,10 +22,11 @@ pub enum Last {
     Nothing(LiveSet),
 }
 
-/// A row that was marked at the last of so many positions.
+/// A row that was marked at the last of so many positions, and one whose temporaries have all been marked.
 #[derive(Drop)]
 pub struct Suspended {
     row: LiveSet,
+    pub known: LiveSet,
     positions: u64,
 }
 
@@ -63,6 +65,22 @@ fn known_marked(alloc: Global, last: &Last, row: &LiveSet) -> Result<LiveSet, Al
         Last::Same => row.copied(alloc),
         Last::Other(held) => held.copied(alloc),
         Last::Nothing(known) => known.copied(alloc),
+    }
+}
+
+// Tells where those begin of the row that was marked last that aren't in another one.
+fn leave_row(live: &LiveSet, row: &LiveSet, last: &Last, table: &mut Table)
+    ensures positions { table.new.positions ≡ table.old.positions }
+    ensures begins { IsPut
+        (λ t. (mark_at (last_row last.now row.now) t && not (mark_at live.now t)) && ltb (slice_index table.old.begins t) table.old.positions)
+        table.old.positions table.old.begins table.new.begins }
+    ensures ends { table.new.ends ≡ table.old.ends }
+    ensures begun { table.new.begun ≡ table.old.begun }
+{
+    match last {
+        Last::Same => raise_row(&mut table.begins, row, live, table.positions),
+        Last::Other(held) => raise_row(&mut table.begins, held, live, table.positions),
+        Last::Nothing(_) => {}
     }
 }
 
@@ -171,12 +189,31 @@ impl Walk {
     pub fn suspend(&mut self, alloc: Global) -> Result<Suspended, AllocError>
         ensures live { OnOk result (self.new.live ≡ self.old.live) }
         ensures spans { IfOk result (λ held. IsSuspended held.row held.positions self.old.spans self.new.spans) }
+        ensures known { IfOk result (λ held. AreBegun held.known self.new.spans) }
     {
         let row = last_marked(alloc, &self.last, &self.row)?;
         let known = known_marked(alloc, &self.last, &self.row)?;
-        self.last = Last::Nothing(known);
+        self.last = Last::Nothing(known.copied(alloc)?);
         let positions = self.table.positions;
-        Ok(Suspended { row, positions })
+        Ok(Suspended {
+            row,
+            known,
+            positions,
+        })
+    }
+
+    /// Goes on where another set is live that is to be marked next. Of a row it is known that all were marked before.
+    pub fn join(&mut self, alloc: Global, live: LiveSet, known: &LiveSet) -> Result<(), AllocError>
+        requires { AreBegun known.now self.old.spans }
+        ensures live { OnOk result (self.new.live ≡ live) }
+        ensures spans { OnOk result (IsResumed [] 0 live self.old.spans self.new.spans) }
+    {
+        let mut all = known_marked(alloc, &self.last, &self.row)?;
+        all.join(known)?;
+        leave_row(&live, &self.row, &self.last, &mut self.table);
+        self.row = live;
+        self.last = Last::Nothing(all);
+        Ok(())
     }
 
     /// Tells again what was set aside, but of temporaries that are live: so they are to be marked next.

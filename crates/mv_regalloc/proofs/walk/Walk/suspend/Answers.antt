@@ -1,7 +1,8 @@
-use Rattle.std.proofs.Common.{[], sym, subst}
+use Rattle.std.proofs.Common.{[], ◌<◌, length, sym, ap, ◌∙◌, arith, subst}
+use Rattle.mv_ir.specs.Live.{mark_at}
 use Rattle.mv_regalloc.specs.Spanned.{IsSuspended}
 use Rattle.mv_regalloc.specs.Tables.{last_row, told}
-use Rattle.mv_regalloc.proofs.TableSteps.{suspended}
+use Rattle.mv_regalloc.proofs.TableSteps.{suspended, told_long}
 use Rattle.mv_regalloc.proofs.walk.Walk.suspend.Goals as goal
 
 pub returns-clause-spans : goal.returns-clause-spans
@@ -10,3 +11,9 @@ returns-clause-spans c =
     let last = last_row c.self.inside.last c.self.inside.row in
     subst (λ w. IsSuspended c.in_ok-row.row s.positions w.spans (told [] s)) c.self.view_is
     (subst (λ m. IsSuspended m s.positions (told last s) (told [] s)) (sym c.in_ok-row.ensures) (suspended last s c.self.invariant.low))
+
+pub returns-clause-known : goal.returns-clause-known
+returns-clause-known c = λ t l k.
+    let s = c.self.inside.table in
+    let low : t < length (told [] s).begins = l in
+    c.self.invariant.begun t (let long = told_long [] s in omega (arith, low, long)) (ap (λ b. mark_at b t) (sym c.in_ok-known.ensures) ∙ k)
