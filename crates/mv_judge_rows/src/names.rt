@@ -86,13 +86,16 @@ fn declare_enum(alloc: Global, scope: &mut Scope) -> Result<(), AllocError> {
 fn add_signature(
     alloc: Global,
     scope: &mut Scope,
-    result: CType,
+    result_type: CType,
     params: List<CType>,
 ) -> Result<(), AllocError> {
     if scope.signatures.len() > 0xFFFF_FFFF {
         return Err(AllocError);
     }
-    let signature = Signature { result, params };
+    let signature = Signature {
+        result: result_type,
+        params,
+    };
     scope.signatures.number(alloc, signature)?;
     Ok(())
 }
