@@ -1,0 +1,5 @@
+mod Composition
+mod Control
+mod Leaves
+mod Statements
+mod Walk
