@@ -1,7 +1,6 @@
 -- How stretches of code compose: by cases on the outcome, over any meanings.
-use Rattle.std.proofs.Common.{◌≡◌, ℕ, zero, suc, ◌+◌, ◌≤◌, List, [], ◌∷◌, length, Some, None, sym, subst, arith}
+use Rattle.std.proofs.Common.{◌≡◌, ℕ, zero, suc, ◌+◌, ◌≤◌, List, [], ◌∷◌, length, Some, None, subst, arith}
 use Rattle.mv_isa.specs.Execution.{Access}
-use Rattle.mv_ir.specs.World.{World}
 use Rattle.mv_ir.specs.Outcome.{State, End, Returned, Trapped, More, Stuck, Outcome, Next, Leaves, Restarts, Ends, Run, Bound, Meaning, now, goes_on, then_do, block_end, block, turn_end, turn, loop}
 use Rattle.mv_statement_code.specs.Frames.{Site}
 use Rattle.mv_flow_code.specs.declared.enclosing.Enclosing.{Enclosing}

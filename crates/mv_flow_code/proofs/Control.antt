@@ -1,6 +1,5 @@
 -- The code of branches, loops and blocks, and of what leaves them and starts them again, on a run.
 use Rattle.std.proofs.Common.{◌≡◌, ℕ, ◌+◌, ◌*◌, ◌≤◌, Bool, true, false, cond, eqb, List, [], ◌∷◌, ◌++◌, length, refl, sym, ap, ◌∙◌, subst, arith}
-use Rattle.std.proofs.lemmas.Bool.{eqb-true, eqb-false, eq-eqb, ne_eqb}
 use Rattle.std.proofs.lemmas.List.{append-nil}
 use Rattle.mv_isa.specs.declared.labelled.Line.{Line}
 use Rattle.mv_isa.specs.declared.labelled.Line.TheVariants.{Label, Jump, Branch}
@@ -9,7 +8,7 @@ use Rattle.mv_isa.specs.Execution.{Access, reg}
 use Rattle.mv_ir.specs.declared.tree.Tree.{Tree}
 use Rattle.mv_ir.specs.declared.stm.Stm.TheOpen as stm
 use Rattle.mv_ir.specs.World as ir
-use Rattle.mv_ir.specs.Outcome.{State, Outcome, Run, Bound, Meaning, in_order, block, loop}
+use Rattle.mv_ir.specs.Outcome.{State, Outcome, Run, Bound, Meaning, in_order, loop}
 use Rattle.mv_ir.specs.Trees.{nodes}
 use Rattle.mv_ir.specs.Meaning.{of_tree, statement}
 use Rattle.mv_tree_code.specs.TreeCode.{tree_lines}

@@ -1,5 +1,5 @@
 -- The code of statements without control, on a run.
-use Rattle.std.proofs.Common.{◌≡◌, ℕ, ◌+◌, ◌≤◌, Bool, true, false, cond, List, length, Some, None, refl, sym, ap, ◌∙◌, subst, arith, ltb, slice_index, map}
+use Rattle.std.proofs.Common.{◌≡◌, ℕ, ◌+◌, Bool, true, false, cond, List, length, Some, None, refl, ap, ◌∙◌, subst, arith}
 use Rattle.mv_isa.specs.declared.labelled.Line.{Line}
 use Rattle.mv_isa.specs.Execution.{Access, reg}
 use Rattle.mv_ir.specs.declared.tree.Tree.{Tree}
@@ -9,15 +9,15 @@ use Rattle.mv_ir.specs.declared.stm.Stm.TheOpen.{Stm-F}
 use Rattle.mv_ir.specs.World as ir
 use Rattle.mv_ir.specs.World.{World}
 use Rattle.mv_ir.specs.Outcome.{State, Returned, Trapped, More, Stuck, Outcome, Next, Leaves, Restarts, Ends, Meaning}
-use Rattle.mv_ir.specs.Meaning.{statement, elements, traps, with_elements}
+use Rattle.mv_ir.specs.Meaning.{statement, with_elements}
 use Rattle.mv_statement_code.specs.StatementCode.{first, trap_label}
-use Rattle.mv_statement_code.specs.Frames.{Site, IsFit}
+use Rattle.mv_statement_code.specs.Frames.{Site}
 use Rattle.mv_statement_code.specs.Leads.{Past, To}
 use Rattle.mv_statement_code.specs.Laws as statements
 use Rattle.mv_flow_code.specs.declared.enclosing.Enclosing.{Enclosing}
 use Rattle.mv_flow_code.specs.Placed.{Placed}
 use Rattle.mv_flow_code.specs.Runs.{Spot, Machine, outside, Calm, IsRun}
-use Rattle.mv_flow_code.specs.Flow.{Here, AtTrap, Follows}
+use Rattle.mv_flow_code.specs.Flow.{Here, Follows}
 use Rattle.mv_flow_code.specs.Laws.{LinesDo}
 use Rattle.mv_flow_code.proofs.Walk.{leads_walk, to_stands, to_here}
 

@@ -1,5 +1,5 @@
-mod Composition
-mod Control
-mod Leaves
-mod Statements
-mod Walk
+pub mod Composition
+pub mod Control
+pub mod Leaves
+pub mod StatementsDo
+pub mod Walk

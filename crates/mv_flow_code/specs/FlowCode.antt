@@ -14,7 +14,7 @@ use Rattle.mv_ir.specs.declared.stm.Stm.TheFolds.{fold-Stm}
 use Rattle.mv_ir.specs.Measures.{callee_trees}
 use Rattle.mv_tree_code.specs.TreeCode.{tree_lines}
 use Rattle.mv_statement_code.specs.declared.elements.Home.{Home}
-use Rattle.mv_statement_code.specs.declared.elements.Home.TheVariants as home
+use Rattle.mv_statement_code.specs.declared.elements.Home.TheVariants as place_at
 use Rattle.mv_statement_code.specs.StatementCode.{first, set_lines, set_global_lines, divide_lines, check_lines, read_lines, write_lines, zero_lines, return_lines}
 use Rattle.mv_flow_code.specs.declared.enclosing.Enclosing.{Enclosing}
 
@@ -57,10 +57,12 @@ abbrev pub in_turn : List Emitted → Emitted
 in_turn [] = nothing
 in_turn (a ∷ rest) = both a (in_turn rest)
 
--- the second list where the tree's value is 0, from a first label on, to the end, a second one
+-- the second list, at a first label, where the register is 0, and else the first one, with a jump to the end, a second label
+abbrev pub branch_lines : ℕ → List Line → List Line → List Line
+branch_lines label a b = Branch 0 first 0 label ∷ (a ++ (Jump 0 (label + 1) ∷ Label label ∷ (b ++ (Label (label + 1) ∷ []))))
+
 abbrev pub if_lines : (ℕ → ℕ) → ℕ → Tree → List Line → List Line → List Line
-if_lines place label t a b =
-    tree_lines place t first ++ (Branch 0 first 0 label ∷ (a ++ (Jump 0 (label + 1) ∷ Label label ∷ (b ++ (Label (label + 1) ∷ [])))))
+if_lines place label t a b = tree_lines place t first ++ branch_lines label a b
 
 abbrev pub loop_lines : ℕ → List Line → List Line
 loop_lines label b = Label label ∷ (b ++ (Jump 0 label ∷ Label (label + 1) ∷ []))
@@ -75,11 +77,14 @@ loop_at label = record { start = label; end = label + 1 }
 abbrev pub block_at : ℕ → Enclosing
 block_at label = record { start = label; end = label }
 
-abbrev pub if_code : (ℕ → ℕ) → Tree → Emitted → Emitted → Emitted
-if_code place t a b = record {
+abbrev pub branch_code : Emitted → Emitted → Emitted
+branch_code a b = record {
   labels = 2 + (a.labels + b.labels);
-  lines = λ around label. if_lines place label t (a.lines around (label + 2)) (b.lines around (label + 2 + a.labels));
+  lines = λ around label. branch_lines label (a.lines around (label + 2)) (b.lines around (label + 2 + a.labels));
 }
+
+abbrev pub if_code : (ℕ → ℕ) → Tree → Emitted → Emitted → Emitted
+if_code place t a b = let c = branch_code a b in record { labels = c.labels; lines = λ around label. tree_lines place t first ++ c.lines around label }
 
 abbrev pub loop_code : Emitted → Emitted
 loop_code b = record { labels = 2 + b.labels; lines = λ around label. loop_lines label (b.lines (loop_at label ∷ around) (label + 2)) }
@@ -87,34 +92,46 @@ loop_code b = record { labels = 2 + b.labels; lines = λ around label. loop_line
 abbrev pub block_code : Emitted → Emitted
 block_code b = record { labels = 1 + b.labels; lines = λ around label. block_lines label (b.lines (block_at label ∷ around) (label + 1)) }
 
+abbrev pub break_code : ℕ → ℕ → Emitted
+break_code end n = record { labels = 0; lines = λ around label. Jump 0 (enclosing_at around n end).end ∷ [] }
+
+abbrev pub back_code : ℕ → ℕ → Emitted
+back_code end n = record { labels = 0; lines = λ around label. Jump 0 (enclosing_at around n end).start ∷ [] }
+
 -- ---- statements
 
 -- lines without labels
 abbrev pub plain : List Line → Emitted
 plain lines = record { labels = 0; lines = λ around label. lines }
 
-module _ (plan : Plan) where
-  abbrev pub home_of : Array → Home
-  home_of (array.Global g) = home.Data (plan.place g)
-  home_of (array.Local a) = home.Frame (plan.array_at a)
+abbrev pub home_of : (place array_at : ℕ → ℕ) → Array → Home
+home_of place array_at (array.Global g) = place_at.Data (place g)
+home_of place array_at (array.Local a) = place_at.Frame (array_at a)
 
-  abbrev pub size_of : Array → ℕ
-  size_of (array.Global g) = plan.size g
-  size_of (array.Local a) = plan.array_size a
+abbrev pub size_of : (size array_size : ℕ → ℕ) → Array → ℕ
+size_of size array_size (array.Global g) = size g
+size_of size array_size (array.Local a) = array_size a
+
+module _ (plan : Plan) where
+  abbrev pub home : Array → Home
+  home = home_of plan.place plan.array_at
+
+  abbrev pub size : Array → ℕ
+  size = size_of plan.size plan.array_size
 
   abbrev pub code_layer : Stm-F Emitted → Emitted
   code_layer (stm.Set t v) = plain (set_lines plan.place t v)
   code_layer (stm.SetGlobal g v) = plain (set_global_lines plan.place g v)
   code_layer (stm.Divide t o a b) = plain (divide_lines plan.place t o a b)
-  code_layer (stm.Check a i) = plain (check_lines plan.place (size_of a) i)
-  code_layer (stm.Read t a i) = plain (read_lines plan.place t (home_of a) (size_of a) i)
-  code_layer (stm.Write a i v) = plain (write_lines plan.place (home_of a) (size_of a) i v)
+  code_layer (stm.Check a i) = plain (check_lines plan.place (size a) i)
+  code_layer (stm.Read t a i) = plain (read_lines plan.place t (home a) (size a) i)
+  code_layer (stm.Write a i v) = plain (write_lines plan.place (home a) (size a) i v)
   code_layer (stm.Zero a) = plain (zero_lines (plan.array_at a) (plan.array_size a))
   code_layer (stm.If t a b) = if_code plan.place t (in_turn a) (in_turn b)
   code_layer (stm.Loop b) = loop_code (in_turn b)
   code_layer (stm.Block b) = block_code (in_turn b)
-  code_layer (stm.Break n) = record { labels = 0; lines = λ around label. Jump 0 (enclosing_at around n plan.end).end ∷ [] }
-  code_layer (stm.Back n) = record { labels = 0; lines = λ around label. Jump 0 (enclosing_at around n plan.end).start ∷ [] }
+  code_layer (stm.Break n) = break_code plan.end n
+  code_layer (stm.Back n) = back_code plan.end n
   code_layer (stm.Call r f args) = plain (plan.calls.call r f args)
   code_layer (stm.Known r k args) = plain (plan.calls.known r k args)
   code_layer (stm.Return v) = plain (return_lines plan.place plan.end v)

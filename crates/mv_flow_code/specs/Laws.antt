@@ -1,5 +1,5 @@
 -- What the code of statements promises: it does what they mean, at every bound.
-use Rattle.std.specs.Prelude.{ℕ, ◌≡◌, ◌<◌, ◌≤◌, Bool, true, ltb, List, length, Option}
+use Rattle.std.specs.Prelude.{ℕ, ◌≡◌, ◌≤◌, Bool, true, ltb, List, length, Option}
 use Rattle.mv_ast.specs.declared.program.Known.{Known}
 use Rattle.mv_isa.specs.declared.labelled.Line.{Line}
 use Rattle.mv_isa.specs.Execution.{Access}

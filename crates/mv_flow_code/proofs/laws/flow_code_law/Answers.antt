@@ -1,4 +1,4 @@
-use Rattle.mv_flow_code.proofs.Statements.{flow_done}
+use Rattle.mv_flow_code.proofs.StatementsDo.{flow_done}
 use Rattle.mv_flow_code.proofs.laws.flow_code_law.Goals as goal
 
 pub returns : goal.returns

@@ -1,12 +1,9 @@
 -- The code of statements does what they mean, at each bound, by induction over the statements.
-use Rattle.std.proofs.Common.{◌≡◌, ℕ, ◌+◌, ◌<◌, ◌≤◌, Bool, true, ltb, ◌&&◌, eqb, cond, List, [], ◌∷◌, length, map, Option, slice_index, slice_set, refl, sym, ap, ◌∙◌, subst, arith}
+use Rattle.std.proofs.Common.{◌≡◌, ℕ, ◌+◌, ◌<◌, ◌≤◌, Bool, true, ltb, ◌&&◌, eqb, List, [], ◌∷◌, length, map, slice_index, slice_set, refl, sym, ◌∙◌, subst, arith}
 use Rattle.std.proofs.lemmas.Bool.{ltb-true}
-use Rattle.mv_ast.specs.declared.program.Known.{Known}
 use Rattle.mv_isa.specs.declared.labelled.Line.{Line}
 use Rattle.mv_isa.specs.Execution.{Access}
 use Rattle.mv_ir.specs.declared.tree.Tree.{Tree}
-use Rattle.mv_ir.specs.declared.stm.Array.{Array}
-use Rattle.mv_ir.specs.declared.stm.Callee.{Callee}
 use Rattle.mv_ir.specs.declared.stm.Stm.{Stm}
 use Rattle.mv_ir.specs.declared.stm.Stm.TheOpen.{Stm-F}
 use Rattle.mv_ir.specs.declared.stm.Stm.TheOpen as stm
@@ -20,7 +17,6 @@ use Rattle.mv_ir.proofs.Induction.{Each, StmChildren, stm_ind, stms_ind}
 use Rattle.mv_ir.proofs.Keeping.{meaning_roll}
 use Rattle.mv_tree_code.proofs.TreesRun.{and_left, and_right}
 use Rattle.mv_statement_code.specs.Frames.{Site, IsFine, IsFit}
-use Rattle.mv_statement_code.specs.Laws.{AreDone}
 use Rattle.mv_statement_code.proofs.ScalarStatements.{set_done, set_global_done, divide_done, return_done}
 use Rattle.mv_statement_code.proofs.ArrayStatements.{check_done, read_done, write_done}
 use Rattle.mv_statement_code.proofs.ZeroStatement.{zero_done}
