@@ -1,0 +1,5 @@
+pub mod FlowCode
+pub mod Flow
+pub mod Laws
+pub mod Placed
+pub mod Runs
