@@ -186,7 +186,7 @@ lower_arms-loop-arm-preserved t c =
     let tops = ap (λ (l : List Arm). arms_top n (map (arm_at g) l) j) nx ∙ top_step g j a rest in (
       omega (arith, inv.0),
       omega (arith, inv.1),
-      ap (λ (x : List Stm). x ++ arms_code n (i + 1) (map (arm_at g) rest) j) (c.in_ok-append.ensures ∙ ap (λ (x : List Stm). c.loop-arm.code ++ x) added) ∙
+      ap (λ (x : List Stm). x ++ arms_code n (i + 1) (map (arm_at g) rest) j) (c.in_ok-append.ensures.ok ∙ ap (λ (x : List Stm). c.loop-arm.code ++ x) added) ∙
           (append_assoc c.loop-arm.code (arm_code n i (stmts_at g a.body (in_arm j)).code) (arms_code n (i + 1) (map (arm_at g) rest) j) ∙ (ap (λ (x : List Stm). c.loop-arm.code ++ x) (sym codes) ∙ inv.2)),
       omega (arith, inv.3, tops, top),
     )
@@ -208,7 +208,7 @@ lower_stmts-loop-s-preserved t c =
     let more = subst (λ (xs : List Stmt). stmts_at g (take (i + 1) xs) j ≡ with_stmt g j (take i xs) a) c.as_slice-s-items.ensures (stmts_push g j c.as_slice-s-items.result.now i a c.loop-s-test.true c.s-item.is) in
     let old = c.loop-s.invariant in
     let part = c.in_ok-part.ensures in
-    let code = c.in_ok-append.ensures ∙ (ap (λ (x : Code). x.code ++ c.in_ok-part.part.code) old ∙ ap (λ (x : Code). (stmts_at g (take i c.args.body.now) j).code ++ x.code) part) in
+    let code = c.in_ok-append.ensures.ok ∙ (ap (λ (x : Code). x.code ++ c.in_ok-part.part.code) old ∙ ap (λ (x : Code). (stmts_at g (take i c.args.body.now) j).code ++ x.code) part) in
     let both = ap (λ (x : Code). max x.top c.in_ok-part.part.top) old ∙ ap (λ (x : Code). max (stmts_at g (take i c.args.body.now) j).top x.top) part in
     let top : c.max-top.result ≡ max (stmts_at g (take i c.args.body.now) j).top (stmt_at g a j).top = omega (arith, both) in
     same_code code top ∙ sym more
