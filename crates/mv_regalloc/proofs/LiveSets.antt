@@ -16,7 +16,7 @@ or_none false = refl
 
 -- ---- bits
 
-at_get : (xs : Bits) (t : ℕ) → mark_at xs t ≡ get_or xs t false
+pub at_get : (xs : Bits) (t : ℕ) → mark_at xs t ≡ get_or xs t false
 at_get [] t = refl
 at_get (x ∷ xs) zero = refl
 at_get (x ∷ xs) (suc t) = at_get xs t
@@ -87,7 +87,7 @@ set_past (x ∷ xs) (suc u) b h = ap (λ l. x ∷ l) (set_past xs u b (omega (ar
 
 -- ---- joining
 
-either_or : (xs ys : Bits) (t : ℕ) → t < length xs → mark_at (either_bits xs ys) t ≡ (mark_at xs t || mark_at ys t)
+pub either_or : (xs ys : Bits) (t : ℕ) → t < length xs → mark_at (either_bits xs ys) t ≡ (mark_at xs t || mark_at ys t)
 either_or [] ys t l = absurd (omega (arith, l))
 either_or (x ∷ xs) [] t l = sym (or_none (mark_at (x ∷ xs) t))
 either_or (x ∷ xs) (y ∷ ys) zero l = refl

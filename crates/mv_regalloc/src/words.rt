@@ -23,6 +23,20 @@ pub fn has_bit(word: u64, temp: usize) -> bool
     word >> (temp % 64) & 1 == 1
 }
 
+/// The word with the bit of a temporary set.
+pub fn set(word: u64, temp: u32) -> u64
+    ensures { (t : ℕ) → t / 64 ≡ temp / 64 → in_word result t ≡ cond (eqb temp t) true (in_word word t) }
+{
+    word | 1 << (temp % 64)
+}
+
+/// The word with the bit of a temporary cleared.
+pub fn cleared(word: u64, temp: u32) -> u64
+    ensures { (t : ℕ) → t / 64 ≡ temp / 64 → in_word result t ≡ cond (eqb temp t) false (in_word word t) }
+{
+    word & !(1 << (temp % 64))
+}
+
 /// Makes so many words of them, with further ones of 0.
 pub fn grow(words: &mut Vec<u64>, count: usize) -> Result<(), AllocError>
     ensures items { (k : ℕ) → slice_index words.new.items k ≡ slice_index words.old.items k }
