@@ -2,7 +2,7 @@
 use Rattle.std.proofs.Common.{arith, ◌≡◌, ℕ, zero, suc, ◌<◌, ◌≤◌, ◌/◌, Bool, true, false, cond, eqb, ltb, ◌&&◌, ◌||◌, List, [], ◌∷◌, ◌++◌, length, drop, map, reverse, refl, sym, ap, ◌∙◌, ◌⊎◌, inl, inr, bit_or, subst}
 use Rattle.std.specs.Prelude.{slice_set, slice_index_or, replicate, Option, Some, None, option_to_list}
 use Rattle.std.specs.List.{All, range_with_len}
-use Rattle.std.proofs.lemmas.List.{get_or-map, get_or_past, drop-map, reverse-append, length-reverse, length-map, append-nil, length-set, length-replicate, get_or-replicate}
+use Rattle.std.proofs.lemmas.List.{drop-map, reverse-append, append-nil, length-set, length-replicate, get_or-replicate}
 use Rattle.std.proofs.lemmas.List.Elements.{All-cons, All-drop}
 use Rattle.std.proofs.lemmas.List.FromFn.{length-map-range_with_len, get_or-map-range_with_len}
 use Rattle.std.proofs.lemmas.Bool.{cases_eq, cases_lt, lt-ltb, le-ltb, eq-eqb, ne_eqb}
@@ -11,8 +11,10 @@ use Rattle.mv_regalloc.specs.declared.liveness.Level.{Level}
 use Rattle.mv_regalloc.specs.declared.parts.Part.{Part}
 use Rattle.mv_regalloc.specs.LiveBits.{in_word}
 use Rattle.mv_regalloc.specs.Parts.{word_of, Keeps}
-use Rattle.mv_regalloc.specs.Rows.{Bits, Enclosing, either_bits, inside}
-use Rattle.mv_regalloc.specs.Shared.{LiveSets, bits_at, levels_at, sets_at, with_live, last_saved, exchanged, in_loop, AreWithin}
+use Rattle.mv_regalloc.specs.Rows.{Bits, either_bits}
+use Rattle.mv_regalloc.specs.declared.liveness.Row.{Row}
+use Rattle.mv_regalloc.specs.declared.liveness.Row.TheVariants.{Empty, Live, Marked, Saved, Behind, Start}
+use Rattle.mv_regalloc.specs.Shared.{LiveSets, Numbered, AreWithin, bits_at, entered, forgotten, number_of, row_of, sets_at, with_live, with_saved}
 use Rattle.mv_regalloc.proofs.LiveSets.{at_get, same_bits, past_bit, either_or}
 use Rattle.mv_regalloc.proofs.RowBits.{set_bit, either_long}
 use Rattle.mv_regalloc.proofs.WordBits.{bits_either, none_in}
@@ -91,95 +93,111 @@ module _ (n : ℕ) (a b : List Part) (keeps : Keeps a b) where
   all_more : {X : Type 0} (side : X → ℕ) (xs : List X) → All (λ x. side x < length a) xs → All (λ x. side x < length b) xs
   all_more side xs h = λ k d l. let m = h k d l in let long = keeps.long in omega (arith, m, long)
 
-  module _ (live : ℕ) (saved : List ℕ) (levels : List Level) (within : AreWithin a live saved levels) (number : ℕ) where
-    pub within_kept : number < length b → AreWithin b number saved levels
+  module _ (ns : Numbered) (within : AreWithin a ns) (number : ℕ) where
+    pub within_kept : number < length b → AreWithin b (record ns { live = number })
     within_kept l = record {
       live = l;
-      saved = all_more (λ x. x) (reverse saved) within.saved;
-      behind = all_more (λ x. x.behind) (reverse levels) within.behind;
-      start = all_more (λ x. x.start) (reverse levels) within.start;
+      marked = (let m = within.marked in let long = keeps.long in omega (arith, m, long));
+      saved = all_more (λ x. x) (reverse ns.saved) within.saved;
+      behind = all_more (λ x. x.behind) (reverse ns.levels) within.behind;
+      start = all_more (λ x. x.start) (reverse ns.levels) within.start;
     }
 
-    pub sets_kept : (bits : Bits) → bits_at n b number ≡ bits → sets_at n b number saved levels ≡ with_live (sets_at n a live saved levels) bits
-    sets_kept bits e =
-        ap (λ l. with_live (sets_at n b number saved levels) l) e ∙
-        ap (λ l. record (with_live (sets_at n b number saved levels) bits) { saved = l }) (all_kept (λ x. x) (reverse saved) within.saved) ∙
-        ap (λ l. record (with_live (sets_at n a live saved levels) bits) { around = record { none = replicate n false; leaves = l; restarts = map (λ x. bits_at n b x.start) (reverse levels) } }) (all_kept (λ x. x.behind) (reverse levels) within.behind) ∙
-        ap (λ l. record (with_live (sets_at n a live saved levels) bits) { around = record { none = replicate n false; leaves = map (λ x. bits_at n a x.behind) (reverse levels); restarts = l } }) (all_kept (λ x. x.start) (reverse levels) within.start)
+    pub sets_kept : (bits : Bits) → bits_at n b number ≡ bits → sets_at n b (record ns { live = number }) ≡ with_live (sets_at n a ns) bits
+    sets_kept bits e = λ i. record {
+      live = e i;
+      marked = kept_at ns.marked within.marked i;
+      saved = all_kept (λ x. x) (reverse ns.saved) within.saved i;
+      around = record { none = replicate n false; leaves = all_kept (λ x. x.behind) (reverse ns.levels) within.behind i; restarts = all_kept (λ x. x.start) (reverse ns.levels) within.start i };
+    }
 
--- ---- sets put aside, and levels
+-- ---- the sets of a walk
 
-first_within : (m : ℕ) (xs : List ℕ) (d : ℕ) → All (λ x. x < m) xs → d < m → slice_index_or xs 0 d < m
-first_within m [] d h l = l
-first_within m (x ∷ xs) d h l = h 0 x (omega arith)
+any_map : {X Y : Type 0} (f : X → Y) (xs : List X) (k : ℕ) (d : X) → f (slice_index_or xs k d) ≡ slice_index_or (map f xs) k (f d)
+any_map f [] k d = refl
+any_map f (x ∷ xs) zero d = refl
+any_map f (x ∷ xs) (suc k) d = any_map f xs k d
 
-first_map : {X Y : Type 0} (f : X → Y) (xs : List X) (d : X) → f (slice_index_or xs 0 d) ≡ slice_index_or (map f xs) 0 (f d)
-first_map f [] d = refl
-first_map f (x ∷ xs) d = refl
+any_side : {X : Type 0} (f : ℕ → Bits) (side : X → ℕ) (xs : List X) (k : ℕ) (d : ℕ) → f (slice_index_or (map side xs) k d) ≡ slice_index_or (map (λ x. f (side x)) xs) k (f d)
+any_side f side [] k d = refl
+any_side f side (x ∷ xs) zero d = refl
+any_side f side (x ∷ xs) (suc k) d = any_side f side xs k d
+
+any_within : {X : Type 0} (m d : ℕ) (side : X → ℕ) (xs : List X) (k : ℕ) → All (λ x. side x < m) xs → d < m → slice_index_or (map side xs) k d < m
+any_within m d side [] k h l = l
+any_within m d side (x ∷ xs) zero h l = h 0 x (omega arith)
+any_within m d side (x ∷ xs) (suc k) h l = any_within m d side xs k (λ j e o. h (suc j) e (omega (arith, o))) l
+
+map_id : (xs : List ℕ) → map (λ x. x) xs ≡ xs
+map_id [] = refl
+map_id (x ∷ xs) = ap (λ l. x ∷ l) (map_id xs)
 
 pub all_popped : {X : Type 0} (P : X → Type 0) (xs ys : List X) (o : Option X) → xs ≡ ys ++ option_to_list o → All P (reverse xs) → All P (reverse ys)
 all_popped P xs ys None e h = subst (λ l. All P (reverse l)) (e ∙ append-nil ys) h
 all_popped P xs ys (Some x) e h = subst (λ l. All P (drop 1 l)) (ap (λ l. reverse l) e ∙ reverse-append ys (x ∷ [])) (All-drop P 1 (reverse xs) h)
 
-module _ (n : ℕ) (parts : List Part) where
+module _ (n : ℕ) (parts : List Part) (ns : Numbered) where
   abbrev at : ℕ → Bits
   at number = bits_at n parts number
 
-  pub level_more : (levels : List Level) (l : Level) → levels_at n parts (levels ++ l ∷ []) ≡ inside (levels_at n parts levels) (at l.behind) (at l.start)
-  level_more levels l = ap (λ xs. let r : Enclosing = record { none = replicate n false; leaves = map (λ x. at x.behind) xs; restarts = map (λ x. at x.start) xs } in r) (reverse-append levels (l ∷ []))
+  module _ (none : ℕ) (words : (place : ℕ) → word_of parts none place ≡ 0) where
+    none_here : at none ≡ replicate n false
+    none_here = none_at n parts none words
 
-  pub level_at : (side : Level → ℕ) (levels : List Level) (k : ℕ) (l : Level) (d : Bits) → k < length levels → l ≡ slice_index_or (reverse levels) k l →
-      at (side l) ≡ slice_index_or (map (λ x. at (side x)) (reverse levels)) k d
-  level_at side levels k l d low e =
-      ap (λ x. at (side x)) e ∙ sym (get_or-map (λ x. at (side x)) (reverse levels) k l d (let b = length-reverse levels in omega (arith, b, low)))
+    pub row_at : (row : Row) → at (number_of none ns row) ≡ row_of (sets_at n parts ns) row
+    row_at Empty = none_here
+    row_at Live = refl
+    row_at Marked = refl
+    row_at (Saved k) = any_map at (reverse ns.saved) k none ∙ ap (slice_index_or (map at (reverse ns.saved)) k) none_here
+    row_at (Behind k) = any_side at (λ l. l.behind) (reverse ns.levels) k none ∙ ap (slice_index_or (map (λ l. at l.behind) (reverse ns.levels)) k) none_here
+    row_at (Start k) = any_side at (λ l. l.start) (reverse ns.levels) k none ∙ ap (slice_index_or (map (λ l. at l.start) (reverse ns.levels)) k) none_here
 
-  pub level_past : (side : Level → ℕ) (levels : List Level) (k : ℕ) (d : Bits) → length levels ≤ k → d ≡ slice_index_or (map (λ x. at (side x)) (reverse levels)) k d
-  level_past side levels k d high =
-      sym (get_or_past (map (λ x. at (side x)) (reverse levels)) k d
-      (let a = length-map (reverse levels) (λ x. at (side x)) in let b = length-reverse levels in omega (arith, a, b, high)))
+  module _ (within : AreWithin parts ns) where
+    pub row_within : (none : ℕ) → none < length parts → (row : Row) → number_of none ns row < length parts
+    row_within none low Empty = low
+    row_within none low Live = within.live
+    row_within none low Marked = within.marked
+    row_within none low (Saved k) = subst (λ l. slice_index_or l k none < length parts) (map_id (reverse ns.saved)) (any_within (length parts) none (λ x. x) (reverse ns.saved) k within.saved low)
+    row_within none low (Behind k) = any_within (length parts) none (λ l. l.behind) (reverse ns.levels) k within.behind low
+    row_within none low (Start k) = any_within (length parts) none (λ l. l.start) (reverse ns.levels) k within.start low
 
-  -- the set put aside last is taken out
-  module _ (live : ℕ) (saved : List ℕ) (levels : List Level) (within : AreWithin parts live saved levels) (none last : ℕ) (low : none < length parts) (zero : at none ≡ replicate n false)
-      (rest : List ℕ) (e : last ≡ slice_index_or (reverse saved) 0 none) (r : reverse rest ≡ drop 1 (reverse saved)) where
-    pub last_within : last < length parts
-    last_within = subst (λ k. k < length parts) (sym e) (first_within (length parts) (reverse saved) none within.saved low)
+    pub turn_within : (number : ℕ) → number < length parts → AreWithin parts (record ns { live = number })
+    turn_within number l = record { live = l; marked = within.marked; saved = within.saved; behind = within.behind; start = within.start }
 
-    rest_within : All (λ k. k < length parts) (reverse rest)
-    rest_within = subst (λ l. All (λ k. k < length parts) l) (sym r) (All-drop (λ k. k < length parts) 1 (reverse saved) within.saved)
-
-    pub taken_within : AreWithin parts live rest levels
-    taken_within = record { live = within.live; saved = rest_within; behind = within.behind; start = within.start }
-
-    pub last_at : at last ≡ last_saved (sets_at n parts live saved levels)
-    last_at = ap at e ∙ first_map at (reverse saved) none ∙ ap (λ d. slice_index_or (map at (reverse saved)) 0 d) zero
-
-    pub rest_at : map at (reverse rest) ≡ drop 1 (map at (reverse saved))
-    rest_at = ap (λ l. map at l) r ∙ sym (drop-map at 1 (reverse saved))
-
-    pub exchange_within : AreWithin parts last (rest ++ live ∷ []) levels
-    exchange_within = record {
-      live = last_within;
-      saved = subst (λ l. All (λ k. k < length parts) l) (sym (reverse-append rest (live ∷ []))) (All-cons (λ k. k < length parts) live (reverse rest) within.live rest_within);
+    pub save_within : (number : ℕ) → number < length parts → AreWithin parts (record ns { saved = ns.saved ++ number ∷ [] })
+    save_within number l = record {
+      live = within.live;
+      marked = within.marked;
+      saved = subst (λ xs. All (λ k. k < length parts) xs) (sym (reverse-append ns.saved (number ∷ []))) (All-cons (λ k. k < length parts) number (reverse ns.saved) l within.saved);
       behind = within.behind;
       start = within.start;
     }
 
-    pub exchange_at : sets_at n parts last (rest ++ live ∷ []) levels ≡ exchanged (sets_at n parts live saved levels)
-    exchange_at =
-        ap (λ b. record (sets_at n parts last (rest ++ live ∷ []) levels) { live = b }) last_at ∙
-        ap (λ l. record (exchanged (sets_at n parts live saved levels)) { saved = map at l }) (reverse-append rest (live ∷ [])) ∙
-        ap (λ l. record (exchanged (sets_at n parts live saved levels)) { saved = at live ∷ l }) rest_at
-
-    pub loop_within : (l : Level) → l.behind < length parts → l.start < length parts → AreWithin parts live rest (levels ++ l ∷ [])
-    loop_within l b s = record {
+    pub forget_within : (rest : List ℕ) → reverse rest ≡ drop 1 (reverse ns.saved) → AreWithin parts (record ns { saved = rest })
+    forget_within rest e = record {
       live = within.live;
-      saved = rest_within;
-      behind = subst (λ xs. All (λ x. x.behind < length parts) xs) (sym (reverse-append levels (l ∷ []))) (All-cons (λ x. x.behind < length parts) l (reverse levels) b within.behind);
-      start = subst (λ xs. All (λ x. x.start < length parts) xs) (sym (reverse-append levels (l ∷ []))) (All-cons (λ x. x.start < length parts) l (reverse levels) s within.start);
+      marked = within.marked;
+      saved = subst (λ xs. All (λ k. k < length parts) xs) (sym e) (All-drop (λ k. k < length parts) 1 (reverse ns.saved) within.saved);
+      behind = within.behind;
+      start = within.start;
     }
 
-    pub loop_at : sets_at n parts live rest (levels ++ record { behind = last; start = live } ∷ []) ≡ in_loop (sets_at n parts live saved levels)
-    loop_at =
-        ap (λ l. let v : LiveSets = record { live = at live; saved = l; around = levels_at n parts (levels ++ record { behind = last; start = live } ∷ []) } in v) rest_at ∙
-        ap (λ a. let v : LiveSets = record { live = at live; saved = drop 1 (map at (reverse saved)); around = a } in v) (level_more levels (record { behind = last; start = live })) ∙
-        ap (λ b. let v : LiveSets = record { live = at live; saved = drop 1 (map at (reverse saved)); around = inside (levels_at n parts levels) b (at live) } in v) last_at
+    pub enter_within : (l : Level) → l.behind < length parts → l.start < length parts → AreWithin parts (record ns { levels = ns.levels ++ l ∷ [] })
+    enter_within l b s = record {
+      live = within.live;
+      marked = within.marked;
+      saved = within.saved;
+      behind = subst (λ xs. All (λ x. x.behind < length parts) xs) (sym (reverse-append ns.levels (l ∷ []))) (All-cons (λ x. x.behind < length parts) l (reverse ns.levels) b within.behind);
+      start = subst (λ xs. All (λ x. x.start < length parts) xs) (sym (reverse-append ns.levels (l ∷ []))) (All-cons (λ x. x.start < length parts) l (reverse ns.levels) s within.start);
+    }
+
+  pub save_at : (number : ℕ) (bits : Bits) → at number ≡ bits → sets_at n parts (record ns { saved = ns.saved ++ number ∷ [] }) ≡ with_saved (sets_at n parts ns) bits
+  save_at number bits e = ap (λ l. let v : LiveSets = record (sets_at n parts ns) { saved = map at l } in v) (reverse-append ns.saved (number ∷ [])) ∙ ap (with_saved (sets_at n parts ns)) e
+
+  pub forget_at : (rest : List ℕ) → reverse rest ≡ drop 1 (reverse ns.saved) → sets_at n parts (record ns { saved = rest }) ≡ forgotten (sets_at n parts ns)
+  forget_at rest e = ap (λ l. let v : LiveSets = record (sets_at n parts ns) { saved = l } in v) (ap (λ l. map at l) e ∙ sym (drop-map at 1 (reverse ns.saved)))
+
+  pub enter_at : (l : Level) (behind start : Bits) → at l.behind ≡ behind → at l.start ≡ start → sets_at n parts (record ns { levels = ns.levels ++ l ∷ [] }) ≡ entered (sets_at n parts ns) behind start
+  enter_at l behind start e f =
+      ap (λ xs. let v : LiveSets = record (sets_at n parts ns) { around = record { none = replicate n false; leaves = map (λ x. at x.behind) xs; restarts = map (λ x. at x.start) xs } } in v) (reverse-append ns.levels (l ∷ [])) ∙
+      ap (λ b. entered (sets_at n parts ns) b (at l.start)) e ∙ ap (entered (sets_at n parts ns) behind) f

@@ -1,15 +1,27 @@
 // What is live where a walk stands, and sets that the walk comes back to. All of them share their parts, so to keep one
-// costs nothing, and to change one costs a way to a word.
+// costs nothing, and to change one costs the way to a word.
 
-ghost use Rattle.std.specs.Prelude.{◌≡◌, ◌<◌, ◌≤◌, IfOk, OnOk, MatchOption, false, true, [], drop, length, replicate, reverse, slice_index_or, slice_set};
+ghost use Rattle.std.specs.Prelude.{ℕ, ◌≡◌, ◌<◌, ◌≤◌, ◌/◌, IfOk, OnOk, MatchOption, false, true, [], drop, length, replicate, reverse, slice_index_or, slice_set};
 ghost use Rattle.mv_ir.specs.Live.{mark_at};
-ghost use Rattle.mv_regalloc.specs.Rows.{put_bit, with_temps};
-ghost use Rattle.mv_regalloc.specs.Shared.{exchanged, in_block, in_loop, left, with_last, with_live, with_saved};
+ghost use Rattle.mv_regalloc.specs.Rows.{either_bits, put_bit, with_temps};
+ghost use Rattle.mv_regalloc.specs.Shared.{entered, forgotten, held, left, number_of, numbered, row_of, with_live, with_saved};
 
 use crate::parts::Parts;
 use crate::words::{cleared, has_bit, set};
 use std::alloc::{AllocError, Global};
 use std::marker::Model;
+
+/// One of the sets of a walk: none, what is live, the row that was marked last, one that was put aside, where 0 is the
+/// last one, and what is live behind a level or at its start, where 0 is the innermost.
+#[derive(Clone, Copy)]
+pub enum Row {
+    Empty,
+    Live,
+    Marked,
+    Saved(u32),
+    Behind(u32),
+    Start(u32),
+}
 
 /// What is live behind a loop or block, and at its start where it is a loop, as numbers of parts.
 #[derive(Clone, Copy)]
@@ -18,24 +30,31 @@ pub struct Level {
     pub start: u32,
 }
 
-/// What is live, sets put aside, and the levels around some code, of which the innermost is the last one entered.
+/// The sets of a walk, as numbers of parts.
+#[derive(Drop)]
+pub struct Numbers {
+    pub live: u32,
+    pub marked: u32,
+    pub saved: Vec<u32>,
+    pub levels: Vec<Level>,
+}
+
+/// What is live, the row that was marked last, sets put aside, and the levels around some code.
 #[derive(Drop)]
 pub struct Liveness {
     parts: Parts,
     temps: usize,
-    live: u32,
-    saved: Vec<u32>,
-    levels: Vec<Level>,
+    numbers: Numbers,
 }
 
 impl Model for Liveness {
-    ghost use Rattle.mv_regalloc.specs.Shared.{AreWithin, LiveSets, sets_at};
+    ghost use Rattle.mv_regalloc.specs.Shared.{AreWithin, LiveSets, numbered, sets_at};
 
     ghost Value = { LiveSets };
 
-    ghost view = { λ s. sets_at s.temps s.parts s.live s.saved.items s.levels.items };
+    ghost view = { λ s. sets_at s.temps s.parts (numbered s.numbers) };
 
-    ghost invariant = { λ s. AreWithin s.parts s.live s.saved.items s.levels.items };
+    ghost invariant = { λ s. AreWithin s.parts (numbered s.numbers) };
 }
 
 // The level so many levels out.
@@ -52,12 +71,45 @@ fn enclosing(levels: &[Level], n: u32) -> Option<Level>
     }
 }
 
-// The number that was put aside last, which is no longer, or another one.
-fn take_last(saved: &mut Vec<u32>, other: u32) -> u32
-    ensures last { result ≡ slice_index_or (reverse saved.old.items) 0 other }
-    ensures saved { reverse saved.new.items ≡ drop 1 (reverse saved.old.items) }
+// The number so many numbers before the last one, or another one.
+fn from_last(saved: &[u32], n: u32, other: u32) -> u32
+    ensures { result ≡ slice_index_or (reverse saved.now) n other }
 {
-    saved.pop().unwrap_or(other)
+    let count = saved.len();
+    let n = n as usize;
+    if n < count {
+        saved[count - 1 - n]
+    } else {
+        other
+    }
+}
+
+fn drop_last(saved: &mut Vec<u32>)
+    ensures { reverse saved.new.items ≡ drop 1 (reverse saved.old.items) }
+{
+    saved.pop();
+}
+
+impl Numbers {
+    // The number of a set, which is that of no temporaries where there is no such set.
+    fn of(&self, row: Row, none: u32) -> u32
+        ensures { result ≡ number_of none (numbered self.now) row }
+    {
+        match row {
+            Row::Empty => none,
+            Row::Live => self.live,
+            Row::Marked => self.marked,
+            Row::Saved(n) => from_last(self.saved.as_slice(), n, none),
+            Row::Behind(n) => match enclosing(self.levels.as_slice(), n) {
+                Some(level) => level.behind,
+                None => none,
+            },
+            Row::Start(n) => match enclosing(self.levels.as_slice(), n) {
+                Some(level) => level.start,
+                None => none,
+            },
+        }
+    }
 }
 
 impl Liveness {
@@ -69,13 +121,17 @@ impl Liveness {
         ensures restarts { IfOk result (λ liveness. liveness.around.restarts ≡ []) }
     {
         let parts = Parts::new(alloc)?;
-        let live = parts.none();
+        let none = parts.none();
+        let numbers = Numbers {
+            live: none,
+            marked: none,
+            saved: Vec::new(alloc),
+            levels: Vec::new(alloc),
+        };
         Ok(Liveness {
             parts,
             temps,
-            live,
-            saved: Vec::new(alloc),
-            levels: Vec::new(alloc),
+            numbers,
         })
     }
 
@@ -84,15 +140,16 @@ impl Liveness {
         ensures { result ≡ mark_at self.now.live temp }
     {
         (temp as usize) < self.temps
-            && has_bit(self.parts.word(self.live, temp / 64), temp as usize)
+            && has_bit(self.parts.word(self.numbers.live, temp / 64), temp as usize)
     }
 
     /// A temporary past the end has no bit.
     pub fn insert(&mut self, temp: u32) -> Result<(), AllocError>
         ensures { OnOk result (self.new ≡ with_live self.old (slice_set self.old.live temp true)) }
     {
-        let word = self.parts.word(self.live, temp / 64);
-        self.live = self.parts.with_word(self.live, temp / 64, set(word, temp))?;
+        let live = self.numbers.live;
+        let word = set(self.parts.word(live, temp / 64), temp);
+        self.numbers.live = self.parts.with_word(live, temp / 64, word)?;
         Ok(())
     }
 
@@ -108,10 +165,9 @@ impl Liveness {
     pub fn remove(&mut self, temp: u32) -> Result<(), AllocError>
         ensures { OnOk result (self.new ≡ with_live self.old (slice_set self.old.live temp false)) }
     {
-        let word = self.parts.word(self.live, temp / 64);
-        self.live = self
-            .parts
-            .with_word(self.live, temp / 64, cleared(word, temp))?;
+        let live = self.numbers.live;
+        let word = cleared(self.parts.word(live, temp / 64), temp);
+        self.numbers.live = self.parts.with_word(live, temp / 64, word)?;
         Ok(())
     }
 
@@ -124,50 +180,56 @@ impl Liveness {
         }
     }
 
-    /// Puts what is live aside.
-    pub fn save(&mut self) -> Result<(), AllocError>
-        ensures { OnOk result (self.new ≡ with_saved self.old) }
+    /// Goes on where a set is live.
+    pub fn turn(&mut self, row: Row)
+        ensures { self.new ≡ with_live self.old (row_of self.old row) }
     {
-        self.saved.push(self.live)?;
+        let none = self.parts.none();
+        self.numbers.live = self.numbers.of(row, none);
+    }
+
+    /// Joins a set to what is live.
+    pub fn join(&mut self, row: Row) -> Result<(), AllocError>
+        ensures { OnOk result (self.new ≡ with_live self.old (either_bits self.old.live (row_of self.old row))) }
+    {
+        let none = self.parts.none();
+        let other = self.numbers.of(row, none);
+        self.numbers.live = self.parts.joined(self.numbers.live, other)?;
         Ok(())
     }
 
-    /// Takes the set that was put aside last in place of what is live, which is put aside.
-    pub fn exchange(&mut self) -> Result<(), AllocError>
-        ensures { OnOk result (self.new ≡ exchanged self.old) }
+    /// Takes what is live as the row that was marked last.
+    pub fn hold(&mut self)
+        ensures { self.new ≡ held self.old }
     {
-        let last = take_last(&mut self.saved, self.parts.none());
-        self.saved.push(self.live)?;
-        self.live = last;
+        self.numbers.marked = self.numbers.live;
+    }
+
+    /// Puts a set aside.
+    pub fn save(&mut self, row: Row) -> Result<(), AllocError>
+        ensures { OnOk result (self.new ≡ with_saved self.old (row_of self.old row)) }
+    {
+        let none = self.parts.none();
+        let number = self.numbers.of(row, none);
+        self.numbers.saved.push(number)?;
         Ok(())
     }
 
-    /// Joins the set that was put aside last.
-    pub fn join_last(&mut self) -> Result<(), AllocError>
-        ensures { OnOk result (self.new ≡ with_last self.old) }
+    /// Forgets the set that was put aside last.
+    pub fn forget(&mut self)
+        ensures { self.new ≡ forgotten self.old }
     {
-        let last = take_last(&mut self.saved, self.parts.none());
-        self.live = self.parts.joined(self.live, last)?;
-        Ok(())
+        drop_last(&mut self.numbers.saved);
     }
 
-    /// Into a block, from what is live behind it.
-    pub fn enter_block(&mut self) -> Result<(), AllocError>
-        ensures { OnOk result (self.new ≡ in_block self.old) }
+    /// Into a loop or block, from what is live behind it and at its start.
+    pub fn enter(&mut self, behind: Row, start: Row) -> Result<(), AllocError>
+        ensures { OnOk result (self.new ≡ entered self.old (row_of self.old behind) (row_of self.old start)) }
     {
-        let behind = self.live;
-        let start = self.parts.none();
-        self.levels.push(Level { behind, start })?;
-        Ok(())
-    }
-
-    /// Into a loop, from what is live at its start, where what is live behind it was put aside last.
-    pub fn enter_loop(&mut self) -> Result<(), AllocError>
-        ensures { OnOk result (self.new ≡ in_loop self.old) }
-    {
-        let behind = take_last(&mut self.saved, self.parts.none());
-        let start = self.live;
-        self.levels.push(Level { behind, start })?;
+        let none = self.parts.none();
+        let behind = self.numbers.of(behind, none);
+        let start = self.numbers.of(start, none);
+        self.numbers.levels.push(Level { behind, start })?;
         Ok(())
     }
 
@@ -175,33 +237,6 @@ impl Liveness {
     pub fn leave(&mut self)
         ensures { self.new ≡ left self.old }
     {
-        self.levels.pop();
-    }
-
-    /// Goes on where nothing is live.
-    pub fn turn_none(&mut self)
-        ensures { self.new ≡ with_live self.old self.old.around.none }
-    {
-        self.live = self.parts.none();
-    }
-
-    /// Goes on with what is live behind a level, which is nothing where there is no such level.
-    pub fn turn_behind(&mut self, n: u32)
-        ensures { self.new ≡ with_live self.old (slice_index_or self.old.around.leaves n self.old.around.none) }
-    {
-        self.live = match enclosing(self.levels.as_slice(), n) {
-            Some(level) => level.behind,
-            None => self.parts.none(),
-        };
-    }
-
-    /// Goes on with what is live at the start of a level, which is nothing where there is no such level.
-    pub fn turn_start(&mut self, n: u32)
-        ensures { self.new ≡ with_live self.old (slice_index_or self.old.around.restarts n self.old.around.none) }
-    {
-        self.live = match enclosing(self.levels.as_slice(), n) {
-            Some(level) => level.start,
-            None => self.parts.none(),
-        };
+        self.numbers.levels.pop();
     }
 }

@@ -9,10 +9,10 @@ pub returns-then-temp-self : goal.returns-then-temp-self
 returns-then-temp-self c =
     let s = c.self.inside in
     let temp = c.args.temp in
-    c.has_bit.ensures ∙ ap (λ w. in_word w temp) c.word.ensures ∙ sym (bit_in s.temps s.parts s.live temp c.if-temp-self.true) ∙ ap (λ v. mark_at v.live temp) c.self.view_is
+    c.has_bit.ensures ∙ ap (λ w. in_word w temp) c.word.ensures ∙ sym (bit_in s.temps s.parts s.numbers.live temp c.if-temp-self.true) ∙ ap (λ v. mark_at v.live temp) c.self.view_is
 
 pub returns-else-temp-self : goal.returns-else-temp-self
 returns-else-temp-self c =
     let s = c.self.inside in
     let temp = c.args.temp in
-    le-ltb temp s.temps c.if-temp-self.false ∙ sym (bit_past s.temps s.parts s.live temp c.if-temp-self.false) ∙ ap (λ v. mark_at v.live temp) c.self.view_is
+    le-ltb temp s.temps c.if-temp-self.false ∙ sym (bit_past s.temps s.parts s.numbers.live temp c.if-temp-self.false) ∙ ap (λ v. mark_at v.live temp) c.self.view_is
