@@ -1,15 +1,20 @@
 -- Words by their places in parts: one step of the way to a word, and what a new part changes.
-use Rattle.std.proofs.Common.{arith, ◌≡◌, ℕ, zero, suc, ◌-◌, ◌/◌, ◌%◌, ◌<◌, ◌≤◌, true, false, Bool, cond, eqb, List, [], ◌∷◌, ◌++◌, length, refl, sym, ap, ◌∙◌, ◌⊎◌, inl, inr, bit_or}
+use Rattle.std.proofs.Common.{arith, ◌≡◌, ℕ, zero, suc, ◌-◌, ◌/◌, ◌%◌, ◌<◌, ◌≤◌, true, false, Bool, cond, eqb, not, List, [], ◌∷◌, ◌++◌, length, refl, sym, ap, ◌∙◌, ◌⊎◌, inl, inr, bit_or, ◌*◌, ◌||◌, ◌+◌, rules}
 use Rattle.std.proofs.lemmas.List.{get_or_append_left, get_or_past, length-append}
 use Rattle.std.proofs.Math.Seq.{get_or-append_seam}
 use Rattle.std.proofs.lemmas.Bool.{cases_eq, cases_lt, eq-eqb, ne_eqb}
-use Rattle.std.specs.Prelude.{Result, IfOk}
+use Rattle.std.specs.Prelude.{Result, Ok, Err, IfOk, OnErr}
 use Rattle.std.proofs.lemmas.Result.{IfOk-weaker}
 use Rattle.mv_regalloc.specs.declared.parts.Part.{Part}
+use Rattle.mv_regalloc.specs.Scan.{has}
 use Rattle.mv_regalloc.specs.Parts.{no_part, part_at, further, word_within, word_of, AreParts, Keeps}
 
 pub if_ok_by : {T E : Type 0} {P Q : T → Type 0} (r : Result T E) → ((x : T) → P x → Q x) → IfOk r P → IfOk r Q
 if_ok_by {P} {Q} r h k = IfOk-weaker r P Q h k
+
+pub on_err_of : {T E P : Type 0} (r : Result T E) → P → OnErr r P
+on_err_of (Ok x) p = tt
+on_err_of (Err e) p = p
 
 -- ---- the way to a word
 
@@ -212,3 +217,68 @@ module _ (a b c d : List Part) (first : Keeps a b) (second : Keeps b c) (third :
       by false =
           third.words even r m ∙ k r ∙ ap (λ w. bit_or w (word_of b (part_at a other).even r)) (first.words (part_at a one).even r u) ∙
           ap (bit_or (word_of a (part_at a one).even r)) (first.words (part_at a other).even r v)
+
+-- ---- where two differ
+
+or_first : (a b : Bool) → (a || b) ≡ false → a ≡ false
+or_first false b h = refl
+or_first true b h = h
+
+or_second : (a b : Bool) → (a || b) ≡ false → b ≡ false
+or_second false b h = h
+or_second true b h = let d : true ≡ false = h in absurd cc
+
+pub listed_before : (p : ℕ) (xs ys : List ℕ) → has p (xs ++ ys) ≡ false → has p xs ≡ false
+listed_before p [] ys h = refl
+listed_before p (x ∷ xs) ys h =
+    let later = listed_before p xs ys (or_second (eqb x p) (has p (xs ++ ys)) h) in
+    ap (λ c. c || has p xs) (or_first (eqb x p) (has p (xs ++ ys)) h) ∙ later
+
+pub listed_last : (p : ℕ) (xs : List ℕ) → has p (xs ++ p ∷ []) ≡ false → true ≡ false
+listed_last p [] h = sym (eq-eqb p p refl) ∙ or_first (eqb p p) false h
+listed_last p (x ∷ xs) h = listed_last p xs (or_second (eqb x p) (has p (xs ++ p ∷ [])) h)
+
+-- a place in a part, and in the two that it leads to
+module _ (parts : List Part) (one other first step : ℕ) (listed : ℕ → Bool)
+    (here : listed first ≡ false → (part_at parts one).word ≡ (part_at parts other).word)
+    (odd : (q : ℕ) → listed (first + step + step * 2 * q) ≡ false → word_of parts (part_at parts one).odd q ≡ word_of parts (part_at parts other).odd q)
+    (even : (q : ℕ) → listed (first + step * 2 + step * 2 * q) ≡ false → word_of parts (part_at parts one).even q ≡ word_of parts (part_at parts other).even q) where
+  pub apart_words : (q : ℕ) → listed (first + step * q) ≡ false → word_of parts one q ≡ word_of parts other q
+  apart_words zero h = word_here parts one ∙ here (ap listed (let e : first ≡ first + step * 0 = omega arith in e) ∙ h) ∙ sym (word_here parts other)
+  apart_words (suc n) h = word_further parts one p (omega arith) ∙ by (cases_eq (p % 2) 1) ∙ sym (word_further parts other p (omega arith))
+    where
+      p : ℕ
+      p = suc n
+
+      r : ℕ
+      r = (p - 1) / 2
+
+      at_odd : p % 2 ≡ 1 → first + step + step * 2 * r ≡ first + step * p
+      at_odd k = let e : 2 * r + 1 ≡ p = omega (arith, k) in let m : step * (2 * r + 1) ≡ step * p = ap (λ v. step * v) e in omega (arith, m)
+
+      at_even : (p % 2 ≡ 1 → ⊥) → first + step * 2 + step * 2 * r ≡ first + step * p
+      at_even k = let e : 2 * r + 2 ≡ p = omega (arith, k) in let m : step * (2 * r + 2) ≡ step * p = ap (λ v. step * v) e in omega (arith, m)
+
+      by : (p % 2 ≡ 1) ⊎ (p % 2 ≡ 1 → ⊥) → word_of parts (further (part_at parts one) p) r ≡ word_of parts (further (part_at parts other) p) r
+      by (inl k) =
+          ap (λ c. word_of parts (cond c (part_at parts one).odd (part_at parts one).even) r) (eq-eqb (p % 2) 1 k) ∙ odd r (ap listed (at_odd k) ∙ h) ∙
+          ap (λ c. word_of parts (cond c (part_at parts other).odd (part_at parts other).even) r) (sym (eq-eqb (p % 2) 1 k))
+      by (inr k) =
+          ap (λ c. word_of parts (cond c (part_at parts one).odd (part_at parts one).even) r) (ne_eqb (p % 2) 1 k) ∙ even r (ap listed (at_even k) ∙ h) ∙
+          ap (λ c. word_of parts (cond c (part_at parts other).odd (part_at parts other).even) r) (sym (ne_eqb (p % 2) 1 k))
+
+pub same_if : (a b : ℕ) → not (eqb a b) ≡ false → a ≡ b
+same_if a b h = by (cases_eq a b)
+  where
+    by : (a ≡ b) ⊎ (a ≡ b → ⊥) → a ≡ b
+    by (inl e) = e
+    by (inr n) = let d : true ≡ false = sym (ap not (ne_eqb a b n)) ∙ h in absurd cc
+
+module _ (parts : List Part) (are : AreParts parts) where
+  pub odd_low : (number : ℕ) → (part_at parts number).odd ≤ number
+  odd_low zero = let e = ap (λ q. q.odd) are.first in omega (arith, e)
+  odd_low (suc n) = let l = are.odd (suc n) (omega arith) in omega (arith, l)
+
+  pub even_low : (number : ℕ) → (part_at parts number).even ≤ number
+  even_low zero = let e = ap (λ q. q.even) are.first in omega (arith, e)
+  even_low (suc n) = let l = are.even (suc n) (omega arith) in omega (arith, l)

@@ -43,6 +43,22 @@ module _ (n : ℕ) where
     pub bit_past : (t : ℕ) → n ≤ t → mark_at (bits_at n parts number) t ≡ false
     bit_past t l = past_bit (bits_at n parts number) t (let a = tests_long (λ t. in_word (word_of parts number (t / 64)) t) in omega (arith, a, l))
 
+    -- also past the end
+    pub bit_below : (t : ℕ) → mark_at (bits_at n parts number) t ≡ (in_word (word_of parts number (t / 64)) t && ltb t n)
+    bit_below t = by (cases_lt t n)
+      where
+        on : (c : Bool) → c ≡ (c && true)
+        on true = refl
+        on false = refl
+
+        off : (c : Bool) → false ≡ (c && false)
+        off true = refl
+        off false = refl
+
+        by : (t < n) ⊎ (n ≤ t) → mark_at (bits_at n parts number) t ≡ (in_word (word_of parts number (t / 64)) t && ltb t n)
+        by (inl l) = bit_in t l ∙ on (in_word (word_of parts number (t / 64)) t) ∙ ap (λ c. in_word (word_of parts number (t / 64)) t && c) (sym (lt-ltb t n l))
+        by (inr l) = bit_past t l ∙ off (in_word (word_of parts number (t / 64)) t) ∙ ap (λ c. in_word (word_of parts number (t / 64)) t && c) (sym (le-ltb t n l))
+
     pub none_at : ((place : ℕ) → word_of parts number place ≡ 0) → bits_at n parts number ≡ replicate n false
     none_at h =
         tests_as (λ t. in_word (word_of parts number (t / 64)) t) (replicate n false) (length-replicate n false)
@@ -92,6 +108,14 @@ module _ (n : ℕ) (a b : List Part) (keeps : Keeps a b) where
 
   all_more : {X : Type 0} (side : X → ℕ) (xs : List X) → All (λ x. side x < length a) xs → All (λ x. side x < length b) xs
   all_more side xs h = λ k d l. let m = h k d l in let long = keeps.long in omega (arith, m, long)
+
+  pub same_kept : (ns : Numbered) → AreWithin a ns → sets_at n b ns ≡ sets_at n a ns
+  same_kept ns within = λ i. record {
+    live = kept_at ns.live within.live i;
+    marked = kept_at ns.marked within.marked i;
+    saved = all_kept (λ x. x) (reverse ns.saved) within.saved i;
+    around = record { none = replicate n false; leaves = all_kept (λ x. x.behind) (reverse ns.levels) within.behind i; restarts = all_kept (λ x. x.start) (reverse ns.levels) within.start i };
+  }
 
   module _ (ns : Numbered) (within : AreWithin a ns) (number : ℕ) where
     pub within_kept : number < length b → AreWithin b (record ns { live = number })

@@ -1,13 +1,15 @@
 // What is live where a walk stands, and sets that the walk comes back to. All of them share their parts, so to keep one
 // costs nothing, and to change one costs the way to a word.
 
-ghost use Rattle.std.specs.Prelude.{ℕ, ◌≡◌, ◌<◌, ◌≤◌, ◌/◌, IfOk, OnOk, MatchOption, false, true, [], drop, length, replicate, reverse, slice_index_or, slice_set};
+ghost use Rattle.std.specs.Prelude.{ℕ, ◌≡◌, ◌<◌, ◌≤◌, ◌/◌, IfOk, OnErr, OnOk, MatchOption, false, true, [], drop, length, replicate, reverse, slice_index_or, slice_set};
 ghost use Rattle.mv_ir.specs.Live.{mark_at};
+ghost use Rattle.mv_regalloc.specs.LiveBits.{in_word};
+ghost use Rattle.mv_regalloc.specs.Scan.{has};
 ghost use Rattle.mv_regalloc.specs.Rows.{either_bits, put_bit, with_temps};
 ghost use Rattle.mv_regalloc.specs.Shared.{entered, forgotten, held, left, number_of, numbered, row_of, with_live, with_saved};
 
 use crate::parts::Parts;
-use crate::words::{cleared, has_bit, set};
+use crate::words::{below, cleared, has_bit, set};
 use std::alloc::{AllocError, Global};
 use std::marker::Model;
 
@@ -143,9 +145,29 @@ impl Liveness {
             && has_bit(self.parts.word(self.numbers.live, temp / 64), temp as usize)
     }
 
-    /// A temporary past the end has no bit.
+    /// The bits of 64 temporaries in a set, from 64 times the place on.
+    pub fn word(&self, row: Row, place: u32) -> u64
+        ensures { (t : ℕ) → t / 64 ≡ place → in_word result t ≡ mark_at (row_of self.now row) t }
+    {
+        let number = self.numbers.of(row, self.parts.none());
+        below(self.parts.word(number, place), place as usize, self.temps)
+    }
+
+    /// The places of 64 temporaries where two sets may differ.
+    pub fn apart(&self, alloc: Global, one: Row, other: Row) -> Result<Vec<u32>, AllocError>
+        ensures { IfOk result (λ places.
+            (t : ℕ) → has (t / 64) places.items ≡ false → mark_at (row_of self.now one) t ≡ mark_at (row_of self.now other) t) }
+    {
+        let none = self.parts.none();
+        let one = self.numbers.of(one, none);
+        let other = self.numbers.of(other, none);
+        self.parts.apart(alloc, one, other)
+    }
+
+    /// A temporary past the end has no bit. Where memory lacks, the sets are as they were.
     pub fn insert(&mut self, temp: u32) -> Result<(), AllocError>
-        ensures { OnOk result (self.new ≡ with_live self.old (slice_set self.old.live temp true)) }
+        ensures ok { OnOk result (self.new ≡ with_live self.old (slice_set self.old.live temp true)) }
+        ensures err { OnErr result (self.new ≡ self.old) }
     {
         let live = self.numbers.live;
         let word = set(self.parts.word(live, temp / 64), temp);
@@ -163,7 +185,8 @@ impl Liveness {
     }
 
     pub fn remove(&mut self, temp: u32) -> Result<(), AllocError>
-        ensures { OnOk result (self.new ≡ with_live self.old (slice_set self.old.live temp false)) }
+        ensures ok { OnOk result (self.new ≡ with_live self.old (slice_set self.old.live temp false)) }
+        ensures err { OnErr result (self.new ≡ self.old) }
     {
         let live = self.numbers.live;
         let word = cleared(self.parts.word(live, temp / 64), temp);
@@ -190,7 +213,8 @@ impl Liveness {
 
     /// Joins a set to what is live.
     pub fn join(&mut self, row: Row) -> Result<(), AllocError>
-        ensures { OnOk result (self.new ≡ with_live self.old (either_bits self.old.live (row_of self.old row))) }
+        ensures ok { OnOk result (self.new ≡ with_live self.old (either_bits self.old.live (row_of self.old row))) }
+        ensures err { OnErr result (self.new ≡ self.old) }
     {
         let none = self.parts.none();
         let other = self.numbers.of(row, none);
@@ -207,7 +231,8 @@ impl Liveness {
 
     /// Puts a set aside.
     pub fn save(&mut self, row: Row) -> Result<(), AllocError>
-        ensures { OnOk result (self.new ≡ with_saved self.old (row_of self.old row)) }
+        ensures ok { OnOk result (self.new ≡ with_saved self.old (row_of self.old row)) }
+        ensures err { OnErr result (self.new ≡ self.old) }
     {
         let none = self.parts.none();
         let number = self.numbers.of(row, none);
@@ -224,7 +249,8 @@ impl Liveness {
 
     /// Into a loop or block, from what is live behind it and at its start.
     pub fn enter(&mut self, behind: Row, start: Row) -> Result<(), AllocError>
-        ensures { OnOk result (self.new ≡ entered self.old (row_of self.old behind) (row_of self.old start)) }
+        ensures ok { OnOk result (self.new ≡ entered self.old (row_of self.old behind) (row_of self.old start)) }
+        ensures err { OnErr result (self.new ≡ self.old) }
     {
         let none = self.parts.none();
         let behind = self.numbers.of(behind, none);

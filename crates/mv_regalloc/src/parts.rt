@@ -1,6 +1,7 @@
 // Words by their places, in parts that are shared: a set of words is the number of a part, so a copy costs nothing.
 
-ghost use Rattle.std.specs.Prelude.{ℕ, ◌≡◌, ◌<◌, ◌%◌, bit_or, cond, eqb, length, IfOk};
+ghost use Rattle.std.specs.Prelude.{ℕ, ◌≡◌, ◌<◌, ◌≤◌, ◌+◌, ◌*◌, ◌%◌, bit_or, cond, eqb, false, length, IfOk, OnOk};
+ghost use Rattle.mv_regalloc.specs.Scan.{has};
 ghost use Rattle.mv_regalloc.specs.Parts.{Keeps, further, part_at, word_of};
 
 use std::alloc::{AllocError, Global};
@@ -34,6 +35,33 @@ impl Model for Parts {
     ghost invariant = { λ p. AreParts p.parts.items };
 }
 
+// Places from a first one on: place n of a part stands for the first one and n steps.
+#[derive(Clone, Copy)]
+struct Places {
+    first: u32,
+    step: u32,
+}
+
+impl Places {
+    // Those that the odd places of a part stand for, if their numbers fit.
+    fn odd(self) -> Result<Places, AllocError>
+        ensures { IfOk result (λ places. (places.first ≡ self.first + self.step) × (places.step ≡ self.step * 2)) }
+    {
+        let first = self.first.checked_add(self.step).ok_or(AllocError)?;
+        let step = self.step.checked_mul(2).ok_or(AllocError)?;
+        Ok(Places { first, step })
+    }
+
+    // Those that its even places from 2 on stand for.
+    fn even(self) -> Result<Places, AllocError>
+        ensures { IfOk result (λ places. (places.first ≡ self.first + self.step * 2) × (places.step ≡ self.step * 2)) }
+    {
+        let step = self.step.checked_mul(2).ok_or(AllocError)?;
+        let first = self.first.checked_add(step).ok_or(AllocError)?;
+        Ok(Places { first, step })
+    }
+}
+
 impl Part {
     // A part without words.
     fn none() -> Part
@@ -65,6 +93,17 @@ impl Part {
     }
 }
 
+// Lists a place, or not.
+fn list_if(places: &mut Vec<u32>, listed: bool, place: u32) -> Result<(), AllocError>
+    ensures kept { (p : ℕ) → has p places.new.items ≡ false → has p places.old.items ≡ false }
+    ensures listed { OnOk result (has place places.new.items ≡ false → listed ≡ false) }
+{
+    if listed {
+        places.push(place)?;
+    }
+    Ok(())
+}
+
 impl Parts {
     /// The part without words alone.
     pub fn new(alloc: Global) -> Result<Parts, AllocError> {
@@ -78,6 +117,8 @@ impl Parts {
         ensures part { result ≡ part_at self.now number }
         ensures odd { 0 < number → result.odd < number }
         ensures even { 0 < number → result.even < number }
+        ensures odd_low { result.odd ≤ number }
+        ensures even_low { result.even ≤ number }
         ensures odd_within { result.odd < length self.now }
         ensures even_within { result.even < length self.now }
     {
@@ -186,5 +227,40 @@ impl Parts {
         let even = self.joined(first.even, second.even)?;
         let word = first.word | second.word;
         self.made_as(Part { word, odd, even }, one, other)
+    }
+
+    // Lists the places where two may differ: those whose words differ.
+    fn list_apart(
+        &self,
+        places: &mut Vec<u32>,
+        one: u32,
+        other: u32,
+        at: Places,
+    ) -> Result<(), AllocError>
+        ensures kept { (p : ℕ) → has p places.new.items ≡ false → has p places.old.items ≡ false }
+        ensures apart { OnOk result (
+            (q : ℕ) → has (at.first + at.step * q) places.new.items ≡ false → word_of self.now one q ≡ word_of self.now other q
+            ) }
+    {
+        if one == other {
+            return Ok(());
+        }
+        let first = self.part(one);
+        let second = self.part(other);
+        list_if(places, first.word != second.word, at.first)?;
+        let odd = at.odd()?;
+        self.list_apart(places, first.odd, second.odd, odd)?;
+        let even = at.even()?;
+        self.list_apart(places, first.even, second.even, even)
+    }
+
+    /// The places where two may differ.
+    pub fn apart(&self, alloc: Global, one: u32, other: u32) -> Result<Vec<u32>, AllocError>
+        ensures { IfOk result (λ places.
+            (q : ℕ) → has q places.items ≡ false → word_of self.now one q ≡ word_of self.now other q) }
+    {
+        let mut places = Vec::new(alloc);
+        self.list_apart(&mut places, one, other, Places { first: 0, step: 1 })?;
+        Ok(places)
     }
 }

@@ -12,8 +12,8 @@ invariant_of-self-2 c =
     (enter_within s.temps s.parts ns c.self.invariant (record { behind = c.of-behind.result; start = c.of-start.result })
     (subst (λ k. k < length s.parts) (sym c.of-behind.ensures) (within c.args.behind)) (subst (λ k. k < length s.parts) (sym c.of-start.ensures) (within c.args.start)))
 
-pub returns : goal.returns
-returns c =
+pub returns-clause-ok : goal.returns-clause-ok
+returns-clause-ok c =
     let s = c.self.inside in
     let ns = numbered s.numbers in
     let old = sets_at s.temps s.parts ns in

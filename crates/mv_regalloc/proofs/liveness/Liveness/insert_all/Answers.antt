@@ -9,4 +9,4 @@ loop-temp-preserved c =
     let temps = c.args.temps.now in
     let i = c.loop-temp.temp-index in
     let first = c.args.self.now in
-    c.in_ok-insert.ensures ∙ ap (λ s. with_live s (slice_set s.live (slice_index temps i) true)) c.loop-temp.invariant ∙ ap (with_live first) (sym (temps_more temps i 0 first.live c.loop-temp-test.true))
+    c.in_ok-insert.ensures.ok ∙ ap (λ s. with_live s (slice_set s.live (slice_index temps i) true)) c.loop-temp.invariant ∙ ap (with_live first) (sym (temps_more temps i 0 first.live c.loop-temp-test.true))

@@ -11,8 +11,8 @@ invariant_of-self-2 c =
     (save_within s.temps s.parts ns c.self.invariant c.of-number.result
     (subst (λ k. k < length s.parts) (sym c.of-number.ensures) (row_within s.temps s.parts ns c.self.invariant c.none-none.result c.none-none.ensures.within c.args.row)))
 
-pub returns : goal.returns
-returns c =
+pub returns-clause-ok : goal.returns-clause-ok
+returns-clause-ok c =
     let s = c.self.inside in
     let ns = numbered s.numbers in
     ap (λ l. sets_at s.temps s.parts (record ns { saved = l })) c.in_ok-push.ensures.items ∙
