@@ -10,6 +10,7 @@ use Rattle.mv_ast.specs.declared.unit.Shape.TheOpen as shape
 use Rattle.mv_ast.specs.Plans.{is_among}
 use Rattle.mv_scope.specs.declared.scope.Scope.{Scope}
 use Rattle.mv_scope.specs.Known.{is_named}
+use Rattle.mv_judge.specs.RuleNumbers as rules
 use Rattle.mv_judge.specs.declared.constant.Constant.{Constant}
 use Rattle.mv_judge.specs.Judged.{Judged, Good, Broken, and_then}
 use Rattle.mv_judge.specs.NeededConstants.{constant_judgement}
@@ -26,9 +27,9 @@ abbrev pub fits : Option Kind → Constant → Bool
 fits None c = true
 fits (Some k) c = is_value_of k c
 
--- rule 16: the value isn't one of the switch's type, or stands in the domain already
+-- domains: the value isn't one of the switch's type, or stands in the domain already
 unfoldable pub with_value : Place → Option Kind → List ℕ → Constant → Judged (List ℕ)
-with_value place k values c = if not (fits k c) || is_among c.value values then Broken place 16 else Good (values ++ c.value ∷ [])
+with_value place k values c = if not (fits k c) || is_among c.value values then Broken place rules.domains else Good (values ++ c.value ∷ [])
 
 abbrev pub domain_value : Option Kind → Scope → Node → List ℕ → Judged (List ℕ)
 domain_value k s node values = and_then (constant_judgement s node) (with_value node.place k values)
@@ -80,9 +81,9 @@ holder_of_all position fixed (d ∷ ds) = all_hold position fixed (holder_of pos
 abbrev pub holds : Holder → Attribute → Bool
 holds h a = if is_some a.values then h.with_values else h.plainly
 
--- rule 14: it holds for what may not have it, or for what has one already
+-- attributes: it holds for what may not have it, or for what has one already
 unfoldable pub held : Place → Holder → Option Attribute → Attribute → Judged (Option Attribute)
-held place h before a = if is_some before || not (holds h a) then Broken place 14 else Good (Some a)
+held place h before a = if is_some before || not (holds h a) then Broken place rules.attributes else Good (Some a)
 
 abbrev pub attribute : Holder → Option Kind → Scope → Mark → Option Attribute → Judged (Option Attribute)
 attribute h k s m before = let f = out-Mark m in and_then (given_domain k s f.values) (held f.place h before)

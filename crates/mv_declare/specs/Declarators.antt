@@ -15,6 +15,7 @@ use Rattle.mv_scope.specs.declared.scope.Scope.{Scope}
 use Rattle.mv_scope.specs.Conversions.{is_void}
 use Rattle.mv_scope.specs.Scoped.{block_entered, block_left, declared}
 use Rattle.mv_scope.specs.Signatures.{place_of, with_signature}
+use Rattle.mv_judge.specs.RuleNumbers as rules
 use Rattle.mv_judge.specs.declared.constant.Constant.{Constant}
 use Rattle.mv_judge.specs.Judged.{Judged, Good, Broken, and_then}
 use Rattle.mv_judge.specs.NeededConstants.{constant_judgement}
@@ -79,18 +80,18 @@ parameter_declared None t fixed s = s
 parameter_declared (Some name) t fixed s =
     declared s name (meaning.Object (record { storage = storage.Local 0; ctype = t; fixed = fixed; switch = None }))
 
--- rule 8: it is of type `void`
+-- void: it is of type `void`
 abbrev pub scalar_parameter : Place → Option (List ℕ) → CType → Bool → Scope → Behind CType
-scalar_parameter place name t fixed s = if is_void t then Broken place 8 else Good (parameter_declared name t fixed s, t)
+scalar_parameter place name t fixed s = if is_void t then Broken place rules.void else Good (parameter_declared name t fixed s, t)
 
 abbrev pub parameter_of : Place → Option (List ℕ) → Entity → Scope → Behind CType
 parameter_of place name (entity.Scalar t fixed) s = scalar_parameter place name t fixed s
-parameter_of place name (entity.Array t fixed size) s = Broken place 22
-parameter_of place name (entity.Function f) s = Broken place 22
+parameter_of place name (entity.Array t fixed size) s = Broken place rules.declarations
+parameter_of place name (entity.Function f) s = Broken place rules.declarations
 
--- rule 2: its name is declared already; rule 22: it is no scalar
+-- redeclarations: its name is declared already; declarations: it is no scalar
 unfoldable pub new_parameter : Place → Option (List ℕ) → Entity → Scope → Behind CType
-new_parameter place name e s = if is_taken_by s name then Broken place 2 else parameter_of place name e s
+new_parameter place name e s = if is_taken_by s name then Broken place rules.redeclarations else parameter_of place name e s
 
 abbrev pub declarator_step : Declarator-F Shapes Declarators Params → Declarators
 declarator_step d base s =

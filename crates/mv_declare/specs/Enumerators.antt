@@ -7,6 +7,7 @@ use Rattle.mv_scope.specs.declared.meaning.Meaning.TheVariants as meaning
 use Rattle.mv_scope.specs.declared.scope.Scope.{Scope}
 use Rattle.mv_scope.specs.Spaces.{named}
 use Rattle.mv_scope.specs.Scoped.{declared}
+use Rattle.mv_judge.specs.RuleNumbers as rules
 use Rattle.mv_judge.specs.Judged.{Judged, Good, Broken, and_then}
 use Rattle.mv_judge.specs.NeededConstants.{constant_judgement}
 use Rattle.mv_declare.specs.Constants.{int_of, next_int}
@@ -22,12 +23,12 @@ given_value s following None = Good following
 given_value s following (Some node) = and_then (constant_judgement s node) (λ c. Good (int_of c))
 
 abbrev pub enumerator_of : Place → List ℕ → Scope → Option ℕ → Behind ℕ
-enumerator_of place name s None = Broken place 21
+enumerator_of place name s None = Broken place rules.enumerators
 enumerator_of place name s (Some v) = Good (declared s name (meaning.Enumerator v), v)
 
--- rule 2: the name is declared in this scope already; rule 21: the value is no `int`
+-- redeclarations: the name is declared in this scope already; enumerators: the value is no `int`
 unfoldable pub new_enumerator : Place → List ℕ → Scope → Option ℕ → Behind ℕ
-new_enumerator place name s value = if is_taken s name then Broken place 2 else enumerator_of place name s value
+new_enumerator place name s value = if is_taken s name then Broken place rules.redeclarations else enumerator_of place name s value
 
 -- the scope, the value of an enumerator that is given none, and the values so far
 abbrev pub Enumerating : Type 0

@@ -17,6 +17,7 @@ use Rattle.mv_ast.specs.Plans.{is_among}
 use Rattle.mv_scope.specs.declared.scope.Scope.{Scope}
 use Rattle.mv_scope.specs.Constants.{constant_value, converts}
 use Rattle.mv_scope.specs.Conversions.{is_void}
+use Rattle.mv_judge.specs.RuleNumbers as rules
 use Rattle.mv_judge.specs.Judged.{Judged, Good, Broken, and_then}
 use Rattle.mv_judge.specs.Judgements.{value_judgement}
 use Rattle.mv_declare.specs.declared.attributes.Attribute.{Attribute}
@@ -43,14 +44,14 @@ file_declarator b d s =
     Good (e.0, record { entity = e.1; attribute = a })))
 
 abbrev pub sized : Place → CType → Option ℕ → Judged Local
-sized place t None = Broken place 10
+sized place t None = Broken place rules.extents
 sized place t (Some n) = Good (array t n)
 
--- the type and the size of an object; rule 8: it is of type `void`; rule 10: an array has no size that is at least 1
+-- the type and the size of an object; void: it is of type `void`; extents: an array has no size that is at least 1
 unfoldable pub object_type : Place → Entity → Option Initial → Judged Local
-object_type place (entity.Scalar t fixed) values = if is_void t then Broken place 8 else Good (scalar t)
-object_type place (entity.Array t fixed size) values = if is_void t then Broken place 8 else sized place t (array_size size values)
-object_type place (entity.Function f) values = Broken place 22
+object_type place (entity.Scalar t fixed) values = if is_void t then Broken place rules.void else Good (scalar t)
+object_type place (entity.Array t fixed size) values = if is_void t then Broken place rules.void else sized place t (array_size size values)
+object_type place (entity.Function f) values = Broken place rules.declarations
 
 -- ---- constants
 
@@ -73,10 +74,10 @@ abbrev pub with_word : CType → Words → Expr → ℕ → Words
 with_word t x e w = record { all = x.all && converts e t; words = x.words ++ converted t w ∷ [] }
 
 abbrev pub word_or_broken : Place → CType → Words → Expr → Option ℕ → Judged Words
-word_or_broken place t x e None = Broken place 9
+word_or_broken place t x e None = Broken place rules.constants
 word_or_broken place t x e (Some w) = Good (with_word t x e w)
 
--- rule 9: a value is no constant
+-- constants: a value is no constant
 abbrev pub first_word : CType → Scope → Node → Words → Judged Words
 first_word t s node x = and_then (value_judgement s node) (λ e. word_or_broken node.place t x e (constant_word e))
 
@@ -86,14 +87,14 @@ no_words = record { all = true; words = [] }
 abbrev pub first_words : CType → Scope → List Node → Judged Words
 first_words t s nodes = through (first_word t s) nodes no_words
 
--- rule 5: a value doesn't convert, or is one where an array is initialised
+-- conversions: a value doesn't convert, or is one where an array is initialised
 unfoldable pub single_word : Place → Option ℕ → Words → Judged (List ℕ)
-single_word place size x = if is_some size || not x.all then Broken place 5 else Good x.words
+single_word place size x = if is_some size || not x.all then Broken place rules.conversions else Good x.words
 
--- rule 5: a value doesn't convert; rule 10: there are too many, or they stand in a list for a scalar
+-- conversions: a value doesn't convert; extents: there are too many, or they stand in a list for a scalar
 unfoldable pub listed_words : Place → Option ℕ → Words → Judged (List ℕ)
 listed_words place size x =
-    if not x.all then Broken place 5 else if not (has_room size (length x.words)) then Broken place 10 else Good x.words
+    if not x.all then Broken place rules.conversions else if not (has_room size (length x.words)) then Broken place rules.extents else Good x.words
 
 abbrev pub is_char : CType → Bool
 is_char (Scalar kind.SChar) = true
@@ -107,10 +108,10 @@ abbrev pub room_behind : Option ℕ → ℕ → Bool
 room_behind None n = false
 room_behind (Some size) n = nat_lt n size
 
--- rule 10: a string initialises no array of a char type, or has too many characters; its 0 is left out where there is no room for it
+-- extents: a string initialises no array of a char type, or has too many characters; its 0 is left out where there is no room for it
 unfoldable pub string_words : Place → Local → List ℕ → Judged (List ℕ)
 string_words place l bytes =
-    if not (string_fits l (length bytes)) then Broken place 10
+    if not (string_fits l (length bytes)) then Broken place rules.extents
     else Good (map (converted l.ctype) bytes ++ (if room_behind l.size (length bytes) then 0 ∷ [] else []))
 
 -- the given words of a global of a type and size

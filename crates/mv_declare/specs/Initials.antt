@@ -10,6 +10,7 @@ use Rattle.mv_ast.specs.declared.unit.Node.{Node}
 use Rattle.mv_scope.specs.declared.scope.Scope.{Scope}
 use Rattle.mv_scope.specs.Constants.{converts}
 use Rattle.mv_scope.specs.Conversions.{converted_to}
+use Rattle.mv_judge.specs.RuleNumbers as rules
 use Rattle.mv_judge.specs.declared.constant.Constant.{Constant}
 use Rattle.mv_judge.specs.Judged.{Judged, Good, Broken, and_then}
 use Rattle.mv_judge.specs.Judgements.{value_judgement}
@@ -53,18 +54,18 @@ abbrev pub has_room : Option ℕ → ℕ → Bool
 has_room None n = false
 has_room (Some size) n = nat_le n size
 
--- rule 5: a value doesn't convert, or is one where an array is initialised
+-- conversions: a value doesn't convert, or is one where an array is initialised
 unfoldable pub single_value : Place → Option ℕ → Converted → Judged (List Expr)
-single_value place size x = if is_some size || not x.all then Broken place 5 else Good x.values
+single_value place size x = if is_some size || not x.all then Broken place rules.conversions else Good x.values
 
--- rule 5: a value doesn't convert; rule 10: there are too many, or they stand in a list for a scalar
+-- conversions: a value doesn't convert; extents: there are too many, or they stand in a list for a scalar
 unfoldable pub listed_values : Place → Option ℕ → Converted → Judged (List Expr)
 listed_values place size x =
-    if not x.all then Broken place 5 else if not (has_room size (length x.values)) then Broken place 10 else Good x.values
+    if not x.all then Broken place rules.conversions else if not (has_room size (length x.values)) then Broken place rules.extents else Good x.values
 
 -- the values that a local is given; no string initialises one
 abbrev pub initial_values : Place → Local → Option Initial → Scope → Judged (List Expr)
 initial_values place l None s = Good []
 initial_values place l (Some (initial.Value node)) s = and_then (converted_value l.ctype s node none_converted) (single_value place l.size)
 initial_values place l (Some (initial.Values nodes)) s = and_then (converted_values l.ctype s nodes) (listed_values place l.size)
-initial_values place l (Some (initial.Chars bytes)) s = Broken place 10
+initial_values place l (Some (initial.Chars bytes)) s = Broken place rules.extents

@@ -14,6 +14,7 @@ use Rattle.mv_scope.specs.declared.meaning.Storage.TheVariants as storage
 use Rattle.mv_scope.specs.declared.scope.Scope.{Scope}
 use Rattle.mv_scope.specs.Conversions.{is_void}
 use Rattle.mv_scope.specs.Scoped.{declared, with_local}
+use Rattle.mv_judge.specs.RuleNumbers as rules
 use Rattle.mv_judge.specs.Judged.{Judged, Good, Broken, and_then}
 use Rattle.mv_declare.specs.declared.attributes.Position.TheVariants as position
 use Rattle.mv_declare.specs.declared.declarators.Entity.{Entity}
@@ -42,23 +43,23 @@ array_meaning l t fixed = meaning.Array (record { storage = storage.Local l; cty
 abbrev pub local_declared : Scope → List ℕ → Local → Meaning → Behind Numbered
 local_declared s name l m = Good (declared (with_local s l) name m, record { number = length s.locals; local = l })
 
--- rule 10: an array has no size that is at least 1
+-- extents: an array has no size that is at least 1
 abbrev pub sized_array : Place → List ℕ → CType → Bool → Option ℕ → Scope → Behind Numbered
-sized_array place name t fixed None s = Broken place 10
+sized_array place name t fixed None s = Broken place rules.extents
 sized_array place name t fixed (Some n) s = local_declared s name (array t n) (array_meaning (length s.locals) t fixed)
 
--- rule 8: an object is of type `void`; rule 22: a function is declared in a block
+-- void: an object is of type `void`; declarations: a function is declared in a block
 abbrev pub new_object : Place → List ℕ → Entity → Option Initial → Scope → Behind Numbered
 new_object place name (entity.Scalar t fixed) values s =
-    if is_void t then Broken place 8 else local_declared s name (scalar t) (scalar_meaning (length s.locals) t fixed)
+    if is_void t then Broken place rules.void else local_declared s name (scalar t) (scalar_meaning (length s.locals) t fixed)
 new_object place name (entity.Array t fixed size) values s =
-    if is_void t then Broken place 8 else sized_array place name t fixed (array_size size values) s
-new_object place name (entity.Function f) values s = Broken place 22
+    if is_void t then Broken place rules.void else sized_array place name t fixed (array_size size values) s
+new_object place name (entity.Function f) values s = Broken place rules.declarations
 
--- rule 2: the name is declared in this scope already; rule 22: there is no name
+-- redeclarations: the name is declared in this scope already; declarations: there is no name
 unfoldable pub new_local : Place → Option (List ℕ) → Entity → Option Initial → Scope → Behind Numbered
-new_local place None e values s = Broken place 22
-new_local place (Some name) e values s = if is_taken s name then Broken place 2 else new_object place name e values s
+new_local place None e values s = Broken place rules.declarations
+new_local place (Some name) e values s = if is_taken s name then Broken place rules.redeclarations else new_object place name e values s
 
 abbrev pub cleared : Scope → Numbered → Place → Option Initial → Behind Stmt
 cleared s n place values = and_then (initial_values place n.local values s) (λ es. Good (s, stmt.Clear n.number es))

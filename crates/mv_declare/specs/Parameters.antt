@@ -6,6 +6,7 @@ use Rattle.mv_ast.specs.declared.unit.Param.{Param}
 use Rattle.mv_scope.specs.declared.scope.Scope.{Scope}
 use Rattle.mv_scope.specs.Conversions.{is_void}
 use Rattle.mv_scope.specs.Scoped.{declared, with_local}
+use Rattle.mv_judge.specs.RuleNumbers as rules
 use Rattle.mv_judge.specs.Judged.{Judged, Good, Broken, and_then}
 use Rattle.mv_declare.specs.declared.attributes.Position.TheVariants as position
 use Rattle.mv_declare.specs.declared.declarators.Entity.{Entity}
@@ -17,18 +18,18 @@ use Rattle.mv_declare.specs.Specifiers.{specifiers}
 use Rattle.mv_declare.specs.Turns.{through}
 
 abbrev pub named_parameter : Place → Option (List ℕ) → CType → Bool → Scope → Judged Scope
-named_parameter place None t fixed s = Broken place 22
+named_parameter place None t fixed s = Broken place rules.declarations
 named_parameter place (Some name) t fixed s = Good (declared (with_local s (scalar t)) name (scalar_meaning (length s.locals) t fixed))
 
--- rule 8: it is of type `void`
+-- void: it is of type `void`
 abbrev pub defined_parameter : Place → Option (List ℕ) → Entity → Scope → Judged Scope
-defined_parameter place name (entity.Scalar t fixed) s = if is_void t then Broken place 8 else named_parameter place name t fixed s
-defined_parameter place name (entity.Array t fixed size) s = Broken place 22
-defined_parameter place name (entity.Function f) s = Broken place 22
+defined_parameter place name (entity.Scalar t fixed) s = if is_void t then Broken place rules.void else named_parameter place name t fixed s
+defined_parameter place name (entity.Array t fixed size) s = Broken place rules.declarations
+defined_parameter place name (entity.Function f) s = Broken place rules.declarations
 
--- rule 2: its name is declared already; rule 22: it has no name, or is no scalar
+-- redeclarations: its name is declared already; declarations: it has no name, or is no scalar
 unfoldable pub new_defined : Place → Option (List ℕ) → Entity → Scope → Judged Scope
-new_defined place name e s = if is_taken_by s name then Broken place 2 else defined_parameter place name e s
+new_defined place name e s = if is_taken_by s name then Broken place rules.redeclarations else defined_parameter place name e s
 
 abbrev pub parameter_judgement : Param → Scope → Judged Scope
 parameter_judgement p s =

@@ -14,6 +14,7 @@ use Rattle.mv_scope.specs.declared.meaning.Meaning.TheVariants as meaning
 use Rattle.mv_scope.specs.declared.scope.Scope.{Scope}
 use Rattle.mv_scope.specs.Spaces.{named}
 use Rattle.mv_scope.specs.Scoped.{tag_of, tag_declared}
+use Rattle.mv_judge.specs.RuleNumbers as rules
 use Rattle.mv_judge.specs.Judged.{Judged, Good, Broken, and_then}
 use Rattle.mv_judge.specs.TypeNames.{undeclared_enum, any_is, type_of}
 use Rattle.mv_declare.specs.declared.attributes.Holder.{Holder}
@@ -99,13 +100,13 @@ at_file position.File = true
 at_file position.Block = false
 at_file position.Parameter = false
 
--- rule 1: a tag isn't declared; rule 2: a tag is declared again; rule 22: `static` stands where it may not, or the words and enums name no type
+-- names: a tag isn't declared; redeclarations: a tag is declared again; declarations: `static` stands where it may not, or the words and enums name no type
 unfoldable pub type_by_rules : Position → Bool → Specs → Scope → Judged CType
 type_by_rules position again specs s =
     let f = out-Specs specs in
-    if any_is (map (undeclared_enum s) f.tags) then Broken f.place 1
-    else if again then Broken f.place 2
-    else if f.hidden && not (at_file position) then Broken f.place 22
+    if any_is (map (undeclared_enum s) f.tags) then Broken f.place rules.names
+    else if again then Broken f.place rules.redeclarations
+    else if f.hidden && not (at_file position) then Broken f.place rules.declarations
     else type_of s specs
 
 -- what specifiers say of the declarators behind them

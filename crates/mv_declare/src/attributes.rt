@@ -10,6 +10,7 @@ use mv_ast::place::Place;
 use mv_ast::unit::{Declarator, Mark, Node, Shape};
 use mv_judge::constant::{Constant, needed};
 use mv_judge::error::RuleError;
+use mv_judge::rules;
 use mv_num::kind::Kind;
 use mv_num::list::List;
 use mv_scope::scope::Scope;
@@ -55,7 +56,7 @@ fn with_value(
     ensures { IsJudged (with_value place kind values constant) result }
 {
     if !fits(kind, constant) || !values.add(constant.value)? {
-        return Err(RuleError::Rule(place, 16));
+        return Err(RuleError::Rule(place, rules::DOMAINS));
     }
     Ok(values)
 }
@@ -191,7 +192,7 @@ fn held(
     ensures { IsJudged (held place holder before attribute) result }
 {
     if before.is_some() || !holds(holder, &attribute) {
-        return Err(RuleError::Rule(place, 14));
+        return Err(RuleError::Rule(place, rules::ATTRIBUTES));
     }
     Ok(Some(attribute))
 }

@@ -13,12 +13,12 @@ use mv_ast::program::{CType, Signature};
 use mv_ast::unit::{Declarator, Node, Param, Shape};
 use mv_judge::constant::{Constant, needed};
 use mv_judge::error::RuleError;
+use mv_judge::rules;
 use mv_num::list::List;
 use mv_num::text::Text;
 use mv_scope::convert::is_void;
 use mv_scope::meaning::{Meaning, Storage, Variable};
 use mv_scope::scope::Scope;
-use mv_scope::signatures::signature_number;
 use std::alloc::Global;
 
 /// What a declarator designates (C11 6.7.6): a scalar or an array of a type, which may be `const`, with the size where it is written; or
@@ -32,6 +32,7 @@ pub enum Entity {
 
 // The number of a signature. There is no memory for a 2^32nd.
 fn number_signature(
+    alloc: Global,
     scope: &mut Scope,
     result_type: CType,
     params: List<CType>,
@@ -41,13 +42,11 @@ fn number_signature(
     if scope.signatures.len() > 0xFFFF_FFFF {
         return Err(RuleError::Memory);
     }
-    let number = signature_number(
-        &mut scope.signatures,
-        Signature {
-            result: result_type,
-            params,
-        },
-    )?;
+    let signature = Signature {
+        result: result_type,
+        params,
+    };
+    let number = scope.signatures.number(alloc, signature)?;
     Ok(number)
 }
 
@@ -84,13 +83,16 @@ fn new_parameter(
     ensures { IsBehind (new_parameter place name.now entity scope.old) result scope.new }
 {
     if is_taken_by(scope, name) {
-        return Err(RuleError::Rule(place, 2));
+        return Err(RuleError::Rule(place, rules::REDECLARATIONS));
     }
     match entity {
-        Entity::Array(_, _, _) | Entity::Function(_) => Err(RuleError::Rule(place, 22)),
+        Entity::Array(_, _, _) | Entity::Function(_) => Err(RuleError::Rule(
+            place,
+            rules::DECLARATIONS,
+        )),
         Entity::Scalar(ctype, fixed) => {
             if is_void(ctype) {
-                return Err(RuleError::Rule(place, 8));
+                return Err(RuleError::Rule(place, rules::VOID));
             }
             match name {
                 None => Ok(ctype),
@@ -158,7 +160,7 @@ fn function_type(
         types.push(ctype)?;
     }
     scope.leave(alloc);
-    number_signature(scope, result_type, types)
+    number_signature(alloc, scope, result_type, types)
 }
 
 #[cycle(shapes)]

@@ -10,6 +10,7 @@ use mv_ast::place::Place;
 use mv_ast::unit::{Member, Node};
 use mv_judge::constant::needed;
 use mv_judge::error::RuleError;
+use mv_judge::rules;
 use mv_num::list::List;
 use mv_scope::meaning::Meaning;
 use mv_scope::scope::Scope;
@@ -50,10 +51,10 @@ fn new_enumerator(
     ensures { IsBehind (new_enumerator place name.now scope.old value) result scope.new }
 {
     if is_taken(scope, name) {
-        return Err(RuleError::Rule(place, 2));
+        return Err(RuleError::Rule(place, rules::REDECLARATIONS));
     }
     match value {
-        None => Err(RuleError::Rule(place, 21)),
+        None => Err(RuleError::Rule(place, rules::ENUMERATORS)),
         Some(value) => {
             scope.declare(alloc, name, Meaning::Enumerator(value))?;
             Ok(value)

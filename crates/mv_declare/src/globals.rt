@@ -19,6 +19,7 @@ use mv_ast::program::{CType, Expr, Form, Local};
 use mv_ast::unit::{Declarator, Initial, Node};
 use mv_judge::error::RuleError;
 use mv_judge::judge::value;
+use mv_judge::rules;
 use mv_num::kind::Kind;
 use mv_num::list::List;
 use mv_scope::constant::{constant_value, converts};
@@ -51,7 +52,7 @@ pub fn file_declarator(
     Ok(Designated { entity, attribute })
 }
 
-/// The type and the size of an object. Rule 8 is broken by one of type `void`, rule 10 by an array without a size that is at least 1.
+/// The type and the size of an object. The rule of `void` is broken by one of that type, the rule of extents by an array without a size that is at least 1.
 #[tactic(auto, unfolding(crate::specs::Globals::object_type))]
 pub fn object_type(
     place: Place,
@@ -61,19 +62,19 @@ pub fn object_type(
     ensures { IsJudged (object_type place entity initial.now) result }
 {
     match entity {
-        Entity::Function(_) => Err(RuleError::Rule(place, 22)),
+        Entity::Function(_) => Err(RuleError::Rule(place, rules::DECLARATIONS)),
         Entity::Scalar(ctype, _) => {
             if is_void(ctype) {
-                return Err(RuleError::Rule(place, 8));
+                return Err(RuleError::Rule(place, rules::VOID));
             }
             Ok(Local { ctype, size: None })
         }
         Entity::Array(ctype, _, size) => {
             if is_void(ctype) {
-                return Err(RuleError::Rule(place, 8));
+                return Err(RuleError::Rule(place, rules::VOID));
             }
             match array_size(size, initial)? {
-                None => Err(RuleError::Rule(place, 10)),
+                None => Err(RuleError::Rule(place, rules::EXTENTS)),
                 Some(size) => Ok(Local {
                     ctype,
                     size: Some(size),
@@ -122,7 +123,7 @@ fn first_word(
     let all = all && converts(&e, ctype);
     drop(e);
     match word? {
-        None => Err(RuleError::Rule(node.place, 9)),
+        None => Err(RuleError::Rule(node.place, rules::CONSTANTS)),
         Some(word) => {
             words.push(converted(ctype, word))?;
             Ok(Words { all, words })
@@ -154,7 +155,7 @@ fn single_word(place: Place, size: Option<u32>, words: Words) -> Result<List<u32
 {
     let Words { all, words } = words;
     if size.is_some() || !all {
-        Err(RuleError::Rule(place, 5))
+        Err(RuleError::Rule(place, rules::CONVERSIONS))
     } else {
         Ok(words)
     }
@@ -166,9 +167,9 @@ fn listed_words(place: Place, size: Option<u32>, words: Words) -> Result<List<u3
 {
     let Words { all, words } = words;
     if !all {
-        Err(RuleError::Rule(place, 5))
+        Err(RuleError::Rule(place, rules::CONVERSIONS))
     } else if !has_room(size, words.len()) {
-        Err(RuleError::Rule(place, 10))
+        Err(RuleError::Rule(place, rules::EXTENTS))
     } else {
         Ok(words)
     }
@@ -209,7 +210,7 @@ fn string_words(
     ensures { IsJudged (string_words place local bytes.now) result }
 {
     if !is_char(local.ctype) || !has_room(local.size, bytes.len()) {
-        return Err(RuleError::Rule(place, 10));
+        return Err(RuleError::Rule(place, rules::EXTENTS));
     }
     let mut words = converted_bytes(alloc, local.ctype, bytes)?;
     if room_behind(local.size, bytes.len()) {

@@ -12,6 +12,7 @@ use mv_ast::unit::{Initial, Node};
 use mv_judge::constant::Constant;
 use mv_judge::error::RuleError;
 use mv_judge::judge::value;
+use mv_judge::rules;
 use mv_num::list::List;
 use mv_num::results::both;
 use mv_scope::constant::converts;
@@ -131,7 +132,7 @@ fn single_value(
     let Converted { all, values } = converted;
     if size.is_some() || !all {
         drop(values);
-        Err(RuleError::Rule(place, 5))
+        Err(RuleError::Rule(place, rules::CONVERSIONS))
     } else {
         Ok(values)
     }
@@ -148,10 +149,10 @@ fn listed_values(
     let Converted { all, values } = converted;
     if !all {
         drop(values);
-        Err(RuleError::Rule(place, 5))
+        Err(RuleError::Rule(place, rules::CONVERSIONS))
     } else if !has_room(size, values.len()) {
         drop(values);
-        Err(RuleError::Rule(place, 10))
+        Err(RuleError::Rule(place, rules::EXTENTS))
     } else {
         Ok(values)
     }
@@ -181,6 +182,6 @@ pub fn initial_values(
             let converted = converted_values(alloc, local.ctype, scope, nodes.as_slice())?;
             listed_values(place, local.size, converted)
         }
-        Some(Initial::Chars(_)) => Err(RuleError::Rule(place, 10)),
+        Some(Initial::Chars(_)) => Err(RuleError::Rule(place, rules::EXTENTS)),
     }
 }

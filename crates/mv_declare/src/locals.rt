@@ -15,6 +15,7 @@ use mv_ast::place::Place;
 use mv_ast::program::{CType, Local, Stmt};
 use mv_ast::unit::{Declarator, Initial, Specs};
 use mv_judge::error::RuleError;
+use mv_judge::rules;
 use mv_num::list::List;
 use mv_num::results::both;
 use mv_num::text::Text;
@@ -95,19 +96,19 @@ fn new_object(
     ensures { IsBehind (new_object place name.now entity initial.now scope.old) result scope.new }
 {
     match entity {
-        Entity::Function(_) => Err(RuleError::Rule(place, 22)),
+        Entity::Function(_) => Err(RuleError::Rule(place, rules::DECLARATIONS)),
         Entity::Scalar(ctype, fixed) => {
             if is_void(ctype) {
-                return Err(RuleError::Rule(place, 8));
+                return Err(RuleError::Rule(place, rules::VOID));
             }
             declare_scalar(alloc, scope, name, ctype, fixed)
         }
         Entity::Array(ctype, fixed, size) => {
             if is_void(ctype) {
-                return Err(RuleError::Rule(place, 8));
+                return Err(RuleError::Rule(place, rules::VOID));
             }
             match array_size(size, initial)? {
-                None => Err(RuleError::Rule(place, 10)),
+                None => Err(RuleError::Rule(place, rules::EXTENTS)),
                 Some(size) => declare_array(alloc, scope, name, ctype, fixed, size),
             }
         }
@@ -126,10 +127,10 @@ fn new_local(
     ensures { IsBehind (new_local place name.now entity initial.now scope.old) result scope.new }
 {
     match name {
-        None => Err(RuleError::Rule(place, 22)),
+        None => Err(RuleError::Rule(place, rules::DECLARATIONS)),
         Some(name) => {
             if is_taken(scope, name.bytes()) {
-                return Err(RuleError::Rule(place, 2));
+                return Err(RuleError::Rule(place, rules::REDECLARATIONS));
             }
             new_object(alloc, scope, place, name.bytes(), entity, initial)
         }

@@ -10,6 +10,7 @@ use mv_ast::place::Place;
 use mv_ast::program::Local;
 use mv_ast::unit::Param;
 use mv_judge::error::RuleError;
+use mv_judge::rules;
 use mv_num::list::List;
 use mv_num::text::Text;
 use mv_scope::convert::is_void;
@@ -29,16 +30,19 @@ fn new_defined(
     ensures { IsLeft (new_defined place name.now entity scope.old) result scope.new }
 {
     if is_taken_by(scope, name) {
-        return Err(RuleError::Rule(place, 2));
+        return Err(RuleError::Rule(place, rules::REDECLARATIONS));
     }
     match entity {
-        Entity::Array(_, _, _) | Entity::Function(_) => Err(RuleError::Rule(place, 22)),
+        Entity::Array(_, _, _) | Entity::Function(_) => Err(RuleError::Rule(
+            place,
+            rules::DECLARATIONS,
+        )),
         Entity::Scalar(ctype, fixed) => {
             if is_void(ctype) {
-                return Err(RuleError::Rule(place, 8));
+                return Err(RuleError::Rule(place, rules::VOID));
             }
             match name {
-                None => Err(RuleError::Rule(place, 22)),
+                None => Err(RuleError::Rule(place, rules::DECLARATIONS)),
                 Some(name) => {
                     if scope.locals.len() > 0xFFFF_FFFF {
                         return Err(RuleError::Memory);

@@ -13,6 +13,7 @@ use mv_ast::place::Place;
 use mv_ast::program::CType;
 use mv_ast::unit::{Declarator, EnumSpec, Mark, Member, Specs};
 use mv_judge::error::RuleError;
+use mv_judge::rules;
 use mv_judge::type_names::type_of;
 use mv_num::kind::Kind;
 use mv_num::list::List;
@@ -264,13 +265,13 @@ fn type_by_rules(
     ensures { IsJudged (type_by_rules position again specs.now scope.now) result }
 {
     if any_undeclared(scope, specs.tags.as_slice()) {
-        return Err(RuleError::Rule(specs.place, 1));
+        return Err(RuleError::Rule(specs.place, rules::NAMES));
     }
     if again {
-        return Err(RuleError::Rule(specs.place, 2));
+        return Err(RuleError::Rule(specs.place, rules::REDECLARATIONS));
     }
     if specs.hidden && !at_file(position) {
-        return Err(RuleError::Rule(specs.place, 22));
+        return Err(RuleError::Rule(specs.place, rules::DECLARATIONS));
     }
     type_of(scope, specs)
 }

@@ -16,7 +16,7 @@ use Rattle.mv_statement_rules.specs.SwitchBodies.{no_arm, has_statements, at_lab
 use Rattle.mv_judge.specs.Judgements.{value_judgement, effect_judgement}
 use Rattle.mv_declare.specs.Initials.{initial_values}
 use Rattle.mv_lowering.specs.Lower.{all_of}
-use Rattle.mv_lowered_programs.specs.Labels.{at_most_one, has_label, ArmLabels, later_arms, arms_labelled, labels_layer, arm_labels_layer, stmt_labelled, arm_labels}
+use Rattle.mv_lowering.specs.Labels.{at_most_one, has_label, ArmLabels, later_arms, arms_labelled, labels_layer, arm_labels_layer, stmt_labelled, arm_labels}
 use Rattle.mv_ast.specs.declared.unit.Line.{Line}
 use Rattle.mv_scope.specs.declared.scope.Scope.{Scope}
 use Rattle.mv_judge.specs.Judged.{Good}

@@ -13,7 +13,7 @@ use Rattle.mv_lowering.specs.Lower.{all_of, is_void}
 use Rattle.mv_lowering.specs.LowerStatements.{stmt_is_well_formed}
 use Rattle.mv_lowering.specs.Functions.{size_in}
 use Rattle.mv_lowered_programs.specs.Jumps.{all_jump, stmt_jumps}
-use Rattle.mv_lowered_programs.specs.Labels.{stmt_labelled}
+use Rattle.mv_lowering.specs.Labels.{stmt_labelled}
 use Rattle.mv_lowered_programs.specs.Named.{all_expressions, calls_known}
 use Rattle.mv_lowered_programs.specs.Scopes.{all_scoped, stmt_scoped}
 use Rattle.mv_lowered_programs.specs.WellFormed.{parameters}

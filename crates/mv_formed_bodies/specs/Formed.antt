@@ -22,7 +22,7 @@ use Rattle.mv_lowering.specs.Lower.{all_of, is_void, is_own_switch}
 use Rattle.mv_lowering.specs.LowerStatements.{stmt_is_well_formed}
 use Rattle.mv_lowering.specs.Functions.{size_in}
 use Rattle.mv_lowered_programs.specs.Jumps.{all_jump, stmt_jumps}
-use Rattle.mv_lowered_programs.specs.Labels.{stmt_labelled}
+use Rattle.mv_lowering.specs.Labels.{stmt_labelled}
 use Rattle.mv_lowered_programs.specs.Named.{all_expressions, calls_known}
 use Rattle.mv_typing.specs.Soundness.{Fits}
 use Rattle.mv_typed_bodies.specs.Bodies.{Keeps}

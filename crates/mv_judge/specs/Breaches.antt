@@ -2,26 +2,27 @@
 use Rattle.std.specs.Prelude.{ℕ, Bool, false, if◌then◌else◌, Option, Some, None}
 use Rattle.mv_ast.specs.declared.place.Place.{Place}
 use Rattle.mv_scope.specs.declared.scope.Scope.{Scope}
+use Rattle.mv_judge.specs.RuleNumbers as rules
 use Rattle.mv_judge.specs.declared.breaches.Breaches.{Breaches}
 use Rattle.mv_judge.specs.declared.seen.Seen.{Seen}
 use Rattle.mv_judge.specs.declared.seen.Use.{Use}
 use Rattle.mv_judge.specs.Judged.{Judged, Good, Broken}
 use Rattle.mv_judge.specs.Found.{Layer, found}
-use Rattle.mv_judge.specs.Rules.{breaks_1, breaks_3, breaks_4, breaks_5, breaks_6, breaks_7, breaks_8, breaks_15, breaks_17, breaks_19, breaks_20, is_bare, is_valueless, is_misnamed}
+use Rattle.mv_judge.specs.Rules.{breaks_names, breaks_operands, breaks_assignments, breaks_conversions, breaks_calls, breaks_indexes, breaks_void, breaks_switch_assignments, breaks_plan_arguments, breaks_definitions, breaks_placements, is_bare, is_valueless, is_misnamed}
 
 abbrev pub breaches : Scope → Use → Layer → Breaches
 breaches scope u layer = record {
-  undeclared = breaks_1 scope layer;
-  operands = breaks_3 layer;
-  assigned = breaks_4 layer;
-  converted = breaks_5 scope layer;
-  called = breaks_6 scope layer;
-  indexed = breaks_7 scope u layer;
-  void = breaks_8 scope u layer;
-  switch = breaks_15 scope layer;
-  named = breaks_17 scope u layer;
-  undefined = breaks_19 scope layer;
-  misplaced = breaks_20 scope u layer;
+  undeclared = breaks_names scope layer;
+  operands = breaks_operands layer;
+  assigned = breaks_assignments layer;
+  converted = breaks_conversions scope layer;
+  called = breaks_calls scope layer;
+  indexed = breaks_indexes scope u layer;
+  void = breaks_void scope u layer;
+  switch = breaks_switch_assignments scope layer;
+  named = breaks_plan_arguments scope u layer;
+  undefined = breaks_definitions scope layer;
+  misplaced = breaks_placements scope u layer;
 }
 
 -- those by what it is used as
@@ -46,17 +47,17 @@ if_broken broken rule others = if broken then Some rule else others
 -- the least rule that is broken
 unfoldable pub least : Breaches → Option ℕ
 least b =
-    if_broken b.undeclared 1
-    (if_broken b.operands 3
-    (if_broken b.assigned 4
-    (if_broken b.converted 5
-    (if_broken b.called 6
-    (if_broken b.indexed 7
-    (if_broken b.void 8
-    (if_broken b.switch 15
-    (if_broken b.named 17
-    (if_broken b.undefined 19
-    (if_broken b.misplaced 20 None))))))))))
+    if_broken b.undeclared rules.names
+    (if_broken b.operands rules.operands
+    (if_broken b.assigned rules.assignments
+    (if_broken b.converted rules.conversions
+    (if_broken b.called rules.calls
+    (if_broken b.indexed rules.indexes
+    (if_broken b.void rules.void
+    (if_broken b.switch rules.switch_assignments
+    (if_broken b.named rules.plan_arguments
+    (if_broken b.undefined rules.definitions
+    (if_broken b.misplaced rules.placements None))))))))))
 
 abbrev pub unless_broken : Place → Option ℕ → Seen → Judged Seen
 unless_broken place None x = Good x

@@ -4,6 +4,7 @@ pub mod Found
 pub mod Judged
 pub mod Judgements
 pub mod NeededConstants
+pub mod RuleNumbers
 pub mod Rules
 pub mod Seen
 pub mod TypeNames

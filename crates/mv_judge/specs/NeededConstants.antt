@@ -6,13 +6,14 @@ use Rattle.mv_ast.specs.declared.program.Expr.{Expr}
 use Rattle.mv_ast.specs.declared.unit.Node.{Node}
 use Rattle.mv_scope.specs.declared.scope.Scope.{Scope}
 use Rattle.mv_scope.specs.Constants.{constant_value}
+use Rattle.mv_judge.specs.RuleNumbers as rules
 use Rattle.mv_judge.specs.declared.constant.Constant.{Constant}
 use Rattle.mv_judge.specs.Judged.{Judged, Good, Broken, and_then}
 use Rattle.mv_judge.specs.Judgements.{value_judgement}
 
--- rule 9: the expression isn't a constant, or its evaluation divides by 0
+-- constants: the expression isn't a constant, or its evaluation divides by 0
 abbrev pub unless_inconstant : Place → Option ℕ → CType → Judged Constant
-unless_inconstant place None t = Broken place 9
+unless_inconstant place None t = Broken place rules.constants
 unless_inconstant place (Some v) t = Good (record { value = v; ctype = t })
 
 abbrev pub constant_of : Place → Expr → Judged Constant

@@ -39,38 +39,38 @@ takes_two op a b =
 -- ---- the rules
 
 -- a name isn't declared
-abbrev pub breaks_1 : Scope → Layer → Bool
-breaks_1 scope (what.Name name) = is_none (meaning_of scope name)
-breaks_1 scope _ = false
+abbrev pub breaks_names : Scope → Layer → Bool
+breaks_names scope (what.Name name) = is_none (meaning_of scope name)
+breaks_names scope _ = false
 
 -- an operator is applied to operands whose types it doesn't take
-abbrev pub breaks_3 : Layer → Bool
-breaks_3 (what.Unary op a) = not (is_address op || is_indirection op || takes_one op (type_of a))
-breaks_3 (what.Binary op a b) = not (takes_two op (value_of a) (value_of b))
-breaks_3 (what.Choose c a b) = not (is_scalar (type_of c) && meet (value_of a) (value_of b))
-breaks_3 (what.Assign op a b) = not (nat_eq op 22 || are_integers (type_of a) (type_of b))
-breaks_3 (what.Before up a) = not (is_integer (type_of a))
-breaks_3 (what.After up a) = not (is_integer (type_of a))
-breaks_3 (what.Index a i) = not (is_integer (type_of i))
-breaks_3 _ = false
+abbrev pub breaks_operands : Layer → Bool
+breaks_operands (what.Unary op a) = not (is_address op || is_indirection op || takes_one op (type_of a))
+breaks_operands (what.Binary op a b) = not (takes_two op (value_of a) (value_of b))
+breaks_operands (what.Choose c a b) = not (is_scalar (type_of c) && meet (value_of a) (value_of b))
+breaks_operands (what.Assign op a b) = not (nat_eq op 22 || are_integers (type_of a) (type_of b))
+breaks_operands (what.Before up a) = not (is_integer (type_of a))
+breaks_operands (what.After up a) = not (is_integer (type_of a))
+breaks_operands (what.Index a i) = not (is_integer (type_of i))
+breaks_operands _ = false
 
 -- what is assigned is no object, or is `const`
-abbrev pub breaks_4 : Layer → Bool
-breaks_4 (what.Assign op a b) = not (is_assignable a)
-breaks_4 (what.Before up a) = not (is_assignable a)
-breaks_4 (what.After up a) = not (is_assignable a)
-breaks_4 _ = false
+abbrev pub breaks_assignments : Layer → Bool
+breaks_assignments (what.Assign op a b) = not (is_assignable a)
+breaks_assignments (what.Before up a) = not (is_assignable a)
+breaks_assignments (what.After up a) = not (is_assignable a)
+breaks_assignments _ = false
 
 -- a value is converted between types that don't convert
-abbrev pub breaks_5 : Scope → Layer → Bool
-breaks_5 scope (what.Assign op a b) = nat_eq op 22 && not (converts (value_of b) (type_of a))
-breaks_5 scope (what.Call f args) = not (all_convert (callee_params scope.signatures f) args)
-breaks_5 scope _ = false
+abbrev pub breaks_conversions : Scope → Layer → Bool
+breaks_conversions scope (what.Assign op a b) = nat_eq op 22 && not (converts (value_of b) (type_of a))
+breaks_conversions scope (what.Call f args) = not (all_convert (callee_params scope.signatures f) args)
+breaks_conversions scope _ = false
 
 -- what is called is no function, or the number of arguments differs
-abbrev pub breaks_6 : Scope → Layer → Bool
-breaks_6 scope (what.Call f args) = not (takes_count scope.signatures f (length args))
-breaks_6 scope _ = false
+abbrev pub breaks_calls : Scope → Layer → Bool
+breaks_calls scope (what.Call f args) = not (takes_count scope.signatures f (length args))
+breaks_calls scope _ = false
 
 -- an array is used without an index
 abbrev pub is_bare : Use → Seen → Bool
@@ -78,24 +78,24 @@ is_bare «use».Base x = false
 is_bare _ x = is_array x
 
 -- or what is indexed is no array
-abbrev pub breaks_7 : Scope → Use → Layer → Bool
-breaks_7 scope u (what.Index a i) = is_none (array_of a)
-breaks_7 scope u layer = is_bare u (found scope u layer)
+abbrev pub breaks_indexes : Scope → Use → Layer → Bool
+breaks_indexes scope u (what.Index a i) = is_none (array_of a)
+breaks_indexes scope u layer = is_bare u (found scope u layer)
 
 -- `void` is used as a value
 abbrev pub is_valueless : Use → Seen → Bool
 is_valueless «use».Value (seen.Value e) = is_void e.ctype
 is_valueless _ _ = false
 
-abbrev pub breaks_8 : Scope → Use → Layer → Bool
-breaks_8 scope u layer = is_valueless u (found scope u layer)
+abbrev pub breaks_void : Scope → Use → Layer → Bool
+breaks_void scope u layer = is_valueless u (found scope u layer)
 
 -- an attributed function assigns to a switch
-abbrev pub breaks_15 : Scope → Layer → Bool
-breaks_15 scope (what.Assign op a b) = scope.attributed && is_some (switch_of a)
-breaks_15 scope (what.Before up a) = scope.attributed && is_some (switch_of a)
-breaks_15 scope (what.After up a) = scope.attributed && is_some (switch_of a)
-breaks_15 scope _ = false
+abbrev pub breaks_switch_assignments : Scope → Layer → Bool
+breaks_switch_assignments scope (what.Assign op a b) = scope.attributed && is_some (switch_of a)
+breaks_switch_assignments scope (what.Before up a) = scope.attributed && is_some (switch_of a)
+breaks_switch_assignments scope (what.After up a) = scope.attributed && is_some (switch_of a)
+breaks_switch_assignments scope _ = false
 
 -- the argument of a commit or revert isn't an attributed function's name, or isn't `&` and a switch's name
 abbrev pub is_misnamed : Use → Seen → Bool
@@ -103,13 +103,13 @@ is_misnamed «use».Function x = not (is_attributed x)
 is_misnamed «use».Switch x = not (is_named_switch x)
 is_misnamed _ x = false
 
-abbrev pub breaks_17 : Scope → Use → Layer → Bool
-breaks_17 scope u layer = is_misnamed u (found scope u layer)
+abbrev pub breaks_plan_arguments : Scope → Use → Layer → Bool
+breaks_plan_arguments scope u layer = is_misnamed u (found scope u layer)
 
 -- a function that isn't defined is used
-abbrev pub breaks_19 : Scope → Layer → Bool
-breaks_19 scope (what.Name name) = is_undefined (seen_name (meaning_of scope name))
-breaks_19 scope _ = false
+abbrev pub breaks_definitions : Scope → Layer → Bool
+breaks_definitions scope (what.Name name) = is_undefined (seen_name (meaning_of scope name))
+breaks_definitions scope _ = false
 
 -- `&` stands before anything other than a function, unless a switch is named
 abbrev pub is_misapplied : Use → Seen → Bool
@@ -130,8 +130,8 @@ abbrev pub is_wrong_cast : Use → CType → CType → Bool
 is_wrong_cast «use».Effect t s = not (is_void t) && not (is_integer s)
 is_wrong_cast _ t s = is_void t || not (is_integer s)
 
-abbrev pub breaks_20 : Scope → Use → Layer → Bool
-breaks_20 scope u (what.Name name) = is_uncalled u (seen_name (meaning_of scope name))
-breaks_20 scope u (what.Unary op a) = is_wrong_operand u op a
-breaks_20 scope u (what.Cast t a) = is_wrong_cast u t (type_of a)
-breaks_20 scope u _ = false
+abbrev pub breaks_placements : Scope → Use → Layer → Bool
+breaks_placements scope u (what.Name name) = is_uncalled u (seen_name (meaning_of scope name))
+breaks_placements scope u (what.Unary op a) = is_wrong_operand u op a
+breaks_placements scope u (what.Cast t a) = is_wrong_cast u t (type_of a)
+breaks_placements scope u _ = false

@@ -9,6 +9,7 @@ use Rattle.mv_ast.specs.declared.unit.Specs.{Specs, out-Specs}
 use Rattle.mv_ast.specs.declared.unit.EnumSpec.{EnumSpec, out-EnumSpec}
 use Rattle.mv_scope.specs.declared.scope.Scope.{Scope}
 use Rattle.mv_scope.specs.Scoped.{tag_of}
+use Rattle.mv_judge.specs.RuleNumbers as rules
 use Rattle.mv_judge.specs.Judged.{Judged, Good, Broken}
 
 -- _Bool 0, char 3, int 12, short 14, signed 15, unsigned 18, void 19
@@ -57,13 +58,13 @@ any_is [] = false
 any_is (b ∷ bs) = b || any_is bs
 
 abbrev pub type_or_broken : Place → Option CType → Judged CType
-type_or_broken place None = Broken place 22
+type_or_broken place None = Broken place rules.declarations
 type_or_broken place (Some t) = Good t
 
--- rule 1: a tag isn't declared; rule 22: the words and enums name no type
+-- names: a tag isn't declared; declarations: the words and enums name no type
 abbrev pub judged_type : Place → List Bool → List ℕ → Judged CType
 judged_type place undeclared words =
-    if any_is undeclared then Broken place 1 else type_or_broken place (named_type (length undeclared) words)
+    if any_is undeclared then Broken place rules.names else type_or_broken place (named_type (length undeclared) words)
 
 abbrev pub undeclared_enum : Scope → EnumSpec → Bool
 undeclared_enum scope e = let f = out-EnumSpec e in is_undeclared scope f.tag (is_none f.members)

@@ -6,6 +6,7 @@ ghost use Rattle.mv_judge.specs.Breaches.{if_broken, least, concluded, breaches_
 ghost use Rattle.mv_judge.specs.Rules.{is_bare, is_valueless, is_misnamed};
 
 use crate::error::RuleError;
+use crate::rules;
 use crate::seen::{Seen, Use, is_attributed};
 use mv_ast::place::Place;
 use mv_scope::convert::is_void;
@@ -13,27 +14,27 @@ use mv_scope::convert::is_void;
 /// Which of the rules of expressions a node breaks.
 #[derive(Clone, Copy)]
 pub struct Breaches {
-    /// Rule 1: a name isn't declared.
+    /// A name isn't declared.
     pub undeclared: bool,
-    /// Rule 3: an operator doesn't take the types of its operands.
+    /// An operator doesn't take the types of its operands.
     pub operands: bool,
-    /// Rule 4: what is assigned isn't an object, or is `const`.
+    /// What is assigned isn't an object, or is `const`.
     pub assigned: bool,
-    /// Rule 5: a value doesn't convert.
+    /// A value doesn't convert.
     pub converted: bool,
-    /// Rule 6: what is called isn't a function, or takes another number of arguments.
+    /// What is called isn't a function, or takes another number of arguments.
     pub called: bool,
-    /// Rule 7: what is indexed isn't an array, or an array isn't indexed.
+    /// What is indexed isn't an array, or an array isn't indexed.
     pub indexed: bool,
-    /// Rule 8: `void` is used as a value.
+    /// `void` is used as a value.
     pub void: bool,
-    /// Rule 15: an attributed function assigns to a switch.
+    /// An attributed function assigns to a switch.
     pub switch: bool,
-    /// Rule 17: what is named isn't an attributed function, or isn't a switch behind `&`.
+    /// What is named isn't an attributed function, or isn't a switch behind `&`.
     pub named: bool,
-    /// Rule 19: a function is used that isn't defined.
+    /// A function is used that isn't defined.
     pub undefined: bool,
-    /// Rule 20: `&`, `*`, a cast or a known function stands where it may not.
+    /// `&`, `*`, a cast or a known function stands where it may not.
     pub misplaced: bool,
 }
 
@@ -49,17 +50,17 @@ fn if_broken(broken: bool, rule: u8, others: Option<u8>) -> Option<u8>
 fn least(breaches: Breaches) -> Option<u8>
     ensures { result ≡ least breaches }
 {
-    let found = if_broken(breaches.misplaced, 20, None);
-    let found = if_broken(breaches.undefined, 19, found);
-    let found = if_broken(breaches.named, 17, found);
-    let found = if_broken(breaches.switch, 15, found);
-    let found = if_broken(breaches.void, 8, found);
-    let found = if_broken(breaches.indexed, 7, found);
-    let found = if_broken(breaches.called, 6, found);
-    let found = if_broken(breaches.converted, 5, found);
-    let found = if_broken(breaches.assigned, 4, found);
-    let found = if_broken(breaches.operands, 3, found);
-    if_broken(breaches.undeclared, 1, found)
+    let found = if_broken(breaches.misplaced, rules::PLACEMENTS, None);
+    let found = if_broken(breaches.undefined, rules::DEFINITIONS, found);
+    let found = if_broken(breaches.named, rules::PLAN_ARGUMENTS, found);
+    let found = if_broken(breaches.switch, rules::SWITCH_ASSIGNMENTS, found);
+    let found = if_broken(breaches.void, rules::VOID, found);
+    let found = if_broken(breaches.indexed, rules::INDEXES, found);
+    let found = if_broken(breaches.called, rules::CALLS, found);
+    let found = if_broken(breaches.converted, rules::CONVERSIONS, found);
+    let found = if_broken(breaches.assigned, rules::ASSIGNMENTS, found);
+    let found = if_broken(breaches.operands, rules::OPERANDS, found);
+    if_broken(breaches.undeclared, rules::NAMES, found)
 }
 
 /// What a node is, unless it breaks a rule.

@@ -5,6 +5,7 @@ ghost use Rattle.mv_judge.specs.NeededConstants.{constant_judgement};
 
 use crate::error::RuleError;
 use crate::judge::value;
+use crate::rules;
 use mv_ast::program::CType;
 use mv_ast::unit::Node;
 use mv_scope::constant::constant_value;
@@ -18,7 +19,7 @@ pub struct Constant {
     pub ctype: CType,
 }
 
-/// The value of an expression where a constant is needed. Rule 9 is broken at the expression where it isn't one or divides by 0.
+/// The value of an expression where a constant is needed. The rule of constants is broken at the expression where it isn't one or divides by 0.
 pub fn needed(alloc: Global, scope: &Scope, node: &Node) -> Result<Constant, RuleError>
     ensures { IsJudged (constant_judgement scope.now node.now) result }
 {
@@ -28,6 +29,6 @@ pub fn needed(alloc: Global, scope: &Scope, node: &Node) -> Result<Constant, Rul
     drop(e);
     match value {
         Some(value) => Ok(Constant { value, ctype }),
-        None => Err(RuleError::Rule(node.place, 9)),
+        None => Err(RuleError::Rule(node.place, rules::CONSTANTS)),
     }
 }

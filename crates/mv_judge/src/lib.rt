@@ -8,6 +8,7 @@ pub mod constant;
 pub mod error;
 mod forms;
 pub mod judge;
+pub mod rules;
 pub mod seen;
 pub mod type_names;
 mod values;

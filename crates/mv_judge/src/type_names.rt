@@ -5,6 +5,7 @@ ghost use Rattle.mv_judge.specs.Judged.{IsJudged};
 ghost use Rattle.mv_judge.specs.TypeNames.{stands_in, are, all_stand_in, named_kind, named_type, undeclared_enum, any_is, type_of};
 
 use crate::error::RuleError;
+use crate::rules;
 use mv_ast::program::CType;
 use mv_ast::unit::{EnumSpec, Specs};
 use mv_num::kind::Kind;
@@ -122,16 +123,16 @@ fn any_undeclared(scope: &Scope, enums: &[EnumSpec]) -> bool
 }
 
 /// The type that specifiers name in a scope in which the enums that they declare themselves are declared already. It is broken at the
-/// specifiers where a tag isn't declared (rule 1), and else where their words and enums name no type (rule 22). Whether `static`,
+/// specifiers where a tag isn't declared (the rule of names), and else where their words and enums name no type (that of declarations). Whether `static`,
 /// `const` or an attribute stand among them makes no difference.
 pub fn type_of(scope: &Scope, specs: &Specs) -> Result<CType, RuleError>
     ensures { IsJudged (type_of scope.now specs.now) result }
 {
     if any_undeclared(scope, specs.tags.as_slice()) {
-        return Err(RuleError::Rule(specs.place, 1));
+        return Err(RuleError::Rule(specs.place, rules::NAMES));
     }
     match named_type(specs.tags.len(), specs.words.as_slice()) {
         Some(t) => Ok(t),
-        None => Err(RuleError::Rule(specs.place, 22)),
+        None => Err(RuleError::Rule(specs.place, rules::DECLARATIONS)),
     }
 }

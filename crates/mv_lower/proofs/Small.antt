@@ -14,7 +14,7 @@ use Rattle.mv_ast.specs.Names.{any_of}
 use Rattle.mv_ir.proofs.Induction.{Each}
 use Rattle.mv_lowering.specs.Lower.{all_of}
 use Rattle.mv_lowering.proofs.Expressions.{split, no, denied}
-use Rattle.mv_lowered_programs.specs.Labels.{at_most_one, has_label, ArmLabels, later_arms, arms_labelled, labels_layer, arm_labels_layer, stmt_labelled, arm_labels}
+use Rattle.mv_lowering.specs.Labels.{at_most_one, has_label, ArmLabels, later_arms, arms_labelled, labels_layer, arm_labels_layer, stmt_labelled, arm_labels}
 use Rattle.mv_lowered_programs.specs.WellFormed.{IsWellFormed}
 use Rattle.mv_lowered_programs.proofs.StatementInduction.{StmtChildren, stmt_ind}
 use Rattle.mv_lower.specs.Programs.{HasRoom, IsSmall}

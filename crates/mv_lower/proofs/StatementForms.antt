@@ -12,9 +12,10 @@ use Rattle.mv_ast.specs.declared.program.Arm.{Arm, fold_out-Arm}
 use Rattle.mv_ast.specs.Counts.{expr_nodes, own_nodes, stmt_sum, arm_sum, stmt_total, arm_total, words_of_size}
 use Rattle.mv_ast.specs.Names.{any_of, names_local}
 use Rattle.mv_ir.specs.declared.stm.Stm.{Stm}
-use Rattle.mv_lowering.specs.Lowered.{Lowered, set}
+use Rattle.mv_lowering.specs.Lowered.{Lowered, set, number}
 use Rattle.mv_lowering.specs.Lower.{is_void, lower_expr}
-use Rattle.mv_lowering.specs.Statements.{Jumps, Code, Placed, LoweredArm, in_body, enclosed, break, store_values, values_top, store_zeros, store_word, clear_words, nested, arms_top, test_arms, test_labels, arm_place}
+use Rattle.mv_lowering.specs.Statements.{Jumps, Code, Placed, LoweredArm, in_body, enclosed, store_values, values_top, store_zeros, store_word, clear_words, arms_code, arms_top, test_arms, test_labels, arm_place}
+use Rattle.mv_lowering.specs.Statements.{all_tests as lowered_tests}
 use Rattle.mv_lowering.specs.LowerStatements.{lower_stmt_layer, lower_arm_layer, lower_stmt, lower_arm}
 use Rattle.mv_lowering.specs.Functions.{size_in}
 use Rattle.mv_lower_expressions.specs.Values.{given}
@@ -223,25 +224,22 @@ place_same g i [] = refl
 place_same g i (a ∷ arms) =
     ap (λ (x : LoweredArm). cond x.other i (arm_place (λ b. b.other) (suc i) (map (arm_at g) arms))) (arm_is g a) ∙ ap (λ rest. cond a.other i rest) (place_same g (suc i) arms)
 
-all_tests_same : (g : Function) (n : ℕ) (arms : List Arm) → test_arms n 0 (map (arm_at g) arms) ++ break (arm_place (λ a. a.other) 0 (map (arm_at g) arms)) ∷ [] ≡ all_tests n arms
+all_tests_same : (g : Function) (n : ℕ) (arms : List Arm) → lowered_tests n (map (arm_at g) arms) ≡ all_tests n arms
 unfolding all_tests
 all_tests_same g n arms =
-    ap (λ c. c ++ break (arm_place (λ a. a.other) 0 (map (arm_at g) arms)) ∷ []) (tests_same g n 0 arms) ∙ ap (λ k. tests_from n 0 arms ++ break k ∷ []) (place_same g 0 arms)
+    ap (λ c. c ++ set n (number (arm_place (λ a. a.other) 0 (map (arm_at g) arms))) ∷ []) (tests_same g n 0 arms) ∙ ap (λ k. tests_from n 0 arms ++ set n (number k) ∷ []) (place_same g 0 arms)
 
 pub stmt_switch : (g : Function) (e : Expr) (arms : List Arm) (j : Jumps) →
-    stmt_at g (at.Switch e arms) j ≡ switch_of (expr_at e (length g.locals)) (arms_of g (all_tests (length g.locals) arms) arms j) (length g.locals)
+    stmt_at g (at.Switch e arms) j ≡ switch_of (expr_at e (length g.locals)) (all_tests (length g.locals) arms) (arms_of g arms j) (length g.locals)
 unfolding expr_at arms_of arm_at
 stmt_switch g e arms j =
     let m = length g.locals in
     let x = lower_expr e m in
-    let of_tests : List Stm → Code =
-    λ tests. record {
-      code = x.code ++ set m x.tree ∷ enclosed (nested tests (map (arm_at g) arms) j) ∷ [];
-      top = max (m + 1) (max x.top (arms_top m (map (arm_at g) arms) j));
-    } in
+    let lowered_arms = arms_code m 0 (map (arm_at g) arms) j in
+    let top = max (m + 1) (max x.top (arms_top m (map (arm_at g) arms) j)) in
+    let of_tests : List Stm → Code = λ tests. record { code = x.code ++ set m x.tree ∷ enclosed (enclosed tests ∷ lowered_arms) ∷ []; top = top } in
     let grouped = λ (tests : List Stm).
-    ap (λ (c : List Stm). (let r : Code = record { code = c; top = max (m + 1) (max x.top (arms_top m (map (arm_at g) arms) j)) } in r))
-    (sym (append_assoc x.code (set m x.tree ∷ []) (enclosed (nested tests (map (arm_at g) arms) j) ∷ []))) in
+    ap (λ (c : List Stm). (let r : Code = record { code = c; top = top } in r)) (sym (append_assoc x.code (set m x.tree ∷ []) (enclosed (enclosed tests ∷ lowered_arms) ∷ []))) in
     lowered g _ _ j (outs-Switch e arms) ∙ (ap of_tests (all_tests_same g m arms) ∙ grouped (all_tests m arms))
 
 pub ruleset forms = (stmt_block, stmt_clear, stmt_express, stmt_if, stmt_while, stmt_do, stmt_for, stmt_switch, stmt_break, stmt_continue, stmt_return)

@@ -3,8 +3,8 @@ use Rattle.std.specs.Prelude.{ℕ, ◌+◌, suc, cond, List, [], ◌∷◌, ◌+
 use Rattle.mv_ast.specs.declared.program.Function.{Function}
 use Rattle.mv_ast.specs.declared.program.Arm.{Arm}
 use Rattle.mv_ir.specs.declared.stm.Stm.{Stm}
-use Rattle.mv_lowering.specs.Lowered.{Lowered, set}
-use Rattle.mv_lowering.specs.Statements.{Jumps, Code, enclosed, break, test_labels, nested, arms_top}
+use Rattle.mv_lowering.specs.Lowered.{Lowered, number, set}
+use Rattle.mv_lowering.specs.Statements.{Jumps, Code, enclosed, test_labels, arms_code, arms_top}
 use Rattle.mv_lower.specs.Statements.{arm_at}
 
 -- the place of the first arm with `default`, from this place on
@@ -17,11 +17,11 @@ tests_from n i [] = []
 tests_from n i (a ∷ arms) = test_labels n i a.labels ++ tests_from n (suc i) arms
 
 unfoldable pub all_tests : ℕ → List Arm → List Stm
-all_tests n arms = tests_from n 0 arms ++ break (default_place 0 arms) ∷ []
+all_tests n arms = tests_from n 0 arms ++ set n (number (default_place 0 arms)) ∷ []
 
--- the arms behind the code that picks one, and above the temporaries that they write
-unfoldable pub arms_of : Function → List Stm → List Arm → Jumps → Code
-arms_of g inner arms j = record { code = nested inner (map (arm_at g) arms) j; top = arms_top (length g.locals) (map (arm_at g) arms) j }
+-- the arms, and above the temporaries that they write
+unfoldable pub arms_of : Function → List Arm → Jumps → Code
+arms_of g arms j = record { code = arms_code (length g.locals) 0 (map (arm_at g) arms) j; top = arms_top (length g.locals) (map (arm_at g) arms) j }
 
-abbrev pub switch_of : Lowered → Code → ℕ → Code
-switch_of x body n = record { code = (x.code ++ set n x.tree ∷ []) ++ enclosed body.code ∷ []; top = max (n + 1) (max x.top body.top) }
+abbrev pub switch_of : Lowered → List Stm → Code → ℕ → Code
+switch_of x tests arms n = record { code = (x.code ++ set n x.tree ∷ []) ++ enclosed (enclosed tests ∷ arms.code) ∷ []; top = max (n + 1) (max x.top arms.top) }

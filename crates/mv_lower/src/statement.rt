@@ -9,7 +9,7 @@ use crate::code::{
     while_loop,
 };
 use crate::declaration::{declare, size_of};
-use crate::switch::{after_block, in_arm, switch, tests};
+use crate::switch::{arm_code, in_arm, switch, tests};
 use mv_ast::program::{Arm, Expr, Function, Stmt};
 use mv_ir::stm::Stm;
 use mv_lower_expressions::expression::{lower_each, lower_expr, lower_optional};
@@ -86,8 +86,8 @@ fn lower_stmt(
         Stmt::Switch(e, arms) => {
             let value = lower_expr(alloc, e, n)?;
             let tests = tests(alloc, arms, n)?;
-            let body = lower_arms(alloc, function, tests, arms, jumps)?;
-            Ok(switch(alloc, value, body, n)?)
+            let arms = lower_arms(alloc, function, arms, jumps)?;
+            Ok(switch(alloc, value, tests, arms, n)?)
         }
         Stmt::Break => Ok(leave(alloc, jumps, n)?),
         Stmt::Continue => Ok(go_on(alloc, jumps, n)?),
@@ -109,26 +109,27 @@ fn lower_return(alloc: Global, e: &Option<Expr>, jumps: Jumps, n: u32) -> Result
     }
 }
 
-// The arms of a `switch`, each behind a block that holds the code before it, so that control falls through.
+// The arms of a `switch`, one behind the other.
 #[cycle(statement)]
 fn lower_arms(
     alloc: Global,
     function: &Function,
-    tests: List<Stm>,
     arms: &List<Arm>,
     jumps: Jumps,
 ) -> Result<Code, AllocError>
     requires { used function.now (seen_jumps jumps) + 2 * arms_size arms.now < 2 ^ 32 }
-    ensures { IfOk result (λ c. seen_code c ≡ arms_of function.now tests arms.now (seen_jumps jumps)) }
+    ensures { IfOk result (λ c. seen_code c ≡ arms_of function.now arms.now (seen_jumps jumps)) }
 {
-    let mut code = tests;
-    let mut top = function.locals.len() as u32;
-    let mut behind = arms.len() as u32;
+    let n = function.locals.len() as u32;
+    let inside = in_arm(jumps);
+    let mut code = List::new(alloc);
+    let mut top = n;
+    let mut place = 0;
     for arm in arms.as_slice() {
-        behind -= 1;
-        let body = lower_stmts(alloc, function, &arm.body, in_arm(behind, jumps))?;
-        code = after_block(alloc, code, body.code)?;
+        let body = lower_stmts(alloc, function, &arm.body, inside)?;
+        append(&mut code, arm_code(alloc, n, place, body.code)?)?;
         top = top.max(body.top);
+        place += 1;
     }
     Ok(Code { code, top })
 }

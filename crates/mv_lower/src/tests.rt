@@ -1,7 +1,7 @@
 //! Each form of statement once, and small programs. What counts is how many statements they become, worked out by hand.
 #![tactic(auto, using(crate::proofs::StatementForms::sizes, mv_lower_expressions::proofs::Forms::sizes, mv_lower_expressions::proofs::Leaves::leaf_sizes, crate::proofs::Leaves::leaf_sizes))]
 
-ghost use Rattle.std.specs.Prelude.{◌≡◌, ◌+◌, ◌≤◌, ◌<◌, ◌∷◌, [], length};
+ghost use Rattle.std.specs.Prelude.{◌≡◌, ◌+◌, ◌*◌, ◌≤◌, ◌<◌, ◌∷◌, [], length};
 ghost use Rattle.mv_lowered_programs.specs.WellFormed.{IsWellFormed};
 ghost use Rattle.mv_lower_expressions.specs.Expressions.{expr_size};
 ghost use Rattle.mv_lower.specs.Programs.{HasRoom, IsSmall};
@@ -112,9 +112,9 @@ fn function(
     }
 }
 
-// How many statements a statement becomes in a function with a scalar and an array of four elements.
-fn counted(rt: &impl Abort, alloc: Global, s: Stmt) -> u64
-    requires { stmt_size s ≤ 99 }
+// What a statement becomes in a function with a scalar and an array of four elements.
+fn lowered(rt: &impl Abort, alloc: Global, s: Stmt) -> List<Stm>
+    requires { stmt_size s ≤ 999999 }
 {
     let scalar = Local {
         ctype: INT,
@@ -133,7 +133,13 @@ fn counted(rt: &impl Abort, alloc: Global, s: Stmt) -> u64
     };
     let body = single(rt, alloc, s);
     let code = lower_stmts(alloc, &function, &body, outermost).expect(rt, "memory");
-    count(&code.code)
+    code.code
+}
+
+fn counted(rt: &impl Abort, alloc: Global, s: Stmt) -> u64
+    requires { stmt_size s ≤ 999999 }
+{
+    count(&lowered(rt, alloc, s))
 }
 
 #[test]
@@ -181,11 +187,86 @@ fn choices(rt: HostRuntime) {
     let a = rt.alloc();
     let choice = Stmt::If(five(), step(&rt, a), step(&rt, a));
     assert_eq!(rt; counted(&rt, a, choice), 3);
-    // the value put away; a block round all, and one for each arm; two tests with their jumps and the jump to `default`; the arms
+    // the value put away; a block round all, and one round the tests; two tests with the place and the jump, and the place of
+    // `default`; for each arm a choice, its statement, and the first place again
     let labelled = arm(&rt, a, false, step(&rt, a));
     let last = arm(&rt, a, true, single(&rt, a, Stmt::Break));
     let switch = Stmt::Switch(five(), pair(&rt, a, labelled, last));
-    assert_eq!(rt; counted(&rt, a, switch), 11);
+    assert_eq!(rt; counted(&rt, a, switch), 16);
+}
+
+// `If temp 2 == label { temp 2 := place; Break 0 }`
+fn is_test(test: &Stm, label: u32, place: u32) -> bool {
+    match test {
+        Stm::If(Tree::Binary(11, value, tested), begins, others) => {
+            matches!(value.get(), Tree::Temp(2))
+                && matches!(tested.get(), Tree::Number(n) if *n == label)
+                && matches!(begins.as_slice(), [Stm::Set(2, Tree::Number(n)), Stm::Break(0)] if *n == place)
+                && others.len() == 0
+        }
+        _ => false,
+    }
+}
+
+// `If place < temp 2 { } else { a statement; temp 2 := 0 }`
+fn is_arm(arm: &Stm, place: u32) -> bool {
+    match arm {
+        Stm::If(Tree::Binary(10, own, begun), skipped, entered) => {
+            matches!(own.get(), Tree::Number(n) if *n == place)
+                && matches!(begun.get(), Tree::Temp(2))
+                && skipped.len() == 0
+                && matches!(entered.as_slice(), [_, Stm::Set(2, Tree::Number(0))])
+        }
+        _ => false,
+    }
+}
+
+fn are_tests(tests: &List<Stm>) -> bool {
+    match tests.as_slice() {
+        [one, two, Stm::Set(2, Tree::Number(1))] => is_test(one, 1, 0) && is_test(two, 2, 0),
+        _ => false,
+    }
+}
+
+fn is_flat(code: &List<Stm>) -> bool {
+    match code.as_slice() {
+        [Stm::Set(2, Tree::Number(5)), Stm::Block(whole)] => match whole.as_slice() {
+            [Stm::Block(tests), first, last] => {
+                are_tests(tests) && is_arm(first, 0) && is_arm(last, 1)
+            }
+            _ => false,
+        },
+        _ => false,
+    }
+}
+
+#[test]
+fn the_arms_of_a_switch_stand_side_by_side(rt: HostRuntime) {
+    let a = rt.alloc();
+    let labelled = arm(&rt, a, false, step(&rt, a));
+    let last = arm(&rt, a, true, single(&rt, a, Stmt::Break));
+    let code = lowered(&rt, a, Stmt::Switch(five(), pair(&rt, a, labelled, last)));
+    assert!(rt; is_flat(&code));
+}
+
+// Many arms with a label and a statement each.
+fn many_arms(rt: &impl Abort, alloc: Global, count: u32) -> List<Arm>
+    ensures { arms_size result ≤ 13 * count }
+{
+    let mut arms = List::new(alloc);
+    for _ in 0..count {
+        let next = arm(rt, alloc, false, single(rt, alloc, Stmt::Break));
+        arms.push(next).expect(rt, "memory");
+    }
+    arms
+}
+
+#[test]
+fn many_arms_are_lowered_and_let_go(rt: HostRuntime) {
+    let a = rt.alloc();
+    let switch = Stmt::Switch(five(), many_arms(&rt, a, 30_000));
+    // the value put away, two blocks and the place of `default`; for each arm two tests and a statement of its own
+    assert_eq!(rt; counted(&rt, a, switch), 4 + 30_000 * 9);
 }
 
 fn variable(rt: &impl Abort, alloc: Global, size: Option<u32>) -> Variable {

@@ -5,11 +5,12 @@ ghost use Rattle.mv_lowering.specs.Lowered.{lower_call_to, last_of, but_last};
 ghost use Rattle.mv_lower_expressions.specs.Values.{seen};
 ghost use Rattle.mv_lower_expressions.specs.Calls.{seen_arguments, arguments_of, prepended, direct_of, through_of, known_of};
 
-use crate::value::{Value, append, is_empty, kept_if};
+use crate::value::{Value, followed_by, followed_by_all, is_empty, kept_if};
 use mv_ast::program::{CType, Known};
 use mv_ir::stm::{Callee, Stm};
 use mv_ir::tree::Tree;
 use mv_num::list::List;
+use mv_num::results;
 use std::alloc::{AllocError, Global};
 
 /// The code of arguments, and their trees where it ends.
@@ -46,16 +47,14 @@ fn prepend(value: Value, rest: Arguments, n: u32) -> Result<Arguments, AllocErro
     ensures { IfOk result (λ all. seen_arguments all ≡ prepended (seen value) (seen_arguments rest) n) }
 {
     let stays = is_empty(&rest.code);
-    let Value {
-        mut code,
-        tree,
-        top,
-    } = kept_if(stays, value, n)?;
-    append(&mut code, rest.code)?;
+    let (rest, value) = results::both(rest, kept_if(stays, value, n))?;
+    let code = followed_by_all(value.code, rest.code);
+    let ((tree, trees), code) = results::both((value.tree, rest.trees), code)?;
+    let (code, trees) = results::both(code, front(tree, trees))?;
     Ok(Arguments {
         code,
-        trees: front(tree, rest.trees)?,
-        top: top.max(rest.top),
+        trees,
+        top: value.top.max(rest.top),
     })
 }
 
@@ -81,23 +80,17 @@ fn call_to(void: bool, callee: Callee, all: Arguments, n: u32) -> Result<Value, 
     requires { n + 1 < 2 ^ 32 }
     ensures { IfOk result (λ v. seen v ≡ lower_call_to void callee (seen_arguments all) all.trees n) }
 {
-    let Arguments {
-        mut code,
-        trees,
-        top,
-    } = all;
+    let Arguments { code, trees, top } = all;
     let top = (n + 1).max(top);
     if void {
-        code.push(Stm::Call(None, callee, trees))?;
         Ok(Value {
-            code,
+            code: followed_by(code, Stm::Call(None, callee, trees))?,
             tree: Tree::Number(0),
             top,
         })
     } else {
-        code.push(Stm::Call(Some(n), callee, trees))?;
         Ok(Value {
-            code,
+            code: followed_by(code, Stm::Call(Some(n), callee, trees))?,
             tree: Tree::Temp(n),
             top,
         })
@@ -155,14 +148,9 @@ pub fn known(alloc: Global, known: Known, values: List<Value>, n: u32) -> Result
     requires { n + 1 + length values < 2 ^ 32 }
     ensures { IfOk result (λ v. seen v ≡ known_of known (map seen values) n) }
 {
-    let Arguments {
-        mut code,
-        trees,
-        top,
-    } = all_arguments(alloc, values, n)?;
-    code.push(Stm::Known(Some(n), known, trees))?;
+    let Arguments { code, trees, top } = all_arguments(alloc, values, n)?;
     Ok(Value {
-        code,
+        code: followed_by(code, Stm::Known(Some(n), known, trees))?,
         tree: Tree::Temp(n),
         top: (n + 1).max(top),
     })

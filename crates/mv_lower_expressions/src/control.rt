@@ -4,18 +4,17 @@ ghost use Rattle.mv_lowering.specs.Lowered.{truth_in};
 ghost use Rattle.mv_lower_expressions.specs.Values.{seen, both_of, either_of, choice_of, number_in, chosen, set_local_of, set_global_of};
 
 use crate::tree::truth;
-use crate::value::{Value, made_low, put_away};
+use crate::value::{Value, followed_by, made_low, put_away};
 use mv_ir::stm::Stm;
 use mv_ir::tree::Tree;
 use mv_num::list::List;
+use mv_num::results;
 use std::alloc::{AllocError, Global};
 
 fn alone(alloc: Global, stm: Stm) -> Result<List<Stm>, AllocError>
     ensures { IfOk result (λ code. code ≡ stm ∷ []) }
 {
-    let mut code = List::new(alloc);
-    code.push(stm)?;
-    Ok(code)
+    followed_by(List::new(alloc), stm)
 }
 
 // The truth of a value, in a temporary.
@@ -23,14 +22,8 @@ fn alone(alloc: Global, stm: Stm) -> Result<List<Stm>, AllocError>
 fn truth_in(alloc: Global, value: Value, n: u32) -> Result<List<Stm>, AllocError>
     ensures { IfOk result (λ code. code ≡ truth_in n (seen value)) }
 {
-    let Value {
-        mut code,
-        tree,
-        top: _,
-    } = value;
-    let tree = truth(alloc, tree)?;
-    code.push(Stm::Set(n, tree))?;
-    Ok(code)
+    let (code, tree) = results::both(value.code, truth(alloc, value.tree))?;
+    followed_by(code, Stm::Set(n, tree))
 }
 
 #[tactic(auto, using(crate::proofs::Emitting::emitted))]
@@ -52,14 +45,9 @@ fn choose(
     requires { n + 1 < 2 ^ 32 }
     ensures { IfOk result (λ v. seen v ≡ chosen (seen test) on_true on_false above n) }
 {
-    let Value {
-        mut code,
-        tree,
-        top,
-    } = test;
-    code.push(Stm::If(tree, on_true, on_false))?;
+    let Value { code, tree, top } = test;
     Ok(Value {
-        code,
+        code: followed_by(code, Stm::If(tree, on_true, on_false))?,
         tree: Tree::Temp(n),
         top: (n + 1).max(top.max(above)),
     })
@@ -71,10 +59,10 @@ pub fn both(alloc: Global, a: Value, b: Value, n: u32) -> Result<Value, AllocErr
     requires { n + 1 < 2 ^ 32 }
     ensures { IfOk result (λ v. seen v ≡ both_of (seen a) (seen b) n) }
 {
-    let b = made_low(b, n)?;
+    let (a, b) = results::both(a, made_low(b, n))?;
     let above = b.top;
-    let on_true = truth_in(alloc, b, n)?;
-    let on_false = number_in(alloc, 0, n)?;
+    let (a, on_true) = results::both(a, truth_in(alloc, b, n))?;
+    let ((a, on_true), on_false) = results::both((a, on_true), number_in(alloc, 0, n))?;
     choose(a, on_true, on_false, above, n)
 }
 
@@ -84,11 +72,18 @@ pub fn either(alloc: Global, a: Value, b: Value, n: u32) -> Result<Value, AllocE
     requires { n + 1 < 2 ^ 32 }
     ensures { IfOk result (λ v. seen v ≡ either_of (seen a) (seen b) n) }
 {
-    let b = made_low(b, n)?;
+    let (a, b) = results::both(a, made_low(b, n))?;
     let above = b.top;
-    let on_false = truth_in(alloc, b, n)?;
-    let on_true = number_in(alloc, 1, n)?;
+    let (a, on_false) = results::both(a, truth_in(alloc, b, n))?;
+    let ((a, on_false), on_true) = results::both((a, on_false), number_in(alloc, 1, n))?;
     choose(a, on_true, on_false, above, n)
+}
+
+// The code of a value, whose tree is let go.
+fn code_of(value: Value) -> List<Stm>
+    ensures { result ≡ value.code }
+{
+    value.code
 }
 
 /// `?:` (C11 6.5.15).
@@ -97,10 +92,11 @@ pub fn choice(test: Value, a: Value, b: Value, n: u32) -> Result<Value, AllocErr
     requires { n + 1 < 2 ^ 32 }
     ensures { IfOk result (λ v. seen v ≡ choice_of (seen test) (seen a) (seen b) n) }
 {
-    let a = put_away(a, n)?;
-    let b = put_away(b, n)?;
+    let ((test, b), a) = results::both((test, b), put_away(a, n))?;
+    let ((test, a), b) = results::both((test, a), put_away(b, n))?;
     let above = a.top.max(b.top);
-    choose(test, a.code, b.code, above, n)
+    let (on_true, on_false) = (code_of(a), code_of(b));
+    choose(test, on_true, on_false, above, n)
 }
 
 /// An assignment to a local.
@@ -108,14 +104,9 @@ pub fn choice(test: Value, a: Value, b: Value, n: u32) -> Result<Value, AllocErr
 pub fn set_local(local: u32, a: Value, n: u32) -> Result<Value, AllocError>
     ensures { IfOk result (λ v. seen v ≡ set_local_of local (seen a) n) }
 {
-    let Value {
-        mut code,
-        tree,
-        top,
-    } = a;
-    code.push(Stm::Set(local, tree))?;
+    let Value { code, tree, top } = a;
     Ok(Value {
-        code,
+        code: followed_by(code, Stm::Set(local, tree))?,
         tree: Tree::Temp(local),
         top,
     })
@@ -127,14 +118,9 @@ pub fn set_global(global: u32, a: Value, n: u32) -> Result<Value, AllocError>
     requires { n + 1 < 2 ^ 32 }
     ensures { IfOk result (λ v. seen v ≡ set_global_of global (seen a) n) }
 {
-    let Value {
-        mut code,
-        tree,
-        top,
-    } = put_away(a, n)?;
-    code.push(Stm::SetGlobal(global, tree))?;
+    let Value { code, tree, top } = put_away(a, n)?;
     Ok(Value {
-        code,
+        code: followed_by(code, Stm::SetGlobal(global, tree))?,
         tree: Tree::Temp(n),
         top,
     })

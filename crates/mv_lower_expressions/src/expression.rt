@@ -1,7 +1,9 @@
 // The lowering of expressions.
-ghost use Rattle.std.specs.Prelude.{◌≡◌, ◌+◌, ◌++◌, ◌∷◌, [], ◌<◌, ◌^◌, IfOk, map, length};
-ghost use Rattle.mv_lower_expressions.specs.Values.{seen};
-ghost use Rattle.mv_lower_expressions.specs.Places.{seen_place};
+ghost use Rattle.std.specs.Prelude.{◌≡◌, ◌+◌, ◌++◌, ◌∷◌, [], ◌<◌, ◌^◌, IfOk, false, map, length};
+ghost use Rattle.mv_lowering.specs.Lower.{is_void};
+ghost use Rattle.mv_lower_expressions.specs.Values.{seen, unary_of, converted_of, binary_of, both_of, either_of, choice_of};
+ghost use Rattle.mv_lower_expressions.specs.Calls.{direct_of, through_of, known_of};
+ghost use Rattle.mv_lower_expressions.specs.Places.{seen_place, start_of, read_of, set_of, change_of, after_of};
 ghost use Rattle.mv_lower_expressions.specs.Expressions.{expr_at, form_at, place_at, exprs_at, each_at, optional_at, expr_size, form_size, target_size, exprs_size, optional_size};
 
 use crate::call::{direct, is_void, known, through};
@@ -9,11 +11,12 @@ use crate::control::{both, choice, either};
 use crate::operands::{binary, convert, unary};
 use crate::place::{Place, after, alone, change, read, set, start};
 use crate::value::Value;
-use mv_ast::program::{CType, Expr, Form, Target};
+use mv_ast::program::{CType, Expr, Form, Known, Target};
 use mv_ir::stm::Array;
 use mv_ir::tree::Tree;
 use mv_num::boxed::Boxed;
 use mv_num::list::List;
+use mv_num::results;
 use std::alloc::{AllocError, Global};
 
 /// An expression from the first free temporary on (C11 6.5). Operands, arguments and indices are evaluated left to right.
@@ -49,6 +52,14 @@ fn lower_exprs(alloc: Global, es: &List<Expr>, n: u32) -> Result<List<Value>, Al
     Ok(values)
 }
 
+// Values with one more.
+fn with_last(mut values: List<Value>, last: Value) -> Result<List<Value>, AllocError>
+    ensures { IfOk result (λ all. all ≡ values ++ last ∷ []) }
+{
+    values.push(last)?;
+    Ok(values)
+}
+
 // The same with a callee behind the arguments.
 #[cycle(expression)]
 fn lower_with_callee(
@@ -60,10 +71,10 @@ fn lower_with_callee(
     requires { n + 2 + exprs_size args.now + expr_size callee.now < 2 ^ 32 }
     ensures { IfOk result (λ vs. map seen vs ≡ exprs_at args.now n ++ expr_at callee.now (n + length args.now) ∷ []) }
 {
-    let mut values = lower_exprs(alloc, args, n)?;
-    let last = lower_boxed(alloc, callee, n + args.len() as u32)?;
-    values.push(last)?;
-    Ok(values)
+    let values = lower_exprs(alloc, args, n)?;
+    let last = lower_boxed(alloc, callee, n + args.len() as u32);
+    let (values, last) = results::both(values, last)?;
+    Ok(with_last(values, last)?)
 }
 
 #[cycle(expression)]
@@ -87,6 +98,181 @@ fn lower_target(alloc: Global, target: &Target, n: u32) -> Result<Place, AllocEr
 }
 
 #[cycle(expression)]
+fn lower_read(alloc: Global, target: &Target, n: u32) -> Result<Value, AllocError>
+    requires { n + 2 + target_size target.now < 2 ^ 32 }
+    ensures { IfOk result (λ v. seen v ≡ read_of (place_at target.now n) n) }
+{
+    let place = lower_target(alloc, target, n)?;
+    Ok(read(alloc, place, n)?)
+}
+
+#[cycle(expression)]
+fn lower_unary(alloc: Global, op: u8, a: &Boxed<Expr>, n: u32) -> Result<Value, AllocError>
+    requires { n + 2 + expr_size a.now < 2 ^ 32 }
+    ensures { IfOk result (λ v. seen v ≡ unary_of op (expr_at a.now n) n) }
+{
+    let a = lower_boxed(alloc, a, n)?;
+    Ok(unary(alloc, op, a, n)?)
+}
+
+#[cycle(expression)]
+fn lower_binary(
+    alloc: Global,
+    op: u8,
+    a: &Boxed<Expr>,
+    b: &Boxed<Expr>,
+    n: u32,
+) -> Result<Value, AllocError>
+    requires { n + 2 + (expr_size a.now + expr_size b.now) < 2 ^ 32 }
+    ensures { IfOk result (λ v. seen v ≡ binary_of false op a.now.ctype (expr_at a.now n) (expr_at b.now (n + 1)) n) }
+{
+    let x = lower_boxed(alloc, a, n)?;
+    let (x, y) = results::both(x, lower_boxed(alloc, b, n + 1))?;
+    Ok(binary(alloc, false, op, a.get().ctype, x, y, n)?)
+}
+
+#[cycle(expression)]
+fn lower_both(alloc: Global, a: &Boxed<Expr>, b: &Boxed<Expr>, n: u32) -> Result<Value, AllocError>
+    requires { n + 2 + (expr_size a.now + expr_size b.now) < 2 ^ 32 }
+    ensures { IfOk result (λ v. seen v ≡ both_of (expr_at a.now n) (expr_at b.now n) n) }
+{
+    let a = lower_boxed(alloc, a, n)?;
+    let (a, b) = results::both(a, lower_boxed(alloc, b, n))?;
+    Ok(both(alloc, a, b, n)?)
+}
+
+#[cycle(expression)]
+fn lower_either(
+    alloc: Global,
+    a: &Boxed<Expr>,
+    b: &Boxed<Expr>,
+    n: u32,
+) -> Result<Value, AllocError>
+    requires { n + 2 + (expr_size a.now + expr_size b.now) < 2 ^ 32 }
+    ensures { IfOk result (λ v. seen v ≡ either_of (expr_at a.now n) (expr_at b.now n) n) }
+{
+    let a = lower_boxed(alloc, a, n)?;
+    let (a, b) = results::both(a, lower_boxed(alloc, b, n))?;
+    Ok(either(alloc, a, b, n)?)
+}
+
+#[cycle(expression)]
+fn lower_choice(
+    alloc: Global,
+    c: &Boxed<Expr>,
+    a: &Boxed<Expr>,
+    b: &Boxed<Expr>,
+    n: u32,
+) -> Result<Value, AllocError>
+    requires { n + 2 + (expr_size c.now + (expr_size a.now + expr_size b.now)) < 2 ^ 32 }
+    ensures { IfOk result (λ v. seen v ≡ choice_of (expr_at c.now n) (expr_at a.now n) (expr_at b.now n) n) }
+{
+    let c = lower_boxed(alloc, c, n)?;
+    let (c, a) = results::both(c, lower_boxed(alloc, a, n))?;
+    let ((c, a), b) = results::both((c, a), lower_boxed(alloc, b, n))?;
+    Ok(choice(c, a, b, n)?)
+}
+
+#[cycle(expression)]
+fn lower_converted(
+    alloc: Global,
+    ctype: CType,
+    a: &Boxed<Expr>,
+    n: u32,
+) -> Result<Value, AllocError>
+    requires { n + 2 + expr_size a.now < 2 ^ 32 }
+    ensures { IfOk result (λ v. seen v ≡ converted_of ctype (expr_at a.now n) n) }
+{
+    let a = lower_boxed(alloc, a, n)?;
+    Ok(convert(alloc, ctype, a, n)?)
+}
+
+#[cycle(expression)]
+fn lower_set(alloc: Global, target: &Target, a: &Boxed<Expr>, n: u32) -> Result<Value, AllocError>
+    requires { n + 2 + (target_size target.now + expr_size a.now) < 2 ^ 32 }
+    ensures { IfOk result (λ v. seen v ≡ set_of (place_at target.now n) (expr_at a.now (start_of (place_at target.now n) n)) n) }
+{
+    let place = lower_target(alloc, target, n)?;
+    let at = start(&place, n);
+    let (place, a) = results::both(place, lower_boxed(alloc, a, at))?;
+    Ok(set(place, a, n)?)
+}
+
+#[cycle(expression)]
+fn lower_change(
+    alloc: Global,
+    op: u8,
+    kind: CType,
+    ctype: CType,
+    target: &Target,
+    a: &Boxed<Expr>,
+    n: u32,
+) -> Result<Value, AllocError>
+    requires { n + 2 + (target_size target.now + expr_size a.now) < 2 ^ 32 }
+    ensures { IfOk result (λ v. seen v ≡ change_of op kind ctype (place_at target.now n) (expr_at a.now (start_of (place_at target.now n) n)) n) }
+{
+    let place = lower_target(alloc, target, n)?;
+    let at = start(&place, n);
+    let (place, a) = results::both(place, lower_boxed(alloc, a, at))?;
+    Ok(change(alloc, op, kind, ctype, place, a, n)?)
+}
+
+#[cycle(expression)]
+fn lower_after(
+    alloc: Global,
+    up: bool,
+    ctype: CType,
+    target: &Target,
+    n: u32,
+) -> Result<Value, AllocError>
+    requires { n + 2 + target_size target.now < 2 ^ 32 }
+    ensures { IfOk result (λ v. seen v ≡ after_of up ctype (place_at target.now n) n) }
+{
+    let place = lower_target(alloc, target, n)?;
+    Ok(after(alloc, up, ctype, place, n)?)
+}
+
+#[cycle(expression)]
+fn lower_direct(
+    alloc: Global,
+    f: u32,
+    ctype: CType,
+    args: &List<Expr>,
+    n: u32,
+) -> Result<Value, AllocError>
+    requires { n + 2 + exprs_size args.now < 2 ^ 32 }
+    ensures { IfOk result (λ v. seen v ≡ direct_of (is_void ctype) f (exprs_at args.now n) n) }
+{
+    let values = lower_exprs(alloc, args, n)?;
+    Ok(direct(alloc, is_void(ctype), f, values, n)?)
+}
+
+#[cycle(expression)]
+fn lower_through(
+    alloc: Global,
+    ctype: CType,
+    args: &List<Expr>,
+    callee: &Boxed<Expr>,
+    n: u32,
+) -> Result<Value, AllocError>
+    requires { n + 2 + (exprs_size args.now + expr_size callee.now) < 2 ^ 32 }
+    ensures { IfOk result (λ v. seen v ≡ through_of (is_void ctype) (exprs_at args.now n ++ expr_at callee.now (n + length args.now) ∷ []) n) }
+{
+    let values = lower_with_callee(alloc, args, callee, n)?;
+    Ok(through(alloc, is_void(ctype), values, n)?)
+}
+
+#[cycle(expression)]
+fn lower_known(alloc: Global, k: Known, args: &List<Expr>, n: u32) -> Result<Value, AllocError>
+    requires { n + 2 + exprs_size args.now < 2 ^ 32 }
+    ensures { IfOk result (λ v. seen v ≡ known_of k (exprs_at args.now n) n) }
+{
+    let values = lower_exprs(alloc, args, n)?;
+    Ok(known(alloc, k, values, n)?)
+}
+
+// A form of an expression of a type.
+#[cycle(expression)]
 #[tactic(auto, using(crate::proofs::Forms::forms, crate::proofs::Emitting::emitted))]
 fn lower_form(alloc: Global, form: &Form, ctype: CType, n: u32) -> Result<Value, AllocError>
     requires { n + 2 + form_size form.now < 2 ^ 32 }
@@ -94,66 +280,22 @@ fn lower_form(alloc: Global, form: &Form, ctype: CType, n: u32) -> Result<Value,
 {
     match form {
         Form::Number(v) => Ok(alone(alloc, Tree::Number(*v), n)),
-        Form::Read(target) => {
-            let place = lower_target(alloc, target, n)?;
-            Ok(read(alloc, place, n)?)
-        }
+        Form::Read(target) => lower_read(alloc, target, n),
         Form::Function(f) => Ok(alone(alloc, Tree::Function(*f), n)),
-        Form::Unary(op, a) => {
-            let a = lower_boxed(alloc, a, n)?;
-            Ok(unary(alloc, *op, a, n)?)
-        }
-        Form::Binary(op, a, b) => {
-            let x = lower_boxed(alloc, a, n)?;
-            let y = lower_boxed(alloc, b, n + 1)?;
-            Ok(binary(alloc, false, *op, a.get().ctype, x, y, n)?)
-        }
-        Form::Both(a, b) => {
-            let a = lower_boxed(alloc, a, n)?;
-            let b = lower_boxed(alloc, b, n)?;
-            Ok(both(alloc, a, b, n)?)
-        }
-        Form::Either(a, b) => {
-            let a = lower_boxed(alloc, a, n)?;
-            let b = lower_boxed(alloc, b, n)?;
-            Ok(either(alloc, a, b, n)?)
-        }
-        Form::Choose(c, a, b) => {
-            let c = lower_boxed(alloc, c, n)?;
-            let a = lower_boxed(alloc, a, n)?;
-            let b = lower_boxed(alloc, b, n)?;
-            Ok(choice(c, a, b, n)?)
-        }
-        Form::Convert(a) => {
-            let a = lower_boxed(alloc, a, n)?;
-            Ok(convert(alloc, ctype, a, n)?)
-        }
-        Form::Set(target, a) => {
-            let place = lower_target(alloc, target, n)?;
-            let a = lower_boxed(alloc, a, start(&place, n))?;
-            Ok(set(place, a, n)?)
-        }
+        Form::Unary(op, a) => lower_unary(alloc, *op, a, n),
+        Form::Binary(op, a, b) => lower_binary(alloc, *op, a, b, n),
+        Form::Both(a, b) => lower_both(alloc, a, b, n),
+        Form::Either(a, b) => lower_either(alloc, a, b, n),
+        Form::Choose(c, a, b) => lower_choice(alloc, c, a, b, n),
+        Form::Convert(a) => lower_converted(alloc, ctype, a, n),
+        Form::Set(target, a) => lower_set(alloc, target, a, n),
         Form::Change(op, kind, target, a) => {
-            let place = lower_target(alloc, target, n)?;
-            let a = lower_boxed(alloc, a, start(&place, n))?;
-            Ok(change(alloc, *op, *kind, ctype, place, a, n)?)
+            lower_change(alloc, *op, *kind, ctype, target, a, n)
         }
-        Form::After(up, target) => {
-            let place = lower_target(alloc, target, n)?;
-            Ok(after(alloc, *up, ctype, place, n)?)
-        }
-        Form::Direct(f, args) => {
-            let values = lower_exprs(alloc, args, n)?;
-            Ok(direct(alloc, is_void(ctype), *f, values, n)?)
-        }
-        Form::Through(args, callee) => {
-            let values = lower_with_callee(alloc, args, callee, n)?;
-            Ok(through(alloc, is_void(ctype), values, n)?)
-        }
-        Form::Known(k, args) => {
-            let values = lower_exprs(alloc, args, n)?;
-            Ok(known(alloc, *k, values, n)?)
-        }
+        Form::After(up, target) => lower_after(alloc, *up, ctype, target, n),
+        Form::Direct(f, args) => lower_direct(alloc, *f, ctype, args, n),
+        Form::Through(args, callee) => lower_through(alloc, ctype, args, callee, n),
+        Form::Known(k, args) => lower_known(alloc, *k, args, n),
     }
 }
 

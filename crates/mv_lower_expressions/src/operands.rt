@@ -4,12 +4,13 @@ ghost use Rattle.mv_lowering.specs.Lowered.{is_empty, is_low};
 ghost use Rattle.mv_lower_expressions.specs.Values.{seen, second_of, first_of, AreOperands, unary_of, converted_of, binary_of, division_number, divided, combined};
 
 use crate::tree::{converted, is_low, operator, unary_tree};
-use crate::value::{Value, append, is_empty, kept_if, made_low};
+use crate::value::{Value, followed_by, followed_by_all, is_empty, kept_if, made_low};
 use mv_ast::operators::is_unsigned;
 use mv_ast::program::CType;
 use mv_ir::stm::Stm;
 use mv_ir::tree::Tree;
 use mv_num::list::List;
+use mv_num::results;
 use std::alloc::{AllocError, Global};
 
 /// The code of two operands, and their trees where it ends.
@@ -28,7 +29,7 @@ pub fn unary(alloc: Global, op: u8, a: Value, n: u32) -> Result<Value, AllocErro
     ensures { IfOk result (λ v. seen v ≡ unary_of op (seen a) n) }
 {
     let Value { code, tree, top } = made_low(a, n)?;
-    let tree = unary_tree(alloc, op, tree)?;
+    let (code, tree) = results::both(code, unary_tree(alloc, op, tree))?;
     Ok(Value { code, tree, top })
 }
 
@@ -39,7 +40,7 @@ pub fn convert(alloc: Global, ctype: CType, a: Value, n: u32) -> Result<Value, A
     ensures { IfOk result (λ v. seen v ≡ converted_of ctype (seen a) n) }
 {
     let Value { code, tree, top } = made_low(a, n)?;
-    let tree = converted(alloc, ctype, tree)?;
+    let (code, tree) = results::both(code, converted(alloc, ctype, tree))?;
     Ok(Value { code, tree, top })
 }
 
@@ -63,23 +64,18 @@ fn both_operands(turned: bool, a: Value, b: Value, n: u32) -> Result<Operands, A
     requires { n + 2 < 2 ^ 32 }
     ensures { IfOk result (λ o. AreOperands turned o (first_of (seen a) (seen b) n) (second_of (seen b) n)) }
 {
-    let b = second(b, n)?;
+    let (a, b) = results::both(a, second(b, n))?;
     let stays = first_stays(&a, &b);
-    let a = kept_if(stays, a, n)?;
+    let (b, a) = results::both(b, kept_if(stays, a, n))?;
     Ok(joined(turned, a, b)?)
 }
 
 fn joined(turned: bool, first: Value, second: Value) -> Result<Operands, AllocError>
     ensures { IfOk result (λ o. AreOperands turned o (seen first) (seen second)) }
 {
-    let Value {
-        mut code,
-        tree: a,
-        top,
-    } = first;
-    append(&mut code, second.code)?;
-    let top = top.max(second.top);
-    let b = second.tree;
+    let top = first.top.max(second.top);
+    let code = followed_by_all(first.code, second.code);
+    let ((a, b), code) = results::both((first.tree, second.tree), code)?;
     if turned {
         Ok(Operands {
             code,
@@ -119,14 +115,13 @@ fn divided(division: u8, all: Operands, n: u32) -> Result<Value, AllocError>
     ensures { IfOk result (λ v. seen v ≡ divided division all n) }
 {
     let Operands {
-        mut code,
+        code,
         left,
         right,
         top,
     } = all;
-    code.push(Stm::Divide(n, division, left, right))?;
     Ok(Value {
-        code,
+        code: followed_by(code, Stm::Divide(n, division, left, right))?,
         tree: Tree::Temp(n),
         top: (n + 1).max(top),
     })
@@ -141,7 +136,7 @@ fn combined(alloc: Global, op: u8, ctype: CType, all: Operands) -> Result<Value,
         right,
         top,
     } = all;
-    let tree = operator(alloc, op, ctype, left, right)?;
+    let (code, tree) = results::both(code, operator(alloc, op, ctype, left, right))?;
     Ok(Value { code, tree, top })
 }
 

@@ -8,11 +8,12 @@ ghost use Rattle.mv_lower_expressions.specs.Places.{seen_place, start_of, alone,
 use crate::control::{set_global, set_local};
 use crate::operands::{binary, convert};
 use crate::tree::next_tree;
-use crate::value::{Value, append};
+use crate::value::{Value, followed_by, followed_by_all};
 use mv_ast::program::CType;
 use mv_ir::stm::{Array, Stm};
 use mv_ir::tree::Tree;
 use mv_num::list::List;
+use mv_num::results;
 use std::alloc::{AllocError, Global};
 
 /// An lvalue, the index of an element being lowered.
@@ -51,14 +52,9 @@ fn index_in(i: Value, n: u32) -> Result<Value, AllocError>
     requires { n + 2 < 2 ^ 32 }
     ensures { IfOk result (λ v. seen v ≡ index_in n (given (seen i))) }
 {
-    let Value {
-        mut code,
-        tree,
-        top,
-    } = i;
-    code.push(Stm::Set(n + 1, tree))?;
+    let Value { code, tree, top } = i;
     Ok(Value {
-        code,
+        code: followed_by(code, Stm::Set(n + 1, tree))?,
         tree: Tree::Temp(n + 1),
         top: (n + 2).max(top),
     })
@@ -69,14 +65,9 @@ fn read_element(array: Array, i: Value, n: u32) -> Result<Value, AllocError>
     requires { n + 1 < 2 ^ 32 }
     ensures { IfOk result (λ v. seen v ≡ lower_read_element array (given (seen i)) n) }
 {
-    let Value {
-        mut code,
-        tree,
-        top,
-    } = i;
-    code.push(Stm::Read(n, array, tree))?;
+    let Value { code, tree, top } = i;
     Ok(Value {
-        code,
+        code: followed_by(code, Stm::Read(n, array, tree))?,
         tree: Tree::Temp(n),
         top: (n + 1).max(top),
     })
@@ -101,15 +92,10 @@ fn tested_index(array: Array, i: Value, n: u32) -> Result<Value, AllocError>
     requires { n + 2 < 2 ^ 32 }
     ensures { IfOk result (λ v. seen v ≡ tested_index array (seen i) n) }
 {
-    let Value {
-        mut code,
-        tree,
-        top,
-    } = i;
-    code.push(Stm::Set(n + 1, tree))?;
-    code.push(Stm::Check(array, Tree::Temp(n + 1)))?;
+    let Value { code, tree, top } = i;
+    let code = followed_by(code, Stm::Set(n + 1, tree))?;
     Ok(Value {
-        code,
+        code: followed_by(code, Stm::Check(array, Tree::Temp(n + 1)))?,
         tree: Tree::Temp(n + 1),
         top: (n + 2).max(top),
     })
@@ -121,15 +107,10 @@ fn stored(array: Array, v: Value, n: u32) -> Result<Value, AllocError>
     requires { n + 2 < 2 ^ 32 }
     ensures { IfOk result (λ w. seen w ≡ stored array (seen v) n) }
 {
-    let Value {
-        mut code,
-        tree,
-        top,
-    } = v;
-    code.push(Stm::Set(n, tree))?;
-    code.push(Stm::Write(array, Tree::Temp(n + 1), Tree::Temp(n)))?;
+    let Value { code, tree, top } = v;
+    let code = followed_by(code, Stm::Set(n, tree))?;
     Ok(Value {
-        code,
+        code: followed_by(code, Stm::Write(array, Tree::Temp(n + 1), Tree::Temp(n)))?,
         tree: Tree::Temp(n),
         top,
     })
@@ -139,16 +120,13 @@ fn stored(array: Array, v: Value, n: u32) -> Result<Value, AllocError>
 fn behind(first: Value, second: Value) -> Result<Value, AllocError>
     ensures { IfOk result (λ v. seen v ≡ behind (seen first) (seen second)) }
 {
-    let Value {
-        mut code,
-        tree: _,
-        top,
-    } = first;
-    append(&mut code, second.code)?;
+    drop(first.tree);
+    let code = followed_by_all(first.code, second.code);
+    let (tree, code) = results::both(second.tree, code)?;
     Ok(Value {
         code,
-        tree: second.tree,
-        top: top.max(second.top),
+        tree,
+        top: first.top.max(second.top),
     })
 }
 
@@ -158,8 +136,8 @@ fn set_element(array: Array, i: Value, v: Value, n: u32) -> Result<Value, AllocE
     requires { n + 2 < 2 ^ 32 }
     ensures { IfOk result (λ w. seen w ≡ set_element_of array (seen i) (seen v) n) }
 {
-    let at = tested_index(array, i, n)?;
-    let value = stored(array, v, n)?;
+    let (v, at) = results::both(v, tested_index(array, i, n))?;
+    let (at, value) = results::both(at, stored(array, v, n))?;
     Ok(behind(at, value)?)
 }
 
@@ -220,8 +198,8 @@ pub fn change(
         }
         Place::Element(array, i) => {
             let at = alone(alloc, Tree::Temp(n + 1), n + 3);
-            let old = read_element(array, at, n + 3)?;
-            let new = changed(alloc, op, kind, ctype, old, v, n + 2)?;
+            let ((i, v), old) = results::both((i, v), read_element(array, at, n + 3))?;
+            let (i, new) = results::both(i, changed(alloc, op, kind, ctype, old, v, n + 2))?;
             Ok(set_element(array, i, new, n)?)
         }
     }
@@ -238,12 +216,10 @@ fn local_after(
     requires { n + 1 < 2 ^ 32 }
     ensures { IfOk result (λ w. seen w ≡ after_of up ctype (InLocal local) n) }
 {
-    let mut code = List::new(alloc);
-    code.push(Stm::Set(n, Tree::Temp(local)))?;
-    let next = next_tree(alloc, up, ctype, Tree::Temp(n))?;
-    code.push(Stm::Set(local, next))?;
+    let code = followed_by(List::new(alloc), Stm::Set(n, Tree::Temp(local)))?;
+    let (code, next) = results::both(code, next_tree(alloc, up, ctype, Tree::Temp(n)))?;
     Ok(Value {
-        code,
+        code: followed_by(code, Stm::Set(local, next))?,
         tree: Tree::Temp(n),
         top: n + 1,
     })
@@ -260,12 +236,10 @@ fn global_after(
     requires { n + 1 < 2 ^ 32 }
     ensures { IfOk result (λ w. seen w ≡ after_of up ctype (InGlobal global) n) }
 {
-    let mut code = List::new(alloc);
-    code.push(Stm::Set(n, Tree::Global(global)))?;
-    let next = next_tree(alloc, up, ctype, Tree::Temp(n))?;
-    code.push(Stm::SetGlobal(global, next))?;
+    let code = followed_by(List::new(alloc), Stm::Set(n, Tree::Global(global)))?;
+    let (code, next) = results::both(code, next_tree(alloc, up, ctype, Tree::Temp(n)))?;
     Ok(Value {
-        code,
+        code: followed_by(code, Stm::SetGlobal(global, next))?,
         tree: Tree::Temp(n),
         top: n + 1,
     })
@@ -284,15 +258,14 @@ fn element_after(
     ensures { IfOk result (λ w. seen w ≡ after_of up ctype (Element array (given (seen i))) n) }
 {
     let Value {
-        mut code,
+        code,
         tree: at,
         top,
     } = index_in(i, n)?;
-    code.push(Stm::Read(n, array, at))?;
-    let next = next_tree(alloc, up, ctype, Tree::Temp(n))?;
-    code.push(Stm::Write(array, Tree::Temp(n + 1), next))?;
+    let code = followed_by(code, Stm::Read(n, array, at))?;
+    let (code, next) = results::both(code, next_tree(alloc, up, ctype, Tree::Temp(n)))?;
     Ok(Value {
-        code,
+        code: followed_by(code, Stm::Write(array, Tree::Temp(n + 1), next))?,
         tree: Tree::Temp(n),
         top,
     })

@@ -8,6 +8,7 @@ use mv_ast::operators::is_unsigned;
 use mv_ast::program::CType;
 use mv_ir::tree::Tree;
 use mv_num::boxed::Boxed;
+use mv_num::results;
 use std::alloc::{AllocError, Global};
 
 #[tactic(auto, using(crate::proofs::Emitting::leaves))]
@@ -52,7 +53,9 @@ fn unary(alloc: Global, operator: u8, a: Tree) -> Result<Tree, AllocError>
 fn binary(alloc: Global, operator: u8, a: Tree, b: Tree) -> Result<Tree, AllocError>
     ensures { IfOk result (λ t. t ≡ binary operator a b) }
 {
-    Ok(Tree::Binary(operator, Boxed::new(alloc, a)?, Boxed::new(alloc, b)?))
+    let (b, a) = results::both(b, Boxed::new(alloc, a))?;
+    let (a, b) = results::both(a, Boxed::new(alloc, b))?;
+    Ok(Tree::Binary(operator, a, b))
 }
 
 /// An operator on one value, by the number of its mark.

@@ -1,5 +1,5 @@
 // Lowered expressions, and values that last.
-ghost use Rattle.std.specs.Prelude.{◌≡◌, ◌+◌, ◌++◌, ◌<◌, ◌^◌, IfOk, OnOk};
+ghost use Rattle.std.specs.Prelude.{◌≡◌, ◌+◌, ◌++◌, ◌∷◌, [], ◌<◌, ◌^◌, IfOk, OnOk};
 ghost use Rattle.mv_lower_expressions.specs.Values.{seen, put_away, made_low};
 ghost use Rattle.mv_lowering.specs.Lowered.{is_empty, kept_if};
 
@@ -17,14 +17,30 @@ pub struct Value {
     pub top: u32,
 }
 
-/// Puts code behind other code.
-pub fn append(code: &mut List<Stm>, more: List<Stm>) -> Result<(), AllocError>
+/// Code followed by a statement.
+pub fn followed_by(mut code: List<Stm>, stm: Stm) -> Result<List<Stm>, AllocError>
+    ensures { IfOk result (λ all. all ≡ code ++ stm ∷ []) }
+{
+    code.push(stm)?;
+    Ok(code)
+}
+
+// Puts code behind other code.
+fn append(code: &mut List<Stm>, more: List<Stm>) -> Result<(), AllocError>
     ensures { OnOk result (code.new ≡ code.old ++ more) }
 {
     for stm in more.into_vec() {
         code.push(stm)?;
     }
     Ok(())
+}
+
+/// Code followed by other code.
+pub fn followed_by_all(mut code: List<Stm>, more: List<Stm>) -> Result<List<Stm>, AllocError>
+    ensures { IfOk result (λ all. all ≡ code ++ more) }
+{
+    append(&mut code, more)?;
+    Ok(code)
 }
 
 #[tactic(auto, using(crate::proofs::Emitting::empties))]
@@ -40,14 +56,9 @@ pub fn put_away(value: Value, n: u32) -> Result<Value, AllocError>
     requires { n + 1 < 2 ^ 32 }
     ensures { IfOk result (λ v. seen v ≡ put_away n (seen value)) }
 {
-    let Value {
-        mut code,
-        tree,
-        top,
-    } = value;
-    code.push(Stm::Set(n, tree))?;
+    let Value { code, tree, top } = value;
     Ok(Value {
-        code,
+        code: followed_by(code, Stm::Set(n, tree))?,
         tree: Tree::Temp(n),
         top: (n + 1).max(top),
     })

@@ -1,6 +1,6 @@
 -- What is asked of a function so that its code is well formed and whole: what its statements name is there, each local is named
 -- where it is declared, and no call has more than eight arguments.
-use Rattle.std.specs.Prelude.{ℕ, suc, ◌<◌, ◌≤◌, ◌≡◌, Bool, true, false, cond, not, ◌&&◌, List, [], ◌∷◌, map, length, Option, Some, None, nat_eq, nat_lt}
+use Rattle.std.specs.Prelude.{ℕ, ◌<◌, ◌≤◌, ◌≡◌, Bool, true, false, cond, not, ◌&&◌, List, [], ◌∷◌, map, length, Option, Some, None, nat_eq, nat_lt}
 use Rattle.mv_ast.specs.declared.program.Function.{Function}
 use Rattle.mv_ast.specs.declared.program.Program.{Program}
 use Rattle.mv_ast.specs.declared.program.Expr.{Expr, Expr-F, fold-Expr}
@@ -89,22 +89,13 @@ abbrev pub all_behind : List Scope → (ℕ → Bool) → ℕ → Bool
 all_behind [] declared = declared
 all_behind (s ∷ ss) declared = all_behind ss (s.behind declared)
 
--- an arm: whether it has no label, and whether its statements are within the limits
-pub record ArmScope : Type 0 where
-  pub is_bare : Bool
-  pub within : (ℕ → Bool) → Bool
+-- an arm's statements
+abbrev pub ArmScope : Type 0
+ArmScope = (ℕ → Bool) → Bool
 
 abbrev pub arms_within : List ArmScope → (ℕ → Bool) → Bool
 arms_within [] declared = true
-arms_within (a ∷ arms) declared = a.within declared && arms_within arms declared
-
-abbrev pub bare_arms : List ArmScope → ℕ
-bare_arms [] = 0
-bare_arms (a ∷ arms) = cond a.is_bare (suc (bare_arms arms)) (bare_arms arms)
-
-abbrev pub is_empty : List ℕ → Bool
-is_empty [] = true
-is_empty (l ∷ ls) = false
+arms_within (a ∷ arms) declared = a declared && arms_within arms declared
 
 -- a statement that declares nothing
 abbrev pub declaring_nothing : ((ℕ → Bool) → Bool) → Scope
@@ -119,7 +110,7 @@ module _ (globals : Globals) (locals : ℕ) (sizes : ℕ → Option ℕ) where
   optional_within None declared = true
   optional_within (Some e) declared = is_within globals locals sizes declared e
 
-  -- A declared local may be named by its own first values. Of the arms of a `switch` at most two have no label: the first, and the `default`.
+  -- a declared local may be named by its own first values
   abbrev pub stmt_scope_layer : Stmt-F Scope ArmScope → Scope
   stmt_scope_layer (stmt.Block body) = declaring_nothing (λ d. all_within body d)
   stmt_scope_layer (stmt.Clear l values) = record {
@@ -133,13 +124,13 @@ module _ (globals : Globals) (locals : ℕ) (sizes : ℕ → Option ℕ) where
   stmt_scope_layer (stmt.For first test step body) = declaring_nothing (λ d.
       all_within first d &&
       (optional_within test (all_behind first d) && (optional_within step (all_behind first d) && all_within body (all_behind first d))))
-  stmt_scope_layer (stmt.Switch e arms) = declaring_nothing (λ d. is_within globals locals sizes d e && (nat_lt (bare_arms arms) 3 && arms_within arms d))
+  stmt_scope_layer (stmt.Switch e arms) = declaring_nothing (λ d. is_within globals locals sizes d e && arms_within arms d)
   stmt_scope_layer stmt.Break = declaring_nothing (λ d. true)
   stmt_scope_layer stmt.Continue = declaring_nothing (λ d. true)
   stmt_scope_layer (stmt.Return e) = declaring_nothing (optional_within e)
 
   abbrev pub arm_scope_layer : Arm-F Scope ArmScope → ArmScope
-  arm_scope_layer a = record { is_bare = is_empty a.labels; within = all_within a.body }
+  arm_scope_layer a = all_within a.body
 
   abbrev pub stmt_scope : Stmt → Scope
   stmt_scope = fold-Stmt Scope ArmScope stmt_scope_layer arm_scope_layer

@@ -37,6 +37,9 @@ module _ (globals : Globals) (locals : ℕ) (sizes : ℕ → Option ℕ) (room :
   abbrev CodePaid : ℕ → ℕ → List Stm → Type 0
   CodePaid = paying.CodePaid locals B
 
+  abbrev StmtPaid : ℕ → ℕ → List Stm → Type 0
+  StmtPaid = paying.StmtPaid locals B
+
   pub value : (e : Expr) → is_within globals locals sizes declared e ≡ true → (lower_expr e locals).top ≤ room → ValuePaid (expr_nodes e) (weight e) (lower_expr e)
   value e b top =
       let p = expr_paid globals locals sizes room direct through declared B r e b in
@@ -86,21 +89,21 @@ module _ (globals : Globals) (locals : ℕ) (sizes : ℕ → Option ℕ) (room :
 
     -- where zeros are stored one by one, they are fewer than the values
     pub cleared : (itself : Bool) (es : List Expr) (j : Jumps) → all_exprs_within globals locals sizes es declared ≡ true → values_top locals (map lower_expr es) ≤ room →
-        CodePaid (1 + length es + sum (map expr_nodes es)) (sum (map weight es)) (lower_clear locals size l itself (map lower_expr es) j).code
+        StmtPaid (1 + length es + sum (map expr_nodes es)) (sum (map weight es)) (lower_clear locals size l itself (map lower_expr es) j).code
     cleared itself es j b top = by (itself || nat_le (8 * words_of_size size) (92 * (words_of_size size - length (map lower_expr es)))) refl
       where
         by : (z : Bool) → (itself || nat_le (8 * words_of_size size) (92 * (words_of_size size - length (map lower_expr es)))) ≡ z →
-            CodePaid (1 + length es + sum (map expr_nodes es)) (sum (map weight es))
+            StmtPaid (1 + length es + sum (map expr_nodes es)) (sum (map weight es))
             (cond z (clear_words size l ∷ store_values locals size l 0 (map lower_expr es))
             (store_values locals size l 0 (map lower_expr es) ++ store_zeros size l (length (map lower_expr es)) (words_of_size size - length (map lower_expr es))))
         by true e =
             let p = stores_paid 0 es b top in
-            paying.paid locals B (1 + p.units) (2 + p.nodes) (r.weaken (omega arith) (omega arith) (omega arith) (r.chain clear_paid p.made)) (omega (arith, p.few_units)) (omega (arith, p.few_nodes)) (omega (arith, p.few_words))
+            paying.stmt_paid locals B (1 + p.units) (2 + p.nodes) (r.weaken (omega arith) (omega arith) (omega arith) (r.chain clear_paid p.made)) (omega (arith, p.few_units)) (omega (arith, p.few_nodes)) (omega (arith, p.few_words))
         by false e =
             let p = stores_paid 0 es b top in
             let words = words_of_size size in
             let long = length-map es lower_expr in
             let d = words - length (map lower_expr es) in
             let few = leb-false (8 * words) (92 * d) (or_parts itself (nat_le (8 * words) (92 * d)) e).1 in
-            paying.paid locals B (p.units + d) (p.nodes + 2 * d) (r.weaken (omega arith) (omega arith) (omega arith) (r.chain p.made (zeros_paid (length (map lower_expr es)) d)))
+            paying.stmt_paid locals B (p.units + d) (p.nodes + 2 * d) (r.weaken (omega arith) (omega arith) (omega arith) (r.chain p.made (zeros_paid (length (map lower_expr es)) d)))
             (omega (arith, p.few_units, few, long)) (omega (arith, p.few_nodes, few, long)) (omega (arith, p.few_words, few, long))

@@ -73,7 +73,6 @@ module _ (p : Program) (f : ℕ) (g : Function) (h : IsFunctionOf p f g) where
           formed = formed.named;
           scoped = formed.declared;
           known = formed.known;
-          labelled = formed.labels;
           held = holds_own;
         });
     jumps = formed.jumps;

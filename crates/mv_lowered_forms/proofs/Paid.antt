@@ -24,3 +24,15 @@ module _ (locals : ℕ) (B : ℕ → ℕ → ℕ → List Tree → List Stm → 
 
   pub paid : {n k : ℕ} {xs : List Stm} (s t : ℕ) → B s t k [] xs [] → s ≤ 6 * n → t ≤ 9 * n → 5 * s + 2 * t ≤ 40 * n → CodePaid n k xs
   paid s t h ls lt lw = record { units = s; nodes = t; made = h; few_units = ls; few_nodes = lt; few_words = lw }
+
+  -- A statement also leaves some units and nodes, with which an arm of a `switch` is entered that it begins.
+  pub record StmtPaid (n k : ℕ) (code : List Stm) : Type 0 where
+    pub units : ℕ
+    pub nodes : ℕ
+    pub made : B units nodes k [] code []
+    pub few_units : units + 2 ≤ 6 * n
+    pub few_nodes : nodes + 4 ≤ 9 * n
+    pub few_words : 5 * units + 2 * nodes + 18 ≤ 40 * n
+
+  pub stmt_paid : {n k : ℕ} {xs : List Stm} (s t : ℕ) → B s t k [] xs [] → s + 2 ≤ 6 * n → t + 4 ≤ 9 * n → 5 * s + 2 * t + 18 ≤ 40 * n → StmtPaid n k xs
+  stmt_paid s t h ls lt lw = record { units = s; nodes = t; made = h; few_units = ls; few_nodes = lt; few_words = lw }

@@ -20,7 +20,7 @@ use Rattle.mv_ast.specs.Counts.{words_of_size}
 use Rattle.mv_ast.specs.Names.{any_of, names_local}
 use Rattle.mv_lowering.specs.Lowered.{Lowering, number, temp, binary, set, choose}
 use Rattle.mv_lowering.specs.Lower.{lower_expr}
-use Rattle.mv_lowering.specs.Statements.{Jumps, Placed, LoweredArm, in_body, in_arm, in_sequence, store_word, clear_words, store_zeros, store_values, lower_clear, test_labels, test_arms, arm_place, nested, break, enclosed, repeat, return_with, test_and_body}
+use Rattle.mv_lowering.specs.Statements.{Jumps, Placed, LoweredArm, in_body, in_arm, in_sequence, store_word, clear_words, store_zeros, store_values, lower_clear, test_labels, test_arms, arm_place, all_tests, arm_code, arms_code, break, enclosed, repeat, return_with, test_and_body}
 use Rattle.mv_lowering.specs.LowerStatements.{lower_optional, lower_stmt_layer, lower_arm_layer, lower_stmt, lower_arm}
 use Rattle.mv_lowering.proofs.Depths.{Shallow, ShallowCode, ShallowLowered, both_parts, shallow_set, shallow_choose}
 use Rattle.mv_lowering.proofs.ExpressionDepths.{expr_shallow}
@@ -92,21 +92,36 @@ module _ (locals : ℕ) where
   test_shallow : (l : ℕ) → Shallow (binary 11 (temp locals) (number l))
   test_shallow l = omega (arith, depth_roll (tree.Binary 11 (temp locals) (number l)), depth_roll (tree.Temp locals), depth_roll (tree.Number l))
 
+  placed_shallow : (i : ℕ) → ShallowCode (set locals (number i) ∷ [])
+  placed_shallow i = shallow_set locals (number i) (small_number i)
+
   labels_shallow : (i : ℕ) (ls : List ℕ) → ShallowCode (test_labels locals i ls)
   labels_shallow i [] = tt
   labels_shallow i (l ∷ ls) =
-      let test = choose (binary 11 (temp locals) (number l)) (break i ∷ []) [] in
-      both_parts (test ∷ []) (test_labels locals i ls) (shallow_choose (binary 11 (temp locals) (number l)) (break i ∷ []) [] (test_shallow l) (shallow_break i) tt) (labels_shallow i ls)
+      let begins = set locals (number i) ∷ break 0 ∷ [] in
+      both_parts (choose (binary 11 (temp locals) (number l)) begins [] ∷ []) (test_labels locals i ls)
+      (shallow_choose (binary 11 (temp locals) (number l)) begins [] (test_shallow l) (both_parts (set locals (number i) ∷ []) (break 0 ∷ []) (placed_shallow i) (shallow_break 0)) tt) (labels_shallow i ls)
 
   arms_shallow : (i : ℕ) (arms : List LoweredArm) → ShallowCode (test_arms locals i arms)
   arms_shallow i [] = tt
   arms_shallow i (arm ∷ arms) = both_parts (test_labels locals i arm.labels) (test_arms locals (suc i) arms) (labels_shallow i arm.labels) (arms_shallow (suc i) arms)
 
-  nested_shallow : (inner : List Stm) (arms : List LoweredArm) (j : Jumps) → ShallowCode inner → Each (λ (a : LoweredArm). (k : Jumps) → ShallowCode (a.body k).code) arms → ShallowCode (nested inner arms j)
-  nested_shallow inner [] j h k = h
-  nested_shallow inner (a ∷ arms) j h k =
-      let body = (a.body (in_arm (length arms) j)).code in
-      nested_shallow (enclosed inner ∷ body) arms j (both_parts (enclosed inner ∷ []) body (shallow_block inner h) (k.0 (in_arm (length arms) j))) k.1
+  tests_shallow : (arms : List LoweredArm) → ShallowCode (all_tests locals arms)
+  tests_shallow arms =
+      let place = arm_place (λ (a : LoweredArm). a.other) 0 arms in
+      both_parts (test_arms locals 0 arms) (set locals (number place) ∷ []) (arms_shallow 0 arms) (placed_shallow place)
+
+  arm_shallow : (i : ℕ) (xs : List Stm) → ShallowCode xs → ShallowCode (arm_code locals i xs)
+  arm_shallow i [] h = tt
+  arm_shallow i (x ∷ xs) h =
+      let test : Shallow (binary 10 (number i) (temp locals)) = omega (arith, depth_roll (tree.Binary 10 (number i) (temp locals)), depth_roll (tree.Temp locals), depth_roll (tree.Number i)) in
+      shallow_choose (binary 10 (number i) (temp locals)) [] ((x ∷ xs) ++ set locals (number 0) ∷ []) test tt (both_parts (x ∷ xs) (set locals (number 0) ∷ []) h (placed_shallow 0))
+
+  all_arms_shallow : (i : ℕ) (arms : List LoweredArm) (j : Jumps) → Each (λ (a : LoweredArm). (k : Jumps) → ShallowCode (a.body k).code) arms → ShallowCode (arms_code locals i arms j)
+  all_arms_shallow i [] j h = tt
+  all_arms_shallow i (a ∷ arms) j h =
+      let body = (a.body (in_arm j)).code in
+      both_parts (arm_code locals i body) (arms_code locals (suc i) arms j) (arm_shallow i body (h.0 (in_arm j))) (all_arms_shallow (suc i) arms j h.1)
 
   module _ (sizes : ℕ → Option ℕ) (void : Bool) where
     abbrev S : Stmt → Type 0
@@ -160,12 +175,10 @@ module _ (locals : ℕ) where
         let x = expr_shallow e locals in
         let t = (lower_expr e locals).tree in
         let ls = map (lower_arm locals sizes void) arms in
-        let last = break (arm_place (λ (a : LoweredArm). a.other) 0 ls) ∷ [] in
-        let inner = test_arms locals 0 ls ++ last in
-        let whole = nested inner ls j in
+        let whole = enclosed (all_tests locals ls) ∷ arms_code locals 0 ls j in
         both_parts (lower_expr e locals).code (set locals t ∷ enclosed whole ∷ []) x.code
         (both_parts (set locals t ∷ []) (enclosed whole ∷ []) (shallow_set locals t x.tree)
-        (shallow_block whole (nested_shallow inner ls j (both_parts (test_arms locals 0 ls) last (arms_shallow 0 ls) (shallow_break (arm_place (λ (a : LoweredArm). a.other) 0 ls))) (each_arm arms h))))
+        (shallow_block whole (both_parts (enclosed (all_tests locals ls) ∷ []) (arms_code locals 0 ls j) (shallow_block (all_tests locals ls) (tests_shallow ls)) (all_arms_shallow 0 ls j (each_arm arms h)))))
     layer stmt.Break h j = shallow_break j.leave
     layer stmt.Continue h j = shallow_break j.again
     layer (stmt.Return None) h j = shallow_break j.around

@@ -1,5 +1,5 @@
 -- Statements take at most eight free temporaries for each level of depth of their expressions.
-use Rattle.std.proofs.Common.{◌≡◌, ℕ, ◌+◌, ◌*◌, ◌≤◌, Bool, true, cond, List, [], ◌∷◌, map, length, max, Option, Some, None, sym, ◌∙◌, ap, subst, arith}
+use Rattle.std.proofs.Common.{◌≡◌, ℕ, ◌+◌, ◌*◌, ◌≤◌, Bool, true, cond, List, [], ◌∷◌, map, max, Option, Some, None, sym, ◌∙◌, ap, subst, arith}
 use Rattle.std.specs.Prelude.{◌&&◌, nat_lt, option_to_list}
 use Rattle.mv_ir.proofs.Induction.{Each}
 use Rattle.mv_ir.proofs.Keeping.{map_append}
@@ -15,7 +15,7 @@ use Rattle.mv_lowering.specs.Statements.{Jumps, Placed, LoweredArm, in_body, in_
 use Rattle.mv_lowering.specs.LowerStatements.{lower_optional, lower_stmt_layer, lower_arm_layer, lower_stmt, lower_arm}
 use Rattle.mv_lowering.proofs.Expressions.{split}
 use Rattle.mv_lowered_programs.specs.Scopes.{with_local}
-use Rattle.mv_lowered_forms.proofs.Asked.{Globals, Scope, ArmScope, all_within, all_behind, arms_within, bare_arms, is_within, all_exprs_within, optional_within, stmt_scope_layer, arm_scope_layer, stmt_scope, arm_scope}
+use Rattle.mv_lowered_forms.proofs.Asked.{Globals, Scope, ArmScope, all_within, all_behind, arms_within, is_within, all_exprs_within, optional_within, stmt_scope_layer, arm_scope_layer, stmt_scope, arm_scope}
 use Rattle.mv_lowered_forms.proofs.ExpressionTops.{expr_top, greatest_append}
 use Rattle.mv_lowered_forms.proofs.StatementInduction as source
 
@@ -48,7 +48,7 @@ module _ (globals : Globals) (locals : ℕ) (sizes : ℕ → Option ℕ) (void :
   S s = (declared : ℕ → Bool) → (stmt_scope globals locals sizes s).within declared ≡ true → (j : Jumps) → (lower_stmt locals sizes void s j).top ≤ locals + 8 * stmt_depth s
 
   abbrev A : Arm → Type 0
-  A arm = (declared : ℕ → Bool) → (arm_scope globals locals sizes arm).within declared ≡ true → (j : Jumps) → ((lower_arm locals sizes void arm).body j).top ≤ locals + 8 * arm_depth arm
+  A arm = (declared : ℕ → Bool) → arm_scope globals locals sizes arm declared ≡ true → (j : Jumps) → ((lower_arm locals sizes void arm).body j).top ≤ locals + 8 * arm_depth arm
 
   all_top : (body : List Stmt) → Each S body → (declared : ℕ → Bool) → all_within (scopes body) declared ≡ true → (j : Jumps) → (lowered body j).top ≤ locals + 8 * greatest (map stmt_depth body)
   all_top [] h declared b j = omega arith
@@ -71,8 +71,8 @@ module _ (globals : Globals) (locals : ℕ) (sizes : ℕ → Option ℕ) (void :
       arms_top locals (map (lower_arm locals sizes void) arms) j ≤ locals + 8 * greatest (map arm_depth arms)
   all_arms_top [] h declared b j = omega arith
   all_arms_top (arm ∷ arms) h declared b j =
-      let bs = split ((arm_scope globals locals sizes arm).within declared) (arms_within (map (arm_scope globals locals sizes) arms) declared) b in
-      let k = h.0 declared bs.0 (in_arm (length (map (lower_arm locals sizes void) arms)) j) in
+      let bs = split (arm_scope globals locals sizes arm declared) (arms_within (map (arm_scope globals locals sizes) arms) declared) b in
+      let k = h.0 declared bs.0 (in_arm j) in
       let l = all_arms_top arms h.1 declared bs.1 j in
       omega (arith, k, l)
 
@@ -130,10 +130,9 @@ module _ (globals : Globals) (locals : ℕ) (sizes : ℕ → Option ℕ) (void :
       omega (arith, k, l, m, n, d, e)
   layer (stmt.Switch e arms) h declared b j =
       let scoped = map (arm_scope globals locals sizes) arms in
-      let bs = split (within e declared) (nat_lt (bare_arms scoped) 3 && arms_within scoped declared) b in
-      let cs = split (nat_lt (bare_arms scoped) 3) (arms_within scoped declared) bs.1 in
+      let bs = split (within e declared) (arms_within scoped declared) b in
       let k = value_top declared e bs.0 in
-      let l = all_arms_top arms h declared cs.1 j in
+      let l = all_arms_top arms h declared bs.1 j in
       omega (arith, k, l, deep e)
   layer stmt.Break h declared b j = omega arith
   layer stmt.Continue h declared b j = omega arith
@@ -154,7 +153,7 @@ module _ (globals : Globals) (locals : ℕ) (sizes : ℕ → Option ℕ) (void :
       let scoped = fold-roll-Arm Scope ArmScope (stmt_scope_layer globals locals sizes) (arm_scope_layer globals locals sizes) x in
       let deep_as = fold-roll-Arm ℕ ℕ depth_layer arm_depth_layer x in
       subst (λ (l : LoweredArm). (l.body j).top ≤ locals + 8 * arm_depth (roll-Arm x)) (sym lowered_as)
-      (let k = all_top x.body h declared (sym (ap (λ (z : ArmScope). z.within declared) scoped) ∙ b) j in omega (arith, k, deep_as))
+      (let k = all_top x.body h declared (sym (ap (λ (z : ArmScope). z declared) scoped) ∙ b) j in omega (arith, k, deep_as))
 
   pub body_top : (body : List Stmt) (declared : ℕ → Bool) → all_within (scopes body) declared ≡ true → (j : Jumps) → (lowered body j).top ≤ locals + 8 * greatest (map stmt_depth body)
   body_top body = all_top body (source.stmts_ind S A stmt_step arm_step body)

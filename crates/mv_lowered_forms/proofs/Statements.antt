@@ -1,7 +1,6 @@
 -- Lowered statements are made of code that obeys the rules, with bounds on units and tree nodes for each node of the source.
 use Rattle.std.proofs.Common.{◌≡◌, ℕ, suc, ◌+◌, ◌*◌, ◌<◌, ◌≤◌, Bool, true, cond, List, [], ◌∷◌, ◌++◌, map, length, Option, Some, None, refl, sym, ◌∙◌, ap, subst, arith}
 use Rattle.std.specs.Prelude.{◌&&◌, nat_lt, sum, option_to_list}
-use Rattle.std.proofs.lemmas.Bool.{ltb-true}
 use Rattle.mv_ir.specs.declared.tree.Tree.{Tree}
 use Rattle.mv_ir.specs.declared.stm.Stm.{Stm}
 use Rattle.mv_ir.proofs.Induction.{Each}
@@ -12,16 +11,16 @@ use Rattle.mv_ast.specs.declared.program.Stmt.TheOpen as stmt
 use Rattle.mv_ast.specs.declared.program.Arm.{Arm, Arm-F, roll-Arm, fold-roll-Arm}
 use Rattle.mv_ast.specs.Counts.{expr_nodes, stmt_sum, arm_sum, arm_total, own_nodes, stmt_nodes}
 use Rattle.mv_ast.specs.Names.{any_of, names_local}
-use Rattle.mv_lowering.specs.Lowered.{Lowering, number, temp, binary}
+use Rattle.mv_lowering.specs.Lowered.{Lowering, number, temp, binary, set}
 use Rattle.mv_lowering.specs.Lower.{lower_expr}
-use Rattle.mv_lowering.specs.Statements.{Jumps, Placed, LoweredArm, in_body, in_arm, in_sequence, test_labels, test_arms, arm_place, nested, arms_top, lower_switch, break, enclosed, test_and_body}
+use Rattle.mv_lowering.specs.Statements.{Jumps, Placed, LoweredArm, in_body, in_arm, in_sequence, test_labels, test_arms, arm_place, all_tests, arm_code, arms_code, arms_top, lower_switch, test_and_body}
 use Rattle.mv_lowering.specs.LowerStatements.{lower_optional, lower_stmt_layer, lower_arm_layer, lower_stmt, lower_arm}
 use Rattle.mv_lowering.proofs.Expressions.{split}
 use Rattle.mv_lowered_programs.specs.Scopes.{with_local}
-use Rattle.mv_lowered_forms.proofs.Asked.{Globals, Scope, ArmScope, all_within, all_behind, arms_within, bare_arms, is_within, all_exprs_within, optional_within, is_empty, stmt_scope_layer, arm_scope_layer, stmt_scope, arm_scope}
+use Rattle.mv_lowered_forms.proofs.Asked.{Globals, Scope, ArmScope, all_within, all_behind, arms_within, is_within, all_exprs_within, optional_within, stmt_scope_layer, arm_scope_layer, stmt_scope, arm_scope}
 use Rattle.mv_lowered_forms.specs.Calls.{expr_weight, stmt_weight, arm_weight}
 use Rattle.mv_lowered_forms.proofs.Rules.{Allowed, Rules, BlockRules}
-use Rattle.mv_lowered_forms.proofs.Plain.{plain_set, covers_self, covers_number, covers_none, covers_before, covers_binary, covers_twice, covers_swap}
+use Rattle.mv_lowered_forms.proofs.Plain.{plain_set, covers_number, covers_none, covers_before, covers_binary, covers_swap}
 use Rattle.mv_lowered_forms.proofs.Paid as paying
 use Rattle.mv_lowered_forms.proofs.Clears as clears
 use Rattle.mv_lowered_forms.proofs.Expressions.{allowed, scratch_used, sum_cons, sum_append}
@@ -51,6 +50,9 @@ module _ (globals : Globals) (locals : ℕ) (sizes : ℕ → Option ℕ) (void :
   abbrev CodePaid : ℕ → ℕ → List Stm → Type 0
   CodePaid = paying.CodePaid locals B
 
+  abbrev StmtPaid : ℕ → ℕ → List Stm → Type 0
+  StmtPaid = paying.StmtPaid locals B
+
   value : (declared : ℕ → Bool) (e : Expr) → is_within globals locals sizes declared e ≡ true → (lower_expr e locals).top ≤ room → ValuePaid (expr_nodes e) (weight e) (lower_expr e)
   value declared = clears.value globals locals sizes room direct through declared B (rules declared)
 
@@ -67,11 +69,24 @@ module _ (globals : Globals) (locals : ℕ) (sizes : ℕ → Option ℕ) (void :
     few_words = omega (arith, le, p.few_words);
   }
 
-  one_more : {n k : ℕ} {xs : List Stm} (s t : ℕ) → B s t k [] xs [] → s ≤ 6 * n → t ≤ 9 * n → 5 * s + 2 * t ≤ 40 * n → CodePaid n k xs
-  one_more = paying.paid locals B
+  stmt_as : {n k n' k' : ℕ} {xs : List Stm} → n ≤ n' → k ≡ k' → StmtPaid n k xs → StmtPaid n' k' xs
+  stmt_as le e p = record {
+    units = p.units;
+    nodes = p.nodes;
+    made = r.weaken (omega arith) (omega arith) e p.made;
+    few_units = omega (arith, le, p.few_units);
+    few_nodes = omega (arith, le, p.few_nodes);
+    few_words = omega (arith, le, p.few_words);
+  }
+
+  one_more : {n k : ℕ} {xs : List Stm} (s t : ℕ) → B s t k [] xs [] → s + 2 ≤ 6 * n → t + 4 ≤ 9 * n → 5 * s + 2 * t + 18 ≤ 40 * n → StmtPaid n k xs
+  one_more = paying.stmt_paid locals B
 
   nothing : CodePaid 0 0 []
-  nothing = one_more 0 0 (r.retree (covers_none [])) (omega arith) (omega arith) (omega arith)
+  nothing = paying.paid locals B 0 0 (r.retree (covers_none [])) (omega arith) (omega arith) (omega arith)
+
+  all_of_it : {n k : ℕ} {xs : List Stm} → StmtPaid n k xs → CodePaid n k xs
+  all_of_it p = record { units = p.units; nodes = p.nodes; made = p.made; few_units = omega (arith, p.few_units); few_nodes = omega (arith, p.few_nodes); few_words = omega (arith, p.few_words) }
 
   in_turn : {n k n' k' : ℕ} {xs ys : List Stm} → CodePaid n k xs → CodePaid n' k' ys → CodePaid (n + n') (k + k') (xs ++ ys)
   in_turn p q = record {
@@ -93,7 +108,7 @@ module _ (globals : Globals) (locals : ℕ) (sizes : ℕ → Option ℕ) (void :
 
   abbrev S : Stmt → Type 0
   S s = (declared : ℕ → Bool) → (stmt_scope globals locals sizes s).within declared ≡ true → (j : Jumps) → (lower_stmt locals sizes void s j).top ≤ room →
-      CodePaid (stmt_nodes s) (stmt_weight direct through s) (lower_stmt locals sizes void s j).code
+      StmtPaid (stmt_nodes s) (stmt_weight direct through s) (lower_stmt locals sizes void s j).code
 
   all_paid : (body : List Stmt) → Each S body → (declared : ℕ → Bool) → all_within (scopes body) declared ≡ true → (j : Jumps) → (lowered body j).top ≤ room →
       CodePaid (sum (map stmt_nodes body)) (sum (map (stmt_weight direct through) body)) (lowered body j).code
@@ -103,29 +118,62 @@ module _ (globals : Globals) (locals : ℕ) (sizes : ℕ → Option ℕ) (void :
       let bs = split (scope.within declared) (all_within (scopes body) (scope.behind declared)) b in
       let n = sum_cons (stmt_nodes s) (map stmt_nodes body) in
       let k = sum_cons (stmt_weight direct through s) (map (stmt_weight direct through) body) in
-      code_as (omega (arith, n)) (sym k) (in_turn (h.0 declared bs.0 j (omega (arith, top))) (all_paid body h.1 (scope.behind declared) bs.1 j (omega (arith, top))))
+      code_as (omega (arith, n)) (sym k) (in_turn (all_of_it (h.0 declared bs.0 j (omega (arith, top)))) (all_paid body h.1 (scope.behind declared) bs.1 j (omega (arith, top))))
 
   -- ---- `switch`
-
-  -- tests of the value in a temporary, which stays to be tested again
-  tests_paid : (n i : ℕ) (ls : List ℕ) → B (2 * length ls) (3 * length ls) 0 (temp n ∷ []) (test_labels n i ls) (temp n ∷ [])
-  tests_paid n i [] = r.retree (covers_self (temp n ∷ []))
-  tests_paid n i (l ∷ ls) =
-      let N = temp n in
-      let constant = covers_before [] (number l ∷ []) (N ∷ N ∷ []) 1 (covers_number l) in
-      let turned = covers_swap (number l ∷ N ∷ []) (N ∷ []) in
-      let tested = covers_before (N ∷ number l ∷ []) (binary 11 N (number l) ∷ []) (N ∷ []) 1 (covers_binary 11 N (number l)) in
-      let ready = r.chain (r.retree (covers_twice n)) (r.chain (r.retree constant) (r.chain (r.retree turned) (r.retree tested))) in
-      let chosen = r.beside (N ∷ []) (r.choose (binary 11 N (number l)) (blocks.leaves i) (r.retree (covers_none []))) in
-      r.weaken (omega arith) (omega arith) (omega arith) (r.chain ready (r.chain chosen (tests_paid n i ls)))
 
   abbrev pub labels_of : List LoweredArm → ℕ
   labels_of [] = 0
   labels_of (arm ∷ arms) = length arm.labels + labels_of arms
 
-  all_tests_paid : (n i : ℕ) (arms : List LoweredArm) → B (2 * labels_of arms) (3 * labels_of arms) 0 (temp n ∷ []) (test_arms n i arms) (temp n ∷ [])
-  all_tests_paid n i [] = r.retree (covers_self (temp n ∷ []))
-  all_tests_paid n i (arm ∷ arms) = r.weaken (omega arith) (omega arith) (omega arith) (r.chain (tests_paid n i arm.labels) (all_tests_paid n (suc i) arms))
+  abbrev N : Tree
+  N = temp locals
+
+  -- the temporary with the value and the place
+  module _ (there : locals < room) where
+    kept : B 0 1 0 [] [] (N ∷ [])
+    kept = r.local locals refl (scratch locals (omega arith) there)
+
+    placed : (i : ℕ) → B 1 1 0 [] (set locals (number i) ∷ []) []
+    placed i = r.weaken (omega arith) (omega arith) (omega arith) (r.chain (r.retree (covers_number i)) (r.drops (plain_set a locals (number i) (scratch locals (omega arith) there))))
+
+    beside_it : (i : ℕ) → B 0 2 0 [] [] (number i ∷ N ∷ [])
+    beside_it i = r.weaken (omega arith) (omega arith) (omega arith) (r.chain kept (r.retree (covers_before [] (number i ∷ []) (N ∷ []) 1 (covers_number i))))
+
+    tests_paid : (i : ℕ) (ls : List ℕ) → B (3 * length ls) (4 * length ls) 0 [] (test_labels locals i ls) []
+    tests_paid i [] = r.weaken (omega arith) (omega arith) (omega arith) (r.retree (covers_none []))
+    tests_paid i (l ∷ ls) =
+        let ready = r.chain (beside_it l) (r.chain (r.retree (covers_swap (number l ∷ []) (N ∷ []))) (r.retree (covers_binary 11 N (number l)))) in
+        let chosen = r.choose (binary 11 N (number l)) (r.chain (placed i) (blocks.leaves 0)) (r.retree (covers_none [])) in
+        r.weaken (omega arith) (omega arith) (omega arith) (r.chain ready (r.chain chosen (tests_paid i ls)))
+
+    all_labels_paid : (i : ℕ) (arms : List LoweredArm) → B (3 * labels_of arms) (4 * labels_of arms) 0 [] (test_arms locals i arms) []
+    all_labels_paid i [] = r.weaken (omega arith) (omega arith) (omega arith) (r.retree (covers_none []))
+    all_labels_paid i (arm ∷ arms) = r.weaken (omega arith) (omega arith) (omega arith) (r.chain (tests_paid i arm.labels) (all_labels_paid (suc i) arms))
+
+    all_tests_paid : (arms : List LoweredArm) → B (3 * labels_of arms + 1) (4 * labels_of arms + 1) 0 [] (all_tests locals arms) []
+    all_tests_paid arms = r.weaken (omega arith) (omega arith) (omega arith) (r.chain (all_labels_paid 0 arms) (placed (arm_place (λ (l : LoweredArm). l.other) 0 arms)))
+
+    entered : {s t k : ℕ} (i : ℕ) (xs : List Stm) → B s t k [] xs [] → B (s + 2) (t + 4) k [] (arm_code locals i xs) []
+    entered i [] h = r.weaken (omega arith) (omega arith) (omega arith) h
+    entered i (x ∷ xs) h =
+        let ready = r.chain (beside_it i) (r.retree (covers_binary 10 (number i) N)) in
+        let chosen = r.choose (binary 10 (number i) N) (r.retree (covers_none [])) (r.chain h (placed 0)) in
+        r.weaken (omega arith) (omega arith) (omega arith) (r.chain ready chosen)
+
+    -- the first statement of an arm pays for entering it
+    enters_paid : (i : ℕ) (body : List Stmt) → Each S body → (declared : ℕ → Bool) → all_within (scopes body) declared ≡ true → (j : Jumps) → (lowered body j).top ≤ room →
+        CodePaid (sum (map stmt_nodes body)) (sum (map (stmt_weight direct through) body)) (arm_code locals i (lowered body j).code)
+    enters_paid i [] h declared b j top = nothing
+    enters_paid i (s ∷ body) h declared b j top =
+        let scope = stmt_scope globals locals sizes s in
+        let bs = split (scope.within declared) (all_within (scopes body) (scope.behind declared)) b in
+        let n = sum_cons (stmt_nodes s) (map stmt_nodes body) in
+        let k = sum_cons (stmt_weight direct through s) (map (stmt_weight direct through) body) in
+        let first = h.0 declared bs.0 j (omega (arith, top)) in
+        let others = all_paid body h.1 (scope.behind declared) bs.1 j (omega (arith, top)) in
+        paying.paid locals B (first.units + others.units + 2) (first.nodes + others.nodes + 4) (r.weaken (omega arith) (omega arith) (omega (arith, k)) (entered i (lowered (s ∷ body) j).code (r.chain first.made others.made)))
+        (omega (arith, first.few_units, others.few_units, n)) (omega (arith, first.few_nodes, others.few_nodes, n)) (omega (arith, first.few_words, others.few_words, n))
 
   -- an arm, with what it was lowered to
   pub record ArmPaid (arm : Arm) (l : LoweredArm) : Type 0 where
@@ -133,8 +181,7 @@ module _ (globals : Globals) (locals : ℕ) (sizes : ℕ → Option ℕ) (void :
     pub weight : ℕ
     pub nodes : arm_total expr_nodes own_nodes (λ a. length a.labels) arm ≡ length l.labels + inner
     pub weighs : arm_weight direct through arm ≡ weight
-    pub bare : (arm_scope globals locals sizes arm).is_bare ≡ is_empty l.labels
-    pub body : (declared : ℕ → Bool) → (arm_scope globals locals sizes arm).within declared ≡ true → (j : Jumps) → (l.body j).top ≤ room → CodePaid inner weight (l.body j).code
+    pub body : locals < room → (i : ℕ) (declared : ℕ → Bool) → arm_scope globals locals sizes arm declared ≡ true → (j : Jumps) → (l.body j).top ≤ room → CodePaid inner weight (arm_code locals i (l.body j).code)
 
   abbrev A : Arm → Type 0
   A arm = ArmPaid arm (lower_arm locals sizes void arm)
@@ -145,59 +192,45 @@ module _ (globals : Globals) (locals : ℕ) (sizes : ℕ → Option ℕ) (void :
   abbrev arm_nodes : Arm → ℕ
   arm_nodes = arm_total expr_nodes own_nodes (λ a. length a.labels)
 
-  -- the arms behind some code: each takes a block and its own statements
-  pub record ArmsPaid (arms : List Arm) (inner : List Stm) (s t k : ℕ) (code : List Stm) : Type 0 where
+  -- the arms, without the tests of their labels
+  pub record ArmsPaid (arms : List Arm) (code : List Stm) : Type 0 where
     pub units : ℕ
     pub nodes : ℕ
-    pub made : (ts : List Tree) → B s t k ts inner [] → B (s + units) (t + nodes) (k + sum (map (arm_weight direct through) arms)) ts code []
-    pub few_units : units + 6 * labels_of (arms_lowered arms) ≤ 6 * sum (map arm_nodes arms) + length arms
+    pub made : B units nodes (sum (map (arm_weight direct through) arms)) [] code []
+    pub few_units : units + 6 * labels_of (arms_lowered arms) ≤ 6 * sum (map arm_nodes arms)
     pub few_nodes : nodes + 9 * labels_of (arms_lowered arms) ≤ 9 * sum (map arm_nodes arms)
-    pub few_words : 5 * units + 2 * nodes + 40 * labels_of (arms_lowered arms) ≤ 40 * sum (map arm_nodes arms) + 5 * length arms
+    pub few_words : 5 * units + 2 * nodes + 40 * labels_of (arms_lowered arms) ≤ 40 * sum (map arm_nodes arms)
 
-  arms_paid : (arms : List Arm) → Each A arms → (declared : ℕ → Bool) → arms_within (map (arm_scope globals locals sizes) arms) declared ≡ true → (j : Jumps) → arms_top locals (arms_lowered arms) j ≤ room →
-      (inner : List Stm) (s t k : ℕ) → ArmsPaid arms inner s t k (nested inner (arms_lowered arms) j)
-  arms_paid [] h declared b j top inner s t k = record { units = 0; nodes = 0; made = λ ts x. r.weaken (omega arith) (omega arith) (omega arith) x; few_units = omega arith; few_nodes = omega arith; few_words = omega arith }
-  arms_paid (arm ∷ arms) h declared b j top inner s t k =
-      let bs = split ((arm_scope globals locals sizes arm).within declared) (arms_within (map (arm_scope globals locals sizes) arms) declared) b in
-      let l = lower_arm locals sizes void arm in
-      let p = h.0.body declared bs.0 (in_arm (length (arms_lowered arms)) j) (omega (arith, top)) in
-      let rest = arms_paid arms h.1 declared bs.1 j (omega (arith, top)) (enclosed inner ∷ (l.body (in_arm (length (arms_lowered arms)) j)).code) (s + 1 + p.units) (t + p.nodes) (k + h.0.weight) in
+  arms_paid : locals < room → (i : ℕ) (arms : List Arm) → Each A arms → (declared : ℕ → Bool) → arms_within (map (arm_scope globals locals sizes) arms) declared ≡ true → (j : Jumps) → arms_top locals (arms_lowered arms) j ≤ room →
+      ArmsPaid arms (arms_code locals i (arms_lowered arms) j)
+  arms_paid there i [] h declared b j top = record { units = 0; nodes = 0; made = r.retree (covers_none []); few_units = omega arith; few_nodes = omega arith; few_words = omega arith }
+  arms_paid there i (arm ∷ arms) h declared b j top =
+      let bs = split (arm_scope globals locals sizes arm declared) (arms_within (map (arm_scope globals locals sizes) arms) declared) b in
+      let p = h.0.body there i declared bs.0 (in_arm j) (omega (arith, top)) in
+      let rest = arms_paid there (suc i) arms h.1 declared bs.1 j (omega (arith, top)) in
       let n = sum_cons (arm_nodes arm) (map arm_nodes arms) in
       let w = sum_cons (arm_weight direct through arm) (map (arm_weight direct through) arms) in
       record {
-        units = 1 + p.units + rest.units;
+        units = p.units + rest.units;
         nodes = p.nodes + rest.nodes;
-        made = λ ts x. r.weaken (omega arith) (omega arith) (omega (arith, w, h.0.weighs)) (rest.made ts (r.chain (blocks.block x) p.made));
+        made = r.weaken (omega arith) (omega arith) (omega (arith, w, h.0.weighs)) (r.chain p.made rest.made);
         few_units = omega (arith, p.few_units, rest.few_units, n, h.0.nodes);
         few_nodes = omega (arith, p.few_nodes, rest.few_nodes, n, h.0.nodes);
         few_words = omega (arith, p.few_words, rest.few_words, n, h.0.nodes);
       }
 
-  -- all arms but those without a label have one
-  arms_labelled : (arms : List Arm) → Each A arms → length arms ≤ labels_of (arms_lowered arms) + bare_arms (map (arm_scope globals locals sizes) arms)
-  arms_labelled [] h = omega arith
-  arms_labelled (arm ∷ arms) h = by (lower_arm locals sizes void arm).labels h.0.bare (arms_labelled arms h.1)
-    where
-      by : (ls : List ℕ) → (arm_scope globals locals sizes arm).is_bare ≡ is_empty ls → length arms ≤ labels_of (arms_lowered arms) + bare_arms (map (arm_scope globals locals sizes) arms) →
-          suc (length arms) ≤ length ls + labels_of (arms_lowered arms) + bare_arms (map (arm_scope globals locals sizes) (arm ∷ arms))
-      by [] e le = let c = ap (λ z. cond z (suc (bare_arms (map (arm_scope globals locals sizes) arms))) (bare_arms (map (arm_scope globals locals sizes) arms))) e in omega (arith, le, c)
-      by (l ∷ ls) e le = let c = ap (λ z. cond z (suc (bare_arms (map (arm_scope globals locals sizes) arms))) (bare_arms (map (arm_scope globals locals sizes) arms))) e in omega (arith, le, c)
-
-  switch_paid : (e : Expr) (arms : List Arm) → Each A arms → (declared : ℕ → Bool) → is_within globals locals sizes declared e ≡ true → nat_lt (bare_arms (map (arm_scope globals locals sizes) arms)) 3 ≡ true →
+  switch_paid : (e : Expr) (arms : List Arm) → Each A arms → (declared : ℕ → Bool) → is_within globals locals sizes declared e ≡ true →
       arms_within (map (arm_scope globals locals sizes) arms) declared ≡ true → (j : Jumps) → (lower_switch locals (lower_expr e) (arms_lowered arms) j).top ≤ room →
-      CodePaid (1 + (expr_nodes e + sum (map arm_nodes arms))) (weight e + sum (map (arm_weight direct through) arms)) (lower_switch locals (lower_expr e) (arms_lowered arms) j).code
-  switch_paid e arms h declared be few b j top =
+      StmtPaid (1 + (expr_nodes e + sum (map arm_nodes arms))) (weight e + sum (map (arm_weight direct through) arms)) (lower_switch locals (lower_expr e) (arms_lowered arms) j).code
+  switch_paid e arms h declared be b j top =
+      let there : locals < room = omega (arith, top) in
       let p = value declared e be (omega (arith, top)) in
       let ls = arms_lowered arms in
-      let inner = test_arms locals 0 ls ++ break (arm_place (λ (a : LoweredArm). a.other) 0 ls) ∷ [] in
-      let tested = r.chain (all_tests_paid locals 0 ls) (r.chain (r.retree (covers_none (temp locals ∷ []))) (blocks.leaves (arm_place (λ (a : LoweredArm). a.other) 0 ls))) in
-      let q = arms_paid arms h declared b j (omega (arith, top)) inner (2 * labels_of ls + (0 + 1)) (3 * labels_of ls + (0 + 0)) (0 + (0 + 0)) in
-      let labelled = arms_labelled arms h in
-      let one = ltb-true (bare_arms (map (arm_scope globals locals sizes) arms)) 3 few in
-      one_more (p.units + (1 + (2 * labels_of ls + (0 + 1) + q.units + 1))) (p.nodes + (1 + (3 * labels_of ls + (0 + 0) + q.nodes)))
-      (r.weaken (omega arith) (omega arith) (omega arith)
-      (r.chain p.made (r.chain (r.does (plain_set a locals (lower_expr e locals).tree (scratch locals (omega arith) (omega (arith, top))))) (blocks.block (q.made (temp locals ∷ []) tested)))))
-      (omega (arith, p.few_units, q.few_units, labelled, one)) (omega (arith, p.few_nodes, q.few_nodes)) (omega (arith, p.few_words, q.few_words, labelled, one))
+      let q = arms_paid there 0 arms h declared b j (omega (arith, top)) in
+      let whole = blocks.block (r.chain (blocks.block (all_tests_paid there ls)) q.made) in
+      one_more (p.units + (1 + (3 * labels_of ls + 1 + 1 + q.units + 1))) (p.nodes + (4 * labels_of ls + 1 + q.nodes))
+      (r.weaken (omega arith) (omega arith) (omega arith) (r.chain p.made (r.chain (r.drops (plain_set a locals (lower_expr e locals).tree (scratch locals (omega arith) there))) whole)))
+      (omega (arith, p.few_units, q.few_units)) (omega (arith, p.few_nodes, q.few_nodes)) (omega (arith, p.few_words, q.few_words))
 
   -- ---- each form
 
@@ -234,18 +267,28 @@ module _ (globals : Globals) (locals : ℕ) (sizes : ℕ → Option ℕ) (void :
       let p = value declared e b top in
       record { units = p.units; nodes = p.nodes; made = r.weaken (omega arith) (omega arith) (omega arith) p.made; few_units = omega (arith, p.few_units); few_nodes = omega (arith, p.few_nodes); few_words = omega (arith, p.few_words) }
 
+  -- one that is evaluated for its effect
+  effect_paid : (v : ℕ) (e : Option Expr) (declared : ℕ → Bool) → optional_within globals locals sizes e declared ≡ true → (lower_optional v e locals).top ≤ room →
+      CodePaid (sum (map expr_nodes (option_to_list e))) (sum (map weight (option_to_list e))) (lower_optional v e locals).code
+  effect_paid v None declared b top = nothing
+  effect_paid v (Some e) declared b top =
+      let p = value declared e b top in
+      paying.paid locals B p.units p.nodes (r.weaken (omega arith) (omega arith) (omega arith) (dropped p.made)) (omega (arith, p.few_units)) (omega (arith, p.few_nodes)) (omega (arith, p.few_words))
+
   -- the turn of a loop: a test that leaves it, and some code where it doesn't
   test_paid : {s t k s' t' k' : ℕ} {body : List Stm} (l : Lowering) → B s' t' k' [] (l locals).code ((l locals).tree ∷ []) → B s t k [] body [] → B (s' + (s + 1 + 1)) (t' + t) (k' + k) [] (test_and_body locals l body) []
   test_paid l p h = r.weaken (omega arith) (omega arith) (omega arith) (r.chain p (r.choose (l locals).tree h (blocks.leaves 0)))
 
   layer : (x : Stmt-F Stmt Arm) → source.Children S A x → (declared : ℕ → Bool) → (stmt_scope_layer globals locals sizes (tests x)).within declared ≡ true → (j : Jumps) →
-      (lower_stmt_layer locals sizes void (lowers x) j).top ≤ room → CodePaid (node_sum (counts x)) (weight_sum (weights x)) (lower_stmt_layer locals sizes void (lowers x) j).code
-  layer (stmt.Block body) h declared b j top = code_as (omega arith) (omega arith) (all_paid body h declared b j top)
+      (lower_stmt_layer locals sizes void (lowers x) j).top ≤ room → StmtPaid (node_sum (counts x)) (weight_sum (weights x)) (lower_stmt_layer locals sizes void (lowers x) j).code
+  layer (stmt.Block body) h declared b j top =
+      let p = all_paid body h declared b j top in
+      one_more p.units p.nodes (r.weaken (omega arith) (omega arith) (omega arith) p.made) (omega (arith, p.few_units)) (omega (arith, p.few_nodes)) (omega (arith, p.few_words))
   layer (stmt.Clear l values) h declared b j top =
       let itself = any_of (map (names_local l) values) in
       let known = cond itself (with_local l declared) declared in
       let bs = split (nat_lt l locals) (all_exprs_within globals locals sizes values known) b in
-      code_as (omega arith) (omega arith) (clears.cleared globals locals sizes room direct through known B (rules known) l bs.0 (sizes l) refl itself values j bs.1 top)
+      stmt_as (omega arith) (omega arith) (clears.cleared globals locals sizes room direct through known B (rules known) l bs.0 (sizes l) refl itself values j bs.1 top)
   layer (stmt.Express e) h declared b j top =
       let p = value declared e b top in
       one_more p.units p.nodes (r.weaken (omega arith) (omega arith) (omega arith) (dropped p.made)) (omega (arith, p.few_units)) (omega (arith, p.few_nodes)) (omega (arith, p.few_words))
@@ -283,7 +326,7 @@ module _ (globals : Globals) (locals : ℕ) (sizes : ℕ → Option ℕ) (void :
       let b2 = split may_step (all_within (scopes body) inside) b1.1 in
       let begun = all_paid first h.0 declared b0.0 j (omega (arith, top)) in
       let tested = optional_paid 1 test inside b1.0 (omega (arith, top)) in
-      let stepped = optional_paid 0 step inside b2.0 (omega (arith, top)) in
+      let stepped = effect_paid 0 step inside b2.0 (omega (arith, top)) in
       let turn = all_paid body h.1 inside b2.1 (in_body j) (omega (arith, top)) in
       let n = sum_append (map stmt_nodes first) (map stmt_nodes body) in
       let w = sum_append (map (stmt_weight direct through) first) (map (stmt_weight direct through) body) in
@@ -291,13 +334,12 @@ module _ (globals : Globals) (locals : ℕ) (sizes : ℕ → Option ℕ) (void :
       let w' = ap sum (map_append weight (option_to_list test) (option_to_list step)) ∙ sum_append (map weight (option_to_list test)) (map weight (option_to_list step)) in
       one_more (begun.units + (tested.units + (turn.units + 1 + 1 + 1) + stepped.units + 1)) (begun.nodes + (tested.nodes + turn.nodes + stepped.nodes))
       (r.weaken (omega arith) (omega arith) (omega (arith, w, w'))
-      (r.chain begun.made (blocks.turns (r.chain (test_paid (lower_optional 1 test) tested.made (blocks.block turn.made)) (dropped stepped.made)))))
+      (r.chain begun.made (blocks.turns (r.chain (test_paid (lower_optional 1 test) tested.made (blocks.block turn.made)) stepped.made))))
       (omega (arith, begun.few_units, tested.few_units, stepped.few_units, turn.few_units, n, n'))
       (omega (arith, begun.few_nodes, tested.few_nodes, stepped.few_nodes, turn.few_nodes, n, n')) (omega (arith, begun.few_words, tested.few_words, stepped.few_words, turn.few_words, n, n'))
   layer (stmt.Switch e arms) h declared b j top =
-      let bs = split (is_within globals locals sizes declared e) (nat_lt (bare_arms (map (arm_scope globals locals sizes) arms)) 3 && arms_within (map (arm_scope globals locals sizes) arms) declared) b in
-      let cs = split (nat_lt (bare_arms (map (arm_scope globals locals sizes) arms)) 3) (arms_within (map (arm_scope globals locals sizes) arms) declared) bs.1 in
-      code_as (omega arith) (omega arith) (switch_paid e arms h declared bs.0 cs.0 cs.1 j top)
+      let bs = split (is_within globals locals sizes declared e) (arms_within (map (arm_scope globals locals sizes) arms) declared) b in
+      stmt_as (omega arith) (omega arith) (switch_paid e arms h declared bs.0 bs.1 j top)
   layer stmt.Break h declared b j top = one_more 1 0 (r.weaken (omega arith) (omega arith) (omega arith) (blocks.leaves j.leave)) (omega arith) (omega arith) (omega arith)
   layer stmt.Continue h declared b j top = one_more 1 0 (r.weaken (omega arith) (omega arith) (omega arith) (blocks.leaves j.again)) (omega arith) (omega arith) (omega arith)
   layer (stmt.Return None) h declared b j top = one_more 1 0 (r.weaken (omega arith) (omega arith) (omega arith) (blocks.leaves j.around)) (omega arith) (omega arith) (omega arith)
@@ -312,8 +354,8 @@ module _ (globals : Globals) (locals : ℕ) (sizes : ℕ → Option ℕ) (void :
       let scoped = fold-roll-Stmt Scope ArmScope (stmt_scope_layer globals locals sizes) (arm_scope_layer globals locals sizes) x in
       let counted = fold-roll-Stmt ℕ ℕ node_sum (arm_sum expr_nodes own_nodes (λ a. length a.labels)) x in
       let weighed = fold-roll-Stmt ℕ ℕ weight_sum (arm_sum weight (λ s. 0) (λ a. 0)) x in
-      subst (λ (l : Placed). (l j).top ≤ room → CodePaid (stmt_nodes (roll-Stmt x)) (stmt_weight direct through (roll-Stmt x)) (l j).code) (sym lowered_as)
-      (λ top. code_as (omega (arith, counted)) (sym weighed) (layer x h declared (sym (ap (λ (z : Scope). z.within declared) scoped) ∙ b) j top))
+      subst (λ (l : Placed). (l j).top ≤ room → StmtPaid (stmt_nodes (roll-Stmt x)) (stmt_weight direct through (roll-Stmt x)) (l j).code) (sym lowered_as)
+      (λ top. stmt_as (omega (arith, counted)) (sym weighed) (layer x h declared (sym (ap (λ (z : Scope). z.within declared) scoped) ∙ b) j top))
 
   arm_step : (x : Arm-F Stmt Arm) → Each S x.body → A (roll-Arm x)
   arm_step x h =
@@ -327,8 +369,7 @@ module _ (globals : Globals) (locals : ℕ) (sizes : ℕ → Option ℕ) (void :
         weight = sum (map (stmt_weight direct through) x.body);
         nodes = counted;
         weighs = weighed ∙ omega arith;
-        bare = ap (λ (z : ArmScope). z.is_bare) scoped;
-        body = λ declared b j top. all_paid x.body h declared (sym (ap (λ (z : ArmScope). z.within declared) scoped) ∙ b) j top;
+        body = λ there i declared b j top. enters_paid there i x.body h declared (sym (ap (λ (z : ArmScope). z declared) scoped) ∙ b) j top;
       })
 
   -- statements that are within the limits

@@ -1,5 +1,5 @@
 -- The jumps of lowered code have targets.
-use Rattle.std.proofs.Common.{◌≡◌, ℕ, zero, suc, ◌+◌, ◌<◌, ◌≤◌, Bool, true, false, cond, List, [], ◌∷◌, ◌++◌, map, length, Option, Some, None, refl, sym, ◌∙◌, ap, subst, arith}
+use Rattle.std.proofs.Common.{◌≡◌, ℕ, suc, ◌<◌, Bool, true, false, cond, List, [], ◌∷◌, ◌++◌, map, length, Option, Some, None, refl, sym, ◌∙◌, ap, subst, arith}
 use Rattle.std.specs.Prelude.{◌&&◌, nat_lt}
 use Rattle.std.proofs.lemmas.Bool.{lt-ltb, and_from}
 use Rattle.mv_ir.specs.declared.tree.Tree.{Tree}
@@ -19,12 +19,12 @@ use Rattle.mv_ast.specs.declared.program.Arm.{Arm, Arm-F, roll-Arm, fold-roll-Ar
 use Rattle.mv_ast.specs.Names.{any_of, names_local}
 use Rattle.mv_lowering.specs.Lowered.{Lowering, number, temp, binary, set, choose}
 use Rattle.mv_lowering.specs.Lower.{lower_expr}
-use Rattle.mv_lowering.specs.Statements.{Jumps, Placed, LoweredArm, in_body, in_arm, raised, in_sequence, test_labels, test_arms, arm_place, nested, values_top, break, enclosed, repeat, return_with, test_and_body}
+use Rattle.mv_lowering.specs.Statements.{Jumps, Placed, LoweredArm, in_body, in_arm, in_sequence, test_labels, test_arms, arm_place, all_tests, arm_code, arms_code, values_top, break, enclosed, repeat, return_with, test_and_body}
 use Rattle.mv_lowering.specs.LowerStatements.{lower_optional, lower_stmt_layer, lower_arm_layer, lower_stmt, lower_arm}
 use Rattle.mv_lowering.proofs.Expressions.{split}
 use Rattle.mv_lowered_programs.specs.Jumps.{Jumping, all_jump, jumps_layer, arm_jumps_layer, stmt_jumps, arm_jumps}
 use Rattle.mv_lowered_programs.specs.Scopes.{with_local}
-use Rattle.mv_lowered_forms.proofs.Asked.{Globals, Scope, ArmScope, all_within, all_behind, arms_within, bare_arms, is_within, all_exprs_within, optional_within, stmt_scope_layer, arm_scope_layer, stmt_scope, arm_scope}
+use Rattle.mv_lowered_forms.proofs.Asked.{Globals, Scope, ArmScope, all_within, all_behind, arms_within, is_within, all_exprs_within, optional_within, stmt_scope_layer, arm_scope_layer, stmt_scope, arm_scope}
 use Rattle.mv_lowered_forms.proofs.Rules.{Allowed, Rules}
 use Rattle.mv_lowered_forms.proofs.Expressions.{allowed}
 use Rattle.mv_lowered_forms.proofs.Clears as clears
@@ -83,25 +83,8 @@ pub record Leads (breaks continues : Bool) (j : Jumps) (r : List Bool) : Type 0 
 leads_in_loop : (u v : Bool) (j : Jumps) (r : List Bool) → Leads u v j r → Leads true true (in_body j) (false ∷ (true ∷ r))
 leads_in_loop u v j r h = record { leave = λ e. omega arith; again = λ e. omega arith; around = let k = h.around in omega (arith, k) }
 
--- so many blocks, and one more
-abbrev deep : ℕ → List Bool → List Bool
-deep zero r = false ∷ r
-deep (suc m) r = false ∷ deep m r
-
-deep_length : (m : ℕ) (r : List Bool) → length (deep m r) ≡ suc m + length r
-deep_length zero r = omega arith
-deep_length (suc m) r = let e = deep_length m r in omega (arith, e)
-
-raised_is : (m n : ℕ) → raised m n ≡ m + n
-raised_is zero n = omega arith
-raised_is (suc m) n = let e = raised_is m n in omega (arith, e)
-
-leads_in_arm : (u v : Bool) (m : ℕ) (j : Jumps) (r : List Bool) → Leads u v j r → Leads true v (in_arm m j) (deep m r)
-leads_in_arm u v m j r h = record {
-  leave = λ e. omega (arith, deep_length m r);
-  again = λ e. let k = h.again e in omega (arith, k, deep_length m r, raised_is (suc m) j.again);
-  around = let k = h.around in omega (arith, k, deep_length m r, raised_is (suc m) j.around);
-}
+leads_in_arm : (u v : Bool) (j : Jumps) (r : List Bool) → Leads u v j r → Leads true v (in_arm j) (false ∷ r)
+leads_in_arm u v j r h = record { leave = λ e. omega arith; again = λ e. (let k = h.again e in omega (arith, k)); around = let k = h.around in omega (arith, k) }
 
 module _ (globals : Globals) (locals : ℕ) (sizes : ℕ → Option ℕ) (void : Bool) where
   abbrev none : ℕ → ℕ
@@ -129,7 +112,7 @@ module _ (globals : Globals) (locals : ℕ) (sizes : ℕ → Option ℕ) (void :
   S s = (declared : ℕ → Bool) → (stmt_scope globals locals sizes s).within declared ≡ true → (u v : Bool) → stmt_jumps s u v ≡ true → (j : Jumps) (r : List Bool) → Leads u v j r → HasTargets r (lower_stmt locals sizes void s j).code
 
   abbrev A : Arm → Type 0
-  A arm = (declared : ℕ → Bool) → (arm_scope globals locals sizes arm).within declared ≡ true → (u v : Bool) → arm_jumps arm u v ≡ true → (j : Jumps) (r : List Bool) → Leads u v j r → HasTargets r ((lower_arm locals sizes void arm).body j).code
+  A arm = (declared : ℕ → Bool) → arm_scope globals locals sizes arm declared ≡ true → (u v : Bool) → arm_jumps arm u v ≡ true → (j : Jumps) (r : List Bool) → Leads u v j r → HasTargets r ((lower_arm locals sizes void arm).body j).code
 
   all_targets : (body : List Stmt) → Each S body → (declared : ℕ → Bool) → all_within (scopes body) declared ≡ true → (u v : Bool) → leading body u v ≡ true → (j : Jumps) (r : List Bool) → Leads u v j r → HasTargets r (lowered body j).code
   all_targets [] h declared b u v l j r k = refl
@@ -144,35 +127,35 @@ module _ (globals : Globals) (locals : ℕ) (sizes : ℕ → Option ℕ) (void :
   abbrev arms_lowered : List Arm → List LoweredArm
   arms_lowered arms = map (lower_arm locals sizes void) arms
 
-  labels_targets : (i : ℕ) (ls : List ℕ) (r : List Bool) → i < length r → HasTargets r (test_labels locals i ls)
-  labels_targets i [] r h = refl
-  labels_targets i (l ∷ ls) r h =
+  placed_targets : (i : ℕ) (r : List Bool) → HasTargets r (set locals (number i) ∷ [])
+  placed_targets i r = targets_one r (stm.Set locals (number i)) refl
+
+  labels_targets : (i : ℕ) (ls : List ℕ) (r : List Bool) → HasTargets (false ∷ r) (test_labels locals i ls)
+  labels_targets i [] r = refl
+  labels_targets i (l ∷ ls) r =
       let t = binary 11 (temp locals) (number l) in
-      targets_append r (choose t (break i ∷ []) [] ∷ []) (test_labels locals i ls) (choose_targets r t (break i ∷ []) [] (break_target r i h) refl) (labels_targets i ls r h)
+      let begins = set locals (number i) ∷ break 0 ∷ [] in
+      targets_append (false ∷ r) (choose t begins [] ∷ []) (test_labels locals i ls)
+      (choose_targets (false ∷ r) t begins [] (targets_append (false ∷ r) (set locals (number i) ∷ []) (break 0 ∷ []) (placed_targets i (false ∷ r)) (break_target (false ∷ r) 0 (omega arith))) refl) (labels_targets i ls r)
 
-  tests_targets : (i : ℕ) (arms : List LoweredArm) (r : List Bool) → i + length arms < length r → HasTargets r (test_arms locals i arms)
-  tests_targets i [] r h = refl
-  tests_targets i (arm ∷ arms) r h =
-      targets_append r (test_labels locals i arm.labels) (test_arms locals (suc i) arms) (labels_targets i arm.labels r (omega (arith, h))) (tests_targets (suc i) arms r (omega (arith, h)))
+  tests_targets : (i : ℕ) (arms : List LoweredArm) (r : List Bool) → HasTargets (false ∷ r) (test_arms locals i arms)
+  tests_targets i [] r = refl
+  tests_targets i (arm ∷ arms) r = targets_append (false ∷ r) (test_labels locals i arm.labels) (test_arms locals (suc i) arms) (labels_targets i arm.labels r) (tests_targets (suc i) arms r)
 
-  place_within : (f : LoweredArm → Bool) (i : ℕ) (arms : List LoweredArm) → arm_place f i arms ≤ i + length arms
-  place_within f i [] = omega arith
-  place_within f i (arm ∷ arms) = by (f arm) (place_within f (suc i) arms)
-    where
-      by : (z : Bool) → arm_place f (suc i) arms ≤ suc i + length arms → cond z i (arm_place f (suc i) arms) ≤ i + suc (length arms)
-      by true le = omega arith
-      by false le = omega (arith, le)
+  arm_targets : (i : ℕ) (xs : List Stm) (r : List Bool) → HasTargets r xs → HasTargets r (arm_code locals i xs)
+  arm_targets i [] r h = refl
+  arm_targets i (x ∷ xs) r h =
+      choose_targets r (binary 10 (number i) (temp locals)) [] ((x ∷ xs) ++ set locals (number 0) ∷ []) refl (targets_append r (x ∷ xs) (set locals (number 0) ∷ []) h (placed_targets 0 r))
 
-  nested_targets : (arms : List Arm) → Each A arms → (declared : ℕ → Bool) → arms_within (map (arm_scope globals locals sizes) arms) declared ≡ true → (u v : Bool) → all_jump (map arm_jumps arms) true v ≡ true →
-      (j : Jumps) (r : List Bool) → Leads u v j r → (inner : List Stm) → HasTargets (deep (length (arms_lowered arms)) r) inner → HasTargets (deep 0 r) (nested inner (arms_lowered arms) j)
-  nested_targets [] h declared b u v l j r k inner t = t
-  nested_targets (arm ∷ arms) h declared b u v l j r k inner t =
-      let bs = split ((arm_scope globals locals sizes arm).within declared) (arms_within (map (arm_scope globals locals sizes) arms) declared) b in
+  arms_targets : (i : ℕ) (arms : List Arm) → Each A arms → (declared : ℕ → Bool) → arms_within (map (arm_scope globals locals sizes) arms) declared ≡ true → (u v : Bool) → all_jump (map arm_jumps arms) true v ≡ true →
+      (j : Jumps) (r : List Bool) → Leads u v j r → HasTargets (false ∷ r) (arms_code locals i (arms_lowered arms) j)
+  arms_targets i [] h declared b u v l j r k = refl
+  arms_targets i (arm ∷ arms) h declared b u v l j r k =
+      let bs = split (arm_scope globals locals sizes arm declared) (arms_within (map (arm_scope globals locals sizes) arms) declared) b in
       let ls = split (arm_jumps arm true v) (all_jump (map arm_jumps arms) true v) l in
-      let m = length (arms_lowered arms) in
-      let body = ((lower_arm locals sizes void arm).body (in_arm m j)).code in
-      nested_targets arms h.1 declared bs.1 u v ls.1 j r k (enclosed inner ∷ body)
-      (targets_append (deep m r) (enclosed inner ∷ []) body (targets_one (deep m r) (stm.Block inner) t) (h.0 declared bs.0 true v ls.0 (in_arm m j) (deep m r) (leads_in_arm u v m j r k)))
+      let body = ((lower_arm locals sizes void arm).body (in_arm j)).code in
+      targets_append (false ∷ r) (arm_code locals i body) (arms_code locals (suc i) (arms_lowered arms) j)
+      (arm_targets i body (false ∷ r) (h.0 declared bs.0 true v ls.0 (in_arm j) (false ∷ r) (leads_in_arm u v j r k))) (arms_targets (suc i) arms h.1 declared bs.1 u v ls.1 j r k)
 
   -- ---- each form
 
@@ -231,19 +214,18 @@ module _ (globals : Globals) (locals : ℕ) (sizes : ℕ → Option ℕ) (void :
       (test_targets (lower_optional 1 test) (enclosed code ∷ []) (true ∷ r) (omega arith) (optional 1 inside test b1.0 (true ∷ r)) (body_targets body h.1 inside b2.1 u v ls.1 j r k)) (optional 0 inside step b2.0 (true ∷ r))))
   layer (stmt.Switch e arms) h declared b u v l j r k =
       let scoped = map (arm_scope globals locals sizes) arms in
-      let bs = split (is_within globals locals sizes declared e) (nat_lt (bare_arms scoped) 3 && arms_within scoped declared) b in
-      let cs = split (nat_lt (bare_arms scoped) 3) (arms_within scoped declared) bs.1 in
+      let bs = split (is_within globals locals sizes declared e) (arms_within scoped declared) b in
       let ls = arms_lowered arms in
       let place = arm_place (λ (a : LoweredArm). a.other) 0 ls in
-      let inner = test_arms locals 0 ls ++ break place ∷ [] in
-      let whole = nested inner ls j in
-      let m = length ls in
+      let tested = all_tests locals ls in
+      let whole = enclosed tested ∷ arms_code locals 0 ls j in
       let t = (lower_expr e locals).tree in
       targets_append r (lower_expr e locals).code (set locals t ∷ enclosed whole ∷ []) (value declared e bs.0 r)
       (targets_append r (set locals t ∷ []) (enclosed whole ∷ []) (targets_one r (stm.Set locals t) refl)
-      (targets_one r (stm.Block whole) (nested_targets arms h declared cs.1 u v l j r k inner
-      (targets_append (deep m r) (test_arms locals 0 ls) (break place ∷ []) (tests_targets 0 ls (deep m r) (omega (arith, deep_length m r)))
-      (break_target (deep m r) place (omega (arith, deep_length m r, place_within (λ (a : LoweredArm). a.other) 0 ls)))))))
+      (targets_one r (stm.Block whole)
+      (targets_append (false ∷ r) (enclosed tested ∷ []) (arms_code locals 0 ls j)
+      (targets_one (false ∷ r) (stm.Block tested) (targets_append (false ∷ false ∷ r) (test_arms locals 0 ls) (set locals (number place) ∷ []) (tests_targets 0 ls (false ∷ r)) (placed_targets place (false ∷ false ∷ r))))
+      (arms_targets 0 arms h declared bs.1 u v l j r k))))
   layer stmt.Break h declared b u v l j r k = break_target r j.leave (k.leave l)
   layer stmt.Continue h declared b u v l j r k = break_target r j.again (k.again l)
   layer (stmt.Return None) h declared b u v l j r k = break_target r j.around k.around
@@ -264,7 +246,7 @@ module _ (globals : Globals) (locals : ℕ) (sizes : ℕ → Option ℕ) (void :
       let scoped = fold-roll-Arm Scope ArmScope (stmt_scope_layer globals locals sizes) (arm_scope_layer globals locals sizes) x in
       let led = fold-roll-Arm Jumping Jumping jumps_layer arm_jumps_layer x in
       subst (λ (m : LoweredArm). HasTargets r (m.body j).code) (sym lowered_as)
-      (all_targets x.body h declared (sym (ap (λ (z : ArmScope). z.within declared) scoped) ∙ b) u v (sym (ap (λ (f : Jumping). f u v) led) ∙ l) j r k)
+      (all_targets x.body h declared (sym (ap (λ (z : ArmScope). z declared) scoped) ∙ b) u v (sym (ap (λ (f : Jumping). f u v) led) ∙ l) j r k)
 
   pub code_targets : (body : List Stmt) (declared : ℕ → Bool) → all_within (scopes body) declared ≡ true → (u v : Bool) → leading body u v ≡ true → (j : Jumps) (r : List Bool) → Leads u v j r → HasTargets r (lowered body j).code
   code_targets body = all_targets body (source.stmts_ind S A stmt_step arm_step body)

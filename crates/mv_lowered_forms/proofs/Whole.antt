@@ -1,5 +1,5 @@
 -- A scalar local that isn't declared, and a free temporary, are live before no statement behind and around which they aren't.
-use Rattle.std.proofs.Common.{◌≡◌, ℕ, zero, suc, ◌+◌, ◌-◌, ◌*◌, ◌≤◌, Bool, true, false, cond, not, eqb, ◌&&◌, ◌||◌, List, [], ◌∷◌, ◌++◌, map, length, Option, Some, None, refl, sym, ◌∙◌, ap, subst, arith, append_assoc}
+use Rattle.std.proofs.Common.{◌≡◌, ℕ, suc, ◌-◌, ◌*◌, ◌≤◌, Bool, true, false, cond, not, eqb, ◌&&◌, ◌||◌, List, [], ◌∷◌, ◌++◌, map, length, Option, Some, None, refl, sym, ◌∙◌, ap, subst, arith, append_assoc}
 use Rattle.std.specs.Prelude.{nat_lt, nat_le, nat_eq}
 use Rattle.std.proofs.lemmas.Bool.{or_from, and_right, and_left, eqb-true, eq-eqb}
 use Rattle.mv_ir.specs.declared.tree.Tree.{Tree}
@@ -7,7 +7,7 @@ use Rattle.mv_ir.specs.declared.tree.Tree.TheOpen as tree
 use Rattle.mv_ir.specs.declared.stm.Stm.{Stm}
 use Rattle.mv_ir.specs.declared.stm.Stm.TheOpen.{Stm-F}
 use Rattle.mv_ir.specs.declared.stm.Stm.TheOpen as stm
-use Rattle.mv_ir.specs.Live.{reads_temp, any_reads, at_place, Around, with_after, around_block, around_loop, plain}
+use Rattle.mv_ir.specs.Live.{reads_temp, any_reads, Around, with_after, around_block, around_loop, plain}
 use Rattle.mv_ir.proofs.Induction.{Each}
 use Rattle.mv_ir.proofs.Rolls.{flow_roll, reads_temp_roll}
 use Rattle.mv_ast.specs.declared.program.Expr.{Expr}
@@ -17,11 +17,11 @@ use Rattle.mv_ast.specs.declared.program.Arm.{Arm, Arm-F, roll-Arm, fold-roll-Ar
 use Rattle.mv_ast.specs.Names.{any_of, names_local}
 use Rattle.mv_lowering.specs.Lowered.{Lowering, number, temp, binary, set, choose}
 use Rattle.mv_lowering.specs.Lower.{lower_expr, is_scalar}
-use Rattle.mv_lowering.specs.Statements.{Jumps, Placed, LoweredArm, in_body, in_arm, raised, in_sequence, store_zeros, store_values, values_top, lower_clear, test_labels, test_arms, arm_place, nested, arms_top, lower_switch, break, enclosed, repeat, return_with, test_and_body}
+use Rattle.mv_lowering.specs.Statements.{Jumps, Placed, LoweredArm, in_body, in_arm, in_sequence, store_zeros, store_values, values_top, lower_clear, test_labels, test_arms, arm_place, all_tests, arm_code, arms_code, arms_top, lower_switch, break, enclosed, repeat, return_with, test_and_body}
 use Rattle.mv_lowering.specs.LowerStatements.{lower_optional, lower_stmt_layer, lower_arm_layer, lower_stmt, lower_arm}
 use Rattle.mv_lowering.proofs.Expressions.{split, no}
 use Rattle.mv_lowered_programs.specs.Scopes.{with_local}
-use Rattle.mv_lowered_forms.proofs.Asked.{Globals, Scope, ArmScope, all_within, all_behind, arms_within, bare_arms, is_within, all_exprs_within, optional_within, stmt_scope_layer, arm_scope_layer, stmt_scope, arm_scope}
+use Rattle.mv_lowered_forms.proofs.Asked.{Globals, Scope, ArmScope, all_within, all_behind, arms_within, is_within, all_exprs_within, optional_within, stmt_scope_layer, arm_scope_layer, stmt_scope, arm_scope}
 use Rattle.mv_lowered_forms.proofs.Rules.{Allowed}
 use Rattle.mv_lowered_forms.proofs.Expressions.{allowed}
 use Rattle.mv_lowered_forms.proofs.Clears as clears
@@ -34,6 +34,9 @@ pub record IsShut (j : Jumps) (r : Around) : Type 0 where
   pub leave : r.leaves j.leave ≡ false
   pub again : r.leaves j.again ≡ false
   pub around : r.leaves j.around ≡ false
+
+pub shut_as : (j : Jumps) (r r' : Around) → r'.leaves ≡ r.leaves → IsShut j r → IsShut j r'
+shut_as j r r' e q = record { leave = ap (λ (f : ℕ → Bool). f j.leave) e ∙ q.leave; again = ap (λ (f : ℕ → Bool). f j.again) e ∙ q.again; around = ap (λ (f : ℕ → Bool). f j.around) e ∙ q.around }
 
 pub shut_after : (j : Jumps) (r : Around) (b : Bool) → IsShut j r → IsShut j (with_after r b)
 shut_after j r b q = record { leave = q.leave; again = q.again; around = q.around }
@@ -179,105 +182,90 @@ module _ (globals : Globals) (locals : ℕ) (sizes : ℕ → Option ℕ) (void :
 
   -- ---- `switch`
 
-  -- around code that stands in so many blocks of a `switch` and one more
-  record IsDeep (m : ℕ) (j : Jumps) (r : Around) : Type 0 where
-    next : r.next ≡ false
-    inner : (k : ℕ) → k ≤ m → r.leaves k ≡ false
-    again : r.leaves (raised (suc m) j.again) ≡ false
-    around : r.leaves (raised (suc m) j.around) ≡ false
-
-  deep_after : (m : ℕ) (j : Jumps) (r : Around) → IsDeep m j r → IsDeep m j (with_after r false)
-  deep_after m j r q = record { next = refl; inner = q.inner; again = q.again; around = q.around }
-
-  deeper : (m : ℕ) (j : Jumps) (r : Around) → IsDeep m j r → IsDeep (suc m) j (around_block r)
-  deeper m j r q = record { next = q.next; inner = at; again = q.again; around = q.around }
-    where
-      at : (k : ℕ) → k ≤ suc m → at_place r.next r.leaves k ≡ false
-      at zero le = q.next
-      at (suc k) le = q.inner k (omega (arith, le))
-
-  in_switch : (j : Jumps) (r : Around) → IsShut j r → r.next ≡ false → IsDeep 0 j (around_block r)
-  in_switch j r q n = record { next = n; inner = at; again = q.again; around = q.around }
-    where
-      at : (k : ℕ) → k ≤ 0 → at_place r.next r.leaves k ≡ false
-      at zero le = n
-      at (suc k) le = absurd (omega (arith, le))
+  -- around the arms of a `switch`
+  in_switch : (j : Jumps) (r : Around) → IsShut j r → r.next ≡ false → IsShut (in_arm j) (around_block r)
+  in_switch j r q n = record { leave = n; again = q.again; around = q.around }
 
   abbrev A : Arm → Type 0
   A arm =
-      (declared : ℕ → Bool) → (arm_scope globals locals sizes arm).within declared ≡ true → declared u ≡ false → (j : Jumps) → ((lower_arm locals sizes void arm).body j).top ≤ room → (r : Around) → IsShut j r → r.next ≡ false →
+      (declared : ℕ → Bool) → arm_scope globals locals sizes arm declared ≡ true → declared u ≡ false → (j : Jumps) → ((lower_arm locals sizes void arm).body j).top ≤ room → (r : Around) → IsShut j r → r.next ≡ false →
       live_at u ((lower_arm locals sizes void arm).body j).code r ≡ false
 
   abbrev arms_lowered : List Arm → List LoweredArm
   arms_lowered arms = map (lower_arm locals sizes void) arms
 
-  nested_dead : (arms : List Arm) → Each A arms → (declared : ℕ → Bool) → arms_within (map (arm_scope globals locals sizes) arms) declared ≡ true → declared u ≡ false → (j : Jumps) → arms_top locals (arms_lowered arms) j ≤ room →
-      (inner : List Stm) → ((r : Around) → IsDeep (length (arms_lowered arms)) j r → live_at u inner r ≡ false) → (r : Around) → IsDeep 0 j r → live_at u (nested inner (arms_lowered arms) j) r ≡ false
-  nested_dead [] h declared b k j top inner dead r q = dead r q
-  nested_dead (arm ∷ arms) h declared b k j top inner dead rr qq =
-      let bs = split ((arm_scope globals locals sizes arm).within declared) (arms_within (map (arm_scope globals locals sizes) arms) declared) b in
-      let m = length (arms_lowered arms) in
-      let body = ((lower_arm locals sizes void arm).body (in_arm m j)).code in
-      nested_dead arms h.1 declared bs.1 k j (omega (arith, top)) (enclosed inner ∷ body)
-      (λ r q. front_dead (enclosed inner) body r
-      (h.0 declared bs.0 k (in_arm m j) (omega (arith, top)) r (record { leave = q.inner m (omega arith); again = q.again; around = q.around }) q.next)
-      (block_dead inner (with_after r false) (dead (around_block (with_after r false)) (deeper m j (with_after r false) (deep_after m j r q))))) rr qq
-
+  -- of a temporary that isn't the one with the value and the place
   module _ (apart : eqb locals u ≡ false) where
-    test_reads : (l : ℕ) → reads_temp u (binary 11 (temp locals) (number l)) ≡ false
-    test_reads l =
-        reads_temp_roll u (tree.Binary 11 (temp locals) (number l)) ∙
-        or_from (reads_temp u (temp locals)) (reads_temp u (number l)) (reads_temp_roll u (tree.Temp locals) ∙ apart) (number_reads l)
+    temp_reads : reads_temp u (temp locals) ≡ false
+    temp_reads = reads_temp_roll u (tree.Temp locals) ∙ apart
 
-    labels_dead : (i : ℕ) (ls : List ℕ) (r : Around) → r.leaves i ≡ false → r.next ≡ false → live_at u (test_labels locals i ls) r ≡ false
+    test_reads : (l : ℕ) → reads_temp u (binary 11 (temp locals) (number l)) ≡ false
+    test_reads l = reads_temp_roll u (tree.Binary 11 (temp locals) (number l)) ∙ or_from (reads_temp u (temp locals)) (reads_temp u (number l)) temp_reads (number_reads l)
+
+    place_reads : (i : ℕ) → reads_temp u (binary 10 (number i) (temp locals)) ≡ false
+    place_reads i = reads_temp_roll u (tree.Binary 10 (number i) (temp locals)) ∙ or_from (reads_temp u (number i)) (reads_temp u (temp locals)) (number_reads i) temp_reads
+
+    placed_dead : (i : ℕ) (r : Around) → r.next ≡ false → live_at u (set locals (number i) ∷ []) r ≡ false
+    placed_dead i r n =
+        live_one u (stm.Set locals (number i)) (plain u (number i ∷ []) (Some locals) (λ r. r.next)) r (flow_roll u (stm.Set locals (number i))) ∙
+        or_from (any_reads u (number i ∷ [])) (not (eqb locals u) && r.next) (reads_one u (number i) ∙ number_reads i) (and_right (not (eqb locals u)) r.next n)
+
+    labels_dead : (i : ℕ) (ls : List ℕ) (r : Around) → r.leaves 0 ≡ false → r.next ≡ false → live_at u (test_labels locals i ls) r ≡ false
     labels_dead i [] r h n = n
     labels_dead i (l ∷ ls) r h n =
-        front_dead (choose (binary 11 (temp locals) (number l)) (break i ∷ []) []) (test_labels locals i ls) r (labels_dead i ls r h n)
-        (choose_dead (binary 11 (temp locals) (number l)) (break i ∷ []) [] (with_after r false) (test_reads l) (break_dead i (with_after r false) h) refl)
+        let begins = set locals (number i) ∷ break 0 ∷ [] in
+        front_dead (choose (binary 11 (temp locals) (number l)) begins []) (test_labels locals i ls) r (labels_dead i ls r h n)
+        (choose_dead (binary 11 (temp locals) (number l)) begins [] (with_after r false) (test_reads l)
+        (both_dead (set locals (number i) ∷ []) (break 0 ∷ []) (with_after r false) (break_dead 0 (with_after r false) h) (λ r' e n'. placed_dead i r' n')) refl)
 
-    tests_dead : (m i : ℕ) (arms : List LoweredArm) (r : Around) → i + length arms ≤ m → ((k : ℕ) → k ≤ m → r.leaves k ≡ false) → r.next ≡ false → live_at u (test_arms locals i arms) r ≡ false
-    tests_dead m i [] r le h n = n
-    tests_dead m i (arm ∷ arms) r le h n =
-        both_dead (test_labels locals i arm.labels) (test_arms locals (suc i) arms) r (tests_dead m (suc i) arms r (omega (arith, le)) h n)
-        (λ r' e n'. labels_dead i arm.labels r' (ap (λ (f : ℕ → Bool). f i) e ∙ h i (omega (arith, le))) n')
+    tests_dead : (i : ℕ) (arms : List LoweredArm) (r : Around) → r.leaves 0 ≡ false → r.next ≡ false → live_at u (test_arms locals i arms) r ≡ false
+    tests_dead i [] r h n = n
+    tests_dead i (arm ∷ arms) r h n =
+        both_dead (test_labels locals i arm.labels) (test_arms locals (suc i) arms) r (tests_dead (suc i) arms r h n) (λ r' e n'. labels_dead i arm.labels r' (ap (λ (f : ℕ → Bool). f 0) e ∙ h) n')
 
-  place_within : (f : LoweredArm → Bool) (i : ℕ) (arms : List LoweredArm) → arm_place f i arms ≤ i + length arms
-  place_within f i [] = omega arith
-  place_within f i (arm ∷ arms) = by (f arm) (place_within f (suc i) arms)
-    where
-      by : (z : Bool) → arm_place f (suc i) arms ≤ suc i + length arms → cond z i (arm_place f (suc i) arms) ≤ i + suc (length arms)
-      by true le = omega arith
-      by false le = omega (arith, le)
+    all_tests_dead : (arms : List LoweredArm) (r : Around) → r.leaves 0 ≡ false → r.next ≡ false → live_at u (all_tests locals arms) r ≡ false
+    all_tests_dead arms r h n =
+        let place = arm_place (λ (a : LoweredArm). a.other) 0 arms in
+        both_dead (test_arms locals 0 arms) (set locals (number place) ∷ []) r (placed_dead place r n) (λ r' e n'. tests_dead 0 arms r' (ap (λ (f : ℕ → Bool). f 0) e ∙ h) n')
+
+    arm_dead : (i : ℕ) (xs : List Stm) (r : Around) → r.next ≡ false → ((r' : Around) → r'.leaves ≡ r.leaves → r'.next ≡ false → live_at u xs r' ≡ false) → live_at u (arm_code locals i xs) r ≡ false
+    arm_dead i [] r n h = n
+    arm_dead i (x ∷ xs) r n h =
+        choose_dead (binary 10 (number i) (temp locals)) [] ((x ∷ xs) ++ set locals (number 0) ∷ []) r (place_reads i) n (both_dead (x ∷ xs) (set locals (number 0) ∷ []) r (placed_dead 0 r n) h)
+
+    arms_dead : (i : ℕ) (arms : List Arm) → Each A arms → (declared : ℕ → Bool) → arms_within (map (arm_scope globals locals sizes) arms) declared ≡ true → declared u ≡ false → (j : Jumps) → arms_top locals (arms_lowered arms) j ≤ room →
+        (r : Around) → IsShut (in_arm j) r → r.next ≡ false → live_at u (arms_code locals i (arms_lowered arms) j) r ≡ false
+    arms_dead i [] h declared b k j top r q n = n
+    arms_dead i (arm ∷ arms) h declared b k j top r q n =
+        let bs = split (arm_scope globals locals sizes arm declared) (arms_within (map (arm_scope globals locals sizes) arms) declared) b in
+        let body = ((lower_arm locals sizes void arm).body (in_arm j)).code in
+        both_dead (arm_code locals i body) (arms_code locals (suc i) (arms_lowered arms) j) r (arms_dead (suc i) arms h.1 declared bs.1 k j (omega (arith, top)) r q n)
+        (λ r1 e1 n1. arm_dead i body r1 n1
+        (λ r2 e2 n2. h.0 declared bs.0 k (in_arm j) (omega (arith, top)) r2 (shut_as (in_arm j) r r2 (e2 ∙ e1) q) n2))
 
   switch_dead : (e : Expr) (arms : List Arm) → Each A arms → (declared : ℕ → Bool) → is_within globals locals sizes declared e ≡ true → arms_within (map (arm_scope globals locals sizes) arms) declared ≡ true → declared u ≡ false →
       (j : Jumps) → (lower_switch locals (lower_expr e) (arms_lowered arms) j).top ≤ room → (r : Around) → IsShut j r → r.next ≡ false → live_at u (lower_switch locals (lower_expr e) (arms_lowered arms) j).code r ≡ false
   switch_dead e arms h declared be b k j top r q n =
       let t = (lower_expr e locals).tree in
-      then_dead (lower_expr e locals).code (set locals t ∷ enclosed (nested inner ls j) ∷ []) t (value declared e be k (omega (arith, top))) r
+      then_dead (lower_expr e locals).code (set locals t ∷ enclosed whole ∷ []) t (value declared e be k (omega (arith, top))) r
       (λ reads.
-      live_append u (set locals t ∷ []) (enclosed (nested inner ls j) ∷ []) r ∙
-      live_one u (stm.Set locals t) (plain u (t ∷ []) (Some locals) (λ r. r.next)) (with_after r (live_at u (enclosed (nested inner ls j) ∷ []) r)) (flow_roll u (stm.Set locals t)) ∙
-      or_from (any_reads u (t ∷ [])) (not (eqb locals u) && live_at u (enclosed (nested inner ls j) ∷ []) r) (reads_one u t ∙ reads) (by (eqb locals u) refl))
+      live_append u (set locals t ∷ []) (enclosed whole ∷ []) r ∙
+      live_one u (stm.Set locals t) (plain u (t ∷ []) (Some locals) (λ r. r.next)) (with_after r (live_at u (enclosed whole ∷ []) r)) (flow_roll u (stm.Set locals t)) ∙
+      or_from (any_reads u (t ∷ [])) (not (eqb locals u) && live_at u (enclosed whole ∷ []) r) (reads_one u t ∙ reads) (by (eqb locals u) refl))
     where
       ls : List LoweredArm
       ls = arms_lowered arms
 
-      place : ℕ
-      place = arm_place (λ (a : LoweredArm). a.other) 0 ls
+      whole : List Stm
+      whole = enclosed (all_tests locals ls) ∷ arms_code locals 0 ls j
 
-      inner : List Stm
-      inner = test_arms locals 0 ls ++ break place ∷ []
-
-      inner_dead : eqb locals u ≡ false → (r' : Around) → IsDeep (length ls) j r' → live_at u inner r' ≡ false
-      inner_dead apart r' d =
-          both_dead (test_arms locals 0 ls) (break place ∷ []) r' (break_dead place r' (d.inner place (omega (arith, place_within (λ (a : LoweredArm). a.other) 0 ls))))
-          (λ r2 same n2. tests_dead apart (length ls) 0 ls r2 (omega arith) (λ i le. ap (λ (f : ℕ → Bool). f i) same ∙ d.inner i le) n2)
-
-      by : (z : Bool) → eqb locals u ≡ z → (not (eqb locals u) && live_at u (enclosed (nested inner ls j) ∷ []) r) ≡ false
-      by true apart = and_left (not (eqb locals u)) (live_at u (enclosed (nested inner ls j) ∷ []) r) (ap not apart)
+      by : (z : Bool) → eqb locals u ≡ z → (not (eqb locals u) && live_at u (enclosed whole ∷ []) r) ≡ false
+      by true apart = and_left (not (eqb locals u)) (live_at u (enclosed whole ∷ []) r) (ap not apart)
       by false apart =
-          and_right (not (eqb locals u)) (live_at u (enclosed (nested inner ls j) ∷ []) r)
-          (block_dead (nested inner ls j) r (nested_dead arms h declared b k j (omega (arith, top)) inner (inner_dead apart) (around_block r) (in_switch j r q n)))
+          and_right (not (eqb locals u)) (live_at u (enclosed whole ∷ []) r)
+          (block_dead whole r
+          (both_dead (enclosed (all_tests locals ls) ∷ []) (arms_code locals 0 ls j) (around_block r) (arms_dead apart 0 arms h declared b k j (omega (arith, top)) (around_block r) (in_switch j r q n) n)
+          (λ r' e n'. block_dead (all_tests locals ls) r' (all_tests_dead apart ls (around_block r') n' n'))))
 
   -- ---- loops
 
@@ -369,9 +357,8 @@ module _ (globals : Globals) (locals : ℕ) (sizes : ℕ → Option ℕ) (void :
       r1 = around_loop r false
   layer (stmt.Switch e arms) h declared b k j top r q n =
       let scoped = map (arm_scope globals locals sizes) arms in
-      let bs = split (is_within globals locals sizes declared e) (nat_lt (bare_arms scoped) 3 && arms_within scoped declared) b in
-      let cs = split (nat_lt (bare_arms scoped) 3) (arms_within scoped declared) bs.1 in
-      switch_dead e arms h declared bs.0 cs.1 k j top r q (n k)
+      let bs = split (is_within globals locals sizes declared e) (arms_within scoped declared) b in
+      switch_dead e arms h declared bs.0 bs.1 k j top r q (n k)
   layer stmt.Break h declared b k j top r q n = break_dead j.leave r q.leave
   layer stmt.Continue h declared b k j top r q n = break_dead j.again r q.again
   layer (stmt.Return None) h declared b k j top r q n = break_dead j.around r q.around
@@ -392,7 +379,7 @@ module _ (globals : Globals) (locals : ℕ) (sizes : ℕ → Option ℕ) (void :
       let lowered_as = fold-roll-Arm Placed LoweredArm (lower_stmt_layer locals sizes void) (lower_arm_layer locals sizes void) x in
       let scoped = fold-roll-Arm Scope ArmScope (stmt_scope_layer globals locals sizes) (arm_scope_layer globals locals sizes) x in
       subst (λ (l : LoweredArm). (l.body j).top ≤ room → (r : Around) → IsShut j r → r.next ≡ false → live_at u (l.body j).code r ≡ false) (sym lowered_as)
-      (λ top r q n. within_dead x.body h declared (sym (ap (λ (z : ArmScope). z.within declared) scoped) ∙ b) k j top r q n)
+      (λ top r q n. within_dead x.body h declared (sym (ap (λ (z : ArmScope). z declared) scoped) ∙ b) k j top r q n)
 
   pub body_dead : (body : List Stmt) (declared : ℕ → Bool) → all_within (scopes body) declared ≡ true → declared u ≡ false → (j : Jumps) → (lowered body j).top ≤ room → (r : Around) → IsShut j r → r.next ≡ false → live_at u (lowered body j).code r ≡ false
   body_dead body = within_dead body (source.stmts_ind S A stmt_step arm_step body)

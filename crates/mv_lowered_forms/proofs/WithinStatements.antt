@@ -1,7 +1,7 @@
 -- The statements of a well-formed function are within the limits.
-use Rattle.std.proofs.Common.{◌≡◌, ℕ, suc, ◌<◌, ◌≤◌, Bool, true, false, not, cond, List, [], ◌∷◌, ◌++◌, map, length, refl, sym, ◌∙◌, ap, subst, arith, Option, Some, None, if◌then◌else◌}
+use Rattle.std.proofs.Common.{◌≡◌, ℕ, suc, ◌<◌, Bool, true, false, not, cond, List, [], ◌∷◌, ◌++◌, map, length, refl, sym, ◌∙◌, ap, subst, arith, Option, Some, None}
 use Rattle.std.specs.Prelude.{◌&&◌, ◌||◌, nat_lt, nat_eq, nat_le, All, option_to_list}
-use Rattle.std.proofs.lemmas.Bool.{lt-ltb, and_from}
+use Rattle.std.proofs.lemmas.Bool.{and_from}
 use Rattle.mv_ast.specs.declared.program.Program.{Program}
 use Rattle.mv_ast.specs.declared.program.Function.{Function}
 use Rattle.mv_ast.specs.declared.program.Expr.{Expr}
@@ -19,11 +19,10 @@ use Rattle.mv_lowering.specs.LowerStatements.{but_for, named_option, stmt_named_
 use Rattle.mv_lowering.proofs.Expressions.{split, no}
 use Rattle.mv_lowered_programs.specs.Scopes.{Scope, Scoped, with_local, with_declared, all_scoped, scope_behind, names_declared, option_declared, scoped_layer, arm_scoped_layer, stmt_scoped, arm_scoped}
 use Rattle.mv_lowered_programs.specs.Named.{calls_known, all_layer, all_arm_layer, all_expressions}
-use Rattle.mv_lowered_programs.specs.Labels.{at_most_one, has_label, ArmLabels, later_arms, labels_layer, arm_labels_layer, stmt_labelled, arm_labels}
 use Rattle.mv_lowered_programs.specs.WellFormed.{IsWithinLimits}
 use Rattle.mv_lowered_forms.specs.Reads.{expr_reads, stmt_reads_layer, arm_reads_layer, stmt_reads, arm_reads}
 use Rattle.mv_lowered_forms.proofs.Asked as asked
-use Rattle.mv_lowered_forms.proofs.Asked.{Globals, ArmScope, is_within, is_empty, all_within, all_behind, arms_within, bare_arms, all_exprs_within, optional_within, stmt_scope_layer, arm_scope_layer, stmt_scope, arm_scope}
+use Rattle.mv_lowered_forms.proofs.Asked.{Globals, ArmScope, is_within, all_within, all_behind, arms_within, all_exprs_within, optional_within, stmt_scope_layer, arm_scope_layer, stmt_scope, arm_scope}
 use Rattle.mv_lowered_forms.proofs.Holding as holding
 use Rattle.mv_lowered_forms.proofs.Holding.{any_left, any_right}
 use Rattle.mv_lowered_forms.proofs.WithinExpressions as exprs
@@ -130,7 +129,6 @@ module _ (p : Program) (own : ℕ) (fn : Function) (globals : Globals) (locals :
     formed : F s ≡ true
     scoped : (stmt_scoped s).holds scope ≡ true
     known : KS s ≡ true
-    labelled : stmt_labelled s ≡ true
     held : Holds (λ r a. stmt_reads r a s)
 
   record GoodArm (arm : Arm) (scope : Scope) : Type 0 where
@@ -138,7 +136,6 @@ module _ (p : Program) (own : ℕ) (fn : Function) (globals : Globals) (locals :
     formed : FA arm ≡ true
     scoped : arm_scoped arm scope ≡ true
     known : KA arm ≡ true
-    labelled : (arm_labels arm).holds ≡ true
     held : Holds (λ r a. arm_reads r a arm)
 
   pub record GoodBody (body : List Stmt) (scope : Scope) : Type 0 where
@@ -146,7 +143,6 @@ module _ (p : Program) (own : ℕ) (fn : Function) (globals : Globals) (locals :
     pub formed : all_of (map F body) ≡ true
     pub scoped : all_scoped (map stmt_scoped body) scope ≡ true
     pub known : all_of (map KS body) ≡ true
-    pub labelled : all_of (map stmt_labelled body) ≡ true
     pub held : Holds (λ r a. any_of (map (stmt_reads r a) body))
 
   record GoodArms (arms : List Arm) (scope : Scope) : Type 0 where
@@ -154,7 +150,6 @@ module _ (p : Program) (own : ℕ) (fn : Function) (globals : Globals) (locals :
     formed : all_of (map FA arms) ≡ true
     scoped : all_of (map (λ (a : Scope → Bool). a scope) (map arm_scoped arms)) ≡ true
     known : all_of (map KA arms) ≡ true
-    labelled : all_of (map (λ (a : ArmLabels). a.holds) (map arm_labels arms)) ≡ true
     held : Holds (λ r a. any_of (map (arm_reads r a) arms))
 
   record Inside (s : Stmt) : Type 0 where
@@ -162,8 +157,7 @@ module _ (p : Program) (own : ℕ) (fn : Function) (globals : Globals) (locals :
     behind : (scope : Scope) → (scope_of s).behind scope ≡ with_declared (stmt_scoped s).declares scope
 
   record ArmInside (arm : Arm) : Type 0 where
-    within : (scope : Scope) → GoodArm arm scope → (scope_of_arm arm).within scope ≡ true
-    bare : (arm_labels arm).is_labelled ≡ true → (scope_of_arm arm).is_bare ≡ true → (arm_labels arm).is_default ≡ true
+    within : (scope : Scope) → GoodArm arm scope → scope_of_arm arm scope ≡ true
 
   abbrev scopes : List Stmt → List asked.Scope
   scopes body = map scope_of body
@@ -179,13 +173,12 @@ module _ (p : Program) (own : ℕ) (fn : Function) (globals : Globals) (locals :
       let fs = split (F s) (all_of (map F body)) g.formed in
       let ss = split ((stmt_scoped s).holds scope) (all_scoped (map stmt_scoped body) next) g.scoped in
       let ks = split (KS s) (all_of (map KS body)) g.known in
-      let ls = split (stmt_labelled s) (all_of (map stmt_labelled body)) g.labelled in
       let one : holding.Reading = λ r a. stmt_reads r a s in
       let others : holding.Reading = λ r a. any_of (map (stmt_reads r a) body) in
       and_from ((scope_of s).within scope) (all_within (scopes body) ((scope_of s).behind scope))
-      (h.0.within scope (record { typed = g.typed.0; formed = fs.0; scoped = ss.0; known = ks.0; labelled = ls.0; held = left one others g.held }))
+      (h.0.within scope (record { typed = g.typed.0; formed = fs.0; scoped = ss.0; known = ks.0; held = left one others g.held }))
       (ap (λ d. all_within (scopes body) d) (h.0.behind scope) ∙
-      all_inside body h.1 next (record { typed = g.typed.1; formed = fs.1; scoped = ss.1; known = ks.1; labelled = ls.1; held = right one others g.held }))
+      all_inside body h.1 next (record { typed = g.typed.1; formed = fs.1; scoped = ss.1; known = ks.1; held = right one others g.held }))
 
   arms_inside : (arms : List Arm) → Each ArmInside arms → (scope : Scope) → GoodArms arms scope → arms_within (map scope_of_arm arms) scope ≡ true
   arms_inside [] h scope g = refl
@@ -193,68 +186,11 @@ module _ (p : Program) (own : ℕ) (fn : Function) (globals : Globals) (locals :
       let fs = split (FA arm) (all_of (map FA arms)) g.formed in
       let ss = split (arm_scoped arm scope) (all_of (map (λ (a : Scope → Bool). a scope) (map arm_scoped arms))) g.scoped in
       let ks = split (KA arm) (all_of (map KA arms)) g.known in
-      let ls = split (arm_labels arm).holds (all_of (map (λ (a : ArmLabels). a.holds) (map arm_labels arms))) g.labelled in
       let one : holding.Reading = λ r a. arm_reads r a arm in
       let others : holding.Reading = λ r a. any_of (map (arm_reads r a) arms) in
-      and_from ((scope_of_arm arm).within scope) (arms_within (map scope_of_arm arms) scope)
-      (h.0.within scope (record { typed = g.typed.0; formed = fs.0; scoped = ss.0; known = ks.0; labelled = ls.0; held = left one others g.held }))
-      (arms_inside arms h.1 scope (record { typed = g.typed.1; formed = fs.1; scoped = ss.1; known = ks.1; labelled = ls.1; held = right one others g.held }))
-
-  -- ---- arms without a label
-
-  abbrev defaults : List Arm → List Bool
-  defaults arms = map (λ (a : ArmLabels). a.is_default) (map arm_labels arms)
-
-  abbrev labelled_all : List Arm → Bool
-  labelled_all arms = all_of (map (λ (a : ArmLabels). a.is_labelled) (map arm_labels arms))
-
-  abbrev later_labelled : List Arm → Bool
-  later_labelled arms = all_of (map (λ (a : ArmLabels). a.is_labelled) (later_arms (map arm_labels arms)))
-
-  abbrev bare : List Arm → ℕ
-  bare arms = bare_arms (map scope_of_arm arms)
-
-  none_bare : (arms : List Arm) → Each ArmInside arms → labelled_all arms ≡ true → any_of (defaults arms) ≡ false → bare arms ≤ 0
-  none_bare [] h l e = omega arith
-  none_bare (arm ∷ arms) h l e =
-      let ls = split (arm_labels arm).is_labelled (labelled_all arms) l in
-      by (scope_of_arm arm).is_bare (arm_labels arm).is_default (h.0.bare ls.0) e (λ q. none_bare arms h.1 ls.1 q)
-    where
-      by : (x y : Bool) → (x ≡ true → y ≡ true) → (y || any_of (defaults arms)) ≡ false → (any_of (defaults arms) ≡ false → bare arms ≤ 0) → cond x (suc (bare arms)) (bare arms) ≤ 0
-      by true true q e k = no (sym e)
-      by true false q e k = no (q refl)
-      by false true q e k = no (sym e)
-      by false false q e k = k e
-
-  denied : (b : Bool) → not b ≡ true → b ≡ false
-  denied true q = no q
-  denied false q = refl
-
-  few_bare : (arms : List Arm) → Each ArmInside arms → labelled_all arms ≡ true → at_most_one (defaults arms) ≡ true → bare arms ≤ 1
-  few_bare [] h l e = omega arith
-  few_bare (arm ∷ arms) h l e =
-      let ls = split (arm_labels arm).is_labelled (labelled_all arms) l in
-      by (scope_of_arm arm).is_bare (arm_labels arm).is_default (h.0.bare ls.0) e (λ q. none_bare arms h.1 ls.1 q) (λ q. few_bare arms h.1 ls.1 q)
-    where
-      by : (x y : Bool) → (x ≡ true → y ≡ true) → (if y then not (any_of (defaults arms)) else at_most_one (defaults arms)) ≡ true → (any_of (defaults arms) ≡ false → bare arms ≤ 0) → (at_most_one (defaults arms) ≡ true → bare arms ≤ 1) →
-          cond x (suc (bare arms)) (bare arms) ≤ 1
-      by true true q e k m = let z = k (denied (any_of (defaults arms)) e) in omega (arith, z)
-      by true false q e k m = no (q refl)
-      by false true q e k m = let z = k (denied (any_of (defaults arms)) e) in omega (arith, z)
-      by false false q e k m = m e
-
-  -- the first arm too may have no label
-  most_bare : (arms : List Arm) → Each ArmInside arms → later_labelled arms ≡ true → at_most_one (defaults arms) ≡ true → bare arms ≤ 2
-  most_bare [] h l e = omega arith
-  most_bare (arm ∷ arms) h l e = by (scope_of_arm arm).is_bare (few_behind (arm_labels arm).is_default e)
-    where
-      few_behind : (y : Bool) → (if y then not (any_of (defaults arms)) else at_most_one (defaults arms)) ≡ true → bare arms ≤ 1
-      few_behind true e = let z = none_bare arms h.1 l (denied (any_of (defaults arms)) e) in omega (arith, z)
-      few_behind false e = few_bare arms h.1 l e
-
-      by : (x : Bool) → bare arms ≤ 1 → cond x (suc (bare arms)) (bare arms) ≤ 2
-      by true z = omega (arith, z)
-      by false z = omega (arith, z)
+      and_from (scope_of_arm arm scope) (arms_within (map scope_of_arm arms) scope)
+      (h.0.within scope (record { typed = g.typed.0; formed = fs.0; scoped = ss.0; known = ks.0; held = left one others g.held }))
+      (arms_inside arms h.1 scope (record { typed = g.typed.1; formed = fs.1; scoped = ss.1; known = ks.1; held = right one others g.held }))
 
   -- ---- each form
 
@@ -266,9 +202,6 @@ module _ (p : Program) (own : ℕ) (fn : Function) (globals : Globals) (locals :
 
   abbrev known_parts : Stmt-F Stmt Arm → Stmt-F Bool Bool
   known_parts = map-Stmt Stmt Arm Bool Bool KS KA
-
-  abbrev labelled_parts : Stmt-F Stmt Arm → Stmt-F Bool ArmLabels
-  labelled_parts = map-Stmt Stmt Arm Bool ArmLabels stmt_labelled arm_labels
 
   abbrev read_parts : (r a : ℕ → Bool) → Stmt-F Stmt Arm → Stmt-F Bool Bool
   read_parts r a = map-Stmt Stmt Arm Bool Bool (stmt_reads r a) (arm_reads r a)
@@ -282,7 +215,6 @@ module _ (p : Program) (own : ℕ) (fn : Function) (globals : Globals) (locals :
     formed : stmt_named_layer p own locals sizes void (formed_parts x) ≡ true
     scoped : (scoped_layer (scoped_parts x)).holds scope ≡ true
     known : all_layer K (known_parts x) ≡ true
-    labelled : labels_layer (labelled_parts x) ≡ true
     held : Holds (λ r a. stmt_reads_layer r a (read_parts r a x))
 
   behind_layer : (x : Stmt-F Stmt Arm) (scope : Scope) → (stmt_scope_layer globals locals sizes (within_parts x)).behind scope ≡ with_declared (scoped_layer (scoped_parts x)).declares scope
@@ -306,14 +238,14 @@ module _ (p : Program) (own : ℕ) (fn : Function) (globals : Globals) (locals :
 
   -- an expression, and statements behind it
   tested : (e : Expr) (body : List Stmt) → Each Inside body → (scope : Scope) → IsTypedExpr p fn e → AllStmts p fn body → (N e && all_of (map F body)) ≡ true →
-      (names_declared scope e && all_scoped (map stmt_scoped body) scope) ≡ true → ((K e && true) && all_of (map KS body)) ≡ true → all_of (map stmt_labelled body) ≡ true →
+      (names_declared scope e && all_scoped (map stmt_scoped body) scope) ≡ true → ((K e && true) && all_of (map KS body)) ≡ true →
       Holds (λ r a. (R e r a || false) || reads_all body r a) → (I scope e && all_within (scopes body) scope) ≡ true
-  tested e body h scope t ts f s k l r =
+  tested e body h scope t ts f s k r =
       let fs = split (N e) (all_of (map F body)) f in
       let ss = split (names_declared scope e) (all_scoped (map stmt_scoped body) scope) s in
       let ks = first_known e (all_of (map KS body)) k in
       and_from (I scope e) (all_within (scopes body) scope) (expr scope e t fs.0 ss.0 ks.0 (first_held e (reads_all body) r))
-      (all_inside body h scope (record { typed = ts; formed = fs.1; scoped = ss.1; known = ks.1; labelled = l; held = right (λ r a. R e r a || false) (reads_all body) r }))
+      (all_inside body h scope (record { typed = ts; formed = fs.1; scoped = ss.1; known = ks.1; held = right (λ r a. R e r a || false) (reads_all body) r }))
 
   -- what two lists of statements read between them
   both_held : (xs ys : List Stmt) → Holds (λ r a. any_of (map (stmt_reads r a) xs ++ map (stmt_reads r a) ys)) → Holds (reads_all xs) × Holds (reads_all ys)
@@ -334,7 +266,7 @@ module _ (p : Program) (own : ℕ) (fn : Function) (globals : Globals) (locals :
       )
 
   layer : (x : Stmt-F Stmt Arm) → source.Children Inside ArmInside x → (scope : Scope) → GoodLayer x scope → (stmt_scope_layer globals locals sizes (within_parts x)).within scope ≡ true
-  layer (stmt.Block body) h scope g = all_inside body h scope (record { typed = g.parts; formed = g.formed; scoped = g.scoped; known = g.known; labelled = g.labelled; held = g.held })
+  layer (stmt.Block body) h scope g = all_inside body h scope (record { typed = g.parts; formed = g.formed; scoped = g.scoped; known = g.known; held = g.held })
   layer (stmt.Clear l values_of) h scope g =
       let names_itself = any_of (map (names_local l) values_of) in
       let apart = all_of (map (is_well_named p own locals sizes (but_for l)) values_of) in
@@ -358,15 +290,14 @@ module _ (p : Program) (own : ℕ) (fn : Function) (globals : Globals) (locals :
       let s1 = split (all_scoped (map stmt_scoped yes_part) scope) (all_scoped (map stmt_scoped no_part) scope) ss.1 in
       let ks = first_known e (all_of (map KS yes_part ++ map KS no_part)) g.known in
       let k1 = all_apart (map KS yes_part) (map KS no_part) ks.1 in
-      let ls = split (all_of (map stmt_labelled yes_part)) (all_of (map stmt_labelled no_part)) g.labelled in
       let inner : holding.Reading = λ r a. any_of (map (stmt_reads r a) yes_part ++ map (stmt_reads r a) no_part) in
       let rs = both_held yes_part no_part (right (λ r a. R e r a || false) inner g.held) in
       and_from (I scope e) (all_within (scopes yes_part) scope && all_within (scopes no_part) scope) (expr scope e g.typed fs.0 ss.0 ks.0 (first_held e inner g.held))
       (and_from (all_within (scopes yes_part) scope) (all_within (scopes no_part) scope)
-      (all_inside yes_part h.0 scope (record { typed = g.parts.0; formed = f1.0; scoped = s1.0; known = k1.0; labelled = ls.0; held = rs.0 }))
-      (all_inside no_part h.1 scope (record { typed = g.parts.1; formed = f1.1; scoped = s1.1; known = k1.1; labelled = ls.1; held = rs.1 })))
-  layer (stmt.While e body) h scope g = tested e body h scope g.typed g.parts g.formed g.scoped g.known g.labelled g.held
-  layer (stmt.Do body e) h scope g = tested e body h scope g.typed g.parts g.formed g.scoped g.known g.labelled g.held
+      (all_inside yes_part h.0 scope (record { typed = g.parts.0; formed = f1.0; scoped = s1.0; known = k1.0; held = rs.0 }))
+      (all_inside no_part h.1 scope (record { typed = g.parts.1; formed = f1.1; scoped = s1.1; known = k1.1; held = rs.1 })))
+  layer (stmt.While e body) h scope g = tested e body h scope g.typed g.parts g.formed g.scoped g.known g.held
+  layer (stmt.Do body e) h scope g = tested e body h scope g.typed g.parts g.formed g.scoped g.known g.held
   layer (stmt.For first test step body) h scope g =
       let inner = scope_behind (map stmt_scoped first) scope in
       let n0 = split (all_of (map F first)) (named_option p own locals sizes void test && (named_option p own locals sizes void step && all_of (map F body))) g.formed in
@@ -380,7 +311,6 @@ module _ (p : Program) (own : ℕ) (fn : Function) (globals : Globals) (locals :
       let k0 = split (all_of (map K (tests ++ steps))) (all_of (map KS first ++ map KS body)) g.known in
       let k1 = all_apart (map K tests) (map K steps) (sym (ap (λ bs. all_of bs) (map_append K tests steps)) ∙ k0.0) in
       let k2 = all_apart (map KS first) (map KS body) k0.1 in
-      let ls = split (all_of (map stmt_labelled first)) (all_of (map stmt_labelled body)) g.labelled in
       let rest : holding.Reading = λ r a. any_of (map (stmt_reads r a) first ++ map (stmt_reads r a) body) in
       let r1 = exprs_held tests steps (left (reads_exprs (tests ++ steps)) rest g.held) in
       let r2 = both_held first body (right (reads_exprs (tests ++ steps)) rest g.held) in
@@ -388,22 +318,17 @@ module _ (p : Program) (own : ℕ) (fn : Function) (globals : Globals) (locals :
       let there_after : after inner ≡ true =
       and_from (optional_within globals locals sizes test inner) (optional_within globals locals sizes step inner && all_within (scopes body) inner) (optional inner test g.typed.0 n1.0 s1.0 k1.0 r1.0)
       (and_from (optional_within globals locals sizes step inner) (all_within (scopes body) inner) (optional inner step g.typed.1 n2.0 s2.0 k1.1 r1.1)
-      (all_inside body h.1 inner (record { typed = g.parts.1; formed = n2.1; scoped = s2.1; known = k2.1; labelled = ls.1; held = r2.1 }))) in
+      (all_inside body h.1 inner (record { typed = g.parts.1; formed = n2.1; scoped = s2.1; known = k2.1; held = r2.1 }))) in
       and_from (all_within (scopes first) scope) (after (all_behind (scopes first) scope))
-      (all_inside first h.0 scope (record { typed = g.parts.0; formed = n0.0; scoped = s0.0; known = k2.0; labelled = ls.0; held = r2.0 }))
+      (all_inside first h.0 scope (record { typed = g.parts.0; formed = n0.0; scoped = s0.0; known = k2.0; held = r2.0 }))
       (ap (λ d. after d) (behind_all first h.0 scope) ∙ there_after)
   layer (stmt.Switch e arms) h scope g =
       let fs = split (N e) (all_of (map FA arms)) g.formed in
       let scoped_arms = all_of (map (λ (a : Scope → Bool). a scope) (map arm_scoped arms)) in
       let ss = split (names_declared scope e) scoped_arms g.scoped in
       let ks = first_known e (all_of (map KA arms)) g.known in
-      let inner = all_of (map (λ (a : ArmLabels). a.holds) (map arm_labels arms)) in
-      let l0 = split (at_most_one (defaults arms)) (later_labelled arms && inner) g.labelled in
-      let ls = split (later_labelled arms) inner l0.1 in
-      let most = most_bare arms h ls.0 l0.0 in
-      and_from (I scope e) (nat_lt (bare arms) 3 && arms_within (map scope_of_arm arms) scope) (expr scope e g.typed.0 fs.0 ss.0 ks.0 (first_held e (reads_arms arms) g.held))
-      (and_from (nat_lt (bare arms) 3) (arms_within (map scope_of_arm arms) scope) (lt-ltb (bare arms) 3 (omega (arith, most)))
-      (arms_inside arms h scope (record { typed = g.parts; formed = fs.1; scoped = ss.1; known = ks.1; labelled = ls.1; held = right (λ r a. R e r a || false) (reads_arms arms) g.held })))
+      and_from (I scope e) (arms_within (map scope_of_arm arms) scope) (expr scope e g.typed.0 fs.0 ss.0 ks.0 (first_held e (reads_arms arms) g.held))
+      (arms_inside arms h scope (record { typed = g.parts; formed = fs.1; scoped = ss.1; known = ks.1; held = right (λ r a. R e r a || false) (reads_arms arms) g.held }))
   layer stmt.Break h scope g = refl
   layer stmt.Continue h scope g = refl
   layer (stmt.Return None) h scope g = refl
@@ -424,7 +349,6 @@ module _ (p : Program) (own : ℕ) (fn : Function) (globals : Globals) (locals :
               formed = sym (fold-roll-Stmt Bool Bool (stmt_named_layer p own locals sizes void) (arm_named_layer p own locals sizes void) x) ∙ g.formed;
               scoped = sym (ap (λ (z : Scoped). z.holds scope) scoped_as) ∙ g.scoped;
               known = sym (fold-roll-Stmt Bool Bool (all_layer K) all_arm_layer x) ∙ g.known;
-              labelled = sym (fold-roll-Stmt Bool ArmLabels labels_layer arm_labels_layer x) ∙ g.labelled;
               held =
                   holding.holds_same globals count (λ r a. stmt_reads_layer r a (read_parts r a x)) (λ r a. stmt_reads r a (roll-Stmt x))
                   (λ r a. fold-roll-Stmt Bool Bool (stmt_reads_layer r a) (arm_reads_layer r a) x) g.held;
@@ -432,29 +356,20 @@ module _ (p : Program) (own : ℕ) (fn : Function) (globals : Globals) (locals :
         behind = λ scope. ap (λ (z : asked.Scope). z.behind scope) within_as ∙ (behind_layer x scope ∙ sym (ap (λ (z : Scoped). with_declared z.declares scope) scoped_as));
       }
 
-  is_default : (ls : List ℕ) (other : Bool) → (has_label ls || other) ≡ true → is_empty ls ≡ true → other ≡ true
-  is_default [] other e q = e
-  is_default (l ∷ ls) other e q = no q
-
   arm_step : (x : Arm-F Stmt Arm) → Each Inside x.body → ArmInside (roll-Arm x)
   arm_step x h =
       let within_as = fold-roll-Arm asked.Scope ArmScope (stmt_scope_layer globals locals sizes) (arm_scope_layer globals locals sizes) x in
-      let labels_as = fold-roll-Arm Bool ArmLabels labels_layer arm_labels_layer x in
       record {
         within = λ scope g.
-            ap (λ (z : ArmScope). z.within scope) within_as ∙
+            ap (λ (z : ArmScope). z scope) within_as ∙
             all_inside x.body h scope (record {
               typed = subst (λ (z : Arm-F Stmt Arm). AllStmts p fn z.body) (out-roll-Arm x) (arm_parts p fn (roll-Arm x) g.typed);
               formed = sym (fold-roll-Arm Bool Bool (stmt_named_layer p own locals sizes void) (arm_named_layer p own locals sizes void) x) ∙ g.formed;
               scoped = sym (ap (λ (z : Scope → Bool). z scope) (fold-roll-Arm Scoped (Scope → Bool) scoped_layer arm_scoped_layer x)) ∙ g.scoped;
               known = sym (fold-roll-Arm Bool Bool (all_layer K) all_arm_layer x) ∙ g.known;
-              labelled = sym (ap (λ (z : ArmLabels). z.holds) labels_as) ∙ g.labelled;
               held =
                   holding.holds_same globals count (reads_all x.body) (λ r a. arm_reads r a (roll-Arm x)) (λ r a. fold-roll-Arm Bool Bool (stmt_reads_layer r a) (arm_reads_layer r a) x) g.held;
             });
-        bare = λ l e.
-            ap (λ (z : ArmLabels). z.is_default) labels_as ∙
-            is_default x.labels x.other (sym (ap (λ (z : ArmLabels). z.is_labelled) labels_as) ∙ l) (sym (ap (λ (z : ArmScope). z.is_bare) within_as) ∙ e);
       }
 
   -- The statements of a well-formed function.

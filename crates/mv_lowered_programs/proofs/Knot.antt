@@ -211,7 +211,7 @@ module _ (p : Program) (numbers : List ℕ) (formed : (f : ℕ) (g : Function) �
       body_correct p (setting_of numbers p) inner began.bindings f n sizes room void j calls (strict_context p numbers) (omega arith) strict (λ s. refl) (λ k s. refl)
       (λ i up held floor scratch. subst (λ l. c.CallsAgree p (setting_of numbers p) inner began.bindings f n sizes held floor scratch room l (strict_context p numbers i)) (sym (same_levels i)) (ih i up inner began.bindings f n sizes held floor scratch room lively))
       (λ i held floor scratch known. known_agrees p numbers inner began.bindings f n sizes held floor scratch room (statements.levels calls i) lively known)
-      g.body h.named outermost (omega arith) j (omega arith) from w start shows in
+      g.body h.named h.labels outermost (omega arith) j (omega arith) from w start shows in
       let at = subst (λ l. statements.FlowShown p (setting_of numbers p) inner began.bindings f n sizes room void (out_of void outermost) 0 (code_meaning (setting_of numbers p) inner (lower_body g).code l start) (body from w)) (same_levels j) shown in
       same_body p void inner.live began _ (parameters g) (parameters g) false false (body from w) (body (frame_of f g vs) w) alike
       (ended p numbers inner began f n sizes room void (below j) (lower_body g).code start (body from w) (stays (parameters g) (parameters g) (body from w) (body (frame_of f g vs) w) alike) at)

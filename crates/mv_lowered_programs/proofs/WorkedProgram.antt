@@ -25,7 +25,7 @@ use Rattle.mv_ast.specs.Names.{names_local, form_names, target_names, inner_name
 use Rattle.mv_lowering.specs.Lower.{names_form, names_target, names_layer, is_well_named, form_is_well_named, target_is_well_named}
 use Rattle.mv_lowering.specs.LowerStatements.{stmt_named_layer, arm_named_layer, stmt_is_well_formed, arm_is_well_formed}
 use Rattle.mv_lowered_programs.specs.Jumps.{Jumping, stmt_jumps, arm_jumps, jumps_layer, arm_jumps_layer}
-use Rattle.mv_lowered_programs.specs.Labels.{ArmLabels, labels_layer, arm_labels_layer, stmt_labelled, arm_labels}
+use Rattle.mv_lowering.specs.Labels.{ArmLabels, labels_layer, arm_labels_layer, stmt_labelled, arm_labels}
 use Rattle.mv_lowered_programs.specs.Scopes.{Scope, Scoped, stmt_scoped, arm_scoped, scoped_layer, arm_scoped_layer, form_in, target_in, layer_in, names_declared, form_names_declared, target_names_declared}
 use Rattle.mv_lowered_programs.specs.WellFormed.{IsWellFormedFunction, IsWellFormed}
 

@@ -1,5 +1,4 @@
 pub mod Jumps
-pub mod Labels
 pub mod Scopes
 pub mod Named
 pub mod WellFormed

@@ -652,10 +652,10 @@ module _ (p : Program) (setting : Setting) (frame : code_world.Frame) (began : L
 
   pub clear_correct : (j : Jumps) (b : Bound) (l : ℕ) (names_itself : Bool) (ms : List (Evaluation ℕ)) (ls : List Lowering) → l < locals → locals ≤ room → length ms ≡ length ls → length ls ≤ words_of_size (sizes l) → values_top locals ls ≤ room →
       AllAt none b ms ls → (names_itself ≡ false → (both : List ℕ × List ℕ) → AllAt (only l both) b ms ls) →
-      flows.FlowCorrect p setting frame began own locals sizes room void (out_of void j) 100 b (clear_local l names_itself ms) (lower_clear locals (sizes l) l names_itself ls j).code
+      flows.FlowCorrect p setting frame began own locals sizes room void (out_of void j) 72 b (clear_local l names_itself ms) (lower_clear locals (sizes l) l names_itself ls j).code
   clear_correct j b l names_itself ms ls lt le same inside fits all others f w s h =
-      subst (λ k. FlowShown (out_of void j) 100 (code (lower_clear locals (sizes l) l names_itself ls j).code b s) (after (cond names_itself k (k - length ms)) (put_values l 0 ms (record f { locals = slice_set f.locals l (replicate k 0) }) w))) (sym size_is)
-      (subst (λ k. FlowShown (out_of void j) 100 (code (lower_clear locals (sizes l) l names_itself ls j).code b s) (after (cond names_itself n (n - k)) (put_values l 0 ms f1 w))) (sym same)
+      subst (λ k. FlowShown (out_of void j) 72 (code (lower_clear locals (sizes l) l names_itself ls j).code b s) (after (cond names_itself k (k - length ms)) (put_values l 0 ms (record f { locals = slice_set f.locals l (replicate k 0) }) w))) (sym size_is)
+      (subst (λ k. FlowShown (out_of void j) 72 (code (lower_clear locals (sizes l) l names_itself ls j).code b s) (after (cond names_itself n (n - k)) (put_values l 0 ms f1 w))) (sym same)
       (by names_itself (nat_le (8 * n) (92 * (n - length ls))) refl (λ z. others z)))
     where
       n : ℕ
@@ -668,17 +668,17 @@ module _ (p : Program) (setting : Setting) (frame : code_world.Frame) (began : L
       f1 = record f { locals = slice_set f.locals l (replicate n 0) }
 
       by : (z c : Bool) → nat_le (8 * n) (92 * (n - length ls)) ≡ c → (z ≡ false → (both : List ℕ × List ℕ) → AllAt (only l both) b ms ls) →
-          FlowShown (out_of void j) 100 (code (cond (z || c) (clear_words (sizes l) l ∷ store_values locals (sizes l) l 0 ls) (store_values locals (sizes l) l 0 ls ++ store_zeros (sizes l) l (length ls) (n - length ls))) b s)
+          FlowShown (out_of void j) 72 (code (cond (z || c) (clear_words (sizes l) l ∷ store_values locals (sizes l) l 0 ls) (store_values locals (sizes l) l 0 ls ++ store_zeros (sizes l) l (length ls) (n - length ls))) b s)
           (after (cond z n (n - length ls)) (put_values l 0 ms f1 w))
       by true c e free =
-          flows.paid_by p setting frame began own locals sizes room void (out_of void j) 100 n _ (put_values l 0 ms f1 w)
-          (flows.more p setting frame began own locals sizes room void (out_of void j) (8 + 8 * n) (100 + 100 * n) _ (put_values l 0 ms f1 w) (omega arith)
+          flows.paid_by p setting frame began own locals sizes room void (out_of void j) 72 n _ (put_values l 0 ms f1 w)
+          (flows.more p setting frame began own locals sizes room void (out_of void j) (8 + 8 * n) (72 + 100 * n) _ (put_values l 0 ms f1 w) (omega arith)
           (cleared_first j b l ms ls f w s lt le inside fits all h))
       by false true e free =
-          flows.paid_by p setting frame began own locals sizes room void (out_of void j) 100 (n - length ls) _ (put_values l 0 ms f1 w)
-          (flows.more p setting frame began own locals sizes room void (out_of void j) (8 + 8 * n) (100 + 100 * (n - length ls)) _ (put_values l 0 ms f1 w) (omega (arith, leb-true (8 * n) (92 * (n - length ls)) e))
+          flows.paid_by p setting frame began own locals sizes room void (out_of void j) 72 (n - length ls) _ (put_values l 0 ms f1 w)
+          (flows.more p setting frame began own locals sizes room void (out_of void j) (8 + 8 * n) (72 + 100 * (n - length ls)) _ (put_values l 0 ms f1 w) (omega (arith, leb-true (8 * n) (92 * (n - length ls)) e))
           (cleared_first j b l ms ls f w s lt le inside fits all h))
       by false false e free =
-          flows.paid_by p setting frame began own locals sizes room void (out_of void j) 100 (n - length ls) _ (put_values l 0 ms f1 w)
-          (flows.more p setting frame began own locals sizes room void (out_of void j) (14 * (n - length ls)) (100 + 100 * (n - length ls)) _ (put_values l 0 ms f1 w) (omega arith)
+          flows.paid_by p setting frame began own locals sizes room void (out_of void j) 72 (n - length ls) _ (put_values l 0 ms f1 w)
+          (flows.more p setting frame began own locals sizes room void (out_of void j) (14 * (n - length ls)) (72 + 100 * (n - length ls)) _ (put_values l 0 ms f1 w) (omega arith)
           (values_first j b l (sizes l) ms ls f w s refl lt le inside (not_cheap n (length ls) e) fits (free refl) h))

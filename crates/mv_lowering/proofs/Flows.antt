@@ -1,5 +1,5 @@
 -- Each form of statement: if its parts are lowered correctly, so is the whole.
-use Rattle.std.proofs.Common.{◌≡◌, ℕ, zero, suc, ◌+◌, ◌*◌, ◌≤◌, Bool, true, false, cond, eqb, List, [], ◌∷◌, ◌++◌, map, Option, Some, None, refl, sym, ◌∙◌, subst, ap, arith}
+use Rattle.std.proofs.Common.{◌≡◌, ℕ, zero, suc, ◌+◌, ◌-◌, ◌*◌, ◌≤◌, Bool, true, false, cond, eqb, List, [], ◌∷◌, ◌++◌, map, Option, Some, None, refl, sym, ◌∙◌, subst, ap, arith}
 use Rattle.mv_ir.specs.declared.tree.Tree.{Tree}
 use Rattle.mv_ir.specs.declared.stm.Stm.{Stm}
 use Rattle.mv_ir.specs.declared.stm.Stm.TheOpen as stm
@@ -119,13 +119,21 @@ module _ (p : Program) (setting : Setting) (frame : code_world.Frame) (began : L
   more out credit credit' r (Came flow f w work) le h = record { state = h.state; cost = h.cost; runs = h.runs; shows = h.shows; nothing = h.nothing; paid = omega (arith, le, h.paid) }
   more out credit credit' r (Stopped why w work) le h = record { cost = h.cost; runs = h.runs; paid = omega (arith, le, h.paid) }
 
+  -- what a run costs less than was paid for
+  pub refunded : (out : Out) (credit k : ℕ) (r : Run) (o : Outcome Frame Flow) → FlowShown out (credit + k) (spend k r) o → FlowShown out credit r o
+  refunded out credit k r (Came flow f w work) h =
+      let e = ap (λ (q : Run). q.cost) h.runs in
+      record { state = h.state; cost = h.cost - k; runs = run_same _ _ (ap (λ (q : Run). q.outcome) h.runs) (omega (arith, e)); shows = h.shows; nothing = h.nothing; paid = omega (arith, h.paid) }
+  refunded out credit k r (Stopped why w work) h =
+      record { cost = h.cost - k; runs = λ ne. (let e = ap (λ (q : Run). q.cost) (h.runs ne) in run_same _ _ (ap (λ (q : Run). q.outcome) (h.runs ne)) (omega (arith, e))); paid = omega (arith, h.paid) }
+
   pub paid_by : (out : Out) (credit k : ℕ) (r : Run) (o : Outcome Frame Flow) → FlowShown out (credit + 100 * k) r o → FlowShown out credit r (after k o)
   paid_by out credit k r (Came flow f w work) h = record { state = h.state; cost = h.cost; runs = h.runs; shows = h.shows; nothing = h.nothing; paid = omega (arith, h.paid) }
   paid_by out credit k r (Stopped why w work) h = record { cost = h.cost; runs = h.runs; paid = omega (arith, h.paid) }
 
   -- each statement counts as it begins
-  pub counted_once : (out : Out) (b : Bound) (m : Evaluation Flow) (xs : List Stm) → FlowCorrect out 100 b m xs → FlowCorrect out 0 b (counted 1 m) xs
-  counted_once out b m xs h f w s sh = paid_by out 0 1 (code xs b s) (m f w) (h f w s sh)
+  pub counted_once : (out : Out) (b : Bound) (m : Evaluation Flow) (xs : List Stm) → FlowCorrect out 72 b m xs → FlowCorrect out 0 b (counted 1 m) xs
+  counted_once out b m xs h f w s sh = paid_by out 0 1 (code xs b s) (m f w) (more out 72 100 (code xs b s) (m f w) (omega arith) (h f w s sh))
 
   pub comes_to : (out : Out) (credit : ℕ) (b : Bound) (m m' : Evaluation Flow) (xs : List Stm) → ((f : Frame) (w : World) → m f w ≡ m' f w) → FlowCorrect out credit b m xs → FlowCorrect out credit b m' xs
   comes_to out credit b m m' xs same h f w s sh = subst (λ (o : Outcome Frame Flow). FlowShown out credit (code xs b s) o) (same f w) (h f w s sh)
@@ -166,10 +174,10 @@ module _ (p : Program) (setting : Setting) (frame : code_world.Frame) (began : L
       }
       by (Stopped why w1 work) r = record { cost = r.cost; runs = r.runs; paid = omega (arith, r.paid, enough) }
 
-  pub returns : (j : Jumps) (b : Bound) (me : Evaluation ℕ) (le : Lowering) → void ≡ false → (le locals).top ≤ room → CorrectFor b 0 me le → FlowCorrect (out_of void j) 100 b (bind me (λ v. give (Returns v))) (lower_return locals le j).code
+  pub returns : (j : Jumps) (b : Bound) (me : Evaluation ℕ) (le : Lowering) → void ≡ false → (le locals).top ≤ room → CorrectFor b 0 me le → FlowCorrect (out_of void j) 72 b (bind me (λ v. give (Returns v))) (lower_return locals le j).code
   returns j b me le value fits ce f w s h =
       let e = le locals in
-      behind (out_of void j) b 100 0 locals s e.code (return_with e.tree ∷ []) e.tree (me f w) (λ v. give (Returns v)) (ce locals f w s (omega arith) fits (at_bound b f w s h))
+      behind (out_of void j) b 72 0 locals s e.code (return_with e.tree ∷ []) e.tree (me f w) (λ v. give (Returns v)) (ce locals f w s (omega arith) fits (at_bound b f w s h))
       (λ v f1 w1 work r. record {
         state = r.state;
         cost = 8 + 3 * nodes e.tree;
@@ -189,7 +197,7 @@ module _ (p : Program) (setting : Setting) (frame : code_world.Frame) (began : L
           Is false = ⊥
 
   -- control that leaves at once
-  pub leaves : (j : Jumps) (b : Bound) (n : ℕ) (flow : Flow) → ((s : State) → out_of void j flow s ≡ Leaves n s) → returned_value flow ≡ 0 → FlowCorrect (out_of void j) 100 b (give flow) (break n ∷ [])
+  pub leaves : (j : Jumps) (b : Bound) (n : ℕ) (flow : Flow) → ((s : State) → out_of void j flow s ≡ Leaves n s) → returned_value flow ≡ 0 → FlowCorrect (out_of void j) 72 b (give flow) (break n ∷ [])
   leaves j b n flow is none f w s h = record {
     state = s;
     cost = 8;
@@ -236,19 +244,14 @@ module _ (p : Program) (setting : Setting) (frame : code_world.Frame) (began : L
       by true = refl
       by false = refl
 
-  pub then_next : (j : Jumps) (b : Bound) (c1 c2 : ℕ) (s : State) (xs ys : List Stm) (next : Evaluation Flow) (o : Outcome Frame Flow) → FlowShown (out_of void j) c1 (code xs b s) o → FlowCorrect (out_of void j) c2 b next ys →
-      FlowShown (out_of void j) (c2 + c1) (code (xs ++ ys) b s) (and_then o (λ flow. then_on flow next))
-  then_next j b c1 c2 s xs ys next (Came Goes f w work) h k =
-      spent (out_of void j) c2 c1 h.cost work (code ys b h.state) (code (xs ++ ys) b s) (next f w) (joined xs ys b s ∙ ap (λ r. then_do r (code ys b)) h.runs) 0 (omega (arith, h.paid))
-      (more (out_of void j) c2 (c2 + 0) (code ys b h.state) (next f w) (omega arith) (k f w h.state h.shows))
-  then_next j b c1 c2 s xs ys next (Came Breaks f w work) h k = record {
-    state = h.state;
-    cost = h.cost + 0;
-    runs = joined xs ys b s ∙ ap (λ r. then_do r (code ys b)) h.runs ∙ stays j h.state h.cost Breaks (code ys b) (λ e. no_way e);
-    shows = h.shows;
-    nothing = h.nothing;
-    paid = omega (arith, h.paid);
-  }
+  -- One run after another, which is correct from where the first one goes on.
+  pub then_after : (j : Jumps) (c1 c2 : ℕ) (r : Run) (rest : State → Run) (next : Evaluation Flow) (o : Outcome Frame Flow) → FlowShown (out_of void j) c1 r o →
+      ((f : Frame) (w : World) (s : State) → r.outcome ≡ Next s → Shows f w s → FlowShown (out_of void j) c2 (rest s) (next f w)) → FlowShown (out_of void j) (c2 + c1) (then_do r rest) (and_then o (λ flow. then_on flow next))
+  then_after j c1 c2 r rest next (Came Goes f w work) h k =
+      spent (out_of void j) c2 c1 h.cost work (rest h.state) (then_do r rest) (next f w) (ap (λ (q : Run). then_do q rest) h.runs) 0 (omega (arith, h.paid))
+      (more (out_of void j) c2 (c2 + 0) (rest h.state) (next f w) (omega arith) (k f w h.state (ap (λ (q : Run). q.outcome) h.runs) h.shows))
+  then_after j c1 c2 r rest next (Came Breaks f w work) h k =
+      record { state = h.state; cost = h.cost + 0; runs = ap (λ (q : Run). then_do q rest) h.runs ∙ stays j h.state h.cost Breaks rest (λ e. no_way e); shows = h.shows; nothing = h.nothing; paid = omega (arith, h.paid) }
     where
       no_way : Breaks ≡ Goes → ⊥
       no_way e = subst IsBreak e tt
@@ -258,22 +261,10 @@ module _ (p : Program) (setting : Setting) (frame : code_world.Frame) (began : L
           IsBreak Breaks = Unit {0}
           IsBreak Continues = ⊥
           IsBreak (Returns v) = ⊥
-  then_next j b c1 c2 s xs ys next (Came Continues f w work) h k = record {
-    state = h.state;
-    cost = h.cost + 0;
-    runs = joined xs ys b s ∙ ap (λ r. then_do r (code ys b)) h.runs;
-    shows = h.shows;
-    nothing = h.nothing;
-    paid = omega (arith, h.paid);
-  }
-  then_next j b c1 c2 s xs ys next (Came (Returns v) f w work) h k = record {
-    state = h.state;
-    cost = h.cost + 0;
-    runs = joined xs ys b s ∙ ap (λ r. then_do r (code ys b)) h.runs ∙ stays j h.state h.cost (Returns v) (code ys b) (λ e. no_way e);
-    shows = h.shows;
-    nothing = h.nothing;
-    paid = omega (arith, h.paid);
-  }
+  then_after j c1 c2 r rest next (Came Continues f w work) h k =
+      record { state = h.state; cost = h.cost + 0; runs = ap (λ (q : Run). then_do q rest) h.runs; shows = h.shows; nothing = h.nothing; paid = omega (arith, h.paid) }
+  then_after j c1 c2 r rest next (Came (Returns v) f w work) h k =
+      record { state = h.state; cost = h.cost + 0; runs = ap (λ (q : Run). then_do q rest) h.runs ∙ stays j h.state h.cost (Returns v) rest (λ e. no_way e); shows = h.shows; nothing = h.nothing; paid = omega (arith, h.paid) }
     where
       no_way : Returns v ≡ Goes → ⊥
       no_way e = subst IsReturn e tt
@@ -283,11 +274,13 @@ module _ (p : Program) (setting : Setting) (frame : code_world.Frame) (began : L
           IsReturn Breaks = ⊥
           IsReturn Continues = ⊥
           IsReturn (Returns v) = Unit {0}
-  then_next j b c1 c2 s xs ys next (Stopped why w work) h k = record {
-    cost = h.cost + 0;
-    runs = λ ne. joined xs ys b s ∙ ap (λ r. then_do r (code ys b)) (h.runs ne);
-    paid = omega (arith, h.paid);
-  }
+  then_after j c1 c2 r rest next (Stopped why w work) h k = record { cost = h.cost + 0; runs = λ ne. ap (λ (q : Run). then_do q rest) (h.runs ne); paid = omega (arith, h.paid) }
+
+  pub then_next : (j : Jumps) (b : Bound) (c1 c2 : ℕ) (s : State) (xs ys : List Stm) (next : Evaluation Flow) (o : Outcome Frame Flow) → FlowShown (out_of void j) c1 (code xs b s) o → FlowCorrect (out_of void j) c2 b next ys →
+      FlowShown (out_of void j) (c2 + c1) (code (xs ++ ys) b s) (and_then o (λ flow. then_on flow next))
+  then_next j b c1 c2 s xs ys next o h k =
+      subst (λ (r : Run). FlowShown (out_of void j) (c2 + c1) r (and_then o (λ flow. then_on flow next))) (sym (joined xs ys b s))
+      (then_after j c1 c2 (code xs b s) (code ys b) next o h (λ f w s1 e sh. k f w s1 sh))
 
   pub nothing_to_do : (j : Jumps) (b : Bound) → FlowCorrect (out_of void j) 0 b (in_order []) []
   nothing_to_do j b f w s h = record { state = s; cost = 0; runs = refl; shows = h; nothing = λ q. refl; paid = omega arith }
@@ -381,20 +374,21 @@ module _ (p : Program) (setting : Setting) (frame : code_world.Frame) (began : L
 
   -- A loop, at each bound: by induction on the bound, each turn being correct at each.
   pub loop_correct : (j : Jumps) (limit : ℕ) (calls : ℕ → Calls) (mt rest : ℕ → Evaluation Flow) (xs : List Stm) →
-      ((k : ℕ) → k ≤ limit → FlowCorrect (turn_out void j) 92 (levels calls k) (mt k) xs) →
+      ((k : ℕ) → k ≤ limit → FlowCorrect (turn_out void j) 64 (levels calls k) (mt k) xs) →
       ((f : Frame) (w : World) → rest zero f w ≡ bind (mt zero) (λ flow. after_body flow (stop Unfinished)) f w) →
       ((k : ℕ) (f : Frame) (w : World) → rest (suc k) f w ≡ bind (mt (suc k)) (λ flow. after_body flow (counted 1 (rest k))) f w) →
-      (k : ℕ) → k ≤ limit → FlowCorrect (out_of void j) 100 (levels calls k) (rest k) (repeat xs ∷ [])
+      (k : ℕ) → k ≤ limit → FlowCorrect (out_of void j) 72 (levels calls k) (rest k) (repeat xs ∷ [])
   loop_correct j limit calls mt rest xs turns first next zero up f w s h =
-      subst (λ (o : Outcome Frame Flow). FlowShown (out_of void j) 100 (code (repeat xs ∷ []) [] s) o) (sym (first f w))
-      (subst (λ r. FlowShown (out_of void j) 100 r (bind (mt zero) (λ flow. after_body flow (stop Unfinished)) f w)) (sym (one_meaning setting frame (stm.Loop xs) [] s))
-      (turned j 92 (code xs [] s) (λ s1. now (Ends (More s1.world))) (stop Unfinished) (mt zero f w) (turns zero up f w s h)
+      subst (λ (o : Outcome Frame Flow). FlowShown (out_of void j) 72 (code (repeat xs ∷ []) [] s) o) (sym (first f w))
+      (subst (λ r. FlowShown (out_of void j) 72 r (bind (mt zero) (λ flow. after_body flow (stop Unfinished)) f w)) (sym (one_meaning setting frame (stm.Loop xs) [] s))
+      (turned j 64 (code xs [] s) (λ s1. now (Ends (More s1.world))) (stop Unfinished) (mt zero f w) (turns zero up f w s h)
       (λ f1 w1 s1 h1. record { cost = 0; runs = λ ne. ap (λ (x : code_world.World). ran 0 (Ends (More x))) h1.world; paid = omega arith })))
   loop_correct j limit calls mt rest xs turns first next (suc k) up f w s h =
-      subst (λ (o : Outcome Frame Flow). FlowShown (out_of void j) 100 (code (repeat xs ∷ []) (levels calls (suc k)) s) o) (sym (next k f w))
-      (subst (λ r. FlowShown (out_of void j) 100 r (bind (mt (suc k)) (λ flow. after_body flow (counted 1 (rest k))) f w)) (sym (one_meaning setting frame (stm.Loop xs) (levels calls (suc k)) s))
-      (turned j 92 (code xs (levels calls (suc k)) s) (loop (ir.in_order (map (meaning setting frame) xs)) (levels calls k)) (counted 1 (rest k)) (mt (suc k) f w) (turns (suc k) up f w s h)
+      subst (λ (o : Outcome Frame Flow). FlowShown (out_of void j) 72 (code (repeat xs ∷ []) (levels calls (suc k)) s) o) (sym (next k f w))
+      (subst (λ r. FlowShown (out_of void j) 72 r (bind (mt (suc k)) (λ flow. after_body flow (counted 1 (rest k))) f w)) (sym (one_meaning setting frame (stm.Loop xs) (levels calls (suc k)) s))
+      (turned j 64 (code xs (levels calls (suc k)) s) (loop (ir.in_order (map (meaning setting frame) xs)) (levels calls k)) (counted 1 (rest k)) (mt (suc k) f w) (turns (suc k) up f w s h)
       (λ f1 w1 s1 h1.
       subst (λ r. FlowShown (out_of void j) 0 r (counted 1 (rest k) f1 w1)) (one_meaning setting frame (stm.Loop xs) (levels calls k) s1)
       (paid_by (out_of void j) 0 1 (code (repeat xs ∷ []) (levels calls k) s1) (rest k f1 w1)
-      (loop_correct j limit calls mt rest xs turns first next k (omega (arith, up)) f1 w1 s1 h1)))))
+      (more (out_of void j) 72 100 (code (repeat xs ∷ []) (levels calls k) s1) (rest k f1 w1) (omega arith)
+      (loop_correct j limit calls mt rest xs turns first next k (omega (arith, up)) f1 w1 s1 h1))))))

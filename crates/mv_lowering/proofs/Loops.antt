@@ -129,16 +129,16 @@ module _ (p : Program) (setting : Setting) (frame : code_world.Frame) (began : L
       (raise (turn_out void j) 0 8 b mb (enclosed body ∷ []) (omega arith) (flows.in_block p setting frame began own locals sizes room void j b mb body cb)) (leaves_loop j b)
 
   pub do_correct : (j : Jumps) (b : Bound) (me : Evaluation ℕ) (mb : Evaluation Flow) (le : Lowering) (body : List Stm) → (le locals).top ≤ room → CorrectFor b 0 me le →
-      FlowCorrect (out_of void (in_body j)) 0 b mb body → FlowCorrect (turn_out void j) 92 b (do_turn mb me) (enclosed body ∷ test_and_body locals le [])
+      FlowCorrect (out_of void (in_body j)) 0 b mb body → FlowCorrect (turn_out void j) 64 b (do_turn mb me) (enclosed body ∷ test_and_body locals le [])
   do_correct j b me mb le body fits ce cb =
-      raise (turn_out void j) ((8 + 0) + 0) 92 b (do_turn mb me) ((enclosed body ∷ []) ++ test_and_body locals le []) (omega arith)
+      raise (turn_out void j) ((8 + 0) + 0) 64 b (do_turn mb me) ((enclosed body ∷ []) ++ test_and_body locals le []) (omega arith)
       (flows.in_two_parts p setting frame began own locals sizes room void j b 0 (8 + 0) mb (test_turn me) (enclosed body ∷ []) (test_and_body locals le []) (flows.in_block p setting frame began own locals sizes room void j b mb body cb)
       (flows.tested p setting frame began own locals sizes room void (turn_out void j) b 8 0 me (give Goes) (give Breaks) le [] (break 0 ∷ []) fits ce (goes_on j b) (leaves_loop j b)))
 
   pub for_correct : (j : Jumps) (b : Bound) (me ms : Evaluation ℕ) (mb : Evaluation Flow) (le ls : Lowering) (body : List Stm) → (le locals).top ≤ room → (ls locals).top ≤ room → CorrectFor b 14 me le → CorrectFor b 14 ms ls →
-      FlowCorrect (out_of void (in_body j)) 0 b mb body → FlowCorrect (turn_out void j) 92 b (for_turn me mb ms) (test_and_body locals le (enclosed body ∷ []) ++ (ls locals).code)
+      FlowCorrect (out_of void (in_body j)) 0 b mb body → FlowCorrect (turn_out void j) 64 b (for_turn me mb ms) (test_and_body locals le (enclosed body ∷ []) ++ (ls locals).code)
   for_correct j b me ms mb le ls body fits fits_step ce cs cb =
-      raise (turn_out void j) (14 + (8 + 14)) 92 b (for_turn me mb ms) (test_and_body locals le (enclosed body ∷ []) ++ (ls locals).code) (omega arith)
+      raise (turn_out void j) (14 + (8 + 14)) 64 b (for_turn me mb ms) (test_and_body locals le (enclosed body ∷ []) ++ (ls locals).code) (omega arith)
       (flows.in_two_parts p setting frame began own locals sizes room void j b (8 + 14) 14 (while_turn me mb) (bind ms (λ _. give Goes)) (test_and_body locals le (enclosed body ∷ [])) (ls locals).code
       (while_correct j b 14 me mb le body fits ce cb)
       (flows.effect p setting frame began own locals sizes room void (turn_out void j) Goes b 14 14 ms ls (λ s. refl) (λ q. refl) (omega arith) fits_step cs))

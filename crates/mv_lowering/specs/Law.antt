@@ -17,6 +17,7 @@ use Rattle.mv_lowering.specs.Lower.{lower_expr, is_well_named, is_callable, is_v
 use Rattle.mv_lowering.specs.Correct.{astray, IsStrict, CallsAgree, KnownAgrees, Correct}
 use Rattle.mv_lowering.specs.Statements.{Jumps, in_sequence, out_of, levels, FlowCorrect}
 use Rattle.mv_lowering.specs.LowerStatements.{lower_stmt, stmt_is_well_formed}
+use Rattle.mv_lowering.specs.Labels.{stmt_labelled}
 
 -- An expression that names only what there is does, lowered from any free temporary on and in any frame that has room, what it means: where
 -- the functions that it calls and the known functions do so, and a call through a pointer reaches only functions that fit.
@@ -41,7 +42,7 @@ fits_call p t g n = is_callable p g n (is_void t)
 abbrev pub strict_context : Program → List ℕ → ℕ → Context
 strict_context p numbers = context_with p numbers (fits_call p) (stop astray)
 
--- Well-formed statements do, lowered to where control leads as they stand, in any frame that has room and at each bound up to a limit, what they
+-- Well-formed statements, with labels as they should be, do, lowered to where control leads as they stand, in any frame that has room and at each bound up to a limit, what they
 -- mean: where up to that limit the functions that they call and the known functions do so.
 abbrev pub StatementsAreRight : Type 0
 StatementsAreRight =
@@ -50,7 +51,7 @@ StatementsAreRight =
     ((k : ℕ) → k ≤ limit → (held : ℕ → Option (List ℕ × List ℕ)) (floor : ℕ) (scratch : ℕ → ℕ) →
     CallsAgree p setting frame began function locals sizes held floor scratch temps (levels calls k) (strict_context p setting.numbers k)) →
     ((k : ℕ) (held : ℕ → Option (List ℕ × List ℕ)) (floor : ℕ) (scratch : ℕ → ℕ) (known : Known) → KnownAgrees p setting frame began function locals sizes held floor scratch temps (levels calls k) known) →
-    (body : List Stmt) → all_of (map (stmt_is_well_formed p function locals sizes void) body) ≡ true → (jumps : Jumps) →
+    (body : List Stmt) → all_of (map (stmt_is_well_formed p function locals sizes void) body) ≡ true → all_of (map stmt_labelled body) ≡ true → (jumps : Jumps) →
     (in_sequence locals (map (lower_stmt locals sizes void) body) jumps).top ≤ temps → (k : ℕ) → k ≤ limit →
     FlowCorrect p setting frame began function locals sizes temps void (out_of void jumps) 0 (levels calls k) (flow_of_all p (strict_context p setting.numbers k) body)
     (in_sequence locals (map (lower_stmt locals sizes void) body) jumps).code

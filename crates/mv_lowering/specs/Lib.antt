@@ -5,3 +5,4 @@ pub mod Law
 pub mod Statements
 pub mod LowerStatements
 pub mod Functions
+pub mod Labels

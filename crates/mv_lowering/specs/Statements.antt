@@ -102,19 +102,14 @@ pub record LoweredArm : Type 0 where
   pub other : Bool
   pub body : Placed
 
--- so many more
-abbrev pub raised : ℕ → ℕ → ℕ
-raised zero n = n
-raised (suc m) n = suc (raised m n)
+-- in an arm: it stands in the block of the `switch`, which `break` leaves
+abbrev pub in_arm : Jumps → Jumps
+in_arm j = record { leave = 0; again = suc j.again; around = suc j.around }
 
--- In an arm behind which m more stand: it stands in m + 1 blocks of the `switch`, of which `break` leaves the outermost.
-abbrev pub in_arm : ℕ → Jumps → Jumps
-in_arm m j = record { leave = m; again = raised (suc m) j.again; around = raised (suc m) j.around }
-
--- a test of the value in a temporary against each label, which leaves i + 1 blocks where one matches
+-- A test of the value in a temporary against each label. Where one matches, the place of its arm takes the value's place, and the block of the tests is left.
 abbrev pub test_labels : ℕ → ℕ → List ℕ → List Stm
 test_labels n i [] = []
-test_labels n i (l ∷ ls) = choose (binary 11 (temp n) (number l)) (break i ∷ []) [] ∷ test_labels n i ls
+test_labels n i (l ∷ ls) = choose (binary 11 (temp n) (number l)) (set n (number i) ∷ break 0 ∷ []) [] ∷ test_labels n i ls
 
 abbrev pub test_arms : ℕ → ℕ → List LoweredArm → List Stm
 test_arms n i [] = []
@@ -125,19 +120,27 @@ abbrev pub arm_place : (LoweredArm → Bool) → ℕ → List LoweredArm → ℕ
 arm_place is_picked i [] = i
 arm_place is_picked i (a ∷ arms) = cond (is_picked a) i (arm_place is_picked (suc i) arms)
 
--- the arms, each behind a block that holds the code before it
-abbrev pub nested : List Stm → List LoweredArm → Jumps → List Stm
-nested inner [] j = inner
-nested inner (a ∷ arms) j = nested (enclosed inner ∷ (a.body (in_arm (length arms) j)).code) arms j
+-- the tests: behind them stands the place of `default`
+abbrev pub all_tests : ℕ → List LoweredArm → List Stm
+all_tests n arms = test_arms n 0 arms ++ set n (number (arm_place (λ a. a.other) 0 arms)) ∷ []
+
+-- The statements of the arm at a place, which are skipped where the place in the temporary is a later one. Behind them it is the first, so that control falls through.
+abbrev pub arm_code : ℕ → ℕ → List Stm → List Stm
+arm_code n i [] = []
+arm_code n i (x ∷ xs) = choose (binary 10 (number i) (temp n)) [] ((x ∷ xs) ++ set n (number 0) ∷ []) ∷ []
+
+abbrev pub arms_code : ℕ → ℕ → List LoweredArm → Jumps → List Stm
+arms_code n i [] j = []
+arms_code n i (a ∷ arms) j = arm_code n i (a.body (in_arm j)).code ++ arms_code n (suc i) arms j
 
 module _ (locals : ℕ) where
   abbrev pub arms_top : List LoweredArm → Jumps → ℕ
   arms_top [] j = locals
-  arms_top (a ∷ arms) j = max (a.body (in_arm (length arms) j)).top (arms_top arms j)
+  arms_top (a ∷ arms) j = max (a.body (in_arm j)).top (arms_top arms j)
 
   abbrev pub lower_switch : Lowering → List LoweredArm → Placed
   lower_switch e arms j = record {
-    code = (e locals).code ++ set locals (e locals).tree ∷ enclosed (nested (test_arms locals 0 arms ++ break (arm_place (λ a. a.other) 0 arms) ∷ []) arms j) ∷ [];
+    code = (e locals).code ++ set locals (e locals).tree ∷ enclosed (enclosed (all_tests locals arms) ∷ arms_code locals 0 arms j) ∷ [];
     top = max (locals + 1) (max (e locals).top (arms_top arms j));
   }
 

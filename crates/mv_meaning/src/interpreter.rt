@@ -2,7 +2,9 @@
 
 ghost use Rattle.std.specs.Prelude.{◌≡◌, if◌then◌else◌};
 ghost use Rattle.mv_num.specs.Words.{add, sub};
+ghost use Rattle.mv_ast.specs.declared.program.CType.{CType};
 ghost use Rattle.mv_meaning.specs.Runs.{IsReady, IsOutcome, expr_outcome, exprs_outcome, target_outcome, optional_outcome, call_outcome, stmt_outcome, stmts_outcome, while_outcome, do_outcome, for_outcome, arms_outcome, stores_outcome, world_of, goes_back, behind_loop, behind_switch};
+ghost use Rattle.mv_meaning.specs.Forms.{binary_outcome, both_outcome, either_outcome, choice_outcome, set_outcome, change_outcome, after_outcome, direct_outcome, through_outcome, known_outcome};
 ghost use Rattle.mv_meaning.specs.Meaning.{value_in, returned_value};
 
 use crate::arms::{arms_from, first_arm};
@@ -14,7 +16,7 @@ use crate::state::{
     Flow, Frame, Halt, Here, Lvalue, State, count, put_word, size_at, store_lvalue, word_at,
 };
 use mv_ast::operators::{binary_value, converted, unary_value};
-use mv_ast::program::{Arm, Expr, Form, Program, Stmt, Target};
+use mv_ast::program::{Arm, CType, Expr, Form, Known, Program, Stmt, Target};
 use mv_ast::world::Stop;
 use mv_num::list::List;
 use mv_num::word::{add, sub};
@@ -97,87 +99,254 @@ fn value_of(
             Ok(unary_value(*op, v))
         }
         Form::Binary(op, a, b) => {
-            let x = value_of(program, here, a.get(), frame, state)?;
-            let y = value_of(program, here, b.get(), frame, state)?;
-            match binary_value(*op, a.get().ctype, x, y) {
-                Some(v) => Ok(v),
-                None => Err(Halt::Stopped(Stop::Trapped(1))),
-            }
+            value_of_binary(program, here, *op, a.get(), b.get(), frame, state)
         }
-        Form::Both(a, b) => {
-            let x = value_of(program, here, a.get(), frame, state)?;
-            if x == 0 {
-                return Ok(0);
-            }
-            let y = value_of(program, here, b.get(), frame, state)?;
-            Ok(if y == 0 { 0 } else { 1 })
-        }
-        Form::Either(a, b) => {
-            let x = value_of(program, here, a.get(), frame, state)?;
-            if x != 0 {
-                return Ok(1);
-            }
-            let y = value_of(program, here, b.get(), frame, state)?;
-            Ok(if y == 0 { 0 } else { 1 })
-        }
+        Form::Both(a, b) => value_of_both(program, here, a.get(), b.get(), frame, state),
+        Form::Either(a, b) => value_of_either(program, here, a.get(), b.get(), frame, state),
         Form::Choose(c, a, b) => {
-            let x = value_of(program, here, c.get(), frame, state)?;
-            if x == 0 {
-                value_of(program, here, b.get(), frame, state)
-            } else {
-                value_of(program, here, a.get(), frame, state)
-            }
+            value_of_choice(program, here, c.get(), a.get(), b.get(), frame, state)
         }
         Form::Convert(a) => {
             let v = value_of(program, here, a.get(), frame, state)?;
             Ok(converted(e.ctype, v))
         }
-        Form::Set(target, a) => {
-            let lvalue = lvalue_of(program, here, target, frame, state)?;
-            let v = value_of(program, here, a.get(), frame, state)?;
-            store_lvalue(lvalue, v, frame, state);
-            Ok(v)
-        }
+        Form::Set(target, a) => value_of_set(program, here, target, a.get(), frame, state),
         Form::Change(op, kind, target, a) => {
-            let lvalue = lvalue_of(program, here, target, frame, state)?;
-            let v = value_of(program, here, a.get(), frame, state)?;
-            let old = read_lvalue(program, here, lvalue, frame, state);
-            match binary_value(*op, *kind, old, v) {
-                Some(new) => {
-                    let stored = converted(e.ctype, new);
-                    store_lvalue(lvalue, stored, frame, state);
-                    Ok(stored)
-                }
-                None => Err(Halt::Stopped(Stop::Trapped(1))),
-            }
+            let change = Change {
+                op: *op,
+                kind: *kind,
+                ctype: e.ctype,
+            };
+            value_of_change(program, here, change, target, a.get(), frame, state)
         }
         Form::After(up, target) => {
-            let lvalue = lvalue_of(program, here, target, frame, state)?;
-            let old = read_lvalue(program, here, lvalue, frame, state);
-            let stored = converted(e.ctype, stepped(*up, old));
-            store_lvalue(lvalue, stored, frame, state);
-            Ok(old)
+            value_of_after(program, here, *up, e.ctype, target, frame, state)
         }
-        Form::Direct(f, args) => {
-            let values = values_of(program, here, args, frame, state)?;
-            call(program, here, *f, &values, frame, state)
-        }
+        Form::Direct(f, args) => value_of_call(program, here, *f, args, frame, state),
         Form::Through(args, callee) => {
-            let values = values_of(program, here, args, frame, state)?;
-            let v = value_of(program, here, callee.get(), frame, state)?;
-            if v == 0 {
-                return Err(Halt::Stopped(Stop::Trapped(3)));
-            }
-            match function_of_number(program, v) {
-                Some(f) => call(program, here, f, &values, frame, state),
-                None => Ok(0),
-            }
+            value_of_call_through(program, here, args, callee.get(), frame, state)
         }
-        Form::Known(known, args) => {
-            let values = values_of(program, here, args, frame, state)?;
-            known_value(program, here, *known, &values, frame, state)
-        }
+        Form::Known(known, args) => value_of_known(program, here, *known, args, frame, state),
     }
+}
+
+// The value of an operation on two values (C11 6.5.5).
+#[cycle(evaluation)]
+fn value_of_binary(
+    program: &Program,
+    here: Here,
+    op: u8,
+    a: &Expr,
+    b: &Expr,
+    frame: &mut Frame,
+    state: &mut State,
+) -> Result<u32, Halt>
+    requires { IsReady program.now here.depth here.live here.plan_work }
+    ensures { IsOutcome state.old.work (binary_outcome program.now here op a.now b.now frame.old state.old) here result frame.new state.new }
+{
+    let x = value_of(program, here, a, frame, state)?;
+    let y = value_of(program, here, b, frame, state)?;
+    match binary_value(op, a.ctype, x, y) {
+        Some(v) => Ok(v),
+        None => Err(Halt::Stopped(Stop::Trapped(1))),
+    }
+}
+
+// The value of `a && b`, where `b` is evaluated only if `a` is not 0 (C11 6.5.13).
+#[cycle(evaluation)]
+fn value_of_both(
+    program: &Program,
+    here: Here,
+    a: &Expr,
+    b: &Expr,
+    frame: &mut Frame,
+    state: &mut State,
+) -> Result<u32, Halt>
+    requires { IsReady program.now here.depth here.live here.plan_work }
+    ensures { IsOutcome state.old.work (both_outcome program.now here a.now b.now frame.old state.old) here result frame.new state.new }
+{
+    let x = value_of(program, here, a, frame, state)?;
+    if x == 0 {
+        return Ok(0);
+    }
+    let y = value_of(program, here, b, frame, state)?;
+    Ok(if y == 0 { 0 } else { 1 })
+}
+
+// The value of `a || b`, where `b` is evaluated only if `a` is 0 (C11 6.5.14).
+#[cycle(evaluation)]
+fn value_of_either(
+    program: &Program,
+    here: Here,
+    a: &Expr,
+    b: &Expr,
+    frame: &mut Frame,
+    state: &mut State,
+) -> Result<u32, Halt>
+    requires { IsReady program.now here.depth here.live here.plan_work }
+    ensures { IsOutcome state.old.work (either_outcome program.now here a.now b.now frame.old state.old) here result frame.new state.new }
+{
+    let x = value_of(program, here, a, frame, state)?;
+    if x != 0 {
+        return Ok(1);
+    }
+    let y = value_of(program, here, b, frame, state)?;
+    Ok(if y == 0 { 0 } else { 1 })
+}
+
+// The value of `c ? a : b` (C11 6.5.15).
+#[cycle(evaluation)]
+fn value_of_choice(
+    program: &Program,
+    here: Here,
+    c: &Expr,
+    a: &Expr,
+    b: &Expr,
+    frame: &mut Frame,
+    state: &mut State,
+) -> Result<u32, Halt>
+    requires { IsReady program.now here.depth here.live here.plan_work }
+    ensures { IsOutcome state.old.work (choice_outcome program.now here c.now a.now b.now frame.old state.old) here result frame.new state.new }
+{
+    let x = value_of(program, here, c, frame, state)?;
+    if x == 0 {
+        value_of(program, here, b, frame, state)
+    } else {
+        value_of(program, here, a, frame, state)
+    }
+}
+
+// The value of an assignment (C11 6.5.16.1).
+#[cycle(evaluation)]
+fn value_of_set(
+    program: &Program,
+    here: Here,
+    target: &Target,
+    a: &Expr,
+    frame: &mut Frame,
+    state: &mut State,
+) -> Result<u32, Halt>
+    requires { IsReady program.now here.depth here.live here.plan_work }
+    ensures { IsOutcome state.old.work (set_outcome program.now here target.now a.now frame.old state.old) here result frame.new state.new }
+{
+    let lvalue = lvalue_of(program, here, target, frame, state)?;
+    let v = value_of(program, here, a, frame, state)?;
+    store_lvalue(lvalue, v, frame, state);
+    Ok(v)
+}
+
+// What a compound assignment computes: an operation in one type, whose value is converted to another.
+#[derive(Clone, Copy)]
+struct Change {
+    op: u8,
+    kind: CType,
+    ctype: CType,
+}
+
+// The value of a compound assignment (C11 6.5.16.2).
+#[cycle(evaluation)]
+fn value_of_change(
+    program: &Program,
+    here: Here,
+    change: Change,
+    target: &Target,
+    a: &Expr,
+    frame: &mut Frame,
+    state: &mut State,
+) -> Result<u32, Halt>
+    requires { IsReady program.now here.depth here.live here.plan_work }
+    ensures { IsOutcome state.old.work (change_outcome program.now here change target.now a.now frame.old state.old) here result frame.new state.new }
+{
+    let lvalue = lvalue_of(program, here, target, frame, state)?;
+    let v = value_of(program, here, a, frame, state)?;
+    let old = read_lvalue(program, here, lvalue, frame, state);
+    match binary_value(change.op, change.kind, old, v) {
+        Some(new) => {
+            let stored = converted(change.ctype, new);
+            store_lvalue(lvalue, stored, frame, state);
+            Ok(stored)
+        }
+        None => Err(Halt::Stopped(Stop::Trapped(1))),
+    }
+}
+
+// The value of `t++` or `t--` (C11 6.5.2.4).
+#[cycle(evaluation)]
+fn value_of_after(
+    program: &Program,
+    here: Here,
+    up: bool,
+    ctype: CType,
+    target: &Target,
+    frame: &mut Frame,
+    state: &mut State,
+) -> Result<u32, Halt>
+    requires { IsReady program.now here.depth here.live here.plan_work }
+    ensures { IsOutcome state.old.work (after_outcome program.now here up ctype target.now frame.old state.old) here result frame.new state.new }
+{
+    let lvalue = lvalue_of(program, here, target, frame, state)?;
+    let old = read_lvalue(program, here, lvalue, frame, state);
+    let stored = converted(ctype, stepped(up, old));
+    store_lvalue(lvalue, stored, frame, state);
+    Ok(old)
+}
+
+// The value of a call by name.
+#[cycle(evaluation)]
+fn value_of_call(
+    program: &Program,
+    here: Here,
+    f: u32,
+    args: &List<Expr>,
+    frame: &mut Frame,
+    state: &mut State,
+) -> Result<u32, Halt>
+    requires { IsReady program.now here.depth here.live here.plan_work }
+    ensures { IsOutcome state.old.work (direct_outcome program.now here f args.now frame.old state.old) here result frame.new state.new }
+{
+    let values = values_of(program, here, args, frame, state)?;
+    call(program, here, f, &values, frame, state)
+}
+
+// The value of a call through a pointer, which under the program's own numbering may reach every function.
+#[cycle(evaluation)]
+fn value_of_call_through(
+    program: &Program,
+    here: Here,
+    args: &List<Expr>,
+    callee: &Expr,
+    frame: &mut Frame,
+    state: &mut State,
+) -> Result<u32, Halt>
+    requires { IsReady program.now here.depth here.live here.plan_work }
+    ensures { (t : CType) → IsOutcome state.old.work (through_outcome program.now here t args.now callee.now frame.old state.old) here result frame.new state.new }
+{
+    let values = values_of(program, here, args, frame, state)?;
+    let v = value_of(program, here, callee, frame, state)?;
+    if v == 0 {
+        return Err(Halt::Stopped(Stop::Trapped(3)));
+    }
+    match function_of_number(program, v) {
+        Some(f) => call(program, here, f, &values, frame, state),
+        None => Ok(0),
+    }
+}
+
+// The value of a call of a known function.
+#[cycle(evaluation)]
+fn value_of_known(
+    program: &Program,
+    here: Here,
+    known: Known,
+    args: &List<Expr>,
+    frame: &mut Frame,
+    state: &mut State,
+) -> Result<u32, Halt>
+    requires { IsReady program.now here.depth here.live here.plan_work }
+    ensures { IsOutcome state.old.work (known_outcome program.now here known args.now frame.old state.old) here result frame.new state.new }
+{
+    let values = values_of(program, here, args, frame, state)?;
+    known_value(program, here, known, &values, frame, state)
 }
 
 // Where a value is read or stored: an index is evaluated and then tested.

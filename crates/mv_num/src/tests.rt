@@ -33,6 +33,9 @@ fn containers_hold_what_is_put_in(rt: HostRuntime) -> Result<(), Fail> {
         (old, copy.get(1).copied(), copy.get(2).copied(), copy.len()),
         (8, Some(9), None, 2)
     );
+    let mut twice = list.copied(rt.alloc())?;
+    twice.append(list)?;
+    assert!(rt; twice.as_slice() == [7, 9, 7, 9].as_slice());
     let text = Text::new(rt.alloc(), b"text")?;
     let place = Boxed::new(rt.alloc(), text)?;
     assert!(rt; place.get().bytes() == b"text".as_slice());

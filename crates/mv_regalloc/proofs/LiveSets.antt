@@ -58,6 +58,9 @@ bits_past n ws t l = bits_below n ws t ∙ ap (λ w. in_word w t && ltb t n) (ge
 pub same_words : (n m : ℕ) (ws vs : List ℕ) (t : ℕ) → n ≡ m → slice_index ws (t / 64) ≡ slice_index vs (t / 64) → mark_at (bits_of n ws) t ≡ mark_at (bits_of m vs) t
 same_words n m ws vs t e h = bits_below n ws t ∙ ap (λ w. in_word w t && ltb t n) h ∙ ap (λ k. word_bit vs t && ltb t k) e ∙ sym (bits_below m vs t)
 
+pub bits_same : (n : ℕ) (ws vs : List ℕ) → ((k : ℕ) → slice_index vs k ≡ slice_index ws k) → bits_of n vs ≡ bits_of n ws
+bits_same n ws vs h = same_bits (bits_of n vs) (bits_of n ws) (bits_long n vs ∙ sym (bits_long n ws)) (λ t l. same_words n n vs ws t refl (h (t / 64)))
+
 pub bits_none : (n : ℕ) (ws : List ℕ) → ((t : ℕ) → word_bit ws t ≡ false) → bits_of n ws ≡ replicate n false
 bits_none n ws h =
     let a = bits_long n ws in

@@ -184,6 +184,6 @@ module _ (r : Sets) where
 
 pub ruleset live_stms = (live_set, live_setglobal, live_divide, live_check, live_read, live_write, live_zero, live_if, live_loop, live_block, live_break, live_back, live_call, live_known, live_return, own_zero, own_break, own_back)
 
-pub ruleset marked_stms = (live_set, live_setglobal, live_divide, live_check, live_read, live_write, live_zero, live_if, live_block, live_break, live_back, live_call, live_known, live_return, own_zero, own_break, own_back, rows_set, rows_setglobal, rows_divide, rows_check, rows_read, rows_write, rows_zero, rows_if, rows_loop, rows_block, rows_break, rows_back, rows_call, rows_known, rows_return)
+pub ruleset marked_stms = (live_set, live_setglobal, live_divide, live_check, live_read, live_write, live_zero, live_if, live_block, live_break, live_back, live_call, live_known, live_return, own_zero, own_if, own_break, own_back, rows_set, rows_setglobal, rows_divide, rows_check, rows_read, rows_write, rows_zero, rows_if, rows_loop, rows_block, rows_break, rows_back, rows_call, rows_known, rows_return)
 
 pub ruleset owned_stms = (own_set, own_setglobal, own_divide, own_check, own_read, own_write, own_zero, own_if, own_loop, own_block, own_break, own_back, own_call, own_known, own_return)

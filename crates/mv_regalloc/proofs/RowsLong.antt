@@ -10,7 +10,7 @@ use Rattle.mv_ir.proofs.Rolls.{size_roll}
 use Rattle.mv_regalloc.specs.Rows.{Bits, Sets, Rows, sets_after, sets_inside, live_before, rows_in_order, loop_bits, layer_rows, stm_rows}
 use Rattle.mv_regalloc.proofs.RowsShow.{rows_roll}
 
-length_rows : (xs ys : List Bits) → length (xs ++ ys) ≡ length xs + length ys
+pub length_rows : (xs ys : List Bits) → length (xs ++ ys) ≡ length xs + length ys
 length_rows [] ys = omega arith
 length_rows (x ∷ xs) ys = let e = length_rows xs ys in omega (arith, e)
 

@@ -1,37 +1,13 @@
 -- One row in place of another, a changed bit after the other.
-use Rattle.std.proofs.Common.{arith, ◌≡◌, ℕ, zero, suc, ◌+◌, ◌<◌, ◌≤◌, ◌*◌, ◌/◌, ◌%◌, Bool, true, false, cond, not, eqb, ltb, ◌&&◌, ◌||◌, refl, sym, ap, ◌∙◌, ◌⊎◌, inl, inr, bit_xor}
-use Rattle.std.specs.Int.{bit_at}
+use Rattle.std.proofs.Common.{arith, ◌≡◌, ℕ, ◌+◌, ◌<◌, ◌≤◌, ◌*◌, ◌/◌, ◌%◌, Bool, true, false, cond, not, eqb, ltb, ◌&&◌, ◌||◌, List, length, refl, sym, ap, ◌∙◌, ◌⊎◌, inl, inr, bit_or}
+use Rattle.std.specs.Prelude.{slice_index, slice_set}
 use Rattle.std.proofs.lemmas.Bool.{cases_eq, cases_lt, eq-eqb, ne_eqb, lt-ltb, le-ltb}
-use Rattle.std.proofs.lemmas.Nat.Bits.{bit_at_xor, bit_at-lt}
-use Rattle.mv_regalloc.specs.LiveBits.{in_word}
-use Rattle.mv_regalloc.proofs.WordBits.{none_in}
+use Rattle.mv_regalloc.specs.LiveBits.{in_word, word_bit}
+use Rattle.mv_regalloc.specs.Tables.{IsPut}
+use Rattle.mv_regalloc.proofs.WordBits.{none_in, bits_either, word_put, word_stays}
+use Rattle.mv_regalloc.proofs.Putting.{put_same, put_step}
 
 -- ---- the bits of a word
-
-module _ (a b t : ℕ) where
-  pub xor_leaves : (not (in_word (bit_xor a b) t) && (in_word a t && not (in_word b t))) ≡ false
-  unfolding in_word
-  xor_leaves = ap (λ v. not (eqb v 1) && (eqb (bit_at a (t % 64)) 1 && not (eqb (bit_at b (t % 64)) 1))) (bit_at_xor a b (t % 64)) ∙ by (bit_at a (t % 64)) (bit_at b (t % 64)) (bit_at-lt a (t % 64)) (bit_at-lt b (t % 64))
-    where
-      by : (x y : ℕ) → x < 2 → y < 2 → (not (eqb ((x + y) % 2) 1) && (eqb x 1 && not (eqb y 1))) ≡ false
-      by zero zero l m = refl
-      by zero (suc zero) l m = refl
-      by (suc zero) zero l m = refl
-      by (suc zero) (suc zero) l m = refl
-      by (suc (suc x)) y l m = absurd (omega (arith, l))
-      by x (suc (suc y)) l m = absurd (omega (arith, m))
-
-  pub xor_enters : (not (in_word (bit_xor a b) t) && (in_word b t && not (in_word a t))) ≡ false
-  unfolding in_word
-  xor_enters = ap (λ v. not (eqb v 1) && (eqb (bit_at b (t % 64)) 1 && not (eqb (bit_at a (t % 64)) 1))) (bit_at_xor a b (t % 64)) ∙ by (bit_at a (t % 64)) (bit_at b (t % 64)) (bit_at-lt a (t % 64)) (bit_at-lt b (t % 64))
-    where
-      by : (x y : ℕ) → x < 2 → y < 2 → (not (eqb ((x + y) % 2) 1) && (eqb y 1 && not (eqb x 1))) ≡ false
-      by zero zero l m = refl
-      by zero (suc zero) l m = refl
-      by (suc zero) zero l m = refl
-      by (suc zero) (suc zero) l m = refl
-      by (suc (suc x)) y l m = absurd (omega (arith, l))
-      by x (suc (suc y)) l m = absurd (omega (arith, m))
 
 -- those of a place whose bits are turned
 abbrev pub turned : ℕ → ℕ → ℕ → Bool
@@ -41,26 +17,20 @@ off : (c : Bool) → (c && false) ≡ false
 off true = refl
 off false = refl
 
-and_more : (a b c : Bool) → (b && c) ≡ false → ((a && b) && c) ≡ false
-and_more true b c h = h
-and_more false b c h = refl
+pub and_true : (c : Bool) → (c && true) ≡ c
+and_true true = refl
+and_true false = refl
 
-pub turned_leaves : (place a b t : ℕ) → (turned place (bit_xor a b) t && (in_word a t && not (in_word b t))) ≡ false
-turned_leaves place a b t = and_more (eqb (t / 64) place) (not (in_word (bit_xor a b) t)) (in_word a t && not (in_word b t)) (xor_leaves a b t)
-
-pub turned_enters : (place a b t : ℕ) (c : Bool) → (turned place (bit_xor a b) t && ((in_word b t && not (in_word a t)) && c)) ≡ false
-turned_enters place a b t c = and_more (eqb (t / 64) place) (not (in_word (bit_xor a b) t)) ((in_word b t && not (in_word a t)) && c) (and_last (not (in_word (bit_xor a b) t)) (in_word b t && not (in_word a t)) c (xor_enters a b t))
+pub turned_word : (place word t : ℕ) (c : Bool) → (turned place word t && (in_word word t && c)) ≡ false
+turned_word place word t c = by (eqb (t / 64) place) (in_word word t)
   where
-    and_last : (x y z : Bool) → (x && y) ≡ false → (x && (y && z)) ≡ false
-    and_last false y z h = refl
-    and_last true y z h = ap (λ d. d && z) h
+    by : (e w : Bool) → ((e && not w) && (w && c)) ≡ false
+    by false w = refl
+    by true true = refl
+    by true false = refl
 
 pub turned_all : (place changed t : ℕ) (c : Bool) → changed ≡ 0 → (turned place changed t && c) ≡ (eqb (t / 64) place && c)
-turned_all place changed t c e = ap (λ v. (eqb (t / 64) place && not v) && c) (ap (λ w. in_word w t) e ∙ none_in t) ∙ ap (λ v. v && c) (by (eqb (t / 64) place))
-  where
-    by : (d : Bool) → (d && true) ≡ d
-    by true = refl
-    by false = refl
+turned_all place changed t c e = ap (λ v. (eqb (t / 64) place && not v) && c) (ap (λ w. in_word w t) e ∙ none_in t) ∙ ap (λ v. v && c) (and_true (eqb (t / 64) place))
 
 module _ (place changed bit from temp count : ℕ) (low : bit < 64) (f : from ≡ place * 64) (e : temp < count → temp ≡ from + bit) (past : from + bit < count → temp ≡ from + bit) where
   -- the next one
@@ -96,6 +66,30 @@ module _ (place changed bit from temp count : ℕ) (low : bit < 64) (f : from �
       by : (t ≡ temp) ⊎ (t ≡ temp → ⊥) → turned place changed t ≡ false
       by (inl k) = let here : temp ≡ from + bit = e (omega (arith, l, k)) in ap (λ c. eqb (t / 64) place && not c) (h t (omega (arith, here, k, f, low))) ∙ off (eqb (t / 64) place)
       by (inr ne) = let d : true ≡ false = sym s ∙ ne_eqb t temp ne in absurd cc
+
+  turned_bit : (t : ℕ) → t < count → eqb t temp ≡ true → t % 64 ≡ bit
+  turned_bit t l s = by (cases_eq t temp)
+    where
+      by : (t ≡ temp) ⊎ (t ≡ temp → ⊥) → t % 64 ≡ bit
+      by (inl k) = let here : temp ≡ from + bit = e (omega (arith, l, k)) in omega (arith, here, k, f, low)
+      by (inr ne) = let d : true ≡ false = sym s ∙ ne_eqb t temp ne in absurd cc
+
+  -- a value for one more of the temporaries of a word
+  module _ (word : ℕ) (within : (t : ℕ) → in_word changed t ≡ true → in_word word t ≡ true) (set : (t : ℕ) → t % 64 ≡ bit → in_word changed t ≡ true) (changed' : ℕ) (less : (t : ℕ) → in_word changed' t ≡ cond (eqb (t % 64) bit) false (in_word changed t)) where
+    pub word_within : (t : ℕ) → in_word changed' t ≡ true → in_word word t ≡ true
+    word_within t h = by (eqb (t % 64) bit) (sym (less t) ∙ h)
+      where
+        by : (c : Bool) → cond c false (in_word changed t) ≡ true → in_word word t ≡ true
+        by true h = let d : false ≡ true = h in absurd cc
+        by false h = within t h
+
+    pub word_step : (test test' : ℕ → Bool) (v : ℕ) (xs ys zs : List ℕ) → length xs ≡ count → IsPut (λ t. turned place changed t && (in_word word t && test t)) v xs ys → IsPut (λ t. eqb t temp && test' t) v ys zs →
+        ((t : ℕ) → t < count → slice_index ys t ≡ slice_index xs t → test' t ≡ test t) → IsPut (λ t. turned place changed' t && (in_word word t && test t)) v xs zs
+    word_step test test' v xs ys zs long h g same =
+        put_step (turned place changed) (λ t. in_word word t && test t) v xs ys h (λ t. eqb t temp) (turned place changed') test' zs g
+        (λ t l k. let low' : t < count = omega (arith, l, long) in
+        same t low' (put_same (turned place changed) (λ t. in_word word t && test t) v xs ys h t l (turned_not set t low' k)) ∙ ap (λ c. c && test t) (sym (within t (set t (turned_bit t low' k)))))
+        (λ t l. turned_next changed' less t (omega (arith, l, long)))
 
 -- ---- the words of a row
 
@@ -142,3 +136,46 @@ same_stays a b e = ap (λ c. c && not b) e ∙ by b
     by : (c : Bool) → (c && not c) ≡ false
     by true = refl
     by false = refl
+
+pub or_more : (e l x b : Bool) → ((e && x) || ((l && x) || b)) ≡ (((l || e) && x) || b)
+or_more true true true b = refl
+or_more true true false b = refl
+or_more true false true b = refl
+or_more true false false b = refl
+or_more false true x b = refl
+or_more false false x b = refl
+
+-- the bits of a word are set at a place
+pub place_marked : (ws : List ℕ) (place word old : ℕ) → place < length ws → old ≡ slice_index ws place → (t : ℕ) → word_bit (slice_set ws place (bit_or old word)) t ≡ ((eqb (t / 64) place && in_word word t) || word_bit ws t)
+place_marked ws place word old room k t = by (cases_eq (t / 64) place)
+  where
+    swap : (a b : Bool) → (a || b) ≡ (b || a)
+    swap true true = refl
+    swap true false = refl
+    swap false true = refl
+    swap false false = refl
+
+    by : (t / 64 ≡ place) ⊎ (t / 64 ≡ place → ⊥) → word_bit (slice_set ws place (bit_or old word)) t ≡ ((eqb (t / 64) place && in_word word t) || word_bit ws t)
+    by (inl e) =
+        word_put ws place (bit_or old word) room t e ∙ bits_either old word t ∙ swap (in_word old t) (in_word word t) ∙
+        ap (λ w. in_word word t || in_word w t) (k ∙ ap (slice_index ws) (sym e)) ∙ ap (λ c. (c && in_word word t) || word_bit ws t) (sym (eq-eqb (t / 64) place e))
+    by (inr ne) = word_stays ws place (bit_or old word) t ne ∙ ap (λ c. (c && in_word word t) || word_bit ws t) (sym (ne_eqb (t / 64) place ne))
+
+pub place_past : (place : ℕ) (a b : Bool) (t : ℕ) → (t / 64 ≡ place → ⊥) → b ≡ ((eqb (t / 64) place && a) || b)
+place_past place a b t ne = ap (λ c. (c && a) || b) (sym (ne_eqb (t / 64) place ne))
+
+-- the word of one temporary
+module _ (temp word t : ℕ) (h : t / 64 ≡ temp / 64 → in_word word t ≡ eqb temp t) where
+  pub single_here : (eqb (t / 64) (temp / 64) && in_word word t) ≡ eqb temp t
+  single_here = by (cases_eq (t / 64) (temp / 64))
+    where
+      by : (t / 64 ≡ temp / 64) ⊎ (t / 64 ≡ temp / 64 → ⊥) → (eqb (t / 64) (temp / 64) && in_word word t) ≡ eqb temp t
+      by (inl e) = ap (λ c. c && in_word word t) (eq-eqb (t / 64) (temp / 64) e) ∙ h e
+      by (inr ne) = ap (λ c. c && in_word word t) (ne_eqb (t / 64) (temp / 64) ne) ∙ sym (ne_eqb temp t (λ k. ne (ap (λ i. i / 64) (sym k))))
+
+  pub place_single : (c : Bool) → (eqb (t / 64) (temp / 64) && (in_word word t && c)) ≡ (eqb temp t && c)
+  place_single c = shift (eqb (t / 64) (temp / 64)) (in_word word t) ∙ ap (λ d. d && c) single_here
+    where
+      shift : (a b : Bool) → (a && (b && c)) ≡ ((a && b) && c)
+      shift true b = refl
+      shift false b = refl

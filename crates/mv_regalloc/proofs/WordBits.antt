@@ -1,11 +1,11 @@
 -- Bits in words: what an edit of a word does to them.
-use Rattle.std.proofs.Common.{arith, ◌≡◌, ℕ, zero, suc, ◌-◌, ◌*◌, ◌/◌, ◌%◌, ◌^◌, ◌<◌, ◌≤◌, min, max, Bool, true, false, cond, eqb, ltb, ◌&&◌, ◌||◌, List, [], ◌∷◌, length, get_or, refl, sym, ap, ◌∙◌, ◌⊎◌, inl, inr, w64, bit_or, bit_and}
+use Rattle.std.proofs.Common.{arith, ◌≡◌, ℕ, zero, suc, ◌-◌, ◌*◌, ◌/◌, ◌%◌, ◌^◌, ◌<◌, ◌≤◌, min, max, Bool, true, false, cond, eqb, ltb, not, ◌&&◌, ◌||◌, List, [], ◌∷◌, length, get_or, refl, sym, ap, ◌∙◌, ◌⊎◌, inl, inr, w64, bit_or, bit_and}
 use Rattle.std.specs.Prelude.{slice_set, slice_index}
 use Rattle.std.specs.Int.{bit_at, bit_not, trailing_zeros}
 use Rattle.std.proofs.lemmas.List.{get_or-set_same, get_or-set_other, get_or_past}
 use Rattle.std.proofs.lemmas.Bool.{cases_eq, cases_lt, eq-eqb, ne_eqb, lt-ltb, le-ltb}
 use Rattle.std.proofs.lemmas.Nat.{one_shl, and_le_l}
-use Rattle.std.proofs.lemmas.Nat.Bits.{bit_at-trailing_zeros, bit_at_set_same, bit_at_set_other, bit_at_clear_same, bit_at_clear_other, bit_at_or, bit_at_and, bit_at-lt, bit_at-zero, bit_at_ones, bit_at_ones_above}
+use Rattle.std.proofs.lemmas.Nat.Bits.{bit_at-trailing_zeros, bit_at_not, bit_at_set_same, bit_at_set_other, bit_at_clear_same, bit_at_clear_other, bit_at_or, bit_at_and, bit_at-lt, bit_at-zero, bit_at_ones, bit_at_ones_above}
 use Rattle.mv_regalloc.specs.LiveBits.{in_word, word_bit}
 
 -- ---- lists of words
@@ -148,3 +148,24 @@ words_past ws u t l = by (cases_eq u t)
     by (inl e) =
         ap (λ w. in_word w t) (get_or_past ws (t / 64) 0 (let k = ap (λ i. i / 64) e in omega (arith, l, k))) ∙ none_in t ∙ ap (λ c. cond c false (word_bit ws t)) (sym (eq-eqb u t e))
     by (inr ne) = ap (λ c. cond c false (word_bit ws t)) (sym (ne_eqb u t ne))
+
+pub bits_except : (a b t : ℕ) → b < 2 ^ 64 → in_word (bit_and a (bit_not w64 b)) t ≡ (in_word a t && not (in_word b t))
+unfolding in_word
+bits_except a b t fits =
+    ap (λ v. eqb v 1) (bit_at_and a (bit_not w64 b) (t % 64)) ∙ ap (λ v. eqb (min (bit_at a (t % 64)) v) 1) (bit_at_not w64 b (t % 64) fits (omega arith)) ∙
+    by (bit_at a (t % 64)) (bit_at b (t % 64)) (bit_at-lt a (t % 64)) (bit_at-lt b (t % 64))
+  where
+    by : (x y : ℕ) → x < 2 → y < 2 → eqb (min x (1 - y)) 1 ≡ (eqb x 1 && not (eqb y 1))
+    by zero zero l m = refl
+    by zero (suc zero) l m = refl
+    by (suc zero) zero l m = refl
+    by (suc zero) (suc zero) l m = refl
+    by (suc (suc x)) y l m = absurd (omega (arith, l))
+    by x (suc (suc y)) l m = absurd (omega (arith, m))
+
+pub bit_single : (u t : ℕ) → t / 64 ≡ u / 64 → in_word (1 * 2 ^ (u % 64) % 2 ^ 64) t ≡ eqb u t
+bit_single u t e = bit_set 0 u t e ∙ ap (cond (eqb u t) true) (none_in t) ∙ by (eqb u t)
+  where
+    by : (c : Bool) → cond c true false ≡ c
+    by true = refl
+    by false = refl

@@ -1,6 +1,6 @@
 // The temporaries that are live at a place: a bit each, so that sets are copied and joined 64 temporaries at a time.
 
-ghost use Rattle.std.specs.Prelude.{ℕ, ◌≡◌, ◌≤◌, ◌/◌, ◌*◌, ◌||◌, false, true, IfOk, OnOk, replicate, slice_set};
+ghost use Rattle.std.specs.Prelude.{ℕ, ◌≡◌, ◌≤◌, ◌/◌, ◌*◌, ◌||◌, false, true, IfOk, OnErr, OnOk, replicate, slice_set};
 ghost use Rattle.mv_ir.specs.Live.{mark_at};
 ghost use Rattle.mv_regalloc.specs.LiveBits.{in_word, word_bit};
 ghost use Rattle.mv_regalloc.specs.Rows.{either_bits, put_bit, with_temps};
@@ -75,16 +75,6 @@ impl LiveSet {
         has_bit(self.word((temp / 64) as usize), temp as usize)
     }
 
-    /// Whether the bits of 64 temporaries are known to be those of another set.
-    pub fn has_same(&self, other: &LiveSet, place: usize) -> bool
-        ensures { result ≡ true → (t : ℕ) → t / 64 ≡ place → mark_at self.now t ≡ mark_at other.now t }
-    {
-        if self.temps != other.temps {
-            return false;
-        }
-        word_at(self.words.as_slice(), place) == word_at(other.words.as_slice(), place)
-    }
-
     /// Behind so many words no bit is set.
     pub fn count(&self) -> usize
         ensures { (t : ℕ) → result ≤ t / 64 → mark_at self.now t ≡ false }
@@ -94,7 +84,8 @@ impl LiveSet {
 
     /// A temporary past the end has no bit.
     pub fn insert(&mut self, temp: u32) -> Result<(), AllocError>
-        ensures { OnOk result (self.new ≡ slice_set self.old temp true) }
+        ensures row { OnOk result (self.new ≡ slice_set self.old temp true) }
+        ensures err { OnErr result (self.new ≡ self.old) }
     {
         if (temp as usize) < self.temps {
             set_bit(&mut self.words, temp)?;

@@ -1,18 +1,19 @@
 // The first and the last position of each temporary: one walk from the end of a body to its start.
 
-ghost use Rattle.std.specs.Prelude.{◌≡◌, ◌∷◌, [], false, true, map, IfOk, OnOk};
+ghost use Rattle.std.specs.Prelude.{◌≡◌, ◌≤◌, ◌∷◌, [], false, true, map, IfOk, OnOk};
 ghost use Rattle.mv_ir.specs.Live.{all_marks};
-ghost use Rattle.mv_regalloc.specs.Rows.{sets, own_trees, with_all_reads, either_bits, put_bit, live_before, rows_in_order, stm_rows};
-ghost use Rattle.mv_regalloc.specs.Spanned.{Adds, AreSpansOf, with_params};
+ghost use Rattle.mv_regalloc.specs.Rows.{sets, own_trees, with_reads, with_all_reads, either_bits, put_bit, live_before, rows_in_order, stm_rows};
+ghost use Rattle.mv_regalloc.specs.Spanned.{Adds, AreSpansOf, Rejoins, with_params};
 
 use crate::levels::Levels;
-use crate::live::{live_loop, live_plain};
+use crate::live::live_loop;
 use crate::live_set::LiveSet;
-use crate::reads::own_reads;
+use crate::reads::{own_reads, tree_reads};
 use crate::table::Spans;
-use crate::walk::Walk;
+use crate::walk::{Suspended, Walk};
 use mv_ir::body::Body;
 use mv_ir::stm::Stm;
+use mv_ir::tree::Tree;
 use mv_num::list::List;
 use std::alloc::{AllocError, Global};
 
@@ -57,30 +58,23 @@ fn mark_stm(
         Stm::Read(t, _, _) => mark_plain(alloc, stm, Some(*t), walk),
         Stm::Write(_, _, _) => mark_plain(alloc, stm, None, walk),
         Stm::Zero(_) => mark_plain(alloc, stm, None, walk),
-        Stm::If(_, a, b) => {
+        Stm::If(test, a, b) => {
             let behind = walk.live().copied(alloc)?;
+            let held = walk.suspend(alloc)?;
             mark_code(alloc, b, levels, walk)?;
             let others = walk.live().copied(alloc)?;
+            let before = walk.suspend(alloc)?;
             walk.turn(behind);
             mark_code(alloc, a, levels, walk)?;
-            mark_test(alloc, stm, &others, walk)
+            mark_test(alloc, test, &others, before, held, walk)
         }
         Stm::Loop(b) => mark_loop(alloc, b, levels, walk),
         Stm::Block(b) => mark_block(alloc, b, levels, walk),
-        Stm::Break(n) => {
-            walk.turn(levels.behind(alloc, *n)?);
-            mark_plain(alloc, stm, None, walk)
-        }
-        Stm::Back(n) => {
-            walk.turn(levels.start(alloc, *n)?);
-            mark_plain(alloc, stm, None, walk)
-        }
+        Stm::Break(n) => mark_jump(alloc, stm, levels.behind(alloc, *n)?, walk),
+        Stm::Back(n) => mark_jump(alloc, stm, levels.start(alloc, *n)?, walk),
         Stm::Call(t, _, _) => mark_plain(alloc, stm, *t, walk),
         Stm::Known(t, _, _) => mark_plain(alloc, stm, *t, walk),
-        Stm::Return(_) => {
-            walk.turn(levels.none(alloc)?);
-            mark_plain(alloc, stm, None, walk)
-        }
+        Stm::Return(_) => mark_jump(alloc, stm, levels.none(alloc)?, walk),
     }
 }
 
@@ -97,6 +91,7 @@ fn mark_loop(
         ) }
     ensures levels { OnOk result (levels.new ≡ levels.old) }
 {
+    let held = walk.suspend(alloc)?;
     let mut bits = walk.live().copied(alloc)?;
     live_loop(alloc, code, &mut bits, levels)?;
     levels.enter(alloc, walk.live(), &bits)?;
@@ -105,6 +100,7 @@ fn mark_loop(
     mark_code(alloc, code, levels, walk)?;
     levels.leave();
     walk.turn(bits);
+    walk.resume(&held);
     walk.mark()
 }
 
@@ -122,25 +118,60 @@ fn mark_block(
         ) }
     ensures levels { OnOk result (levels.new ≡ levels.old) }
 {
+    let held = walk.suspend(alloc)?;
     let none = levels.none(alloc)?;
     levels.enter(alloc, walk.live(), &none)?;
     mark_code(alloc, code, levels, walk)?;
     levels.leave();
+    walk.resume(&held);
     walk.mark()
 }
 
-// The position of an `If`, from what is live before its two lists.
-fn mark_test(alloc: Global, stm: &Stm, others: &LiveSet, walk: &mut Walk) -> Result<(), AllocError>
-    ensures live { OnOk result (walk.new.live ≡ with_all_reads (own_trees stm.now) (either_bits walk.old.live others.now)) }
-    ensures rows { OnOk result (
-        Adds (with_all_reads (own_trees stm.now) (either_bits walk.old.live others.now) ∷ []) walk.old.spans walk.new.spans
-        ) }
+// What is live at the test of an `If`, from what is live before its two lists.
+fn at_test(
+    alloc: Global,
+    test: &Tree,
+    live: &LiveSet,
+    others: &LiveSet,
+) -> Result<LiveSet, AllocError>
+    ensures { IfOk result (λ bits. bits ≡ with_reads test.now (either_bits live.now others.now)) }
 {
-    let mut bits = walk.live().copied(alloc)?;
+    let mut bits = live.copied(alloc)?;
     bits.join(others)?;
-    live_plain(alloc, stm, None, &mut bits)?;
+    let reads = tree_reads(alloc, test)?;
+    bits.insert_all(reads.as_slice())?;
+    Ok(bits)
+}
+
+// The test of an `If`, before its two lists: all that was set aside is told again.
+fn mark_test(
+    alloc: Global,
+    test: &Tree,
+    others: &LiveSet,
+    before: Suspended,
+    held: Suspended,
+    walk: &mut Walk,
+) -> Result<(), AllocError>
+    requires before { before.positions ≤ walk.old.spans.positions }
+    requires held { held.positions ≤ walk.old.spans.positions }
+    ensures live { OnOk result (walk.new.live ≡ with_reads test.now (either_bits walk.old.live others.now)) }
+    ensures rows { OnOk result (Rejoins held.row held.positions before.row before.positions
+        (with_reads test.now (either_bits walk.old.live others.now)) walk.old.spans walk.new.spans) }
+{
+    let bits = at_test(alloc, test, walk.live(), others)?;
     walk.turn(bits);
+    walk.resume(&before);
+    walk.resume(&held);
     walk.mark()
+}
+
+// The position of a statement that goes on elsewhere, where a set is live.
+fn mark_jump(alloc: Global, stm: &Stm, live: LiveSet, walk: &mut Walk) -> Result<(), AllocError>
+    ensures live { OnOk result (walk.new.live ≡ with_all_reads (own_trees stm.now) live) }
+    ensures rows { OnOk result (Adds (with_all_reads (own_trees stm.now) live ∷ []) walk.old.spans walk.new.spans) }
+{
+    walk.turn(live);
+    mark_plain(alloc, stm, None, walk)
 }
 
 // The position of a statement without statements of its own, and the temporary that it writes.

@@ -1,34 +1,27 @@
 // The first and the last position of each temporary, as positions are added before the others. Of a temporary that
 // was marked at the last one added it isn't noted that it begins there: so one that stays costs nothing.
 
-ghost use Rattle.std.specs.Prelude.{ℕ, ◌≡◌, ◌<◌, ◌-◌, ◌/◌, ◌&&◌, eqb, false, length, not, replicate, slice_index, slice_set, true, IfOk, OnOk};
+ghost use Rattle.std.specs.Prelude.{ℕ, ◌≡◌, ◌<◌, ◌≤◌, ◌+◌, ◌-◌, ◌*◌, ◌/◌, ◌&&◌, ◌||◌, cond, eqb, false, length, ltb, not, replicate, slice_index, slice_set, true, IfOk, OnOk};
 ghost use Rattle.mv_ir.specs.Live.{mark_at};
+ghost use Rattle.mv_regalloc.specs.LiveBits.{in_word, word_bit};
 ghost use Rattle.mv_regalloc.specs.Rows.{Bits};
-ghost use Rattle.mv_regalloc.specs.Spanned.{SpanTable};
-ghost use Rattle.mv_regalloc.specs.Tables.{IsPut, IsTable, IsTurned, Marks, enters, leaves, told};
+ghost use Rattle.mv_regalloc.specs.Spanned.{Marks, SoFar, SpanTable, shown};
+ghost use Rattle.mv_regalloc.specs.Tables.{AreEntered, IsPut, IsTable, told};
 
 use crate::live_set::LiveSet;
-use crate::words::{has_bit, lowest, without};
+use crate::words::{except, lowest, single, without};
 use mv_num::list::List;
 use std::alloc::{AllocError, Global};
 use std::marker::Model;
 
 /// How many positions there are, for each temporary how many there are from its first one on, or 0 where it has none,
-/// and how many there are behind its last one.
+/// and how many there are behind its last one; and a bit for each that is marked at one of them, 64 in a word.
 #[derive(Drop)]
 pub struct Table {
     pub positions: u64,
     pub begins: List<u64>,
     pub ends: List<u64>,
-}
-
-/// A new word at a place in place of the one that is held, and how many positions there are.
-#[derive(Clone, Copy)]
-struct Turn {
-    place: usize,
-    held: u64,
-    word: u64,
-    positions: u64,
+    pub begun: List<u64>,
 }
 
 fn item(items: &List<u64>, place: usize) -> u64
@@ -40,87 +33,126 @@ fn item(items: &List<u64>, place: usize) -> u64
     }
 }
 
-// One temporary of a word.
-fn turn_temp(begins: &mut List<u64>, ends: &mut List<u64>, temp: usize, turn: Turn)
-    requires { length ends.old ≡ length begins.old }
-    ensures begins { IsPut (λ t. eqb t temp && leaves turn t) turn.positions begins.old begins.new }
-    ensures ends { IsPut (λ t. eqb t temp && (enters turn t && eqb (slice_index begins.old t) 0)) turn.positions ends.old ends.new }
+// A temporary begins no later than so many positions from the end.
+fn raise(begins: &mut List<u64>, temp: usize, positions: u64)
+    ensures { IsPut (λ t. eqb t temp && ltb (slice_index begins.old t) positions) positions begins.old begins.new }
 {
-    if temp >= begins.len() {
-        return;
-    }
-    let held = has_bit(turn.held, temp);
-    let marked = has_bit(turn.word, temp);
-    if held && !marked {
-        begins.set(temp, turn.positions);
-    } else if marked && !held && item(begins, temp) == 0 {
-        ends.set(temp, turn.positions);
+    if temp < begins.len() && item(begins, temp) < positions {
+        begins.set(temp, positions);
     }
 }
 
-// The temporaries of a word that change.
-fn turn_word(begins: &mut List<u64>, ends: &mut List<u64>, turn: Turn)
-    requires { length ends.old ≡ length begins.old }
-    ensures begins { IsPut (λ t. eqb (t / 64) turn.place && leaves turn t) turn.positions begins.old begins.new }
-    ensures ends { IsPut (λ t. eqb (t / 64) turn.place && (enters turn t && eqb (slice_index begins.old t) 0))
-        turn.positions ends.old ends.new }
+// The same for the temporaries of a word.
+fn raise_word(begins: &mut List<u64>, place: usize, word: u64, positions: u64)
+    ensures { IsPut (λ t. eqb (t / 64) place && (in_word word t && ltb (slice_index begins.old t) positions)) positions
+        begins.old begins.new }
 {
-    let from = turn.place.saturating_mul(64);
+    let from = place.saturating_mul(64);
     if from >= begins.len() {
         return;
     }
-    let mut changed = turn.held ^ turn.word;
-    while changed != 0 {
-        let bit = lowest(changed);
-        turn_temp(begins, ends, from.saturating_add(bit as usize), turn);
-        changed = without(changed, bit);
+    let mut left = word;
+    while left != 0 {
+        let bit = lowest(left);
+        raise(begins, from.saturating_add(bit as usize), positions);
+        left = without(left, bit);
     }
 }
 
-// Turns the temporaries of one place in two rows.
-fn turn_place(table: &mut Table, held: &LiveSet, row: &LiveSet, place: usize)
-    requires { length table.old.ends ≡ length table.old.begins }
-    ensures positions { table.new.positions ≡ table.old.positions }
-    ensures begins { IsPut (λ t. eqb (t / 64) place && (mark_at held.now t && not (mark_at row.now t)))
-        table.old.positions table.old.begins table.new.begins }
-    ensures ends { IsPut
-        (λ t. eqb (t / 64) place && ((mark_at row.now t && not (mark_at held.now t)) && eqb (slice_index table.old.begins t) 0))
-        table.old.positions table.old.ends table.new.ends }
+/// The temporaries of a row that aren't in another one begin no later than so many positions from the end.
+pub fn raise_row(begins: &mut List<u64>, held: &LiveSet, row: &LiveSet, positions: u64)
+    ensures { IsPut (λ t. (mark_at held.now t && not (mark_at row.now t)) && ltb (slice_index begins.old t) positions) positions
+        begins.old begins.new }
 {
-    if held.has_same(row, place) {
+    for place in 0..held.count() {
+        raise_word(
+            begins,
+            place,
+            except(held.word(place), row.word(place)),
+            positions,
+        );
+    }
+}
+
+// A temporary ends before so many positions.
+fn end(ends: &mut List<u64>, temp: usize, positions: u64)
+    ensures { IsPut (λ t. eqb t temp) positions ends.old ends.new }
+{
+    if temp < ends.len() {
+        ends.set(temp, positions);
+    }
+}
+
+// The same for the temporaries of a word.
+fn end_word(ends: &mut List<u64>, place: usize, word: u64, positions: u64)
+    ensures { IsPut (λ t. eqb (t / 64) place && in_word word t) positions ends.old ends.new }
+{
+    let from = place.saturating_mul(64);
+    if from >= ends.len() {
         return;
     }
-    let turn = Turn {
-        place,
-        held: held.word(place),
-        word: row.word(place),
-        positions: table.positions,
-    };
-    turn_word(&mut table.begins, &mut table.ends, turn);
-}
-
-/// Turns from the row that was marked at the last position to another one.
-pub fn turn_rows(table: &mut Table, held: &LiveSet, row: &LiveSet)
-    requires { length table.old.ends ≡ length table.old.begins }
-    ensures { IsTurned held.now row.now table.old table.new }
-{
-    let count = held.count().max(row.count());
-    for place in 0..count {
-        turn_place(table, held, row, place);
+    let mut left = word;
+    while left != 0 {
+        let bit = lowest(left);
+        end(ends, from.saturating_add(bit as usize), positions);
+        left = without(left, bit);
     }
 }
 
-// Notes the end of a temporary that is marked at the last position for the first time.
-fn note_end(table: &mut Table, temp: usize)
+// The temporaries of a word have been marked.
+fn mark_word(begun: &mut List<u64>, place: usize, word: u64)
+    ensures long { length begun.new ≡ length begun.old }
+    ensures bits { (t : ℕ) → t < length begun.old * 64 → word_bit begun.new t ≡ ((eqb (t / 64) place && in_word word t) || word_bit begun.old t) }
+{
+    if place < begun.len() {
+        let old = item(begun, place);
+        begun.set(place, old | word);
+    }
+}
+
+// The temporaries of a word are marked where there are so many positions behind it.
+fn enter_word(table: &mut Table, place: usize, word: u64, positions: u64)
+    ensures positions { table.new.positions ≡ table.old.positions }
+    ensures begins { table.new.begins ≡ table.old.begins }
+    ensures long { length table.new.begun ≡ length table.old.begun }
+    ensures ends { IsPut (λ t. eqb (t / 64) place && (in_word word t && not (word_bit table.old.begun t))) positions
+        table.old.ends table.new.ends }
+    ensures begun { (t : ℕ) → t < length table.old.begun * 64 →
+        word_bit table.new.begun t ≡ ((eqb (t / 64) place && in_word word t) || word_bit table.old.begun t) }
+{
+    let begun = item(&table.begun, place);
+    end_word(&mut table.ends, place, except(word, begun), positions);
+    mark_word(&mut table.begun, place, word);
+}
+
+/// The temporaries of a row are marked at the next position, where those of another one have been marked before.
+pub fn enter_row(table: &mut Table, known: &LiveSet, row: &LiveSet)
+    requires long { length table.old.ends ≡ length table.old.begins }
+    requires words { length table.old.begins ≤ length table.old.begun * 64 }
+    ensures { AreEntered known.now row.now table.old table.new }
+{
+    for place in 0..row.count() {
+        let positions = table.positions;
+        enter_word(
+            table,
+            place,
+            except(row.word(place), known.word(place)),
+            positions,
+        );
+    }
+}
+
+// Notes the end of a temporary that is marked at the last position.
+fn note_end(table: &mut Table, temp: u32)
     requires { 0 < table.old.positions }
     ensures positions { table.new.positions ≡ table.old.positions }
     ensures begins { table.new.begins ≡ table.old.begins }
-    ensures ends { IsPut (λ t. eqb t temp && eqb (slice_index table.old.begins t) 0) (table.old.positions - 1)
-        table.old.ends table.new.ends }
+    ensures long { length table.new.begun ≡ length table.old.begun }
+    ensures ends { IsPut (λ t. eqb temp t && not (word_bit table.old.begun t)) (table.old.positions - 1) table.old.ends table.new.ends }
+    ensures begun { (t : ℕ) → t < length table.old.begun * 64 → word_bit table.new.begun t ≡ (eqb temp t || word_bit table.old.begun t) }
 {
-    if temp < table.ends.len() && item(&table.begins, temp) == 0 {
-        table.ends.set(temp, table.positions - 1);
-    }
+    let last = table.positions - 1;
+    enter_word(table, (temp / 64) as usize, single(temp), last);
 }
 
 // Notes where a temporary begins that is marked at the last position.
@@ -128,6 +160,7 @@ fn note_begin(table: &mut Table, row: &LiveSet, temp: u32)
     ensures positions { table.new.positions ≡ table.old.positions }
     ensures begins { IsPut (λ t. eqb t temp && mark_at row.now t) table.old.positions table.old.begins table.new.begins }
     ensures ends { table.new.ends ≡ table.old.ends }
+    ensures begun { table.new.begun ≡ table.old.begun }
 {
     let place = temp as usize;
     if place < table.begins.len() && row.has(temp) {
@@ -143,14 +176,13 @@ pub fn insert(row: &mut LiveSet, table: &mut Table, temp: u32) -> Result<(), All
     ensures positions { table.new.positions ≡ table.old.positions }
     ensures row { OnOk result (row.new ≡ slice_set row.old temp true) }
     ensures marks { OnOk result (
-        (bits : Bits) → (spans : SpanTable) → length bits ≡ length row.old → Marks bits spans (told row.old table.old) →
+        (bits : Bits) → (spans : SoFar) → length bits ≡ length row.old → Marks bits spans (told row.old table.old) →
         Marks (slice_set bits temp true) spans (told row.new table.new)
         ) }
 {
-    let held = row.has(temp);
     row.insert(temp)?;
-    if !held && row.has(temp) {
-        note_end(table, temp as usize);
+    if row.has(temp) {
+        note_end(table, temp);
     }
     Ok(())
 }
@@ -179,11 +211,13 @@ impl Table {
         ensures positions { IfOk result (λ table. table.positions ≡ 0) }
         ensures begins { IfOk result (λ table. table.begins ≡ replicate temps 0) }
         ensures ends { IfOk result (λ table. table.ends ≡ replicate temps 0) }
+        ensures begun { IfOk result (λ table. table.begun ≡ replicate (temps / 64 + 1) 0) }
     {
         Ok(Table {
             positions: 0,
             begins: zeros(alloc, temps)?,
             ends: zeros(alloc, temps)?,
+            begun: zeros(alloc, temps / 64 + 1)?,
         })
     }
 }
@@ -207,11 +241,16 @@ impl Model for Spans {
 impl Spans {
     /// Those of a table, where a row was marked at the last position.
     pub fn of_table(alloc: Global, table: Table, held: &LiveSet) -> Spans
-        requires { IsTable held.now table }
-        ensures { result ≡ told held.now table }
+        requires { (t : ℕ) → t < length table.begins → slice_index table.begins t ≤ table.positions }
+        ensures { result ≡ shown (told held.now table) }
     {
         let mut table = table;
-        turn_rows(&mut table, held, &LiveSet::none(alloc, 0));
+        raise_row(
+            &mut table.begins,
+            held,
+            &LiveSet::none(alloc, 0),
+            table.positions,
+        );
         Spans { table }
     }
 

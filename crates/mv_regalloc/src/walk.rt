@@ -1,49 +1,99 @@
 // A walk over some code from its end: what is live where it stands, and the spans over the positions behind it. A
-// position costs the temporaries that come or go there; words are gone over only where another set becomes live.
+// position costs the temporaries that come or go there. Where some code begins, what was marked last is set aside, and
+// is told again before that code: so nothing is noted of temporaries that aren't live where the code ends in a jump.
 
-ghost use Rattle.std.specs.Prelude.{◌≡◌, ◌<◌, ◌∷◌, [], false, true, length, replicate, IfOk, OnOk, Some};
+ghost use Rattle.std.specs.Prelude.{◌≡◌, ◌<◌, ◌≤◌, ◌∷◌, [], false, true, length, replicate, slice_index, IfOk, OnOk, Some};
 ghost use Rattle.mv_regalloc.specs.Rows.{Bits, put_bit, with_temps};
-ghost use Rattle.mv_regalloc.specs.Spanned.{Adds, SpanTable, no_spans};
-ghost use Rattle.mv_regalloc.specs.Tables.{IsTable, Marks, last_row, told};
+ghost use Rattle.mv_regalloc.specs.Spanned.{Adds, IsResumed, IsSuspended, Marks, SoFar, no_spans, shown};
+ghost use Rattle.mv_regalloc.specs.Tables.{IsTable, IsTurned, known_row, last_row, told};
 
 use crate::live_set::LiveSet;
-use crate::table::{Spans, Table, insert, remove, turn_rows};
+use crate::table::{Spans, Table, enter_row, insert, raise_row, remove};
 use std::alloc::{AllocError, Global};
 use std::marker::Model;
 
-/// What is live, the row that was marked at the last position where that is another one, and the table.
+/// The row that was marked at the last position: what is live, another one, or none that counts any more, with a row
+/// whose temporaries have all been marked.
+#[derive(Drop)]
+pub enum Last {
+    Same,
+    Other(LiveSet),
+    Nothing(LiveSet),
+}
+
+/// A row that was marked at the last of so many positions.
+#[derive(Drop)]
+pub struct Suspended {
+    row: LiveSet,
+    positions: u64,
+}
+
+/// What is live, the row that was marked last, and the table.
 #[derive(Drop)]
 pub struct Walk {
     row: LiveSet,
-    held: Option<LiveSet>,
+    last: Last,
     table: Table,
 }
 
 impl Model for Walk {
-    ghost use Rattle.mv_regalloc.specs.Tables.{IsTable, Walked, last_row, told};
+    ghost use Rattle.mv_regalloc.specs.Tables.{IsTable, Walked, known_row, last_row, told};
 
     ghost Value = { Walked };
 
-    ghost view = { λ w. record { live = w.row; spans = told (last_row w.held w.row) w.table } };
+    ghost view = { λ w. record { live = w.row; spans = told (last_row w.last w.row) w.table } };
 
-    ghost invariant = { λ w. IsTable (last_row w.held w.row) w.table };
+    ghost invariant = { λ w. IsTable (known_row w.last w.row) w.table };
+}
+
+fn last_marked(alloc: Global, last: &Last, row: &LiveSet) -> Result<LiveSet, AllocError>
+    ensures { IfOk result (λ bits. bits ≡ last_row last.now row.now) }
+{
+    match last {
+        Last::Same => row.copied(alloc),
+        Last::Other(held) => held.copied(alloc),
+        Last::Nothing(_) => Ok(LiveSet::none(alloc, 0)),
+    }
+}
+
+fn known_marked(alloc: Global, last: &Last, row: &LiveSet) -> Result<LiveSet, AllocError>
+    ensures { IfOk result (λ bits. bits ≡ known_row last.now row.now) }
+{
+    match last {
+        Last::Same => row.copied(alloc),
+        Last::Other(held) => held.copied(alloc),
+        Last::Nothing(known) => known.copied(alloc),
+    }
+}
+
+// From the row that was marked last to another one.
+fn turn_row(row: &LiveSet, last: &Last, table: &mut Table)
+    requires { IsTable (known_row last.now row.now) table.old }
+    ensures { IsTurned (last_row last.now row.now) (known_row last.now row.now) row.now table.old table.new }
+{
+    match last {
+        Last::Same => {}
+        Last::Other(held) => {
+            raise_row(&mut table.begins, held, row, table.positions);
+            enter_row(table, held, row);
+        }
+        Last::Nothing(known) => enter_row(table, known, row),
+    }
 }
 
 // One position more, at which a row is marked. A body's positions are fewer than 2^64, since each takes memory.
-fn mark_row(row: &LiveSet, held: Option<LiveSet>, table: &mut Table) -> Result<(), AllocError>
-    requires { IsTable (last_row held row.now) table.old }
-    ensures table { IsTable row.now table.new }
-    ensures positions { 0 < table.new.positions }
-    ensures marks { OnOk result (Marks row.now (told (last_row held row.now) table.old) (told row.now table.new)) }
+fn mark_row(row: &LiveSet, last: &Last, table: &mut Table) -> Result<(), AllocError>
+    requires { IsTable (known_row last.now row.now) table.old }
+    ensures known { IsTable (known_row last.now row.now) table.new }
+    ensures table { OnOk result (IsTable row.now table.new) }
+    ensures positions { OnOk result (0 < table.new.positions) }
+    ensures marks { OnOk result (Marks row.now (told (last_row last.now row.now) table.old) (told row.now table.new)) }
 {
     let positions = table.positions;
     if positions == u64::MAX {
         return Err(AllocError);
     }
-    match held {
-        Some(held) => turn_rows(table, &held, row),
-        None => {}
-    }
+    turn_row(row, last, table);
     table.positions = positions + 1;
     Ok(())
 }
@@ -56,7 +106,7 @@ fn write(row: &mut LiveSet, table: &mut Table, written: Option<u32>) -> Result<(
     ensures positions { 0 < table.new.positions }
     ensures row { OnOk result (row.new ≡ put_bit written false row.old) }
     ensures marks { OnOk result (
-        (spans : SpanTable) → Marks row.old spans (told row.old table.old) → Marks (put_bit written true row.old) spans (told row.new table.new)
+        (spans : SoFar) → Marks row.old spans (told row.old table.old) → Marks (put_bit written true row.old) spans (told row.new table.new)
         ) }
 {
     match written {
@@ -76,7 +126,7 @@ fn read(row: &mut LiveSet, table: &mut Table, reads: &[u32]) -> Result<(), Alloc
     ensures table { IsTable row.new table.new }
     ensures row { OnOk result (row.new ≡ with_temps reads.now row.old) }
     ensures marks { OnOk result (
-        (bits : Bits) → (spans : SpanTable) → length bits ≡ length row.old → Marks bits spans (told row.old table.old) →
+        (bits : Bits) → (spans : SoFar) → length bits ≡ length row.old → Marks bits spans (told row.old table.old) →
         Marks (with_temps reads.now bits) spans (told row.new table.new)
         ) }
 {
@@ -94,7 +144,7 @@ impl Walk {
     {
         Ok(Walk {
             row: LiveSet::none(alloc, temps),
-            held: None,
+            last: Last::Same,
             table: Table::none(alloc, temps)?,
         })
     }
@@ -112,9 +162,30 @@ impl Walk {
         ensures spans { self.new.spans ≡ self.old.spans }
     {
         let row = std::mem::replace(&mut self.row, live);
-        if self.held.is_none() {
-            self.held = Some(row);
+        if let Last::Same = &self.last {
+            self.last = Last::Other(row);
         }
+    }
+
+    /// Sets aside what was marked last, where some code begins.
+    pub fn suspend(&mut self, alloc: Global) -> Result<Suspended, AllocError>
+        ensures live { OnOk result (self.new.live ≡ self.old.live) }
+        ensures spans { IfOk result (λ held. IsSuspended held.row held.positions self.old.spans self.new.spans) }
+    {
+        let row = last_marked(alloc, &self.last, &self.row)?;
+        let known = known_marked(alloc, &self.last, &self.row)?;
+        self.last = Last::Nothing(known);
+        let positions = self.table.positions;
+        Ok(Suspended { row, positions })
+    }
+
+    /// Tells again what was set aside, but of temporaries that are live: so they are to be marked next.
+    pub fn resume(&mut self, held: &Suspended)
+        requires { held.now.positions ≤ self.old.spans.positions }
+        ensures live { self.new.live ≡ self.old.live }
+        ensures spans { IsResumed held.now.row held.now.positions self.old.live self.old.spans self.new.spans }
+    {
+        raise_row(&mut self.table.begins, &held.row, &self.row, held.positions);
     }
 
     /// A position at which what is live is marked.
@@ -122,8 +193,9 @@ impl Walk {
         ensures live { OnOk result (self.new.live ≡ self.old.live) }
         ensures spans { OnOk result (Adds (self.old.live ∷ []) self.old.spans self.new.spans) }
     {
-        let held = self.held.take();
-        mark_row(&self.row, held, &mut self.table)
+        mark_row(&self.row, &self.last, &mut self.table)?;
+        self.last = Last::Same;
+        Ok(())
     }
 
     /// The position of a statement that writes a temporary and reads some.
@@ -133,20 +205,21 @@ impl Walk {
             Adds (put_bit written true (with_temps reads.now (put_bit written false self.old.live)) ∷ []) self.old.spans self.new.spans
             ) }
     {
-        let held = self.held.take();
-        mark_row(&self.row, held, &mut self.table)?;
+        mark_row(&self.row, &self.last, &mut self.table)?;
+        self.last = Last::Same;
         write(&mut self.row, &mut self.table, written)?;
         read(&mut self.row, &mut self.table, reads)
     }
 
     /// The spans over all positions.
     pub fn into_spans(self, alloc: Global) -> Spans
-        ensures { result ≡ self.spans }
+        ensures { result ≡ shown self.spans }
     {
-        let Walk { row, held, table } = self;
-        match held {
-            Some(held) => Spans::of_table(alloc, table, &held),
-            None => Spans::of_table(alloc, table, &row),
+        let Walk { row, last, table } = self;
+        match last {
+            Last::Same => Spans::of_table(alloc, table, &row),
+            Last::Other(held) => Spans::of_table(alloc, table, &held),
+            Last::Nothing(_) => Spans::of_table(alloc, table, &LiveSet::none(alloc, 0)),
         }
     }
 }

@@ -1,6 +1,6 @@
 // Bits in words: that of a temporary is in the word at a 64th of its number, and a word past the end is 0.
 
-ghost use Rattle.std.specs.Prelude.{ℕ, ◌≡◌, ◌≤◌, ◌<◌, ◌+◌, ◌/◌, ◌%◌, ◌||◌, ◌&&◌, true, false, cond, eqb, ltb, length, min, slice_index, OnOk};
+ghost use Rattle.std.specs.Prelude.{ℕ, ◌≡◌, ◌≤◌, ◌<◌, ◌+◌, ◌/◌, ◌%◌, ◌||◌, ◌&&◌, true, false, cond, eqb, ltb, length, min, not, slice_index, OnErr, OnOk};
 ghost use Rattle.mv_regalloc.specs.LiveBits.{in_word, word_bit};
 
 use std::alloc::AllocError;
@@ -50,7 +50,8 @@ pub fn grow(words: &mut Vec<u64>, count: usize) -> Result<(), AllocError>
 
 /// Sets the bit of a temporary.
 pub fn set_bit(words: &mut Vec<u64>, temp: u32) -> Result<(), AllocError>
-    ensures { OnOk result ((t : ℕ) → word_bit words.new.items t ≡ (eqb temp t || word_bit words.old.items t)) }
+    ensures bit { OnOk result ((t : ℕ) → word_bit words.new.items t ≡ (eqb temp t || word_bit words.old.items t)) }
+    ensures err { OnErr result ((k : ℕ) → slice_index words.new.items k ≡ slice_index words.old.items k) }
 {
     let place = (temp / 64) as usize;
     grow(words, place + 1)?;
@@ -99,6 +100,20 @@ pub fn without(word: u64, bit: u32) -> u64
     ensures less { result < word }
 {
     word & !(1 << bit)
+}
+
+/// The word with the bit of one temporary.
+pub fn single(temp: u32) -> u64
+    ensures { (t : ℕ) → t / 64 ≡ temp / 64 → in_word result t ≡ eqb temp t }
+{
+    1 << (temp % 64)
+}
+
+/// The bits of a word that aren't set in another one.
+pub fn except(word: u64, other: u64) -> u64
+    ensures { (t : ℕ) → in_word result t ≡ (in_word word t && not (in_word other t)) }
+{
+    word & !other
 }
 
 /// Behind the 64 places from one on, but not behind the last one.

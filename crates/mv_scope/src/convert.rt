@@ -8,7 +8,8 @@ use mv_num::boxed::Boxed;
 use mv_num::kind::Kind;
 use std::alloc::{AllocError, Global};
 
-fn kind_number(kind: Kind) -> u8
+// The number of a kind, by which kinds are told apart.
+pub(crate) fn kind_number(kind: Kind) -> u8
     ensures { result ≡ kind_number kind }
 {
     match kind {

@@ -4,8 +4,9 @@ ghost use Rattle.mv_scope.specs.Scoped.{start, meaning_of, tag_of, block_entered
 
 use crate::known::known_function;
 use crate::meaning::Meaning;
+use crate::signatures::SignatureList;
 use crate::space::NameSpace;
-use mv_ast::program::{Local, Signature};
+use mv_ast::program::Local;
 use mv_num::list::List;
 use std::alloc::{AllocError, Global};
 
@@ -16,7 +17,7 @@ pub struct Scope {
     pub names: NameSpace,
     pub tags: NameSpace,
     pub enumerations: List<List<u32>>,
-    pub signatures: List<Signature>,
+    pub signatures: SignatureList,
     pub locals: List<Local>,
     pub attributed: bool,
 }
@@ -30,7 +31,7 @@ impl Scope {
             names: NameSpace::new(alloc),
             tags: NameSpace::new(alloc),
             enumerations: List::new(alloc),
-            signatures: List::new(alloc),
+            signatures: SignatureList::new(alloc),
             locals: List::new(alloc),
             attributed: false,
         }

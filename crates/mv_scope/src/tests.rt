@@ -2,7 +2,7 @@ use crate::constant::{constant_value, converts};
 use crate::convert::{promoted, usual};
 use crate::meaning::{Meaning, Storage, Variable};
 use crate::scope::Scope;
-use crate::signatures::signature_number;
+use crate::signatures::SignatureList;
 use mv_ast::program::{CType, Expr, Form, Known, Local, Signature, Target};
 use mv_num::boxed::Boxed;
 use mv_num::kind::Kind;
@@ -192,8 +192,9 @@ fn signature(alloc: Global) -> Signature {
 #[test]
 fn a_signature_stands_once(rt: HostRuntime) -> Result<(), Fail> {
     let a = rt.alloc();
-    let mut list = List::new(a);
-    assert_eq!(rt; signature_number(&mut list, signature(a))?, 0);
+    let mut list = SignatureList::new(a);
+    assert_eq!(rt; list.number(a, signature(a))?, 0);
+    assert_eq!(rt; list.number(a, signature(a))?, 0);
     assert_eq!(rt; list.len(), 1);
     Ok(())
 }

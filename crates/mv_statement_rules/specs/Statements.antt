@@ -15,6 +15,7 @@ use Rattle.mv_scope.specs.declared.scope.Scope.{Scope}
 use Rattle.mv_scope.specs.Constants.{converts}
 use Rattle.mv_scope.specs.Conversions.{is_integer, is_void, promotion, promoted, converted_to}
 use Rattle.mv_scope.specs.Scoped.{block_entered, block_left}
+use Rattle.mv_judge.specs.RuleNumbers as rules
 use Rattle.mv_judge.specs.Judged.{Judged, Good, Broken, and_then}
 use Rattle.mv_judge.specs.Judgements.{value_judgement, effect_judgement}
 use Rattle.mv_judge.specs.NeededConstants.{constant_judgement}
@@ -50,38 +51,38 @@ Layer = Act-F (Place → Judges) Judges
 
 -- ---- the rules
 
--- rule 11: a declaration or a label stands where it may not
+-- labels: a declaration or a label stands where it may not
 abbrev pub misplaced_declaration : Place → Specs → List Declarator → Scope → Behind Stmt
-misplaced_declaration place specs names s = and_then (locals_judgement s specs names) (λ d. Broken place 11)
+misplaced_declaration place specs names s = and_then (locals_judgement s specs names) (λ d. Broken place rules.labels)
 
 abbrev pub misplaced_case : Place → Node → Scope → Behind Stmt
-misplaced_case place e s = and_then (constant_judgement s e) (λ c. Broken place 11)
+misplaced_case place e s = and_then (constant_judgement s e) (λ c. Broken place rules.labels)
 
--- rule 12: there is nothing that the jump leaves or goes on with
+-- jumps: there is nothing that the jump leaves or goes on with
 abbrev pub break_judgement : Place → Around → Scope → Behind Stmt
-break_judgement place around s = if around.breaks then Good (s, stmt.Break) else Broken place 12
+break_judgement place around s = if around.breaks then Good (s, stmt.Break) else Broken place rules.jumps
 
 abbrev pub continue_judgement : Place → Around → Scope → Behind Stmt
-continue_judgement place around s = if around.continues then Good (s, stmt.Continue) else Broken place 12
+continue_judgement place around s = if around.continues then Good (s, stmt.Continue) else Broken place rules.jumps
 
--- rule 5: the value doesn't convert to the function's result; rule 13: there is a value and the function is void, or the other way round
+-- conversions: the value doesn't convert to the function's result; returns: there is a value and the function is void, or the other way round
 unfoldable pub returned : Place → CType → Expr → Judged Stmt
 returned place t e =
-    if is_void t then Broken place 13
-    else if not (converts e t) then Broken place 5
+    if is_void t then Broken place rules.returns
+    else if not (converts e t) then Broken place rules.conversions
     else Good (stmt.Return (Some (converted_to t e)))
 
 abbrev pub return_judgement : Place → CType → Option Node → Scope → Behind Stmt
-return_judgement place t None s = if is_void t then Good (s, stmt.Return None) else Broken place 13
+return_judgement place t None s = if is_void t then Good (s, stmt.Return None) else Broken place rules.returns
 return_judgement place t (Some e) s = and_then (value_judgement s e) (λ x. and_then (returned place t x) (λ r. Good (s, r)))
 
 abbrev pub switch_of : Place → Expr → Option Arms → Judged Stmt
-switch_of place e None = Broken place 11
+switch_of place e None = Broken place rules.labels
 switch_of place e (Some a) = Good (stmt.Switch (promoted e) (arms_of a))
 
--- rule 3: the tested value is no integer; rule 11: the body isn't a block
+-- operands: the tested value is no integer; labels: the body isn't a block
 unfoldable pub switched : Place → Expr → Option Arms → Judged Stmt
-switched place e arms = if not (is_integer e.ctype) then Broken place 3 else switch_of place e arms
+switched place e arms = if not (is_integer e.ctype) then Broken place rules.operands else switch_of place e arms
 
 -- ---- expressions that may be left out
 
@@ -152,7 +153,7 @@ statement_of (act.For first test step l) place around s =
     and_then (first_clause first around (block_entered s)) (for_judgement test step l around)
 statement_of (act.Switch e l) place around s = switch_judgement place e l around s
 statement_of (act.Case e) place around s = misplaced_case place e s
-statement_of act.Default place around s = Broken place 11
+statement_of act.Default place around s = Broken place rules.labels
 statement_of act.Break place around s = break_judgement place around s
 statement_of act.Continue place around s = continue_judgement place around s
 statement_of (act.Return e) place around s = return_judgement place around.returns e s

@@ -9,6 +9,7 @@ use Rattle.mv_ast.specs.Operators.{converted}
 use Rattle.mv_ast.specs.Plans.{is_among}
 use Rattle.mv_scope.specs.Constants.{converts}
 use Rattle.mv_scope.specs.Conversions.{typed}
+use Rattle.mv_judge.specs.RuleNumbers as rules
 use Rattle.mv_judge.specs.declared.constant.Constant.{Constant}
 use Rattle.mv_judge.specs.Judged.{Judged, Good, Broken}
 use Rattle.mv_statement_rules.specs.declared.arms.Arms.{Arms}
@@ -52,14 +53,14 @@ arms_of a = a.done ++ a.last ∷ []
 abbrev pub converts_constant : Constant → CType → Bool
 converts_constant c t = converts (typed c.ctype (form.Number c.value)) t
 
--- A `case` in a `switch` on a value of this type after promotion. Rule 5: the constant doesn't convert to it; rule 11: the label is
+-- A `case` in a `switch` on a value of this type after promotion. Conversions: the constant doesn't convert to it; labels: the label is
 -- repeated, after conversion.
 unfoldable pub case_label : Place → CType → Constant → Arms → Judged Arms
 case_label place t c a =
-    if not (converts_constant c t) then Broken place 5
-    else if is_among (converted t c.value) a.labels then Broken place 11
+    if not (converts_constant c t) then Broken place rules.conversions
+    else if is_among (converted t c.value) a.labels then Broken place rules.labels
     else Good (with_case (converted t c.value) a)
 
--- rule 11: `default` is repeated
+-- labels: `default` is repeated
 unfoldable pub default_label : Place → Arms → Judged Arms
-default_label place a = if a.other then Broken place 11 else Good (with_default a)
+default_label place a = if a.other then Broken place rules.labels else Good (with_default a)

@@ -12,6 +12,7 @@ use mv_declare::steps::with_last;
 use mv_declare::value_set::ValueSet;
 use mv_judge::constant::Constant;
 use mv_judge::error::RuleError;
+use mv_judge::rules;
 use mv_num::list::List;
 use mv_num::results::both;
 use mv_scope::constant::converts;
@@ -127,12 +128,12 @@ impl Arms {
         ensures { IsJudged (case_label place tested constant self) result }
     {
         if !converts_constant(constant, tested) {
-            return Err(RuleError::Rule(place, 5));
+            return Err(RuleError::Rule(place, rules::CONVERSIONS));
         }
         let value = converted(tested, constant.value);
         match self.with_new_case(alloc, value)? {
             Some(arms) => Ok(arms),
-            None => Err(RuleError::Rule(place, 11)),
+            None => Err(RuleError::Rule(place, rules::LABELS)),
         }
     }
 
@@ -143,7 +144,7 @@ impl Arms {
     {
         if self.other {
             drop(self);
-            return Err(RuleError::Rule(place, 11));
+            return Err(RuleError::Rule(place, rules::LABELS));
         }
         Ok(self.with_default(alloc)?)
     }

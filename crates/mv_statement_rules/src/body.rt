@@ -23,6 +23,7 @@ use mv_ast::unit::{Act, Line, Node};
 use mv_declare::steps::with_last;
 use mv_judge::error::RuleError;
 use mv_judge::judge::value;
+use mv_judge::rules;
 use mv_num::boxed::Boxed;
 use mv_num::list::List;
 use mv_num::results::both;
@@ -80,7 +81,7 @@ fn statement(
             switch_statement(alloc, scope, around, body.get(), place, tested)
         }
         Act::Case(constant) => misplaced_case(alloc, scope, place, constant),
-        Act::Default => Err(RuleError::Rule(place, 11)),
+        Act::Default => Err(RuleError::Rule(place, rules::LABELS)),
         Act::Break => break_statement(place, around, scope),
         Act::Continue => continue_statement(place, around, scope),
         Act::Return(e) => return_statement(alloc, scope, place, around.returns, e),

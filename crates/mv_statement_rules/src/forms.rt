@@ -1,6 +1,6 @@
 // The forms of a statement: what a statement is, given what its parts are, and the rules that it breaks.
 
-ghost use Rattle.std.specs.Prelude.{◌≡◌, ◌++◌, IfOk};
+ghost use Rattle.std.specs.Prelude.{◌≡◌, ◌++◌};
 ghost use Rattle.mv_judge.specs.Judged.{IsJudged, Good, and_then};
 ghost use Rattle.mv_judge.specs.Judgements.{value_judgement, effect_judgement};
 ghost use Rattle.mv_judge.specs.NeededConstants.{constant_judgement};
@@ -18,12 +18,13 @@ use mv_declare::locals::declare_locals;
 use mv_judge::constant::needed;
 use mv_judge::error::RuleError;
 use mv_judge::judge::{effect, value};
+use mv_judge::rules;
 use mv_num::list::List;
 use mv_num::results::both;
 use mv_scope::constant::converts;
 use mv_scope::convert::{converted_to, is_integer, is_void, promoted};
 use mv_scope::scope::Scope;
-use std::alloc::{AllocError, Global};
+use std::alloc::Global;
 
 /// A declaration where none may stand.
 pub fn misplaced_declaration(
@@ -36,7 +37,7 @@ pub fn misplaced_declaration(
     ensures { IsBehind (misplaced_declaration place specs.now names.now scope.old) result scope.new }
 {
     drop(declare_locals(alloc, scope, specs, names)?);
-    Err(RuleError::Rule(place, 11))
+    Err(RuleError::Rule(place, rules::LABELS))
 }
 
 /// A `case` outside the block of a `switch`.
@@ -49,7 +50,7 @@ pub fn misplaced_case(
     ensures { IsBehind (misplaced_case place constant.now scope.now) result scope.now }
 {
     let _ = needed(alloc, scope, constant)?;
-    Err(RuleError::Rule(place, 11))
+    Err(RuleError::Rule(place, rules::LABELS))
 }
 
 pub fn break_statement(place: Place, around: Around, scope: &Scope) -> Result<Stmt, RuleError>
@@ -58,7 +59,7 @@ pub fn break_statement(place: Place, around: Around, scope: &Scope) -> Result<St
     if around.breaks {
         Ok(Stmt::Break)
     } else {
-        Err(RuleError::Rule(place, 12))
+        Err(RuleError::Rule(place, rules::JUMPS))
     }
 }
 
@@ -68,7 +69,7 @@ pub fn continue_statement(place: Place, around: Around, scope: &Scope) -> Result
     if around.continues {
         Ok(Stmt::Continue)
     } else {
-        Err(RuleError::Rule(place, 12))
+        Err(RuleError::Rule(place, rules::JUMPS))
     }
 }
 
@@ -79,11 +80,11 @@ fn returned(alloc: Global, place: Place, to: CType, e: Expr) -> Result<Stmt, Rul
 {
     if is_void(to) {
         drop(e);
-        return Err(RuleError::Rule(place, 13));
+        return Err(RuleError::Rule(place, rules::RETURNS));
     }
     if !converts(&e, to) {
         drop(e);
-        return Err(RuleError::Rule(place, 5));
+        return Err(RuleError::Rule(place, rules::CONVERSIONS));
     }
     let e = converted_to(alloc, to, e)?;
     Ok(Stmt::Return(Some(e)))
@@ -104,7 +105,7 @@ pub fn return_statement(
             if is_void(returns) {
                 Ok(Stmt::Return(None))
             } else {
-                Err(RuleError::Rule(place, 13))
+                Err(RuleError::Rule(place, rules::RETURNS))
             }
         }
         Some(e) => {
@@ -127,9 +128,9 @@ pub fn switched(
     if !is_integer(tested.ctype) {
         drop(tested);
         drop(arms);
-        return Err(RuleError::Rule(place, 3));
+        return Err(RuleError::Rule(place, rules::OPERANDS));
     }
-    let (tested, arms) = both(tested, arms.ok_or(RuleError::Rule(place, 11)))?;
+    let (tested, arms) = both(tested, arms.ok_or(RuleError::Rule(place, rules::LABELS)))?;
     let (tested, arms) = both(tested, arms.into_list())?;
     let (arms, tested) = both(arms, promoted(alloc, tested))?;
     Ok(Stmt::Switch(tested, arms))
@@ -196,8 +197,8 @@ pub fn declaration(
 ) -> Result<List<Stmt>, RuleError>
     ensures { IsBehind (and_then (locals_judgement scope.old specs.now names.now) (λ e. Good (e.0, done ++ e.1))) result scope.new }
 {
-    let (done, clears) = both(done, declare_locals(alloc, scope, specs, names))?;
-    let done = joined(done, clears)?;
+    let (mut done, clears) = both(done, declare_locals(alloc, scope, specs, names))?;
+    done.append(clears)?;
     Ok(done)
 }
 
@@ -223,14 +224,4 @@ pub fn default(alloc: Global, scope: &Scope, place: Place, arms: Arms) -> Result
 {
     let arms = arms.default_label(alloc, place)?;
     Ok(arms)
-}
-
-// A list with the items of another behind its own.
-fn joined<T: Drop>(list: List<T>, more: List<T>) -> Result<List<T>, AllocError>
-    ensures { IfOk result (λ all. all ≡ list ++ more) }
-{
-    let mut items = list.into_vec();
-    let mut more = more.into_vec();
-    items.append(&mut more)?;
-    Ok(List::from_vec(items))
 }

@@ -18,6 +18,7 @@ use Rattle.mv_scope.specs.Conversions.{int, same_signature}
 use Rattle.mv_scope.specs.Known.{known_function}
 use Rattle.mv_scope.specs.Scoped.{declared, block_entered, block_left}
 use Rattle.mv_scope.specs.Spaces.{named}
+use Rattle.mv_judge.specs.RuleNumbers as rules
 use Rattle.mv_judge.specs.Calls.{known_arity, known_params}
 use Rattle.mv_judge.specs.Judged.{Judged, Good, Broken, and_then}
 use Rattle.mv_outline.specs.Names.{place_of}
@@ -54,10 +55,10 @@ abbrev pub is_defined_at : List (Option Function) → Option ℕ → Bool
 is_defined_at functions None = false
 is_defined_at functions (Some n) = is_defined (slice_get functions n)
 
--- rule 2: the name is declared already, in a way that doesn't go with this; rule 19: the function is defined a second time; rule 22: it has
+-- redeclarations: the name is declared already, in a way that doesn't go with this; definitions: the function is defined a second time; declarations: it has
 -- an initial value
 unfoldable pub broken_rule : (allowed twice given : Bool) → Option ℕ
-broken_rule allowed twice given = if not allowed then Some 2 else if twice then Some 19 else if given then Some 22 else None
+broken_rule allowed twice given = if not allowed then Some rules.redeclarations else if twice then Some rules.definitions else if given then Some rules.declarations else None
 
 -- ---- what declarations come to
 

@@ -12,6 +12,7 @@ use Rattle.mv_scope.specs.declared.scope.Scope.{Scope}
 use Rattle.mv_scope.specs.Conversions.{same_type}
 use Rattle.mv_scope.specs.Scoped.{declared}
 use Rattle.mv_scope.specs.Spaces.{named}
+use Rattle.mv_judge.specs.RuleNumbers as rules
 use Rattle.mv_judge.specs.Judged.{Judged, Good, Broken, and_then}
 use Rattle.mv_outline.specs.Names.{place_of}
 use Rattle.mv_declare.specs.declared.attributes.Attribute.{Attribute}
@@ -63,18 +64,18 @@ abbrev pub may_declare : Option Meaning → List Object → Local → (given : B
 may_declare None objects l given domain = true
 may_declare (Some m) objects l given domain = agrees_with (object_at objects (number_of m)) l given domain
 
--- rule 2: the name is declared already, in a way that doesn't go with this; rule 22: a block follows
+-- redeclarations: the name is declared already, in a way that doesn't go with this; declarations: a block follows
 abbrev pub broken_rule : (allowed block : Bool) → Option ℕ
-broken_rule allowed block = if not allowed then Some 2 else if block then Some 22 else None
+broken_rule allowed block = if not allowed then Some rules.redeclarations else if block then Some rules.declarations else None
 
 abbrev pub unless_broken : Place → Option ℕ → Local → Judged Local
 unless_broken place None l = Good l
 unless_broken place (Some rule) l = Broken place rule
 
--- The type and the size of a declared object. It may be of type `void` or an array without a size (rules 8 and 10); where its name is
+-- The type and the size of a declared object. It may be of type `void` or an array without a size (against the rules `void` and `extents`); where its name is
 -- declared already, that doesn't go with it.
 unfoldable pub type_by_rules : Place → Option Meaning → List Object → Judged Local → (given block : Bool) → Option (List ℕ) → Judged Local
-type_by_rules place before objects (Broken p rule) given block domain = if is_none before then Broken p rule else Broken place 2
+type_by_rules place before objects (Broken p rule) given block domain = if is_none before then Broken p rule else Broken place rules.redeclarations
 type_by_rules place before objects (Good l) given block domain =
     unless_broken place (broken_rule (may_declare before objects l given domain) block) l
 

@@ -15,6 +15,7 @@ use Rattle.mv_scope.specs.declared.meaning.Meaning.{Meaning}
 use Rattle.mv_scope.specs.declared.meaning.Meaning.TheVariants as meaning
 use Rattle.mv_scope.specs.Conversions.{int, same_signature}
 use Rattle.mv_scope.specs.Spaces.{named}
+use Rattle.mv_judge.specs.RuleNumbers as rules
 use Rattle.mv_judge.specs.Judged.{Judged, Good, Broken, and_then}
 use Rattle.mv_outline.specs.Outlined.{is_function, is_filled, name_of}
 use Rattle.mv_declare.specs.declared.attributes.Attribute.{Attribute}
@@ -41,9 +42,9 @@ abbrev pub by_entity : Foreknown → Specified → Option Line → Declarator �
 by_entity k b body d name (entity.Function signature) a c = function_judgement k d name b.ctype signature body c
 by_entity k b body d name e a c = object_judgement k d name e (domain_by c.scope b.enumeration a) (is_some body) c
 
--- rule 22: there is no name
+-- declarations: there is no name
 unfoldable pub named_declarator : Foreknown → Specified → Option Line → Declarator → Option (List ℕ) → Designated → Contents → Judged Contents
-named_declarator k b body d None e c = Broken d.place 22
+named_declarator k b body d None e c = Broken d.place rules.declarations
 named_declarator k b body d (Some name) e c = by_entity k b body d name e.entity e.attribute c
 
 -- what a declarator says of a `const` object is said with `const`
@@ -68,10 +69,10 @@ holders k ds = if list_any (declares_constant k) ds then [] else ds
 abbrev pub declares_nothing : Item → Bool
 declares_nothing i = not (is_filled i.names) && not (is_filled (out-Specs i.specs).tags)
 
--- rule 22: there is neither a name nor an enum
+-- declarations: there is neither a name nor an enum
 abbrev pub names_judgement : Foreknown → Specified → Item → Contents → Judged Contents
 names_judgement k b i c =
-    if declares_nothing i then Broken (out-Specs i.specs).place 22
+    if declares_nothing i then Broken (out-Specs i.specs).place rules.declarations
     else through (declarator_judgement k b i.body) i.names c
 
 unfoldable pub item_judgement : Foreknown → Item → Contents → Judged Contents
@@ -103,9 +104,9 @@ program_of c main =
       main = main;
     }
 
--- rule 18: there is no `main`
+-- main: there is no `main`
 abbrev pub program_or_broken : Place → Contents → Option ℕ → Judged Program
-program_or_broken place c None = Broken place 18
+program_or_broken place c None = Broken place rules.main
 program_or_broken place c (Some main) = Good (program_of c main)
 
 unfoldable pub program_judgement : Place → Contents → Judged Program

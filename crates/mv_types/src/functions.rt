@@ -16,6 +16,7 @@ use mv_ast::program::{CType, Function, Known, Signature, Stmt};
 use mv_ast::unit::{Declarator, Line, Shape};
 use mv_declare::parameters::declare_parameters;
 use mv_judge::error::RuleError;
+use mv_judge::rules;
 use mv_num::kind::Kind;
 use mv_num::list::List;
 use mv_num::text::Text;
@@ -82,7 +83,7 @@ fn is_prototype(known: Known, signature: &Signature) -> bool
 }
 
 fn may_declare(
-    signatures: &List<Signature>,
+    signatures: &[Signature],
     signature: u32,
     block: bool,
     before: Option<Meaning>,
@@ -120,11 +121,11 @@ fn broken_rule(allowed: bool, twice: bool, given: bool) -> Option<u8>
     ensures { result ≡ spec.broken_rule allowed twice given }
 {
     if !allowed {
-        Some(2)
+        Some(rules::REDECLARATIONS)
     } else if twice {
-        Some(19)
+        Some(rules::DEFINITIONS)
     } else if given {
-        Some(22)
+        Some(rules::DECLARATIONS)
     } else {
         None
     }
@@ -347,7 +348,7 @@ fn rule_of(
     ensures { result ≡ spec.rule_of declarator.now signature body.now contents.now before }
 {
     let block = body.is_some();
-    let signatures = &contents.scope.signatures;
+    let signatures = contents.scope.signatures.as_slice();
     let allowed = may_declare(signatures, signature, block, before.meaning, before.builtin);
     let twice = block && is_defined_at(&contents.functions, before.number);
     broken_rule(allowed, twice, declarator.initial.is_some())

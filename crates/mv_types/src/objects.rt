@@ -17,6 +17,7 @@ use mv_declare::attributes::Attribute;
 use mv_declare::declarators::Entity;
 use mv_declare::globals::{domain_of, global_words, object_type};
 use mv_judge::error::RuleError;
+use mv_judge::rules;
 use mv_num::list::List;
 use mv_num::text::Text;
 use mv_scope::convert::same_type;
@@ -103,9 +104,9 @@ fn broken_rule(allowed: bool, block: bool) -> Option<u8>
     ensures { result ≡ spec.broken_rule allowed block }
 {
     if !allowed {
-        Some(2)
+        Some(rules::REDECLARATIONS)
     } else if block {
-        Some(22)
+        Some(rules::DECLARATIONS)
     } else {
         None
     }
@@ -130,7 +131,7 @@ fn type_by_rules(
             if before.is_none() {
                 Err(RuleError::Rule(at, rule))
             } else {
-                Err(RuleError::Rule(place, 2))
+                Err(RuleError::Rule(place, rules::REDECLARATIONS))
             }
         }
         Ok(local) => {

@@ -12,16 +12,18 @@ use crate::functions::is_plain_int;
 use mv_ast::place::Place;
 use mv_ast::program::{Function, Global as Variable, Program, Signature, Switch};
 use mv_judge::error::RuleError;
+use mv_judge::rules;
 use mv_num::list::List;
 use mv_num::results::both;
 use mv_scope::meaning::Meaning;
 use mv_scope::scope::Scope;
+use mv_scope::signatures::SignatureList;
 use mv_uses::uses::switches_named;
 use std::alloc::{AllocError, Global};
 use std::mem;
 
 // Whether the signature with a number is that of `main`.
-fn is_main_type(signatures: &List<Signature>, number: u32) -> bool
+fn is_main_type(signatures: &[Signature], number: u32) -> bool
     ensures { result ≡ is_main_type (slice_get signatures.now number) }
 {
     match signatures.get(number as usize) {
@@ -36,7 +38,7 @@ fn main_of(scope: &Scope) -> Option<u32>
 {
     match scope.names.here.find(b"main".as_slice()) {
         Some(Meaning::Function(routine)) => {
-            if is_main_type(&scope.signatures, routine.signature) {
+            if is_main_type(scope.signatures.as_slice(), routine.signature) {
                 routine.number
             } else {
                 None
@@ -156,7 +158,7 @@ fn program_of(alloc: Global, contents: Contents, main: u32) -> Result<Program, A
         objects,
         functions,
     } = contents;
-    let signatures = mem::replace(&mut scope.signatures, List::new(alloc));
+    let signatures = mem::replace(&mut scope.signatures, SignatureList::new(alloc)).into_list();
     drop(scope);
     let ((signatures, functions), made) = both(
         (signatures, functions),
@@ -177,7 +179,7 @@ fn program_of(alloc: Global, contents: Contents, main: u32) -> Result<Program, A
     })
 }
 
-/// The program of a unit that ends at a place, by what its declarations come to. Rule 18 is broken where it has no `main`.
+/// The program of a unit that ends at a place, by what its declarations come to. The rule of `main` is broken where it has no `main`.
 #[tactic(auto, unfolding(crate::specs::Units::program_judgement))]
 pub fn judge_program(alloc: Global, place: Place, contents: Contents) -> Result<Program, RuleError>
     ensures { IsJudged (program_judgement place contents) result }
@@ -185,7 +187,7 @@ pub fn judge_program(alloc: Global, place: Place, contents: Contents) -> Result<
     match main_of(&contents.scope) {
         None => {
             drop(contents);
-            Err(RuleError::Rule(place, 18))
+            Err(RuleError::Rule(place, rules::MAIN))
         }
         Some(main) => Ok(program_of(alloc, contents, main)?),
     }

@@ -22,6 +22,7 @@ use mv_declare::declarators::Entity;
 use mv_declare::globals::{Designated, file_declarator};
 use mv_declare::specifiers::{Specified, specifiers};
 use mv_judge::error::RuleError;
+use mv_judge::rules;
 use mv_num::list::List;
 use mv_num::results::both;
 use mv_scope::scope::Scope;
@@ -98,7 +99,7 @@ fn named_declarator(
     ensures { IsContinued (named_declarator known.now base.now body.now declarator.now declarator.now.name designated contents.old) result contents.new }
 {
     match &declarator.name {
-        None => Err(RuleError::Rule(declarator.place, 22)),
+        None => Err(RuleError::Rule(declarator.place, rules::DECLARATIONS)),
         Some(name) => by_entity(
             alloc,
             known,
@@ -222,7 +223,7 @@ fn declare_names(
     ensures { IsContinued (names_judgement known.now base.now item.now contents.old) result contents.new }
 {
     if declares_nothing(item) {
-        return Err(RuleError::Rule(item.specs.place, 22));
+        return Err(RuleError::Rule(item.specs.place, rules::DECLARATIONS));
     }
     let names = item.names.as_slice();
     declare_all(alloc, known, base, &item.body, names, contents)

@@ -1,4 +1,4 @@
-use Rattle.std.proofs.Common.{ℕ, List, ◌≡◌, ◌+◌, ◌-◌, ◌<◌, ◌≤◌, ◌∷◌, [], ◌++◌, ap, sym, ◌∙◌, arith, map, take, drop, length, max, subst, refl}
+use Rattle.std.proofs.Common.{ℕ, suc, append_assoc, List, ◌≡◌, ◌+◌, ◌<◌, ◌≤◌, ◌∷◌, ◌++◌, ap, sym, ◌∙◌, arith, map, take, drop, length, max, subst, refl}
 use Rattle.mv_ast.specs.declared.program.Stmt.{Stmt}
 use Rattle.mv_ast.specs.declared.program.Arm.{Arm}
 use Rattle.mv_ast.specs.declared.program.Expr.{Expr}
@@ -9,20 +9,15 @@ use Rattle.mv_lower_expressions.specs.Expressions.{expr_at, each_at}
 use Rattle.mv_lower.specs.Statements.{stmt_size, stmts_size, arm_size, arms_size, used}
 use Rattle.mv_lower_expressions.proofs.Sizes.{sum_before}
 use Rattle.mv_lower.proofs.StatementForms.{size_block, size_clear, size_express, size_if, size_while, size_do, size_for, size_switch, size_return, size_arm, few_arms, map_length}
-use Rattle.mv_lower.proofs.Switching.{used_arm, sized_rest, next_item, nested_step, top_step, arms_end}
+use Rattle.mv_lower.proofs.Switching.{next_item, code_step, top_step, arms_least, arms_end}
 use Rattle.mv_lower.proofs.Sequences.{same_code, with_stmt, stmts_push}
-use Rattle.std.proofs.lemmas.List.{length-drop}
 use Rattle.mv_ir.specs.declared.stm.Stm.{Stm}
-use Rattle.mv_lowering.specs.Statements.{Jumps, Code, LoweredArm, in_arm, enclosed, nested, arms_top}
+use Rattle.mv_lowering.specs.Statements.{Code, in_arm, arm_code, arms_code, arms_top}
 use Rattle.mv_lower.specs.Statements.{seen_code, seen_jumps, stmts_at, stmt_at, arm_at}
 use Rattle.mv_lower.proofs.statement.+statement.Goals as goal
 
 as_many : (vs : List Value) (es : List Expr) (n : ℕ) → map seen vs ≡ each_at es n → length vs ≡ length es
 as_many vs es n e = sym (map_length seen vs) ∙ (ap (λ (l : List Lowered). length l) e ∙ map_length (λ (x : Expr). expr_at x n) es)
-
-arms_least : (n : ℕ) (arms : List LoweredArm) (j : Jumps) → n ≤ arms_top n arms j
-arms_least n [] j = omega arith
-arms_least n (a ∷ arms) j = let h = arms_least n arms j in omega (arith, h)
 
 pub lower_stmt-declare-requires : goal.lower_stmt-declare-requires
 lower_stmt-declare-requires t c =
@@ -151,63 +146,58 @@ lower_stmts-lower_stmt-requires t c =
 
 pub lower_arms-lower_stmts-requires : goal.lower_arms-lower_stmts-requires
 lower_arms-lower_stmts-requires t c =
-    let i = c.loop-arm.arm-index in
     let a = c.arm-item.result in
-    let g = c.args.function.now in
-    let r : arm_size a + (length c.args.arms.now - (i + 1)) ≤ arms_size c.args.arms.now = subst (λ (xs : List Arm). arm_size a + (length xs - (i + 1)) ≤ arms_size xs) c.as_slice-arm-items.ensures (sized_rest c.as_slice-arm-items.result.now i a c.loop-arm-test.true c.arm-item.is) in
+    let r : arms_size (take c.loop-arm.arm-index c.args.arms.now) + arm_size a ≤ arms_size c.args.arms.now = subst (λ (xs : List Arm). arms_size (take c.loop-arm.arm-index xs) + arm_size a ≤ arms_size xs) c.as_slice-arm-items.ensures (sum_before arm_size c.as_slice-arm-items.result.now c.loop-arm.arm-index a c.loop-arm-test.true c.arm-item.is) in
     let s = size_arm a in
-    let u = used_arm g (c.loop-arm.behind - 1) (seen_jumps c.args.jumps) in
-    let j = ap (used g) c.in_arm.ensures in
-    let inv = c.loop-arm.invariant.0 in
-    (omega (arith, r, s, c.decreases), omega (arith, r, s, u, j, inv))
+    let j = ap (used c.args.function.now) c.in_arm-inside.ensures in
+    (omega (arith, r, s, c.decreases), omega (arith, r, s, j))
 
-pub lower_arms-in_arm-requires : goal.lower_arms-in_arm-requires
-lower_arms-in_arm-requires t c =
+pub lower_arms-overflow_add-place : goal.lower_arms-overflow_add-place
+lower_arms-overflow_add-place t c =
     let few = few_arms c.args.arms.now in
-    record { again = omega (arith, few); around = omega (arith, few) }
-
-pub lower_arms-overflow_cast-behind : goal.lower_arms-overflow_cast-behind
-lower_arms-overflow_cast-behind t c = let few = few_arms c.args.arms.now in omega (arith, few)
+    let below : c.loop-arm.arm-index < length c.args.arms.now = subst (λ (xs : List Arm). c.loop-arm.arm-index < length xs) c.as_slice-arm-items.ensures c.loop-arm-test.true in
+    let inv = c.loop-arm.invariant.0 in
+    omega (arith, few, below, inv)
 
 pub lower_arms-loop-arm-init : goal.lower_arms-loop-arm-init
 lower_arms-loop-arm-init t c =
-    let low = arms_least (length c.args.function.now.locals) (map (arm_at c.args.function.now) c.args.arms.now) (seen_jumps c.args.jumps) in
-    (omega arith, omega arith, refl, omega (arith, low))
+    let g = c.args.function.now in
+    let j = seen_jumps c.args.jumps in
+    let low = arms_least g j c.args.arms.now in
+    (refl, omega arith, ap (λ (x : List Stm). x ++ arms_code (length g.locals) 0 (map (arm_at g) c.args.arms.now) j) c.new-code.ensures, omega (arith, low))
 
 pub lower_arms-loop-arm-preserved : goal.lower_arms-loop-arm-preserved
 lower_arms-loop-arm-preserved t c =
     let i = c.loop-arm.arm-index in
     let a = c.arm-item.result in
     let g = c.args.function.now in
+    let n = length g.locals in
     let arms = c.args.arms.now in
     let j = seen_jumps c.args.jumps in
-    let m = c.loop-arm.behind - 1 in
+    let rest = drop (i + 1) arms in
     let inv = c.loop-arm.invariant in
-    let below : i < length arms = subst (λ (xs : List Arm). i < length xs) c.as_slice-arm-items.ensures c.loop-arm-test.true in
-    let nx : drop i arms ≡ a ∷ drop (i + 1) arms = subst (λ (xs : List Arm). drop i xs ≡ a ∷ drop (i + 1) xs) c.as_slice-arm-items.ensures (next_item c.as_slice-arm-items.result.now i a c.loop-arm-test.true c.arm-item.is) in
-    let long = length-drop (i + 1) arms in
-    let ms : m ≡ length (drop (i + 1) arms) = omega (arith, long, inv.0, below) in
-    let body : seen_code c.in_ok-body.body ≡ stmts_at g a.body (in_arm m j) = c.in_ok-body.ensures ∙ ap (λ k. stmts_at g a.body k) c.in_arm.ensures in
-    let bcode = ap (λ (x : Code). x.code) body in
-    let btop = ap (λ (x : Code). x.top) body in
-    let rest = map (arm_at g) (drop (i + 1) arms) in
-    let n = length g.locals in
-    let tops = ap (λ (l : List Arm). arms_top n (map (arm_at g) l) j) nx ∙ top_step g j n a (drop (i + 1) arms) m ms in (
-      omega (arith, inv.0, below),
+    let nx : drop i arms ≡ a ∷ rest = subst (λ (xs : List Arm). drop i xs ≡ a ∷ drop (i + 1) xs) c.as_slice-arm-items.ensures (next_item c.as_slice-arm-items.result.now i a c.loop-arm-test.true c.arm-item.is) in
+    let body : seen_code c.in_ok-body.body ≡ stmts_at g a.body (in_arm j) = c.in_ok-body.ensures ∙ ap (λ k. stmts_at g a.body k) c.in_arm-inside.ensures in
+    let code = ap (λ (x : Code). x.code) body in
+    let top = ap (λ (x : Code). x.top) body in
+    let s : suc i ≡ i + 1 = omega arith in
+    let codes = ap (λ (l : List Arm). arms_code n i (map (arm_at g) l) j) nx ∙ code_step g j i a rest ∙ ap (λ k. arm_code n i (stmts_at g a.body (in_arm j)).code ++ arms_code n k (map (arm_at g) rest) j) s in
+    let added = c.in_ok-arm_code.ensures ∙ (ap (λ m. arm_code m c.loop-arm.place c.in_ok-body.body.code) c.len-n.ensures ∙ (ap (λ k. arm_code n k c.in_ok-body.body.code) inv.0 ∙ ap (λ (x : List Stm). arm_code n i x) code)) in
+    let tops = ap (λ (l : List Arm). arms_top n (map (arm_at g) l) j) nx ∙ top_step g j a rest in (
+      omega (arith, inv.0),
       omega (arith, inv.1),
-      ap (λ (l : List Stm). nested l rest j) (c.in_ok-code.ensures ∙ ap (λ (l : List Stm). enclosed c.loop-arm.code ∷ l) bcode) ∙
-          (sym (nested_step g j c.loop-arm.code a (drop (i + 1) arms) m ms) ∙ (ap (λ (l : List Arm). nested c.loop-arm.code (map (arm_at g) l) j) (sym nx) ∙ inv.2)),
-      omega (arith, inv.3, tops, btop),
+      ap (λ (x : List Stm). x ++ arms_code n (i + 1) (map (arm_at g) rest) j) (c.in_ok-append.ensures ∙ ap (λ (x : List Stm). c.loop-arm.code ++ x) added) ∙
+          (append_assoc c.loop-arm.code (arm_code n i (stmts_at g a.body (in_arm j)).code) (arms_code n (i + 1) (map (arm_at g) rest) j) ∙ (ap (λ (x : List Stm). c.loop-arm.code ++ x) (sym codes) ∙ inv.2)),
+      omega (arith, inv.3, tops, top),
     )
 
 pub lower_arms-returns : goal.lower_arms-returns
 lower_arms-returns t c =
     let i = c.loop-arm.arm-index in
-    let g = c.args.function.now in
     let arms = c.args.arms.now in
     let inv = c.loop-arm.invariant in
     let past : length arms ≤ i = subst (λ (xs : List Arm). length xs ≤ i) c.as_slice-arm-items.ensures c.loop-arm-test.false in
-    arms_end g (seen_jumps c.args.jumps) c.args.tests c.loop-arm.code arms i c.loop-arm.top past inv.1 inv.2 inv.3
+    arms_end c.args.function.now (seen_jumps c.args.jumps) c.loop-arm.code arms i c.loop-arm.top past inv.1 inv.2 inv.3
 
 pub lower_stmts-loop-s-preserved : goal.lower_stmts-loop-s-preserved
 lower_stmts-loop-s-preserved t c =

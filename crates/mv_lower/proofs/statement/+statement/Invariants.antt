@@ -1,5 +1,5 @@
-use Rattle.std.proofs.Common.{◌≡◌, ◌+◌, ◌*◌, ◌≤◌, ◌-◌, map, take, drop, length, max}
-use Rattle.mv_lowering.specs.Statements.{Code, nested, arms_top}
+use Rattle.std.proofs.Common.{◌≡◌, ◌+◌, ◌*◌, ◌≤◌, ◌++◌, map, take, drop, length, max}
+use Rattle.mv_lowering.specs.Statements.{Code, arms_code, arms_top}
 use Rattle.mv_lower.specs.Statements.{stmts_at, arm_at, seen_jumps, stmt_size, stmts_size, arms_size}
 use Rattle.mv_lower.proofs.statement.+statement.Given as goal
 
@@ -8,9 +8,9 @@ invariant-lower_stmts-loop-s l = (let c : Code = record { code = l.code; top = l
 
 abbrev pub invariant-lower_arms-loop-arm : goal.invariant-lower_arms-loop-arm
 invariant-lower_arms-loop-arm l =
-    (l.behind ≡ length l.arms - l.arm-index) × (length l.function.locals ≤ l.top) ×
-    (nested l.code (map (arm_at l.function) (drop l.arm-index l.arms)) (seen_jumps l.jumps) ≡ nested l.initial.code (map (arm_at l.function) l.arms) (seen_jumps l.jumps)) ×
-    (max l.top (arms_top (length l.function.locals) (map (arm_at l.function) (drop l.arm-index l.arms)) (seen_jumps l.jumps)) ≡ arms_top (length l.function.locals) (map (arm_at l.function) l.arms) (seen_jumps l.jumps))
+    (l.place ≡ l.arm-index) × (length l.function.locals ≤ l.top) ×
+    (l.code ++ arms_code (length l.function.locals) l.arm-index (map (arm_at l.function) (drop l.arm-index l.arms)) (seen_jumps l.fn.jumps) ≡ arms_code (length l.function.locals) 0 (map (arm_at l.function) l.arms) (seen_jumps l.fn.jumps)) ×
+    (max l.top (arms_top (length l.function.locals) (map (arm_at l.function) (drop l.arm-index l.arms)) (seen_jumps l.fn.jumps)) ≡ arms_top (length l.function.locals) (map (arm_at l.function) l.arms) (seen_jumps l.fn.jumps))
 
 abbrev pub decreases-lower_stmts : goal.decreases-lower_stmts
 decreases-lower_stmts l = 3 * stmts_size l.body.now + 1

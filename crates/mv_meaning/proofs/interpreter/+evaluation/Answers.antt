@@ -47,8 +47,8 @@ value_of-returns-in_err-lvalue-in-Read t c =
     (ap out-Form c.in-Read.is ∙ outs-Read c.in-Read.target)) c.count.ensures (λ le0.
     failed _ _ _ c.in_err-lvalue-in-Read.ensures))
 
-pub value_of-returns-in-Read : goal.value_of-returns-in-Read
-value_of-returns-in-Read t c =
+pub value_of-returns-in_ok-lvalue-in-Read : goal.value_of-returns-in_ok-lvalue-in-Read
+value_of-returns-in_ok-lvalue-in-Read t c =
     rw (c.read_lvalue.ensures) (begun c.args.here c.args.frame.now c.args.state.now _ (value_of-Read c.args.program.now (own_context c.args.program.now c.args.here.bound) c.args.e.now c.in-Read.target
     (ap out-Form c.in-Read.is ∙ outs-Read c.in-Read.target)) c.count.ensures (λ le0.
     on _ _ c.in_ok-lvalue-in-Read.ensures (λ le1. gave le1)))
@@ -60,120 +60,11 @@ value_of-returns-in_err-v-in-Unary t c =
     (ap out-Form c.in-Unary.is ∙ outs-Unary c.in-Unary.op c.in-Unary.a)) c.count.ensures (λ le0.
     failed _ _ _ (rw c.get.ensures at c.in_err-v-in-Unary.ensures)))
 
-pub value_of-returns-in-Unary : goal.value_of-returns-in-Unary
-value_of-returns-in-Unary t c =
+pub value_of-returns-in_ok-v-in-Unary : goal.value_of-returns-in_ok-v-in-Unary
+value_of-returns-in_ok-v-in-Unary t c =
     rw (c.unary_value.ensures) (begun c.args.here c.args.frame.now c.args.state.now _ (value_of-Unary c.args.program.now (own_context c.args.program.now c.args.here.bound) c.args.e.now c.in-Unary.op c.in-Unary.a
     (ap out-Form c.in-Unary.is ∙ outs-Unary c.in-Unary.op c.in-Unary.a)) c.count.ensures (λ le0.
     on _ _ (rw c.get.ensures at c.in_ok-v-in-Unary.ensures) (λ le1. gave le1)))
-
-pub value_of-returns-in_err-x-in-Binary : goal.value_of-returns-in_err-x-in-Binary
-value_of-returns-in_err-x-in-Binary t c =
-    let r : c.from_residual-in_err-x-in-Binary.result ≡ Err c.in_err-x-in-Binary.field-0.0 = search rules in
-    rw r (begun c.args.here c.args.frame.now c.args.state.now _ (value_of-Binary c.args.program.now (own_context c.args.program.now c.args.here.bound) c.args.e.now c.in-Binary.op c.in-Binary.a c.in-Binary.b
-    (ap out-Form c.in-Binary.is ∙ outs-Binary c.in-Binary.op c.in-Binary.a c.in-Binary.b)) c.count.ensures (λ le0.
-    failed _ _ _ (rw c.get-in-Binary.ensures at c.in_err-x-in-Binary.ensures)))
-
-pub value_of-returns-in_err-y-in-Binary : goal.value_of-returns-in_err-y-in-Binary
-value_of-returns-in_err-y-in-Binary t c =
-    let r : c.from_residual-in_err-y-in-Binary.result ≡ Err c.in_err-y-in-Binary.field-0.0 = search rules in
-    rw r (begun c.args.here c.args.frame.now c.args.state.now _ (value_of-Binary c.args.program.now (own_context c.args.program.now c.args.here.bound) c.args.e.now c.in-Binary.op c.in-Binary.a c.in-Binary.b
-    (ap out-Form c.in-Binary.is ∙ outs-Binary c.in-Binary.op c.in-Binary.a c.in-Binary.b)) c.count.ensures (λ le0.
-    on _ _ (rw c.get-in-Binary.ensures at c.in_ok-x-in-Binary.ensures) (λ le1. failed _ _ _ (rw c.get-in-Binary-2.ensures at c.in_err-y-in-Binary.ensures))))
-
-pub value_of-returns-in-Some : goal.value_of-returns-in-Some
-value_of-returns-in-Some t c =
-    begun c.args.here c.args.frame.now c.args.state.now _ (value_of-Binary c.args.program.now (own_context c.args.program.now c.args.here.bound) c.args.e.now c.in-Binary.op c.in-Binary.a c.in-Binary.b
-    (ap out-Form c.in-Binary.is ∙ outs-Binary c.in-Binary.op c.in-Binary.a c.in-Binary.b)) c.count.ensures (λ le0.
-    on _ _ (rw c.get-in-Binary.ensures at c.in_ok-x-in-Binary.ensures) (λ le1. on _ _ (rw c.get-in-Binary-2.ensures at c.in_ok-y-in-Binary.ensures) (λ le2. let h = rw c.get-in-Binary-3.ensures at c.in-Some.ensures in rw (← h) (gave le2))))
-
-pub value_of-returns-in-Binary : goal.value_of-returns-in-Binary
-value_of-returns-in-Binary t c =
-    begun c.args.here c.args.frame.now c.args.state.now _ (value_of-Binary c.args.program.now (own_context c.args.program.now c.args.here.bound) c.args.e.now c.in-Binary.op c.in-Binary.a c.in-Binary.b
-    (ap out-Form c.in-Binary.is ∙ outs-Binary c.in-Binary.op c.in-Binary.a c.in-Binary.b)) c.count.ensures (λ le0.
-    on _ _ (rw c.get-in-Binary.ensures at c.in_ok-x-in-Binary.ensures) (λ le1. on _ _ (rw c.get-in-Binary-2.ensures at c.in_ok-y-in-Binary.ensures) (λ le2. let h = rw c.get-in-Binary-3.ensures at c.in-None.ensures in rw (← h) (halted le2))))
-
-pub value_of-returns-in_err-x-in-Both : goal.value_of-returns-in_err-x-in-Both
-value_of-returns-in_err-x-in-Both t c =
-    let r : c.from_residual-in_err-x-in-Both.result ≡ Err c.in_err-x-in-Both.field-0.0 = search rules in
-    rw r (begun c.args.here c.args.frame.now c.args.state.now _ (value_of-Both c.args.program.now (own_context c.args.program.now c.args.here.bound) c.args.e.now c.in-Both.a c.in-Both.b
-    (ap out-Form c.in-Both.is ∙ outs-Both c.in-Both.a c.in-Both.b)) c.count.ensures (λ le0.
-    failed _ _ _ (rw c.get-in-Both.ensures at c.in_err-x-in-Both.ensures)))
-
-pub value_of-returns-then-x-eq0 : goal.value_of-returns-then-x-eq0
-value_of-returns-then-x-eq0 t c =
-    begun c.args.here c.args.frame.now c.args.state.now _ (value_of-Both c.args.program.now (own_context c.args.program.now c.args.here.bound) c.args.e.now c.in-Both.a c.in-Both.b
-    (ap out-Form c.in-Both.is ∙ outs-Both c.in-Both.a c.in-Both.b)) c.count.ensures (λ le0.
-    on _ _ (rw c.get-in-Both.ensures at c.in_ok-x-in-Both.ensures) (λ le1. zero_way _ _ c.if-x-eq0.true (gave le1)))
-
-pub value_of-returns-in_err-y-in-Both : goal.value_of-returns-in_err-y-in-Both
-value_of-returns-in_err-y-in-Both t c =
-    let r : c.from_residual-in_err-y-in-Both.result ≡ Err c.in_err-y-in-Both.field-0.0 = search rules in
-    rw r (begun c.args.here c.args.frame.now c.args.state.now _ (value_of-Both c.args.program.now (own_context c.args.program.now c.args.here.bound) c.args.e.now c.in-Both.a c.in-Both.b
-    (ap out-Form c.in-Both.is ∙ outs-Both c.in-Both.a c.in-Both.b)) c.count.ensures (λ le0.
-    on _ _ (rw c.get-in-Both.ensures at c.in_ok-x-in-Both.ensures) (λ le1. other_way _ _ c.if-x-eq0.false (failed _ _ _ (rw c.get-in-Both-2.ensures at c.in_err-y-in-Both.ensures)))))
-
-pub value_of-returns-then-y-eq0 : goal.value_of-returns-then-y-eq0
-value_of-returns-then-y-eq0 t c =
-    begun c.args.here c.args.frame.now c.args.state.now _ (value_of-Both c.args.program.now (own_context c.args.program.now c.args.here.bound) c.args.e.now c.in-Both.a c.in-Both.b
-    (ap out-Form c.in-Both.is ∙ outs-Both c.in-Both.a c.in-Both.b)) c.count.ensures (λ le0.
-    on _ _ (rw c.get-in-Both.ensures at c.in_ok-x-in-Both.ensures) (λ le1. other_way _ _ c.if-x-eq0.false (on _ _ (rw c.get-in-Both-2.ensures at c.in_ok-y-in-Both.ensures) (λ le2. rw (truth-zero _ c.if-y-eq0.true) (gave le2)))))
-
-pub value_of-returns-else-y-eq0 : goal.value_of-returns-else-y-eq0
-value_of-returns-else-y-eq0 t c =
-    begun c.args.here c.args.frame.now c.args.state.now _ (value_of-Both c.args.program.now (own_context c.args.program.now c.args.here.bound) c.args.e.now c.in-Both.a c.in-Both.b
-    (ap out-Form c.in-Both.is ∙ outs-Both c.in-Both.a c.in-Both.b)) c.count.ensures (λ le0.
-    on _ _ (rw c.get-in-Both.ensures at c.in_ok-x-in-Both.ensures) (λ le1. other_way _ _ c.if-x-eq0.false (on _ _ (rw c.get-in-Both-2.ensures at c.in_ok-y-in-Both.ensures) (λ le2. rw (truth-one _ c.if-y-eq0.false) (gave le2)))))
-
-pub value_of-returns-in_err-x-in-Either : goal.value_of-returns-in_err-x-in-Either
-value_of-returns-in_err-x-in-Either t c =
-    let r : c.from_residual-in_err-x-in-Either.result ≡ Err c.in_err-x-in-Either.field-0.0 = search rules in
-    rw r (begun c.args.here c.args.frame.now c.args.state.now _ (value_of-Either c.args.program.now (own_context c.args.program.now c.args.here.bound) c.args.e.now c.in-Either.a c.in-Either.b
-    (ap out-Form c.in-Either.is ∙ outs-Either c.in-Either.a c.in-Either.b)) c.count.ensures (λ le0.
-    failed _ _ _ (rw c.get-in-Either.ensures at c.in_err-x-in-Either.ensures)))
-
-pub value_of-returns-then-x-ne0 : goal.value_of-returns-then-x-ne0
-value_of-returns-then-x-ne0 t c =
-    begun c.args.here c.args.frame.now c.args.state.now _ (value_of-Either c.args.program.now (own_context c.args.program.now c.args.here.bound) c.args.e.now c.in-Either.a c.in-Either.b
-    (ap out-Form c.in-Either.is ∙ outs-Either c.in-Either.a c.in-Either.b)) c.count.ensures (λ le0.
-    on _ _ (rw c.get-in-Either.ensures at c.in_ok-x-in-Either.ensures) (λ le1. other_way _ _ c.if-x-ne0.true (gave le1)))
-
-pub value_of-returns-in_err-y-in-Either : goal.value_of-returns-in_err-y-in-Either
-value_of-returns-in_err-y-in-Either t c =
-    let r : c.from_residual-in_err-y-in-Either.result ≡ Err c.in_err-y-in-Either.field-0.0 = search rules in
-    rw r (begun c.args.here c.args.frame.now c.args.state.now _ (value_of-Either c.args.program.now (own_context c.args.program.now c.args.here.bound) c.args.e.now c.in-Either.a c.in-Either.b
-    (ap out-Form c.in-Either.is ∙ outs-Either c.in-Either.a c.in-Either.b)) c.count.ensures (λ le0.
-    on _ _ (rw c.get-in-Either.ensures at c.in_ok-x-in-Either.ensures) (λ le1. zero_way _ _ c.if-x-ne0.false (failed _ _ _ (rw c.get-in-Either-2.ensures at c.in_err-y-in-Either.ensures)))))
-
-pub value_of-returns-then-y-eq0-2 : goal.value_of-returns-then-y-eq0-2
-value_of-returns-then-y-eq0-2 t c =
-    begun c.args.here c.args.frame.now c.args.state.now _ (value_of-Either c.args.program.now (own_context c.args.program.now c.args.here.bound) c.args.e.now c.in-Either.a c.in-Either.b
-    (ap out-Form c.in-Either.is ∙ outs-Either c.in-Either.a c.in-Either.b)) c.count.ensures (λ le0.
-    on _ _ (rw c.get-in-Either.ensures at c.in_ok-x-in-Either.ensures) (λ le1. zero_way _ _ c.if-x-ne0.false (on _ _ (rw c.get-in-Either-2.ensures at c.in_ok-y-in-Either.ensures) (λ le2. rw (truth-zero _ c.if-y-eq0-2.true) (gave le2)))))
-
-pub value_of-returns-else-y-eq0-2 : goal.value_of-returns-else-y-eq0-2
-value_of-returns-else-y-eq0-2 t c =
-    begun c.args.here c.args.frame.now c.args.state.now _ (value_of-Either c.args.program.now (own_context c.args.program.now c.args.here.bound) c.args.e.now c.in-Either.a c.in-Either.b
-    (ap out-Form c.in-Either.is ∙ outs-Either c.in-Either.a c.in-Either.b)) c.count.ensures (λ le0.
-    on _ _ (rw c.get-in-Either.ensures at c.in_ok-x-in-Either.ensures) (λ le1. zero_way _ _ c.if-x-ne0.false (on _ _ (rw c.get-in-Either-2.ensures at c.in_ok-y-in-Either.ensures) (λ le2. rw (truth-one _ c.if-y-eq0-2.false) (gave le2)))))
-
-pub value_of-returns-in_err-x-in-Choose : goal.value_of-returns-in_err-x-in-Choose
-value_of-returns-in_err-x-in-Choose t c =
-    let r : c.from_residual-in_err-x-in-Choose.result ≡ Err c.in_err-x-in-Choose.field-0.0 = search rules in
-    rw r (begun c.args.here c.args.frame.now c.args.state.now _ (value_of-Choose c.args.program.now (own_context c.args.program.now c.args.here.bound) c.args.e.now c.in-Choose.c c.in-Choose.a c.in-Choose.b
-    (ap out-Form c.in-Choose.is ∙ outs-Choose c.in-Choose.c c.in-Choose.a c.in-Choose.b)) c.count.ensures (λ le0.
-    failed _ _ _ (rw c.get-in-Choose.ensures at c.in_err-x-in-Choose.ensures)))
-
-pub value_of-returns-then-x-eq0-2 : goal.value_of-returns-then-x-eq0-2
-value_of-returns-then-x-eq0-2 t c =
-    begun c.args.here c.args.frame.now c.args.state.now _ (value_of-Choose c.args.program.now (own_context c.args.program.now c.args.here.bound) c.args.e.now c.in-Choose.c c.in-Choose.a c.in-Choose.b
-    (ap out-Form c.in-Choose.is ∙ outs-Choose c.in-Choose.c c.in-Choose.a c.in-Choose.b)) c.count.ensures (λ le0.
-    on _ _ (rw c.get-in-Choose.ensures at c.in_ok-x-in-Choose.ensures) (λ le1. zero_way _ _ c.if-x-eq0-2.true (rw c.get-then-x-eq0-2.ensures at c.value_of-then-x-eq0-2.ensures)))
-
-pub value_of-returns-in-Choose : goal.value_of-returns-in-Choose
-value_of-returns-in-Choose t c =
-    begun c.args.here c.args.frame.now c.args.state.now _ (value_of-Choose c.args.program.now (own_context c.args.program.now c.args.here.bound) c.args.e.now c.in-Choose.c c.in-Choose.a c.in-Choose.b
-    (ap out-Form c.in-Choose.is ∙ outs-Choose c.in-Choose.c c.in-Choose.a c.in-Choose.b)) c.count.ensures (λ le0.
-    on _ _ (rw c.get-in-Choose.ensures at c.in_ok-x-in-Choose.ensures) (λ le1. other_way _ _ c.if-x-eq0-2.false (rw c.get-else-x-eq0-2.ensures at c.value_of-else-x-eq0-2.ensures)))
 
 pub value_of-returns-in_err-v-in-Convert : goal.value_of-returns-in_err-v-in-Convert
 value_of-returns-in_err-v-in-Convert t c =
@@ -182,83 +73,241 @@ value_of-returns-in_err-v-in-Convert t c =
     (ap out-Form c.in-Convert.is ∙ outs-Convert c.in-Convert.a)) c.count.ensures (λ le0.
     failed _ _ _ (rw c.get-in-Convert.ensures at c.in_err-v-in-Convert.ensures)))
 
-pub value_of-returns-in-Convert : goal.value_of-returns-in-Convert
-value_of-returns-in-Convert t c =
+pub value_of-returns-in_ok-v-in-Convert : goal.value_of-returns-in_ok-v-in-Convert
+value_of-returns-in_ok-v-in-Convert t c =
     rw (c.converted.ensures) (begun c.args.here c.args.frame.now c.args.state.now _ (value_of-Convert c.args.program.now (own_context c.args.program.now c.args.here.bound) c.args.e.now c.in-Convert.a
     (ap out-Form c.in-Convert.is ∙ outs-Convert c.in-Convert.a)) c.count.ensures (λ le0.
     on _ _ (rw c.get-in-Convert.ensures at c.in_ok-v-in-Convert.ensures) (λ le1. gave le1)))
 
-pub value_of-returns-in_err-lvalue-in-Set : goal.value_of-returns-in_err-lvalue-in-Set
-value_of-returns-in_err-lvalue-in-Set t c =
-    let r : c.from_residual-in_err-lvalue-in-Set.result ≡ Err c.in_err-lvalue-in-Set.field-0.0 = search rules in
-    rw r (begun c.args.here c.args.frame.now c.args.state.now _ (value_of-Set c.args.program.now (own_context c.args.program.now c.args.here.bound) c.args.e.now c.in-Set.target c.in-Set.a
-    (ap out-Form c.in-Set.is ∙ outs-Set c.in-Set.target c.in-Set.a)) c.count.ensures (λ le0.
-    failed _ _ _ c.in_err-lvalue-in-Set.ensures))
+pub value_of-returns-in-Binary : goal.value_of-returns-in-Binary
+value_of-returns-in-Binary t c =
+    let a = c.args in
+    begun a.here a.frame.now a.state.now _ (value_of-Binary a.program.now (own_context a.program.now a.here.bound) a.e.now c.in-Binary.op c.in-Binary.a c.in-Binary.b
+    (ap out-Form c.in-Binary.is ∙ outs-Binary c.in-Binary.op c.in-Binary.a c.in-Binary.b)) c.count.ensures (λ le0. rw (c.get-in-Binary.ensures, c.get-in-Binary-2.ensures) at c.value_of_binary.ensures)
 
-pub value_of-returns-in_err-v-in-Set : goal.value_of-returns-in_err-v-in-Set
-value_of-returns-in_err-v-in-Set t c =
-    let r : c.from_residual-in_err-v-in-Set.result ≡ Err c.in_err-v-in-Set.field-0.0 = search rules in
-    rw r (begun c.args.here c.args.frame.now c.args.state.now _ (value_of-Set c.args.program.now (own_context c.args.program.now c.args.here.bound) c.args.e.now c.in-Set.target c.in-Set.a
-    (ap out-Form c.in-Set.is ∙ outs-Set c.in-Set.target c.in-Set.a)) c.count.ensures (λ le0.
-    on _ _ c.in_ok-lvalue-in-Set.ensures (λ le1. failed _ _ _ (rw c.get-in-Set.ensures at c.in_err-v-in-Set.ensures))))
+pub value_of-returns-in-Both : goal.value_of-returns-in-Both
+value_of-returns-in-Both t c =
+    let a = c.args in
+    begun a.here a.frame.now a.state.now _ (value_of-Both a.program.now (own_context a.program.now a.here.bound) a.e.now c.in-Both.a c.in-Both.b
+    (ap out-Form c.in-Both.is ∙ outs-Both c.in-Both.a c.in-Both.b)) c.count.ensures (λ le0. rw (c.get-in-Both.ensures, c.get-in-Both-2.ensures) at c.value_of_both.ensures)
+
+pub value_of-returns-in-Either : goal.value_of-returns-in-Either
+value_of-returns-in-Either t c =
+    let a = c.args in
+    begun a.here a.frame.now a.state.now _ (value_of-Either a.program.now (own_context a.program.now a.here.bound) a.e.now c.in-Either.a c.in-Either.b
+    (ap out-Form c.in-Either.is ∙ outs-Either c.in-Either.a c.in-Either.b)) c.count.ensures (λ le0. rw (c.get-in-Either.ensures, c.get-in-Either-2.ensures) at c.value_of_either.ensures)
+
+pub value_of-returns-in-Choose : goal.value_of-returns-in-Choose
+value_of-returns-in-Choose t c =
+    let a = c.args in
+    begun a.here a.frame.now a.state.now _ (value_of-Choose a.program.now (own_context a.program.now a.here.bound) a.e.now c.in-Choose.c c.in-Choose.a c.in-Choose.b
+    (ap out-Form c.in-Choose.is ∙ outs-Choose c.in-Choose.c c.in-Choose.a c.in-Choose.b)) c.count.ensures (λ le0. rw (c.get-in-Choose.ensures, c.get-in-Choose-2.ensures, c.get-in-Choose-3.ensures) at c.value_of_choice.ensures)
 
 pub value_of-returns-in-Set : goal.value_of-returns-in-Set
 value_of-returns-in-Set t c =
-    rw (c.store_lvalue.ensures.globals, c.store_lvalue.ensures.locals) (begun c.args.here c.args.frame.now c.args.state.now _ (value_of-Set c.args.program.now (own_context c.args.program.now c.args.here.bound) c.args.e.now c.in-Set.target c.in-Set.a
-    (ap out-Form c.in-Set.is ∙ outs-Set c.in-Set.target c.in-Set.a)) c.count.ensures (λ le0.
-    on _ _ c.in_ok-lvalue-in-Set.ensures (λ le1. on _ _ (rw c.get-in-Set.ensures at c.in_ok-v-in-Set.ensures) (λ le2. stored_in _ _ _ _ _ le2))))
-
-pub value_of-returns-in_err-lvalue-in-Change : goal.value_of-returns-in_err-lvalue-in-Change
-value_of-returns-in_err-lvalue-in-Change t c =
-    let r : c.from_residual-in_err-lvalue-in-Change.result ≡ Err c.in_err-lvalue-in-Change.field-0.0 = search rules in
-    rw r (begun c.args.here c.args.frame.now c.args.state.now _ (value_of-Change c.args.program.now (own_context c.args.program.now c.args.here.bound) c.args.e.now c.in-Change.op c.in-Change.kind c.in-Change.target c.in-Change.a
-    (ap out-Form c.in-Change.is ∙ outs-Change c.in-Change.op c.in-Change.kind c.in-Change.target c.in-Change.a)) c.count.ensures (λ le0.
-    failed _ _ _ c.in_err-lvalue-in-Change.ensures))
-
-pub value_of-returns-in_err-v-in-Change : goal.value_of-returns-in_err-v-in-Change
-value_of-returns-in_err-v-in-Change t c =
-    let r : c.from_residual-in_err-v-in-Change.result ≡ Err c.in_err-v-in-Change.field-0.0 = search rules in
-    rw r (begun c.args.here c.args.frame.now c.args.state.now _ (value_of-Change c.args.program.now (own_context c.args.program.now c.args.here.bound) c.args.e.now c.in-Change.op c.in-Change.kind c.in-Change.target c.in-Change.a
-    (ap out-Form c.in-Change.is ∙ outs-Change c.in-Change.op c.in-Change.kind c.in-Change.target c.in-Change.a)) c.count.ensures (λ le0.
-    on _ _ c.in_ok-lvalue-in-Change.ensures (λ le1. failed _ _ _ (rw c.get-in-Change.ensures at c.in_err-v-in-Change.ensures))))
-
-pub value_of-returns-in-Some-binary_value : goal.value_of-returns-in-Some-binary_value
-value_of-returns-in-Some-binary_value t c =
-    rw (c.store_lvalue-in-Some-binary_value.ensures.globals, c.store_lvalue-in-Some-binary_value.ensures.locals) (begun c.args.here c.args.frame.now c.args.state.now _ (value_of-Change c.args.program.now (own_context c.args.program.now c.args.here.bound) c.args.e.now c.in-Change.op c.in-Change.kind c.in-Change.target c.in-Change.a
-    (ap out-Form c.in-Change.is ∙ outs-Change c.in-Change.op c.in-Change.kind c.in-Change.target c.in-Change.a)) c.count.ensures (λ le0.
-    on _ _ c.in_ok-lvalue-in-Change.ensures (λ le1. on _ _ (rw c.get-in-Change.ensures at c.in_ok-v-in-Change.ensures) (λ le2. changed c.args.program.now c.args.here c.in_ok-lvalue-in-Change.lvalue _ _ le2 c.in-Change.op c.in-Change.kind c.args.e.now.ctype c.in_ok-v-in-Change.v _ _ _ c.read_lvalue-old.ensures c.in-Some-binary_value.ensures c.converted-stored.ensures))))
+    let a = c.args in
+    begun a.here a.frame.now a.state.now _ (value_of-Set a.program.now (own_context a.program.now a.here.bound) a.e.now c.in-Set.target c.in-Set.a
+    (ap out-Form c.in-Set.is ∙ outs-Set c.in-Set.target c.in-Set.a)) c.count.ensures (λ le0. rw c.get-in-Set.ensures at c.value_of_set.ensures)
 
 pub value_of-returns-in-Change : goal.value_of-returns-in-Change
 value_of-returns-in-Change t c =
-    begun c.args.here c.args.frame.now c.args.state.now _ (value_of-Change c.args.program.now (own_context c.args.program.now c.args.here.bound) c.args.e.now c.in-Change.op c.in-Change.kind c.in-Change.target c.in-Change.a
-    (ap out-Form c.in-Change.is ∙ outs-Change c.in-Change.op c.in-Change.kind c.in-Change.target c.in-Change.a)) c.count.ensures (λ le0.
-    on _ _ c.in_ok-lvalue-in-Change.ensures (λ le1. on _ _ (rw c.get-in-Change.ensures at c.in_ok-v-in-Change.ensures) (λ le2. unchanged c.args.program.now c.args.here c.in_ok-lvalue-in-Change.lvalue _ _ le2 c.in-Change.op c.in-Change.kind c.args.e.now.ctype c.in_ok-v-in-Change.v _ c.read_lvalue-old.ensures c.in-None-binary_value.ensures)))
-
-pub value_of-returns-in_err-lvalue-in-After : goal.value_of-returns-in_err-lvalue-in-After
-value_of-returns-in_err-lvalue-in-After t c =
-    let r : c.from_residual-in_err-lvalue-in-After.result ≡ Err c.in_err-lvalue-in-After.field-0.0 = search rules in
-    rw r (begun c.args.here c.args.frame.now c.args.state.now _ (value_of-After c.args.program.now (own_context c.args.program.now c.args.here.bound) c.args.e.now c.in-After.up c.in-After.target
-    (ap out-Form c.in-After.is ∙ outs-After c.in-After.up c.in-After.target)) c.count.ensures (λ le0.
-    failed _ _ _ c.in_err-lvalue-in-After.ensures))
+    let a = c.args in
+    begun a.here a.frame.now a.state.now _ (value_of-Change a.program.now (own_context a.program.now a.here.bound) a.e.now c.in-Change.op c.in-Change.kind c.in-Change.target c.in-Change.a
+    (ap out-Form c.in-Change.is ∙ outs-Change c.in-Change.op c.in-Change.kind c.in-Change.target c.in-Change.a)) c.count.ensures (λ le0. rw c.get-in-Change.ensures at c.value_of_change.ensures)
 
 pub value_of-returns-in-After : goal.value_of-returns-in-After
 value_of-returns-in-After t c =
-    rw (c.store_lvalue-in-After.ensures.globals, c.store_lvalue-in-After.ensures.locals) (begun c.args.here c.args.frame.now c.args.state.now _ (value_of-After c.args.program.now (own_context c.args.program.now c.args.here.bound) c.args.e.now c.in-After.up c.in-After.target
-    (ap out-Form c.in-After.is ∙ outs-After c.in-After.up c.in-After.target)) c.count.ensures (λ le0.
-    on _ _ c.in_ok-lvalue-in-After.ensures (λ le1. stepped_after c.args.program.now c.args.here c.in_ok-lvalue-in-After.lvalue _ _ le1 c.in-After.up c.args.e.now.ctype _ _ _ c.read_lvalue-old-in-After.ensures c.stepped.ensures c.converted-stored-in-After.ensures)))
+    let a = c.args in
+    begun a.here a.frame.now a.state.now _ (value_of-After a.program.now (own_context a.program.now a.here.bound) a.e.now c.in-After.up c.in-After.target
+    (ap out-Form c.in-After.is ∙ outs-After c.in-After.up c.in-After.target)) c.count.ensures (λ le0. c.value_of_after.ensures)
 
-pub value_of-returns-in_err-values-in-Known : goal.value_of-returns-in_err-values-in-Known
-value_of-returns-in_err-values-in-Known t c =
-    let r : c.from_residual-in_err-values-in-Known.result ≡ Err c.in_err-values-in-Known.field-0.0 = search rules in
-    rw r (begun c.args.here c.args.frame.now c.args.state.now _ (value_of-Known c.args.program.now (own_context c.args.program.now c.args.here.bound) c.args.e.now c.in-Known.known c.in-Known.args
-    (ap out-Form c.in-Known.is ∙ outs-Known c.in-Known.known c.in-Known.args)) c.count.ensures (λ le0.
-    failed _ _ _ c.in_err-values-in-Known.ensures))
+pub value_of-returns-in-Direct : goal.value_of-returns-in-Direct
+value_of-returns-in-Direct t c =
+    let a = c.args in
+    begun a.here a.frame.now a.state.now _ (value_of-Direct a.program.now (own_context a.program.now a.here.bound) a.e.now c.in-Direct.f c.in-Direct.args
+    (ap out-Form c.in-Direct.is ∙ outs-Direct c.in-Direct.f c.in-Direct.args)) c.count.ensures (λ le0. c.value_of_call.ensures)
 
-pub value_of-returns : goal.value_of-returns
-value_of-returns t c =
-    begun c.args.here c.args.frame.now c.args.state.now _ (value_of-Known c.args.program.now (own_context c.args.program.now c.args.here.bound) c.args.e.now c.in-Known.known c.in-Known.args
-    (ap out-Form c.in-Known.is ∙ outs-Known c.in-Known.known c.in-Known.args)) c.count.ensures (λ le0.
-    on _ _ c.in_ok-values-in-Known.ensures (λ le1. c.known_value.ensures))
+pub value_of-returns-in-Through : goal.value_of-returns-in-Through
+value_of-returns-in-Through t c =
+    let a = c.args in
+    begun a.here a.frame.now a.state.now _ (value_of-Through a.program.now (own_context a.program.now a.here.bound) a.e.now c.in-Through.args c.in-Through.callee
+    (ap out-Form c.in-Through.is ∙ outs-Through c.in-Through.args c.in-Through.callee)) c.count.ensures (λ le0. rw c.get-in-Through.ensures at (c.value_of_call_through.ensures a.e.now.ctype))
+
+pub value_of-returns-in-Known : goal.value_of-returns-in-Known
+value_of-returns-in-Known t c =
+    let a = c.args in
+    begun a.here a.frame.now a.state.now _ (value_of-Known a.program.now (own_context a.program.now a.here.bound) a.e.now c.in-Known.known c.in-Known.args
+    (ap out-Form c.in-Known.is ∙ outs-Known c.in-Known.known c.in-Known.args)) c.count.ensures (λ le0. c.value_of_known.ensures)
+
+pub value_of_binary-returns-in_err-x : goal.value_of_binary-returns-in_err-x
+value_of_binary-returns-in_err-x t c =
+    let r : c.from_residual.result ≡ Err c.in_err-x.field-0.0 = search rules in
+    rw r (failed _ _ _ c.in_err-x.ensures)
+
+pub value_of_binary-returns-in_err-y : goal.value_of_binary-returns-in_err-y
+value_of_binary-returns-in_err-y t c =
+    let r : c.from_residual-in_err-y.result ≡ Err c.in_err-y.field-0.0 = search rules in
+    rw r (on _ _ c.in_ok-x.ensures (λ le1. failed _ _ _ c.in_err-y.ensures))
+
+pub value_of_binary-returns-in-Some : goal.value_of_binary-returns-in-Some
+value_of_binary-returns-in-Some t c =
+    on _ _ c.in_ok-x.ensures (λ le1. on _ _ c.in_ok-y.ensures (λ le2. rw (← c.in-Some.ensures) (gave le2)))
+
+pub value_of_binary-returns-in-None : goal.value_of_binary-returns-in-None
+value_of_binary-returns-in-None t c =
+    on _ _ c.in_ok-x.ensures (λ le1. on _ _ c.in_ok-y.ensures (λ le2. rw (← c.in-None.ensures) (halted le2)))
+
+pub value_of_both-returns-in_err-x : goal.value_of_both-returns-in_err-x
+value_of_both-returns-in_err-x t c =
+    let r : c.from_residual.result ≡ Err c.in_err-x.field-0.0 = search rules in
+    rw r (failed _ _ _ c.in_err-x.ensures)
+
+pub value_of_both-returns-then-x-eq0 : goal.value_of_both-returns-then-x-eq0
+value_of_both-returns-then-x-eq0 t c =
+    on _ _ c.in_ok-x.ensures (λ le1. zero_way _ _ c.if-x-eq0.true (gave le1))
+
+pub value_of_both-returns-in_err-y : goal.value_of_both-returns-in_err-y
+value_of_both-returns-in_err-y t c =
+    let r : c.from_residual-in_err-y.result ≡ Err c.in_err-y.field-0.0 = search rules in
+    rw r (on _ _ c.in_ok-x.ensures (λ le1. other_way _ _ c.if-x-eq0.false (failed _ _ _ c.in_err-y.ensures)))
+
+pub value_of_both-returns-then-y-eq0 : goal.value_of_both-returns-then-y-eq0
+value_of_both-returns-then-y-eq0 t c =
+    on _ _ c.in_ok-x.ensures (λ le1. other_way _ _ c.if-x-eq0.false (on _ _ c.in_ok-y.ensures (λ le2. rw (truth-zero _ c.if-y-eq0.true) (gave le2))))
+
+pub value_of_both-returns-else-y-eq0 : goal.value_of_both-returns-else-y-eq0
+value_of_both-returns-else-y-eq0 t c =
+    on _ _ c.in_ok-x.ensures (λ le1. other_way _ _ c.if-x-eq0.false (on _ _ c.in_ok-y.ensures (λ le2. rw (truth-one _ c.if-y-eq0.false) (gave le2))))
+
+pub value_of_either-returns-in_err-x : goal.value_of_either-returns-in_err-x
+value_of_either-returns-in_err-x t c =
+    let r : c.from_residual.result ≡ Err c.in_err-x.field-0.0 = search rules in
+    rw r (failed _ _ _ c.in_err-x.ensures)
+
+pub value_of_either-returns-then-x-ne0 : goal.value_of_either-returns-then-x-ne0
+value_of_either-returns-then-x-ne0 t c =
+    on _ _ c.in_ok-x.ensures (λ le1. other_way _ _ c.if-x-ne0.true (gave le1))
+
+pub value_of_either-returns-in_err-y : goal.value_of_either-returns-in_err-y
+value_of_either-returns-in_err-y t c =
+    let r : c.from_residual-in_err-y.result ≡ Err c.in_err-y.field-0.0 = search rules in
+    rw r (on _ _ c.in_ok-x.ensures (λ le1. zero_way _ _ c.if-x-ne0.false (failed _ _ _ c.in_err-y.ensures)))
+
+pub value_of_either-returns-then-y-eq0 : goal.value_of_either-returns-then-y-eq0
+value_of_either-returns-then-y-eq0 t c =
+    on _ _ c.in_ok-x.ensures (λ le1. zero_way _ _ c.if-x-ne0.false (on _ _ c.in_ok-y.ensures (λ le2. rw (truth-zero _ c.if-y-eq0.true) (gave le2))))
+
+pub value_of_either-returns-else-y-eq0 : goal.value_of_either-returns-else-y-eq0
+value_of_either-returns-else-y-eq0 t c =
+    on _ _ c.in_ok-x.ensures (λ le1. zero_way _ _ c.if-x-ne0.false (on _ _ c.in_ok-y.ensures (λ le2. rw (truth-one _ c.if-y-eq0.false) (gave le2))))
+
+pub value_of_choice-returns-in_err-x : goal.value_of_choice-returns-in_err-x
+value_of_choice-returns-in_err-x t c =
+    let r : c.from_residual.result ≡ Err c.in_err-x.field-0.0 = search rules in
+    rw r (failed _ _ _ c.in_err-x.ensures)
+
+pub value_of_choice-returns-then-x-eq0 : goal.value_of_choice-returns-then-x-eq0
+value_of_choice-returns-then-x-eq0 t c =
+    on _ _ c.in_ok-x.ensures (λ le1. zero_way _ _ c.if-x-eq0.true c.value_of-then-x-eq0.ensures)
+
+pub value_of_choice-returns-else-x-eq0 : goal.value_of_choice-returns-else-x-eq0
+value_of_choice-returns-else-x-eq0 t c =
+    on _ _ c.in_ok-x.ensures (λ le1. other_way _ _ c.if-x-eq0.false c.value_of-else-x-eq0.ensures)
+
+pub value_of_set-returns-in_err-lvalue : goal.value_of_set-returns-in_err-lvalue
+value_of_set-returns-in_err-lvalue t c =
+    let r : c.from_residual.result ≡ Err c.in_err-lvalue.field-0.0 = search rules in
+    rw r (failed _ _ _ c.in_err-lvalue.ensures)
+
+pub value_of_set-returns-in_err-v : goal.value_of_set-returns-in_err-v
+value_of_set-returns-in_err-v t c =
+    let r : c.from_residual-in_err-v.result ≡ Err c.in_err-v.field-0.0 = search rules in
+    rw r (on _ _ c.in_ok-lvalue.ensures (λ le1. failed _ _ _ c.in_err-v.ensures))
+
+pub value_of_set-returns : goal.value_of_set-returns
+value_of_set-returns t c =
+    rw (c.store_lvalue.ensures.globals, c.store_lvalue.ensures.locals) (on _ _ c.in_ok-lvalue.ensures (λ le1. on _ _ c.in_ok-v.ensures (λ le2. stored_in _ _ _ _ _ le2)))
+
+pub value_of_change-returns-in_err-lvalue : goal.value_of_change-returns-in_err-lvalue
+value_of_change-returns-in_err-lvalue t c =
+    let r : c.from_residual.result ≡ Err c.in_err-lvalue.field-0.0 = search rules in
+    rw r (failed _ _ _ c.in_err-lvalue.ensures)
+
+pub value_of_change-returns-in_err-v : goal.value_of_change-returns-in_err-v
+value_of_change-returns-in_err-v t c =
+    let r : c.from_residual-in_err-v.result ≡ Err c.in_err-v.field-0.0 = search rules in
+    rw r (on _ _ c.in_ok-lvalue.ensures (λ le1. failed _ _ _ c.in_err-v.ensures))
+
+pub value_of_change-returns-in-Some : goal.value_of_change-returns-in-Some
+value_of_change-returns-in-Some t c =
+    let a = c.args in
+    rw (c.store_lvalue.ensures.globals, c.store_lvalue.ensures.locals) (on _ _ c.in_ok-lvalue.ensures (λ le1. on _ _ c.in_ok-v.ensures (λ le2.
+    changed a.program.now a.here c.in_ok-lvalue.lvalue _ _ le2 a.change.op a.change.kind a.change.ctype c.in_ok-v.v _ _ _ c.read_lvalue-old.ensures c.in-Some.ensures c.converted-stored.ensures)))
+
+pub value_of_change-returns-in-None : goal.value_of_change-returns-in-None
+value_of_change-returns-in-None t c =
+    let a = c.args in
+    on _ _ c.in_ok-lvalue.ensures (λ le1. on _ _ c.in_ok-v.ensures (λ le2.
+    unchanged a.program.now a.here c.in_ok-lvalue.lvalue _ _ le2 a.change.op a.change.kind a.change.ctype c.in_ok-v.v _ c.read_lvalue-old.ensures c.in-None.ensures))
+
+pub value_of_after-returns-in_err-lvalue : goal.value_of_after-returns-in_err-lvalue
+value_of_after-returns-in_err-lvalue t c =
+    let r : c.from_residual.result ≡ Err c.in_err-lvalue.field-0.0 = search rules in
+    rw r (failed _ _ _ c.in_err-lvalue.ensures)
+
+pub value_of_after-returns : goal.value_of_after-returns
+value_of_after-returns t c =
+    let a = c.args in
+    rw (c.store_lvalue.ensures.globals, c.store_lvalue.ensures.locals) (on _ _ c.in_ok-lvalue.ensures (λ le1.
+    stepped_after a.program.now a.here c.in_ok-lvalue.lvalue _ _ le1 a.up a.ctype _ _ _ c.read_lvalue-old.ensures c.stepped.ensures c.converted-stored.ensures))
+
+pub value_of_call-returns-in_err-values : goal.value_of_call-returns-in_err-values
+value_of_call-returns-in_err-values t c =
+    let r : c.from_residual.result ≡ Err c.in_err-values.field-0.0 = search rules in
+    rw r (failed _ _ _ c.in_err-values.ensures)
+
+pub value_of_call-returns : goal.value_of_call-returns
+value_of_call-returns t c =
+    on _ _ c.in_ok-values.ensures (λ le1. c.call.ensures)
+
+pub value_of_known-returns-in_err-values : goal.value_of_known-returns-in_err-values
+value_of_known-returns-in_err-values t c =
+    let r : c.from_residual.result ≡ Err c.in_err-values.field-0.0 = search rules in
+    rw r (failed _ _ _ c.in_err-values.ensures)
+
+pub value_of_known-returns : goal.value_of_known-returns
+value_of_known-returns t c =
+    on _ _ c.in_ok-values.ensures (λ le1. c.known_value.ensures)
+
+pub value_of_call_through-returns-in_err-values : goal.value_of_call_through-returns-in_err-values
+value_of_call_through-returns-in_err-values t c =
+    λ type. let r : c.from_residual.result ≡ Err c.in_err-values.field-0.0 = search rules in
+    rw r (failed _ _ _ c.in_err-values.ensures)
+
+pub value_of_call_through-returns-in_err-v : goal.value_of_call_through-returns-in_err-v
+value_of_call_through-returns-in_err-v t c =
+    λ type. let r : c.from_residual-in_err-v.result ≡ Err c.in_err-v.field-0.0 = search rules in
+    rw r (on _ _ c.in_ok-values.ensures (λ le1. failed _ _ _ c.in_err-v.ensures))
+
+pub value_of_call_through-returns-then-v-eq0 : goal.value_of_call_through-returns-then-v-eq0
+value_of_call_through-returns-then-v-eq0 t c =
+    λ type.
+    let a = c.args in
+    on _ _ c.in_ok-values.ensures (λ le1. on _ _ c.in_ok-v.ensures (λ le2. through_null a.program.now a.here type c.in_ok-values.values c.value_of.new.frame c.value_of.new.state c.in_ok-v.v c.if-v-eq0.true le2))
+
+pub value_of_call_through-returns-in-Some : goal.value_of_call_through-returns-in-Some
+value_of_call_through-returns-in-Some t c =
+    λ type.
+    let a = c.args in
+    let found = sym c.function_of_number.ensures ∙ c.in-Some.is in
+    on _ _ c.in_ok-values.ensures (λ le1. on _ _ c.in_ok-v.ensures (λ le2. through_some a.program.now a.here type c.in_ok-values.values c.value_of.new.frame c.value_of.new.state c.in_ok-v.v c.in-Some.f c.if-v-eq0.false found c.call.ensures))
+
+pub value_of_call_through-returns : goal.value_of_call_through-returns
+value_of_call_through-returns t c =
+    λ type.
+    let a = c.args in
+    let found = sym c.function_of_number.ensures ∙ c.in-None.is in
+    on _ _ c.in_ok-values.ensures (λ le1. on _ _ c.in_ok-v.ensures (λ le2. through_none a.program.now a.here type c.in_ok-values.values c.value_of.new.frame c.value_of.new.state c.in_ok-v.v c.if-v-eq0.false found le2))
 
 pub lvalue_of-returns-in-Global : goal.lvalue_of-returns-in-Global
 lvalue_of-returns-in-Global t c =
@@ -445,49 +494,6 @@ value_of-returns-in-Function t c =
     begun a.here a.frame.now a.state.now (give c.number_of.result)
     (value_of-Function a.program.now context a.e.now c.in-Function.f (ap out-Form c.in-Function.is ∙ outs-Function c.in-Function.f) ∙ ap (λ n. counted 1 (give n)) number)
     c.count.ensures (λ le0. gave le0)
-
-pub value_of-returns-in_err-values-in-Direct : goal.value_of-returns-in_err-values-in-Direct
-value_of-returns-in_err-values-in-Direct t c =
-    let a = c.args in
-    let r : c.from_residual-in_err-values-in-Direct.result ≡ Err c.in_err-values-in-Direct.field-0.0 = search rules in
-    rw r (begun a.here a.frame.now a.state.now _ (value_of-Direct a.program.now (own_context a.program.now a.here.bound) a.e.now c.in-Direct.f c.in-Direct.args (ap out-Form c.in-Direct.is ∙ outs-Direct c.in-Direct.f c.in-Direct.args)) c.count.ensures (λ le0. failed _ _ _ c.in_err-values-in-Direct.ensures))
-
-pub value_of-returns-in-Direct : goal.value_of-returns-in-Direct
-value_of-returns-in-Direct t c =
-    let a = c.args in
-    begun a.here a.frame.now a.state.now _ (value_of-Direct a.program.now (own_context a.program.now a.here.bound) a.e.now c.in-Direct.f c.in-Direct.args (ap out-Form c.in-Direct.is ∙ outs-Direct c.in-Direct.f c.in-Direct.args)) c.count.ensures (λ le0. on _ _ c.in_ok-values-in-Direct.ensures (λ le1. c.call.ensures))
-
-pub value_of-returns-in_err-values-in-Through : goal.value_of-returns-in_err-values-in-Through
-value_of-returns-in_err-values-in-Through t c =
-    let a = c.args in
-    let r : c.from_residual-in_err-values-in-Through.result ≡ Err c.in_err-values-in-Through.field-0.0 = search rules in
-    rw r (begun a.here a.frame.now a.state.now _ (value_of-Through a.program.now (own_context a.program.now a.here.bound) a.e.now c.in-Through.args c.in-Through.callee (ap out-Form c.in-Through.is ∙ outs-Through c.in-Through.args c.in-Through.callee)) c.count.ensures (λ le0. failed _ _ _ c.in_err-values-in-Through.ensures))
-
-pub value_of-returns-in_err-v-in-Through : goal.value_of-returns-in_err-v-in-Through
-value_of-returns-in_err-v-in-Through t c =
-    let a = c.args in
-    let r : c.from_residual-in_err-v-in-Through.result ≡ Err c.in_err-v-in-Through.field-0.0 = search rules in
-    rw r (begun a.here a.frame.now a.state.now _ (value_of-Through a.program.now (own_context a.program.now a.here.bound) a.e.now c.in-Through.args c.in-Through.callee (ap out-Form c.in-Through.is ∙ outs-Through c.in-Through.args c.in-Through.callee)) c.count.ensures (λ le0. on _ _ c.in_ok-values-in-Through.ensures (λ le1. failed _ _ _ (rw c.get-in-Through.ensures at c.in_err-v-in-Through.ensures))))
-
-pub value_of-returns-then-v-eq0 : goal.value_of-returns-then-v-eq0
-value_of-returns-then-v-eq0 t c =
-    let a = c.args in
-    begun a.here a.frame.now a.state.now _ (value_of-Through a.program.now (own_context a.program.now a.here.bound) a.e.now c.in-Through.args c.in-Through.callee (ap out-Form c.in-Through.is ∙ outs-Through c.in-Through.args c.in-Through.callee)) c.count.ensures (λ le0. on _ _ c.in_ok-values-in-Through.ensures (λ le1. on _ _ (rw c.get-in-Through.ensures at c.in_ok-v-in-Through.ensures)
-    (λ le2. through_null a.program.now a.here a.e.now.ctype c.in_ok-values-in-Through.values c.value_of-in-Through.new.frame c.value_of-in-Through.new.state c.in_ok-v-in-Through.v c.if-v-eq0.true le2)))
-
-pub value_of-returns-in-Some-function_of_number : goal.value_of-returns-in-Some-function_of_number
-value_of-returns-in-Some-function_of_number t c =
-    let a = c.args in
-    let found = sym c.function_of_number.ensures ∙ c.in-Some-function_of_number.is in
-    begun a.here a.frame.now a.state.now _ (value_of-Through a.program.now (own_context a.program.now a.here.bound) a.e.now c.in-Through.args c.in-Through.callee (ap out-Form c.in-Through.is ∙ outs-Through c.in-Through.args c.in-Through.callee)) c.count.ensures (λ le0. on _ _ c.in_ok-values-in-Through.ensures (λ le1. on _ _ (rw c.get-in-Through.ensures at c.in_ok-v-in-Through.ensures)
-    (λ le2. through_some a.program.now a.here a.e.now.ctype c.in_ok-values-in-Through.values c.value_of-in-Through.new.frame c.value_of-in-Through.new.state c.in_ok-v-in-Through.v c.in-Some-function_of_number.f c.if-v-eq0.false found c.call-in-Some-function_of_number.ensures)))
-
-pub value_of-returns-in-Through : goal.value_of-returns-in-Through
-value_of-returns-in-Through t c =
-    let a = c.args in
-    let found = sym c.function_of_number.ensures ∙ c.in-None-function_of_number.is in
-    begun a.here a.frame.now a.state.now _ (value_of-Through a.program.now (own_context a.program.now a.here.bound) a.e.now c.in-Through.args c.in-Through.callee (ap out-Form c.in-Through.is ∙ outs-Through c.in-Through.args c.in-Through.callee)) c.count.ensures (λ le0. on _ _ c.in_ok-values-in-Through.ensures (λ le1. on _ _ (rw c.get-in-Through.ensures at c.in_ok-v-in-Through.ensures)
-    (λ le2. through_none a.program.now a.here a.e.now.ctype c.in_ok-values-in-Through.values c.value_of-in-Through.new.frame c.value_of-in-Through.new.state c.in_ok-v-in-Through.v c.if-v-eq0.false found le2)))
 
 pub optional_value-returns-in-None : goal.optional_value-returns-in-None
 optional_value-returns-in-None t c =

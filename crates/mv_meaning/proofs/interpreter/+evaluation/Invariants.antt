@@ -1,5 +1,7 @@
-use Rattle.std.proofs.Common.{◌≡◌, ◌+◌, ◌-◌, ◌*◌, ◌^◌, ◌≤◌, ◌++◌, ◌∷◌, [], map, drop}
+use Rattle.std.proofs.Common.{◌≡◌, ◌+◌, ◌-◌, ◌*◌, ◌^◌, ◌≤◌, ◌++◌, ◌∷◌, [], map, drop, max}
 use Rattle.std.specs.Prelude.{option_to_list}
+use Rattle.mv_ast.specs.declared.program.Expr.{size-Expr}
+use Rattle.mv_ast.specs.declared.program.Target.{size-Target}
 use Rattle.mv_ast.specs.Worlds.{bind, give}
 use Rattle.mv_meaning.specs.Meaning.{values_of_all, put_values, value_of}
 use Rattle.mv_meaning.specs.Runs.{totalled, own_context, exprs_outcome, stmts_outcome, while_outcome, while_from, do_outcome, do_from, for_outcome, for_from, arms_outcome, stores_outcome, world_of}
@@ -16,6 +18,36 @@ decreases-lvalue_of l = spent l.program.now l.here.bound + 3 * goal.size-lvalue_
 
 abbrev pub decreases-values_of : goal.decreases-values_of
 decreases-values_of l = spent l.program.now l.here.bound + (3 * goal.size-values_of l + 1)
+
+abbrev pub decreases-value_of_binary : goal.decreases-value_of_binary
+decreases-value_of_binary l = spent l.program.now l.here.bound + (3 * max (size-Expr l.a.now) (size-Expr l.b.now) + 1)
+
+abbrev pub decreases-value_of_both : goal.decreases-value_of_both
+decreases-value_of_both l = spent l.program.now l.here.bound + (3 * max (size-Expr l.a.now) (size-Expr l.b.now) + 1)
+
+abbrev pub decreases-value_of_either : goal.decreases-value_of_either
+decreases-value_of_either l = spent l.program.now l.here.bound + (3 * max (size-Expr l.a.now) (size-Expr l.b.now) + 1)
+
+abbrev pub decreases-value_of_choice : goal.decreases-value_of_choice
+decreases-value_of_choice l = spent l.program.now l.here.bound + (3 * max (size-Expr l.c.now) (max (size-Expr l.a.now) (size-Expr l.b.now)) + 1)
+
+abbrev pub decreases-value_of_set : goal.decreases-value_of_set
+decreases-value_of_set l = spent l.program.now l.here.bound + (3 * max (size-Target l.target.now) (size-Expr l.a.now) + 1)
+
+abbrev pub decreases-value_of_change : goal.decreases-value_of_change
+decreases-value_of_change l = spent l.program.now l.here.bound + (3 * max (size-Target l.target.now) (size-Expr l.a.now) + 1)
+
+abbrev pub decreases-value_of_after : goal.decreases-value_of_after
+decreases-value_of_after l = spent l.program.now l.here.bound + (3 * size-Target l.target.now + 1)
+
+abbrev pub decreases-value_of_call : goal.decreases-value_of_call
+decreases-value_of_call l = spent l.program.now l.here.bound + (3 * exprs_depth l.args.now + 2)
+
+abbrev pub decreases-value_of_call_through : goal.decreases-value_of_call_through
+decreases-value_of_call_through l = spent l.program.now l.here.bound + (3 * max (exprs_depth l.args.now) (size-Expr l.callee.now) + 2)
+
+abbrev pub decreases-value_of_known : goal.decreases-value_of_known
+decreases-value_of_known l = spent l.program.now l.here.bound + (3 * exprs_depth l.args.now + 2)
 
 abbrev pub decreases-optional_value : goal.decreases-optional_value
 decreases-optional_value l = spent l.program.now l.here.bound + (3 * optional_depth l.e.now + 1)

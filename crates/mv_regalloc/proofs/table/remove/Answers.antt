@@ -10,7 +10,7 @@ returns-clause-table c =
     let temp = c.args.temp in
     let s' = c.note_begin.new.table in
     let h = c.note_begin.ensures in
-    subst (λ r. IsTable r s') (sym c.remove.ensures) (removed_table row temp c.args.table.now (slice_set row temp false) s' (removed_sub row temp c.args.table.now) h.positions h.ends h.begins.long c.requires.table)
+    subst (λ r. IsTable r s') (sym c.remove.ensures) (removed_table row temp c.args.table.now (slice_set row temp false) s' (removed_sub row temp c.args.table.now) h.positions h.ends h.begun h.begins c.requires.table)
 
 pub returns-clause-told : goal.returns-clause-told
 returns-clause-told c =
@@ -18,4 +18,4 @@ returns-clause-told c =
     let temp = c.args.temp in
     let s' = c.note_begin.new.table in
     let h = c.note_begin.ensures in
-    ap (λ r. told r s') c.remove.ensures ∙ removed_told row temp c.args.table.now s' h.positions h.ends h.begins
+    ap (λ r. told r s') c.remove.ensures ∙ removed_told row temp c.args.table.now s' h.positions h.ends h.begun h.begins

@@ -1,7 +1,8 @@
 use Rattle.std.proofs.Common.{◌≡◌, ◌+◌, ◌<◌, true, length, take, sym, ap, ◌∙◌, subst}
 use Rattle.std.specs.Prelude.{slice_index, slice_set}
 use Rattle.mv_regalloc.specs.Rows.{Bits, with_temps}
-use Rattle.mv_regalloc.specs.Tables.{Marks, told}
+use Rattle.mv_regalloc.specs.Spanned.{Marks}
+use Rattle.mv_regalloc.specs.Tables.{told}
 use Rattle.mv_regalloc.proofs.BitEquations.{temps_long, temps_more}
 use Rattle.mv_regalloc.proofs.walk.read.Goals as goal
 

@@ -4,8 +4,8 @@ use Rattle.mv_regalloc.specs.LiveBits.{in_word}
 use Rattle.mv_regalloc.proofs.WordBits.{words_set, bit_set, one_more, at_any}
 use Rattle.mv_regalloc.proofs.words.set_bit.Goals as goal
 
-pub returns : goal.returns
-returns c = λ t.
+pub returns-clause-bit : goal.returns-clause-bit
+returns-clause-bit c = λ t.
     let words = c.grow.new.words.items in
     let u = c.args.temp in
     let room : u / 64 < length words = omega (arith, c.in_ok-grow.ensures.long) in

@@ -7,4 +7,4 @@ pub loop-temp-preserved : goal.loop-temp-preserved
 loop-temp-preserved c =
     let temps = c.args.temps.now in
     let i = c.loop-temp.temp-index in
-    c.in_ok-insert.ensures ∙ ap (λ b. slice_set b (slice_index temps i) true) c.loop-temp.invariant ∙ sym (temps_more temps i 0 c.args.self.now c.loop-temp-test.true)
+    c.in_ok-insert.ensures.row ∙ ap (λ b. slice_set b (slice_index temps i) true) c.loop-temp.invariant ∙ sym (temps_more temps i 0 c.args.self.now c.loop-temp-test.true)

@@ -1,11 +1,12 @@
-use Rattle.std.proofs.Common.{subst}
-use Rattle.mv_regalloc.specs.Tables.{IsTurned}
+use Rattle.std.proofs.Common.{ap, ◌∙◌, refl}
+use Rattle.mv_ir.specs.Live.{mark_at}
+use Rattle.mv_regalloc.specs.declared.table.Table.{Table}
 use Rattle.mv_regalloc.proofs.TableSteps.{turned_none}
+use Rattle.mv_regalloc.proofs.BodySpans.{clear_at}
 use Rattle.mv_regalloc.proofs.table.Spans.of_table.Goals as goal
 
 pub returns : goal.returns
 returns c =
-    let held = c.args.held.now in
     let s = c.args.table in
-    let s' = c.turn_rows-2.new.table in
-    turned_none held 0 s s' c.requires (subst (λ r. IsTurned held r s s') c.none.ensures c.turn_rows-2.ensures)
+    let s' : Table = record { positions = s.positions; begins = c.raise_row-2.new.begins; ends = s.ends; begun = s.begun } in
+    turned_none c.args.held.now c.none.result s s' (λ t. ap (λ b. mark_at b t) c.none.ensures ∙ clear_at 0 t) c.requires refl refl c.raise_row-2.ensures

@@ -6,9 +6,11 @@ use Rattle.mv_regalloc.proofs.walk.Walk.new.Goals as goal
 pub invariant_of-result : goal.invariant_of-result
 invariant_of-result c =
     let s = c.in_ok-none.field-0 in
-    subst (λ r. IsTable r s) (sym c.none.ensures) (none_table c.args.temps s c.in_ok-none.ensures.begins c.in_ok-none.ensures.ends)
+    let h = c.in_ok-none.ensures in
+    subst (λ r. IsTable r s) (sym c.none.ensures) (none_table c.args.temps s h.positions h.begins h.ends h.begun)
 
 pub returns-clause-spans : goal.returns-clause-spans
 returns-clause-spans c =
     let s = c.in_ok-none.field-0 in
-    ap (λ r. told r s) c.none.ensures ∙ none_told c.args.temps s c.in_ok-none.ensures.positions c.in_ok-none.ensures.begins c.in_ok-none.ensures.ends
+    let h = c.in_ok-none.ensures in
+    ap (λ r. told r s) c.none.ensures ∙ none_told c.args.temps s h.positions h.begins h.ends h.begun

@@ -1,0 +1,12 @@
+//! The code of statements without control: what stores, divides, reads and writes elements, and returns.
+#![tactic(auto)]
+
+pub mod elements;
+mod instructions;
+mod laws;
+pub mod values;
+
+pub use laws::statement_code_law;
+
+#[cfg(test)]
+mod tests;

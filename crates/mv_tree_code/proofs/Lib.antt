@@ -1,0 +1,10 @@
+pub mod Equations
+pub mod Gives
+pub mod Instructions
+pub mod OperatorsGive
+pub mod Registers
+pub mod Rolls
+pub mod TreesAreShort
+pub mod TreesFit
+pub mod TreesRun
+pub mod Words
