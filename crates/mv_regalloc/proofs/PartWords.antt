@@ -1,9 +1,9 @@
 -- Words by their places in parts: one step of the way to a word, and what a new part changes.
-use Rattle.std.proofs.Common.{arith, ◌≡◌, ℕ, zero, suc, ◌-◌, ◌/◌, ◌%◌, ◌<◌, ◌≤◌, true, false, Bool, cond, eqb, not, List, [], ◌∷◌, ◌++◌, length, refl, sym, ap, ◌∙◌, ◌⊎◌, inl, inr, bit_or, ◌*◌, ◌||◌, ◌+◌, rules}
+use Rattle.std.proofs.Common.{arith, ◌≡◌, ℕ, zero, suc, ◌-◌, ◌/◌, ◌%◌, ◌<◌, ◌≤◌, true, false, Bool, cond, eqb, not, List, [], ◌∷◌, ◌++◌, length, refl, sym, ap, ◌∙◌, ◌⊎◌, inl, inr, bit_or, ◌*◌, ◌||◌, ◌+◌}
 use Rattle.std.proofs.lemmas.List.{get_or_append_left, get_or_past, length-append}
 use Rattle.std.proofs.Math.Seq.{get_or-append_seam}
 use Rattle.std.proofs.lemmas.Bool.{cases_eq, cases_lt, eq-eqb, ne_eqb}
-use Rattle.std.specs.Prelude.{Result, Ok, Err, IfOk, OnErr}
+use Rattle.std.specs.Prelude.{Result, Ok, Err, IfOk, OnErr, OnOk}
 use Rattle.std.proofs.lemmas.Result.{IfOk-weaker}
 use Rattle.mv_regalloc.specs.declared.parts.Part.{Part}
 use Rattle.mv_regalloc.specs.Scan.{has}
@@ -15,6 +15,14 @@ if_ok_by {P} {Q} r h k = IfOk-weaker r P Q h k
 pub on_err_of : {T E P : Type 0} (r : Result T E) → P → OnErr r P
 on_err_of (Ok x) p = tt
 on_err_of (Err e) p = p
+
+pub on_either : {T E P Q R : Type 0} (r : Result T E) → (P → R) → (Q → R) → OnOk r P → OnErr r Q → R
+on_either (Ok x) f g p q = f p
+on_either (Err e) f g p q = g q
+
+pub if_ok_and : {T E Q : Type 0} {P R : T → Type 0} (r : Result T E) → ((x : T) → P x → Q → R x) → IfOk r P → OnOk r Q → IfOk r R
+if_ok_and (Ok x) f p q = f x p q
+if_ok_and (Err e) f p q = tt
 
 -- ---- the way to a word
 
@@ -115,17 +123,6 @@ keeps_same parts = record { long = omega arith; words = λ number place l. refl 
 
 pub keeps_two : (a b d : List Part) → Keeps a b → Keeps b d → Keeps a d
 keeps_two a b d h k = record { long = (let l = h.long in let m = k.long in omega (arith, l, m)); words = λ number place l. k.words number place (let m = h.long in omega (arith, l, m)) ∙ h.words number place l }
-
-pub first_are : AreParts (no_part ∷ [])
-first_are = record { some = omega arith; first = refl; odd = λ number l. by number l; even = λ number l. by' number l }
-  where
-    by : (number : ℕ) → 0 < number → (part_at (no_part ∷ []) number).odd < number
-    by zero l = absurd (omega (arith, l))
-    by (suc n) l = l
-
-    by' : (number : ℕ) → 0 < number → (part_at (no_part ∷ []) number).even < number
-    by' zero l = absurd (omega (arith, l))
-    by' (suc n) l = l
 
 -- ---- another word at a place
 
@@ -273,12 +270,3 @@ same_if a b h = by (cases_eq a b)
     by : (a ≡ b) ⊎ (a ≡ b → ⊥) → a ≡ b
     by (inl e) = e
     by (inr n) = let d : true ≡ false = sym (ap not (ne_eqb a b n)) ∙ h in absurd cc
-
-module _ (parts : List Part) (are : AreParts parts) where
-  pub odd_low : (number : ℕ) → (part_at parts number).odd ≤ number
-  odd_low zero = let e = ap (λ q. q.odd) are.first in omega (arith, e)
-  odd_low (suc n) = let l = are.odd (suc n) (omega arith) in omega (arith, l)
-
-  pub even_low : (number : ℕ) → (part_at parts number).even ≤ number
-  even_low zero = let e = ap (λ q. q.even) are.first in omega (arith, e)
-  even_low (suc n) = let l = are.even (suc n) (omega arith) in omega (arith, l)

@@ -15,7 +15,7 @@ use Rattle.mv_regalloc.specs.Rows.{Bits, either_bits}
 use Rattle.mv_regalloc.specs.declared.liveness.Row.{Row}
 use Rattle.mv_regalloc.specs.declared.liveness.Row.TheVariants.{Empty, Live, Marked, Saved, Behind, Start}
 use Rattle.mv_regalloc.specs.Shared.{LiveSets, Numbered, AreWithin, bits_at, entered, forgotten, number_of, row_of, sets_at, with_live, with_saved}
-use Rattle.mv_regalloc.proofs.LiveSets.{at_get, same_bits, past_bit, either_or}
+use Rattle.mv_regalloc.proofs.BitLists.{at_get, same_bits, past_bit, either_or}
 use Rattle.mv_regalloc.proofs.RowBits.{set_bit, either_long}
 use Rattle.mv_regalloc.proofs.WordBits.{bits_either, none_in}
 
@@ -118,15 +118,6 @@ module _ (n : ℕ) (a b : List Part) (keeps : Keeps a b) where
   }
 
   module _ (ns : Numbered) (within : AreWithin a ns) (number : ℕ) where
-    pub within_kept : number < length b → AreWithin b (record ns { live = number })
-    within_kept l = record {
-      live = l;
-      marked = (let m = within.marked in let long = keeps.long in omega (arith, m, long));
-      saved = all_more (λ x. x) (reverse ns.saved) within.saved;
-      behind = all_more (λ x. x.behind) (reverse ns.levels) within.behind;
-      start = all_more (λ x. x.start) (reverse ns.levels) within.start;
-    }
-
     pub sets_kept : (bits : Bits) → bits_at n b number ≡ bits → sets_at n b (record ns { live = number }) ≡ with_live (sets_at n a ns) bits
     sets_kept bits e = λ i. record {
       live = e i;

@@ -9,9 +9,9 @@ use Rattle.mv_regalloc.specs.declared.table.Table.{Table}
 use Rattle.mv_regalloc.specs.LiveBits.{word_bit}
 use Rattle.mv_regalloc.specs.Rows.{Bits}
 use Rattle.mv_regalloc.specs.Spanned.{SoFar, Marks, Adds, no_spans, shown, IsSuspended, IsResumed}
-use Rattle.mv_regalloc.specs.Tables.{begin_of, AreEntered, IsPut, IsTable, IsTurned, Walked, spans_in, told}
+use Rattle.mv_regalloc.specs.Tables.{begin_of, AreEntered, IsPut, IsTable, IsTurned, spans_in, told}
 use Rattle.mv_regalloc.proofs.RowBits.{set_bit}
-use Rattle.mv_regalloc.proofs.LiveSets.{past_bit, set_past}
+use Rattle.mv_regalloc.proofs.BitLists.{past_bit, set_past}
 use Rattle.mv_regalloc.proofs.BodySpans.{clear_at, zeros_at}
 use Rattle.mv_regalloc.proofs.Putting.{put_none}
 use Rattle.mv_regalloc.proofs.Adding.{marks_add}
@@ -194,6 +194,20 @@ turned_none held none s s' clear low p e h = λ i. record { positions = p i; beg
         ap (λ c. cond c s.positions (slice_index s.begins t)) (ap (λ c. mark_at held t && not c) (clear t) ∙ out (mark_at held t)) ∙ sym (told_at held s t l'))
 
 -- ---- rows that are set aside
+
+pub told_empty : (none : Bits) (s : Table) → ((t : ℕ) → mark_at none t ≡ false) → told none s ≡ told [] s
+told_empty none s h = same_told [] none s s refl refl refl refl (λ t l. ap (λ c. cond c s.positions (slice_index s.begins t)) (h t))
+
+pub suspended_as : (held last : Bits) (at : ℕ) (s s' : SoFar) → ((t : ℕ) → mark_at held t ≡ mark_at last t) → IsSuspended last at s s' → IsSuspended held at s s'
+suspended_as held last at s s' e h = record {
+  last = h.last;
+  positions = h.positions;
+  ends = h.ends;
+  begun = h.begun;
+  begins_long = h.begins_long;
+  begins = λ t l. h.begins t l ∙ ap (λ c. cond c at (slice_index s'.begins t)) (sym (e t));
+  low = h.low;
+}
 
 pub suspended : (last : Bits) (s : Table) → ((t : ℕ) → t < length s.begins → slice_index s.begins t ≤ s.positions) → IsSuspended last s.positions (told last s) (told [] s)
 suspended last s low = record {
@@ -423,5 +437,5 @@ module _ (row : Bits) (temp : ℕ) (s : Table) where
 
 -- ---- a walk
 
-pub walk_adds : (w : Walked) (row last marked marked' : Bits) (s : Table) (s' : SoFar) → record { live = row; spans = told last s } ≡ w → marked ≡ marked' → Marks marked (told last s) s' → Adds (marked' ∷ []) w.spans s'
-walk_adds w row last marked marked' s s' v e m = subst (λ x. Adds (marked' ∷ []) x s') (ap (λ o. o.spans) v) (subst (λ b. Adds (b ∷ []) (told last s) s') e (marks_add marked (told last s) s' m))
+pub walk_adds : (spans : SoFar) (last marked marked' : Bits) (s : Table) (s' : SoFar) → told last s ≡ spans → marked ≡ marked' → Marks marked (told last s) s' → Adds (marked' ∷ []) spans s'
+walk_adds spans last marked marked' s s' v e m = subst (λ x. Adds (marked' ∷ []) x s') v (subst (λ b. Adds (b ∷ []) (told last s) s') e (marks_add marked (told last s) s' m))

@@ -1,11 +1,13 @@
 -- What is live where a walk stands, with the sets that it keeps, over sets that share their parts.
-use Rattle.std.specs.Prelude.{ℕ, ◌/◌, ◌<◌, false, List, ◌∷◌, drop, length, map, replicate, reverse, slice_index_or}
+use Rattle.std.specs.Prelude.{ℕ, ◌≡◌, ◌/◌, ◌<◌, Bool, false, true, List, ◌∷◌, drop, length, map, replicate, reverse, slice_index_or}
 use Rattle.std.specs.List.{All, range_with_len}
 use Rattle.mv_regalloc.specs.declared.liveness.Level.{Level}
 use Rattle.mv_regalloc.specs.declared.liveness.Numbers.{Numbers}
 use Rattle.mv_regalloc.specs.declared.liveness.Row.{Row}
 use Rattle.mv_regalloc.specs.declared.liveness.Row.TheVariants.{Empty, Live, Marked, Saved, Behind, Start}
 use Rattle.mv_regalloc.specs.declared.parts.Part.{Part}
+use Rattle.mv_ir.specs.Live.{mark_at}
+use Rattle.mv_regalloc.specs.Scan.{has}
 use Rattle.mv_regalloc.specs.LiveBits.{in_word}
 use Rattle.mv_regalloc.specs.Parts.{word_of}
 use Rattle.mv_regalloc.specs.Rows.{Bits, Enclosing, inside, outside}
@@ -25,6 +27,15 @@ row_of s Marked = s.marked
 row_of s (Saved k) = slice_index_or s.saved k s.around.none
 row_of s (Behind k) = slice_index_or s.around.leaves k s.around.none
 row_of s (Start k) = slice_index_or s.around.restarts k s.around.none
+
+-- whether it is one of those that stay until they are forgotten or left
+abbrev pub is_kept : Row → Bool
+is_kept Marked = false
+is_kept _ = true
+
+-- at all places but some the bits of two are the same
+abbrev pub AreApart : List ℕ → Bits → Bits → Type 0
+AreApart places xs ys = (t : ℕ) → has (t / 64) places ≡ false → mark_at xs t ≡ mark_at ys t
 
 abbrev pub with_live : LiveSets → Bits → LiveSets
 with_live s bits = record s { live = bits }

@@ -4,9 +4,8 @@
 ghost use Rattle.std.specs.Prelude.{ℕ, ◌≡◌, ◌<◌, ◌≤◌, ◌/◌, IfOk, OnErr, OnOk, MatchOption, false, true, [], drop, length, replicate, reverse, slice_index_or, slice_set};
 ghost use Rattle.mv_ir.specs.Live.{mark_at};
 ghost use Rattle.mv_regalloc.specs.LiveBits.{in_word};
-ghost use Rattle.mv_regalloc.specs.Scan.{has};
 ghost use Rattle.mv_regalloc.specs.Rows.{either_bits, put_bit, with_temps};
-ghost use Rattle.mv_regalloc.specs.Shared.{entered, forgotten, held, left, number_of, numbered, row_of, with_live, with_saved};
+ghost use Rattle.mv_regalloc.specs.Shared.{AreApart, entered, forgotten, held, left, number_of, numbered, row_of, with_live, with_saved};
 
 use crate::parts::Parts;
 use crate::words::{below, cleared, has_bit, set};
@@ -155,8 +154,8 @@ impl Liveness {
 
     /// The places of 64 temporaries where two sets may differ.
     pub fn apart(&self, alloc: Global, one: Row, other: Row) -> Result<Vec<u32>, AllocError>
-        ensures { IfOk result (λ places.
-            (t : ℕ) → has (t / 64) places.items ≡ false → mark_at (row_of self.now one) t ≡ mark_at (row_of self.now other) t) }
+        ensures apart { IfOk result (λ places. AreApart places.items (row_of self.now one) (row_of self.now other)) }
+        ensures empty { (t : ℕ) → mark_at self.now.around.none t ≡ false }
     {
         let none = self.parts.none();
         let one = self.numbers.of(one, none);
@@ -231,6 +230,7 @@ impl Liveness {
 
     /// Puts a set aside.
     pub fn save(&mut self, row: Row) -> Result<(), AllocError>
+        ensures empty { OnOk result ((t : ℕ) → mark_at self.old.around.none t ≡ false) }
         ensures ok { OnOk result (self.new ≡ with_saved self.old (row_of self.old row)) }
         ensures err { OnErr result (self.new ≡ self.old) }
     {

@@ -1,4 +1,4 @@
-use Rattle.std.proofs.Common.{◌∷◌, [], ℕ, ◌≡◌, false, true, sym, ap, ◌∙◌}
+use Rattle.std.proofs.Common.{◌∷◌, [], sym, ap, ◌∙◌}
 use Rattle.mv_regalloc.specs.Scan.{has}
 use Rattle.mv_regalloc.proofs.PartWords.{listed_before, listed_last}
 use Rattle.mv_regalloc.proofs.parts.list_if.Goals as goal
