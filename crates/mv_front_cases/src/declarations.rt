@@ -7,6 +7,7 @@ use mv_declarations::specifiers::specs;
 use mv_nodes::fault::Fault;
 use mv_num::kind::Kind;
 use mv_num::list::List;
+use mv_num::results::both;
 use std::alloc::{AllocError, Global};
 use std::test::Fail;
 
@@ -46,18 +47,22 @@ fn piece_of(alloc: Global, byte: u8) -> Result<Piece, AllocError> {
 }
 
 /// The name `m` is spelt `multiverse`.
+fn token_of(alloc: Global, byte: u8) -> Result<Token, AllocError> {
+    Ok(Token {
+        place: Place { line: 1, column: 1 },
+        start: 0,
+        stop: if byte == b'm' { 10 } else { 1 },
+        what: piece_of(alloc, byte)?,
+    })
+}
+
 fn tokens_of(alloc: Global, text: &[u8]) -> Result<List<Token>, AllocError> {
     let mut tokens = List::new(alloc);
-    let place = Place { line: 1, column: 1 };
     for byte in text {
-        let what = piece_of(alloc, *byte)?;
-        let stop = if *byte == b'm' { 10 } else { 1 };
-        tokens.push(Token {
-            place,
-            start: 0,
-            stop,
-            what,
-        })?;
+        let (mut before, token) = both(tokens, token_of(alloc, *byte))?;
+        let pushed = before.push(token);
+        let (after, ()) = both(before, pushed)?;
+        tokens = after;
     }
     Ok(tokens)
 }
@@ -92,10 +97,16 @@ fn failure_of(fault: Fault) -> Outcome {
 
 fn outcome_of_specs(alloc: Global, text: &[u8]) -> Result<Outcome, AllocError> {
     let tokens = tokens_of(alloc, text)?;
-    Ok(match specs(alloc, SOURCE.as_bytes(), tokens.as_slice()) {
-        Ok((specs, rest)) => seen(&specs, rest.len()),
+    let outcome = match specs(alloc, SOURCE.as_bytes(), tokens.as_slice()) {
+        Ok((specs, rest)) => {
+            let outcome = seen(&specs, rest.len());
+            drop(specs);
+            outcome
+        }
         Err(fault) => failure_of(fault),
-    })
+    };
+    drop(tokens);
+    Ok(outcome)
 }
 
 fn seen(specs: &Specs, left: usize) -> Outcome {
@@ -111,12 +122,16 @@ fn seen(specs: &Specs, left: usize) -> Outcome {
 
 fn outcome_of_declared(alloc: Global, text: &[u8]) -> Result<Outcome, AllocError> {
     let tokens = tokens_of(alloc, text)?;
-    Ok(
-        match declared(alloc, SOURCE.as_bytes(), tokens.as_slice()) {
-            Ok((declarator, rest)) => form_of(declarator.get(), rest.len()),
-            Err(fault) => failure_of(fault),
-        },
-    )
+    let outcome = match declared(alloc, SOURCE.as_bytes(), tokens.as_slice()) {
+        Ok((declarator, rest)) => {
+            let outcome = form_of(declarator.get(), rest.len());
+            drop(declarator);
+            outcome
+        }
+        Err(fault) => failure_of(fault),
+    };
+    drop(tokens);
+    Ok(outcome)
 }
 
 fn form_of(declarator: &Declarator, left: usize) -> Outcome {
@@ -145,20 +160,30 @@ fn shape_of(shape: &Shape, left: usize) -> Outcome {
 
 fn outcome_of_list(alloc: Global, text: &[u8]) -> Result<Outcome, AllocError> {
     let tokens = tokens_of(alloc, text)?;
-    Ok(
-        match declared_list(alloc, SOURCE.as_bytes(), tokens.as_slice()) {
-            Ok((names, rest)) => Outcome::Many(names.len(), rest.len()),
-            Err(fault) => failure_of(fault),
-        },
-    )
+    let outcome = match declared_list(alloc, SOURCE.as_bytes(), tokens.as_slice()) {
+        Ok((names, rest)) => {
+            let outcome = Outcome::Many(names.len(), rest.len());
+            drop(names);
+            outcome
+        }
+        Err(fault) => failure_of(fault),
+    };
+    drop(tokens);
+    Ok(outcome)
 }
 
 fn outcome_of_params(alloc: Global, text: &[u8]) -> Result<Outcome, AllocError> {
     let tokens = tokens_of(alloc, text)?;
-    Ok(match params(alloc, SOURCE.as_bytes(), tokens.as_slice()) {
-        Ok((params, rest)) => Outcome::Many(params.len(), rest.len()),
+    let outcome = match params(alloc, SOURCE.as_bytes(), tokens.as_slice()) {
+        Ok((params, rest)) => {
+            let outcome = Outcome::Many(params.len(), rest.len());
+            drop(params);
+            outcome
+        }
         Err(fault) => failure_of(fault),
-    })
+    };
+    drop(tokens);
+    Ok(outcome)
 }
 
 const SPECIFIERS: [(&str, Outcome); 25] = [

@@ -123,7 +123,10 @@ fn enumerated(
     };
     members.push(other).expect(rt, "memory");
     let mut scope = Scope::new(alloc);
-    enumerators(alloc, &mut scope, members.as_slice())
+    let values = enumerators(alloc, &mut scope, members.as_slice());
+    drop(scope);
+    drop(members);
+    values
 }
 
 #[test]
@@ -148,7 +151,11 @@ fn local_fault(
     let names = single(rt, alloc, declarator(rt, alloc, shape, initial));
     let specs = word(rt, alloc, type_word);
     let mut scope = Scope::new(alloc);
-    declare_locals(alloc, &mut scope, &specs, &names).err()
+    let clears = declare_locals(alloc, &mut scope, &specs, &names);
+    drop(scope);
+    drop(specs);
+    drop(names);
+    clears.err()
 }
 
 fn value(n: u32) -> Option<Initial> {
@@ -204,8 +211,12 @@ fn parameter_fault(rt: &impl Abort, alloc: Global, type_word: u8) -> Option<Rule
         specs: word(rt, alloc, type_word),
         name: declarator(rt, alloc, Shape::Plain, None),
     };
+    let params = single(rt, alloc, param);
     let mut scope = Scope::new(alloc);
-    declare_parameters(alloc, &mut scope, &single(rt, alloc, param)).err()
+    let declared = declare_parameters(alloc, &mut scope, &params);
+    drop(scope);
+    drop(params);
+    declared.err()
 }
 
 #[test]
@@ -233,7 +244,11 @@ fn domain_fault(
     specs.marks = single(rt, alloc, mark);
     let names = single(rt, alloc, declarator(rt, alloc, shape, None));
     let mut scope = Scope::new(alloc);
-    specifiers(alloc, &mut scope, Position::File, names.as_slice(), &specs).err()
+    let base = specifiers(alloc, &mut scope, Position::File, names.as_slice(), &specs);
+    drop(scope);
+    drop(specs);
+    drop(names);
+    base.err()
 }
 
 #[test]
@@ -260,7 +275,11 @@ fn string_words(
     };
     let bytes = Vec::from_slice(alloc, bytes).expect(rt, "memory");
     let initial = Some(Initial::Chars(List::from_vec(bytes)));
-    global_words(alloc, at(20), local, &initial, &Scope::new(alloc))
+    let scope = Scope::new(alloc);
+    let words = global_words(alloc, at(20), local, &initial, &scope);
+    drop(scope);
+    drop(initial);
+    words
 }
 
 // The 0 behind a string is left out where there is no room for it (C11 6.7.9p14).
@@ -282,6 +301,10 @@ fn global_array(rt: &impl Abort, alloc: Global) -> Local {
     let mut scope = Scope::new(alloc);
     let base = specifiers(alloc, &mut scope, Position::File, &[], &specs).expect(rt, "good");
     let designated = file_declarator(alloc, &mut scope, &base, &x).expect(rt, "good");
+    drop(scope);
+    drop(base);
+    drop(specs);
+    drop(x);
     object_type(at(20), designated.entity, &None).expect(rt, "good")
 }
 
@@ -303,5 +326,6 @@ fn domain_of_an_enumeration(rt: HostRuntime) {
     scope.enumerations = single(&rt, alloc, List::from_vec(values));
     let attribute = Attribute { values: None };
     let domain = domain_of(alloc, &scope, Some(0), attribute).expect(&rt, "memory");
+    drop(scope);
     assert_eq!(rt; domain.as_slice(), &[3, 5][..]);
 }

@@ -3,6 +3,7 @@ use mv_limits::excess::Exceeded;
 use mv_limits::limits::exceeded;
 use mv_num::kind::Kind;
 use mv_num::list::List;
+use mv_num::results::both;
 use mv_num::text::Text;
 use std::alloc::{AllocError, Global as Heap};
 use std::test::Fail;
@@ -35,14 +36,25 @@ fn function(
     })
 }
 
-// A program with switches of these numbers of values, and one function.
-fn program(alloc: Heap, domains: &[u32], function: Function) -> Result<Program, AllocError> {
+// Switches of these numbers of values.
+fn switches_of(alloc: Heap, domains: &[u32]) -> Result<List<Switch>, AllocError> {
     let mut switches = List::new(alloc);
     for count in domains {
         switches.push(switch(alloc, *count)?)?;
     }
-    let mut functions = List::new(alloc);
-    functions.push(function)?;
+    Ok(switches)
+}
+
+fn alone<T: Drop>(alloc: Heap, item: T) -> Result<List<T>, AllocError> {
+    let mut list = List::new(alloc);
+    list.push(item)?;
+    Ok(list)
+}
+
+// A program with switches of these numbers of values, and one function.
+fn program(alloc: Heap, domains: &[u32], function: Function) -> Result<Program, AllocError> {
+    let (function, switches) = both(function, switches_of(alloc, domains))?;
+    let (switches, functions) = both(switches, alone(alloc, function))?;
     Ok(Program {
         signatures: List::new(alloc),
         globals: List::new(alloc),
@@ -61,6 +73,13 @@ fn array(alloc: Heap, size: u32) -> Result<Global, AllocError> {
     })
 }
 
+// What a program exceeds.
+fn excess_of(program: Program) -> Option<Exceeded> {
+    let found = exceeded(&program);
+    drop(program);
+    found
+}
+
 // What a program with switches of these numbers of values and one attributed function of these switches exceeds.
 fn of_switches(
     alloc: Heap,
@@ -68,18 +87,18 @@ fn of_switches(
     switches: &[u32],
 ) -> Result<Option<Exceeded>, AllocError> {
     let function = function(alloc, true, 0, switches)?;
-    Ok(exceeded(&program(alloc, domains, function)?))
+    Ok(excess_of(program(alloc, domains, function)?))
 }
 
 #[test]
 fn parameters(rt: HostRuntime) -> Result<(), Fail> {
     let alloc = rt.alloc();
     let eight = function(alloc, false, 8, [].as_slice())?;
-    assert_eq!(rt; exceeded(&program(alloc, [].as_slice(), eight)?), None);
+    assert_eq!(rt; excess_of(program(alloc, [].as_slice(), eight)?), None);
     let nine = function(alloc, false, 9, [].as_slice())?;
     let excess = Exceeded { limit: 3, count: 9 };
     assert_eq!(rt;
-        exceeded(&program(alloc, [].as_slice(), nine)?),
+        excess_of(program(alloc, [].as_slice(), nine)?),
         Some(excess)
     );
     Ok(())
@@ -138,30 +157,46 @@ fn assignments(rt: HostRuntime) -> Result<(), Fail> {
     Ok(())
 }
 
+// Global arrays of these sizes.
+fn arrays(alloc: Heap, sizes: &[u32]) -> Result<List<Global>, AllocError> {
+    let mut globals = List::new(alloc);
+    for size in sizes {
+        globals.push(array(alloc, *size)?)?;
+    }
+    Ok(globals)
+}
+
+// What a program with global arrays of these sizes and a local array of 262,145 elements exceeds.
+fn of_arrays(alloc: Heap, sizes: &[u32]) -> Result<Option<Exceeded>, AllocError> {
+    let globals = arrays(alloc, sizes)?;
+    let local = Local {
+        ctype: INT,
+        size: Some(262_145),
+    };
+    let (globals, locals) = both(globals, alone(alloc, local))?;
+    let made = function(alloc, false, 0, [].as_slice());
+    let ((globals, locals), mut long) = both((globals, locals), made)?;
+    long.locals = locals;
+    let (globals, mut whole) = both(globals, program(alloc, [].as_slice(), long))?;
+    whole.globals = globals;
+    Ok(excess_of(whole))
+}
+
 #[test]
 fn arrays_of_globals_and_locals(rt: HostRuntime) -> Result<(), Fail> {
     let alloc = rt.alloc();
-    let mut long = function(alloc, false, 0, [].as_slice())?;
-    long.locals.push(Local {
-        ctype: INT,
-        size: Some(262_145),
-    })?;
-    let mut both = program(alloc, [].as_slice(), long)?;
-    both.globals.push(array(alloc, 262_144)?)?;
+    let excess = Exceeded {
+        limit: 8,
+        count: 262_145,
+    };
+    assert_eq!(rt; of_arrays(alloc, [262_144].as_slice())?, Some(excess));
+    let excess = Exceeded {
+        limit: 8,
+        count: 262_146,
+    };
     assert_eq!(rt;
-        exceeded(&both),
-        Some(Exceeded {
-            limit: 8,
-            count: 262_145
-        })
-    );
-    both.globals.push(array(alloc, 262_146)?)?;
-    assert_eq!(rt;
-        exceeded(&both),
-        Some(Exceeded {
-            limit: 8,
-            count: 262_146
-        })
+        of_arrays(alloc, [262_144, 262_146].as_slice())?,
+        Some(excess)
     );
     Ok(())
 }

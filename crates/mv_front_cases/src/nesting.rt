@@ -2,6 +2,7 @@ use mv_ast::place::Place;
 use mv_ast::token::{Piece, Token};
 use mv_nesting::first_too_deep;
 use mv_num::list::List;
+use mv_num::results::both;
 use std::alloc::{AllocError, Global};
 use std::test::Fail;
 
@@ -48,11 +49,15 @@ fn column_of(alloc: Global, parts: &[(&str, u32)]) -> Result<u32, AllocError> {
     let mut column = 1u32;
     for (text, times) in parts {
         for _ in 0..*times {
-            column = add_tokens(&mut tokens, text.as_bytes(), column)?;
+            let added = add_tokens(&mut tokens, text.as_bytes(), column);
+            let (after, next) = both(tokens, added)?;
+            tokens = after;
+            column = next;
         }
     }
-    let found = first_too_deep(alloc, tokens.as_slice())?;
-    Ok(found.map_or(0, |place| place.column))
+    let found = first_too_deep(alloc, tokens.as_slice());
+    drop(tokens);
+    Ok(found?.map_or(0, |place| place.column))
 }
 
 /// Parts with how often each stands there, and the column.

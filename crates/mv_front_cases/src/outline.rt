@@ -1,6 +1,7 @@
 use mv_ast::place::Place;
 use mv_ast::unit::{Act, Declarator, Item, Line, Mark, Shape, Specs, Unit};
 use mv_num::list::List;
+use mv_num::results::both;
 use mv_num::text::Text;
 use mv_outline::names::Names;
 use mv_outline::outline::outline_of;
@@ -23,6 +24,25 @@ const UNIT: [(&str, bool, bool, bool); 8] = [
     ("g", true, false, true),
 ];
 
+// A list with one more.
+fn with_last<T: Drop>(mut list: List<T>, last: T) -> Result<List<T>, AllocError> {
+    list.push(last)?;
+    Ok(list)
+}
+
+fn marks_of(alloc: Global, marked: bool) -> Result<List<Mark>, AllocError> {
+    let marks = List::new(alloc);
+    if marked {
+        let mark = Mark {
+            place: PLACE,
+            values: None,
+        };
+        with_last(marks, mark)
+    } else {
+        Ok(marks)
+    }
+}
+
 fn item_of(
     alloc: Global,
     name: &str,
@@ -30,13 +50,8 @@ fn item_of(
     marked: bool,
     defined: bool,
 ) -> Result<Item, AllocError> {
-    let mut marks = List::new(alloc);
-    if marked {
-        marks.push(Mark {
-            place: PLACE,
-            values: None,
-        })?;
-    }
+    let name = Text::new(alloc, name.as_bytes())?;
+    let (name, marks) = both(name, marks_of(alloc, marked))?;
     let specs = Specs {
         place: PLACE,
         hidden: false,
@@ -50,14 +65,14 @@ fn item_of(
     } else {
         Shape::Plain
     };
-    let mut names = List::new(alloc);
-    names.push(Declarator {
+    let declarator = Declarator {
         place: PLACE,
-        name: Some(Text::new(alloc, name.as_bytes())?),
+        name: Some(name),
         shape,
         marks: List::new(alloc),
         initial: None,
-    })?;
+    };
+    let (specs, names) = both(specs, with_last(List::new(alloc), declarator))?;
     let body = if defined {
         Some(Line {
             place: PLACE,
@@ -72,7 +87,8 @@ fn item_of(
 fn unit_of(alloc: Global) -> Result<Unit, AllocError> {
     let mut items = List::new(alloc);
     for (name, function, marked, defined) in UNIT {
-        items.push(item_of(alloc, name, function, marked, defined)?)?;
+        let (before, item) = both(items, item_of(alloc, name, function, marked, defined))?;
+        items = with_last(before, item)?;
     }
     Ok(Unit { items, end: PLACE })
 }
@@ -91,7 +107,9 @@ fn numbers(names: &Names) -> [Option<usize>; 5] {
 #[test]
 fn names_are_numbered_in_order_of_first_declaration(rt: HostRuntime) -> Result<(), Fail> {
     let unit = unit_of(rt.alloc())?;
-    let outline = outline_of(rt.alloc(), &unit)?;
+    let outline = outline_of(rt.alloc(), &unit);
+    drop(unit);
+    let outline = outline?;
     assert_eq!(rt;
         numbers(&outline.functions),
         [Some(1), Some(0), None, None, None]
@@ -108,5 +126,6 @@ fn names_are_numbered_in_order_of_first_declaration(rt: HostRuntime) -> Result<(
         numbers(&outline.switches),
         [None, None, None, None, Some(0)]
     );
+    drop(outline);
     Ok(())
 }

@@ -19,8 +19,14 @@ fn outcome_of(alloc: Global, text: &[u8]) -> Outcome {
     let Ok(tokens) = lex(alloc, text) else {
         return Outcome::NoTokens;
     };
-    match parse(alloc, text, &tokens) {
-        Ok(unit) => Outcome::Items(unit.items.len()),
+    let read = parse(alloc, text, &tokens);
+    drop(tokens);
+    match read {
+        Ok(unit) => {
+            let items = unit.items.len();
+            drop(unit);
+            Outcome::Items(items)
+        }
         Err(ParseError::Nesting(at)) => Outcome::Nesting(at.line, at.column),
         Err(ParseError::Syntax(at)) => Outcome::Syntax(at.line, at.column),
         Err(ParseError::Memory(_)) => Outcome::Memory,

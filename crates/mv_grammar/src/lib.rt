@@ -5,13 +5,11 @@
 //! between phrases and trees, production by production; no parser is in them.
 #![tactic(auto)]
 
-ghost use Rattle.std.specs.Prelude.{◌≡◌, ◌⊎◌, ◌++◌, ℕ, List, length, take};
+ghost use Rattle.std.specs.Prelude.{◌≡◌, ◌⊎◌, ℕ, List};
 ghost use Rattle.mv_ast.specs.declared.place.Place.{Place};
-ghost use Rattle.mv_ast.specs.declared.token.Token.{Token};
 ghost use Rattle.mv_ast.specs.declared.token.Tokens.{Tokens};
 ghost use Rattle.mv_ast.specs.declared.unit.Unit as unit;
 ghost use Rattle.mv_grammar.specs.Reading as spec;
-ghost use Rattle.mv_grammar.specs.Terminals.{Terminal, terminals};
 
 /// The same tokens are no two units.
 pub fn one_reading()
@@ -23,10 +21,4 @@ pub fn one_verdict()
     ensures either { (text : List ℕ) (tokens : Tokens) → ((u : unit.Unit) × spec.Reads text tokens u) ⊎ ((place : Place) × spec.BreaksAt text tokens place) }
     ensures not_both { (text : List ℕ) (tokens : Tokens) (u : unit.Unit) (place : Place) → spec.Reads text tokens u → spec.BreaksAt text tokens place → ⊥ }
     ensures one_place { (text : List ℕ) (tokens : Tokens) (place other : Place) → spec.BreaksAt text tokens place → spec.BreaksAt text tokens other → place ≡ other }
-{}
-
-/// What begins a unit by its terminals does so in a source: with some more text and some more
-/// tokens there is a unit, and the tokens that stand are as they were.
-pub fn beginnings_stand_in_sources()
-    ensures { (text : List ℕ) (items : List Token) (before rest : List Terminal) → terminals text items ≡ before ++ rest → spec.AreWithin (length text) items → spec.Begins before → spec.BeginsIn text (take (length before) items) }
 {}

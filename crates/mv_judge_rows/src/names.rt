@@ -7,14 +7,11 @@
 //     int h(int);   without a definition
 //     enum t { e = 3 };
 
-ghost use Rattle.std.specs.Prelude.{◌≡◌, []};
-
 use mv_ast::program::{CType, Signature};
 use mv_num::kind::Kind;
 use mv_num::list::List;
 use mv_scope::meaning::{Elements, Meaning, Routine, Storage, Variable};
 use mv_scope::scope::Scope;
-use mv_scope::signatures::SignatureList;
 use std::alloc::{AllocError, Global};
 
 const INT: CType = CType::Scalar(Kind::Int);
@@ -86,32 +83,38 @@ fn declare_enum(alloc: Global, scope: &mut Scope) -> Result<(), AllocError> {
     }
 }
 
-// The signatures int(int) and void(void).
-fn add_signatures(alloc: Global, signatures: &mut SignatureList) -> Result<(), AllocError>
-    requires { signatures.old ≡ [] }
-{
-    let mut params = List::new(alloc);
-    params.push(INT)?;
-    let int_of_int = Signature {
-        result: INT,
+fn add_signature(
+    alloc: Global,
+    scope: &mut Scope,
+    result_type: CType,
+    params: List<CType>,
+) -> Result<(), AllocError> {
+    if scope.signatures.len() > 0xFFFF_FFFF {
+        return Err(AllocError);
+    }
+    let signature = Signature {
+        result: result_type,
         params,
     };
-    signatures.number(alloc, int_of_int)?;
-    let void_of_void = Signature {
-        result: CType::Void,
-        params: List::new(alloc),
-    };
-    signatures.number(alloc, void_of_void)?;
+    scope.signatures.number(alloc, signature)?;
     Ok(())
+}
+
+// The signatures int(int) and void(void).
+fn add_signatures(alloc: Global, scope: &mut Scope) -> Result<(), AllocError> {
+    let mut params = List::new(alloc);
+    params.push(INT)?;
+    add_signature(alloc, scope, INT, params)?;
+    add_signature(alloc, scope, CType::Void, List::new(alloc))
 }
 
 /// The scope, inside a function that is attributed or not.
 pub fn scope(alloc: Global, attributed: bool) -> Result<Scope, AllocError> {
     let mut scope = Scope::new(alloc);
-    add_signatures(alloc, &mut scope.signatures)?;
     declare_objects(alloc, &mut scope)?;
     declare_functions(alloc, &mut scope)?;
     declare_enum(alloc, &mut scope)?;
+    add_signatures(alloc, &mut scope)?;
     scope.attributed = attributed;
     Ok(scope)
 }

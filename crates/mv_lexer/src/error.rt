@@ -6,12 +6,16 @@ use thiserror::Error;
 /// Why a source has no tokens.
 #[derive(Debug, Drop, Error)]
 pub enum LexError {
-    #[error("refused 1 {}:{}", .0.line, .0.column)]
+    /// No token of C begins at this place, or what begins there is malformed.
+    #[error("line {}, column {}: no token begins here", .0.line, .0.column)]
     BadToken(Place),
-    #[error("refused 2 {}:{}", .0.line, .0.column)]
+    /// What begins at this place is C, or nearly so, and the profile leaves it out.
+    #[error("line {}, column {}: the profile leaves this out", .0.line, .0.column)]
     Unsupported(Place),
-    #[error("refused 3 count {0}")]
+    /// The source, or an identifier in it, has so many bytes, which are too many.
+    #[error("{0} bytes are too many")]
     TooLong(u64),
+    /// There is no memory.
     #[error("out of memory")]
     Memory(AllocError),
 }

@@ -1,6 +1,6 @@
 -- A well-formed program is small enough for the numbers of its temporaries and blocks: each `switch` has few arms without a label, so its nodes pay for its arms.
-use Rattle.std.proofs.Common.{◌≡◌, ℕ, ◌+◌, ◌*◌, ◌<◌, ◌≤◌, Bool, true, false, not, List, [], ◌∷◌, ◌++◌, map, length, get_or, refl, sym, ◌∙◌, ap, subst, arith, if◌then◌else◌}
-use Rattle.std.specs.Prelude.{◌&&◌, ◌||◌, sum}
+use Rattle.std.proofs.Common.{◌≡◌, ℕ, ◌+◌, ◌*◌, ◌<◌, ◌≤◌, Bool, true, List, [], ◌∷◌, ◌++◌, map, length, get_or, refl, sym, ◌∙◌, ap, subst, arith}
+use Rattle.std.specs.Prelude.{◌&&◌, sum}
 use Rattle.std.proofs.lemmas.List.Sums.{sum_by-append}
 use Rattle.std.proofs.lemmas.Bool.{and_from}
 use Rattle.std.proofs.lemmas.Option.{slice_get-get_or}
@@ -10,11 +10,11 @@ use Rattle.mv_ast.specs.declared.program.Stmt.{Stmt, Stmt-F, roll-Stmt, map-Stmt
 use Rattle.mv_ast.specs.declared.program.Stmt.TheOpen as stmt
 use Rattle.mv_ast.specs.declared.program.Arm.{Arm, Arm-F, out-Arm, roll-Arm, out-roll-Arm, map-Arm, fold-Arm, fold_out-Arm}
 use Rattle.mv_ast.specs.Counts.{expr_nodes, own_nodes, stmt_sum, arm_sum, stmt_nodes, nodes}
-use Rattle.mv_ast.specs.Names.{any_of}
 use Rattle.mv_ir.proofs.Induction.{Each}
 use Rattle.mv_lowering.specs.Lower.{all_of}
-use Rattle.mv_lowering.proofs.Expressions.{split, no, denied}
-use Rattle.mv_lowering.specs.Labels.{at_most_one, has_label, ArmLabels, later_arms, arms_labelled, labels_layer, arm_labels_layer, stmt_labelled, arm_labels}
+use Rattle.mv_lowering.proofs.Expressions.{split}
+use Rattle.mv_lowering.proofs.Bare.{bare_of, bare_arms, labels_of, labelled_switch}
+use Rattle.mv_lowering.specs.Labels.{ArmLabels, labels_layer, arm_labels_layer, stmt_labelled, arm_labels}
 use Rattle.mv_lowered_programs.specs.WellFormed.{IsWellFormed}
 use Rattle.mv_lowered_programs.proofs.StatementInduction.{StmtChildren, stmt_ind}
 use Rattle.mv_lower.specs.Programs.{HasRoom, IsSmall}
@@ -44,95 +44,16 @@ arm_sized = fold-Arm ℕ ℕ size_sum arm_size_sum
 abbrev arm_nodes : Arm → ℕ
 arm_nodes = fold-Arm ℕ ℕ node_sum arm_node_sum
 
--- 1 for an arm without labels
-abbrev bare_of : List ℕ → ℕ
-bare_of [] = 1
-bare_of (l ∷ ls) = 0
-
-abbrev bare : Arm → ℕ
-bare a = bare_of (out-Arm a).labels
-
 -- ---- arms without a label
-
-abbrev defaults : List Arm → List Bool
-defaults arms = map (λ (a : ArmLabels). a.is_default) (map arm_labels arms)
-
-abbrev labelled : List Arm → Bool
-labelled arms = all_of (map (λ (a : ArmLabels). a.is_labelled) (map arm_labels arms))
 
 abbrev labelled_inside : Arm → Bool
 labelled_inside a = all_of (map stmt_labelled (out-Arm a).body)
-
-labels_of : (a : Arm) → arm_labels a ≡ arm_labels_layer (map-Arm Stmt Arm Bool ArmLabels stmt_labelled arm_labels (out-Arm a))
-labels_of a = fold_out-Arm Bool ArmLabels labels_layer arm_labels_layer a
-
-at_most_bare : (a : Arm) → bare a ≤ 1
-at_most_bare a = by (out-Arm a).labels
-  where
-    by : (ls : List ℕ) → bare_of ls ≤ 1
-    by [] = omega arith
-    by (l ∷ ls) = omega arith
-
-not_bare : (a : Arm) → (arm_labels a).is_labelled ≡ true → (arm_labels a).is_default ≡ false → bare a ≤ 0
-not_bare a e d =
-    by (out-Arm a).labels (out-Arm a).other (sym (ap (λ (z : ArmLabels). z.is_labelled) (labels_of a)) ∙ e) (sym (ap (λ (z : ArmLabels). z.is_default) (labels_of a)) ∙ d)
-  where
-    by : (ls : List ℕ) (other : Bool) → (has_label ls || other) ≡ true → other ≡ false → bare_of ls ≤ 0
-    by [] true e d = no (sym d)
-    by [] false e d = no e
-    by (l ∷ ls) other e d = omega arith
-
-none_bare : (arms : List Arm) → labelled arms ≡ true → any_of (defaults arms) ≡ false → sum (map bare arms) ≤ 0
-none_bare [] h e = omega arith
-none_bare (a ∷ arms) h e =
-    let s = split (arm_labels a).is_labelled (labelled arms) h in
-    let c = sum_cons bare a arms in
-    by (arm_labels a).is_default e (not_bare a s.0) (none_bare arms s.1) c
-  where
-    by : (d : Bool) → (d || any_of (defaults arms)) ≡ false → (d ≡ false → bare a ≤ 0) → (any_of (defaults arms) ≡ false → sum (map bare arms) ≤ 0) → sum (map bare (a ∷ arms)) ≡ bare a + sum (map bare arms) →
-        sum (map bare (a ∷ arms)) ≤ 0
-    by true e here rest c = no (sym e)
-    by false e here rest c = let x = here refl in let y = rest e in omega (arith, x, y, c)
-
-one_bare : (arms : List Arm) → labelled arms ≡ true → at_most_one (defaults arms) ≡ true → sum (map bare arms) ≤ 1
-one_bare [] h e = omega arith
-one_bare (a ∷ arms) h e =
-    let s = split (arm_labels a).is_labelled (labelled arms) h in
-    let c = sum_cons bare a arms in
-    by (arm_labels a).is_default e (not_bare a s.0) (none_bare arms s.1) (one_bare arms s.1) c
-  where
-    by : (d : Bool) → (if d then not (any_of (defaults arms)) else at_most_one (defaults arms)) ≡ true → (d ≡ false → bare a ≤ 0) → (any_of (defaults arms) ≡ false → sum (map bare arms) ≤ 0) →
-        (at_most_one (defaults arms) ≡ true → sum (map bare arms) ≤ 1) → sum (map bare (a ∷ arms)) ≡ bare a + sum (map bare arms) → sum (map bare (a ∷ arms)) ≤ 1
-    by true e here none one c = let x = at_most_bare a in let y = none (denied (any_of (defaults arms)) e) in omega (arith, x, y, c)
-    by false e here none one c = let x = here refl in let y = one e in omega (arith, x, y, c)
-
--- the first, and the `default`
-two_bare : (arms : List Arm) → all_of (map (λ (a : ArmLabels). a.is_labelled) (later_arms (map arm_labels arms))) ≡ true → at_most_one (defaults arms) ≡ true → sum (map bare arms) ≤ 2
-two_bare [] h e = omega arith
-two_bare (a ∷ arms) h e = let c = sum_cons bare a arms in by (arm_labels a).is_default e c
-  where
-    by : (d : Bool) → (if d then not (any_of (defaults arms)) else at_most_one (defaults arms)) ≡ true → sum (map bare (a ∷ arms)) ≡ bare a + sum (map bare arms) → sum (map bare (a ∷ arms)) ≤ 2
-    by true e c = let x = at_most_bare a in let y = none_bare arms h (denied (any_of (defaults arms)) e) in omega (arith, x, y, c)
-    by false e c = let x = at_most_bare a in let y = one_bare arms h e in omega (arith, x, y, c)
 
 all_inside : (arms : List Arm) → all_of (map (λ (a : ArmLabels). a.holds) (map arm_labels arms)) ≡ true → all_of (map labelled_inside arms) ≡ true
 all_inside [] h = refl
 all_inside (a ∷ arms) h =
     let s = split (arm_labels a).holds (all_of (map (λ (b : ArmLabels). b.holds) (map arm_labels arms))) h in
     and_from (labelled_inside a) (all_of (map labelled_inside arms)) (sym (ap (λ (z : ArmLabels). z.holds) (labels_of a)) ∙ s.0) (all_inside arms s.1)
-
--- the arms of a `switch`: few have no label, and all in them is labelled
-record LabelledArms (arms : List Arm) : Type 0 where
-  few : sum (map bare arms) ≤ 2
-  inside : all_of (map labelled_inside arms) ≡ true
-
-labelled_switch : (arms : List Arm) → arms_labelled (map arm_labels arms) ≡ true → LabelledArms arms
-labelled_switch arms e =
-    let rest = all_of (map (λ (a : ArmLabels). a.is_labelled) (later_arms (map arm_labels arms))) in
-    let inside = all_of (map (λ (a : ArmLabels). a.holds) (map arm_labels arms)) in
-    let s = split (at_most_one (defaults arms)) (rest && inside) e in
-    let t = split rest inside s.1 in
-    record { few = two_bare arms t.0 s.0; inside = all_inside arms t.1 }
 
 -- ---- sizes
 
@@ -155,7 +76,7 @@ few_stmts (s ∷ body) h l =
     let b = sum_cons stmt_nodes s body in
     omega (arith, here, rest, a, b)
 
-few_arms : (arms : List Arm) → Each FewArm arms → all_of (map labelled_inside arms) ≡ true → sum (map arm_sized arms) ≤ 3 * sum (map arm_nodes arms) + sum (map bare arms)
+few_arms : (arms : List Arm) → Each FewArm arms → all_of (map labelled_inside arms) ≡ true → sum (map arm_sized arms) ≤ 3 * sum (map arm_nodes arms) + bare_arms arms
 few_arms [] h l = omega arith
 few_arms (x ∷ arms) h l =
     let ls = split (labelled_inside x) (all_of (map labelled_inside arms)) l in
@@ -163,10 +84,9 @@ few_arms (x ∷ arms) h l =
     let rest = few_arms arms h.1 ls.1 in
     let a = sum_cons arm_sized x arms in
     let b = sum_cons arm_nodes x arms in
-    let c = sum_cons bare x arms in
     let d = fold_out-Arm ℕ ℕ size_sum arm_size_sum x in
     let e = fold_out-Arm ℕ ℕ node_sum arm_node_sum x in
-    omega (arith, here, rest, a, b, c, d, e)
+    omega (arith, here, rest, a, b, d, e)
 
 two_lists : (f : Stmt → ℕ) (xs ys : List Stmt) → sum (map f xs ++ map f ys) ≡ sum (map f xs) + sum (map f ys)
 two_lists f xs ys = sum_by-append (λ n. n) (map f xs) (map f ys)
@@ -193,7 +113,7 @@ layer (stmt.For first test step body) h l = let b = few_lists first body h.0 h.1
 layer (stmt.Switch e arms) h l =
     let good = labelled_switch arms l in
     let few = good.few in
-    let b = few_arms arms h good.inside in
+    let b = few_arms arms h (all_inside arms good.inside) in
     omega (arith, few, b)
 layer stmt.Break h l = omega arith
 layer stmt.Continue h l = omega arith

@@ -33,7 +33,7 @@ pub record AreMarks (p : Program) (code : List Stm) (m : Marks) : Type 0 where
 
 -- ---- sizes
 
--- the nodes of its statements, with one for each arm of a `switch`, and the locals leave room in 32 bits for the numbers of temporaries and blocks
+-- the nodes of its statements, with one for each arm of a `switch`, and the locals leave room in 32 bits for the numbers of temporaries, blocks and arms
 abbrev pub HasRoom : Function → Type 0
 HasRoom g = length g.locals + 1 + 2 * stmts_size g.body < 2 ^ 32
 

@@ -76,7 +76,7 @@ abbrev pub return_at : Option Expr → Jumps → ℕ → Code
 return_at None j n = end_at j n
 return_at (Some e) j n = return_of (expr_at e n) n
 
--- ---- sizes, which bound the numbers of temporaries and of blocks
+-- ---- sizes, which bound the numbers of temporaries, of blocks and of arms
 
 -- nodes, with one for each arm
 unfoldable pub stmt_size : Stmt → ℕ

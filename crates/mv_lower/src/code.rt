@@ -6,7 +6,7 @@ ghost use Rattle.mv_lower.specs.Statements.{seen_code, seen_jumps, express_of, r
 
 use mv_ir::stm::Stm;
 use mv_ir::tree::Tree;
-use mv_lower_expressions::value::{Value, append};
+use mv_lower_expressions::value::Value;
 use mv_num::list::List;
 use std::alloc::{AllocError, Global};
 
@@ -161,7 +161,7 @@ pub fn do_loop(alloc: Global, body: Code, test: Value, n: u32) -> Result<Code, A
 {
     let top = test.top.max(body.top);
     let mut turn = in_block(alloc, body.code)?;
-    append(&mut turn, test_and_body(alloc, test, List::new(alloc), n)?)?;
+    turn.append(test_and_body(alloc, test, List::new(alloc), n)?)?;
     let code = alone(alloc, Stm::Loop(turn))?;
     Ok(Code { code, top })
 }
@@ -181,7 +181,7 @@ pub fn for_loop(
     let above = test.top.max(step.top.max(body.top));
     let inner = in_block(alloc, body.code)?;
     let mut turn = test_and_body(alloc, test, inner, n)?;
-    append(&mut turn, step.code)?;
+    turn.append(step.code)?;
     let Code { mut code, top } = first;
     code.push(Stm::Loop(turn))?;
     Ok(Code {

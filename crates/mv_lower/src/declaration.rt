@@ -11,7 +11,7 @@ use crate::code::Code;
 use mv_ast::program::Local;
 use mv_ir::stm::{Array, Stm};
 use mv_ir::tree::Tree;
-use mv_lower_expressions::value::{Value, append};
+use mv_lower_expressions::value::Value;
 use mv_num::list::List;
 use std::alloc::{AllocError, Global};
 
@@ -69,7 +69,7 @@ fn store_values(
 {
     let mut i = 0;
     for value in values.into_vec() {
-        append(code, value.code)?;
+        code.append(value.code)?;
         code.push(store_word(size, local, i, value.tree))?;
         i += 1;
     }

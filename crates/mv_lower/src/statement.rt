@@ -13,7 +13,6 @@ use crate::switch::{arm_code, in_arm, switch, tests};
 use mv_ast::program::{Arm, Expr, Function, Stmt};
 use mv_ir::stm::Stm;
 use mv_lower_expressions::expression::{lower_each, lower_expr, lower_optional};
-use mv_lower_expressions::value::append;
 use mv_meaning::work::any_names;
 use mv_num::list::List;
 use std::alloc::{AllocError, Global};
@@ -34,7 +33,7 @@ pub fn lower_stmts(
     let mut top = function.locals.len() as u32;
     for s in body.as_slice() {
         let part = lower_stmt(alloc, function, s, jumps)?;
-        append(&mut code, part.code)?;
+        code.append(part.code)?;
         top = top.max(part.top);
     }
     Ok(Code { code, top })
@@ -127,7 +126,7 @@ fn lower_arms(
     let mut place = 0;
     for arm in arms.as_slice() {
         let body = lower_stmts(alloc, function, &arm.body, inside)?;
-        append(&mut code, arm_code(alloc, n, place, body.code)?)?;
+        code.append(arm_code(alloc, n, place, body.code)?)?;
         top = top.max(body.top);
         place += 1;
     }

@@ -10,7 +10,7 @@ use crate::code::{Code, Jumps, alone};
 use mv_ast::program::Arm;
 use mv_ir::stm::Stm;
 use mv_ir::tree::Tree;
-use mv_lower_expressions::value::{Value, append, is_empty};
+use mv_lower_expressions::value::{Value, is_empty};
 use mv_num::boxed::Boxed;
 use mv_num::list::List;
 use std::alloc::{AllocError, Global};
@@ -120,7 +120,7 @@ fn after_block(alloc: Global, inner: List<Stm>, code: List<Stm>) -> Result<List<
     ensures { IfOk result (λ c. c ≡ enclosed inner ∷ code) }
 {
     let mut all = alone(alloc, Stm::Block(inner))?;
-    append(&mut all, code)?;
+    all.append(code)?;
     Ok(all)
 }
 

@@ -14,7 +14,7 @@ use Rattle.mv_ast.specs.declared.program.Known.{Known}
 use Rattle.mv_ast.specs.declared.program.Expr.{Expr}
 use Rattle.mv_ast.specs.declared.program.Stmt.{Stmt, Stmt-F, roll-Stmt, out-roll-Stmt, map-Stmt, ind-Stmt, fold-roll-Stmt}
 use Rattle.mv_ast.specs.declared.program.Stmt.TheOpen as stmt
-use Rattle.mv_ast.specs.declared.program.Arm.{Arm, Arm-F, roll-Arm, fold-roll-Arm}
+use Rattle.mv_ast.specs.declared.program.Arm.{Arm, Arm-F, roll-Arm, fold-roll-Arm, fold_out-Arm}
 use Rattle.mv_ast.specs.Counts.{words_of_size}
 use Rattle.mv_ast.specs.Names.{any_of, names_local}
 use Rattle.mv_ast.specs.Worlds.{World, Outcome, after, bind, give, stop, counted}
@@ -27,7 +27,7 @@ use Rattle.mv_meaning.proofs.Equations.{flow_of-Block, flow_of-Clear, flow_of-Ex
 use Rattle.mv_lowering.specs.Lower.{lower_expr, is_well_named, all_of}
 use Rattle.mv_lowering.specs.Statements.{Jumps, Placed, repeat, enclosed, test_and_body, LoweredArm, in_arm, in_body, in_sequence, arms_top, out_of, turn_out, levels}
 use Rattle.mv_lowering.specs.LowerStatements.{lower_optional, lower_stmt_layer, lower_arm_layer, lower_stmt, lower_arm, but_for, named, named_option, stmt_named_layer, arm_named_layer, stmt_is_well_formed, arm_is_well_formed}
-use Rattle.mv_lowering.specs.Labels.{at_most_one, has_label, ArmLabels, later_arms, arms_labelled, labels_layer, arm_labels_layer, stmt_labelled, arm_labels}
+use Rattle.mv_lowering.specs.Labels.{ArmLabels, labels_layer, arm_labels_layer, stmt_labelled, arm_labels}
 use Rattle.mv_lowering.specs.Correct as c
 use Rattle.mv_lowering.proofs.Sequences.{after_then, given}
 use Rattle.mv_lowering.proofs.Expressions.{expr_correct, no, split, denied}
@@ -36,6 +36,7 @@ use Rattle.mv_lowering.proofs.Forms as forms
 use Rattle.mv_lowering.proofs.Flows as flows
 use Rattle.mv_lowering.proofs.Loops as loops
 use Rattle.mv_lowering.proofs.Loops.{while_turn, do_turn, for_turn, while_same, do_same, for_same, after_same}
+use Rattle.mv_lowering.proofs.Bare.{bare_of, bare, bare_arms, labelled_switch}
 use Rattle.mv_lowering.proofs.Switches as switches
 use Rattle.mv_lowering.proofs.Clears as clears
 use Rattle.mv_lowering.proofs.Clears.{Held, none, only, only_there}
@@ -93,8 +94,6 @@ module _ (p : Program) (setting : Setting) (frame : code_world.Frame) (began : L
   pub record ArmShown (a : Arm) (l : LoweredArm) : Type 0 where
     pub labels : (k : ℕ) → l.labels ≡ (arm_of p (context k) a).labels
     pub other : (k : ℕ) → l.other ≡ (arm_of p (context k) a).other
-    pub is_labelled : (arm_labels a).is_labelled ≡ (has_label l.labels || l.other)
-    pub is_default : (arm_labels a).is_default ≡ l.other
     pub body : arm_is_well_formed p own locals sizes void a ≡ true → (arm_labels a).holds ≡ true → (j : Jumps) → (l.body (in_arm j)).top ≤ room → (k : ℕ) → k ≤ limit →
         switches.Pays p setting frame began own locals sizes room void (at k) j (in_order (arm_of p (context k) a).body) (l.body (in_arm j)).code
 
@@ -225,65 +224,11 @@ module _ (p : Program) (setting : Setting) (frame : code_world.Frame) (began : L
       let ls = split (arm_labels a).holds (all_of (map (λ (z : ArmLabels). z.holds) (map arm_labels arms))) l in
       (h.0.labels k, h.0.other k, h.0.body bs.0 ls.0 j (omega (arith, le)) k up, arms_correct arms h.1 bs.1 ls.1 j (omega (arith, le)) k up)
 
-  -- ---- arms without a label
-
-  abbrev bare : List Arm → ℕ
-  bare arms = switches.bare_arms (map (lower_arm locals sizes void) arms)
-
-  abbrev defaults : List Arm → List Bool
-  defaults arms = map (λ (a : ArmLabels). a.is_default) (map arm_labels arms)
-
-  abbrev have_labels : List Arm → Bool
-  have_labels arms = all_of (map (λ (a : ArmLabels). a.is_labelled) (map arm_labels arms))
-
-  -- an arm that has a label or is `default`
-  abbrev one_bare : Bool → ℕ
-  one_bare is_labelled = cond is_labelled 0 1
-
-  none_bare : (arms : List Arm) → Each A arms → have_labels arms ≡ true → any_of (defaults arms) ≡ false → bare arms ≤ 0
-  none_bare [] h l e = omega arith
-  none_bare (arm ∷ arms) h l e =
-      let ls = split (arm_labels arm).is_labelled (have_labels arms) l in
-      by (has_label (lower_arm locals sizes void arm).labels) (lower_arm locals sizes void arm).other (sym h.0.is_labelled ∙ ls.0) (ap (λ z. z || any_of (defaults arms)) (sym h.0.is_default) ∙ e) (λ q. none_bare arms h.1 ls.1 q)
-    where
-      by : (x y : Bool) → (x || y) ≡ true → (y || any_of (defaults arms)) ≡ false → (any_of (defaults arms) ≡ false → bare arms ≤ 0) → one_bare x + bare arms ≤ 0
-      by true true l e k = no (sym e)
-      by true false l e k = let z = k e in omega (arith, z)
-      by false true l e k = no (sym e)
-      by false false l e k = no l
-
-  at_most_one_bare : (arms : List Arm) → Each A arms → have_labels arms ≡ true → at_most_one (defaults arms) ≡ true → bare arms ≤ 1
-  at_most_one_bare [] h l e = omega arith
-  at_most_one_bare (arm ∷ arms) h l e =
-      let ls = split (arm_labels arm).is_labelled (have_labels arms) l in
-      by (has_label (lower_arm locals sizes void arm).labels) (lower_arm locals sizes void arm).other (sym h.0.is_labelled ∙ ls.0) (ap (λ z. cond z (not (any_of (defaults arms))) (at_most_one (defaults arms))) (sym h.0.is_default) ∙ e)
-      (λ q. none_bare arms h.1 ls.1 q) (λ q. at_most_one_bare arms h.1 ls.1 q)
-    where
-      by : (x y : Bool) → (x || y) ≡ true → cond y (not (any_of (defaults arms))) (at_most_one (defaults arms)) ≡ true → (any_of (defaults arms) ≡ false → bare arms ≤ 0) → (at_most_one (defaults arms) ≡ true → bare arms ≤ 1) → one_bare x + bare arms ≤ 1
-      by x true l e k m = let z = k (denied (any_of (defaults arms)) e) in (let u = most x in omega (arith, z, u))
-        where
-          most : (x : Bool) → one_bare x ≤ 1
-          most true = omega arith
-          most false = omega arith
-      by true false l e k m = let z = m e in omega (arith, z)
-      by false false l e k m = no l
-
-  -- the first arm too may have no label
-  few_bare : (arms : List Arm) → Each A arms → arms_labelled (map arm_labels arms) ≡ true → bare arms ≤ 2
-  few_bare [] h l = omega arith
-  few_bare (arm ∷ arms) h l =
-      let l0 = split (at_most_one (defaults (arm ∷ arms))) (have_labels arms && all_of (map (λ (z : ArmLabels). z.holds) (map arm_labels (arm ∷ arms)))) l in
-      let l1 = split (have_labels arms) (all_of (map (λ (z : ArmLabels). z.holds) (map arm_labels (arm ∷ arms)))) l0.1 in
-      let rest = behind (arm_labels arm).is_default l1.0 l0.0 in
-      by (has_label (lower_arm locals sizes void arm).labels) rest
-    where
-      behind : (y : Bool) → have_labels arms ≡ true → cond y (not (any_of (defaults arms))) (at_most_one (defaults arms)) ≡ true → bare arms ≤ 1
-      behind true l e = let z = none_bare arms h.1 l (denied (any_of (defaults arms)) e) in omega (arith, z)
-      behind false l e = at_most_one_bare arms h.1 l e
-
-      by : (x : Bool) → bare arms ≤ 1 → one_bare x + bare arms ≤ 2
-      by true z = omega (arith, z)
-      by false z = omega (arith, z)
+  as_bare : (arms : List Arm) → switches.bare_arms (map (lower_arm locals sizes void) arms) ≡ bare_arms arms
+  as_bare [] = refl
+  as_bare (a ∷ arms) =
+      let others = switches.bare_arms (map (lower_arm locals sizes void) arms) in
+      ap (λ (l : LoweredArm). bare_of l.labels + others) (fold_out-Arm Placed LoweredArm (lower_stmt_layer locals sizes void) (lower_arm_layer locals sizes void) a) ∙ ap (λ n. bare a + n) (as_bare arms)
 
   layer : (x : Stmt-F Stmt Arm) → Children x → stmt_named_layer p own locals sizes void (tests x) ≡ true → labels_layer (labels x) ≡ true → (j : Jumps) → (lower_stmt_layer locals sizes void (blocks x) j).top ≤ room → (k : ℕ) → k ≤ limit →
       Counts j k (flow_of p (context k) (roll-Stmt x)) (lower_stmt_layer locals sizes void (blocks x) j).code
@@ -371,11 +316,10 @@ module _ (p : Program) (setting : Setting) (frame : code_world.Frame) (began : L
   layer (stmt.Switch e arms) h b l j le k up =
       let x : Stmt-F Stmt Arm = stmt.Switch e arms in
       let bs = split (named p own locals sizes void e) (all_of (map (arm_is_well_formed p own locals sizes void) arms)) b in
-      let l0 = split (at_most_one (defaults arms)) (all_of (map (λ (z : ArmLabels). z.is_labelled) (later_arms (map arm_labels arms))) && all_of (map (λ (z : ArmLabels). z.holds) (map arm_labels arms))) l in
-      let l1 = split (all_of (map (λ (z : ArmLabels). z.is_labelled) (later_arms (map arm_labels arms)))) (all_of (map (λ (z : ArmLabels). z.holds) (map arm_labels arms))) l0.1 in
+      let ls = labelled_switch arms l in
       counts j k (roll-Stmt x) (bind (value_of p (context k) e) (λ v. switch_flow v (map (arm_of p (context k)) arms))) (lower_stmt_layer locals sizes void (blocks x) j).code (flow_of-Switch p (context k) (roll-Stmt x) e arms (out-roll-Stmt x))
-      (switches.switch_correct p setting frame began own locals sizes room void j (at k) (value_of p (context k) e) (lower_expr e) (map (arm_of p (context k)) arms) (map (lower_arm locals sizes void) arms) (omega (arith, le)) (omega (arith, le)) (few_bare arms h l)
-      (value k up e bs.0) (arms_correct arms h bs.1 l1.1 j (omega (arith, le)) k up))
+      (switches.switch_correct p setting frame began own locals sizes room void j (at k) (value_of p (context k) e) (lower_expr e) (map (arm_of p (context k)) arms) (map (lower_arm locals sizes void) arms) (omega (arith, le)) (omega (arith, le)) (omega (arith, as_bare arms, ls.few))
+      (value k up e bs.0) (arms_correct arms h bs.1 ls.inside j (omega (arith, le)) k up))
   layer stmt.Break h b l j le k up =
       let x : Stmt-F Stmt Arm = stmt.Break in
       counts j k (roll-Stmt x) (give Breaks) (lower_stmt_layer locals sizes void (blocks x) j).code (flow_of-Break p (context k) (roll-Stmt x) (out-roll-Stmt x)) (flows.leaves p setting frame began own locals sizes room void j (at k) j.leave Breaks (λ s. refl) refl)
@@ -406,8 +350,6 @@ module _ (p : Program) (setting : Setting) (frame : code_world.Frame) (began : L
       (record {
         labels = λ k. sym (ap (λ (d : ArmDenotation). d.labels) (arm_of_lem p (context k) a));
         other = λ k. sym (ap (λ (d : ArmDenotation). d.other) (arm_of_lem p (context k) a));
-        is_labelled = ap (λ (z : ArmLabels). z.is_labelled) labels_as;
-        is_default = ap (λ (z : ArmLabels). z.is_default) labels_as;
         body = λ b l j le k up.
             subst (λ (ms : List (Evaluation Flow)). switches.Pays p setting frame began own locals sizes room void (at k) j (in_order ms) (lowered x.body (in_arm j)).code) (sym (ap (λ (d : ArmDenotation). d.body) (arm_of_lem p (context k) a)))
             (all_pay x.body h (sym (fold-roll-Arm Bool Bool (stmt_named_layer p own locals sizes void) (arm_named_layer p own locals sizes void) x) ∙ b) (sym (ap (λ (z : ArmLabels). z.holds) labels_as) ∙ l) j le k up);

@@ -12,6 +12,7 @@ pub mod Depths
 pub mod ExpressionDepths
 pub mod Flows
 pub mod Loops
+pub mod Bare
 pub mod Switches
 pub mod Clears
 pub mod AllStatements

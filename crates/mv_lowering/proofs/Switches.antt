@@ -24,7 +24,6 @@ use Rattle.mv_ir.specs.Meaning.{meaning, with_temp}
 use Rattle.mv_ir.proofs.Keeping.{run_same, map_append, in_order_append, one_meaning}
 use Rattle.mv_lowering.specs.Lowered.{Lowering, number, temp, binary, set, choose}
 use Rattle.mv_lowering.specs.Statements.{Jumps, LoweredArm, in_arm, break, enclosed, test_labels, test_arms, arm_place, all_tests, arm_code, arms_code, lower_switch, out_of}
-use Rattle.mv_lowering.specs.Labels.{has_label}
 use Rattle.mv_lowering.specs.Correct as c
 use Rattle.mv_lowering.specs.Correct.{ran}
 use Rattle.mv_lowering.proofs.Running as run
@@ -32,6 +31,7 @@ use Rattle.mv_lowering.proofs.Running.{nodes_number, nodes_temp, nodes_binary}
 use Rattle.mv_lowering.proofs.Showing as show
 use Rattle.mv_lowering.proofs.Sequences.{under, assoc, given}
 use Rattle.mv_lowering.proofs.Expressions.{no}
+use Rattle.mv_lowering.proofs.Bare.{bare_of}
 use Rattle.mv_lowering.proofs.Flows as flows
 
 -- ---- lists of statements
@@ -88,7 +88,7 @@ lowered_labels (a ∷ arms) = a.labels ++ lowered_labels arms
 -- how many of the arms have no label
 abbrev pub bare_arms : List LoweredArm → ℕ
 bare_arms [] = 0
-bare_arms (a ∷ arms) = cond (has_label a.labels) 0 1 + bare_arms arms
+bare_arms (a ∷ arms) = bare_of a.labels + bare_arms arms
 
 abbrev hits : ℕ → LoweredArm → Bool
 hits v a = (tried_labels v a.labels).found
@@ -117,13 +117,13 @@ record Passed (t : Tried) (place arms bare : ℕ) : Type 0 where
 passed : (v : ℕ) (ls : List LoweredArm) → Passed (tried_labels v (lowered_labels ls)) (arm_place (hits v) 0 ls) (length ls) (bare_arms ls)
 passed v [] = record { to_arm = omega arith; to_end = λ e. omega arith }
 passed v (l ∷ ls) =
-    subst (λ (t : Tried). Passed t (cond x.found 0 (arm_place (hits v) 1 ls)) (suc (length ls)) (cond (has_label l.labels) 0 1 + bare_arms ls)) (sym (tried_append v l.labels (lowered_labels ls)))
+    subst (λ (t : Tried). Passed t (cond x.found 0 (arm_place (hits v) 1 ls)) (suc (length ls)) (bare_of l.labels + bare_arms ls)) (sym (tried_append v l.labels (lowered_labels ls)))
     (by (passed v ls) x.found refl)
   where
     x : Tried
     x = tried_labels v l.labels
 
-    own : (xs : List ℕ) → 1 ≤ (tried_labels v xs).labels + cond (has_label xs) 0 1
+    own : (xs : List ℕ) → 1 ≤ (tried_labels v xs).labels + bare_of xs
     own [] = omega arith
     own (y ∷ ys) = at (eqb v y)
       where
@@ -132,12 +132,12 @@ passed v (l ∷ ls) =
         at false = omega arith
 
     by : Passed (tried_labels v (lowered_labels ls)) (arm_place (hits v) 0 ls) (length ls) (bare_arms ls) →
-        (z : Bool) → x.found ≡ z → Passed (both_tried x (tried_labels v (lowered_labels ls))) (cond x.found 0 (arm_place (hits v) 1 ls)) (suc (length ls)) (cond (has_label l.labels) 0 1 + bare_arms ls)
+        (z : Bool) → x.found ≡ z → Passed (both_tried x (tried_labels v (lowered_labels ls))) (cond x.found 0 (arm_place (hits v) 1 ls)) (suc (length ls)) (bare_of l.labels + bare_arms ls)
     by rest true e =
-        subst (λ z. Passed (cond z x (record { labels = x.labels + (tried_labels v (lowered_labels ls)).labels; found = (tried_labels v (lowered_labels ls)).found })) (cond z 0 (arm_place (hits v) 1 ls)) (suc (length ls)) (cond (has_label l.labels) 0 1 + bare_arms ls)) (sym e)
+        subst (λ z. Passed (cond z x (record { labels = x.labels + (tried_labels v (lowered_labels ls)).labels; found = (tried_labels v (lowered_labels ls)).found })) (cond z 0 (arm_place (hits v) 1 ls)) (suc (length ls)) (bare_of l.labels + bare_arms ls)) (sym e)
         (record { to_arm = omega arith; to_end = λ q. no (sym q ∙ e) })
     by rest false e =
-        subst (λ z. Passed (cond z x (record { labels = x.labels + (tried_labels v (lowered_labels ls)).labels; found = (tried_labels v (lowered_labels ls)).found })) (cond z 0 (arm_place (hits v) 1 ls)) (suc (length ls)) (cond (has_label l.labels) 0 1 + bare_arms ls)) (sym e)
+        subst (λ z. Passed (cond z x (record { labels = x.labels + (tried_labels v (lowered_labels ls)).labels; found = (tried_labels v (lowered_labels ls)).found })) (cond z 0 (arm_place (hits v) 1 ls)) (suc (length ls)) (bare_of l.labels + bare_arms ls)) (sym e)
         (record { to_arm = omega (arith, own l.labels, place_above (hits v) 0 ls, rest.to_arm); to_end = λ q. (let r = rest.to_end q in omega (arith, own l.labels, r)) })
 
 -- ---- states

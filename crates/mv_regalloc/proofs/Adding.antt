@@ -7,7 +7,7 @@ use Rattle.mv_ir.specs.Live.{mark_at, any, marks_length}
 use Rattle.mv_ir.proofs.Keeping.{map_append}
 use Rattle.mv_regalloc.specs.LiveBits.{word_bit}
 use Rattle.mv_regalloc.specs.Rows.{Bits}
-use Rattle.mv_regalloc.specs.Spanned.{SoFar, column, from_first, behind_last, Marks, AddsBut, Adds, IsSuspended, IsResumed, with_params}
+use Rattle.mv_regalloc.specs.Spanned.{SoFar, column, from_first, behind_last, Marks, AddsBut, Adds, AreBegun, IsSuspended, IsResumed, with_params}
 use Rattle.mv_regalloc.proofs.Marks.{length_append}
 use Rattle.mv_regalloc.proofs.RowsLong.{length_rows}
 
@@ -236,18 +236,38 @@ module _ (held : Bits) (at : ℕ) (row : Bits) (rows : List Bits) (s s1 s2 s3 : 
   pub resumed_in_time : at ≤ s2.positions
   resumed_in_time = let k = h.positions in let p = a.positions in let n = a.last in omega (arith, k, p, n)
 
+-- another row is to be marked next
+pub but_turned : (row : Bits) (rows : List Bits) (s s' s'' : SoFar) → AddsBut row rows s s' → IsResumed [] 0 row s' s'' → AddsBut row rows s s''
+but_turned row rows s s' s'' h b = record {
+  positions = b.positions ∙ h.positions;
+  begins_long = b.begins_long ∙ h.begins_long;
+  ends_long = ap (λ l. length l) b.ends ∙ h.ends_long;
+  begins = λ t l out. b.begins t (let k = h.begins_long in omega (arith, k, l)) out ∙ h.begins t l out;
+  ends = λ t l. ap (λ e. slice_index e t) b.ends ∙ h.ends t l;
+  begun = λ t l. ap (λ g. word_bit g t) b.begun ∙ h.begun t l;
+}
+
+pub begun_stays : (known : Bits) (rows : List Bits) (s s' : SoFar) → AreBegun known s → Adds rows s s' → AreBegun known s'
+begun_stays known rows s s' k h t l m =
+    let l' : t < length s.begins = (let e = h.begins_long in omega (arith, e, l)) in
+    h.begun t l' ∙ ap (λ g. any (column t rows) || g) (k t l' m) ∙ or_true (any (column t rows))
+  where
+    or_true : (c : Bool) → (c || true) ≡ true
+    or_true true = refl
+    or_true false = refl
+
 -- some code inside a statement, and then the statement's own position
 pub inner_adds : (held : Bits) (at : ℕ) (row : Bits) (rows : List Bits) (s s1 s2 s3 s4 : SoFar) → IsSuspended held at s s1 → Adds rows s1 s2 → IsResumed held at row s2 s3 → Adds (row ∷ []) s3 s4 → Adds (row ∷ rows) s s4
 inner_adds held at row rows s s1 s2 s3 s4 a h b m = mark_open row rows s s3 s4 (resumed_adds held at row rows s s1 s2 s3 a (but row rows s1 s2 h) b) m
 
 -- the same of two pieces of code, of which the second is walked over first
-module _ (held before row : Bits) (at at' : ℕ) (xs ys : List Bits) (s s1 s2 s3 s4 s5 s6 s7 : SoFar) (a : IsSuspended held at s s1) (x : Adds xs s1 s2) (a' : IsSuspended before at' s2 s3) (y : Adds ys s3 s4) where
+module _ (held before row : Bits) (at at' : ℕ) (xs ys : List Bits) (s s1 s2 s3 s4 s5 s6 s7 : SoFar) (a : IsSuspended held at s s1) (x : Adds xs s1 s2) (a' : IsSuspended before at' s2 s3) (y : AddsBut row ys s3 s4) where
   pub branches_in_time : at ≤ s4.positions
   branches_in_time = let k = x.positions in let p = a.positions in let n = a.last in let k' = y.positions in let p' = a'.positions in omega (arith, k, p, n, k', p')
 
   pub branches_add : IsResumed before at' row s4 s5 → IsResumed held at row s5 s6 → Adds (row ∷ []) s6 s7 → Adds (row ∷ (ys ++ xs)) s s7
   branches_add b' b m =
-      mark_open row (ys ++ xs) s s6 s7 (resumed_adds held at row (ys ++ xs) s s1 s5 s6 a (but_two row xs ys s1 s2 s5 x (resumed_adds before at' row ys s2 s3 s4 s5 a' (but row ys s3 s4 y) b')) b) m
+      mark_open row (ys ++ xs) s s6 s7 (resumed_adds held at row (ys ++ xs) s s1 s5 s6 a (but_two row xs ys s1 s2 s5 x (resumed_adds before at' row ys s2 s3 s4 s5 a' y b')) b) m
 
 pub params_more : (n : ℕ) (bits : Bits) → with_params (n + 1) bits ≡ slice_set (with_params n bits) n true
 params_more n bits = let e : n + 1 ≡ suc n = omega arith in ap (λ k. with_params k bits) e

@@ -1,5 +1,5 @@
 -- Words by their places in parts: one step of the way to a word, and what a new part changes.
-use Rattle.std.proofs.Common.{arith, ◌≡◌, ℕ, zero, suc, ◌-◌, ◌/◌, ◌%◌, ◌<◌, ◌≤◌, true, false, Bool, cond, eqb, not, List, [], ◌∷◌, ◌++◌, length, refl, sym, ap, ◌∙◌, ◌⊎◌, inl, inr, bit_or, ◌*◌, ◌||◌, ◌+◌}
+use Rattle.std.proofs.Common.{arith, ◌≡◌, ℕ, zero, suc, ◌-◌, ◌/◌, ◌%◌, ◌<◌, ◌≤◌, true, false, Bool, cond, eqb, not, List, [], ◌∷◌, ◌++◌, length, refl, sym, ap, ◌∙◌, ◌⊎◌, inl, inr, bit_or, ◌*◌, ◌||◌, ◌+◌, subst}
 use Rattle.std.proofs.lemmas.List.{get_or_append_left, get_or_past, length-append}
 use Rattle.std.proofs.Math.Seq.{get_or-append_seam}
 use Rattle.std.proofs.lemmas.Bool.{cases_eq, cases_lt, eq-eqb, ne_eqb}
@@ -7,7 +7,7 @@ use Rattle.std.specs.Prelude.{Result, Ok, Err, IfOk, OnErr, OnOk}
 use Rattle.std.proofs.lemmas.Result.{IfOk-weaker}
 use Rattle.mv_regalloc.specs.declared.parts.Part.{Part}
 use Rattle.mv_regalloc.specs.Scan.{has}
-use Rattle.mv_regalloc.specs.Parts.{no_part, part_at, further, word_within, word_of, AreParts, Keeps}
+use Rattle.mv_regalloc.specs.Parts.{IsNoneOr, no_part, part_at, further, word_within, word_of, AreParts, Keeps}
 
 pub if_ok_by : {T E : Type 0} {P Q : T → Type 0} (r : Result T E) → ((x : T) → P x → Q x) → IfOk r P → IfOk r Q
 if_ok_by {P} {Q} r h k = IfOk-weaker r P Q h k
@@ -238,11 +238,13 @@ listed_last p (x ∷ xs) h = listed_last p xs (or_second (eqb x p) (has p (xs ++
 -- a place in a part, and in the two that it leads to
 module _ (parts : List Part) (one other first step : ℕ) (listed : ℕ → Bool)
     (here : listed first ≡ false → (part_at parts one).word ≡ (part_at parts other).word)
-    (odd : (q : ℕ) → listed (first + step + step * 2 * q) ≡ false → word_of parts (part_at parts one).odd q ≡ word_of parts (part_at parts other).odd q)
-    (even : (q : ℕ) → listed (first + step * 2 + step * 2 * q) ≡ false → word_of parts (part_at parts one).even q ≡ word_of parts (part_at parts other).even q) where
-  pub apart_words : (q : ℕ) → listed (first + step * q) ≡ false → word_of parts one q ≡ word_of parts other q
-  apart_words zero h = word_here parts one ∙ here (ap listed (let e : first ≡ first + step * 0 = omega arith in e) ∙ h) ∙ sym (word_here parts other)
-  apart_words (suc n) h = word_further parts one p (omega arith) ∙ by (cases_eq (p % 2) 1) ∙ sym (word_further parts other p (omega arith))
+    (odd : (q : ℕ) → listed (first + step + step * 2 * q) ≡ false → IsNoneOr (word_of parts (part_at parts one).odd q) (word_of parts (part_at parts other).odd q))
+    (even : (q : ℕ) → listed (first + step * 2 + step * 2 * q) ≡ false → IsNoneOr (word_of parts (part_at parts one).even q) (word_of parts (part_at parts other).even q)) where
+  pub beyond_words : (q : ℕ) → listed (first + step * q) ≡ false → IsNoneOr (word_of parts one q) (word_of parts other q)
+  beyond_words zero h = inl (word_here parts one ∙ here (ap listed (let e : first ≡ first + step * 0 = omega arith in e) ∙ h) ∙ sym (word_here parts other))
+  beyond_words (suc n) h =
+      subst (λ v. IsNoneOr v (word_of parts other p)) (sym (word_further parts one p (omega arith)))
+      (subst (IsNoneOr (word_of parts (further (part_at parts one) p) r)) (sym (word_further parts other p (omega arith))) (by (cases_eq (p % 2) 1)))
     where
       p : ℕ
       p = suc n
@@ -250,19 +252,18 @@ module _ (parts : List Part) (one other first step : ℕ) (listed : ℕ → Bool
       r : ℕ
       r = (p - 1) / 2
 
+      side : Bool → Type 0
+      side c = IsNoneOr (word_of parts (cond c (part_at parts one).odd (part_at parts one).even) r) (word_of parts (cond c (part_at parts other).odd (part_at parts other).even) r)
+
       at_odd : p % 2 ≡ 1 → first + step + step * 2 * r ≡ first + step * p
       at_odd k = let e : 2 * r + 1 ≡ p = omega (arith, k) in let m : step * (2 * r + 1) ≡ step * p = ap (λ v. step * v) e in omega (arith, m)
 
       at_even : (p % 2 ≡ 1 → ⊥) → first + step * 2 + step * 2 * r ≡ first + step * p
       at_even k = let e : 2 * r + 2 ≡ p = omega (arith, k) in let m : step * (2 * r + 2) ≡ step * p = ap (λ v. step * v) e in omega (arith, m)
 
-      by : (p % 2 ≡ 1) ⊎ (p % 2 ≡ 1 → ⊥) → word_of parts (further (part_at parts one) p) r ≡ word_of parts (further (part_at parts other) p) r
-      by (inl k) =
-          ap (λ c. word_of parts (cond c (part_at parts one).odd (part_at parts one).even) r) (eq-eqb (p % 2) 1 k) ∙ odd r (ap listed (at_odd k) ∙ h) ∙
-          ap (λ c. word_of parts (cond c (part_at parts other).odd (part_at parts other).even) r) (sym (eq-eqb (p % 2) 1 k))
-      by (inr k) =
-          ap (λ c. word_of parts (cond c (part_at parts one).odd (part_at parts one).even) r) (ne_eqb (p % 2) 1 k) ∙ even r (ap listed (at_even k) ∙ h) ∙
-          ap (λ c. word_of parts (cond c (part_at parts other).odd (part_at parts other).even) r) (sym (ne_eqb (p % 2) 1 k))
+      by : (p % 2 ≡ 1) ⊎ (p % 2 ≡ 1 → ⊥) → side (eqb (p % 2) 1)
+      by (inl k) = subst side (sym (eq-eqb (p % 2) 1 k)) (odd r (ap listed (at_odd k) ∙ h))
+      by (inr k) = subst side (sym (ne_eqb (p % 2) 1 k)) (even r (ap listed (at_even k) ∙ h))
 
 pub same_if : (a b : ℕ) → not (eqb a b) ≡ false → a ≡ b
 same_if a b h = by (cases_eq a b)

@@ -10,11 +10,11 @@ use Rattle.mv_ir.specs.Live.{mark_at}
 use Rattle.mv_regalloc.specs.declared.liveness.Level.{Level}
 use Rattle.mv_regalloc.specs.declared.parts.Part.{Part}
 use Rattle.mv_regalloc.specs.LiveBits.{in_word}
-use Rattle.mv_regalloc.specs.Parts.{word_of, Keeps}
+use Rattle.mv_regalloc.specs.Parts.{IsNoneOr, word_of, Keeps}
 use Rattle.mv_regalloc.specs.Rows.{Bits, either_bits}
 use Rattle.mv_regalloc.specs.declared.liveness.Row.{Row}
 use Rattle.mv_regalloc.specs.declared.liveness.Row.TheVariants.{Empty, Live, Marked, Saved, Behind, Start}
-use Rattle.mv_regalloc.specs.Shared.{LiveSets, Numbered, AreWithin, bits_at, entered, forgotten, number_of, row_of, sets_at, with_live, with_saved}
+use Rattle.mv_regalloc.specs.Shared.{LiveSets, Numbered, AreWithin, bits_at, entered, forgotten, is_kept, number_of, row_of, sets_at, with_live, with_saved}
 use Rattle.mv_regalloc.proofs.BitLists.{at_get, same_bits, past_bit, either_or}
 use Rattle.mv_regalloc.proofs.RowBits.{set_bit, either_long}
 use Rattle.mv_regalloc.proofs.WordBits.{bits_either, none_in}
@@ -91,6 +91,11 @@ module _ (n : ℕ) where
         ap (λ c. mark_at (bits_at n parts number) t || c) (sym (tests_bit (λ t. in_word (word_of parts other (t / 64)) t) t l)) ∙
         sym (either_or (bits_at n parts number) (bits_at n parts other) t (omega (arith, one, l))))
 
+-- a bit of a word is one of the other word, where that is the same or the first is none
+pub word_among : (n t word other : ℕ) → IsNoneOr word other → (in_word word t && ltb t n) ≡ true → (in_word word t && ltb t n) ≡ (in_word other t && ltb t n)
+word_among n t word other (inl e) h = ap (λ w. in_word w t && ltb t n) e
+word_among n t word other (inr e) h = let d : false ≡ true = sym (ap (λ w. in_word w t && ltb t n) e ∙ ap (λ c. c && ltb t n) (none_in t)) ∙ h in absurd cc
+
 -- ---- the other sets
 
 map_as : {X Y : Type 0} (f g : X → Y) (xs : List X) → ((k : ℕ) (d : X) → k < length xs → f (slice_index_or xs k d) ≡ g (slice_index_or xs k d)) → map f xs ≡ map g xs
@@ -118,6 +123,14 @@ module _ (n : ℕ) (a b : List Part) (keeps : Keeps a b) where
   }
 
   module _ (ns : Numbered) (within : AreWithin a ns) (number : ℕ) where
+    pub marked_kept : (bits : Bits) → bits_at n b number ≡ bits → sets_at n b (record ns { marked = number }) ≡ (let v : LiveSets = record (sets_at n a ns) { marked = bits } in v)
+    marked_kept bits e = λ i. record {
+      live = kept_at ns.live within.live i;
+      marked = e i;
+      saved = all_kept (λ x. x) (reverse ns.saved) within.saved i;
+      around = record { none = replicate n false; leaves = all_kept (λ x. x.behind) (reverse ns.levels) within.behind i; restarts = all_kept (λ x. x.start) (reverse ns.levels) within.start i };
+    }
+
     pub sets_kept : (bits : Bits) → bits_at n b number ≡ bits → sets_at n b (record ns { live = number }) ≡ with_live (sets_at n a ns) bits
     sets_kept bits e = λ i. record {
       live = e i;
@@ -216,3 +229,12 @@ module _ (n : ℕ) (parts : List Part) (ns : Numbered) where
   enter_at l behind start e f =
       ap (λ xs. let v : LiveSets = record (sets_at n parts ns) { around = record { none = replicate n false; leaves = map (λ x. at x.behind) xs; restarts = map (λ x. at x.start) xs } } in v) (reverse-append ns.levels (l ∷ [])) ∙
       ap (λ b. entered (sets_at n parts ns) b (at l.start)) e ∙ ap (entered (sets_at n parts ns) behind) f
+
+-- which row was marked last says nothing of the others
+pub kept_row : (s : LiveSets) (marked : Bits) (row : Row) → is_kept row ≡ true → row_of (record s { marked = marked }) row ≡ row_of s row
+kept_row s marked Empty h = refl
+kept_row s marked Live h = refl
+kept_row s marked Marked h = let d : false ≡ true = h in absurd cc
+kept_row s marked (Saved k) h = refl
+kept_row s marked (Behind k) h = refl
+kept_row s marked (Start k) h = refl

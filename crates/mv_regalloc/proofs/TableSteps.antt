@@ -1,5 +1,5 @@
 -- A table of spans as positions are added, and temporaries come and go at the last one.
-use Rattle.std.proofs.Common.{arith, ◌≡◌, ℕ, ◌+◌, ◌-◌, ◌*◌, ◌/◌, ◌<◌, ◌≤◌, Bool, true, false, cond, eqb, ltb, not, ◌&&◌, ◌||◌, [], ◌∷◌, length, replicate, max, refl, sym, ap, ◌∙◌, ◌⊎◌, inl, inr, subst}
+use Rattle.std.proofs.Common.{arith, ◌≡◌, ℕ, zero, suc, ◌+◌, ◌-◌, ◌*◌, ◌/◌, ◌<◌, ◌≤◌, Bool, true, false, cond, eqb, ltb, not, ◌&&◌, ◌||◌, [], ◌∷◌, length, replicate, max, refl, sym, ap, ◌∙◌, ◌⊎◌, inl, inr, subst}
 use Rattle.std.specs.Prelude.{slice_index, slice_set}
 use Rattle.std.proofs.lemmas.List.{ext_get_or, length-replicate, length-set}
 use Rattle.std.proofs.lemmas.List.FromFn.{length-map-range_with_len, get_or-map-range_with_len}
@@ -7,7 +7,7 @@ use Rattle.std.proofs.lemmas.Bool.{cases_eq, cases_lt, eq-eqb, ne_eqb, lt-ltb, l
 use Rattle.mv_ir.specs.Live.{mark_at}
 use Rattle.mv_regalloc.specs.declared.table.Table.{Table}
 use Rattle.mv_regalloc.specs.LiveBits.{word_bit}
-use Rattle.mv_regalloc.specs.Rows.{Bits}
+use Rattle.mv_regalloc.specs.Rows.{Bits, either_bits}
 use Rattle.mv_regalloc.specs.Spanned.{SoFar, Marks, Adds, no_spans, shown, IsSuspended, IsResumed}
 use Rattle.mv_regalloc.specs.Tables.{begin_of, AreEntered, IsPut, IsTable, IsTurned, spans_in, told}
 use Rattle.mv_regalloc.proofs.RowBits.{set_bit}
@@ -15,6 +15,13 @@ use Rattle.mv_regalloc.proofs.BitLists.{past_bit, set_past}
 use Rattle.mv_regalloc.proofs.BodySpans.{clear_at, zeros_at}
 use Rattle.mv_regalloc.proofs.Putting.{put_none}
 use Rattle.mv_regalloc.proofs.Adding.{marks_add}
+
+either_some : (xs ys : Bits) (t : ℕ) → mark_at (either_bits xs ys) t ≡ true → (mark_at xs t ≡ true) ⊎ (mark_at ys t ≡ true)
+either_some [] ys t h = inl h
+either_some (x ∷ xs) [] t h = inl h
+either_some (true ∷ xs) (y ∷ ys) zero h = inl refl
+either_some (false ∷ xs) (y ∷ ys) zero h = inr h
+either_some (x ∷ xs) (y ∷ ys) (suc t) h = either_some xs ys t h
 
 -- ---- what a table says
 
@@ -270,6 +277,39 @@ module _ (held last row : Bits) (at : ℕ) (s s' : Table) (in_time : at ≤ s.po
       by t true false = refl
       by t false true = refl
       by t false false = refl
+
+-- another row is to be marked next, and nothing counts as marked last
+module _ (last known row : Bits) (s s' : Table) (old : IsTable known s) (p : s'.positions ≡ s.positions) (e : s'.ends ≡ s.ends) (g : s'.begun ≡ s.begun)
+    (h : IsPut (λ t. (mark_at last t && not (mark_at row t)) && ltb (slice_index s.begins t) s.positions) s.positions s.begins s'.begins) where
+  pub left_table : IsTable known s'
+  left_table = resumed_table last last row s.positions s s' (omega arith) p e g h known old
+
+  pub left : IsResumed [] 0 row (told last s) (told [] s')
+  left =
+      let long = told_long last s in
+      let long' = told_long [] s' in
+      let puts = h.long in
+      record {
+        positions = p;
+        ends = e;
+        begun = g;
+        begins_long = long' ∙ puts ∙ sym long;
+        begins = λ t l out.
+            let l' : t < length s.begins = omega (arith, l, long) in
+            told_at [] s' t (omega (arith, l', puts)) ∙ h.items t l' ∙ raised (mark_at last t && not (mark_at row t)) (slice_index s.begins t) s.positions (old.low t l') ∙
+            ap (λ c. cond c s.positions (slice_index s.begins t)) (ap (λ c. mark_at last t && not c) out ∙ yes (mark_at last t)) ∙ sym (told_at last s t l');
+      }
+    where
+      yes : (c : Bool) → (c && true) ≡ c
+      yes true = refl
+      yes false = refl
+
+pub known_more : (known more : Bits) (s : Table) → IsTable known s → ((t : ℕ) → t < length s.begins → mark_at more t ≡ true → word_bit s.begun t ≡ true) → IsTable (either_bits known more) s
+known_more known more s old k = record { long = old.long; words = old.words; low = old.low; begun = λ t l m. by t l (either_some known more t m) }
+  where
+    by : (t : ℕ) → t < length s.begins → (mark_at known t ≡ true) ⊎ (mark_at more t ≡ true) → word_bit s.begun t ≡ true
+    by t l (inl m) = old.begun t l m
+    by t l (inr m) = k t l m
 
 -- ---- temporaries at the last position
 

@@ -108,12 +108,9 @@ place_as place t a b h = by (cases_eq (t / 64) place)
     by (inl e) = ap (λ c. eqb (t / 64) place && c) (h e)
     by (inr ne) = ap (λ c. c && a) (ne_eqb (t / 64) place ne) ∙ ap (λ c. c && b) (sym (ne_eqb (t / 64) place ne))
 
-pub same_stays : (a b : Bool) → a ≡ b → (a && not b) ≡ false
-same_stays a b e = ap (λ c. c && not b) e ∙ by b
-  where
-    by : (c : Bool) → (c && not c) ≡ false
-    by true = refl
-    by false = refl
+pub among : (a b : Bool) → (a ≡ true → b ≡ true) → (a && not b) ≡ false
+among true b h = ap not (h refl)
+among false b h = refl
 
 pub or_more : (e l x b : Bool) → ((e && x) || ((l && x) || b)) ≡ (((l || e) && x) || b)
 or_more true true true b = refl

@@ -1,5 +1,5 @@
 -- Words by their places, in parts of which each leads to two others.
-use Rattle.std.specs.Prelude.{ℕ, zero, suc, ◌≡◌, ◌<◌, ◌≤◌, ◌/◌, ◌%◌, cond, eqb, List, length, slice_index_or}
+use Rattle.std.specs.Prelude.{ℕ, zero, suc, ◌≡◌, ◌<◌, ◌≤◌, ◌/◌, ◌%◌, ◌⊎◌, cond, eqb, List, length, slice_index_or}
 use Rattle.mv_regalloc.specs.declared.parts.Part.{Part}
 
 -- a part without words
@@ -34,3 +34,7 @@ pub record AreParts (parts : List Part) : Type 0 where
 pub record Keeps (parts more : List Part) : Type 0 where
   pub long : length parts ≤ length more
   pub words : (number place : ℕ) → number < length parts → word_of more number place ≡ word_of parts number place
+
+-- a word is none, or the same as another one
+abbrev pub IsNoneOr : ℕ → ℕ → Type 0
+IsNoneOr word other = (word ≡ other) ⊎ (word ≡ 0)

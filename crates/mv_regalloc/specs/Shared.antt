@@ -33,9 +33,9 @@ abbrev pub is_kept : Row → Bool
 is_kept Marked = false
 is_kept _ = true
 
--- at all places but some the bits of two are the same
-abbrev pub AreApart : List ℕ → Bits → Bits → Type 0
-AreApart places xs ys = (t : ℕ) → has (t / 64) places ≡ false → mark_at xs t ≡ mark_at ys t
+-- at all places but some the bits of one are among those of another one
+abbrev pub AreBeyond : List ℕ → Bits → Bits → Type 0
+AreBeyond places xs ys = (t : ℕ) → has (t / 64) places ≡ false → mark_at xs t ≡ true → mark_at ys t ≡ true
 
 abbrev pub with_live : LiveSets → Bits → LiveSets
 with_live s bits = record s { live = bits }

@@ -71,6 +71,10 @@ pub record IsSuspended (held : Bits) (at : ℕ) (s s' : SoFar) : Type 0 where
   pub begins : (t : ℕ) → t < length s.begins → slice_index s.begins t ≡ cond (mark_at held t) at (slice_index s'.begins t)
   pub low : (t : ℕ) → t < length s.begins → slice_index s'.begins t ≤ at
 
+-- a row whose temporaries have all been marked
+abbrev pub AreBegun : Bits → SoFar → Type 0
+AreBegun known s = (t : ℕ) → t < length s.begins → mark_at known t ≡ true → word_bit s.begun t ≡ true
+
 -- it is told again, but of the temporaries of another row
 pub record IsResumed (held : Bits) (at : ℕ) (row : Bits) (s s' : SoFar) : Type 0 where
   pub positions : s'.positions ≡ s.positions

@@ -5,7 +5,7 @@ ghost use Rattle.std.specs.Prelude.{ℕ, ◌≡◌, ◌<◌, ◌≤◌, ◌/◌,
 ghost use Rattle.mv_ir.specs.Live.{mark_at};
 ghost use Rattle.mv_regalloc.specs.LiveBits.{in_word};
 ghost use Rattle.mv_regalloc.specs.Rows.{either_bits, put_bit, with_temps};
-ghost use Rattle.mv_regalloc.specs.Shared.{AreApart, entered, forgotten, held, left, number_of, numbered, row_of, with_live, with_saved};
+ghost use Rattle.mv_regalloc.specs.Shared.{AreBeyond, entered, forgotten, held, left, number_of, numbered, row_of, with_live, with_saved};
 
 use crate::parts::Parts;
 use crate::words::{below, cleared, has_bit, set};
@@ -152,15 +152,15 @@ impl Liveness {
         below(self.parts.word(number, place), place as usize, self.temps)
     }
 
-    /// The places of 64 temporaries where two sets may differ.
-    pub fn apart(&self, alloc: Global, one: Row, other: Row) -> Result<Vec<u32>, AllocError>
-        ensures apart { IfOk result (λ places. AreApart places.items (row_of self.now one) (row_of self.now other)) }
+    /// The places of 64 temporaries where a set may have some that another one lacks.
+    pub fn beyond(&self, alloc: Global, one: Row, other: Row) -> Result<Vec<u32>, AllocError>
+        ensures beyond { IfOk result (λ places. AreBeyond places.items (row_of self.now one) (row_of self.now other)) }
         ensures empty { (t : ℕ) → mark_at self.now.around.none t ≡ false }
     {
         let none = self.parts.none();
         let one = self.numbers.of(one, none);
         let other = self.numbers.of(other, none);
-        self.parts.apart(alloc, one, other)
+        self.parts.beyond(alloc, one, other)
     }
 
     /// A temporary past the end has no bit. Where memory lacks, the sets are as they were.
@@ -226,6 +226,17 @@ impl Liveness {
         ensures { self.new ≡ held self.old }
     {
         self.numbers.marked = self.numbers.live;
+    }
+
+    /// Joins a set to the row that was marked last.
+    pub fn join_marked(&mut self, row: Row) -> Result<(), AllocError>
+        ensures ok { OnOk result (self.new ≡ record self.old { marked = either_bits self.old.marked (row_of self.old row) }) }
+        ensures err { OnErr result (self.new ≡ self.old) }
+    {
+        let none = self.parts.none();
+        let other = self.numbers.of(row, none);
+        self.numbers.marked = self.parts.joined(self.numbers.marked, other)?;
+        Ok(())
     }
 
     /// Puts a set aside.

@@ -2,7 +2,7 @@
 
 ghost use Rattle.std.specs.Prelude.{ℕ, ◌≡◌, ◌<◌, ◌≤◌, ◌+◌, ◌*◌, ◌%◌, bit_or, cond, eqb, false, length, IfOk, OnOk};
 ghost use Rattle.mv_regalloc.specs.Scan.{has};
-ghost use Rattle.mv_regalloc.specs.Parts.{Keeps, further, part_at, word_of};
+ghost use Rattle.mv_regalloc.specs.Parts.{IsNoneOr, Keeps, further, part_at, word_of};
 
 use std::alloc::{AllocError, Global};
 use std::marker::Model;
@@ -229,8 +229,8 @@ impl Parts {
         self.made_as(Part { word, odd, even }, one, other)
     }
 
-    // Lists the places where two may differ: those whose words differ.
-    fn list_apart(
+    // Lists the places where one may have a bit that the other one lacks.
+    fn list_beyond(
         &self,
         places: &mut Vec<u32>,
         one: u32,
@@ -238,29 +238,29 @@ impl Parts {
         at: Places,
     ) -> Result<(), AllocError>
         ensures kept { (p : ℕ) → has p places.new.items ≡ false → has p places.old.items ≡ false }
-        ensures apart { OnOk result (
-            (q : ℕ) → has (at.first + at.step * q) places.new.items ≡ false → word_of self.now one q ≡ word_of self.now other q
+        ensures beyond { OnOk result (
+            (q : ℕ) → has (at.first + at.step * q) places.new.items ≡ false → IsNoneOr (word_of self.now one q) (word_of self.now other q)
             ) }
     {
-        if one == other {
+        if one == other || one == self.none() {
             return Ok(());
         }
         let first = self.part(one);
         let second = self.part(other);
         list_if(places, first.word != second.word, at.first)?;
         let odd = at.odd()?;
-        self.list_apart(places, first.odd, second.odd, odd)?;
+        self.list_beyond(places, first.odd, second.odd, odd)?;
         let even = at.even()?;
-        self.list_apart(places, first.even, second.even, even)
+        self.list_beyond(places, first.even, second.even, even)
     }
 
-    /// The places where two may differ.
-    pub fn apart(&self, alloc: Global, one: u32, other: u32) -> Result<Vec<u32>, AllocError>
+    /// The places where one may have a bit that the other one lacks: at the others both are the same, or it has none.
+    pub fn beyond(&self, alloc: Global, one: u32, other: u32) -> Result<Vec<u32>, AllocError>
         ensures { IfOk result (λ places.
-            (q : ℕ) → has q places.items ≡ false → word_of self.now one q ≡ word_of self.now other q) }
+            (q : ℕ) → has q places.items ≡ false → IsNoneOr (word_of self.now one q) (word_of self.now other q)) }
     {
         let mut places = Vec::new(alloc);
-        self.list_apart(&mut places, one, other, Places { first: 0, step: 1 })?;
+        self.list_beyond(&mut places, one, other, Places { first: 0, step: 1 })?;
         Ok(places)
     }
 }

@@ -4,7 +4,7 @@ ghost use Rattle.std.specs.Prelude.{◌≡◌, ◌≤◌, ◌∷◌, [], drop, f
 ghost use Rattle.mv_ir.specs.Live.{all_marks};
 ghost use Rattle.mv_regalloc.specs.Rows.{sets, own_trees, with_reads, with_all_reads, either_bits, put_bit, live_before, rows_in_order, stm_rows};
 ghost use Rattle.mv_regalloc.specs.Shared.{is_kept};
-ghost use Rattle.mv_regalloc.specs.Spanned.{Adds, AreSpansOf, Rejoins};
+ghost use Rattle.mv_regalloc.specs.Spanned.{Adds, AreBegun, AreSpansOf, Rejoins};
 ghost use Rattle.mv_regalloc.specs.Tables.{row_in};
 
 use crate::liveness::Row;
@@ -54,9 +54,10 @@ fn mark_stm(alloc: Global, stm: &Stm, walk: &mut Walk) -> Result<(), AllocError>
             walk.save(Row::Live)?;
             let held = walk.suspend()?;
             mark_code(alloc, b, walk)?;
+            walk.save_known()?;
             let before = walk.suspend()?;
             walk.save(Row::Live)?;
-            walk.turn(Row::Saved(3));
+            walk.turn(Row::Saved(4));
             mark_code(alloc, a, walk)?;
             mark_test(alloc, test, before, held, walk)
         }
@@ -112,7 +113,7 @@ fn mark_block(alloc: Global, code: &List<Stm>, walk: &mut Walk) -> Result<(), Al
 }
 
 // The test of an `If`, before its two lists: all that was set aside is told again. That is what is live before the one
-// list, what was marked there, what was marked behind the lists, and what is live behind them.
+// list, what was marked there last, what is known to be marked, what was marked behind the lists, and what is live there.
 fn mark_test(
     alloc: Global,
     test: &Tree,
@@ -122,15 +123,19 @@ fn mark_test(
 ) -> Result<(), AllocError>
     requires before { before ≤ walk.old.spans.positions }
     requires held { held ≤ walk.old.spans.positions }
+    requires known { AreBegun (row_in walk.old (Row.Saved 2)) walk.old.spans }
     ensures live { OnOk result (walk.new.live ≡ with_reads test.now (either_bits walk.old.live (row_in walk.old (Row.Saved 0)))) }
-    ensures saved { OnOk result (walk.new.saved ≡ drop 4 walk.old.saved) }
+    ensures saved { OnOk result (walk.new.saved ≡ drop 5 walk.old.saved) }
     ensures around { OnOk result (walk.new.around ≡ walk.old.around) }
-    ensures rows { OnOk result (Rejoins (row_in walk.old (Row.Saved 2)) held (row_in walk.old (Row.Saved 1)) before
+    ensures rows { OnOk result (Rejoins (row_in walk.old (Row.Saved 3)) held (row_in walk.old (Row.Saved 1)) before
         (with_reads test.now (either_bits walk.old.live (row_in walk.old (Row.Saved 0)))) walk.old.spans walk.new.spans) }
 {
     walk.turn_test(alloc, test, Row::Saved(0))?;
+    walk.leave_last(alloc)?;
+    walk.know(Row::Saved(2))?;
     walk.resume(alloc, 1, before)?;
-    walk.resume(alloc, 2, held)?;
+    walk.resume(alloc, 3, held)?;
+    walk.forget();
     walk.forget();
     walk.forget();
     walk.forget();

@@ -5,7 +5,7 @@ ghost use Rattle.std.specs.Prelude.{ℕ, ◌≡◌, ◌<◌, ◌≤◌, ◌+◌,
 ghost use Rattle.mv_ir.specs.Live.{mark_at};
 ghost use Rattle.mv_regalloc.specs.LiveBits.{in_word, word_bit};
 ghost use Rattle.mv_regalloc.specs.Rows.{Bits};
-ghost use Rattle.mv_regalloc.specs.Shared.{AreApart, row_of, with_live};
+ghost use Rattle.mv_regalloc.specs.Shared.{AreBeyond, row_of, with_live};
 ghost use Rattle.mv_regalloc.specs.Spanned.{Marks, SoFar, SpanTable, shown};
 ghost use Rattle.mv_regalloc.specs.Tables.{AreEntered, IsPut, IsTable, told};
 
@@ -61,7 +61,7 @@ fn raise_word(begins: &mut List<u64>, place: usize, word: u64, positions: u64)
 }
 
 /// The temporaries of a row that aren't in another one begin no later than so many positions from the end, where the
-/// places are known at which the two may differ.
+/// places are known at which there may be such.
 pub fn raise_row(
     begins: &mut List<u64>,
     liveness: &Liveness,
@@ -70,7 +70,7 @@ pub fn raise_row(
     row: Row,
     positions: u64,
 )
-    requires { AreApart places.now (row_of liveness.now held) (row_of liveness.now row) }
+    requires { AreBeyond places.now (row_of liveness.now held) (row_of liveness.now row) }
     ensures { IsPut (λ t. (mark_at (row_of liveness.now held) t && not (mark_at (row_of liveness.now row) t)) && ltb (slice_index begins.old t) positions)
         positions begins.old begins.new }
 {
@@ -132,11 +132,11 @@ fn enter_word(table: &mut Table, place: usize, word: u64, positions: u64)
 }
 
 /// The temporaries of a row are marked at the next position, where those of another one have been marked before, and
-/// the places are known at which the two may differ.
+/// the places are known at which there may be others.
 pub fn enter_row(table: &mut Table, liveness: &Liveness, places: &[u32], known: Row, row: Row)
     requires long { length table.old.ends ≡ length table.old.begins }
     requires words { length table.old.begins ≤ length table.old.begun * 64 }
-    requires apart { AreApart places.now (row_of liveness.now known) (row_of liveness.now row) }
+    requires beyond { AreBeyond places.now (row_of liveness.now row) (row_of liveness.now known) }
     ensures { AreEntered (row_of liveness.now known) (row_of liveness.now row) table.old table.new }
 {
     for place in places {
@@ -267,7 +267,7 @@ impl Spans {
         ensures empty { OnOk result ((t : ℕ) → mark_at liveness.now.around.none t ≡ false) }
     {
         let mut table = table;
-        let places = liveness.apart(alloc, held, Row::Empty)?;
+        let places = liveness.beyond(alloc, held, Row::Empty)?;
         let positions = table.positions;
         raise_row(
             &mut table.begins,

@@ -2,11 +2,12 @@
 // position costs the temporaries that come or go there. Where some code begins, what was marked last is set aside, and
 // is told again before that code: so nothing is noted of temporaries that aren't live where the code ends in a jump.
 
-ghost use Rattle.std.specs.Prelude.{◌≡◌, ◌<◌, ◌≤◌, ◌∷◌, [], drop, false, true, length, map, replicate, slice_index, slice_index_or, IfOk, OnOk, Some};
+ghost use Rattle.std.specs.Prelude.{◌≡◌, ◌<◌, ◌≤◌, ◌∷◌, [], drop, false, true, length, map, replicate, slice_index, slice_index_or, IfOk, OnOk, Some, ◌&&◌, not, ltb};
+ghost use Rattle.mv_ir.specs.Live.{mark_at};
 ghost use Rattle.mv_regalloc.specs.Rows.{Bits, either_bits, inside, outside, put_bit, sets, stm_rows, with_reads, with_temps};
-ghost use Rattle.mv_regalloc.specs.Shared.{AreApart, is_kept, with_live};
-ghost use Rattle.mv_regalloc.specs.Spanned.{Adds, IsResumed, IsSuspended, Marks, SoFar, no_spans, shown, with_params};
-ghost use Rattle.mv_regalloc.specs.Tables.{IsTable, Holds, IsTurned, known_row, last_row, row_in, told, top};
+ghost use Rattle.mv_regalloc.specs.Shared.{AreBeyond, is_kept, with_live};
+ghost use Rattle.mv_regalloc.specs.Spanned.{Adds, AreBegun, IsResumed, IsSuspended, Marks, SoFar, no_spans, shown, with_params};
+ghost use Rattle.mv_regalloc.specs.Tables.{Holds, IsPut, IsTable, IsTurned, known_row, last_row, row_in, told, top};
 
 use crate::live::{live_loop, live_params, live_test};
 use crate::liveness::{Liveness, Row};
@@ -58,21 +59,56 @@ fn hold(liveness: &mut Liveness, last: Last) -> Last
     }
 }
 
-// The places where what is live may differ from a row whose temporaries have all been marked.
-fn places_to_turn(alloc: Global, liveness: &Liveness, last: Last) -> Result<Vec<u32>, AllocError>
-    ensures { IfOk result (λ places. AreApart places.items (known_row last liveness.now) liveness.now.live) }
+// The places where the row that was marked last may have temporaries that aren't live.
+fn places_left(alloc: Global, liveness: &Liveness, last: Last) -> Result<Vec<u32>, AllocError>
+    ensures { IfOk result (λ places. AreBeyond places.items (last_row last liveness.now) liveness.now.live) }
 {
     match last {
         Last::Same => Ok(Vec::new(alloc)),
-        Last::Other => liveness.apart(alloc, Row::Marked, Row::Live),
-        Last::Nothing => liveness.apart(alloc, Row::Marked, Row::Live),
+        Last::Other => liveness.beyond(alloc, Row::Marked, Row::Live),
+        Last::Nothing => Ok(Vec::new(alloc)),
     }
 }
 
-// From the row that was marked last to another one.
-fn turn_row(liveness: &Liveness, places: &[u32], last: Last, table: &mut Table)
+// The places where temporaries may be live that a row lacks whose temporaries have all been marked.
+fn places_entered(alloc: Global, liveness: &Liveness, last: Last) -> Result<Vec<u32>, AllocError>
+    ensures { IfOk result (λ places. AreBeyond places.items liveness.now.live (known_row last liveness.now)) }
+{
+    match last {
+        Last::Same => Ok(Vec::new(alloc)),
+        Last::Other => liveness.beyond(alloc, Row::Live, Row::Marked),
+        Last::Nothing => liveness.beyond(alloc, Row::Live, Row::Marked),
+    }
+}
+
+// Tells where those of the row that was marked last begin that aren't live.
+fn leave_row(liveness: &Liveness, left: &[u32], last: Last, table: &mut Table)
+    requires { AreBeyond left.now (last_row last liveness.now) liveness.now.live }
+    ensures positions { table.new.positions ≡ table.old.positions }
+    ensures ends { table.new.ends ≡ table.old.ends }
+    ensures begun { table.new.begun ≡ table.old.begun }
+    ensures begins { IsPut
+        (λ t. (mark_at (last_row last liveness.now) t && not (mark_at liveness.now.live t)) && ltb (slice_index table.old.begins t) table.old.positions)
+        table.old.positions table.old.begins table.new.begins }
+{
+    if let Last::Other = last {
+        let positions = table.positions;
+        raise_row(
+            &mut table.begins,
+            liveness,
+            left,
+            Row::Marked,
+            Row::Live,
+            positions,
+        );
+    }
+}
+
+// From the row that was marked last to what is live.
+fn turn_row(liveness: &Liveness, left: &[u32], entered: &[u32], last: Last, table: &mut Table)
     requires table { IsTable (known_row last liveness.now) table.old }
-    requires apart { AreApart places.now (known_row last liveness.now) liveness.now.live }
+    requires left { AreBeyond left.now (last_row last liveness.now) liveness.now.live }
+    requires entered { AreBeyond entered.now liveness.now.live (known_row last liveness.now) }
     ensures { IsTurned (last_row last liveness.now) (known_row last liveness.now) liveness.now.live table.old table.new }
 {
     match last {
@@ -82,14 +118,14 @@ fn turn_row(liveness: &Liveness, places: &[u32], last: Last, table: &mut Table)
             raise_row(
                 &mut table.begins,
                 liveness,
-                places,
+                left,
                 Row::Marked,
                 Row::Live,
                 positions,
             );
-            enter_row(table, liveness, places, Row::Marked, Row::Live);
+            enter_row(table, liveness, entered, Row::Marked, Row::Live);
         }
-        Last::Nothing => enter_row(table, liveness, places, Row::Marked, Row::Live),
+        Last::Nothing => enter_row(table, liveness, entered, Row::Marked, Row::Live),
     }
 }
 
@@ -110,8 +146,9 @@ fn mark_row(
     if positions == u64::MAX {
         return Err(AllocError);
     }
-    let places = places_to_turn(alloc, liveness, last)?;
-    turn_row(liveness, places.as_slice(), last, table);
+    let left = places_left(alloc, liveness, last)?;
+    let entered = places_entered(alloc, liveness, last)?;
+    turn_row(liveness, left.as_slice(), entered.as_slice(), last, table);
     table.positions = positions + 1;
     Ok(())
 }
@@ -264,6 +301,49 @@ impl Walk {
         Ok(self.table.positions)
     }
 
+    /// Puts a row aside whose temporaries have all been marked.
+    pub fn save_known(&mut self) -> Result<(), AllocError>
+        ensures live { OnOk result (self.new.live ≡ self.old.live) }
+        ensures saved { OnOk result (self.new.saved ≡ top self.new ∷ self.old.saved) }
+        ensures around { OnOk result (self.new.around ≡ self.old.around) }
+        ensures spans { OnOk result (self.new.spans ≡ self.old.spans) }
+        ensures known { OnOk result (AreBegun (top self.new) self.new.spans) }
+    {
+        let row = match self.last {
+            Last::Same => Row::Live,
+            Last::Other => Row::Marked,
+            Last::Nothing => Row::Marked,
+        };
+        self.liveness.save(row)
+    }
+
+    /// What is live is to be marked next: tells what was marked last, but of temporaries that are live.
+    pub fn leave_last(&mut self, alloc: Global) -> Result<(), AllocError>
+        ensures live { OnOk result (self.new.live ≡ self.old.live) }
+        ensures saved { OnOk result (self.new.saved ≡ self.old.saved) }
+        ensures around { OnOk result (self.new.around ≡ self.old.around) }
+        ensures spans { OnOk result (IsResumed [] 0 self.old.live self.old.spans self.new.spans) }
+    {
+        let left = places_left(alloc, &self.liveness, self.last)?;
+        leave_row(&self.liveness, left.as_slice(), self.last, &mut self.table);
+        let _ = hold(&mut self.liveness, self.last);
+        self.last = Last::Nothing;
+        Ok(())
+    }
+
+    /// All temporaries of a row have been marked.
+    pub fn know(&mut self, row: Row) -> Result<(), AllocError>
+        requires kept { is_kept row ≡ true }
+        requires begun { AreBegun (row_in self.old row) self.old.spans }
+        ensures { OnOk result (self.new ≡ self.old) }
+    {
+        match self.last {
+            Last::Same => Ok(()),
+            Last::Other => Ok(()),
+            Last::Nothing => self.liveness.join_marked(row),
+        }
+    }
+
     /// Tells again what was set aside, but of temporaries that are live: so they are to be marked next.
     pub fn resume(&mut self, alloc: Global, saved: u32, positions: u64) -> Result<(), AllocError>
         requires { positions ≤ self.old.spans.positions }
@@ -272,7 +352,7 @@ impl Walk {
         ensures around { OnOk result (self.new.around ≡ self.old.around) }
         ensures spans { OnOk result (IsResumed (row_in self.old (Row.Saved saved)) positions self.old.live self.old.spans self.new.spans) }
     {
-        let places = self.liveness.apart(alloc, Row::Saved(saved), Row::Live)?;
+        let places = self.liveness.beyond(alloc, Row::Saved(saved), Row::Live)?;
         raise_row(
             &mut self.table.begins,
             &self.liveness,

@@ -9,7 +9,9 @@ use crate::hart::{Hart, Stepped};
 use mv_fetch::Memory;
 use mv_isa::{Cause, Instr, decode};
 use mv_num::kind::Kind;
-use mv_num::word;
+use mv_num::word::{
+    add, lt_s, lt_u, mul, mul_high_ss, mul_high_su, mul_high_uu, of_signed, shl, shr_s, shr_u, sub,
+};
 
 // What an instruction does.
 #[tactic(auto, unfolding(mv_isa::specs::Execution::execute, crate::specs::Stepping::access))]
@@ -21,42 +23,18 @@ fn execute(hart: &mut Hart, memory: &mut Memory, instr: Instr) -> Stepped
 {
     match instr {
         Instr::Lui { rd, imm } => hart.sets(rd, upper(imm)),
-        Instr::Auipc { rd, imm } => {
-            let value = word::add(hart.pc, upper(imm));
-            hart.sets(rd, value)
-        }
-        Instr::Jal { rd, imm } => {
-            let target = word::add(hart.pc, word::of_signed(imm));
-            hart.jumps(rd, target)
-        }
+        Instr::Auipc { rd, imm } => hart.sets(rd, add(hart.pc, upper(imm))),
+        Instr::Jal { rd, imm } => hart.jumps(rd, add(hart.pc, of_signed(imm))),
         Instr::Jalr { rd, rs1, imm } => {
-            let sum = word::add(hart.reg(rs1), word::of_signed(imm));
+            let sum = add(hart.reg(rs1), of_signed(imm));
             hart.jumps(rd, sum - sum % 2)
         }
-        Instr::Beq { rs1, rs2, imm } => {
-            let test = hart.are_equal(rs1, rs2);
-            hart.branches(imm, test)
-        }
-        Instr::Bne { rs1, rs2, imm } => {
-            let test = hart.are_equal(rs1, rs2);
-            hart.branches(imm, !test)
-        }
-        Instr::Blt { rs1, rs2, imm } => {
-            let test = hart.is_less_s(rs1, rs2);
-            hart.branches(imm, test)
-        }
-        Instr::Bge { rs1, rs2, imm } => {
-            let test = hart.is_less_s(rs1, rs2);
-            hart.branches(imm, !test)
-        }
-        Instr::Bltu { rs1, rs2, imm } => {
-            let test = hart.is_less_u(rs1, rs2);
-            hart.branches(imm, test)
-        }
-        Instr::Bgeu { rs1, rs2, imm } => {
-            let test = hart.is_less_u(rs1, rs2);
-            hart.branches(imm, !test)
-        }
+        Instr::Beq { rs1, rs2, imm } => hart.branches(imm, hart.are_equal(rs1, rs2)),
+        Instr::Bne { rs1, rs2, imm } => hart.branches(imm, !hart.are_equal(rs1, rs2)),
+        Instr::Blt { rs1, rs2, imm } => hart.branches(imm, hart.is_less_s(rs1, rs2)),
+        Instr::Bge { rs1, rs2, imm } => hart.branches(imm, !hart.is_less_s(rs1, rs2)),
+        Instr::Bltu { rs1, rs2, imm } => hart.branches(imm, hart.is_less_u(rs1, rs2)),
+        Instr::Bgeu { rs1, rs2, imm } => hart.branches(imm, !hart.is_less_u(rs1, rs2)),
         Instr::Lb { rd, rs1, imm } => hart.loads(memory, rd, rs1, imm, 1, Kind::SChar),
         Instr::Lh { rd, rs1, imm } => hart.loads(memory, rd, rs1, imm, 2, Kind::Short),
         Instr::Lw { rd, rs1, imm } => hart.loads(memory, rd, rs1, imm, 4, Kind::UInt),
@@ -65,141 +43,33 @@ fn execute(hart: &mut Hart, memory: &mut Memory, instr: Instr) -> Stepped
         Instr::Sb { rs1, rs2, imm } => hart.stores(memory, rs1, rs2, imm, 1),
         Instr::Sh { rs1, rs2, imm } => hart.stores(memory, rs1, rs2, imm, 2),
         Instr::Sw { rs1, rs2, imm } => hart.stores(memory, rs1, rs2, imm, 4),
-        Instr::Addi { rd, rs1, imm } => {
-            let a = hart.reg(rs1);
-            let b = word::of_signed(imm);
-            hart.sets(rd, word::add(a, b))
-        }
-        Instr::Slti { rd, rs1, imm } => {
-            let a = hart.reg(rs1);
-            let b = word::of_signed(imm);
-            hart.sets(rd, truth(word::lt_s(a, b)))
-        }
-        Instr::Sltiu { rd, rs1, imm } => {
-            let a = hart.reg(rs1);
-            let b = word::of_signed(imm);
-            hart.sets(rd, truth(word::lt_u(a, b)))
-        }
-        Instr::Xori { rd, rs1, imm } => {
-            let a = hart.reg(rs1);
-            let b = word::of_signed(imm);
-            hart.sets(rd, a ^ b)
-        }
-        Instr::Ori { rd, rs1, imm } => {
-            let a = hart.reg(rs1);
-            let b = word::of_signed(imm);
-            hart.sets(rd, a | b)
-        }
-        Instr::Andi { rd, rs1, imm } => {
-            let a = hart.reg(rs1);
-            let b = word::of_signed(imm);
-            hart.sets(rd, a & b)
-        }
-        Instr::Slli { rd, rs1, imm } => {
-            let a = hart.reg(rs1);
-            let b = word::of_signed(imm);
-            hart.sets(rd, word::shl(a, b))
-        }
-        Instr::Srli { rd, rs1, imm } => {
-            let a = hart.reg(rs1);
-            let b = word::of_signed(imm);
-            hart.sets(rd, word::shr_u(a, b))
-        }
-        Instr::Srai { rd, rs1, imm } => {
-            let a = hart.reg(rs1);
-            let b = word::of_signed(imm);
-            hart.sets(rd, word::shr_s(a, b))
-        }
-        Instr::Add { rd, rs1, rs2 } => {
-            let a = hart.reg(rs1);
-            let b = hart.reg(rs2);
-            hart.sets(rd, word::add(a, b))
-        }
-        Instr::Sub { rd, rs1, rs2 } => {
-            let a = hart.reg(rs1);
-            let b = hart.reg(rs2);
-            hart.sets(rd, word::sub(a, b))
-        }
-        Instr::Sll { rd, rs1, rs2 } => {
-            let a = hart.reg(rs1);
-            let b = hart.reg(rs2);
-            hart.sets(rd, word::shl(a, b))
-        }
-        Instr::Slt { rd, rs1, rs2 } => {
-            let a = hart.reg(rs1);
-            let b = hart.reg(rs2);
-            hart.sets(rd, truth(word::lt_s(a, b)))
-        }
-        Instr::Sltu { rd, rs1, rs2 } => {
-            let a = hart.reg(rs1);
-            let b = hart.reg(rs2);
-            hart.sets(rd, truth(word::lt_u(a, b)))
-        }
-        Instr::Xor { rd, rs1, rs2 } => {
-            let a = hart.reg(rs1);
-            let b = hart.reg(rs2);
-            hart.sets(rd, a ^ b)
-        }
-        Instr::Srl { rd, rs1, rs2 } => {
-            let a = hart.reg(rs1);
-            let b = hart.reg(rs2);
-            hart.sets(rd, word::shr_u(a, b))
-        }
-        Instr::Sra { rd, rs1, rs2 } => {
-            let a = hart.reg(rs1);
-            let b = hart.reg(rs2);
-            hart.sets(rd, word::shr_s(a, b))
-        }
-        Instr::Or { rd, rs1, rs2 } => {
-            let a = hart.reg(rs1);
-            let b = hart.reg(rs2);
-            hart.sets(rd, a | b)
-        }
-        Instr::And { rd, rs1, rs2 } => {
-            let a = hart.reg(rs1);
-            let b = hart.reg(rs2);
-            hart.sets(rd, a & b)
-        }
-        Instr::Mul { rd, rs1, rs2 } => {
-            let a = hart.reg(rs1);
-            let b = hart.reg(rs2);
-            hart.sets(rd, word::mul(a, b))
-        }
-        Instr::Mulh { rd, rs1, rs2 } => {
-            let a = hart.reg(rs1);
-            let b = hart.reg(rs2);
-            hart.sets(rd, word::mul_high_ss(a, b))
-        }
-        Instr::Mulhsu { rd, rs1, rs2 } => {
-            let a = hart.reg(rs1);
-            let b = hart.reg(rs2);
-            hart.sets(rd, word::mul_high_su(a, b))
-        }
-        Instr::Mulhu { rd, rs1, rs2 } => {
-            let a = hart.reg(rs1);
-            let b = hart.reg(rs2);
-            hart.sets(rd, word::mul_high_uu(a, b))
-        }
-        Instr::Div { rd, rs1, rs2 } => {
-            let a = hart.reg(rs1);
-            let b = hart.reg(rs2);
-            hart.sets(rd, quotient_s(a, b))
-        }
-        Instr::Divu { rd, rs1, rs2 } => {
-            let a = hart.reg(rs1);
-            let b = hart.reg(rs2);
-            hart.sets(rd, quotient_u(a, b))
-        }
-        Instr::Rem { rd, rs1, rs2 } => {
-            let a = hart.reg(rs1);
-            let b = hart.reg(rs2);
-            hart.sets(rd, remainder_s(a, b))
-        }
-        Instr::Remu { rd, rs1, rs2 } => {
-            let a = hart.reg(rs1);
-            let b = hart.reg(rs2);
-            hart.sets(rd, remainder_u(a, b))
-        }
+        Instr::Addi { rd, rs1, imm } => hart.sets(rd, add(hart.reg(rs1), of_signed(imm))),
+        Instr::Slti { rd, rs1, imm } => hart.sets(rd, truth(lt_s(hart.reg(rs1), of_signed(imm)))),
+        Instr::Sltiu { rd, rs1, imm } => hart.sets(rd, truth(lt_u(hart.reg(rs1), of_signed(imm)))),
+        Instr::Xori { rd, rs1, imm } => hart.sets(rd, hart.reg(rs1) ^ of_signed(imm)),
+        Instr::Ori { rd, rs1, imm } => hart.sets(rd, hart.reg(rs1) | of_signed(imm)),
+        Instr::Andi { rd, rs1, imm } => hart.sets(rd, hart.reg(rs1) & of_signed(imm)),
+        Instr::Slli { rd, rs1, imm } => hart.sets(rd, shl(hart.reg(rs1), of_signed(imm))),
+        Instr::Srli { rd, rs1, imm } => hart.sets(rd, shr_u(hart.reg(rs1), of_signed(imm))),
+        Instr::Srai { rd, rs1, imm } => hart.sets(rd, shr_s(hart.reg(rs1), of_signed(imm))),
+        Instr::Add { rd, rs1, rs2 } => hart.sets(rd, add(hart.reg(rs1), hart.reg(rs2))),
+        Instr::Sub { rd, rs1, rs2 } => hart.sets(rd, sub(hart.reg(rs1), hart.reg(rs2))),
+        Instr::Sll { rd, rs1, rs2 } => hart.sets(rd, shl(hart.reg(rs1), hart.reg(rs2))),
+        Instr::Slt { rd, rs1, rs2 } => hart.sets(rd, truth(lt_s(hart.reg(rs1), hart.reg(rs2)))),
+        Instr::Sltu { rd, rs1, rs2 } => hart.sets(rd, truth(lt_u(hart.reg(rs1), hart.reg(rs2)))),
+        Instr::Xor { rd, rs1, rs2 } => hart.sets(rd, hart.reg(rs1) ^ hart.reg(rs2)),
+        Instr::Srl { rd, rs1, rs2 } => hart.sets(rd, shr_u(hart.reg(rs1), hart.reg(rs2))),
+        Instr::Sra { rd, rs1, rs2 } => hart.sets(rd, shr_s(hart.reg(rs1), hart.reg(rs2))),
+        Instr::Or { rd, rs1, rs2 } => hart.sets(rd, hart.reg(rs1) | hart.reg(rs2)),
+        Instr::And { rd, rs1, rs2 } => hart.sets(rd, hart.reg(rs1) & hart.reg(rs2)),
+        Instr::Mul { rd, rs1, rs2 } => hart.sets(rd, mul(hart.reg(rs1), hart.reg(rs2))),
+        Instr::Mulh { rd, rs1, rs2 } => hart.sets(rd, mul_high_ss(hart.reg(rs1), hart.reg(rs2))),
+        Instr::Mulhsu { rd, rs1, rs2 } => hart.sets(rd, mul_high_su(hart.reg(rs1), hart.reg(rs2))),
+        Instr::Mulhu { rd, rs1, rs2 } => hart.sets(rd, mul_high_uu(hart.reg(rs1), hart.reg(rs2))),
+        Instr::Div { rd, rs1, rs2 } => hart.sets(rd, quotient_s(hart.reg(rs1), hart.reg(rs2))),
+        Instr::Divu { rd, rs1, rs2 } => hart.sets(rd, quotient_u(hart.reg(rs1), hart.reg(rs2))),
+        Instr::Rem { rd, rs1, rs2 } => hart.sets(rd, remainder_s(hart.reg(rs1), hart.reg(rs2))),
+        Instr::Remu { rd, rs1, rs2 } => hart.sets(rd, remainder_u(hart.reg(rs1), hart.reg(rs2))),
         Instr::Fence => hart.goes_on(),
         Instr::FenceI => {
             memory.fence_i();

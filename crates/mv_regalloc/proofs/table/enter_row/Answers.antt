@@ -1,4 +1,4 @@
-use Rattle.std.proofs.Common.{ℕ, ◌≡◌, ◌+◌, ◌/◌, ◌&&◌, ◌||◌, Bool, false, eqb, not, take, refl, sym, ap, ◌∙◌, arith, subst}
+use Rattle.std.proofs.Common.{ℕ, ◌≡◌, ◌+◌, ◌/◌, ◌&&◌, ◌||◌, Bool, false, eqb, not, take, refl, ap, ◌∙◌, arith, subst}
 use Rattle.std.specs.Prelude.{slice_index}
 use Rattle.std.proofs.lemmas.List.{take_all}
 use Rattle.mv_ir.specs.Live.{mark_at}
@@ -8,7 +8,7 @@ use Rattle.mv_regalloc.specs.Shared.{row_of}
 use Rattle.mv_regalloc.specs.Tables.{IsPut}
 use Rattle.mv_regalloc.proofs.Listed.{all_listed, enter_more, has_more}
 use Rattle.mv_regalloc.proofs.Putting.{put_as, put_none}
-use Rattle.mv_regalloc.proofs.Turning.{place_as, place_here, or_more, same_stays}
+use Rattle.mv_regalloc.proofs.Turning.{place_as, place_here, or_more, among}
 use Rattle.mv_regalloc.proofs.table.enter_row.Goals as goal
 
 pub loop-place-init : goal.loop-place-init
@@ -64,7 +64,7 @@ returns c =
     let known = row_of c.args.liveness.now c.args.known in
     let enters : ℕ → Bool = λ t. mark_at row t && not (mark_at known t) in
     let whole : take i places ≡ places = take_all i places (omega (arith, c.loop-place-test.false)) in
-    let out : (t : ℕ) → has (t / 64) places ≡ false → enters t ≡ false = λ t k. same_stays (mark_at row t) (mark_at known t) (sym (c.requires.apart t k)) in
+    let out : (t : ℕ) → has (t / 64) places ≡ false → enters t ≡ false = λ t k. among (mark_at row t) (mark_at known t) (c.requires.beyond t k) in
     record {
       positions = h.positions;
       begins = h.begins;

@@ -7,7 +7,7 @@ use Rattle.mv_regalloc.specs.Scan.{has}
 use Rattle.mv_regalloc.specs.Shared.{row_of}
 use Rattle.mv_regalloc.proofs.Listed.{all_listed, has_more, raise_more}
 use Rattle.mv_regalloc.proofs.Putting.{put_as, put_none}
-use Rattle.mv_regalloc.proofs.Turning.{place_here, same_stays}
+use Rattle.mv_regalloc.proofs.Turning.{place_here, among}
 use Rattle.mv_regalloc.proofs.table.raise_row.Goals as goal
 
 pub loop-place-init : goal.loop-place-init
@@ -43,4 +43,4 @@ returns c =
     let whole : take i places ≡ places = take_all i places (omega (arith, c.loop-place-test.false)) in
     let test : ℕ → Bool = λ t. (mark_at held t && not (mark_at row t)) && ltb (slice_index begins t) v in
     put_as (λ t. has (t / 64) (take i places) && test t) test v begins c.loop-place.begins
-    (λ t l. ap (λ l. has (t / 64) l && test t) whole ∙ all_listed (has (t / 64) places) (test t) (λ k. ap (λ d. d && ltb (slice_index begins t) v) (same_stays (mark_at held t) (mark_at row t) (c.requires t k)))) c.loop-place.invariant
+    (λ t l. ap (λ l. has (t / 64) l && test t) whole ∙ all_listed (has (t / 64) places) (test t) (λ k. ap (λ d. d && ltb (slice_index begins t) v) (among (mark_at held t) (mark_at row t) (c.requires t k)))) c.loop-place.invariant
