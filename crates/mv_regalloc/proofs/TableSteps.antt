@@ -9,9 +9,9 @@ use Rattle.mv_regalloc.specs.declared.table.Table.{Table}
 use Rattle.mv_regalloc.specs.LiveBits.{word_bit}
 use Rattle.mv_regalloc.specs.Rows.{Bits, either_bits}
 use Rattle.mv_regalloc.specs.Spanned.{SoFar, Marks, Adds, no_spans, shown, IsSuspended, IsResumed}
-use Rattle.mv_regalloc.specs.Tables.{begin_of, AreEntered, IsPut, IsTable, IsTurned, Walked, spans_in, told}
+use Rattle.mv_regalloc.specs.Tables.{begin_of, AreEntered, IsPut, IsTable, IsTurned, spans_in, told}
 use Rattle.mv_regalloc.proofs.RowBits.{set_bit}
-use Rattle.mv_regalloc.proofs.LiveSets.{past_bit, set_past}
+use Rattle.mv_regalloc.proofs.BitLists.{past_bit, set_past}
 use Rattle.mv_regalloc.proofs.BodySpans.{clear_at, zeros_at}
 use Rattle.mv_regalloc.proofs.Putting.{put_none}
 use Rattle.mv_regalloc.proofs.Adding.{marks_add}
@@ -202,6 +202,20 @@ turned_none held none s s' clear low p e h = λ i. record { positions = p i; beg
 
 -- ---- rows that are set aside
 
+pub told_empty : (none : Bits) (s : Table) → ((t : ℕ) → mark_at none t ≡ false) → told none s ≡ told [] s
+told_empty none s h = same_told [] none s s refl refl refl refl (λ t l. ap (λ c. cond c s.positions (slice_index s.begins t)) (h t))
+
+pub suspended_as : (held last : Bits) (at : ℕ) (s s' : SoFar) → ((t : ℕ) → mark_at held t ≡ mark_at last t) → IsSuspended last at s s' → IsSuspended held at s s'
+suspended_as held last at s s' e h = record {
+  last = h.last;
+  positions = h.positions;
+  ends = h.ends;
+  begun = h.begun;
+  begins_long = h.begins_long;
+  begins = λ t l. h.begins t l ∙ ap (λ c. cond c at (slice_index s'.begins t)) (sym (e t));
+  low = h.low;
+}
+
 pub suspended : (last : Bits) (s : Table) → ((t : ℕ) → t < length s.begins → slice_index s.begins t ≤ s.positions) → IsSuspended last s.positions (told last s) (told [] s)
 suspended last s low = record {
   last = refl;
@@ -265,25 +279,13 @@ module _ (held last row : Bits) (at : ℕ) (s s' : Table) (in_time : at ≤ s.po
       by t false false = refl
 
 -- another row is to be marked next, and nothing counts as marked last
-module _ (last known more row : Bits) (s s' : Table) (old : IsTable known s) (p : s'.positions ≡ s.positions) (e : s'.ends ≡ s.ends) (g : s'.begun ≡ s.begun)
+module _ (last known row : Bits) (s s' : Table) (old : IsTable known s) (p : s'.positions ≡ s.positions) (e : s'.ends ≡ s.ends) (g : s'.begun ≡ s.begun)
     (h : IsPut (λ t. (mark_at last t && not (mark_at row t)) && ltb (slice_index s.begins t) s.positions) s.positions s.begins s'.begins) where
-  pub joined_table : ((t : ℕ) → t < length s.begins → mark_at more t ≡ true → word_bit s.begun t ≡ true) → IsTable (either_bits known more) s'
-  joined_table k =
-      let same = resumed_table last last row s.positions s s' (omega arith) p e g h known old in
-      let puts = h.long in
-      record {
-        long = same.long;
-        words = same.words;
-        low = same.low;
-        begun = λ t l m. ap (λ w. word_bit w t) g ∙ by t (omega (arith, l, puts)) (either_some known more t m);
-      }
-    where
-      by : (t : ℕ) → t < length s.begins → (mark_at known t ≡ true) ⊎ (mark_at more t ≡ true) → word_bit s.begun t ≡ true
-      by t l (inl m) = old.begun t l m
-      by t l (inr m) = k t l m
+  pub left_table : IsTable known s'
+  left_table = resumed_table last last row s.positions s s' (omega arith) p e g h known old
 
-  pub joined : IsResumed [] 0 row (told last s) (told [] s')
-  joined =
+  pub left : IsResumed [] 0 row (told last s) (told [] s')
+  left =
       let long = told_long last s in
       let long' = told_long [] s' in
       let puts = h.long in
@@ -301,6 +303,13 @@ module _ (last known more row : Bits) (s s' : Table) (old : IsTable known s) (p 
       yes : (c : Bool) → (c && true) ≡ c
       yes true = refl
       yes false = refl
+
+pub known_more : (known more : Bits) (s : Table) → IsTable known s → ((t : ℕ) → t < length s.begins → mark_at more t ≡ true → word_bit s.begun t ≡ true) → IsTable (either_bits known more) s
+known_more known more s old k = record { long = old.long; words = old.words; low = old.low; begun = λ t l m. by t l (either_some known more t m) }
+  where
+    by : (t : ℕ) → t < length s.begins → (mark_at known t ≡ true) ⊎ (mark_at more t ≡ true) → word_bit s.begun t ≡ true
+    by t l (inl m) = old.begun t l m
+    by t l (inr m) = k t l m
 
 -- ---- temporaries at the last position
 
@@ -468,5 +477,5 @@ module _ (row : Bits) (temp : ℕ) (s : Table) where
 
 -- ---- a walk
 
-pub walk_adds : (w : Walked) (row last marked marked' : Bits) (s : Table) (s' : SoFar) → record { live = row; spans = told last s } ≡ w → marked ≡ marked' → Marks marked (told last s) s' → Adds (marked' ∷ []) w.spans s'
-walk_adds w row last marked marked' s s' v e m = subst (λ x. Adds (marked' ∷ []) x s') (ap (λ o. o.spans) v) (subst (λ b. Adds (b ∷ []) (told last s) s') e (marks_add marked (told last s) s' m))
+pub walk_adds : (spans : SoFar) (last marked marked' : Bits) (s : Table) (s' : SoFar) → told last s ≡ spans → marked ≡ marked' → Marks marked (told last s) s' → Adds (marked' ∷ []) spans s'
+walk_adds spans last marked marked' s s' v e m = subst (λ x. Adds (marked' ∷ []) x s') v (subst (λ b. Adds (b ∷ []) (told last s) s') e (marks_add marked (told last s) s' m))

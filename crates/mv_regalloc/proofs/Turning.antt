@@ -1,7 +1,7 @@
--- The temporaries of a word, a bit after the other, and the words of a row.
-use Rattle.std.proofs.Common.{arith, ◌≡◌, ℕ, ◌+◌, ◌<◌, ◌≤◌, ◌*◌, ◌/◌, ◌%◌, Bool, true, false, cond, not, eqb, ltb, ◌&&◌, ◌||◌, List, length, refl, sym, ap, ◌∙◌, ◌⊎◌, inl, inr, bit_or}
+-- One row in place of another, a changed bit after the other.
+use Rattle.std.proofs.Common.{arith, ◌≡◌, ℕ, ◌+◌, ◌<◌, ◌*◌, ◌/◌, ◌%◌, Bool, true, false, cond, not, eqb, ◌&&◌, ◌||◌, List, length, refl, sym, ap, ◌∙◌, ◌⊎◌, inl, inr, bit_or}
 use Rattle.std.specs.Prelude.{slice_index, slice_set}
-use Rattle.std.proofs.lemmas.Bool.{cases_eq, cases_lt, eq-eqb, ne_eqb, lt-ltb, le-ltb}
+use Rattle.std.proofs.lemmas.Bool.{cases_eq, eq-eqb, ne_eqb}
 use Rattle.mv_regalloc.specs.LiveBits.{in_word, word_bit}
 use Rattle.mv_regalloc.specs.Tables.{IsPut}
 use Rattle.mv_regalloc.proofs.WordBits.{none_in, bits_either, word_put, word_stays}
@@ -93,31 +93,12 @@ module _ (place changed bit from temp count : ℕ) (low : bit < 64) (f : from �
 
 -- ---- the words of a row
 
-pub place_next : (place t : ℕ) → (ltb (t / 64) place || eqb (t / 64) place) ≡ ltb (t / 64) (place + 1)
-place_next place t = by (cases_lt (t / 64) place) (cases_eq (t / 64) place)
-  where
-    by : (t / 64 < place) ⊎ (place ≤ t / 64) → (t / 64 ≡ place) ⊎ (t / 64 ≡ place → ⊥) → (ltb (t / 64) place || eqb (t / 64) place) ≡ ltb (t / 64) (place + 1)
-    by (inl l) k = ap (λ c. c || eqb (t / 64) place) (lt-ltb (t / 64) place l) ∙ sym (lt-ltb (t / 64) (place + 1) (omega (arith, l)))
-    by (inr l) (inl e) = ap (λ c. c || eqb (t / 64) place) (le-ltb (t / 64) place l) ∙ eq-eqb (t / 64) place e ∙ sym (lt-ltb (t / 64) (place + 1) (omega (arith, e)))
-    by (inr l) (inr ne) = ap (λ c. c || eqb (t / 64) place) (le-ltb (t / 64) place l) ∙ ne_eqb (t / 64) place ne ∙ sym (le-ltb (t / 64) (place + 1) (far (cases_lt place (t / 64))))
-      where
-        far : (place < t / 64) ⊎ (t / 64 ≤ place) → place + 1 ≤ t / 64
-        far (inl m) = omega (arith, m)
-        far (inr m) = absurd (ne (omega (arith, m, l)))
-
 pub place_here : (place t : ℕ) → eqb (t / 64) place ≡ true → t / 64 ≡ place
 place_here place t h = by (cases_eq (t / 64) place)
   where
     by : (t / 64 ≡ place) ⊎ (t / 64 ≡ place → ⊥) → t / 64 ≡ place
     by (inl e) = e
     by (inr ne) = let d : true ≡ false = sym h ∙ ne_eqb (t / 64) place ne in absurd cc
-
-pub all_places : (place t : ℕ) (c : Bool) → (place ≤ t / 64 → c ≡ false) → (ltb (t / 64) place && c) ≡ c
-all_places place t c h = by (cases_lt (t / 64) place)
-  where
-    by : (t / 64 < place) ⊎ (place ≤ t / 64) → (ltb (t / 64) place && c) ≡ c
-    by (inl l) = ap (λ d. d && c) (lt-ltb (t / 64) place l)
-    by (inr l) = ap (λ d. ltb (t / 64) place && d) (h l) ∙ off (ltb (t / 64) place) ∙ sym (h l)
 
 -- of the temporaries of one place
 pub place_as : (place t : ℕ) (a b : Bool) → (t / 64 ≡ place → a ≡ b) → (eqb (t / 64) place && a) ≡ (eqb (t / 64) place && b)
@@ -127,15 +108,9 @@ place_as place t a b h = by (cases_eq (t / 64) place)
     by (inl e) = ap (λ c. eqb (t / 64) place && c) (h e)
     by (inr ne) = ap (λ c. c && a) (ne_eqb (t / 64) place ne) ∙ ap (λ c. c && b) (sym (ne_eqb (t / 64) place ne))
 
-pub place_none : (place t : ℕ) (c : Bool) → (t / 64 ≡ place → c ≡ false) → (eqb (t / 64) place && c) ≡ false
-place_none place t c h = place_as place t c false h ∙ off (eqb (t / 64) place)
-
-pub same_stays : (a b : Bool) → a ≡ b → (a && not b) ≡ false
-same_stays a b e = ap (λ c. c && not b) e ∙ by b
-  where
-    by : (c : Bool) → (c && not c) ≡ false
-    by true = refl
-    by false = refl
+pub among : (a b : Bool) → (a ≡ true → b ≡ true) → (a && not b) ≡ false
+among true b h = ap not (h refl)
+among false b h = refl
 
 pub or_more : (e l x b : Bool) → ((e && x) || ((l && x) || b)) ≡ (((l || e) && x) || b)
 or_more true true true b = refl

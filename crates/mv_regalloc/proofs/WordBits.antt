@@ -1,8 +1,8 @@
 -- Bits in words: what an edit of a word does to them.
-use Rattle.std.proofs.Common.{arith, ◌≡◌, ℕ, zero, suc, ◌-◌, ◌*◌, ◌/◌, ◌%◌, ◌^◌, ◌<◌, ◌≤◌, min, max, Bool, true, false, cond, eqb, ltb, not, ◌&&◌, ◌||◌, List, [], ◌∷◌, length, get_or, refl, sym, ap, ◌∙◌, ◌⊎◌, inl, inr, w64, bit_or, bit_and}
-use Rattle.std.specs.Prelude.{slice_set, slice_index}
+use Rattle.std.proofs.Common.{arith, ◌≡◌, ℕ, zero, suc, ◌-◌, ◌*◌, ◌/◌, ◌%◌, ◌^◌, ◌<◌, ◌≤◌, min, max, Bool, true, false, cond, eqb, ltb, not, ◌&&◌, ◌||◌, List, length, get_or, refl, sym, ap, ◌∙◌, ◌⊎◌, inl, inr, w64, bit_or, bit_and}
+use Rattle.std.specs.Prelude.{slice_set}
 use Rattle.std.specs.Int.{bit_at, bit_not, trailing_zeros}
-use Rattle.std.proofs.lemmas.List.{get_or-set_same, get_or-set_other, get_or_past}
+use Rattle.std.proofs.lemmas.List.{get_or-set_same, get_or-set_other}
 use Rattle.std.proofs.lemmas.Bool.{cases_eq, cases_lt, eq-eqb, ne_eqb, lt-ltb, le-ltb}
 use Rattle.std.proofs.lemmas.Nat.{one_shl, and_le_l}
 use Rattle.std.proofs.lemmas.Nat.Bits.{bit_at-trailing_zeros, bit_at_not, bit_at_set_same, bit_at_set_other, bit_at_clear_same, bit_at_clear_other, bit_at_or, bit_at_and, bit_at-lt, bit_at-zero, bit_at_ones, bit_at_ones_above}
@@ -10,23 +10,11 @@ use Rattle.mv_regalloc.specs.LiveBits.{in_word, word_bit}
 
 -- ---- lists of words
 
-pub at_any : (xs : List ℕ) (i d e : ℕ) → i < length xs → get_or xs i d ≡ get_or xs i e
-at_any [] i d e l = absurd (omega (arith, l))
-at_any (x ∷ xs) zero d e l = refl
-at_any (x ∷ xs) (suc i) d e l = at_any xs i d e (omega (arith, l))
-
 pub word_put : (ws : List ℕ) (place v : ℕ) → place < length ws → (t : ℕ) → t / 64 ≡ place → word_bit (slice_set ws place v) t ≡ in_word v t
 word_put ws place v l t e = ap (λ k. in_word (get_or (slice_set ws place v) k 0) t) e ∙ ap (λ w. in_word w t) (get_or-set_same ws place v 0 l)
 
 pub word_stays : (ws : List ℕ) (place v : ℕ) (t : ℕ) → (t / 64 ≡ place → ⊥) → word_bit (slice_set ws place v) t ≡ word_bit ws t
 word_stays ws place v t ne = ap (λ w. in_word w t) (get_or-set_other ws place (t / 64) v 0 ne)
-
-pub words_set : (ws : List ℕ) (u v : ℕ) (b : Bool) → u / 64 < length ws → ((t : ℕ) → t / 64 ≡ u / 64 → in_word v t ≡ cond (eqb u t) b (in_word (slice_index ws (u / 64)) t)) → (t : ℕ) → word_bit (slice_set ws (u / 64) v) t ≡ cond (eqb u t) b (word_bit ws t)
-words_set ws u v b l h t = by (cases_eq (t / 64) (u / 64))
-  where
-    by : (t / 64 ≡ u / 64) ⊎ (t / 64 ≡ u / 64 → ⊥) → word_bit (slice_set ws (u / 64) v) t ≡ cond (eqb u t) b (word_bit ws t)
-    by (inl e) = word_put ws (u / 64) v l t e ∙ h t e ∙ ap (λ k. cond (eqb u t) b (in_word (slice_index ws k) t)) (sym e)
-    by (inr ne) = word_stays ws (u / 64) v t ne ∙ ap (λ c. cond c b (word_bit ws t)) (sym (ne_eqb u t (λ e. ne (ap (λ k. k / 64) (sym e)))))
 
 -- ---- one word
 
@@ -135,19 +123,6 @@ below_some w n t e =
         ap (λ v. eqb (min (bit_at w (t % 64)) v) 1) (bit_at_ones (n % 64) (t % 64) (omega (arith, l, e))) ∙ one (bit_at w (t % 64)) (bit_at-lt w (t % 64)) ∙ all (eqb (bit_at w (t % 64)) 1) ∙ ap (λ c. eqb (bit_at w (t % 64)) 1 && c) (sym (lt-ltb t n l))
     by (inr l) =
         ap (λ v. eqb (min (bit_at w (t % 64)) v) 1) (bit_at_ones_above (n % 64) (t % 64) (omega (arith, l, e))) ∙ no (bit_at w (t % 64)) ∙ none (eqb (bit_at w (t % 64)) 1) ∙ ap (λ c. eqb (bit_at w (t % 64)) 1 && c) (sym (le-ltb t n l))
-
-pub one_more : (c b : Bool) → cond c true b ≡ (c || b)
-one_more true b = refl
-one_more false b = refl
-
--- no bit is set in a word past the end
-pub words_past : (ws : List ℕ) (u t : ℕ) → length ws ≤ u / 64 → word_bit ws t ≡ cond (eqb u t) false (word_bit ws t)
-words_past ws u t l = by (cases_eq u t)
-  where
-    by : (u ≡ t) ⊎ (u ≡ t → ⊥) → word_bit ws t ≡ cond (eqb u t) false (word_bit ws t)
-    by (inl e) =
-        ap (λ w. in_word w t) (get_or_past ws (t / 64) 0 (let k = ap (λ i. i / 64) e in omega (arith, l, k))) ∙ none_in t ∙ ap (λ c. cond c false (word_bit ws t)) (sym (eq-eqb u t e))
-    by (inr ne) = ap (λ c. cond c false (word_bit ws t)) (sym (ne_eqb u t ne))
 
 pub bits_except : (a b t : ℕ) → b < 2 ^ 64 → in_word (bit_and a (bit_not w64 b)) t ≡ (in_word a t && not (in_word b t))
 unfolding in_word

@@ -1,13 +1,15 @@
 -- The spans of temporaries in a table that leaves out where those begin that were marked at the last position: the one
 -- that was added last, before all others.
-use Rattle.std.specs.Prelude.{ℕ, ◌≡◌, ◌<◌, ◌≤◌, ◌*◌, Bool, true, cond, not, ◌&&◌, ◌||◌, List, [], length, ltb, map, slice_index}
+use Rattle.std.specs.Prelude.{ℕ, ◌≡◌, ◌<◌, ◌≤◌, ◌*◌, Bool, true, cond, not, ◌&&◌, ◌||◌, List, [], length, ltb, map, slice_index, slice_index_or}
 use Rattle.std.specs.List.{range_with_len}
 use Rattle.mv_ir.specs.Live.{mark_at}
 use Rattle.mv_regalloc.specs.declared.table.Table.{Table}
 use Rattle.mv_regalloc.specs.declared.walk.Last.{Last}
 use Rattle.mv_regalloc.specs.declared.walk.Last.TheVariants.{Same, Other, Nothing}
 use Rattle.mv_regalloc.specs.LiveBits.{word_bit}
-use Rattle.mv_regalloc.specs.Rows.{Bits}
+use Rattle.mv_regalloc.specs.declared.liveness.Row.{Row}
+use Rattle.mv_regalloc.specs.Rows.{Bits, Enclosing}
+use Rattle.mv_regalloc.specs.Shared.{LiveSets, row_of, with_live}
 use Rattle.mv_regalloc.specs.Spanned.{SoFar, SpanTable}
 
 -- the second list is the first with a value at the selected places
@@ -50,19 +52,40 @@ told held s = record { positions = s.positions; begins = map (λ t. begin_of hel
 abbrev pub spans_in : Table → SpanTable
 spans_in s = record { positions = s.positions; begins = s.begins; ends = s.ends }
 
--- what is live where a walk stands, and the spans over the positions behind it
+-- what is live where a walk stands, the sets put aside, the levels around, and the spans over the positions behind it
 pub record Walked : Type 0 where
   pub live : Bits
+  pub saved : List Bits
+  pub around : Enclosing
   pub spans : SoFar
 
+-- a row of these: which one was marked last isn't told
+abbrev pub row_in : Walked → Row → Bits
+row_in w row = row_of (record { live = w.live; marked = w.live; saved = w.saved; around = w.around }) row
+
+-- the one put aside last
+abbrev pub top : Walked → Bits
+top w = slice_index_or w.saved 0 []
+
 -- the row that was marked at the last position, as far as it counts
-abbrev pub last_row : Last → Bits → Bits
-last_row Same row = row
-last_row (Other held) row = held
-last_row (Nothing known) row = []
+abbrev pub last_row : Last → LiveSets → Bits
+last_row Same s = s.live
+last_row Other s = s.marked
+last_row Nothing s = []
 
 -- a row whose temporaries have all been marked
-abbrev pub known_row : Last → Bits → Bits
-known_row Same row = row
-known_row (Other held) row = held
-known_row (Nothing known) row = known
+abbrev pub known_row : Last → LiveSets → Bits
+known_row Same s = s.live
+known_row Other s = s.marked
+known_row Nothing s = s.marked
+
+abbrev pub walked : Last → LiveSets → Table → Walked
+walked last s t = record { live = s.live; saved = s.saved; around = s.around; spans = told (last_row last s) t }
+
+-- the rows that were marked stay whatever becomes live
+pub record Holds (last : Last) (s : LiveSets) (last' : Last) (s' : LiveSets) : Type 0 where
+  pub live : s'.live ≡ s.live
+  pub saved : s'.saved ≡ s.saved
+  pub around : s'.around ≡ s.around
+  pub rows : (bits : Bits) → last_row last' (with_live s' bits) ≡ last_row last s
+  pub known : s'.marked ≡ known_row last s

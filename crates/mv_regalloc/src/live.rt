@@ -1,12 +1,14 @@
 // Where temporaries are live: a walk over some code from its end to its start.
 
 ghost use Rattle.std.specs.Prelude.{◌≡◌, false, map, OnOk};
-ghost use Rattle.mv_regalloc.specs.Rows.{own_trees, put_bit, sets, with_all_reads, live_before, stm_rows};
+ghost use Rattle.mv_regalloc.specs.Rows.{either_bits, own_trees, put_bit, sets, with_all_reads, with_reads, live_before, stm_rows};
+ghost use Rattle.mv_regalloc.specs.Shared.{row_of, with_live};
+ghost use Rattle.mv_regalloc.specs.Spanned.{with_params};
 
-use crate::levels::Levels;
-use crate::live_set::LiveSet;
-use crate::reads::own_reads;
+use crate::liveness::{Liveness, Row};
+use crate::reads::{own_reads, tree_reads};
 use mv_ir::stm::Stm;
+use mv_ir::tree::Tree;
 use mv_num::list::List;
 use std::alloc::{AllocError, Global};
 
@@ -15,29 +17,54 @@ pub fn live_plain(
     alloc: Global,
     stm: &Stm,
     written: Option<u32>,
-    bits: &mut LiveSet,
+    liveness: &mut Liveness,
 ) -> Result<(), AllocError>
-    ensures { OnOk result (bits.new ≡ with_all_reads (own_trees stm.now) (put_bit written false bits.old)) }
+    ensures { OnOk result (
+        liveness.new ≡ with_live liveness.old (with_all_reads (own_trees stm.now) (put_bit written false liveness.old.live))
+        ) }
 {
     let reads = own_reads(alloc, stm)?;
-    bits.remove_some(written);
-    bits.insert_all(reads.as_slice())
+    liveness.remove_some(written)?;
+    liveness.insert_all(reads.as_slice())
+}
+
+/// From what is live before one list of an `If` to what is live at its test, where the other list has another set.
+pub fn live_test(
+    alloc: Global,
+    test: &Tree,
+    other: Row,
+    liveness: &mut Liveness,
+) -> Result<(), AllocError>
+    ensures { OnOk result (
+        liveness.new ≡ with_live liveness.old (with_reads test.now (either_bits liveness.old.live (row_of liveness.old other)))
+        ) }
+{
+    let reads = tree_reads(alloc, test)?;
+    liveness.join(other)?;
+    liveness.insert_all(reads.as_slice())
+}
+
+/// The parameters are there at the start.
+#[tactic(auto, using(crate::proofs::Adding::params_more))]
+pub fn live_params(liveness: &mut Liveness, params: u32) -> Result<(), AllocError>
+    ensures { OnOk result (liveness.new ≡ with_live liveness.old (with_params params liveness.old.live)) }
+{
+    for param in 0..params {
+        liveness.insert(param)?;
+    }
+    Ok(())
 }
 
 /// From what is live behind some code to what is live before it.
 #[cycle(live)]
-pub fn live_code(
-    alloc: Global,
-    code: &List<Stm>,
-    bits: &mut LiveSet,
-    levels: &mut Levels,
-) -> Result<(), AllocError>
-    ensures live { OnOk result (bits.new ≡ live_before (map stm_rows code.now) (sets levels.old bits.old)) }
-    ensures levels { OnOk result (levels.new ≡ levels.old) }
+pub fn live_code(alloc: Global, code: &List<Stm>, liveness: &mut Liveness) -> Result<(), AllocError>
+    ensures { OnOk result (
+        liveness.new ≡ with_live liveness.old (live_before (map stm_rows code.now) (sets liveness.old.around liveness.old.live))
+        ) }
 {
     let stms = code.as_slice();
     for done in 0..stms.len() {
-        live_stm(alloc, &stms[stms.len() - 1 - done], bits, levels)?;
+        live_stm(alloc, &stms[stms.len() - 1 - done], liveness)?;
     }
     Ok(())
 }
@@ -45,45 +72,45 @@ pub fn live_code(
 /// From what is live behind a statement to what is live before it.
 #[cycle(live)]
 #[tactic(auto, using(crate::proofs::RowEquations::live_stms))]
-pub fn live_stm(
-    alloc: Global,
-    stm: &Stm,
-    bits: &mut LiveSet,
-    levels: &mut Levels,
-) -> Result<(), AllocError>
-    ensures live { OnOk result (bits.new ≡ (stm_rows stm.now).live (sets levels.old bits.old)) }
-    ensures levels { OnOk result (levels.new ≡ levels.old) }
+pub fn live_stm(alloc: Global, stm: &Stm, liveness: &mut Liveness) -> Result<(), AllocError>
+    ensures { OnOk result (
+        liveness.new ≡ with_live liveness.old ((stm_rows stm.now).live (sets liveness.old.around liveness.old.live))
+        ) }
 {
     match stm {
-        Stm::Set(t, _) => live_plain(alloc, stm, Some(*t), bits),
-        Stm::SetGlobal(_, _) => live_plain(alloc, stm, None, bits),
-        Stm::Divide(t, _, _, _) => live_plain(alloc, stm, Some(*t), bits),
-        Stm::Check(_, _) => live_plain(alloc, stm, None, bits),
-        Stm::Read(t, _, _) => live_plain(alloc, stm, Some(*t), bits),
-        Stm::Write(_, _, _) => live_plain(alloc, stm, None, bits),
+        Stm::Set(t, _) => live_plain(alloc, stm, Some(*t), liveness),
+        Stm::SetGlobal(_, _) => live_plain(alloc, stm, None, liveness),
+        Stm::Divide(t, _, _, _) => live_plain(alloc, stm, Some(*t), liveness),
+        Stm::Check(_, _) => live_plain(alloc, stm, None, liveness),
+        Stm::Read(t, _, _) => live_plain(alloc, stm, Some(*t), liveness),
+        Stm::Write(_, _, _) => live_plain(alloc, stm, None, liveness),
         Stm::Zero(_) => Ok(()),
         Stm::If(_, a, b) => {
-            let mut others = bits.copied(alloc)?;
-            live_code(alloc, a, bits, levels)?;
-            live_code(alloc, b, &mut others, levels)?;
-            bits.join(&others)?;
-            live_plain(alloc, stm, None, bits)
+            liveness.save(Row::Live)?;
+            live_code(alloc, b, liveness)?;
+            liveness.save(Row::Live)?;
+            liveness.turn(Row::Saved(1));
+            live_code(alloc, a, liveness)?;
+            liveness.join(Row::Saved(0))?;
+            liveness.forget();
+            liveness.forget();
+            live_plain(alloc, stm, None, liveness)
         }
-        Stm::Loop(b) => live_loop(alloc, b, bits, levels),
-        Stm::Block(b) => live_block(alloc, b, bits, levels),
+        Stm::Loop(b) => live_loop(alloc, b, liveness),
+        Stm::Block(b) => live_block(alloc, b, liveness),
         Stm::Break(n) => {
-            *bits = levels.behind(alloc, *n)?;
+            liveness.turn(Row::Behind(*n));
             Ok(())
         }
         Stm::Back(n) => {
-            *bits = levels.start(alloc, *n)?;
+            liveness.turn(Row::Start(*n));
             Ok(())
         }
-        Stm::Call(t, _, _) => live_plain(alloc, stm, *t, bits),
-        Stm::Known(t, _, _) => live_plain(alloc, stm, *t, bits),
+        Stm::Call(t, _, _) => live_plain(alloc, stm, *t, liveness),
+        Stm::Known(t, _, _) => live_plain(alloc, stm, *t, liveness),
         Stm::Return(_) => {
-            *bits = levels.none(alloc)?;
-            live_plain(alloc, stm, None, bits)
+            liveness.turn(Row::Empty);
+            live_plain(alloc, stm, None, liveness)
         }
     }
 }
@@ -91,20 +118,15 @@ pub fn live_stm(
 /// From what is live behind a loop to what is live at its start: a path that goes back goes through the start again.
 #[cycle(live)]
 #[tactic(auto, using(crate::proofs::RowEquations::live_loop))]
-pub fn live_loop(
-    alloc: Global,
-    code: &List<Stm>,
-    bits: &mut LiveSet,
-    levels: &mut Levels,
-) -> Result<(), AllocError>
-    ensures live { OnOk result (bits.new ≡ (stm_rows (Stm.Loop code.now)).live (sets levels.old bits.old)) }
-    ensures levels { OnOk result (levels.new ≡ levels.old) }
+pub fn live_loop(alloc: Global, code: &List<Stm>, liveness: &mut Liveness) -> Result<(), AllocError>
+    ensures { OnOk result (
+        liveness.new ≡ with_live liveness.old ((stm_rows (Stm.Loop code.now)).live (sets liveness.old.around liveness.old.live))
+        ) }
 {
-    let none = levels.none(alloc)?;
-    levels.enter(alloc, bits, &none)?;
-    *bits = none;
-    live_code(alloc, code, bits, levels)?;
-    levels.leave();
+    liveness.enter(Row::Live, Row::Empty)?;
+    liveness.turn(Row::Empty);
+    live_code(alloc, code, liveness)?;
+    liveness.leave();
     Ok(())
 }
 
@@ -114,15 +136,14 @@ pub fn live_loop(
 pub fn live_block(
     alloc: Global,
     code: &List<Stm>,
-    bits: &mut LiveSet,
-    levels: &mut Levels,
+    liveness: &mut Liveness,
 ) -> Result<(), AllocError>
-    ensures live { OnOk result (bits.new ≡ (stm_rows (Stm.Block code.now)).live (sets levels.old bits.old)) }
-    ensures levels { OnOk result (levels.new ≡ levels.old) }
+    ensures { OnOk result (
+        liveness.new ≡ with_live liveness.old ((stm_rows (Stm.Block code.now)).live (sets liveness.old.around liveness.old.live))
+        ) }
 {
-    let none = levels.none(alloc)?;
-    levels.enter(alloc, bits, &none)?;
-    live_code(alloc, code, bits, levels)?;
-    levels.leave();
+    liveness.enter(Row::Live, Row::Empty)?;
+    live_code(alloc, code, liveness)?;
+    liveness.leave();
     Ok(())
 }

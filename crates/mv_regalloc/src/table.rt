@@ -5,10 +5,11 @@ ghost use Rattle.std.specs.Prelude.{ℕ, ◌≡◌, ◌<◌, ◌≤◌, ◌+◌,
 ghost use Rattle.mv_ir.specs.Live.{mark_at};
 ghost use Rattle.mv_regalloc.specs.LiveBits.{in_word, word_bit};
 ghost use Rattle.mv_regalloc.specs.Rows.{Bits};
+ghost use Rattle.mv_regalloc.specs.Shared.{AreBeyond, row_of, with_live};
 ghost use Rattle.mv_regalloc.specs.Spanned.{Marks, SoFar, SpanTable, shown};
 ghost use Rattle.mv_regalloc.specs.Tables.{AreEntered, IsPut, IsTable, told};
 
-use crate::live_set::LiveSet;
+use crate::liveness::{Liveness, Row};
 use crate::words::{except, lowest, single, without};
 use mv_num::list::List;
 use std::alloc::{AllocError, Global};
@@ -59,18 +60,23 @@ fn raise_word(begins: &mut List<u64>, place: usize, word: u64, positions: u64)
     }
 }
 
-/// The temporaries of a row that aren't in another one begin no later than so many positions from the end.
-pub fn raise_row(begins: &mut List<u64>, held: &LiveSet, row: &LiveSet, positions: u64)
-    ensures { IsPut (λ t. (mark_at held.now t && not (mark_at row.now t)) && ltb (slice_index begins.old t) positions) positions
-        begins.old begins.new }
+/// The temporaries of a row that aren't in another one begin no later than so many positions from the end, where the
+/// places are known at which there may be such.
+pub fn raise_row(
+    begins: &mut List<u64>,
+    liveness: &Liveness,
+    places: &[u32],
+    held: Row,
+    row: Row,
+    positions: u64,
+)
+    requires { AreBeyond places.now (row_of liveness.now held) (row_of liveness.now row) }
+    ensures { IsPut (λ t. (mark_at (row_of liveness.now held) t && not (mark_at (row_of liveness.now row) t)) && ltb (slice_index begins.old t) positions)
+        positions begins.old begins.new }
 {
-    for place in 0..held.count() {
-        raise_word(
-            begins,
-            place,
-            except(held.word(place), row.word(place)),
-            positions,
-        );
+    for place in places {
+        let word = except(liveness.word(held, *place), liveness.word(row, *place));
+        raise_word(begins, *place as usize, word, positions);
     }
 }
 
@@ -125,20 +131,18 @@ fn enter_word(table: &mut Table, place: usize, word: u64, positions: u64)
     mark_word(&mut table.begun, place, word);
 }
 
-/// The temporaries of a row are marked at the next position, where those of another one have been marked before.
-pub fn enter_row(table: &mut Table, known: &LiveSet, row: &LiveSet)
+/// The temporaries of a row are marked at the next position, where those of another one have been marked before, and
+/// the places are known at which there may be others.
+pub fn enter_row(table: &mut Table, liveness: &Liveness, places: &[u32], known: Row, row: Row)
     requires long { length table.old.ends ≡ length table.old.begins }
     requires words { length table.old.begins ≤ length table.old.begun * 64 }
-    ensures { AreEntered known.now row.now table.old table.new }
+    requires beyond { AreBeyond places.now (row_of liveness.now row) (row_of liveness.now known) }
+    ensures { AreEntered (row_of liveness.now known) (row_of liveness.now row) table.old table.new }
 {
-    for place in 0..row.count() {
+    for place in places {
+        let word = except(liveness.word(row, *place), liveness.word(known, *place));
         let positions = table.positions;
-        enter_word(
-            table,
-            place,
-            except(row.word(place), known.word(place)),
-            positions,
-        );
+        enter_word(table, *place as usize, word, positions);
     }
 }
 
@@ -156,47 +160,47 @@ fn note_end(table: &mut Table, temp: u32)
 }
 
 // Notes where a temporary begins that is marked at the last position.
-fn note_begin(table: &mut Table, row: &LiveSet, temp: u32)
+fn note_begin(table: &mut Table, liveness: &Liveness, temp: u32)
     ensures positions { table.new.positions ≡ table.old.positions }
-    ensures begins { IsPut (λ t. eqb t temp && mark_at row.now t) table.old.positions table.old.begins table.new.begins }
+    ensures begins { IsPut (λ t. eqb t temp && mark_at liveness.now.live t) table.old.positions table.old.begins table.new.begins }
     ensures ends { table.new.ends ≡ table.old.ends }
     ensures begun { table.new.begun ≡ table.old.begun }
 {
     let place = temp as usize;
-    if place < table.begins.len() && row.has(temp) {
+    if place < table.begins.len() && liveness.has(temp) {
         table.begins.set(place, table.positions);
     }
 }
 
 /// Marks a temporary at the last position too.
-pub fn insert(row: &mut LiveSet, table: &mut Table, temp: u32) -> Result<(), AllocError>
-    requires table { IsTable row.old table.old }
+pub fn insert(liveness: &mut Liveness, table: &mut Table, temp: u32) -> Result<(), AllocError>
+    requires table { IsTable liveness.old.live table.old }
     requires positions { 0 < table.old.positions }
-    ensures table { IsTable row.new table.new }
+    ensures table { IsTable liveness.new.live table.new }
     ensures positions { table.new.positions ≡ table.old.positions }
-    ensures row { OnOk result (row.new ≡ slice_set row.old temp true) }
+    ensures row { OnOk result (liveness.new ≡ with_live liveness.old (slice_set liveness.old.live temp true)) }
     ensures marks { OnOk result (
-        (bits : Bits) → (spans : SoFar) → length bits ≡ length row.old → Marks bits spans (told row.old table.old) →
-        Marks (slice_set bits temp true) spans (told row.new table.new)
+        (bits : Bits) → (spans : SoFar) → length bits ≡ length liveness.old.live → Marks bits spans (told liveness.old.live table.old) →
+        Marks (slice_set bits temp true) spans (told liveness.new.live table.new)
         ) }
 {
-    row.insert(temp)?;
-    if row.has(temp) {
+    liveness.insert(temp)?;
+    if liveness.has(temp) {
         note_end(table, temp);
     }
     Ok(())
 }
 
-/// Clears a temporary in the row, but leaves it marked at the last position.
-pub fn remove(row: &mut LiveSet, table: &mut Table, temp: u32)
-    requires table { IsTable row.old table.old }
-    ensures table { IsTable row.new table.new }
+/// Clears a temporary of what is live, but leaves it marked at the last position.
+pub fn remove(liveness: &mut Liveness, table: &mut Table, temp: u32) -> Result<(), AllocError>
+    requires table { IsTable liveness.old.live table.old }
+    ensures table { IsTable liveness.new.live table.new }
     ensures positions { table.new.positions ≡ table.old.positions }
-    ensures row { row.new ≡ slice_set row.old temp false }
-    ensures told { told row.new table.new ≡ told row.old table.old }
+    ensures row { OnOk result (liveness.new ≡ with_live liveness.old (slice_set liveness.old.live temp false)) }
+    ensures told { OnOk result (told liveness.new.live table.new ≡ told liveness.old.live table.old) }
 {
-    note_begin(table, row, temp);
-    row.remove(temp);
+    note_begin(table, liveness, temp);
+    liveness.remove(temp)
 }
 
 fn zeros(alloc: Global, count: usize) -> Result<List<u64>, AllocError>
@@ -206,6 +210,18 @@ fn zeros(alloc: Global, count: usize) -> Result<List<u64>, AllocError>
 }
 
 impl Table {
+    /// The table of no temporaries, over no positions. It takes no memory.
+    pub fn empty(alloc: Global) -> Table
+        ensures { (known : Bits) → IsTable known result }
+    {
+        Table {
+            positions: 0,
+            begins: List::new(alloc),
+            ends: List::new(alloc),
+            begun: List::new(alloc),
+        }
+    }
+
     /// The table of so many temporaries, over no positions.
     pub fn none(alloc: Global, temps: usize) -> Result<Table, AllocError>
         ensures positions { IfOk result (λ table. table.positions ≡ 0) }
@@ -240,18 +256,28 @@ impl Model for Spans {
 
 impl Spans {
     /// Those of a table, where a row was marked at the last position.
-    pub fn of_table(alloc: Global, table: Table, held: &LiveSet) -> Spans
+    pub fn of_table(
+        alloc: Global,
+        table: Table,
+        liveness: &Liveness,
+        held: Row,
+    ) -> Result<Spans, AllocError>
         requires { (t : ℕ) → t < length table.begins → slice_index table.begins t ≤ table.positions }
-        ensures { result ≡ shown (told held.now table) }
+        ensures spans { IfOk result (λ spans. spans ≡ shown (told (row_of liveness.now held) table)) }
+        ensures empty { OnOk result ((t : ℕ) → mark_at liveness.now.around.none t ≡ false) }
     {
         let mut table = table;
+        let places = liveness.beyond(alloc, held, Row::Empty)?;
+        let positions = table.positions;
         raise_row(
             &mut table.begins,
+            liveness,
+            places.as_slice(),
             held,
-            &LiveSet::none(alloc, 0),
-            table.positions,
+            Row::Empty,
+            positions,
         );
-        Spans { table }
+        Ok(Spans { table })
     }
 
     /// How many positions there are.

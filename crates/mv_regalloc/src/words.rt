@@ -1,9 +1,7 @@
-// Bits in words: that of a temporary is in the word at a 64th of its number, and a word past the end is 0.
+// Bits in words: that of a temporary is in the word at a 64th of its number.
 
-ghost use Rattle.std.specs.Prelude.{ℕ, ◌≡◌, ◌≤◌, ◌<◌, ◌+◌, ◌/◌, ◌%◌, ◌||◌, ◌&&◌, true, false, cond, eqb, ltb, length, min, not, slice_index, OnErr, OnOk};
-ghost use Rattle.mv_regalloc.specs.LiveBits.{in_word, word_bit};
-
-use std::alloc::AllocError;
+ghost use Rattle.std.specs.Prelude.{ℕ, ◌≡◌, ◌<◌, ◌/◌, ◌%◌, ◌&&◌, true, false, cond, eqb, ltb, not, slice_index};
+ghost use Rattle.mv_regalloc.specs.LiveBits.{in_word};
 
 /// The word at a place.
 pub fn word_at(words: &[u64], place: usize) -> u64
@@ -23,36 +21,18 @@ pub fn has_bit(word: u64, temp: usize) -> bool
     word >> (temp % 64) & 1 == 1
 }
 
-/// Makes so many words of them, with further ones of 0.
-pub fn grow(words: &mut Vec<u64>, count: usize) -> Result<(), AllocError>
-    ensures items { (k : ℕ) → slice_index words.new.items k ≡ slice_index words.old.items k }
-    ensures long { OnOk result (count ≤ length words.new.items) }
+/// The word with the bit of a temporary set.
+pub fn set(word: u64, temp: u32) -> u64
+    ensures { (t : ℕ) → t / 64 ≡ temp / 64 → in_word result t ≡ cond (eqb temp t) true (in_word word t) }
 {
-    if words.len() < count {
-        words.resize(count, 0)?;
-    }
-    Ok(())
+    word | 1 << (temp % 64)
 }
 
-/// Sets the bit of a temporary.
-pub fn set_bit(words: &mut Vec<u64>, temp: u32) -> Result<(), AllocError>
-    ensures bit { OnOk result ((t : ℕ) → word_bit words.new.items t ≡ (eqb temp t || word_bit words.old.items t)) }
-    ensures err { OnErr result ((k : ℕ) → slice_index words.new.items k ≡ slice_index words.old.items k) }
+/// The word with the bit of a temporary cleared.
+pub fn cleared(word: u64, temp: u32) -> u64
+    ensures { (t : ℕ) → t / 64 ≡ temp / 64 → in_word result t ≡ cond (eqb temp t) false (in_word word t) }
 {
-    let place = (temp / 64) as usize;
-    grow(words, place + 1)?;
-    words[place] |= 1 << (temp % 64);
-    Ok(())
-}
-
-/// Clears the bit of a temporary.
-pub fn clear_bit(words: &mut Vec<u64>, temp: u32)
-    ensures { (t : ℕ) → word_bit words.new.items t ≡ cond (eqb temp t) false (word_bit words.old.items t) }
-{
-    let place = (temp / 64) as usize;
-    if place < words.len() {
-        words[place] &= !(1 << (temp % 64));
-    }
+    word & !(1 << (temp % 64))
 }
 
 /// The word at a place without the bits of temporaries from a bound on.
@@ -100,15 +80,4 @@ pub fn except(word: u64, other: u64) -> u64
     ensures { (t : ℕ) → in_word result t ≡ (in_word word t && not (in_word other t)) }
 {
     word & !other
-}
-
-/// Behind the 64 places from one on, but not behind the last one.
-pub fn end_within(from: usize, places: usize) -> usize
-    ensures { result ≡ min (from + 64) places }
-{
-    if places.saturating_sub(from) < 64 {
-        places
-    } else {
-        from + 64
-    }
 }

@@ -5,7 +5,8 @@ use Rattle.mv_regalloc.proofs.spans.+spans.Given as goal
 
 abbrev pub invariant-mark_code-loop-done : goal.invariant-mark_code-loop-done
 invariant-mark_code-loop-done l = record {
-  live : l.walk.live ≡ live_before (map stm_rows (drop (length l.code - l.done) l.code)) (sets l.fn.levels l.fn.walk.live);
-  rows : Adds (rows_in_order (map stm_rows (drop (length l.code - l.done) l.code)) (sets l.fn.levels l.fn.walk.live)) l.fn.walk.spans l.walk.spans;
-  levels : l.levels ≡ l.fn.levels;
+  live : l.walk.live ≡ live_before (map stm_rows (drop (length l.code - l.done) l.code)) (sets l.fn.walk.around l.fn.walk.live);
+  saved : l.walk.saved ≡ l.fn.walk.saved;
+  around : l.walk.around ≡ l.fn.walk.around;
+  rows : Adds (rows_in_order (map stm_rows (drop (length l.code - l.done) l.code)) (sets l.fn.walk.around l.fn.walk.live)) l.fn.walk.spans l.walk.spans;
 }

@@ -6,8 +6,9 @@ use Rattle.mv_regalloc.proofs.walk.mark_row.Goals as goal
 
 pub returns-clause-marks : goal.returns-clause-marks
 returns-clause-marks c =
-    let row = c.args.row.now in
+    let sets = c.args.liveness.now in
+    let last = c.args.last in
     let s = c.args.table.now in
     let s' = c.turn_row.new.table in
     let s'' : Table = record { positions = s.positions + 1; begins = s'.begins; ends = s'.ends; begun = s'.begun } in
-    turned_marks (last_row c.args.last.now row) (known_row c.args.last.now row) row s s' c.requires c.turn_row.ensures s'' refl refl refl refl
+    turned_marks (last_row last sets) (known_row last sets) sets.live s s' c.requires c.turn_row.ensures s'' refl refl refl refl

@@ -1,12 +1,12 @@
-use Rattle.std.proofs.Common.{ap, ◌∙◌, refl}
-use Rattle.mv_ir.specs.Live.{mark_at}
+use Rattle.std.proofs.Common.{refl}
 use Rattle.mv_regalloc.specs.declared.table.Table.{Table}
+use Rattle.mv_regalloc.specs.Shared.{row_of}
 use Rattle.mv_regalloc.proofs.TableSteps.{turned_none}
-use Rattle.mv_regalloc.proofs.BodySpans.{clear_at}
 use Rattle.mv_regalloc.proofs.table.Spans.of_table.Goals as goal
 
-pub returns : goal.returns
-returns c =
+pub returns-clause-spans : goal.returns-clause-spans
+returns-clause-spans c =
     let s = c.args.table in
-    let s' : Table = record { positions = s.positions; begins = c.raise_row-2.new.begins; ends = s.ends; begun = s.begun } in
-    turned_none c.args.held.now c.none.result s s' (λ t. ap (λ b. mark_at b t) c.none.ensures ∙ clear_at 0 t) c.requires refl refl c.raise_row-2.ensures
+    let sets = c.args.liveness.now in
+    let s' : Table = record { positions = s.positions; begins = c.raise_row.new.begins; ends = s.ends; begun = s.begun } in
+    turned_none (row_of sets c.args.held) sets.around.none s s' c.in_ok-places.ensures.empty c.requires refl refl c.raise_row.ensures

@@ -7,10 +7,10 @@ pub invariant_of-result : goal.invariant_of-result
 invariant_of-result c =
     let s = c.in_ok-none.field-0 in
     let h = c.in_ok-none.ensures in
-    subst (λ r. IsTable r s) (sym c.none.ensures) (none_table c.args.temps s h.positions h.begins h.ends h.begun)
+    subst (λ r. IsTable r s) (sym c.in_ok-new.ensures.live) (none_table c.args.temps s h.positions h.begins h.ends h.begun)
 
 pub returns-clause-spans : goal.returns-clause-spans
 returns-clause-spans c =
     let s = c.in_ok-none.field-0 in
     let h = c.in_ok-none.ensures in
-    ap (λ r. told r s) c.none.ensures ∙ none_told c.args.temps s h.positions h.begins h.ends h.begun
+    ap (λ r. told r s) c.in_ok-new.ensures.live ∙ none_told c.args.temps s h.positions h.begins h.ends h.begun

@@ -9,16 +9,16 @@ use Rattle.mv_regalloc.proofs.walk.Walk.step.Goals as goal
 
 pub returns-clause-spans : goal.returns-clause-spans
 returns-clause-spans c =
-    let row = c.self.inside.row in
+    let sets = c.self.inside.liveness in
+    let row = sets.live in
     let s = c.self.inside.table in
-    let last = last_row c.self.inside.last row in
+    let last = last_row c.self.inside.last sets in
     let temp = c.args.written in
     let reads = c.args.reads.now in
     let bits = put_bit temp true row in
     let live = c.args.self.now.live in
-    let same = ap (λ w. w.live) c.self.view_is in
     on_ok_weaker c.read.result
-    (λ m. walk_adds c.args.self.now row last (with_temps reads bits) (put_bit temp true (with_temps reads (put_bit temp false live))) s (told c.read.new.row c.read.new.table) c.self.view_is
-    (written_read temp reads row ∙ ap (λ b. put_bit temp true (with_temps reads (put_bit temp false b))) same)
-    (m bits (told last s) (put_long temp true row ∙ sym (ap (λ b. length b) c.in_ok-write.ensures.row ∙ put_long temp false row)) (c.in_ok-write.ensures.marks (told last s) c.in_ok-mark_row.ensures.marks)))
+    (λ m. walk_adds c.args.self.now.spans last (with_temps reads bits) (put_bit temp true (with_temps reads (put_bit temp false live))) s (told c.read.new.liveness.live c.read.new.table) (ap (λ w. w.spans) c.self.view_is)
+    (written_read temp reads row ∙ ap (λ w. put_bit temp true (with_temps reads (put_bit temp false w.live))) c.self.view_is)
+    (m bits (told last s) (put_long temp true row ∙ sym (ap (λ s. length s.live) c.in_ok-write.ensures.row ∙ put_long temp false row)) (c.in_ok-write.ensures.marks (told last s) c.in_ok-mark_row.ensures.marks)))
     c.read.ensures.marks

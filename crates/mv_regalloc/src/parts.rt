@@ -1,0 +1,266 @@
+// Words by their places, in parts that are shared: a set of words is the number of a part, so a copy costs nothing.
+
+ghost use Rattle.std.specs.Prelude.{ℕ, ◌≡◌, ◌<◌, ◌≤◌, ◌+◌, ◌*◌, ◌%◌, bit_or, cond, eqb, false, length, IfOk, OnOk};
+ghost use Rattle.mv_regalloc.specs.Scan.{has};
+ghost use Rattle.mv_regalloc.specs.Parts.{IsNoneOr, Keeps, further, part_at, word_of};
+
+use std::alloc::{AllocError, Global};
+use std::marker::Model;
+
+/// The word of place 0, the number of the part for the odd places, and that for the other even places: place n of each
+/// of these two stands for place 2 n + 1 or 2 n + 2.
+#[derive(Clone, Copy, PartialEq)]
+pub struct Part {
+    pub word: u64,
+    pub odd: u32,
+    pub even: u32,
+}
+
+/// Parts, each of which leads to earlier ones only. The first one has no words but 0. None is ever changed.
+#[derive(Drop)]
+pub struct Parts {
+    parts: Vec<Part>,
+}
+
+impl Model for Parts {
+    ghost use Rattle.std.specs.Prelude.{List};
+    ghost use Rattle.mv_regalloc.specs.declared.parts.Part.{Part};
+
+    ghost Value = { List Part };
+
+    ghost use Rattle.mv_regalloc.specs.Parts.{AreParts};
+
+    ghost view = { λ p. p.parts.items };
+
+    ghost invariant = { λ p. AreParts p.parts.items };
+}
+
+// Places from a first one on: place n of a part stands for the first one and n steps.
+#[derive(Clone, Copy)]
+struct Places {
+    first: u32,
+    step: u32,
+}
+
+impl Places {
+    // Those that the odd places of a part stand for, if their numbers fit.
+    fn odd(self) -> Result<Places, AllocError>
+        ensures { IfOk result (λ places. (places.first ≡ self.first + self.step) × (places.step ≡ self.step * 2)) }
+    {
+        let first = self.first.checked_add(self.step).ok_or(AllocError)?;
+        let step = self.step.checked_mul(2).ok_or(AllocError)?;
+        Ok(Places { first, step })
+    }
+
+    // Those that its even places from 2 on stand for.
+    fn even(self) -> Result<Places, AllocError>
+        ensures { IfOk result (λ places. (places.first ≡ self.first + self.step * 2) × (places.step ≡ self.step * 2)) }
+    {
+        let step = self.step.checked_mul(2).ok_or(AllocError)?;
+        let first = self.first.checked_add(step).ok_or(AllocError)?;
+        Ok(Places { first, step })
+    }
+}
+
+impl Part {
+    // A part without words.
+    fn none() -> Part
+        ensures { result ≡ record { word = 0; odd = 0; even = 0 } }
+    {
+        Part {
+            word: 0,
+            odd: 0,
+            even: 0,
+        }
+    }
+
+    // The part that a place but 0 leads to.
+    fn further(self, place: u32) -> u32
+        ensures { result ≡ further self place }
+    {
+        if place % 2 == 1 { self.odd } else { self.even }
+    }
+
+    // The same with another part there.
+    fn with_further(self, place: u32, part: u32) -> Part
+        ensures { result ≡ cond (eqb (place % 2) 1) (record self { odd = part }) (record self { even = part }) }
+    {
+        if place % 2 == 1 {
+            Part { odd: part, ..self }
+        } else {
+            Part { even: part, ..self }
+        }
+    }
+}
+
+// Lists a place, or not.
+fn list_if(places: &mut Vec<u32>, listed: bool, place: u32) -> Result<(), AllocError>
+    ensures kept { (p : ℕ) → has p places.new.items ≡ false → has p places.old.items ≡ false }
+    ensures listed { OnOk result (has place places.new.items ≡ false → listed ≡ false) }
+{
+    if listed {
+        places.push(place)?;
+    }
+    Ok(())
+}
+
+impl Parts {
+    /// The part without words alone.
+    pub fn new(alloc: Global) -> Result<Parts, AllocError> {
+        let mut parts = Vec::new(alloc);
+        parts.push(Part::none())?;
+        Ok(Parts { parts })
+    }
+
+    // A part by its number.
+    fn part(&self, number: u32) -> Part
+        ensures part { result ≡ part_at self.now number }
+        ensures odd { 0 < number → result.odd < number }
+        ensures even { 0 < number → result.even < number }
+        ensures odd_low { result.odd ≤ number }
+        ensures even_low { result.even ≤ number }
+        ensures odd_within { result.odd < length self.now }
+        ensures even_within { result.even < length self.now }
+    {
+        match self.parts.get(number as usize) {
+            Some(part) => *part,
+            None => Part::none(),
+        }
+    }
+
+    // The number of a part.
+    fn made(&mut self, part: Part) -> Result<u32, AllocError>
+        requires odd { part.odd < length self.old }
+        requires even { part.even < length self.old }
+        ensures keeps { Keeps self.old self.new }
+        ensures within { IfOk result (λ number. number < length self.new) }
+        ensures part { IfOk result (λ number. part_at self.new number ≡ part) }
+    {
+        let count = self.parts.len();
+        if part == Part::none() {
+            return Ok(0);
+        }
+        if count > u32::MAX as usize {
+            return Err(AllocError);
+        }
+        self.parts.push(part)?;
+        Ok(count as u32)
+    }
+
+    // The number of a part, which may be one of two that stand there.
+    fn made_as(&mut self, part: Part, one: u32, other: u32) -> Result<u32, AllocError>
+        requires odd { part.odd < length self.old }
+        requires even { part.even < length self.old }
+        requires one { one < length self.old }
+        requires other { other < length self.old }
+        ensures keeps { Keeps self.old self.new }
+        ensures within { IfOk result (λ number. number < length self.new) }
+        ensures part { IfOk result (λ number. part_at self.new number ≡ part) }
+    {
+        if part == self.part(one) {
+            return Ok(one);
+        }
+        if part == self.part(other) {
+            return Ok(other);
+        }
+        self.made(part)
+    }
+
+    /// No words but 0.
+    pub fn none(&self) -> u32
+        ensures within { result < length self.now }
+        ensures first { result ≡ 0 }
+        ensures words { (place : ℕ) → word_of self.now result place ≡ 0 }
+    {
+        let _ = &self.parts;
+        0
+    }
+
+    /// The word of a place.
+    pub fn word(&self, number: u32, place: u32) -> u64
+        ensures { result ≡ word_of self.now number place }
+    {
+        let mut number = number;
+        let mut place = place;
+        while place > 0 {
+            number = self.part(number).further(place);
+            place = (place - 1) / 2;
+        }
+        self.part(number).word
+    }
+
+    /// The same words but for another one at a place.
+    pub fn with_word(&mut self, number: u32, place: u32, word: u64) -> Result<u32, AllocError>
+        requires { number < length self.old }
+        ensures keeps { Keeps self.old self.new }
+        ensures within { IfOk result (λ made. made < length self.new) }
+        ensures words { IfOk result (λ made.
+            (p : ℕ) → word_of self.new made p ≡ cond (eqb p place) word (word_of self.old number p)) }
+    {
+        let part = self.part(number);
+        if place == 0 {
+            return self.made(Part { word, ..part });
+        }
+        let further = self.with_word(part.further(place), (place - 1) / 2, word)?;
+        self.made(part.with_further(place, further))
+    }
+
+    /// The bits of two.
+    pub fn joined(&mut self, one: u32, other: u32) -> Result<u32, AllocError>
+        requires one { one < length self.old }
+        requires other { other < length self.old }
+        ensures keeps { Keeps self.old self.new }
+        ensures within { IfOk result (λ made. made < length self.new) }
+        ensures words { IfOk result (λ made.
+            (p : ℕ) → word_of self.new made p ≡ bit_or (word_of self.old one p) (word_of self.old other p)) }
+    {
+        let none = self.none();
+        if one == other || other == none {
+            return Ok(one);
+        }
+        if one == none {
+            return Ok(other);
+        }
+        let first = self.part(one);
+        let second = self.part(other);
+        let odd = self.joined(first.odd, second.odd)?;
+        let even = self.joined(first.even, second.even)?;
+        let word = first.word | second.word;
+        self.made_as(Part { word, odd, even }, one, other)
+    }
+
+    // Lists the places where one may have a bit that the other one lacks.
+    fn list_beyond(
+        &self,
+        places: &mut Vec<u32>,
+        one: u32,
+        other: u32,
+        at: Places,
+    ) -> Result<(), AllocError>
+        ensures kept { (p : ℕ) → has p places.new.items ≡ false → has p places.old.items ≡ false }
+        ensures beyond { OnOk result (
+            (q : ℕ) → has (at.first + at.step * q) places.new.items ≡ false → IsNoneOr (word_of self.now one q) (word_of self.now other q)
+            ) }
+    {
+        if one == other || one == self.none() {
+            return Ok(());
+        }
+        let first = self.part(one);
+        let second = self.part(other);
+        list_if(places, first.word != second.word, at.first)?;
+        let odd = at.odd()?;
+        self.list_beyond(places, first.odd, second.odd, odd)?;
+        let even = at.even()?;
+        self.list_beyond(places, first.even, second.even, even)
+    }
+
+    /// The places where one may have a bit that the other one lacks: at the others both are the same, or it has none.
+    pub fn beyond(&self, alloc: Global, one: u32, other: u32) -> Result<Vec<u32>, AllocError>
+        ensures { IfOk result (λ places.
+            (q : ℕ) → has q places.items ≡ false → IsNoneOr (word_of self.now one q) (word_of self.now other q)) }
+    {
+        let mut places = Vec::new(alloc);
+        self.list_beyond(&mut places, one, other, Places { first: 0, step: 1 })?;
+        Ok(places)
+    }
+}
