@@ -256,6 +256,9 @@ begun_stays known rows s s' k h t l m =
     or_true true = refl
     or_true false = refl
 
+pub begun_aside : (held known : Bits) (at : ℕ) (s s' : SoFar) → IsSuspended held at s s' → AreBegun known s → AreBegun known s'
+begun_aside held known at s s' h k t l m = ap (λ g. word_bit g t) h.begun ∙ k t (let e = h.begins_long in omega (arith, e, l)) m
+
 -- some code inside a statement, and then the statement's own position
 pub inner_adds : (held : Bits) (at : ℕ) (row : Bits) (rows : List Bits) (s s1 s2 s3 s4 : SoFar) → IsSuspended held at s s1 → Adds rows s1 s2 → IsResumed held at row s2 s3 → Adds (row ∷ []) s3 s4 → Adds (row ∷ rows) s s4
 inner_adds held at row rows s s1 s2 s3 s4 a h b m = mark_open row rows s s3 s4 (resumed_adds held at row rows s s1 s2 s3 a (but row rows s1 s2 h) b) m

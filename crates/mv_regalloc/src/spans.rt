@@ -52,12 +52,14 @@ fn mark_stm(alloc: Global, stm: &Stm, walk: &mut Walk) -> Result<(), AllocError>
         Stm::Zero(_) => mark_plain(alloc, stm, None, walk),
         Stm::If(test, a, b) => {
             walk.save(Row::Live)?;
+            walk.save_known()?;
             let held = walk.suspend()?;
             mark_code(alloc, b, walk)?;
             walk.save_known()?;
             let before = walk.suspend()?;
             walk.save(Row::Live)?;
-            walk.turn(Row::Saved(4));
+            walk.turn(Row::Saved(5));
+            walk.know(Row::Saved(4))?;
             mark_code(alloc, a, walk)?;
             mark_test(alloc, test, before, held, walk)
         }
@@ -113,7 +115,8 @@ fn mark_block(alloc: Global, code: &List<Stm>, walk: &mut Walk) -> Result<(), Al
 }
 
 // The test of an `If`, before its two lists: all that was set aside is told again. That is what is live before the one
-// list, what was marked there last, what is known to be marked, what was marked behind the lists, and what is live there.
+// list, what was marked there last, a row that is known to be marked, what was marked last behind the lists, a row that
+// was known there, and what is live there.
 fn mark_test(
     alloc: Global,
     test: &Tree,
@@ -125,7 +128,7 @@ fn mark_test(
     requires held { held ≤ walk.old.spans.positions }
     requires known { AreBegun (row_in walk.old (Row.Saved 2)) walk.old.spans }
     ensures live { OnOk result (walk.new.live ≡ with_reads test.now (either_bits walk.old.live (row_in walk.old (Row.Saved 0)))) }
-    ensures saved { OnOk result (walk.new.saved ≡ drop 5 walk.old.saved) }
+    ensures saved { OnOk result (walk.new.saved ≡ drop 6 walk.old.saved) }
     ensures around { OnOk result (walk.new.around ≡ walk.old.around) }
     ensures rows { OnOk result (Rejoins (row_in walk.old (Row.Saved 3)) held (row_in walk.old (Row.Saved 1)) before
         (with_reads test.now (either_bits walk.old.live (row_in walk.old (Row.Saved 0)))) walk.old.spans walk.new.spans) }
@@ -135,6 +138,7 @@ fn mark_test(
     walk.know(Row::Saved(2))?;
     walk.resume(alloc, 1, before)?;
     walk.resume(alloc, 3, held)?;
+    walk.forget();
     walk.forget();
     walk.forget();
     walk.forget();

@@ -2,12 +2,11 @@ use Rattle.std.proofs.Common.{◌≡◌, ◌-◌, ◌<◌, ◌∷◌, [], List, 
 use Rattle.std.specs.Prelude.{slice_index_or}
 use Rattle.std.proofs.lemmas.Result.{on_ok_weaker}
 use Rattle.mv_ir.specs.declared.stm.Stm as at
-use Rattle.mv_regalloc.specs.LiveBits.{word_bit}
 use Rattle.mv_regalloc.specs.declared.liveness.Row.TheVariants.{Saved, Start}
 use Rattle.mv_regalloc.specs.Rows.{Bits, Enclosing, sets, either_bits, inside, outside, with_reads, live_before, rows_in_order, stm_rows}
 use Rattle.mv_regalloc.specs.Spanned.{Adds, AreBegun, IsResumed, IsSuspended, Rejoins, SoFar}
 use Rattle.mv_regalloc.specs.Tables.{Walked, row_in, top}
-use Rattle.mv_regalloc.proofs.Adding.{adds_two, begun_stays, code_step}
+use Rattle.mv_regalloc.proofs.Adding.{adds_two, begun_aside, begun_stays, code_step}
 use Rattle.mv_regalloc.proofs.InnerRows.{loop_adds, block_adds, if_adds}
 use Rattle.mv_regalloc.proofs.spans.+spans.Goals as goal
 
@@ -121,16 +120,20 @@ mark_stm-returns-in_ok-mark_code-in-If-2-clause-rows t c =
     let last = c.mark_code-in-If.new.walk in
     let others = live_before (map stm_rows b) (sets around live) in
     let after = live_before (map stm_rows a) (sets around live) in
-    let kept = held ∷ live ∷ walk.saved in
-    let noted = c.save_known.new.self in
+    let base = c.save_known.new.self in
+    let behind = top base in
+    let kept = held ∷ behind ∷ live ∷ walk.saved in
+    let noted = c.save_known-in-If.new.self in
     let known = top noted in
     let all = others ∷ before ∷ known ∷ kept in
-    let n = c.in_ok-save_known-in-If.ensures in
+    let n = c.in_ok-save_known-in-If-2.ensures in
+    let n0 = c.in_ok-save_known-in-If.ensures in
     let h = c.in_ok-held-in-If.ensures in
     let k = c.in_ok-mark_code-in-If.ensures in
     let h' = c.in_ok-before-in-If.ensures in
     let k' = c.in_ok-mark_code-in-If-2.ensures in
-    let at = c.in_ok-save-in-If.ensures in
+    let at : base ≡ walked live (behind ∷ live ∷ walk.saved) around walk.spans =
+    λ i. record { live = (n0.live ∙ ap (λ w. w.live) c.in_ok-save-in-If.ensures) i; saved = (n0.saved ∙ ap (λ w. behind ∷ w.saved) c.in_ok-save-in-If.ensures) i; around = (n0.around ∙ ap (λ w. w.around) c.in_ok-save-in-If.ensures) i; spans = (n0.spans ∙ ap (λ w. w.spans) c.in_ok-save-in-If.ensures) i } in
     let start : first ≡ walked live kept around first.spans =
     by_parts first live kept around (h.live ∙ ap (λ w. w.live) at) (h.saved ∙ ap (λ w. held ∷ w.saved) at) (h.around ∙ ap (λ w. w.around) at) in
     let end : middle ≡ walked others kept around middle.spans =
@@ -138,8 +141,8 @@ mark_stm-returns-in_ok-mark_code-in-If-2-clause-rows t c =
     let marked : noted ≡ walked others (known ∷ kept) around middle.spans = λ i. record { live = (n.live ∙ ap (λ w. w.live) end) i; saved = (n.saved ∙ ap (λ w. known ∷ w.saved) end) i; around = (n.around ∙ ap (λ w. w.around) end) i; spans = n.spans i } in
     let aside : second ≡ walked others (before ∷ known ∷ kept) around second.spans =
     by_parts second others (before ∷ known ∷ kept) around (h'.live ∙ ap (λ w. w.live) marked) (h'.saved ∙ ap (λ w. before ∷ w.saved) marked) (h'.around ∙ ap (λ w. w.around) marked) in
-    let start' : c.turn.new.self ≡ walked live all around second.spans =
-    c.turn.ensures ∙ ap (λ w. let v : Walked = record w { live = row_in w (Saved 4) } in v) (c.in_ok-save-in-If-2.ensures ∙ ap (λ w. let v : Walked = record w { saved = w.live ∷ w.saved } in v) aside) in
+    let start' : c.know.new.self ≡ walked live all around second.spans =
+    c.in_ok-know-in-If.ensures ∙ c.turn.ensures ∙ ap (λ w. let v : Walked = record w { live = row_in w (Saved 5) } in v) (c.in_ok-save-in-If-2.ensures ∙ ap (λ w. let v : Walked = record w { saved = w.live ∷ w.saved } in v) aside) in
     let end' : last ≡ walked after all around last.spans =
     by_parts last after all around (k'.live ∙ ap (λ w. live_before (map stm_rows a) (sets w.around w.live)) start') (k'.saved ∙ ap (λ w. w.saved) start') (k'.around ∙ ap (λ w. w.around) start') in
     let out = c.mark_test.new.walk.spans in
@@ -156,20 +159,43 @@ mark_stm-returns-in_ok-mark_code-in-If-2-clause-rows t c =
 
 pub mark_stm-mark_test-requires-clause-known : goal.mark_stm-mark_test-requires-clause-known
 mark_stm-mark_test-requires-clause-known t c =
-    let noted = c.save_known.new.self in
+    let noted = c.save_known-in-If.new.self in
     let known = top noted in
     let middle = c.mark_code.new.walk in
     let second = c.suspend-in-If.new.self in
-    let turned = c.turn.new.self in
+    let turned = c.know.new.self in
     let last = c.mark_code-in-If.new.walk in
-    let n = c.in_ok-save_known-in-If.ensures in
+    let n = c.in_ok-save_known-in-If-2.ensures in
     let h = c.in_ok-before-in-If.ensures in
     let k = c.in_ok-mark_code-in-If-2.ensures in
     let again = c.in_ok-save-in-If-2.ensures in
     let kept : last.saved ≡ second.live ∷ top second ∷ known ∷ middle.saved =
-    k.saved ∙ ap (λ w. w.saved) c.turn.ensures ∙ ap (λ w. w.saved) again ∙ ap (λ s. second.live ∷ s) (h.saved ∙ ap (λ s. top second ∷ s) n.saved) in
+    k.saved ∙ ap (λ w. w.saved) c.in_ok-know-in-If.ensures ∙ ap (λ w. w.saved) c.turn.ensures ∙ ap (λ w. w.saved) again ∙ ap (λ s. second.live ∷ s) (h.saved ∙ ap (λ s. top second ∷ s) n.saved) in
     let row : row_in last (Saved 2) ≡ known = ap (λ s. slice_index_or s 2 last.around.none) kept in
-    let begun : AreBegun known second.spans = λ t l m. (let low : t < length second.spans.begins = l in ap (λ g. word_bit g t) h.spans.begun ∙ n.known t (let e = h.spans.begins_long in omega (arith, e, low)) m) in
-    let spans : turned.spans ≡ second.spans = ap (λ w. w.spans) c.turn.ensures ∙ ap (λ w. w.spans) again in
+    let begun : AreBegun known second.spans = begun_aside (top second) known c.in_ok-before-in-If.before noted.spans second.spans h.spans n.known in
+    let spans : turned.spans ≡ second.spans = ap (λ w. w.spans) c.in_ok-know-in-If.ensures ∙ ap (λ w. w.spans) c.turn.ensures ∙ ap (λ w. w.spans) again in
     subst (λ o. AreBegun o last.spans) (sym row)
     (begun_stays known (rows_in_order (map stm_rows c.in-If.a) (sets turned.around turned.live)) turned.spans last.spans (subst (AreBegun known) (sym spans) begun) k.rows)
+
+pub mark_stm-know-requires-clause-begun : goal.mark_stm-know-requires-clause-begun
+mark_stm-know-requires-clause-begun t c =
+    let base = c.save_known.new.self in
+    let behind = top base in
+    let first = c.suspend.new.self in
+    let middle = c.mark_code.new.walk in
+    let noted = c.save_known-in-If.new.self in
+    let second = c.suspend-in-If.new.self in
+    let turned = c.turn.new.self in
+    let n = c.in_ok-save_known-in-If.ensures in
+    let h = c.in_ok-held-in-If.ensures in
+    let k = c.in_ok-mark_code-in-If.ensures in
+    let n' = c.in_ok-save_known-in-If-2.ensures in
+    let h' = c.in_ok-before-in-If.ensures in
+    let again = c.in_ok-save-in-If-2.ensures in
+    let kept : turned.saved ≡ second.live ∷ top second ∷ top noted ∷ top first ∷ behind ∷ c.save.new.self.saved =
+    ap (λ w. w.saved) c.turn.ensures ∙ ap (λ w. w.saved) again ∙ ap (λ s. second.live ∷ s) (h'.saved ∙ ap (λ s. top second ∷ s) (n'.saved ∙ ap (λ s. top noted ∷ s) (k.saved ∙ h.saved ∙ ap (λ s. top first ∷ s) n.saved))) in
+    let row : row_in turned (Saved 4) ≡ behind = ap (λ s. slice_index_or s 4 turned.around.none) kept in
+    let start : AreBegun behind first.spans = begun_aside (top first) behind c.in_ok-held-in-If.held base.spans first.spans h.spans n.known in
+    let end : AreBegun behind middle.spans = begun_stays behind (rows_in_order (map stm_rows c.in-If.b) (sets first.around first.live)) first.spans middle.spans start k.rows in
+    let last : AreBegun behind second.spans = begun_aside (top second) behind c.in_ok-before-in-If.before noted.spans second.spans h'.spans (subst (AreBegun behind) (sym n'.spans) end) in
+    subst (λ o. AreBegun o turned.spans) (sym row) (subst (AreBegun behind) (sym (ap (λ w. w.spans) c.turn.ensures ∙ ap (λ w. w.spans) again)) last)

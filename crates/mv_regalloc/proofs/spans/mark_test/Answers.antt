@@ -32,7 +32,7 @@ returns-clause-rows c =
     let known = c.know.new.self in
     let second = c.resume.new.self in
     let third = c.resume-2.new.self in
-    let last = c.forget-5.new.self in
+    let last = c.forget-6.new.self in
     let at = c.in_ok-turn_test.ensures in
     let k = c.in_ok-leave_last.ensures in
     let h = c.in_ok-resume.ensures in
@@ -44,10 +44,10 @@ returns-clause-rows c =
     λ i. record { live = (h.live ∙ ap (λ w. w.live) here) i; saved = (h.saved ∙ ap (λ w. w.saved) here) i; around = (h.around ∙ ap (λ w. w.around) here) i; spans = second.spans } in
     let back' : IsResumed (row_in walk (Saved 3)) held row second.spans third.spans = subst (λ w. IsResumed (row_in w (Saved 3)) held w.live w.spans third.spans) here' c.in_ok-resume-2.ensures.spans in
     let live : last.live ≡ row =
-    ap (λ w. w.live) c.forget-5.ensures ∙ ap (λ w. w.live) c.forget-4.ensures ∙ ap (λ w. w.live) c.forget-3.ensures ∙ ap (λ w. w.live) c.forget-2.ensures ∙ ap (λ w. w.live) c.forget.ensures ∙
+    ap (λ w. w.live) c.forget-6.ensures ∙ ap (λ w. w.live) c.forget-5.ensures ∙ ap (λ w. w.live) c.forget-4.ensures ∙ ap (λ w. w.live) c.forget-3.ensures ∙ ap (λ w. w.live) c.forget-2.ensures ∙ ap (λ w. w.live) c.forget.ensures ∙
     c.in_ok-resume-2.ensures.live ∙ ap (λ w. w.live) here' in
     let spans : last.spans ≡ third.spans =
-    ap (λ w. w.spans) c.forget-5.ensures ∙ ap (λ w. w.spans) c.forget-4.ensures ∙ ap (λ w. w.spans) c.forget-3.ensures ∙ ap (λ w. w.spans) c.forget-2.ensures ∙ ap (λ w. w.spans) c.forget.ensures in
+    ap (λ w. w.spans) c.forget-6.ensures ∙ ap (λ w. w.spans) c.forget-5.ensures ∙ ap (λ w. w.spans) c.forget-4.ensures ∙ ap (λ w. w.spans) c.forget-3.ensures ∙ ap (λ w. w.spans) c.forget-2.ensures ∙ ap (λ w. w.spans) c.forget.ensures in
     on_ok_weaker c.mark.result
     (λ z xs ys s s1 s2 s3 a x b y. branches_add (row_in walk (Saved 3)) (row_in walk (Saved 1)) row held before xs ys s s1 s2 s3 ready.spans second.spans third.spans c.mark.new.self.spans a x b
     (but_turned row ys s3 walk.spans ready.spans (but row ys s3 walk.spans y) turned) back back'
