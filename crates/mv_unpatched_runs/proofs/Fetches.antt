@@ -1,0 +1,101 @@
+-- Where the machine is calm, the image's word at an address that is never patched is the only one that a fetch gives.
+use Rattle.std.proofs.Common.{◌≡◌, ℕ, ◌+◌, ◌-◌, ◌*◌, ◌/◌, ◌%◌, ◌<◌, ◌≤◌, Bool, true, false, ◌||◌, cond, eqb, ltb, List, [], ◌∷◌, length, slice_get, slice_index, is_some, Option, Some, None, refl, ap, ap₂, ◌∙◌, arith}
+use Rattle.std.proofs.lemmas.Bool.{or_parts, eqb-true, ltb-true, ltb-false}
+use Rattle.std.proofs.lemmas.Option.{slice_get_within, get_or_from_slice_get, slice_get-get_or}
+use Rattle.mv_descriptors.specs.declared.rows.SiteRow.{SiteRow}
+use Rattle.mv_fetch.specs.Held.{Held, IsInText, index_of, older_at, choices, choices_in, choices_of}
+use Rattle.mv_image.specs.Spelling.{Fields}
+use Rattle.mv_image.specs.Patched.{Bindings, entry_at, site_at, site_before, word_by, word_under, text_of}
+use Rattle.mv_image.proofs.PatchLaws.{text_size, text_at}
+use Rattle.mv_isa.specs.Execution.{step}
+use Rattle.mv_ir.specs.World.{World}
+use Rattle.mv_rv32.specs.Stepping.{access, picked_step}
+use Rattle.mv_machine.specs.Runs.{State, fetched_step, choices_at}
+use Rattle.mv_unpatched_runs.specs.Calm.{Rest, IsCalm, values_of}
+use Rattle.mv_unpatched_runs.specs.UnpatchedRuns.{may_be_patched, word_at, unpatched_word}
+use Rattle.mv_unpatched_runs.proofs.Memory.{InText, text_at as lies_in_text}
+
+-- ---- the word of the image
+
+-- an address of text that is never patched, and its word
+pub record Unpatched (image : Fields) (a w : ℕ) : Type 0 where
+  pub never : may_be_patched image a ≡ false
+  pub aligned : a % 4 ≡ 0
+  pub text : InText a
+  pub there : slice_get image.text (index_of a) ≡ Some w
+
+-- the word there, by the tests of the address
+abbrev word_by_tests : (patched aligned : Bool) → Option ℕ → Option ℕ
+word_by_tests patched aligned word = cond patched None (cond aligned word None)
+
+tests_told : (patched aligned : Bool) (word : Option ℕ) (w : ℕ) → word_by_tests patched aligned word ≡ Some w → (patched ≡ false) × (aligned ≡ true) × (word ≡ Some w)
+tests_told true aligned word w e = absurd (cc)
+tests_told false false word w e = absurd (cc)
+tests_told false true word w e = (refl, refl, e)
+
+word_told : (text : List ℕ) (a w : ℕ) → word_at text a ≡ Some w → (0x1000 ≤ a) × (a < 0x0010_0000) × (slice_get text ((a - 0x1000) / 4) ≡ Some w)
+word_told text a w e = by_tests (ltb a 0x1000) (ltb a 0x0010_0000) refl refl e
+  where
+    by_tests : (low below : Bool) → ltb a 0x1000 ≡ low → ltb a 0x0010_0000 ≡ below → cond low None (cond below (slice_get text ((a - 0x1000) / 4)) None) ≡ Some w
+        → (0x1000 ≤ a) × (a < 0x0010_0000) × (slice_get text ((a - 0x1000) / 4) ≡ Some w)
+    by_tests true below p q k = absurd (cc)
+    by_tests false true p q k = (ltb-false a 0x1000 p, ltb-true a 0x0010_0000 q, k)
+    by_tests false false p q k = absurd (cc)
+
+pub unpatched : (image : Fields) (a w : ℕ) → unpatched_word image a ≡ Some w → Unpatched image a w
+unfolding unpatched_word
+unpatched image a w e =
+    let t = tests_told (may_be_patched image a) (eqb (a % 4) 0) (word_at image.text a) w e in
+    let r = word_told image.text a w t.2 in
+    let text = lies_in_text a r.0 r.1 in
+    record { never = t.0; aligned = eqb-true (a % 4) 0 t.1; text = text; there = ap (λ k. slice_get image.text k) text.index ∙ r.2 }
+
+-- ---- the word under bindings
+
+by_none : (image : Fields) (bound : Bindings) (a word : ℕ) (e : Option ℕ) (s t : Option SiteRow) → is_some e ≡ false → is_some s ≡ false → is_some t ≡ false → word_by image bound a word e s t ≡ word
+by_none image bound a word None None None p q r = refl
+by_none image bound a word None None (Some t) p q r = absurd (cc)
+by_none image bound a word None (Some s) t p q r = absurd (cc)
+by_none image bound a word (Some e) s t p q r = absurd (cc)
+
+unpatched_under : (image : Fields) (bound : Bindings) (a word : ℕ) → may_be_patched image a ≡ false → word_under image bound a word ≡ word
+unfolding word_under
+unpatched_under image bound a word h =
+    let p = or_parts (is_some (entry_at image a)) (is_some (site_at image a) || is_some (site_before image a)) h in
+    let q = or_parts (is_some (site_at image a)) (is_some (site_before image a)) p.1 in
+    by_none image bound a word (entry_at image a) (site_at image a) (site_before image a) p.0 q.0 q.1
+
+-- it stands in text under any bindings
+pub stands_under : (image : Fields) (bound : Bindings) (a w : ℕ) → Unpatched image a w → slice_get (text_of image bound) (index_of a) ≡ Some w
+stands_under image bound a w h =
+    let k = index_of a in
+    let within : k < length image.text = slice_get_within image.text k w h.there in
+    let size = text_size image bound in
+    let here : slice_index image.text k ≡ w = get_or_from_slice_get image.text k w 0 h.there in
+    let index = h.text.index in
+    let after = h.text.after in
+    let aligned = h.aligned in
+    let at : 4096 + 4 * k ≡ a = omega (arith, index, after, aligned) in
+    slice_get-get_or (text_of image bound) k 0 (omega (arith, within, size))
+    ∙ ap Some (text_at image bound k within ∙ ap₂ (λ b x. word_under image bound b x) at here ∙ unpatched_under image bound a w h.never)
+
+-- ---- what a fetch gives
+
+one_choice : (h : Held) (a w : ℕ) → a % 4 ≡ 0 → IsInText a → slice_get h.text (index_of a) ≡ Some w → older_at h.older (index_of a) ≡ [] → choices h a ≡ w ∷ []
+unfolding choices
+one_choice h a w aligned text there older =
+    ap₂ (λ r g. cond (eqb r 0) (choices_in h g (index_of a)) []) aligned text ∙ ap₂ choices_of there older
+
+pub calm_choice : (image : Fields) (w : World) (m : Rest) (a word : ℕ) → IsCalm image w m → Unpatched image a word → choices m.room.held a ≡ word ∷ []
+calm_choice image w m a word calm h =
+    one_choice m.room.held a word h.aligned h.text.is
+    (ap (λ xs. slice_get xs (index_of a)) calm.text ∙ stands_under image (values_of m.bindings) a word h) (calm.no_older (index_of a))
+
+-- whatever is picked, the one word is executed
+pub fetches_one : (s : State) (pick word : ℕ) → choices s.room.held s.pc ≡ word ∷ [] → fetched_step s pick ≡ step access (Some word) s.regs s.pc s.room
+unfolding fetched_step choices_at picked_step
+fetches_one s pick word one =
+    ap (λ (l : List ℕ). step access (slice_get l (pick % length l)) s.regs s.pc s.room) one ∙ ap (λ (k : ℕ). step access (slice_get (word ∷ []) k) s.regs s.pc s.room) (all_zero pick)
+  where
+    all_zero : (n : ℕ) → n % length (word ∷ []) ≡ 0
+    all_zero n = omega arith

@@ -1,0 +1,43 @@
+-- The machine is one on which code of frames runs, and its memory is fit for frames that are laid out.
+use Rattle.std.specs.Prelude.{ℕ, ◌≡◌, ◌↔◌, true, List, [], length, replicate, Option}
+use Rattle.mv_ast.specs.Plans.{free}
+use Rattle.mv_image.specs.Spelling.{Fields}
+use Rattle.mv_ir.specs.World as ir
+use Rattle.mv_ir.specs.World.{World}
+use Rattle.mv_machine.specs.Runs.{bytes_to_come}
+use Rattle.mv_statement_code.specs.Frames.{Site, IsFit}
+use Rattle.mv_flow_code.specs.Runs.{IsRun, Calm}
+use Rattle.mv_unpatched_runs.specs.Calm.{Rest, IsCalm, is_calm}
+use Rattle.mv_unpatched_runs.specs.UnpatchedRuns.{access, machine_of}
+use Rattle.mv_unpatched_runs.specs.Layout.{OwnOutsideText, IsLaidOut, AreNamed}
+
+-- the test of calm tells what it stands for
+abbrev pub CalmIsTested : Type 0
+CalmIsTested = (image : Fields) (w : World) (m : Rest) → (is_calm image w m ≡ true) ↔ IsCalm image w m
+
+-- For every image, input and picks, the machine's run is one of a machine on which code runs, at each site whose own cells lie outside text.
+abbrev pub RunsAreRuns : Type 0
+RunsAreRuns =
+    (image : Fields) (input : List (Option ℕ)) (picks : List ℕ) (s : Site) → OwnOutsideText s → IsRun access s (machine_of image input picks)
+
+-- a world before the first instruction: nothing is written or bound
+pub record IsFirst (image : Fields) (bytes : List ℕ) (w : World) : Type 0 where
+  pub input : w.input ≡ bytes
+  pub output : w.output ≡ []
+  pub bindings : w.bindings ≡ replicate (length image.functions) free
+  pub log : w.log ≡ []
+
+-- a run begins in calm
+abbrev pub RunsBeginInCalm : Type 0
+RunsBeginInCalm =
+    (image : Fields) (bytes picks : List ℕ) (s : Site) (w : World) → IsFirst image bytes w →
+    let machine = machine_of image (bytes_to_come bytes) picks in Calm access s machine w (machine.run 0).memory
+
+-- memory is fit for a frame that is laid out
+abbrev pub MemoryIsFit : Type 0
+MemoryIsFit =
+    (bytes : ℕ) (s : Site) (setting : ir.Setting) (frame : ir.Frame) → IsLaidOut bytes s → AreNamed s setting frame → IsFit s access setting frame
+
+-- and its own cells lie outside text
+abbrev pub FramesAreOutsideText : Type 0
+FramesAreOutsideText = (bytes : ℕ) (s : Site) → IsLaidOut bytes s → OwnOutsideText s

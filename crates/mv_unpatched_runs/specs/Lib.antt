@@ -1,0 +1,4 @@
+pub mod UnpatchedRuns
+pub mod Calm
+pub mod Layout
+pub mod Laws
