@@ -6,3 +6,4 @@ mod Fetches
 mod Starts
 mod OnRuns
 mod Fitness
+mod Packing

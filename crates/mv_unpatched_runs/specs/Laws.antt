@@ -1,15 +1,19 @@
 -- The machine is one on which code of frames runs, and its memory is fit for frames that are laid out.
-use Rattle.std.specs.Prelude.{ℕ, ◌≡◌, ◌↔◌, true, List, [], length, replicate, Option}
+use Rattle.std.specs.Prelude.{ℕ, ◌≡◌, ◌↔◌, Bool, true, List, [], length, replicate, Option}
 use Rattle.mv_ast.specs.Plans.{free}
 use Rattle.mv_image.specs.Spelling.{Fields}
+use Rattle.mv_ir.specs.declared.stm.Stm.{Stm}
+use Rattle.mv_ir.specs.declared.tree.Tree.{Tree}
 use Rattle.mv_ir.specs.World as ir
 use Rattle.mv_ir.specs.World.{World}
 use Rattle.mv_machine.specs.Runs.{bytes_to_come}
-use Rattle.mv_statement_code.specs.Frames.{Site, IsFit}
+use Rattle.mv_statement_code.specs.Frames.{Site, IsFine, IsFit}
+use Rattle.mv_flow_code.specs.FlowCode.{CallLines, are_fine}
+use Rattle.mv_flow_code.specs.Laws.{has_word, CallsDo, CodeDoes}
 use Rattle.mv_flow_code.specs.Runs.{IsRun, Calm}
 use Rattle.mv_unpatched_runs.specs.Calm.{Rest, IsCalm, is_calm}
 use Rattle.mv_unpatched_runs.specs.UnpatchedRuns.{access, machine_of}
-use Rattle.mv_unpatched_runs.specs.Layout.{OwnOutsideText, IsLaidOut, AreNamed}
+use Rattle.mv_unpatched_runs.specs.Layout.{OwnOutsideText, IsLaidOut, IsPacked, AreNamed}
 
 -- the test of calm tells what it stands for
 abbrev pub CalmIsTested : Type 0
@@ -41,3 +45,18 @@ MemoryIsFit =
 -- and its own cells lie outside text
 abbrev pub FramesAreOutsideText : Type 0
 FramesAreOutsideText = (bytes : ℕ) (s : Site) → IsLaidOut bytes s → OwnOutsideText s
+
+-- globals and arrays that stand one behind the other are laid out
+abbrev pub PackedIsLaidOut : Type 0
+PackedIsLaidOut = (globals arrays : List ℕ) (bytes : ℕ) (s : Site) → IsPacked globals arrays bytes s → IsLaidOut bytes s
+
+-- So on the machine, in a frame that is laid out, the code of fine statements does what they mean, if that of calls does.
+abbrev pub CodeRunsOnTheMachine : Type 0
+CodeRunsOnTheMachine =
+    (image : Fields) (input : List (Option ℕ)) (picks : List ℕ) (bytes : ℕ) (s : Site) (setting : ir.Setting) (frame : ir.Frame) →
+    IsLaidOut bytes s → AreNamed s setting frame →
+    (is_fine : Tree → Bool) → ((t : Tree) → is_fine t ≡ true → IsFine s setting frame t) →
+    (place : ℕ → ℕ) (end budget far most : ℕ) (calls : CallLines) →
+    CallsDo access s setting frame (machine_of image input picks) place end budget far is_fine most calls →
+    (code : List Stm) → are_fine is_fine s.temps (has_word s) code ≡ true →
+    CodeDoes access s setting frame (machine_of image input picks) place end budget far is_fine most calls code

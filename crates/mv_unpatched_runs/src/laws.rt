@@ -1,4 +1,4 @@
-ghost use Rattle.mv_unpatched_runs.specs.Laws.{CalmIsTested, RunsAreRuns, RunsBeginInCalm, MemoryIsFit, FramesAreOutsideText};
+ghost use Rattle.mv_unpatched_runs.specs.Laws.{CalmIsTested, RunsAreRuns, RunsBeginInCalm, MemoryIsFit, FramesAreOutsideText, PackedIsLaidOut, CodeRunsOnTheMachine};
 
 /// The test of calm is true exactly where the machine is calm. The call does nothing: its contract is the law.
 pub fn calm_is_tested()
@@ -23,4 +23,14 @@ pub fn memory_is_fit()
 /// The own cells of a frame that is laid out lie in the data and in the stack.
 pub fn frames_are_outside_text()
     ensures { FramesAreOutsideText }
+{}
+
+/// Globals and arrays that stand one behind the other are laid out.
+pub fn packed_is_laid_out()
+    ensures { PackedIsLaidOut }
+{}
+
+/// On the machine, the code of fine statements does what they mean in a frame that is laid out, if that of calls does.
+pub fn code_runs_on_the_machine()
+    ensures { CodeRunsOnTheMachine }
 {}
