@@ -7,3 +7,4 @@ mod Starts
 mod OnRuns
 mod Fitness
 mod Packing
+mod Answering

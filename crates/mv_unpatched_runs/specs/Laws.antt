@@ -12,6 +12,7 @@ use Rattle.mv_flow_code.specs.FlowCode.{CallLines, are_fine}
 use Rattle.mv_flow_code.specs.Laws.{has_word, CallsDo, CodeDoes}
 use Rattle.mv_flow_code.specs.Runs.{IsRun, Calm}
 use Rattle.mv_unpatched_runs.specs.Calm.{Rest, IsCalm, is_calm}
+use Rattle.mv_unpatched_runs.specs.Calls.{CallsAreAnswered}
 use Rattle.mv_unpatched_runs.specs.UnpatchedRuns.{access, machine_of}
 use Rattle.mv_unpatched_runs.specs.Layout.{OwnOutsideText, IsLaidOut, IsPacked, AreNamed}
 
@@ -36,6 +37,10 @@ abbrev pub RunsBeginInCalm : Type 0
 RunsBeginInCalm =
     (image : Fields) (bytes picks : List ℕ) (s : Site) (w : World) → IsFirst image bytes w →
     let machine = machine_of image (bytes_to_come bytes) picks in Calm access s machine w (machine.run 0).memory
+
+-- environment calls are answered, for every image, input and picks
+abbrev pub EnvironmentCalls : Type 0
+EnvironmentCalls = (image : Fields) (input : List (Option ℕ)) (picks : List ℕ) → CallsAreAnswered image input picks
 
 -- memory is fit for a frame that is laid out
 abbrev pub MemoryIsFit : Type 0

@@ -1,4 +1,5 @@
 pub mod UnpatchedRuns
 pub mod Calm
+pub mod Calls
 pub mod Layout
 pub mod Laws

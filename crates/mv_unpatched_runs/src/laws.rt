@@ -1,4 +1,4 @@
-ghost use Rattle.mv_unpatched_runs.specs.Laws.{CalmIsTested, RunsAreRuns, RunsBeginInCalm, MemoryIsFit, FramesAreOutsideText, PackedIsLaidOut, CodeRunsOnTheMachine};
+ghost use Rattle.mv_unpatched_runs.specs.Laws.{CalmIsTested, RunsAreRuns, RunsBeginInCalm, MemoryIsFit, FramesAreOutsideText, PackedIsLaidOut, EnvironmentCalls, CodeRunsOnTheMachine};
 
 /// The test of calm is true exactly where the machine is calm. The call does nothing: its contract is the law.
 pub fn calm_is_tested()
@@ -13,6 +13,11 @@ pub fn runs_are_runs()
 /// A run begins in calm.
 pub fn runs_begin_in_calm()
     ensures { RunsBeginInCalm }
+{}
+
+/// From a calm time, environment calls read, write, and end the run.
+pub fn environment_calls()
+    ensures { EnvironmentCalls }
 {}
 
 /// Memory is fit for every frame that is laid out.
