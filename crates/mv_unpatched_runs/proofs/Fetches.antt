@@ -1,6 +1,6 @@
 -- Where the machine is calm, the image's word at an address that is never patched is the only one that a fetch gives.
 use Rattle.std.proofs.Common.{◌≡◌, ℕ, ◌+◌, ◌-◌, ◌*◌, ◌/◌, ◌%◌, ◌<◌, ◌≤◌, Bool, true, false, ◌||◌, cond, eqb, ltb, List, [], ◌∷◌, length, slice_get, slice_index, is_some, Option, Some, None, refl, ap, ap₂, ◌∙◌, arith}
-use Rattle.std.proofs.lemmas.Bool.{or_parts, eqb-true, ltb-true, ltb-false}
+use Rattle.std.proofs.lemmas.Bool.{lt-ltb, le-ltb, or_parts, eqb-true, ltb-true, ltb-false}
 use Rattle.std.proofs.lemmas.Option.{slice_get_within, get_or_from_slice_get, slice_get-get_or}
 use Rattle.mv_descriptors.specs.declared.rows.SiteRow.{SiteRow}
 use Rattle.mv_fetch.specs.Held.{Held, IsInText, index_of, older_at, choices, choices_in, choices_of}
@@ -49,6 +49,24 @@ unpatched image a w e =
     let r = word_told image.text a w t.2 in
     let text = lies_in_text a r.0 r.1 in
     record { never = t.0; aligned = eqb-true (a % 4) 0 t.1; text = text; there = ap (λ k. slice_get image.text k) text.index ∙ r.2 }
+
+word_there : (text : List ℕ) (a k : ℕ) → 0x1000 ≤ a → a < 0x0010_0000 → (a - 0x1000) / 4 ≡ k → word_at text a ≡ slice_get text k
+word_there text a k ge lt e =
+    let f : ltb a 0x1000 ≡ false = le-ltb a 0x1000 ge in
+    let g : ltb a 0x0010_0000 ≡ true = lt-ltb a 0x0010_0000 lt in rw (f, g) (ap (slice_get text) e)
+
+pub finds_word : (image : Fields) (k w : ℕ) → slice_get image.text k ≡ Some w → 0x1000 + 4 * k < 0x0010_0000 → may_be_patched image (0x1000 + 4 * k) ≡ false
+    → unpatched_word image (0x1000 + 4 * k) ≡ Some w
+unfolding unpatched_word
+finds_word image k w there lt never =
+    let aligned : (0x1000 + 4 * k) % 4 ≡ 0 = omega arith in
+    let tests : word_by_tests (may_be_patched image (0x1000 + 4 * k)) (eqb ((0x1000 + 4 * k) % 4) 0) (word_at image.text (0x1000 + 4 * k)) ≡ word_at image.text (0x1000 + 4 * k) =
+    ap₂ (λ p r. word_by_tests p (eqb r 0) (word_at image.text (0x1000 + 4 * k))) never aligned in
+    tests ∙ word_there image.text (0x1000 + 4 * k) k (omega arith) lt (omega arith) ∙ there
+
+pub never_patched : (image : Fields) → image.functions ≡ [] → image.sites ≡ [] → (a : ℕ) → may_be_patched image a ≡ false
+unfolding entry_at site_at site_before
+never_patched image functions sites a = rw (functions, sites) refl
 
 -- ---- the word under bindings
 

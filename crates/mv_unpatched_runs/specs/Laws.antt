@@ -1,5 +1,5 @@
 -- The machine is one on which code of frames runs, and its memory is fit for frames that are laid out.
-use Rattle.std.specs.Prelude.{ℕ, ◌≡◌, ◌↔◌, Bool, true, List, [], length, replicate, Option}
+use Rattle.std.specs.Prelude.{ℕ, ◌≡◌, ◌↔◌, ◌+◌, ◌*◌, ◌<◌, Bool, true, false, List, [], length, replicate, slice_get, Option, Some}
 use Rattle.mv_ast.specs.Plans.{free}
 use Rattle.mv_image.specs.Spelling.{Fields}
 use Rattle.mv_ir.specs.declared.stm.Stm.{Stm}
@@ -13,7 +13,7 @@ use Rattle.mv_flow_code.specs.Laws.{has_word, CallsDo, CodeDoes}
 use Rattle.mv_flow_code.specs.Runs.{IsRun, Calm}
 use Rattle.mv_unpatched_runs.specs.Calm.{Rest, IsCalm, is_calm}
 use Rattle.mv_unpatched_runs.specs.Calls.{CallsAreAnswered}
-use Rattle.mv_unpatched_runs.specs.UnpatchedRuns.{access, machine_of}
+use Rattle.mv_unpatched_runs.specs.UnpatchedRuns.{access, machine_of, may_be_patched, unpatched_word}
 use Rattle.mv_unpatched_runs.specs.Layout.{OwnOutsideText, IsLaidOut, IsPacked, AreNamed}
 
 -- the test of calm tells what it stands for
@@ -24,6 +24,14 @@ CalmIsTested = (image : Fields) (w : World) (m : Rest) → (is_calm image w m �
 abbrev pub RunsAreRuns : Type 0
 RunsAreRuns =
     (image : Fields) (input : List (Option ℕ)) (picks : List ℕ) (s : Site) → OwnOutsideText s → IsRun access s (machine_of image input picks)
+
+-- each word of the image's text is found where bindings don't show, and they show nowhere in an image without functions and sites
+pub record TextIsFound (image : Fields) : Type 0 where
+  pub found : (k w : ℕ) → slice_get image.text k ≡ Some w → 0x1000 + 4 * k < 0x0010_0000 → may_be_patched image (0x1000 + 4 * k) ≡ false → unpatched_word image (0x1000 + 4 * k) ≡ Some w
+  pub unpatched : image.functions ≡ [] → image.sites ≡ [] → (a : ℕ) → may_be_patched image a ≡ false
+
+abbrev pub TextsAreFound : Type 0
+TextsAreFound = (image : Fields) → TextIsFound image
 
 -- a world before the first instruction: nothing is written or bound
 pub record IsFirst (image : Fields) (bytes : List ℕ) (w : World) : Type 0 where

@@ -1,4 +1,4 @@
-ghost use Rattle.mv_unpatched_runs.specs.Laws.{CalmIsTested, RunsAreRuns, RunsBeginInCalm, MemoryIsFit, FramesAreOutsideText, PackedIsLaidOut, EnvironmentCalls, CodeRunsOnTheMachine};
+ghost use Rattle.mv_unpatched_runs.specs.Laws.{CalmIsTested, RunsAreRuns, TextsAreFound, RunsBeginInCalm, MemoryIsFit, FramesAreOutsideText, PackedIsLaidOut, EnvironmentCalls, CodeRunsOnTheMachine};
 
 /// The test of calm is true exactly where the machine is calm. The call does nothing: its contract is the law.
 pub fn calm_is_tested()
@@ -8,6 +8,11 @@ pub fn calm_is_tested()
 /// The machine is one on which code runs.
 pub fn runs_are_runs()
     ensures { RunsAreRuns }
+{}
+
+/// The words of an image's text are those that the run finds, where no bindings show.
+pub fn texts_are_found()
+    ensures { TextsAreFound }
 {}
 
 /// A run begins in calm.
