@@ -1,0 +1,61 @@
+-- The machine as a run on which code stands. What is never patched is its text; what stands under bindings is told apart.
+use Rattle.std.specs.Prelude.{ℕ, ◌-◌, ◌/◌, ◌%◌, Bool, ◌||◌, cond, eqb, ltb, List, length, slice_get, is_some, Option, None, option_map}
+use Rattle.mv_isa.specs.Execution.{Access}
+use Rattle.mv_fetch.specs.Held.{Room, choices}
+use Rattle.mv_rv32.specs.Stepping as memory
+use Rattle.mv_image.specs.Spelling.{Fields}
+use Rattle.mv_image.specs.Patched.{entry_at, site_at, site_before, word_under}
+use Rattle.mv_ir.specs.World.{World}
+use Rattle.mv_machine.specs.Runs.{State, runs}
+use Rattle.mv_flow_code.specs.Runs.{Spot, Machine}
+use Rattle.mv_machine_runs.specs.Calm.{Rest, values_of, is_calm}
+
+abbrev pub with_room : Rest → Room → Rest
+with_room m room = record m { room = room }
+
+-- loads, stores and FENCE.I of the machine's memory
+unfoldable pub access : Access Rest
+access = record {
+  load = λ m a n. memory.access.load m.room a n;
+  store = λ m a n v. option_map (with_room m) (memory.access.store m.room a n v);
+  fence = λ m. with_room m (memory.access.fence m.room);
+}
+
+abbrev pub rest_of : State → Rest
+rest_of s = record { room = s.room; bindings = s.bindings; input = s.input; output = s.output; log = s.log; stop = s.stop }
+
+abbrev pub spot_of : State → Spot Rest
+spot_of s = record { regs = s.regs; pc = s.pc; memory = rest_of s }
+
+-- whether bindings may show at an address: it is the entry of a function, or a word of a site
+abbrev pub may_be_patched : Fields → ℕ → Bool
+may_be_patched image a = is_some (entry_at image a) || (is_some (site_at image a) || is_some (site_before image a))
+
+-- the word of text at an address, which begins at 0x1000 and ends before 0x0010_0000
+abbrev pub word_at : List ℕ → ℕ → Option ℕ
+word_at text a = cond (ltb a 0x1000) None (cond (ltb a 0x0010_0000) (slice_get text ((a - 0x1000) / 4)) None)
+
+-- the image's word at an address of text, none at others
+unfoldable pub image_word : Fields → ℕ → Option ℕ
+image_word image a = cond (eqb (a % 4) 0) (word_at image.text a) None
+
+-- none also where bindings may show
+unfoldable pub unpatched_word : Fields → ℕ → Option ℕ
+unpatched_word image a = cond (may_be_patched image a) None (image_word image a)
+
+-- the word that stands there under the bindings of a world
+unfoldable pub bound_word : Fields → World → ℕ → Option ℕ
+bound_word image w a = option_map (word_under image (values_of w.bindings) a) (image_word image a)
+
+-- what a fetch gives at a spot doesn't depend on the pick
+abbrev pub has_one_choice : Spot Rest → Bool
+has_one_choice spot = eqb (length (choices spot.memory.room.held spot.pc)) 1
+
+-- the run of an image on an input, by any picks of the fetches
+abbrev pub machine_of : Fields → (input : List (Option ℕ)) → (picks : List ℕ) → Machine Rest
+machine_of image input picks = record {
+  text = unpatched_word image;
+  is_calm = is_calm image;
+  is_sound = has_one_choice;
+  run = λ n. spot_of (runs image input picks n);
+}

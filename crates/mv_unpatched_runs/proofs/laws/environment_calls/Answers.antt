@@ -1,5 +1,0 @@
-use Rattle.mv_unpatched_runs.proofs.Answering.{answered_calls}
-use Rattle.mv_unpatched_runs.proofs.laws.environment_calls.Goals as goal
-
-pub returns : goal.returns
-returns c = answered_calls

@@ -1,9 +1,0 @@
-//! The machine runs the code of frames, as far as that code is never patched.
-#![tactic(auto)]
-
-mod laws;
-
-pub use laws::{
-    calm_is_tested, code_runs_on_the_machine, environment_calls, frames_are_outside_text,
-    memory_is_fit, packed_is_laid_out, runs_are_runs, runs_begin_in_calm, texts_are_found,
-};
