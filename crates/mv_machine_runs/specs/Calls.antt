@@ -10,7 +10,7 @@ use Rattle.mv_flow_code.specs.Runs.{Spot}
 use Rattle.mv_machine_runs.specs.Calm.{Rest, IsCalm}
 use Rattle.mv_machine_runs.specs.MachineRuns.{access, has_one_choice, machine_of, unpatched_word}
 
--- The next instruction stands behind the call, with the answer in a0. Memory is as it was, and the machine is as the world says that the answer leaves.
+-- The next instruction stands behind the call, with the answer in a0. Memory is as it was, and all else is as the world that the answer leaves.
 pub record IsAnswered (image : Fields) (answer : Answer) (now next : Spot Rest) : Type 0 where
   pub regs : next.regs ≡ put now.regs 10 answer.value
   pub pc : next.pc ≡ add now.pc 4

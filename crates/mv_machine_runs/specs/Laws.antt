@@ -30,8 +30,8 @@ RunsAreRuns =
 abbrev pub BoundStepsAreTaken : Type 0
 BoundStepsAreTaken = (image : Fields) (input : List (Option ℕ)) (picks : List ℕ) (s : Site) → OwnOutsideText s → StepsAreTaken image input picks s
 
--- The words of an image's text are found at their addresses. Where bindings don't show, they stand there under all bindings; and bindings show nowhere in
--- an image without functions and sites.
+-- The words of an image's text are found at their addresses. Where bindings don't show, they stand there under all bindings; and bindings show
+-- nowhere in an image without functions and sites.
 pub record TextIsFound (image : Fields) : Type 0 where
   pub found : (k word : ℕ) → slice_get image.text k ≡ Some word → 0x1000 + 4 * k < 0x0010_0000 → image_word image (0x1000 + 4 * k) ≡ Some word
   pub kept : (a word : ℕ) → image_word image a ≡ Some word → may_be_patched image a ≡ false → unpatched_word image a ≡ Some word

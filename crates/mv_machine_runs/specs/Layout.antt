@@ -20,8 +20,9 @@ frame_at s = s.register 2
 abbrev pub IsKeptApart : (bytes : ℕ) → Site → Type 0
 IsKeptApart bytes s = (a : ℕ) → s.is_kept a ≡ true → ((frame_at s ≤ a) × (a < frame_at s + 40)) ⊎ ((frame_at s + bytes ≤ a) × (a < 0x0040_0000))
 
--- The globals lie in order in the data, and the frame, of so many bytes, in the stack: ten words for saved registers, the temporaries from number 9 on,
--- and the arrays in order. What is kept is the saved words, and what lies above the frame. A global or an array of no words lies nowhere.
+-- The globals lie in order in the data, and the frame, of so many bytes, in the stack: ten words for saved registers, the temporaries from
+-- number 9 on, and the arrays in order. What is kept is the saved words, and what lies above the frame. A global or an array of no words lies
+-- nowhere.
 pub record IsLaidOut (bytes : ℕ) (s : Site) : Type 0 where
   -- each global lies in the data
   pub data_begins : (g : ℕ) → 0 < s.size g → 0x0010_0000 ≤ s.place g
