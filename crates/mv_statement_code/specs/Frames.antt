@@ -38,9 +38,9 @@ abbrev pub IsOwn : Cell → Type 0
 IsOwn (Kept b) = ⊥
 IsOwn _ = Unit {0}
 
--- the registers x0 to x8, s10 and s11, ra and sp among them, which only calls change
+-- sp, s10 and s11, which only calls change and set back
 abbrev pub IsLeft : ℕ → Type 0
-IsLeft q = (q < 9) ⊎ ((26 ≤ q) × (q < 28))
+IsLeft q = (q ≡ 2) ⊎ ((26 ≤ q) × (q < 28))
 
 module _ (s : Site) where
   abbrev pub home_of : Array → Home
