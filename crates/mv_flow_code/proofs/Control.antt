@@ -1,5 +1,5 @@
 -- The code of branches, loops and blocks, and of what leaves them and starts them again, on a run.
-use Rattle.std.proofs.Common.{◌≡◌, ℕ, ◌+◌, ◌*◌, ◌≤◌, Bool, true, false, cond, eqb, List, [], ◌∷◌, ◌++◌, length, refl, sym, ap, ◌∙◌, subst, arith}
+use Rattle.std.proofs.Common.{◌≡◌, ℕ, ◌+◌, ◌*◌, Bool, true, false, cond, eqb, List, [], ◌∷◌, ◌++◌, length, refl, sym, ap, ◌∙◌, subst, arith}
 use Rattle.std.proofs.lemmas.List.{append-nil}
 use Rattle.mv_isa.specs.declared.labelled.Line.{Line}
 use Rattle.mv_isa.specs.declared.labelled.Line.TheVariants.{Label, Jump, Branch}
@@ -22,7 +22,7 @@ use Rattle.mv_flow_code.specs.declared.enclosing.Enclosing.{Enclosing}
 use Rattle.mv_flow_code.specs.FlowCode.{enclosing_at, if_lines, loop_lines, block_lines, loop_at, block_at}
 use Rattle.mv_flow_code.specs.Placed.{IsPlaced, Placed}
 use Rattle.mv_flow_code.specs.Runs.{Machine, IsRun}
-use Rattle.mv_flow_code.specs.Flow.{Here, Follows, Does}
+use Rattle.mv_flow_code.specs.Flow.{IsWithin, Here, Follows, Does}
 use Rattle.mv_flow_code.proofs.Composition.{Jumps, rest, at_place, block_does, jump_follows, loop_does}
 use Rattle.mv_flow_code.proofs.Walk.{placed_split, Reaches, jump_stands, branch_passes, taken, line_does, leads_walk, to_stands, to_here}
 
@@ -81,7 +81,7 @@ module _ {M : Type 0} (access : Access M) (s : Site) (setting : ir.Setting) (fra
       (does next (subst (P ls pc) same q.1))
 
   pub loop_stands : (label spare pc next : ℕ) (around : List Enclosing) (bound : Bound) (b : List Meaning) (ls : List Line) → P (loop_lines label ls) pc next
-      → ((spare : ℕ) (under : Bound) (start stop : ℕ) → length under ≤ length bound → P ls start stop → D spare (length under) (loop_at label ∷ around) start stop (in_order b under))
+      → ((spare : ℕ) (under : Bound) (start stop : ℕ) → IsWithin under bound → P ls start stop → D spare (length under) (loop_at label ∷ around) start stop (in_order b under))
       → D spare (length bound) around pc next (statement setting frame (stm.Loop b) bound)
   loop_stands label spare pc next around bound b ls p does =
       let q = split ls (Jump 0 label ∷ Label (label + 1) ∷ []) p.0 next p.2 in
