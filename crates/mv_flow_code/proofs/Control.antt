@@ -146,8 +146,8 @@ module _ {M : Type 0} (access : Access M) (s : Site) (setting : ir.Setting) (fra
       go true is h =
           let cost = (in_order b bound x).cost in
           let y = tree_reached v x 0 (spare + (8 + 3 * nodes v + cost)) k pc q.0 i z q.1 h in
-          let e = subst (λ d. BranchRuns access machine.text m d q.0 q.2.0 (place label) z.after) (by true is)
-          (line_does access s machine ok place end budget far x.world q.0 q.2.0 z.after m y.time (Branch 0 first 0 label) q.2.1 y.stands) in
+          let e = subst (λ d. BranchRuns access machine.text.word m d q.0 q.2.0 (place label) z.after) (by true is)
+          (line_does access s machine ok place end budget far x.world q.0 q.2.0 z.after m y.time (Branch 0 first 0 label) q.2.1.stands q.2.1 y.stands) in
           let t = taken access s machine ok place end budget far x.world q.0 q.2.0 (place label) z.after m y.time e y.stands in
           let paid = h.paid in let asked = h.asked in let late = y.late in let soon = y.soon in let later = t.late in let sooner = t.soon in
           let here = to_here access s machine ok place end budget far 0 (spare + cost) k (place label) x x.world z.after m t.time refl z.shown (omega (arith, paid, soon, sooner)) (omega (arith, asked, late, later)) t.stands in
