@@ -32,10 +32,10 @@ use Rattle.mv_flow_code.specs.Flow.{AtTrap, Follows}
 use Rattle.mv_flow_code.proofs.Composition.{fewer}
 use Rattle.mv_flow_code.proofs.Walk as walk
 use Rattle.mv_flow_code.proofs.Walk.{Reaches, placed_split, reaches_more, line_does, branch_passes, taken, leads_walk}
-use Rattle.mv_call_code.specs.CallCode.{left_register, guarded_lines}
+use Rattle.mv_call_code.specs.CallCode.{left_register, back_lines, guarded_lines}
 use Rattle.mv_call_code.specs.Convention.{Layout, Conventions}
 use Rattle.mv_call_code.specs.Laws.{IsCaller, IsLinked}
-use Rattle.mv_call_code.proofs.Transfers.{Transfers, back_lines, sets_on, call_follows}
+use Rattle.mv_call_code.proofs.Transfers.{Transfers, sets_on, call_follows}
 
 -- one less of a number that isn't 0
 one_less : (n : ℕ) → n + 1 < 2 ^ 32 → add (n + 1) (2 ^ 32 - 1) ≡ n
@@ -108,7 +108,7 @@ module _ {M : Type 0} (access : Access M) (y : Layout) (s : Site) (setting : ir.
   -- a call that is left is made, at each bound
   made : (go : List Line) (result : Option ℕ) (f : ℕ) (args : List ℕ) (spare pc mid next : ℕ) (around : List Enclosing) (bound : Bound) (l : State) (regs : List ℕ) (m : M) (i : ℕ)
       → fine_target is_fine s.temps (has_word s) result ≡ true → (s.register left_register ≡ 0 → ⊥) → Shows s access l regs m → Conventions access y machine budget far bound → Goes go f args l regs m
-      → IsPlaced machine.text place s.entry pc mid (Branch 0 left_register 0 (trap_label 4)) → P (Word (Addi left_register left_register minus_one) ∷ (go ++ back_lines access y s setting frame fit caller machine ok budget far place end linked is_fine result)) mid next
+      → IsPlaced machine.text place s.entry pc mid (Branch 0 left_register 0 (trap_label 4)) → P (Word (Addi left_register left_register minus_one) ∷ (go ++ back_lines result)) mid next
       → W l.world pc regs m i
       → i + (spare + 52 + (within bound (λ calls. made_call result l (calls f args frame.depth frame.live l.world)) l).cost) ≤ budget → far ≤ i + length bound
       → F spare (length bound) around next (within bound (λ calls. made_call result l (calls f args frame.depth frame.live l.world)) l).outcome
@@ -119,7 +119,7 @@ module _ {M : Type 0} (access : Access M) (y : Layout) (s : Site) (setting : ir.
       let e : n + 1 ≡ s.register left_register = grind (arith, ne) in
       let b = other_passes 4 left_register (s.register left_register) l.world pc mid regs m i (left_held l regs m sh) ne branch a in
       let c = counted n l mid p.0 regs m (i + 1) e sh p.1 b in
-      let q = placed_split machine.text place s.entry go (back_lines access y s setting frame fit caller machine ok budget far place end linked is_fine result) p.0 next p.2 in
+      let q = placed_split machine.text place s.entry go (back_lines result) p.0 next p.2 in
       let x = goes calls (length below) n (spare + 2) p.0 q.0 (i + 1 + 1) keep.0 e q.1 c (omega (arith, paid)) (omega (arith, asked)) in
       let end_of = (calls f args frame.depth frame.live l.world).end in
       fewer access s machine place end budget far spare spare (length below) (suc (length below)) around next (made_call result l (calls f args frame.depth frame.live l.world)).outcome (omega arith) (omega arith)

@@ -2,5 +2,6 @@ pub mod Arguments
 pub mod CallerShown
 pub mod Transfers
 pub mod Guarded
-pub mod Calls
+pub mod FunctionCalls
 pub mod KnownCalls
+pub mod Equations

@@ -33,7 +33,7 @@ use Rattle.mv_flow_code.specs.Laws.{has_word}
 use Rattle.mv_flow_code.specs.Flow.{Here, AtTrap, IsCut, Follows}
 use Rattle.mv_flow_code.proofs.Walk as walk
 use Rattle.mv_flow_code.proofs.Walk.{Reaches, placed_split, stands_at, line_does, steps_on, branch_passes, taken, leads_walk, to_stands, to_here}
-use Rattle.mv_call_code.specs.CallCode.{link_register, left_register, live_register, scratch_register, result_lines, jump_lines}
+use Rattle.mv_call_code.specs.CallCode.{link_register, left_register, live_register, scratch_register, result_lines, back_lines, jump_lines}
 use Rattle.mv_call_code.specs.Convention as convention
 use Rattle.mv_call_code.specs.Convention.{Layout, depth_limit, frame_limit, IsSaved, IsAbove, HoldsGlobals, Enters, Returns, FollowsCall, Answers, IsTarget, Convention, Conventions}
 use Rattle.mv_call_code.specs.Laws.{IsCaller, IsLinked}
@@ -144,9 +144,6 @@ module _ {M : Type 0} (access : Access M) (y : Layout) (s : Site) (setting : ir.
 
       stack : (b : ℕ) → IsAbove y (s.register 2) b → access.load (machine.run j).memory b 4 ≡ access.load m b 4
       stack b h = r.kept.stack b (subst (λ sp. IsAbove y sp b) (sym sp_held) h) ∙ ap (λ (x : M). access.load x b 4) was.memory
-
-  abbrev pub back_lines : Option ℕ → List Line
-  back_lines result = Word (Addi left_register left_register (pos 1)) ∷ result_lines result
 
   -- a call has come back with a value
   returned : (result : Option ℕ) (v n spare k i back next : ℕ) (l : State) (w : World) (regs : List ℕ) (m : M) (j : ℕ) → fine_target is_fine s.temps (has_word s) result ≡ true

@@ -1,5 +1,6 @@
 -- The code of calls, of functions and of known functions.
-use Rattle.std.specs.Prelude.{ℕ, suc, Bool, cond, List, [], ◌∷◌, ◌++◌, pos, Option, Some, None}
+use Rattle.std.specs.Prelude.{ℕ, suc, Bool, cond, eqb, List, [], ◌∷◌, ◌++◌, pos, Option, Some, None}
+use Rattle.std.specs.List.{list_any}
 use Rattle.mv_ast.specs.declared.program.Known.{Known}
 use Rattle.mv_ast.specs.declared.program.Known.TheVariants.{Getchar, Putchar, Poll, Plan}
 use Rattle.mv_isa.specs.declared.instr.Instr.TheVariants.{Addi, Jalr, Ecall}
@@ -47,11 +48,24 @@ result_lines (Some t) = one (write_temp t first)
 
 -- ---- calls of functions
 
--- One call less is left, for as long as it takes; trap 4 where none is.
+-- one call less is left; trap 4 where none is
+abbrev pub guard_lines : List Line
+guard_lines = Branch 0 left_register 0 (trap_label 4) ∷ one (Addi left_register left_register minus_one)
+
+-- one call more is left again, and the result comes into its temporary
+abbrev pub back_lines : Option ℕ → List Line
+back_lines result = Word (Addi left_register left_register (pos 1)) ∷ result_lines result
+
+-- one call less is left for as long as some lines take
 abbrev pub guarded_lines : List Line → Option ℕ → List Line
-guarded_lines go result =
-    Branch 0 left_register 0 (trap_label 4) ∷ Word (Addi left_register left_register minus_one)
-    ∷ (go ++ (Word (Addi left_register left_register (pos 1)) ∷ result_lines result))
+guarded_lines go result = guard_lines ++ (go ++ back_lines result)
+
+-- the functions that are attributed
+abbrev pub is_marked : List ℕ → ℕ → Bool
+is_marked marked f = list_any (λ m. eqb m f) marked
+
+abbrev pub slot_lines : ℕ → List Line
+slot_lines f = Slot f ∷ []
 
 -- a call to the address in t3
 abbrev pub jump_lines : List Line
@@ -66,7 +80,7 @@ module _ (place : ℕ → ℕ) where
   -- A call of a function: of an attributed one by a slot; through a pointer, with trap 3 where it is null.
   abbrev pub transfer_lines : (ℕ → Bool) → Callee → Option ℕ → List Line
   transfer_lines is_attributed (callee.Direct f) result =
-      cond (is_attributed f) (guarded_lines (Slot f ∷ []) result) (Entry scratch_register f ∷ guarded_lines jump_lines result)
+      cond (is_attributed f) (guarded_lines (slot_lines f) result) (Entry scratch_register f ∷ guarded_lines jump_lines result)
   transfer_lines is_attributed (callee.Through t) result =
       tree_lines place t scratch_register ++ (Branch 0 scratch_register 0 (trap_label 3) ∷ guarded_lines jump_lines result)
 

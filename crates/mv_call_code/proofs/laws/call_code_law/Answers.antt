@@ -1,4 +1,4 @@
-use Rattle.mv_call_code.proofs.Calls.{call_done}
+use Rattle.mv_call_code.proofs.FunctionCalls.{call_done}
 use Rattle.mv_call_code.proofs.KnownCalls.{known_done}
 use Rattle.mv_call_code.proofs.laws.call_code_law.Goals as goal
 
