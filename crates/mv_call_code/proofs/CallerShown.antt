@@ -55,6 +55,7 @@ module _ {M : Type 0} (access : Access M) (y : Layout) (s : Site) (setting : ir.
     sizes = sizes;
     low_words = f.low_words;
     in_register = λ t p q. saved (temp_register t) (temp_saved t q) ∙ f.in_register t p q;
+    unused = λ t p q. saved (temp_register t) (temp_saved t q) ∙ f.unused t p q;
     words = words;
     in_memory = in_memory;
   }
