@@ -29,8 +29,8 @@ module _ (image : Fields) (input : List (Option ℕ)) (picks : List ℕ) (s : Si
   abbrev Leads : ℕ → World → Spot Rest → Type 0
   Leads = LeadsUnder image input picks s
 
-  abbrev LeadsUnpatched : ℕ → World → Spot Rest → Type 0
-  LeadsUnpatched = LeadsOn access s (machine_of image input picks)
+  abbrev LeadsUnpatched : List ℕ → ℕ → World → Spot Rest → Type 0
+  LeadsUnpatched attributed = LeadsOn access s (machine_of attributed image input picks)
 
   abbrev at : ℕ → State
   at i = runs image input picks i
@@ -63,8 +63,8 @@ module _ (image : Fields) (input : List (Option ℕ)) (picks : List ℕ) (s : Si
   sound i w next h = let l = led i w next h in ap (λ (words : List ℕ). eqb (length words) 1) l.one
 
   -- a word that is never patched stands there under the bindings
-  under : (i : ℕ) (w : World) (next : Spot Rest) → LeadsUnpatched i w next → Leads i (outside w) next
-  under i w next h =
+  under : (attributed : List ℕ) (i : ℕ) (w : World) (next : Spot Rest) → LeadsUnpatched attributed i w next → Leads i (outside w) next
+  under attributed i w next h =
       let found = has_word (unpatched_word image (at i).pc) (at i).regs (at i).pc (rest_of (at i)) next h.steps in
       let same = unpatched_stands image (outside w) (at i).pc found.0 found.1 ∙ sym found.1 in record {
         calm = calm_told image (outside w) (rest_of (at i)) h.calm;
@@ -80,10 +80,10 @@ module _ (image : Fields) (input : List (Option ℕ)) (picks : List ℕ) (s : Si
     pub steps_are_taken : StepsAreTaken image input picks s
     steps_are_taken = record { goes = goes; sound = sound; stays = λ i w next h. written w (rest_of (at i)) next.memory h.writes h.calm }
 
-    pub runs_are : IsRun access s (machine_of image input picks)
-    runs_are = record {
+    pub runs_are : (attributed : List ℕ) → IsRun access s (machine_of attributed image input picks)
+    runs_are attributed = record {
       registers = run_registers image input picks;
-      goes = λ i w next h. goes i (outside w) next (under i w next h);
-      sound = λ i w next h. sound i (outside w) next (under i w next h);
-      stays = λ i w next h. let h' = under i w next h in calm_tested image (outside w) next.memory (written (outside w) (rest_of (at i)) next.memory h'.writes h'.calm);
+      goes = λ i w next h. goes i (outside w) next (under attributed i w next h);
+      sound = λ i w next h. sound i (outside w) next (under attributed i w next h);
+      stays = λ i w next h. let h' = under attributed i w next h in calm_tested image (outside w) next.memory (written (outside w) (rest_of (at i)) next.memory h'.writes h'.calm);
     }

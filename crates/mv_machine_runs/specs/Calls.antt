@@ -8,7 +8,7 @@ use Rattle.mv_ir.specs.KnownFunctions.{next_byte, written}
 use Rattle.mv_machine.specs.Runs.{Stop, Exit, Trap}
 use Rattle.mv_flow_code.specs.Runs.{Spot}
 use Rattle.mv_machine_runs.specs.Calm.{Rest, IsCalm}
-use Rattle.mv_machine_runs.specs.MachineRuns.{access, has_one_choice, machine_of, unpatched_word}
+use Rattle.mv_machine_runs.specs.MachineRuns.{access, has_one_choice, run_of, unpatched_word}
 
 -- The next instruction stands behind the call, with the answer in a0. Memory is as it was, and all else is as the world that the answer leaves.
 pub record IsAnswered (image : Fields) (answer : Answer) (now next : Spot Rest) : Type 0 where
@@ -23,7 +23,7 @@ stopped_at now stop = record now { memory = record now.memory { stop = stop } }
 
 module _ (image : Fields) (input : List (Option ℕ)) (picks : List ℕ) where
   abbrev pub run : ℕ → Spot Rest
-  run = (machine_of image input picks).run
+  run = run_of image input picks
 
   -- a calm time of the run stands at an environment call that is never patched, with its number in a7
   pub record AtCall (number i : ℕ) (w : World) : Type 0 where

@@ -6,6 +6,7 @@ use Rattle.mv_ir.specs.declared.stm.Stm.{Stm}
 use Rattle.mv_ir.specs.declared.tree.Tree.{Tree}
 use Rattle.mv_ir.specs.World as ir
 use Rattle.mv_ir.specs.World.{World}
+use Rattle.mv_ir.specs.Outcome.{Bound}
 use Rattle.mv_machine.specs.Runs.{bytes_to_come}
 use Rattle.mv_statement_code.specs.Frames.{Site, IsFine, IsFit}
 use Rattle.mv_flow_code.specs.FlowCode.{CallLines, are_fine}
@@ -24,7 +25,7 @@ CalmIsTested = (image : Fields) (w : World) (m : Rest) → (is_calm image w m �
 -- For every image, input and picks, the machine's run is one of a machine on which code runs, at each site whose own cells lie outside text.
 abbrev pub RunsAreRuns : Type 0
 RunsAreRuns =
-    (image : Fields) (input : List (Option ℕ)) (picks : List ℕ) (s : Site) → OwnOutsideText s → IsRun access s (machine_of image input picks)
+    (attributed : List ℕ) (image : Fields) (input : List (Option ℕ)) (picks : List ℕ) (s : Site) → OwnOutsideText s → IsRun access s (machine_of attributed image input picks)
 
 -- and it takes the steps of the words that stand under the bindings
 abbrev pub BoundStepsAreTaken : Type 0
@@ -51,8 +52,8 @@ pub record IsFirst (image : Fields) (bytes : List ℕ) (w : World) : Type 0 wher
 -- a run begins in calm
 abbrev pub RunsBeginInCalm : Type 0
 RunsBeginInCalm =
-    (image : Fields) (bytes picks : List ℕ) (s : Site) (w : World) → IsFirst image bytes w →
-    let machine = machine_of image (bytes_to_come bytes) picks in Calm access s machine w (machine.run 0).memory
+    (attributed : List ℕ) (image : Fields) (bytes picks : List ℕ) (s : Site) (w : World) → IsFirst image bytes w →
+    let machine = machine_of attributed image (bytes_to_come bytes) picks in Calm access s machine w (machine.run 0).memory
 
 -- environment calls are answered, for every image, input and picks
 abbrev pub EnvironmentCalls : Type 0
@@ -74,10 +75,10 @@ PackedIsLaidOut = (globals arrays : List ℕ) (bytes : ℕ) (s : Site) → IsPac
 -- So on the machine, in a frame that is laid out, the code of fine statements does what they mean, if that of calls does.
 abbrev pub CodeRunsOnTheMachine : Type 0
 CodeRunsOnTheMachine =
-    (image : Fields) (input : List (Option ℕ)) (picks : List ℕ) (bytes : ℕ) (s : Site) (setting : ir.Setting) (frame : ir.Frame) →
+    (attributed : List ℕ) (image : Fields) (input : List (Option ℕ)) (picks : List ℕ) (bytes : ℕ) (s : Site) (setting : ir.Setting) (frame : ir.Frame) →
     IsLaidOut bytes s → AreNamed s setting frame →
     (is_fine : Tree → Bool) → ((t : Tree) → is_fine t ≡ true → IsFine s setting frame t) →
-    (place : ℕ → ℕ) (end budget far most : ℕ) (calls : CallLines) →
-    CallsDo access s setting frame (machine_of image input picks) place end budget far is_fine most calls →
+    (place : ℕ → ℕ) (end budget far : ℕ) (top : Bound) (calls : CallLines) →
+    CallsDo access s setting frame (machine_of attributed image input picks) place end budget far is_fine top calls →
     (code : List Stm) → are_fine is_fine s.temps (has_word s) code ≡ true →
-    CodeDoes access s setting frame (machine_of image input picks) place end budget far is_fine most calls code
+    CodeDoes access s setting frame (machine_of attributed image input picks) place end budget far is_fine top calls code

@@ -1,12 +1,14 @@
--- The machine as a run on which code stands. What is never patched is its text; what stands under bindings is told apart.
-use Rattle.std.specs.Prelude.{ℕ, ◌-◌, ◌/◌, ◌%◌, Bool, ◌||◌, cond, eqb, ltb, List, length, slice_get, is_some, Option, None, option_map}
+-- The machine as a run on which code stands. Its text has what is never patched, and the sites as slots; what stands under bindings is told apart.
+use Rattle.std.specs.Prelude.{ℕ, ◌-◌, ◌/◌, ◌%◌, Bool, ◌||◌, cond, eqb, ltb, List, length, slice_get, is_some, Option, None, option_map, option_and_then}
 use Rattle.mv_isa.specs.Execution.{Access}
 use Rattle.mv_fetch.specs.Held.{Room, choices}
 use Rattle.mv_rv32.specs.Stepping as memory
+use Rattle.mv_descriptors.specs.declared.rows.SiteRow.{SiteRow}
 use Rattle.mv_image.specs.Spelling.{Fields}
 use Rattle.mv_image.specs.Patched.{entry_at, site_at, site_before, word_under}
 use Rattle.mv_ir.specs.World.{World}
 use Rattle.mv_machine.specs.Runs.{State, runs}
+use Rattle.mv_flow_code.specs.Placed.{Text}
 use Rattle.mv_flow_code.specs.Runs.{Spot, Machine}
 use Rattle.mv_machine_runs.specs.Calm.{Rest, values_of, is_calm}
 
@@ -47,15 +49,25 @@ unpatched_word image a = cond (may_be_patched image a) None (image_word image a)
 unfoldable pub bound_word : Fields → World → ℕ → Option ℕ
 bound_word image w a = option_map (word_under image (values_of w.bindings) a) (image_word image a)
 
+-- The function that the site at an address calls. An image numbers the attributed functions alone: `attributed` has the number of each in the program.
+unfoldable pub called_at : (attributed : List ℕ) → Fields → ℕ → Option ℕ
+called_at attributed image a = option_and_then (λ (site : SiteRow). slice_get attributed site.function) (site_at image a)
+
+abbrev pub machine_text : (attributed : List ℕ) → Fields → Text
+machine_text attributed image = record { word = unpatched_word image; slot = called_at attributed image }
+
 -- what a fetch gives at a spot doesn't depend on the pick
 abbrev pub has_one_choice : Spot Rest → Bool
 has_one_choice spot = eqb (length (choices spot.memory.room.held spot.pc)) 1
 
 -- the run of an image on an input, by any picks of the fetches
-abbrev pub machine_of : Fields → (input : List (Option ℕ)) → (picks : List ℕ) → Machine Rest
-machine_of image input picks = record {
-  text = unpatched_word image;
+abbrev pub run_of : Fields → (input : List (Option ℕ)) → (picks : List ℕ) → ℕ → Spot Rest
+run_of image input picks n = spot_of (runs image input picks n)
+
+abbrev pub machine_of : (attributed : List ℕ) → Fields → (input : List (Option ℕ)) → (picks : List ℕ) → Machine Rest
+machine_of attributed image input picks = record {
+  text = machine_text attributed image;
   is_calm = is_calm image;
   is_sound = has_one_choice;
-  run = λ n. spot_of (runs image input picks n);
+  run = run_of image input picks;
 }

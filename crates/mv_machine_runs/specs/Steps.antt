@@ -7,11 +7,11 @@ use Rattle.mv_statement_code.specs.Frames.{Site}
 use Rattle.mv_statement_code.specs.Leads.{Writes}
 use Rattle.mv_flow_code.specs.Runs.{Spot}
 use Rattle.mv_machine_runs.specs.Calm.{Rest, IsCalm}
-use Rattle.mv_machine_runs.specs.MachineRuns.{access, bound_word, has_one_choice, machine_of}
+use Rattle.mv_machine_runs.specs.MachineRuns.{access, bound_word, has_one_choice, run_of}
 
 module _ (image : Fields) (input : List (Option ℕ)) (picks : List ℕ) (s : Site) where
   abbrev run : ℕ → Spot Rest
-  run = (machine_of image input picks).run
+  run = run_of image input picks
 
   -- a calm time of the run, from which the word that stands there leads to a place, storing at most to a cell of the frame's own
   pub record LeadsUnder (i : ℕ) (w : World) (next : Spot Rest) : Type 0 where
