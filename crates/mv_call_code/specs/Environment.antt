@@ -43,9 +43,18 @@ module _ {M : Type 0} (access : Access M) (y : Layout) (machine : Machine M) (bu
       (j : ℕ) × Returns access y machine budget far spare bound i back (setting.known k args (reg (machine.run i).regs live_register) w).world j
       × (reg (machine.run j).regs first ≡ (setting.known k args (reg (machine.run i).regs live_register) w).value)
 
-  -- an environment call stands where text has an ECALL; the stub is called
+  -- an environment call stands where text has an ECALL
+  abbrev pub ServesCalls : Type 0
+  ServesCalls =
+      (k : Known) (args : List ℕ) (pc i : ℕ) → IsDirect k → length args ≡ known_arguments k → machine.text.word pc ≡ Some (encode Ecall) →
+      Serves 1 pc (pc + 4) k args i
+
+  -- the stub is called
+  abbrev pub ServesOrders : Type 0
+  ServesOrders =
+      (k : Known) (args : List ℕ) (back i : ℕ) → (IsDirect k → ⊥) → length args ≡ known_arguments k → IsTarget back →
+      reg (machine.run i).regs link_register ≡ back → Serves stub_cost y.commit back k args i
+
   pub record ServesKnown : Type 0 where
-    pub calls : (k : Known) (args : List ℕ) (pc i : ℕ) → IsDirect k → length args ≡ known_arguments k → machine.text.word pc ≡ Some (encode Ecall) →
-        Serves 1 pc (pc + 4) k args i
-    pub stub : (k : Known) (args : List ℕ) (back i : ℕ) → (IsDirect k → ⊥) → length args ≡ known_arguments k → IsTarget back →
-        reg (machine.run i).regs link_register ≡ back → Serves stub_cost y.commit back k args i
+    pub calls : ServesCalls
+    pub stub : ServesOrders
