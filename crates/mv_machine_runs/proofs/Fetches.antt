@@ -86,6 +86,16 @@ unpatched_stands image w a word e = by_test (may_be_patched image a) (image_word
     by_test false None p q = absurd (cc)
     by_test false (Some x) p q = let same : x ≡ word = cc in ap Some (unpatched_under image (values_of w.bindings) a x p ∙ same)
 
+-- it is a word of text
+pub unpatched_below : (image : Fields) (a word : ℕ) → unpatched_word image a ≡ Some word → a < 0x0010_0000
+unfolding unpatched_word image_word
+unpatched_below image a word e = by_tests (may_be_patched image a) (eqb (a % 4) 0) e
+  where
+    by_tests : (patched aligned : Bool) → cond patched None (cond aligned (word_at image.text a) None) ≡ Some word → a < 0x0010_0000
+    by_tests true aligned q = absurd (cc)
+    by_tests false true q = (word_told image.text a word q).1
+    by_tests false false q = absurd (cc)
+
 -- it stands in text under the bindings
 stands_under : (image : Fields) (bound : Bindings) (a word : ℕ) → Standing image a word → slice_get (text_of image bound) (index_of a) ≡ Some (word_under image bound a word)
 stands_under image bound a word h =

@@ -8,3 +8,5 @@ mod OnRuns
 mod Fitness
 mod Packing
 mod Answering
+mod Inputs
+mod Serving

@@ -1,5 +1,7 @@
 -- The machine is one on which code of frames runs, and its memory is fit for frames that are laid out.
-use Rattle.std.specs.Prelude.{ℕ, ◌≡◌, ◌↔◌, ◌+◌, ◌*◌, ◌<◌, Bool, true, false, List, [], length, replicate, slice_get, Option, Some}
+use Rattle.std.specs.Prelude.{ℕ, ◌≡◌, ◌↔◌, ◌+◌, ◌*◌, ◌^◌, ◌<◌, Bool, true, false, List, [], length, replicate, slice_get, Option, Some, None}
+use Rattle.std.specs.List.{All}
+use Rattle.mv_ast.specs.declared.program.Program.{Program}
 use Rattle.mv_ast.specs.Plans.{free}
 use Rattle.mv_image.specs.Spelling.{Fields}
 use Rattle.mv_ir.specs.declared.stm.Stm.{Stm}
@@ -7,11 +9,14 @@ use Rattle.mv_ir.specs.declared.tree.Tree.{Tree}
 use Rattle.mv_ir.specs.World as ir
 use Rattle.mv_ir.specs.World.{World}
 use Rattle.mv_ir.specs.Outcome.{Bound}
+use Rattle.mv_ir.specs.Programs.{setting_of}
 use Rattle.mv_machine.specs.Runs.{bytes_to_come}
 use Rattle.mv_statement_code.specs.Frames.{Site, IsFine, IsFit}
 use Rattle.mv_flow_code.specs.FlowCode.{CallLines, are_fine}
 use Rattle.mv_flow_code.specs.Laws.{has_word, CallsDo, CodeDoes}
 use Rattle.mv_flow_code.specs.Runs.{IsRun, Calm}
+use Rattle.mv_call_code.specs.Convention.{Layout}
+use Rattle.mv_call_code.specs.Environment.{ServesCalls}
 use Rattle.mv_machine_runs.specs.Calm.{Rest, IsCalm, is_calm}
 use Rattle.mv_machine_runs.specs.Calls.{CallsAreAnswered}
 use Rattle.mv_machine_runs.specs.Steps.{StepsAreTaken}
@@ -58,6 +63,18 @@ RunsBeginInCalm =
 -- environment calls are answered, for every image, input and picks
 abbrev pub EnvironmentCalls : Type 0
 EnvironmentCalls = (image : Fields) (input : List (Option ℕ)) (picks : List ℕ) → CallsAreAnswered image input picks
+
+-- an answer to a read is a byte, or the end of the input
+abbrev pub IsByteOrEnd : Option ℕ → Type 0
+IsByteOrEnd None = Unit {0}
+IsByteOrEnd (Some byte) = byte < 2 ^ 8
+
+-- So where its input is bytes, the machine serves those known functions that are environment calls, for every program and layout.
+abbrev pub KnownCallsAreServed : Type 0
+KnownCallsAreServed =
+    (attributed : List ℕ) (image : Fields) (input : List (Option ℕ)) (picks : List ℕ) → All IsByteOrEnd input →
+    (y : Layout) (budget far : ℕ) (numbers : List ℕ) (p : Program) →
+    ServesCalls access y (machine_of attributed image input picks) budget far (setting_of numbers p)
 
 -- memory is fit for a frame that is laid out
 abbrev pub MemoryIsFit : Type 0

@@ -1,4 +1,4 @@
-ghost use Rattle.mv_machine_runs.specs.Laws.{CalmIsTested, RunsAreRuns, BoundStepsAreTaken, TextsAreFound, RunsBeginInCalm, MemoryIsFit, FramesAreOutsideText, PackedIsLaidOut, EnvironmentCalls, CodeRunsOnTheMachine};
+ghost use Rattle.mv_machine_runs.specs.Laws.{CalmIsTested, RunsAreRuns, BoundStepsAreTaken, TextsAreFound, RunsBeginInCalm, KnownCallsAreServed, MemoryIsFit, FramesAreOutsideText, PackedIsLaidOut, EnvironmentCalls, CodeRunsOnTheMachine};
 
 /// The test of calm is true exactly where the machine is calm. The call does nothing: its contract is the law.
 pub fn calm_is_tested()
@@ -28,6 +28,11 @@ pub fn runs_begin_in_calm()
 /// From a calm time, environment calls read, write, and end the run.
 pub fn environment_calls()
     ensures { EnvironmentCalls }
+{}
+
+/// The machine serves `getchar` and `putchar` as generated code asks for them.
+pub fn known_calls_are_served()
+    ensures { KnownCallsAreServed }
 {}
 
 /// Memory is fit for every frame that is laid out.
