@@ -10,7 +10,7 @@ scratch_of rename.rt.in 'mv_num mv_ast mv_ir mv_regalloc' 'mv_num mv_ir mv_regal
 sed -i -E 's/^mod (apply|number|spans|table);/pub mod \1;/' "$scratch/crates/mv_regalloc/src/lib.rt"
 build kept 10
 
-[ $# -gt 0 ] || set -- kept chain breaks returns leaves loops exits
+[ $# -gt 0 ] || set -- kept chain breaks returns leaves loops exits levels jumps
 for pattern; do
     program=$scratch/crates/mv_bench/out/mv_bench
     awk -v p="$pattern" -v a="$(host "$program" "$pattern" 4000)" -v b="$(host "$program" "$pattern" 8000)" -v c="$(host "$program" "$pattern" 16000)" \

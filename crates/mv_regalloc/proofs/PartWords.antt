@@ -5,9 +5,13 @@ use Rattle.std.proofs.Math.Seq.{get_or-append_seam}
 use Rattle.std.proofs.lemmas.Bool.{cases_eq, cases_lt, eq-eqb, ne_eqb}
 use Rattle.std.specs.Prelude.{Result, Ok, Err, IfOk, OnErr, OnOk}
 use Rattle.std.proofs.lemmas.Result.{IfOk-weaker}
+use Rattle.std.specs.List.{All}
+use Rattle.std.specs.Int.Bits.{or_zero_l}
+use Rattle.std.proofs.lemmas.List.Elements.{All-weaker}
+use Rattle.mv_regalloc.specs.declared.joins.Join.{Join}
 use Rattle.mv_regalloc.specs.declared.parts.Part.{Part}
 use Rattle.mv_regalloc.specs.Scan.{has}
-use Rattle.mv_regalloc.specs.Parts.{IsNoneOr, no_part, part_at, further, word_within, word_of, AreParts, Keeps}
+use Rattle.mv_regalloc.specs.Parts.{AreJoined, IsJoin, no_part, part_at, further, word_within, word_of, AreParts, Keeps}
 
 pub if_ok_by : {T E : Type 0} {P Q : T → Type 0} (r : Result T E) → ((x : T) → P x → Q x) → IfOk r P → IfOk r Q
 if_ok_by {P} {Q} r h k = IfOk-weaker r P Q h k
@@ -215,6 +219,36 @@ module _ (a b c d : List Part) (first : Keeps a b) (second : Keeps b c) (third :
           third.words even r m ∙ k r ∙ ap (λ w. bit_or w (word_of b (part_at a other).even r)) (first.words (part_at a one).even r u) ∙
           ap (bit_or (word_of a (part_at a one).even r)) (first.words (part_at a other).even r v)
 
+-- ---- joins that are remembered
+
+module _ (parts more : List Part) (k : Keeps parts more) (one other made : ℕ) (u : one < length parts) (v : other < length parts) where
+  pub made_join : made < length more → ((p : ℕ) → word_of more made p ≡ bit_or (word_of parts one p) (word_of parts other p)) → IsJoin more one other made
+  made_join within h = record {
+    first = (let l = k.long in omega (arith, l, u));
+    second = (let l = k.long in omega (arith, l, v));
+    within = within;
+    words = λ p. h p ∙ ap (λ w. bit_or w (word_of parts other p)) (sym (k.words one p u)) ∙ ap (bit_or (word_of more one p)) (sym (k.words other p v));
+  }
+
+  pub join_before : IsJoin more one other made → (p : ℕ) → word_of more made p ≡ bit_or (word_of parts one p) (word_of parts other p)
+  join_before j p = j.words p ∙ ap (λ w. bit_or w (word_of more other p)) (k.words one p u) ∙ ap (bit_or (word_of parts one p)) (k.words other p v)
+
+pub join_kept : (parts more : List Part) → Keeps parts more → (one other made : ℕ) → IsJoin parts one other made → IsJoin more one other made
+join_kept parts more k one other made j =
+    made_join parts more k one other made j.first j.second (let l = k.long in let m = j.within in omega (arith, l, m)) (λ p. k.words made p j.within ∙ j.words p)
+
+pub joins_kept : (parts more : List Part) → Keeps parts more → (joins : List Join) → All (λ j. IsJoin parts j.one j.other j.made) joins → All (λ j. IsJoin more j.one j.other j.made) joins
+joins_kept parts more k joins h = All-weaker (λ j. IsJoin parts j.one j.other j.made) (λ j. IsJoin more j.one j.other j.made) (λ j i. join_kept parts more k j.one j.other j.made i) joins h
+
+-- the part without words, joined to itself
+pub none_join : (parts : List Part) → AreParts parts → IsJoin parts 0 0 0
+none_join parts are = record {
+  first = are.some;
+  second = are.some;
+  within = are.some;
+  words = λ p. none_words parts are p ∙ sym (or_zero_l 0) ∙ ap (λ w. bit_or w 0) (sym (none_words parts are p)) ∙ ap (bit_or (word_of parts 0 p)) (sym (none_words parts are p));
+}
+
 -- ---- where two differ
 
 or_first : (a b : Bool) → (a || b) ≡ false → a ≡ false
@@ -238,13 +272,11 @@ listed_last p (x ∷ xs) h = listed_last p xs (or_second (eqb x p) (has p (xs ++
 -- a place in a part, and in the two that it leads to
 module _ (parts : List Part) (one other first step : ℕ) (listed : ℕ → Bool)
     (here : listed first ≡ false → (part_at parts one).word ≡ (part_at parts other).word)
-    (odd : (q : ℕ) → listed (first + step + step * 2 * q) ≡ false → IsNoneOr (word_of parts (part_at parts one).odd q) (word_of parts (part_at parts other).odd q))
-    (even : (q : ℕ) → listed (first + step * 2 + step * 2 * q) ≡ false → IsNoneOr (word_of parts (part_at parts one).even q) (word_of parts (part_at parts other).even q)) where
-  pub beyond_words : (q : ℕ) → listed (first + step * q) ≡ false → IsNoneOr (word_of parts one q) (word_of parts other q)
-  beyond_words zero h = inl (word_here parts one ∙ here (ap listed (let e : first ≡ first + step * 0 = omega arith in e) ∙ h) ∙ sym (word_here parts other))
-  beyond_words (suc n) h =
-      subst (λ v. IsNoneOr v (word_of parts other p)) (sym (word_further parts one p (omega arith)))
-      (subst (IsNoneOr (word_of parts (further (part_at parts one) p) r)) (sym (word_further parts other p (omega arith))) (by (cases_eq (p % 2) 1)))
+    (odd : (q : ℕ) → listed (first + step + step * 2 * q) ≡ false → word_of parts (part_at parts one).odd q ≡ word_of parts (part_at parts other).odd q)
+    (even : (q : ℕ) → listed (first + step * 2 + step * 2 * q) ≡ false → word_of parts (part_at parts one).even q ≡ word_of parts (part_at parts other).even q) where
+  pub same_words : (q : ℕ) → listed (first + step * q) ≡ false → word_of parts one q ≡ word_of parts other q
+  same_words zero h = word_here parts one ∙ here (ap listed (let e : first ≡ first + step * 0 = omega arith in e) ∙ h) ∙ sym (word_here parts other)
+  same_words (suc n) h = word_further parts one p (omega arith) ∙ by (cases_eq (p % 2) 1) ∙ sym (word_further parts other p (omega arith))
     where
       p : ℕ
       p = suc n
@@ -253,7 +285,7 @@ module _ (parts : List Part) (one other first step : ℕ) (listed : ℕ → Bool
       r = (p - 1) / 2
 
       side : Bool → Type 0
-      side c = IsNoneOr (word_of parts (cond c (part_at parts one).odd (part_at parts one).even) r) (word_of parts (cond c (part_at parts other).odd (part_at parts other).even) r)
+      side c = word_of parts (cond c (part_at parts one).odd (part_at parts one).even) r ≡ word_of parts (cond c (part_at parts other).odd (part_at parts other).even) r
 
       at_odd : p % 2 ≡ 1 → first + step + step * 2 * r ≡ first + step * p
       at_odd k = let e : 2 * r + 1 ≡ p = omega (arith, k) in let m : step * (2 * r + 1) ≡ step * p = ap (λ v. step * v) e in omega (arith, m)

@@ -10,7 +10,7 @@ use Rattle.mv_ir.specs.Live.{mark_at}
 use Rattle.mv_regalloc.specs.declared.liveness.Level.{Level}
 use Rattle.mv_regalloc.specs.declared.parts.Part.{Part}
 use Rattle.mv_regalloc.specs.LiveBits.{in_word}
-use Rattle.mv_regalloc.specs.Parts.{IsNoneOr, word_of, Keeps}
+use Rattle.mv_regalloc.specs.Parts.{IsWithin, word_of, Keeps}
 use Rattle.mv_regalloc.specs.Rows.{Bits, either_bits}
 use Rattle.mv_regalloc.specs.declared.liveness.Row.{Row}
 use Rattle.mv_regalloc.specs.declared.liveness.Row.TheVariants.{Empty, Live, Marked, Saved, Behind, Start}
@@ -91,10 +91,14 @@ module _ (n : ℕ) where
         ap (λ c. mark_at (bits_at n parts number) t || c) (sym (tests_bit (λ t. in_word (word_of parts other (t / 64)) t) t l)) ∙
         sym (either_or (bits_at n parts number) (bits_at n parts other) t (omega (arith, one, l))))
 
--- a bit of a word is one of the other word, where that is the same or the first is none
-pub word_among : (n t word other : ℕ) → IsNoneOr word other → (in_word word t && ltb t n) ≡ true → (in_word word t && ltb t n) ≡ (in_word other t && ltb t n)
-word_among n t word other (inl e) h = ap (λ w. in_word w t && ltb t n) e
-word_among n t word other (inr e) h = let d : false ≡ true = sym (ap (λ w. in_word w t && ltb t n) e ∙ ap (λ c. c && ltb t n) (none_in t)) ∙ h in absurd cc
+-- a bit of a word is one of the other word, which it is within
+pub word_among : (n t word other : ℕ) → IsWithin word other → (in_word word t && ltb t n) ≡ true → (in_word other t && ltb t n) ≡ true
+word_among n t word other e = by (in_word word t) (in_word other t) (ltb t n) (sym (bits_either word other t) ∙ ap (λ w. in_word w t) e)
+  where
+    by : (a b low : Bool) → (a || b) ≡ b → (a && low) ≡ true → (b && low) ≡ true
+    by true true low e h = h
+    by true false low e h = let d : true ≡ false = e in absurd cc
+    by false b low e h = let d : false ≡ true = h in absurd cc
 
 -- ---- the other sets
 

@@ -1,5 +1,7 @@
 -- Words by their places, in parts of which each leads to two others.
-use Rattle.std.specs.Prelude.{ℕ, zero, suc, ◌≡◌, ◌<◌, ◌≤◌, ◌/◌, ◌%◌, ◌⊎◌, cond, eqb, List, length, slice_index_or}
+use Rattle.std.specs.Prelude.{ℕ, zero, suc, ◌≡◌, ◌<◌, ◌≤◌, ◌/◌, ◌%◌, bit_or, cond, eqb, List, length, slice_index_or}
+use Rattle.std.specs.List.{All}
+use Rattle.mv_regalloc.specs.declared.joins.Join.{Join}
 use Rattle.mv_regalloc.specs.declared.parts.Part.{Part}
 
 -- a part without words
@@ -35,6 +37,22 @@ pub record Keeps (parts more : List Part) : Type 0 where
   pub long : length parts ≤ length more
   pub words : (number place : ℕ) → number < length parts → word_of more number place ≡ word_of parts number place
 
--- a word is none, or the same as another one
-abbrev pub IsNoneOr : ℕ → ℕ → Type 0
-IsNoneOr word other = (word ≡ other) ⊎ (word ≡ 0)
+-- each bit of a word is one of another word
+abbrev pub IsWithin : ℕ → ℕ → Type 0
+IsWithin word other = bit_or word other ≡ other
+
+-- a part has the bits of two
+pub record IsJoin (parts : List Part) (one other made : ℕ) : Type 0 where
+  pub first : one < length parts
+  pub second : other < length parts
+  pub within : made < length parts
+  pub words : (place : ℕ) → word_of parts made place ≡ bit_or (word_of parts one place) (word_of parts other place)
+
+-- the part without words, joined to itself
+abbrev pub no_join : Join
+no_join = record { one = 0; other = 0; made = 0 }
+
+-- parts, and joins of them
+pub record AreJoined (parts : List Part) (joins : List Join) : Type 0 where
+  pub are : AreParts parts
+  pub made : All (λ j. IsJoin parts j.one j.other j.made) joins

@@ -153,9 +153,10 @@ impl Liveness {
     }
 
     /// The places of 64 temporaries where a set may have some that another one lacks.
-    pub fn beyond(&self, alloc: Global, one: Row, other: Row) -> Result<Vec<u32>, AllocError>
-        ensures beyond { IfOk result (λ places. AreBeyond places.items (row_of self.now one) (row_of self.now other)) }
-        ensures empty { (t : ℕ) → mark_at self.now.around.none t ≡ false }
+    pub fn beyond(&mut self, alloc: Global, one: Row, other: Row) -> Result<Vec<u32>, AllocError>
+        ensures same { self.new ≡ self.old }
+        ensures beyond { IfOk result (λ places. AreBeyond places.items (row_of self.old one) (row_of self.old other)) }
+        ensures empty { (t : ℕ) → mark_at self.old.around.none t ≡ false }
     {
         let none = self.parts.none();
         let one = self.numbers.of(one, none);

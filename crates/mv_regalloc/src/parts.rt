@@ -1,9 +1,10 @@
 // Words by their places, in parts that are shared: a set of words is the number of a part, so a copy costs nothing.
 
-ghost use Rattle.std.specs.Prelude.{ℕ, ◌≡◌, ◌<◌, ◌≤◌, ◌+◌, ◌*◌, ◌%◌, bit_or, cond, eqb, false, length, IfOk, OnOk};
+ghost use Rattle.std.specs.Prelude.{ℕ, ◌≡◌, ◌<◌, ◌≤◌, ◌+◌, ◌*◌, ◌%◌, bit_or, cond, eqb, false, length, IfOk, IfSome, OnOk};
 ghost use Rattle.mv_regalloc.specs.Scan.{has};
-ghost use Rattle.mv_regalloc.specs.Parts.{IsNoneOr, Keeps, further, part_at, word_of};
+ghost use Rattle.mv_regalloc.specs.Parts.{IsJoin, IsWithin, Keeps, further, part_at, word_of};
 
+use crate::joins::{Join, no_joins, place_of};
 use std::alloc::{AllocError, Global};
 use std::marker::Model;
 
@@ -16,10 +17,14 @@ pub struct Part {
     pub even: u32,
 }
 
-/// Parts, each of which leads to earlier ones only. The first one has no words but 0. None is ever changed.
+/// Parts, each of which leads to earlier ones only. The first one has no words but 0. None is ever changed, so what two
+/// were joined to stays true: joins are remembered, and two sets that share most parts with two that were joined before
+/// cost what differs.
 #[derive(Drop)]
 pub struct Parts {
+    alloc: Global,
     parts: Vec<Part>,
+    joins: Vec<Join>,
 }
 
 impl Model for Parts {
@@ -28,11 +33,11 @@ impl Model for Parts {
 
     ghost Value = { List Part };
 
-    ghost use Rattle.mv_regalloc.specs.Parts.{AreParts};
+    ghost use Rattle.mv_regalloc.specs.Parts.{AreJoined};
 
     ghost view = { λ p. p.parts.items };
 
-    ghost invariant = { λ p. AreParts p.parts.items };
+    ghost invariant = { λ p. AreJoined p.parts.items p.joins.items };
 }
 
 // Places from a first one on: place n of a part stands for the first one and n steps.
@@ -109,7 +114,11 @@ impl Parts {
     pub fn new(alloc: Global) -> Result<Parts, AllocError> {
         let mut parts = Vec::new(alloc);
         parts.push(Part::none())?;
-        Ok(Parts { parts })
+        Ok(Parts {
+            alloc,
+            parts,
+            joins: Vec::new(alloc),
+        })
     }
 
     // A part by its number.
@@ -157,11 +166,11 @@ impl Parts {
         ensures within { IfOk result (λ number. number < length self.new) }
         ensures part { IfOk result (λ number. part_at self.new number ≡ part) }
     {
-        if part == self.part(one) {
-            return Ok(one);
-        }
         if part == self.part(other) {
             return Ok(other);
+        }
+        if part == self.part(one) {
+            return Ok(one);
         }
         self.made(part)
     }
@@ -205,7 +214,43 @@ impl Parts {
         self.made(part.with_further(place, further))
     }
 
-    /// The bits of two.
+    // What two were joined to, where that is remembered.
+    fn join_of(&self, one: u32, other: u32) -> Option<u32>
+        ensures { IfSome result (IsJoin self.now one other) }
+    {
+        let place = place_of(one, other, self.joins.len());
+        match self.joins.get(place) {
+            Some(join) if join.one == one && join.other == other => Some(join.made),
+            _ => None,
+        }
+    }
+
+    // Places for at least as many joins as there are parts. New ones remember nothing.
+    fn widen_joins(&mut self) -> Result<(), AllocError>
+        ensures { self.new ≡ self.old }
+    {
+        let count = self.parts.len();
+        if self.joins.len() < count {
+            self.joins = no_joins(self.alloc, count.saturating_mul(2))?;
+        }
+        Ok(())
+    }
+
+    // Remembers what two were joined to.
+    fn remember(&mut self, join: Join) -> Result<u32, AllocError>
+        requires { IsJoin self.old join.one join.other join.made }
+        ensures same { self.new ≡ self.old }
+        ensures joined { IfOk result (IsJoin self.old join.one join.other) }
+    {
+        self.widen_joins()?;
+        let place = place_of(join.one, join.other, self.joins.len());
+        if place < self.joins.len() {
+            self.joins[place] = join;
+        }
+        Ok(join.made)
+    }
+
+    /// The bits of two. It is the second one where that has all of them.
     pub fn joined(&mut self, one: u32, other: u32) -> Result<u32, AllocError>
         requires one { one < length self.old }
         requires other { other < length self.old }
@@ -221,16 +266,20 @@ impl Parts {
         if one == none {
             return Ok(other);
         }
+        if let Some(made) = self.join_of(one, other) {
+            return Ok(made);
+        }
         let first = self.part(one);
         let second = self.part(other);
         let odd = self.joined(first.odd, second.odd)?;
         let even = self.joined(first.even, second.even)?;
         let word = first.word | second.word;
-        self.made_as(Part { word, odd, even }, one, other)
+        let made = self.made_as(Part { word, odd, even }, one, other)?;
+        self.remember(Join { one, other, made })
     }
 
-    // Lists the places where one may have a bit that the other one lacks.
-    fn list_beyond(
+    // Lists the places where the words of two differ.
+    fn list_differing(
         &self,
         places: &mut Vec<u32>,
         one: u32,
@@ -238,29 +287,33 @@ impl Parts {
         at: Places,
     ) -> Result<(), AllocError>
         ensures kept { (p : ℕ) → has p places.new.items ≡ false → has p places.old.items ≡ false }
-        ensures beyond { OnOk result (
-            (q : ℕ) → has (at.first + at.step * q) places.new.items ≡ false → IsNoneOr (word_of self.now one q) (word_of self.now other q)
+        ensures differing { OnOk result (
+            (q : ℕ) → has (at.first + at.step * q) places.new.items ≡ false → word_of self.now one q ≡ word_of self.now other q
             ) }
     {
-        if one == other || one == self.none() {
+        if one == other {
             return Ok(());
         }
         let first = self.part(one);
         let second = self.part(other);
         list_if(places, first.word != second.word, at.first)?;
         let odd = at.odd()?;
-        self.list_beyond(places, first.odd, second.odd, odd)?;
+        self.list_differing(places, first.odd, second.odd, odd)?;
         let even = at.even()?;
-        self.list_beyond(places, first.even, second.even, even)
+        self.list_differing(places, first.even, second.even, even)
     }
 
-    /// The places where one may have a bit that the other one lacks: at the others both are the same, or it has none.
-    pub fn beyond(&self, alloc: Global, one: u32, other: u32) -> Result<Vec<u32>, AllocError>
-        ensures { IfOk result (λ places.
-            (q : ℕ) → has q places.items ≡ false → IsNoneOr (word_of self.now one q) (word_of self.now other q)) }
+    /// The places where one may have a bit that the other one lacks.
+    pub fn beyond(&mut self, alloc: Global, one: u32, other: u32) -> Result<Vec<u32>, AllocError>
+        requires one { one < length self.old }
+        requires other { other < length self.old }
+        ensures keeps { Keeps self.old self.new }
+        ensures beyond { IfOk result (λ places.
+            (q : ℕ) → has q places.items ≡ false → IsWithin (word_of self.old one q) (word_of self.old other q)) }
     {
+        let both = self.joined(one, other)?;
         let mut places = Vec::new(alloc);
-        self.list_beyond(&mut places, one, other, Places { first: 0, step: 1 })?;
+        self.list_differing(&mut places, both, other, Places { first: 0, step: 1 })?;
         Ok(places)
     }
 }

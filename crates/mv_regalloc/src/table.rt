@@ -259,12 +259,12 @@ impl Spans {
     pub fn of_table(
         alloc: Global,
         table: Table,
-        liveness: &Liveness,
+        liveness: &mut Liveness,
         held: Row,
     ) -> Result<Spans, AllocError>
         requires { (t : ℕ) → t < length table.begins → slice_index table.begins t ≤ table.positions }
-        ensures spans { IfOk result (λ spans. spans ≡ shown (told (row_of liveness.now held) table)) }
-        ensures empty { OnOk result ((t : ℕ) → mark_at liveness.now.around.none t ≡ false) }
+        ensures spans { IfOk result (λ spans. spans ≡ shown (told (row_of liveness.old held) table)) }
+        ensures empty { OnOk result ((t : ℕ) → mark_at liveness.old.around.none t ≡ false) }
     {
         let mut table = table;
         let places = liveness.beyond(alloc, held, Row::Empty)?;

@@ -60,8 +60,9 @@ fn hold(liveness: &mut Liveness, last: Last) -> Last
 }
 
 // The places where the row that was marked last may have temporaries that aren't live.
-fn places_left(alloc: Global, liveness: &Liveness, last: Last) -> Result<Vec<u32>, AllocError>
-    ensures { IfOk result (λ places. AreBeyond places.items (last_row last liveness.now) liveness.now.live) }
+fn places_left(alloc: Global, liveness: &mut Liveness, last: Last) -> Result<Vec<u32>, AllocError>
+    ensures same { liveness.new ≡ liveness.old }
+    ensures left { IfOk result (λ places. AreBeyond places.items (last_row last liveness.old) liveness.old.live) }
 {
     match last {
         Last::Same => Ok(Vec::new(alloc)),
@@ -71,8 +72,13 @@ fn places_left(alloc: Global, liveness: &Liveness, last: Last) -> Result<Vec<u32
 }
 
 // The places where temporaries may be live that a row lacks whose temporaries have all been marked.
-fn places_entered(alloc: Global, liveness: &Liveness, last: Last) -> Result<Vec<u32>, AllocError>
-    ensures { IfOk result (λ places. AreBeyond places.items liveness.now.live (known_row last liveness.now)) }
+fn places_entered(
+    alloc: Global,
+    liveness: &mut Liveness,
+    last: Last,
+) -> Result<Vec<u32>, AllocError>
+    ensures same { liveness.new ≡ liveness.old }
+    ensures entered { IfOk result (λ places. AreBeyond places.items liveness.old.live (known_row last liveness.old)) }
 {
     match last {
         Last::Same => Ok(Vec::new(alloc)),
@@ -132,15 +138,16 @@ fn turn_row(liveness: &Liveness, left: &[u32], entered: &[u32], last: Last, tabl
 // One position more, at which a row is marked. A body's positions are fewer than 2^64, since each takes memory.
 fn mark_row(
     alloc: Global,
-    liveness: &Liveness,
+    liveness: &mut Liveness,
     last: Last,
     table: &mut Table,
 ) -> Result<(), AllocError>
-    requires { IsTable (known_row last liveness.now) table.old }
-    ensures known { IsTable (known_row last liveness.now) table.new }
-    ensures table { OnOk result (IsTable liveness.now.live table.new) }
+    requires { IsTable (known_row last liveness.old) table.old }
+    ensures same { liveness.new ≡ liveness.old }
+    ensures known { IsTable (known_row last liveness.old) table.new }
+    ensures table { OnOk result (IsTable liveness.old.live table.new) }
     ensures positions { OnOk result (0 < table.new.positions) }
-    ensures marks { OnOk result (Marks liveness.now.live (told (last_row last liveness.now) table.old) (told liveness.now.live table.new)) }
+    ensures marks { OnOk result (Marks liveness.old.live (told (last_row last liveness.old) table.old) (told liveness.old.live table.new)) }
 {
     let positions = table.positions;
     if positions == u64::MAX {
@@ -324,7 +331,7 @@ impl Walk {
         ensures around { OnOk result (self.new.around ≡ self.old.around) }
         ensures spans { OnOk result (IsResumed [] 0 self.old.live self.old.spans self.new.spans) }
     {
-        let left = places_left(alloc, &self.liveness, self.last)?;
+        let left = places_left(alloc, &mut self.liveness, self.last)?;
         leave_row(&self.liveness, left.as_slice(), self.last, &mut self.table);
         let _ = hold(&mut self.liveness, self.last);
         self.last = Last::Nothing;
@@ -371,7 +378,7 @@ impl Walk {
         ensures around { OnOk result (self.new.around ≡ self.old.around) }
         ensures spans { OnOk result (Adds (self.old.live ∷ []) self.old.spans self.new.spans) }
     {
-        mark_row(alloc, &self.liveness, self.last, &mut self.table)?;
+        mark_row(alloc, &mut self.liveness, self.last, &mut self.table)?;
         self.last = Last::Same;
         Ok(())
     }
@@ -390,7 +397,7 @@ impl Walk {
             Adds (put_bit written true (with_temps reads.now (put_bit written false self.old.live)) ∷ []) self.old.spans self.new.spans
             ) }
     {
-        mark_row(alloc, &self.liveness, self.last, &mut self.table)?;
+        mark_row(alloc, &mut self.liveness, self.last, &mut self.table)?;
         self.last = Last::Same;
         write(&mut self.liveness, &mut self.table, written)?;
         read(&mut self.liveness, &mut self.table, reads)
@@ -401,14 +408,14 @@ impl Walk {
         ensures { IfOk result (λ spans. spans ≡ shown self.spans) }
     {
         let Walk {
-            liveness,
+            mut liveness,
             last,
             table,
         } = self;
         match last {
-            Last::Same => Spans::of_table(alloc, table, &liveness, Row::Live),
-            Last::Other => Spans::of_table(alloc, table, &liveness, Row::Marked),
-            Last::Nothing => Spans::of_table(alloc, table, &liveness, Row::Empty),
+            Last::Same => Spans::of_table(alloc, table, &mut liveness, Row::Live),
+            Last::Other => Spans::of_table(alloc, table, &mut liveness, Row::Marked),
+            Last::Nothing => Spans::of_table(alloc, table, &mut liveness, Row::Empty),
         }
     }
 }
