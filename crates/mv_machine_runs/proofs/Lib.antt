@@ -8,5 +8,6 @@ mod OnRuns
 mod Fitness
 mod Packing
 mod Answering
+mod Placing
 mod Inputs
 mod Serving

@@ -3,6 +3,9 @@ use Rattle.std.specs.Prelude.{ℕ, ◌≡◌, ◌↔◌, ◌+◌, ◌*◌, ◌^�
 use Rattle.std.specs.List.{All}
 use Rattle.mv_ast.specs.declared.program.Program.{Program}
 use Rattle.mv_ast.specs.Plans.{free}
+use Rattle.mv_isa.specs.declared.labelled.Line.{Line}
+use Rattle.mv_isa.specs.Code.{CodeFits, address, label_address}
+use Rattle.mv_asm.specs.Outcome.{AreWordsUnder}
 use Rattle.mv_image.specs.Spelling.{Fields}
 use Rattle.mv_ir.specs.declared.stm.Stm.{Stm}
 use Rattle.mv_ir.specs.declared.tree.Tree.{Tree}
@@ -14,13 +17,15 @@ use Rattle.mv_machine.specs.Runs.{bytes_to_come}
 use Rattle.mv_statement_code.specs.Frames.{Site, IsFine, IsFit}
 use Rattle.mv_flow_code.specs.FlowCode.{CallLines, are_fine}
 use Rattle.mv_flow_code.specs.Laws.{has_word, CallsDo, CodeDoes}
+use Rattle.mv_flow_code.specs.Placed.{Placed}
 use Rattle.mv_flow_code.specs.Runs.{IsRun, Calm}
 use Rattle.mv_call_code.specs.Convention.{Layout}
 use Rattle.mv_call_code.specs.Environment.{ServesCalls}
 use Rattle.mv_machine_runs.specs.Calm.{Rest, IsCalm, is_calm}
 use Rattle.mv_machine_runs.specs.Calls.{CallsAreAnswered}
 use Rattle.mv_machine_runs.specs.Steps.{StepsAreTaken}
-use Rattle.mv_machine_runs.specs.MachineRuns.{access, machine_of, may_be_patched, image_word, unpatched_word, bound_word}
+use Rattle.mv_machine_runs.specs.MachineRuns.{access, machine_of, machine_text, may_be_patched, image_word, unpatched_word, bound_word}
+use Rattle.mv_machine_runs.specs.Assembled.{HasWords, IsPart}
 use Rattle.mv_machine_runs.specs.Layout.{OwnOutsideText, IsLaidOut, IsPacked, AreNamed}
 
 -- the test of calm tells what it stands for
@@ -46,6 +51,15 @@ pub record TextIsFound (image : Fields) : Type 0 where
 
 abbrev pub TextsAreFound : Type 0
 TextsAreFound = (image : Fields) → TextIsFound image
+
+-- Part of assembled code that an image's text has is placed there, if the image keeps its lines.
+abbrev pub CodeIsPlaced : Type 0
+CodeIsPlaced =
+    (attributed : List ℕ) (image : Fields) (base : ℕ) (lines : List Line) (sizing words : List ℕ) →
+    CodeFits lines → AreWordsUnder base lines sizing words → HasWords image base words →
+    (k : ℕ) (part : List Line) → IsPart attributed image (address base sizing) lines k part →
+    let place = label_address base lines sizing in
+    Placed (machine_text attributed image) place place part (address base sizing k) (address base sizing (k + length part))
 
 -- a world before the first instruction: nothing is written or bound
 pub record IsFirst (image : Fields) (bytes : List ℕ) (w : World) : Type 0 where

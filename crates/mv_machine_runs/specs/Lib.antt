@@ -3,4 +3,5 @@ pub mod Calm
 pub mod Steps
 pub mod Calls
 pub mod Layout
+pub mod Assembled
 pub mod Laws

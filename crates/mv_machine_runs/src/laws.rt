@@ -1,4 +1,4 @@
-ghost use Rattle.mv_machine_runs.specs.Laws.{CalmIsTested, RunsAreRuns, BoundStepsAreTaken, TextsAreFound, RunsBeginInCalm, KnownCallsAreServed, MemoryIsFit, FramesAreOutsideText, PackedIsLaidOut, EnvironmentCalls, CodeRunsOnTheMachine};
+ghost use Rattle.mv_machine_runs.specs.Laws.{CalmIsTested, RunsAreRuns, BoundStepsAreTaken, TextsAreFound, CodeIsPlaced, RunsBeginInCalm, KnownCallsAreServed, MemoryIsFit, FramesAreOutsideText, PackedIsLaidOut, EnvironmentCalls, CodeRunsOnTheMachine};
 
 /// The test of calm is true exactly where the machine is calm. The call does nothing: its contract is the law.
 pub fn calm_is_tested()
@@ -18,6 +18,11 @@ pub fn bound_steps_are_taken()
 /// The words of an image's text are found at their addresses, and stand there under all bindings where none show.
 pub fn texts_are_found()
     ensures { TextsAreFound }
+{}
+
+/// Assembled code that stands in an image's text is placed there, apart from words that may be patched.
+pub fn code_is_placed()
+    ensures { CodeIsPlaced }
 {}
 
 /// A run begins in calm.
