@@ -1,14 +1,21 @@
 -- Assembled code in the text of an image.
-use Rattle.std.specs.Prelude.{ℕ, ◌≡◌, ◌+◌, ◌-◌, ◌/◌, ◌%◌, ◌<◌, ◌≤◌, false, List, length, slice_get, Some}
+use Rattle.std.specs.Prelude.{ℕ, ◌≡◌, ◌+◌, ◌-◌, ◌/◌, ◌%◌, ◌<◌, ◌≤◌, false, List, length, slice_get, Some, None}
 use Rattle.mv_isa.specs.declared.labelled.Line.{Line}
 use Rattle.mv_isa.specs.declared.labelled.Line.TheVariants.{Label, Slot}
 use Rattle.mv_isa.specs.Code.{StandsOnce, line_at}
 use Rattle.mv_image.specs.Spelling.{Fields}
+use Rattle.mv_image.specs.Patched.{ShowsAt}
+use Rattle.mv_ir.specs.World.{World}
+use Rattle.mv_machine_runs.specs.Calm.{values_of}
 use Rattle.mv_machine_runs.specs.MachineRuns.{may_be_patched, called_at}
 
 -- an image's text has words from an address on
 abbrev pub HasWords : Fields → (base : ℕ) → (words : List ℕ) → Type 0
 HasWords image base words = (k word : ℕ) → slice_get words k ≡ Some word → slice_get image.text ((base - 0x1000) / 4 + k) ≡ Some word
+
+-- none of the functions whose bindings show at an address is bound
+abbrev pub IsFreeAt : Fields → World → ℕ → Type 0
+IsFreeAt image w a = (function : ℕ) → ShowsAt image function a → values_of w.bindings function ≡ None
 
 -- A line from its address to its end, in an image: a slot is a site of its function, and another line has no word that may be patched.
 abbrev pub IsKept : (attributed : List ℕ) → Fields → (at end : ℕ) → Line → Type 0

@@ -1,10 +1,11 @@
 -- The machine is one on which code of frames runs, and its memory is fit for frames that are laid out.
-use Rattle.std.specs.Prelude.{ℕ, ◌≡◌, ◌↔◌, ◌+◌, ◌*◌, ◌^◌, ◌<◌, Bool, true, false, List, [], length, replicate, slice_get, Option, Some, None}
+use Rattle.std.specs.Prelude.{ℕ, ◌≡◌, ◌↔◌, ◌+◌, ◌*◌, ◌%◌, ◌^◌, ◌<◌, ◌≤◌, Bool, true, false, List, [], length, replicate, slice_get, Option, Some, None}
 use Rattle.std.specs.List.{All}
 use Rattle.mv_ast.specs.declared.program.Program.{Program}
 use Rattle.mv_ast.specs.Plans.{free}
 use Rattle.mv_isa.specs.declared.labelled.Line.{Line}
-use Rattle.mv_isa.specs.Code.{CodeFits, address, label_address}
+use Rattle.mv_isa.specs.Code.{CodeFits, line_at, address, label_address}
+use Rattle.mv_isa.specs.Standing.{LineStands}
 use Rattle.mv_asm.specs.Outcome.{AreWordsUnder}
 use Rattle.mv_image.specs.Spelling.{Fields}
 use Rattle.mv_ir.specs.declared.stm.Stm.{Stm}
@@ -25,7 +26,7 @@ use Rattle.mv_machine_runs.specs.Calm.{Rest, IsCalm, is_calm}
 use Rattle.mv_machine_runs.specs.Calls.{CallsAreAnswered}
 use Rattle.mv_machine_runs.specs.Steps.{StepsAreTaken}
 use Rattle.mv_machine_runs.specs.MachineRuns.{access, machine_of, machine_text, may_be_patched, image_word, unpatched_word, bound_word}
-use Rattle.mv_machine_runs.specs.Assembled.{HasWords, IsPart}
+use Rattle.mv_machine_runs.specs.Assembled.{HasWords, IsFreeAt, IsPart}
 use Rattle.mv_machine_runs.specs.Layout.{OwnOutsideText, IsLaidOut, IsPacked, AreNamed}
 
 -- the test of calm tells what it stands for
@@ -60,6 +61,15 @@ CodeIsPlaced =
     (k : ℕ) (part : List Line) → IsPart attributed image (address base sizing) lines k part →
     let place = label_address base lines sizing in
     Placed (machine_text attributed image) place place part (address base sizing k) (address base sizing (k + length part))
+
+-- Each of its lines stands under the bindings of a world, also where words may be patched, if none of the functions whose bindings show there is bound.
+abbrev pub FreeLinesStand : Type 0
+FreeLinesStand =
+    (image : Fields) (base : ℕ) (lines : List Line) (sizing words : List ℕ) → AreWordsUnder base lines sizing words → HasWords image base words →
+    (w : World) (k : ℕ) → k < length lines →
+    ((a : ℕ) → address base sizing k ≤ a → a < address base sizing (k + 1) → a % 4 ≡ 0 → IsFreeAt image w a) →
+    let place = label_address base lines sizing in
+    LineStands (bound_word image w) place place (address base sizing k) (address base sizing (k + 1)) (line_at lines k)
 
 -- a world before the first instruction: nothing is written or bound
 pub record IsFirst (image : Fields) (bytes : List ℕ) (w : World) : Type 0 where
