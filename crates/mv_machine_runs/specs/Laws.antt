@@ -20,8 +20,10 @@ use Rattle.mv_flow_code.specs.FlowCode.{CallLines, are_fine}
 use Rattle.mv_flow_code.specs.Laws.{has_word, CallsDo, CodeDoes}
 use Rattle.mv_flow_code.specs.Placed.{Placed}
 use Rattle.mv_flow_code.specs.Runs.{IsRun, Calm}
-use Rattle.mv_call_code.specs.Convention.{Layout}
-use Rattle.mv_call_code.specs.Environment.{ServesCalls}
+use Rattle.mv_call_code.specs.CallCode.{calls_of}
+use Rattle.mv_call_code.specs.Convention.{Layout, Conventions}
+use Rattle.mv_call_code.specs.Environment.{ServesCalls, ServesOrders}
+use Rattle.mv_call_code.specs.Laws.{IsCaller, IsLinked}
 use Rattle.mv_machine_runs.specs.Calm.{Rest, IsCalm, is_calm}
 use Rattle.mv_machine_runs.specs.Calls.{CallsAreAnswered}
 use Rattle.mv_machine_runs.specs.Steps.{StepsAreTaken}
@@ -123,3 +125,17 @@ CodeRunsOnTheMachine =
     CallsDo access s setting frame (machine_of attributed image input picks) place end budget far is_fine top calls →
     (code : List Stm) → are_fine is_fine s.temps (has_word s) code ≡ true →
     CodeDoes access s setting frame (machine_of attributed image input picks) place end budget far is_fine top calls code
+
+-- And so does code with calls, if the functions keep the calling convention at each lower bound and the stub serves orders and polls.
+abbrev pub CallsRunOnTheMachine : Type 0
+CallsRunOnTheMachine =
+    (attributed : List ℕ) (image : Fields) (input : List (Option ℕ)) (picks : List ℕ) → All IsByteOrEnd input →
+    (bytes : ℕ) (y : Layout) (s : Site) (numbers : List ℕ) (p : Program) (frame : ir.Frame) →
+    let setting = setting_of numbers p in
+    let machine = machine_of attributed image input picks in
+    IsLaidOut bytes s → AreNamed s setting frame → IsCaller y s setting frame →
+    (budget far : ℕ) → ServesOrders access y machine budget far setting → (top : Bound) → Conventions access y machine budget far top →
+    (is_fine : Tree → Bool) → ((t : Tree) → is_fine t ≡ true → IsFine s setting frame t) →
+    (place : ℕ → ℕ) (end : ℕ) → IsLinked y place → (is_attributed : ℕ → Bool) →
+    (code : List Stm) → are_fine is_fine s.temps (has_word s) code ≡ true →
+    CodeDoes access s setting frame machine place end budget far is_fine top (calls_of s.place is_attributed) code

@@ -1,4 +1,4 @@
-ghost use Rattle.mv_machine_runs.specs.Laws.{CalmIsTested, RunsAreRuns, BoundStepsAreTaken, TextsAreFound, CodeIsPlaced, FreeLinesStand, RunsBeginInCalm, KnownCallsAreServed, MemoryIsFit, FramesAreOutsideText, PackedIsLaidOut, EnvironmentCalls, CodeRunsOnTheMachine};
+ghost use Rattle.mv_machine_runs.specs.Laws.{CalmIsTested, RunsAreRuns, BoundStepsAreTaken, TextsAreFound, CodeIsPlaced, FreeLinesStand, RunsBeginInCalm, KnownCallsAreServed, MemoryIsFit, FramesAreOutsideText, PackedIsLaidOut, EnvironmentCalls, CodeRunsOnTheMachine, CallsRunOnTheMachine};
 
 /// The test of calm is true exactly where the machine is calm. The call does nothing: its contract is the law.
 pub fn calm_is_tested()
@@ -63,4 +63,10 @@ pub fn packed_is_laid_out()
 /// On the machine, the code of fine statements does what they mean in a frame that is laid out, if that of calls does.
 pub fn code_runs_on_the_machine()
     ensures { CodeRunsOnTheMachine }
+{}
+
+/// On the machine, the code of fine statements and of their calls does what they mean, if that of the called functions and
+/// of the stub does.
+pub fn calls_run_on_the_machine()
+    ensures { CallsRunOnTheMachine }
 {}
