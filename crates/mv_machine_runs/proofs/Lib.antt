@@ -9,5 +9,7 @@ mod Fitness
 mod Packing
 mod Answering
 mod Placing
+mod Jumps
+mod Bound
 mod Inputs
 mod Serving

@@ -29,6 +29,7 @@ use Rattle.mv_machine_runs.specs.Calls.{CallsAreAnswered}
 use Rattle.mv_machine_runs.specs.Steps.{StepsAreTaken}
 use Rattle.mv_machine_runs.specs.MachineRuns.{access, machine_of, machine_text, may_be_patched, image_word, unpatched_word, bound_word}
 use Rattle.mv_machine_runs.specs.Assembled.{HasWords, IsFreeAt, IsPart}
+use Rattle.mv_machine_runs.specs.Bound.{BindingsShow}
 use Rattle.mv_machine_runs.specs.Layout.{OwnOutsideText, IsLaidOut, IsPacked, AreNamed}
 
 -- the test of calm tells what it stands for
@@ -72,6 +73,10 @@ FreeLinesStand =
     ((a : ℕ) → address base sizing k ≤ a → a < address base sizing (k + 1) → a % 4 ≡ 0 → IsFreeAt image w a) →
     let place = label_address base lines sizing in
     LineStands (bound_word image w) place place (address base sizing k) (address base sizing (k + 1)) (line_at lines k)
+
+-- Where the binding of a function shows, its variant stands.
+abbrev pub BindingsAreShown : Type 0
+BindingsAreShown = (image : Fields) (w : World) → BindingsShow image w
 
 -- a world before the first instruction: nothing is written or bound
 pub record IsFirst (image : Fields) (bytes : List ℕ) (w : World) : Type 0 where

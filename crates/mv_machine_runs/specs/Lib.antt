@@ -4,4 +4,5 @@ pub mod Steps
 pub mod Calls
 pub mod Layout
 pub mod Assembled
+pub mod Bound
 pub mod Laws

@@ -1,4 +1,4 @@
-ghost use Rattle.mv_machine_runs.specs.Laws.{CalmIsTested, RunsAreRuns, BoundStepsAreTaken, TextsAreFound, CodeIsPlaced, FreeLinesStand, RunsBeginInCalm, KnownCallsAreServed, MemoryIsFit, FramesAreOutsideText, PackedIsLaidOut, EnvironmentCalls, CodeRunsOnTheMachine, CallsRunOnTheMachine};
+ghost use Rattle.mv_machine_runs.specs.Laws.{CalmIsTested, RunsAreRuns, BoundStepsAreTaken, TextsAreFound, CodeIsPlaced, FreeLinesStand, BindingsAreShown, RunsBeginInCalm, KnownCallsAreServed, MemoryIsFit, FramesAreOutsideText, PackedIsLaidOut, EnvironmentCalls, CodeRunsOnTheMachine, CallsRunOnTheMachine};
 
 /// The test of calm is true exactly where the machine is calm. The call does nothing: its contract is the law.
 pub fn calm_is_tested()
@@ -28,6 +28,11 @@ pub fn code_is_placed()
 /// Each line of assembled code stands under bindings where those that show there are free.
 pub fn free_lines_stand()
     ensures { FreeLinesStand }
+{}
+
+/// Where the binding of a function shows, a jump to its variant stands, a call of it, or its inline body.
+pub fn bindings_are_shown()
+    ensures { BindingsAreShown }
 {}
 
 /// A run begins in calm.
