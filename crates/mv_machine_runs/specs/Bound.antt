@@ -39,7 +39,9 @@ module _ (image : Fields) (w : World) where
 
   -- A jump to the variant stands at the entry, and at a site a call of the variant, or its inline body where it has one.
   pub record BindingsShow : Type 0 where
-    pub enters : (a : ℕ) (v : VariantRow) → AtEntry a v → IsPlace a → IsPlace v.address → InstrStands (bound_word image w) a (Jal 0 (distance a v.address))
-    pub calls : (a : ℕ) (v : VariantRow) → AtSite a v → v.inlined ≡ 0 → IsPlace a → IsPlace v.address → SlotStands (bound_word image w) a (a + 8) v.address
+    pub enters : (a : ℕ) (v : VariantRow) → AtEntry a v → IsPlace a → IsPlace v.address →
+        InstrStands (bound_word image w) a (Jal 0 (distance a v.address))
+    pub calls : (a : ℕ) (v : VariantRow) → AtSite a v → v.inlined ≡ 0 → IsPlace a → IsPlace v.address →
+        SlotStands (bound_word image w) a (a + 8) v.address
     pub inlines : (a : ℕ) (v : VariantRow) → AtSite a v → v.inlined ≡ 1 →
         (bound_word image w a ≡ Some (slice_index v.words 0)) × (bound_word image w (a + 4) ≡ Some (slice_index v.words 1))

@@ -1,4 +1,4 @@
--- The machine is one on which code of frames runs, and its memory is fit for frames that are laid out.
+-- The machine is one on which code of frames runs, its memory is fit for frames that are laid out, and assembled code stands in its text.
 use Rattle.std.specs.Prelude.{ℕ, ◌≡◌, ◌↔◌, ◌+◌, ◌*◌, ◌%◌, ◌^◌, ◌<◌, ◌≤◌, Bool, true, false, List, [], length, replicate, slice_get, Option, Some, None}
 use Rattle.std.specs.List.{All}
 use Rattle.mv_ast.specs.declared.program.Program.{Program}
@@ -39,7 +39,8 @@ CalmIsTested = (image : Fields) (w : World) (m : Rest) → (is_calm image w m �
 -- For every image, input and picks, the machine's run is one of a machine on which code runs, at each site whose own cells lie outside text.
 abbrev pub RunsAreRuns : Type 0
 RunsAreRuns =
-    (attributed : List ℕ) (image : Fields) (input : List (Option ℕ)) (picks : List ℕ) (s : Site) → OwnOutsideText s → IsRun access s (machine_of attributed image input picks)
+    (attributed : List ℕ) (image : Fields) (input : List (Option ℕ)) (picks : List ℕ) (s : Site) → OwnOutsideText s →
+    IsRun access s (machine_of attributed image input picks)
 
 -- and it takes the steps of the words that stand under the bindings
 abbrev pub BoundStepsAreTaken : Type 0
@@ -65,7 +66,8 @@ CodeIsPlaced =
     let place = label_address base lines sizing in
     Placed (machine_text attributed image) place place part (address base sizing k) (address base sizing (k + length part))
 
--- Each of its lines stands under the bindings of a world, also where words may be patched, if none of the functions whose bindings show there is bound.
+-- Each line of the code stands under the bindings of a world, also where words may be patched, if none of the functions whose bindings show there is
+-- bound.
 abbrev pub FreeLinesStand : Type 0
 FreeLinesStand =
     (image : Fields) (base : ℕ) (lines : List Line) (sizing words : List ℕ) → AreWordsUnder base lines sizing words → HasWords image base words →
@@ -123,7 +125,8 @@ PackedIsLaidOut = (globals arrays : List ℕ) (bytes : ℕ) (s : Site) → IsPac
 -- So on the machine, in a frame that is laid out, the code of fine statements does what they mean, if that of calls does.
 abbrev pub CodeRunsOnTheMachine : Type 0
 CodeRunsOnTheMachine =
-    (attributed : List ℕ) (image : Fields) (input : List (Option ℕ)) (picks : List ℕ) (bytes : ℕ) (s : Site) (setting : ir.Setting) (frame : ir.Frame) →
+    (attributed : List ℕ) (image : Fields) (input : List (Option ℕ)) (picks : List ℕ) →
+    (bytes : ℕ) (s : Site) (setting : ir.Setting) (frame : ir.Frame) →
     IsLaidOut bytes s → AreNamed s setting frame →
     (is_fine : Tree → Bool) → ((t : Tree) → is_fine t ≡ true → IsFine s setting frame t) →
     (place : ℕ → ℕ) (end budget far : ℕ) (top : Bound) (calls : CallLines) →

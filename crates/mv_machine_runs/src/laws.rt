@@ -70,8 +70,8 @@ pub fn code_runs_on_the_machine()
     ensures { CodeRunsOnTheMachine }
 {}
 
-/// On the machine, the code of fine statements and of their calls does what they mean, if that of the called functions and
-/// of the stub does.
+/// On the machine, the code of fine statements and their calls does what they mean, if the functions keep the calling
+/// convention and the stub serves orders and polls.
 pub fn calls_run_on_the_machine()
     ensures { CallsRunOnTheMachine }
 {}

@@ -1,4 +1,4 @@
-//! The machine runs the code of frames: its runs between two instructions, its memory and its environment calls.
+//! The machine runs the code of frames: its runs between two instructions, its text, its memory and its environment calls.
 #![tactic(auto)]
 
 mod laws;
