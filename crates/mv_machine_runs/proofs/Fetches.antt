@@ -1,11 +1,11 @@
 -- Where the machine is calm, the word that stands under the bindings is the only one that a fetch gives.
-use Rattle.std.proofs.Common.{◌≡◌, ℕ, ◌+◌, ◌-◌, ◌*◌, ◌/◌, ◌%◌, ◌<◌, ◌≤◌, Bool, true, false, ◌||◌, cond, eqb, ltb, List, [], ◌∷◌, length, slice_get, slice_index, is_some, Option, Some, None, option_map, refl, ap, ap₂, ◌∙◌, arith}
+use Rattle.std.proofs.Common.{◌≡◌, inl, inr, ℕ, ◌+◌, ◌-◌, ◌*◌, ◌/◌, ◌%◌, ◌<◌, ◌≤◌, Bool, true, false, ◌||◌, cond, eqb, ltb, List, [], ◌∷◌, length, slice_get, slice_index, is_some, Option, Some, None, option_map, refl, ap, ap₂, ◌∙◌, arith}
 use Rattle.std.proofs.lemmas.Bool.{lt-ltb, le-ltb, or_parts, eqb-true, ltb-true, ltb-false}
 use Rattle.std.proofs.lemmas.Option.{slice_get_within, get_or_from_slice_get, slice_get-get_or}
 use Rattle.mv_descriptors.specs.declared.rows.SiteRow.{SiteRow}
 use Rattle.mv_fetch.specs.Held.{Held, IsInText, index_of, older_at, choices, choices_in, choices_of}
 use Rattle.mv_image.specs.Spelling.{Fields}
-use Rattle.mv_image.specs.Patched.{Bindings, entry_at, site_at, site_before, word_by, word_under, text_of}
+use Rattle.mv_image.specs.Patched.{Bindings, entry_at, site_at, site_before, variant_under, word_by, word_under, text_of, ShowsAt}
 use Rattle.mv_image.proofs.PatchLaws.{text_size, text_at}
 use Rattle.mv_isa.specs.Execution.{step}
 use Rattle.mv_ir.specs.World.{World}
@@ -13,6 +13,7 @@ use Rattle.mv_rv32.specs.Stepping.{access, picked_step}
 use Rattle.mv_machine.specs.Runs.{State, fetched_step, choices_at}
 use Rattle.mv_machine_runs.specs.Calm.{Rest, IsCalm, values_of}
 use Rattle.mv_machine_runs.specs.MachineRuns.{may_be_patched, word_at, image_word, unpatched_word, bound_word}
+use Rattle.mv_machine_runs.specs.Assembled.{IsFreeAt}
 use Rattle.mv_machine_runs.proofs.Memory.{InText, text_at as lies_in_text}
 
 -- ---- the word of the image
@@ -85,6 +86,23 @@ unpatched_stands image w a word e = by_test (may_be_patched image a) (image_word
     by_test true o p q = absurd (cc)
     by_test false None p q = absurd (cc)
     by_test false (Some x) p q = let same : x ≡ word = cc in ap Some (unpatched_under image (values_of w.bindings) a x p ∙ same)
+
+-- where no binding shows that isn't free
+free_by : (image : Fields) (bound : Bindings) (a word : ℕ) (e : Option ℕ) (s t : Option SiteRow) → entry_at image a ≡ e → site_at image a ≡ s → site_before image a ≡ t
+    → ((function : ℕ) → ShowsAt image function a → bound function ≡ None) → word_by image bound a word e s t ≡ word
+unfolding variant_under
+free_by image bound a word (Some f) s t p q r free = rw (free f (inl p)) refl
+free_by image bound a word None (Some k) t p q r free = rw (free k.function (inr (inl (k, q, refl)))) refl
+free_by image bound a word None None (Some k) p q r free = rw (free k.function (inr (inr (k, r, refl)))) refl
+free_by image bound a word None None None p q r free = refl
+
+pub free_under : (image : Fields) (bound : Bindings) (a word : ℕ) → ((function : ℕ) → ShowsAt image function a → bound function ≡ None) → word_under image bound a word ≡ word
+unfolding word_under
+free_under image bound a word free = free_by image bound a word (entry_at image a) (site_at image a) (site_before image a) refl refl refl free
+
+pub free_stands : (image : Fields) (w : World) (a word : ℕ) → IsFreeAt image w a → image_word image a ≡ Some word → bound_word image w a ≡ Some word
+unfolding bound_word
+free_stands image w a word free e = ap (option_map (word_under image (values_of w.bindings) a)) e ∙ ap Some (free_under image (values_of w.bindings) a word free)
 
 -- it is a word of text
 pub unpatched_below : (image : Fields) (a word : ℕ) → unpatched_word image a ≡ Some word → a < 0x0010_0000

@@ -8,5 +8,8 @@ mod OnRuns
 mod Fitness
 mod Packing
 mod Answering
+mod Placing
+mod Jumps
+mod Bound
 mod Inputs
 mod Serving

@@ -1,10 +1,9 @@
 -- A run begins in calm.
-use Rattle.std.proofs.Common.{◌≡◌, ℕ, zero, suc, ◌+◌, true, List, [], ◌∷◌, length, replicate, Option, Some, None, refl, sym, ap, ap₂, ◌∙◌}
+use Rattle.std.proofs.Common.{◌≡◌, ℕ, zero, suc, ◌+◌, true, List, [], ◌∷◌, length, replicate, None, refl, sym, ap, ap₂, ◌∙◌}
 use Rattle.mv_ast.specs.Plans.{free}
-use Rattle.mv_descriptors.specs.declared.rows.SiteRow.{SiteRow}
 use Rattle.mv_fetch.specs.Held.{older_at, first as first_memory}
 use Rattle.mv_image.specs.Spelling.{Fields}
-use Rattle.mv_image.specs.Patched.{Bindings, variant_under, entry_at, site_at, site_before, word_by, word_under, words_under, text_of}
+use Rattle.mv_image.specs.Patched.{Bindings, words_under, text_of}
 use Rattle.mv_ir.specs.World.{World}
 use Rattle.mv_machine.specs.Runs.{bytes_to_come, first, runs}
 use Rattle.mv_machine.proofs.Turns.{runs_none}
@@ -12,24 +11,18 @@ use Rattle.mv_machine_runs.specs.Calm.{IsCalm, values_of, is_calm}
 use Rattle.mv_machine_runs.specs.MachineRuns.{rest_of}
 use Rattle.mv_machine_runs.specs.Laws.{IsFirst}
 use Rattle.mv_machine_runs.proofs.Calming.{calm_tested}
+use Rattle.mv_machine_runs.proofs.Fetches.{free_under}
 
 -- ---- where all functions are free, the image's text stands
 
 abbrev AreFree : Bindings → Type 0
 AreFree bound = (function : ℕ) → bound function ≡ None
 
-free_word : (image : Fields) (bound : Bindings) (a word : ℕ) (e : Option ℕ) (s t : Option SiteRow) → AreFree bound → word_by image bound a word e s t ≡ word
-unfolding variant_under
-free_word image bound a word (Some f) s t are = rw (are f) refl
-free_word image bound a word None (Some k) t are = rw (are k.function) refl
-free_word image bound a word None None (Some k) are = rw (are k.function) refl
-free_word image bound a word None None None are = refl
-
 free_words : (image : Fields) (bound : Bindings) (a : ℕ) (words : List ℕ) → AreFree bound → words_under image bound a words ≡ words
-unfolding words_under word_under
+unfolding words_under
 free_words image bound a [] are = refl
 free_words image bound a (word ∷ words) are =
-    ap₂ (λ (x : ℕ) (xs : List ℕ). x ∷ xs) (free_word image bound a word (entry_at image a) (site_at image a) (site_before image a) are) (free_words image bound (a + 4) words are)
+    ap₂ (λ (x : ℕ) (xs : List ℕ). x ∷ xs) (free_under image bound a word (λ function shows. are function)) (free_words image bound (a + 4) words are)
 
 free_text : (image : Fields) (bound : Bindings) → AreFree bound → text_of image bound ≡ image.text
 unfolding text_of

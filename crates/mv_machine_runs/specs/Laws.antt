@@ -1,8 +1,12 @@
--- The machine is one on which code of frames runs, and its memory is fit for frames that are laid out.
-use Rattle.std.specs.Prelude.{ℕ, ◌≡◌, ◌↔◌, ◌+◌, ◌*◌, ◌^◌, ◌<◌, Bool, true, false, List, [], length, replicate, slice_get, Option, Some, None}
+-- The machine is one on which code of frames runs, its memory is fit for frames that are laid out, and assembled code stands in its text.
+use Rattle.std.specs.Prelude.{ℕ, ◌≡◌, ◌↔◌, ◌+◌, ◌*◌, ◌%◌, ◌^◌, ◌<◌, ◌≤◌, Bool, true, false, List, [], length, replicate, slice_get, Option, Some, None}
 use Rattle.std.specs.List.{All}
 use Rattle.mv_ast.specs.declared.program.Program.{Program}
 use Rattle.mv_ast.specs.Plans.{free}
+use Rattle.mv_isa.specs.declared.labelled.Line.{Line}
+use Rattle.mv_isa.specs.Code.{CodeFits, line_at, address, label_address}
+use Rattle.mv_isa.specs.Standing.{LineStands}
+use Rattle.mv_asm.specs.Outcome.{AreWordsUnder}
 use Rattle.mv_image.specs.Spelling.{Fields}
 use Rattle.mv_ir.specs.declared.stm.Stm.{Stm}
 use Rattle.mv_ir.specs.declared.tree.Tree.{Tree}
@@ -14,13 +18,18 @@ use Rattle.mv_machine.specs.Runs.{bytes_to_come}
 use Rattle.mv_statement_code.specs.Frames.{Site, IsFine, IsFit}
 use Rattle.mv_flow_code.specs.FlowCode.{CallLines, are_fine}
 use Rattle.mv_flow_code.specs.Laws.{has_word, CallsDo, CodeDoes}
+use Rattle.mv_flow_code.specs.Placed.{Placed}
 use Rattle.mv_flow_code.specs.Runs.{IsRun, Calm}
-use Rattle.mv_call_code.specs.Convention.{Layout}
-use Rattle.mv_call_code.specs.Environment.{ServesCalls}
+use Rattle.mv_call_code.specs.CallCode.{calls_of}
+use Rattle.mv_call_code.specs.Convention.{Layout, Conventions}
+use Rattle.mv_call_code.specs.Environment.{ServesCalls, ServesOrders}
+use Rattle.mv_call_code.specs.Laws.{IsCaller, IsLinked}
 use Rattle.mv_machine_runs.specs.Calm.{Rest, IsCalm, is_calm}
 use Rattle.mv_machine_runs.specs.Calls.{CallsAreAnswered}
 use Rattle.mv_machine_runs.specs.Steps.{StepsAreTaken}
-use Rattle.mv_machine_runs.specs.MachineRuns.{access, machine_of, may_be_patched, image_word, unpatched_word, bound_word}
+use Rattle.mv_machine_runs.specs.MachineRuns.{access, machine_of, machine_text, may_be_patched, image_word, unpatched_word, bound_word}
+use Rattle.mv_machine_runs.specs.Assembled.{HasWords, IsFreeAt, IsPart}
+use Rattle.mv_machine_runs.specs.Bound.{BindingsShow}
 use Rattle.mv_machine_runs.specs.Layout.{OwnOutsideText, IsLaidOut, IsPacked, AreNamed}
 
 -- the test of calm tells what it stands for
@@ -30,7 +39,8 @@ CalmIsTested = (image : Fields) (w : World) (m : Rest) → (is_calm image w m �
 -- For every image, input and picks, the machine's run is one of a machine on which code runs, at each site whose own cells lie outside text.
 abbrev pub RunsAreRuns : Type 0
 RunsAreRuns =
-    (attributed : List ℕ) (image : Fields) (input : List (Option ℕ)) (picks : List ℕ) (s : Site) → OwnOutsideText s → IsRun access s (machine_of attributed image input picks)
+    (attributed : List ℕ) (image : Fields) (input : List (Option ℕ)) (picks : List ℕ) (s : Site) → OwnOutsideText s →
+    IsRun access s (machine_of attributed image input picks)
 
 -- and it takes the steps of the words that stand under the bindings
 abbrev pub BoundStepsAreTaken : Type 0
@@ -46,6 +56,29 @@ pub record TextIsFound (image : Fields) : Type 0 where
 
 abbrev pub TextsAreFound : Type 0
 TextsAreFound = (image : Fields) → TextIsFound image
+
+-- Part of assembled code that an image's text has is placed there, if the image keeps its lines.
+abbrev pub CodeIsPlaced : Type 0
+CodeIsPlaced =
+    (attributed : List ℕ) (image : Fields) (base : ℕ) (lines : List Line) (sizing words : List ℕ) →
+    CodeFits lines → AreWordsUnder base lines sizing words → HasWords image base words →
+    (k : ℕ) (part : List Line) → IsPart attributed image (address base sizing) lines k part →
+    let place = label_address base lines sizing in
+    Placed (machine_text attributed image) place place part (address base sizing k) (address base sizing (k + length part))
+
+-- Each line of the code stands under the bindings of a world, also where words may be patched, if none of the functions whose bindings show there is
+-- bound.
+abbrev pub FreeLinesStand : Type 0
+FreeLinesStand =
+    (image : Fields) (base : ℕ) (lines : List Line) (sizing words : List ℕ) → AreWordsUnder base lines sizing words → HasWords image base words →
+    (w : World) (k : ℕ) → k < length lines →
+    ((a : ℕ) → address base sizing k ≤ a → a < address base sizing (k + 1) → a % 4 ≡ 0 → IsFreeAt image w a) →
+    let place = label_address base lines sizing in
+    LineStands (bound_word image w) place place (address base sizing k) (address base sizing (k + 1)) (line_at lines k)
+
+-- Where the binding of a function shows, its variant stands.
+abbrev pub BindingsAreShown : Type 0
+BindingsAreShown = (image : Fields) (w : World) → BindingsShow image w
 
 -- a world before the first instruction: nothing is written or bound
 pub record IsFirst (image : Fields) (bytes : List ℕ) (w : World) : Type 0 where
@@ -92,10 +125,25 @@ PackedIsLaidOut = (globals arrays : List ℕ) (bytes : ℕ) (s : Site) → IsPac
 -- So on the machine, in a frame that is laid out, the code of fine statements does what they mean, if that of calls does.
 abbrev pub CodeRunsOnTheMachine : Type 0
 CodeRunsOnTheMachine =
-    (attributed : List ℕ) (image : Fields) (input : List (Option ℕ)) (picks : List ℕ) (bytes : ℕ) (s : Site) (setting : ir.Setting) (frame : ir.Frame) →
+    (attributed : List ℕ) (image : Fields) (input : List (Option ℕ)) (picks : List ℕ) →
+    (bytes : ℕ) (s : Site) (setting : ir.Setting) (frame : ir.Frame) →
     IsLaidOut bytes s → AreNamed s setting frame →
     (is_fine : Tree → Bool) → ((t : Tree) → is_fine t ≡ true → IsFine s setting frame t) →
     (place : ℕ → ℕ) (end budget far : ℕ) (top : Bound) (calls : CallLines) →
     CallsDo access s setting frame (machine_of attributed image input picks) place end budget far is_fine top calls →
     (code : List Stm) → are_fine is_fine s.temps (has_word s) code ≡ true →
     CodeDoes access s setting frame (machine_of attributed image input picks) place end budget far is_fine top calls code
+
+-- And so does code with calls, if the functions keep the calling convention at each lower bound and the stub serves orders and polls.
+abbrev pub CallsRunOnTheMachine : Type 0
+CallsRunOnTheMachine =
+    (attributed : List ℕ) (image : Fields) (input : List (Option ℕ)) (picks : List ℕ) → All IsByteOrEnd input →
+    (bytes : ℕ) (y : Layout) (s : Site) (numbers : List ℕ) (p : Program) (frame : ir.Frame) →
+    let setting = setting_of numbers p in
+    let machine = machine_of attributed image input picks in
+    IsLaidOut bytes s → AreNamed s setting frame → IsCaller y s setting frame →
+    (budget far : ℕ) → ServesOrders access y machine budget far setting → (top : Bound) → Conventions access y machine budget far top →
+    (is_fine : Tree → Bool) → ((t : Tree) → is_fine t ≡ true → IsFine s setting frame t) →
+    (place : ℕ → ℕ) (end : ℕ) → IsLinked y place → (is_attributed : ℕ → Bool) →
+    (code : List Stm) → are_fine is_fine s.temps (has_word s) code ≡ true →
+    CodeDoes access s setting frame machine place end budget far is_fine top (calls_of s.place is_attributed) code

@@ -3,4 +3,6 @@ pub mod Calm
 pub mod Steps
 pub mod Calls
 pub mod Layout
+pub mod Assembled
+pub mod Bound
 pub mod Laws

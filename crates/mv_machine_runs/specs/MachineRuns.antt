@@ -49,7 +49,8 @@ unpatched_word image a = cond (may_be_patched image a) None (image_word image a)
 unfoldable pub bound_word : Fields → World → ℕ → Option ℕ
 bound_word image w a = option_map (word_under image (values_of w.bindings) a) (image_word image a)
 
--- The function that the site at an address calls. An image numbers the attributed functions alone: `attributed` has the number of each in the program.
+-- The function that the site at an address calls. An image numbers the attributed functions alone; `attributed` has the number of each of them in
+-- the program.
 unfoldable pub called_at : (attributed : List ℕ) → Fields → ℕ → Option ℕ
 called_at attributed image a = option_and_then (λ (site : SiteRow). slice_get attributed site.function) (site_at image a)
 

@@ -1,4 +1,4 @@
-ghost use Rattle.mv_machine_runs.specs.Laws.{CalmIsTested, RunsAreRuns, BoundStepsAreTaken, TextsAreFound, RunsBeginInCalm, KnownCallsAreServed, MemoryIsFit, FramesAreOutsideText, PackedIsLaidOut, EnvironmentCalls, CodeRunsOnTheMachine};
+ghost use Rattle.mv_machine_runs.specs.Laws.{CalmIsTested, RunsAreRuns, BoundStepsAreTaken, TextsAreFound, CodeIsPlaced, FreeLinesStand, BindingsAreShown, RunsBeginInCalm, KnownCallsAreServed, MemoryIsFit, FramesAreOutsideText, PackedIsLaidOut, EnvironmentCalls, CodeRunsOnTheMachine, CallsRunOnTheMachine};
 
 /// The test of calm is true exactly where the machine is calm. The call does nothing: its contract is the law.
 pub fn calm_is_tested()
@@ -18,6 +18,21 @@ pub fn bound_steps_are_taken()
 /// The words of an image's text are found at their addresses, and stand there under all bindings where none show.
 pub fn texts_are_found()
     ensures { TextsAreFound }
+{}
+
+/// Assembled code that stands in an image's text is placed there, apart from words that may be patched.
+pub fn code_is_placed()
+    ensures { CodeIsPlaced }
+{}
+
+/// Each line of assembled code stands under bindings where those that show there are free.
+pub fn free_lines_stand()
+    ensures { FreeLinesStand }
+{}
+
+/// Where the binding of a function shows, a jump to its variant stands, a call of it, or its inline body.
+pub fn bindings_are_shown()
+    ensures { BindingsAreShown }
 {}
 
 /// A run begins in calm.
@@ -53,4 +68,10 @@ pub fn packed_is_laid_out()
 /// On the machine, the code of fine statements does what they mean in a frame that is laid out, if that of calls does.
 pub fn code_runs_on_the_machine()
     ensures { CodeRunsOnTheMachine }
+{}
+
+/// On the machine, the code of fine statements and their calls does what they mean, if the functions keep the calling
+/// convention and the stub serves orders and polls.
+pub fn calls_run_on_the_machine()
+    ensures { CallsRunOnTheMachine }
 {}
