@@ -1,6 +1,6 @@
-use Rattle.std.proofs.Common.{◌≡◌, ◌+◌, ◌*◌, sym, ap, ◌∙◌, subst}
+use Rattle.std.proofs.Common.{◌≡◌, ◌+◌, ◌*◌, sym, ap, ◌∙◌}
 use Rattle.std.proofs.lemmas.Result.{on_ok_weaker}
-use Rattle.mv_regalloc.specs.Parts.{part_at, word_of}
+use Rattle.mv_regalloc.specs.Parts.{word_of}
 use Rattle.mv_regalloc.specs.Scan.{has}
 use Rattle.mv_regalloc.proofs.PartWords.{same_if, same_words}
 use Rattle.mv_regalloc.proofs.parts.Parts.+list_differing.Goals as goal
