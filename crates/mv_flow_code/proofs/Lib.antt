@@ -1,5 +1,9 @@
+pub mod Around
 pub mod Composition
 pub mod Control
+pub mod Emitting
+pub mod Equations
 pub mod Leaves
+pub mod Small
 pub mod StatementsDo
 pub mod Walk
