@@ -3,7 +3,11 @@ pub mod Composition
 pub mod Control
 pub mod Emitting
 pub mod Equations
+pub mod FlowEncoded
+pub mod LabelsOwn
 pub mod Leaves
 pub mod Small
 pub mod StatementsDo
+pub mod TargetsStand
+pub mod TreeNames
 pub mod Walk

@@ -15,7 +15,10 @@ use mv_num::list::List;
 use mv_tree_code::push_tree;
 use std::alloc::{AllocError, Global};
 
-/// Code as far as it is written.
+// a0, which has the test of a branch.
+const FIRST: u8 = 10;
+
+/// Code as far as it is written. Where memory lacks, some of what was to be written may be missing.
 #[derive(Debug, Drop)]
 pub struct Emitter {
     pub lines: List<Line>,
@@ -109,9 +112,9 @@ impl Emitter {
         requires label { self.old.free + 2 < 2 ^ 32 }
         ensures { OnOk result (self.new ≡ branch_opened self.old (place_in rooms.now) test.now) }
     {
-        push_tree(&mut self.lines, rooms, test, 10)?;
+        push_tree(&mut self.lines, rooms, test, FIRST)?;
         let label = self.free;
-        self.lines.push(Line::Branch(0, 10, 0, label))?;
+        self.lines.push(Line::Branch(0, FIRST, 0, label))?;
         self.free = label + 2;
         Ok(())
     }

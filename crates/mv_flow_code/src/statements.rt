@@ -14,8 +14,11 @@ use mv_num::list::List;
 use mv_statement_code::values::{push_divide, push_return, push_set, push_set_global};
 use std::alloc::AllocError;
 
-/// Puts the code of statements behind what is written, with labels from the first free one on. What this code does is said by
-/// `flow_code_law`.
+/// Puts the code of statements behind what is written, with labels from the first free one on. What this code does, and which
+/// labels it has, is said by `flow_code_law`.
+///
+/// The arrays end at most 2,032 bytes above sp. No tree has more than four nodes one below the other, and temporaries are below
+/// 507. The labels are numbers below 2^32; `few` of the law bounds them by the statements.
 #[cycle(statement)]
 pub fn push_statements<C: CallCode>(
     emitter: &mut Emitter,
