@@ -22,7 +22,7 @@ use Rattle.mv_flow_code.specs.Labels.{Names, CallsName, OwnLabels, LabelsAreOwn,
 use Rattle.mv_flow_code.proofs.StatementsDo.{code_roll}
 use Rattle.mv_flow_code.proofs.TreeNames.{tree_names, set_names, set_global_names, divide_names, check_names, read_names, write_names, zero_names, return_names, jump_names}
 
-count_append : (l : ℕ) (xs ys : List Line) → count_by (is_label l) (xs ++ ys) ≡ count_by (is_label l) xs + count_by (is_label l) ys
+pub count_append : (l : ℕ) (xs ys : List Line) → count_by (is_label l) (xs ++ ys) ≡ count_by (is_label l) xs + count_by (is_label l) ys
 count_append l xs ys = sum_by-append (λ x. cond (is_label l x) 1 0) xs ys
 
 -- ---- single lines
@@ -51,20 +51,20 @@ silent P (Branch f a b m) h l = refl
 silent P (Entry rd m) h l = refl
 silent P (Slot m) h l = refl
 
-none : (P : ℕ → Type 0) (xs : List Line) → All (Names P) xs → (l : ℕ) → count_by (is_label l) xs ≡ 0
+pub none : (P : ℕ → Type 0) (xs : List Line) → All (Names P) xs → (l : ℕ) → count_by (is_label l) xs ≡ 0
 none P [] h l = refl
 none P (x ∷ xs) h l = omega (arith, count_append l (x ∷ []) xs, silent P x (All-head (Names P) x xs h) l, none P xs (All-tail (Names P) x xs h) l)
 
 -- ---- parts put together
 
-silent_own : (P : ℕ → Type 0) (label : ℕ) (xs : List Line) → All (Names P) xs → OwnLabels label 0 xs
+pub silent_own : (P : ℕ → Type 0) (label : ℕ) (xs : List Line) → All (Names P) xs → OwnLabels label 0 xs
 silent_own P label xs h = record {
   own = λ l p q. absurd (omega (arith, p, q));
   before = λ l p. none P xs h l;
   after = λ l p. none P xs h l;
 }
 
-both_own : (label a b : ℕ) (xs ys : List Line) → OwnLabels label a xs → OwnLabels (label + a) b ys → OwnLabels label (a + b) (xs ++ ys)
+pub both_own : (label a b : ℕ) (xs ys : List Line) → OwnLabels label a xs → OwnLabels (label + a) b ys → OwnLabels label (a + b) (xs ++ ys)
 both_own label a b xs ys h k = record {
   own = λ l p q.
       ⊎_elim (λ lt. omega (arith, count_append l xs ys, h.own l p lt, k.before l lt)) (λ le. omega (arith, count_append l xs ys, h.after l le, k.own l le (omega (arith, q)))) (cases_lt l (label + a));

@@ -1,5 +1,5 @@
 //! The lines of a branch in a block in a loop, with the words that LLVM's assembler gives for its instructions.
-ghost use Rattle.std.specs.Prelude.{[]};
+ghost use Rattle.std.specs.Prelude.{◌≡◌, [], ◌∷◌, IfOk};
 
 use crate::calls::CallCode;
 use crate::emitter::Emitter;
@@ -62,10 +62,35 @@ fn is_item(line: &Line, item: &Item) -> bool {
     }
 }
 
-fn one(alloc: Global, statement: Stm) -> Result<List<Stm>, AllocError> {
+fn one(alloc: Global, statement: Stm) -> Result<List<Stm>, AllocError>
+    ensures { IfOk result (λ list. list ≡ statement ∷ []) }
+{
     let mut list = List::new(alloc);
     list.push(statement)?;
     Ok(list)
+}
+
+fn two(alloc: Global, first: Stm, second: Stm) -> Result<List<Stm>, AllocError>
+    ensures { IfOk result (λ list. list ≡ first ∷ second ∷ []) }
+{
+    let mut list = one(alloc, first)?;
+    list.push(second)?;
+    Ok(list)
+}
+
+// A loop around a block. The block is left where the first temporary isn't 0, and else the loop; behind the branch the block
+// sets the temporary to 5; behind the block the loop starts again.
+fn nested(alloc: Global) -> Result<List<Stm>, AllocError>
+    ensures { IfOk result (λ code. code ≡
+        Stm.Loop (Stm.Block (Stm.If (Tree.Temp 0) (Stm.Break 0 ∷ []) (Stm.Break 1 ∷ []) ∷ Stm.Set 0 (Tree.Number 5) ∷ []) ∷ Stm.Back 0 ∷ [])
+        ∷ Stm.Return (Tree.Temp 0) ∷ []) }
+{
+    let first = one(alloc, Stm::Break(0))?;
+    let second = one(alloc, Stm::Break(1))?;
+    let branch = Stm::If(Tree::Temp(0), first, second);
+    let block = two(alloc, branch, Stm::Set(0, Tree::Number(5)))?;
+    let body = two(alloc, Stm::Block(block), Stm::Back(0))?;
+    two(alloc, Stm::Loop(body), Stm::Return(Tree::Temp(0)))
 }
 
 fn is_code(code: &List<Line>, items: &[Item]) -> bool {
@@ -77,24 +102,13 @@ fn is_code(code: &List<Line>, items: &[Item]) -> bool {
             .all(|(line, item)| is_item(line, item))
 }
 
-// A loop around a block. The block is left where the first temporary isn't 0, and else the loop; behind the branch the block
-// sets the temporary to 5; behind the block the loop starts again. The instructions between the labels are `addi a0, s1, 0`
-// and the branch on 0; `addi a0, x0, 5` and `addi s1, a0, 0`; and for the value that is returned `addi a0, s1, 0`.
+// The instructions between the labels are `addi a0, s1, 0` and the branch on 0; `addi a0, x0, 5` and `addi s1, a0, 0`; and for
+// the value that is returned `addi a0, s1, 0`.
 #[test]
+#[tactic(auto, using(crate::proofs::Nested::nested_fits))]
 fn a_branch_in_a_block_in_a_loop(rt: HostRuntime) {
     let alloc = rt.alloc();
-    let first = one(alloc, Stm::Break(0)).expect(&rt, "memory");
-    let second = one(alloc, Stm::Break(1)).expect(&rt, "memory");
-    let mut block = one(alloc, Stm::If(Tree::Temp(0), first, second)).expect(&rt, "memory");
-    block
-        .push(Stm::Set(0, Tree::Number(5)))
-        .expect(&rt, "memory");
-    let mut body = one(alloc, Stm::Block(block)).expect(&rt, "memory");
-    body.push(Stm::Back(0)).expect(&rt, "memory");
-    let mut statements = one(alloc, Stm::Loop(body)).expect(&rt, "memory");
-    statements
-        .push(Stm::Return(Tree::Temp(0)))
-        .expect(&rt, "memory");
+    let statements = nested(alloc).expect(&rt, "memory");
     let layout = Layout {
         rooms: List::new(alloc),
         arrays: List::new(alloc),
