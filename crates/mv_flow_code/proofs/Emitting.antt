@@ -3,8 +3,10 @@ use Rattle.std.proofs.Common.{◌≡◌, ℕ, ◌+◌, ◌^◌, ◌<◌, List, [
 use Rattle.std.proofs.lemmas.List.{append-nil}
 use Rattle.mv_isa.specs.declared.labelled.Line.{Line}
 use Rattle.mv_isa.specs.declared.labelled.Line.TheVariants.{Label, Jump, Branch}
+use Rattle.mv_ir.specs.declared.body.Room.{Room}
 use Rattle.mv_ir.specs.declared.tree.Tree.{Tree}
 use Rattle.mv_ir.specs.declared.stm.Stm.{Stm}
+use Rattle.mv_tree_code.specs.Rooms.{place_in}
 use Rattle.mv_tree_code.specs.TreeCode.{tree_lines}
 use Rattle.mv_statement_code.specs.StatementCode.{first}
 use Rattle.mv_flow_code.specs.declared.emitter.Emitter.{Emitter}
@@ -60,10 +62,18 @@ if_written e place t a b opened one turned both closed p q r s u =
     let second = s ∙ ap (λ x. emitted x b) (r ∙ ap (λ x. branch_turned x e.free) first) in
     u ∙ ap (λ x. branch_closed x e.free) second ∙ if_emitted e place t a b
 
+-- a branch over rooms that are the same
+pub opened_over : (e after : Emitter) (rooms same : List Room) (t : Tree) → same ≡ rooms → after ≡ branch_opened e (place_in same) t
+    → after ≡ branch_opened e (place_in rooms) t
+opened_over e after rooms same t is h = h ∙ ap (λ r. branch_opened e (place_in r) t) is
+
 -- ---- labels
 
 pub free_emitted : (e after : Emitter) (code : Emitted) → after ≡ emitted e code → after.free ≡ e.free + code.labels
 free_emitted e after code is = ap (λ x. x.free) is
+
+pub free_same : (e f : Emitter) (a b : Emitted) → emitted e a ≡ emitted f b → e.free + a.labels ≡ f.free + b.labels
+free_same e f a b is = ap (λ x. x.free) is
 
 pub free_opened : (e after : Emitter) (place : ℕ → ℕ) (t : Tree) → after ≡ branch_opened e place t → after.free ≡ e.free + 2
 free_opened e after place t is = ap (λ x. x.free) is

@@ -1,4 +1,5 @@
 pub mod Around
+pub mod ArraysWithin
 pub mod Composition
 pub mod Control
 pub mod Emitting

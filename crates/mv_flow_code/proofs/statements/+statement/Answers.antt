@@ -7,8 +7,7 @@ use Rattle.mv_tree_code.specs.Rooms.{place_in}
 use Rattle.mv_statement_code.specs.StatementCode.{set_lines, set_global_lines, divide_lines, check_lines, read_lines, write_lines, zero_lines, return_lines}
 use Rattle.mv_flow_code.specs.FlowCode.{home, size, enclosing_at, if_code, loop_code, block_code, break_code, back_code, code_of}
 use Rattle.mv_flow_code.specs.Layouts.{plan_in, is_small_statement, are_small}
-use Rattle.mv_flow_code.specs.Emitters.{branch_opened}
-use Rattle.mv_flow_code.proofs.Emitting.{as_kind, as_plain, labels_of, labels_next, free_emitted, free_opened, free_turned, plain_emitted, if_written}
+use Rattle.mv_flow_code.proofs.Emitting.{as_kind, as_plain, labels_of, labels_next, free_emitted, free_same, free_opened, free_turned, plain_emitted, opened_over, if_written}
 use Rattle.mv_flow_code.proofs.Equations.{code_set, code_setglobal, code_divide, code_check, code_read, code_write, code_zero, code_if, code_loop, code_block, code_break, code_back, code_call, code_known, code_return}
 use Rattle.mv_flow_code.proofs.Small.{small_set, small_set_global, small_divide, small_check, small_read, small_write, small_if, small_loop, small_block, small_calls, small_knowns, small_return, size_loop, size_block, size_if, size_at}
 use Rattle.mv_flow_code.proofs.statements.+statement.Goals as goal
@@ -271,7 +270,7 @@ push_statement-returns-in_ok-push_statements-in-If-2 g t c =
     let b = c.in-If.b in
     let code = if_code plan.place t (code_of plan a) (code_of plan b) in
     let labels : e.free + code.labels < 2 ^ 32 = labels_of plan e s (at.If t a b) c.in-If.is code (code_if plan t a b) c.requires.labels in
-    let opened = c.in_ok-open_branch-in-If.ensures ∙ ap (λ r. branch_opened e (place_in r) t) c.as_slice-rooms.ensures in
+    let opened = opened_over e c.open_branch.new.self c.args.layout.now.rooms c.as_slice-rooms.result.now t c.as_slice-rooms.ensures c.in_ok-open_branch-in-If.ensures in
     let one = c.in_ok-push_statements-in-If.ensures in
     let turned = c.in_ok-turn_branch-in-If.ensures in
     let both = c.in_ok-push_statements-in-If-2.ensures in
@@ -293,7 +292,7 @@ push_statements-push_statement-requires g t c κs within =
     let here : drop i xs ≡ s ∷ rest = drop-cons xs i s low ∙ ap (λ x. x ∷ rest) (sym is) in
     let small = and_left (is_small_statement s) (are_small rest) (ap are_small (sym here) ∙ c.loop-statement.invariant.small) in
     let labels = labels_next plan (drop i xs) s rest here in
-    let free = ap (λ x. x.free) c.loop-statement.invariant.written in
+    let free = free_same c.loop-statement.emitter c.args.emitter.now (code_of plan (drop i xs)) (code_of plan xs) c.loop-statement.invariant.written in
     (omega (arith, size), (within, (c.requires.arrays, (small, omega (arith, labels, free)))))
 
 pub push_statement-returns-in-Break : goal.push_statement-returns-in-Break
