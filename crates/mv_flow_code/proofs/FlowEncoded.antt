@@ -27,8 +27,9 @@ use Rattle.mv_statement_code.specs.Encoded.{IsCode, IsSmall, AreEncoded}
 use Rattle.mv_statement_code.proofs.EncodedCode.{are_encoded}
 use Rattle.mv_flow_code.specs.declared.enclosing.Enclosing.{Enclosing}
 use Rattle.mv_flow_code.specs.FlowCode.{Plan, Emitted, in_turn, enclosing_at, branch_lines, loop_lines, block_lines, loop_at, block_at, home, size, code_layer, statement_code, all_true, fine_layer}
-use Rattle.mv_flow_code.specs.Layouts.{any_global, is_small, is_small_statement}
+use Rattle.mv_flow_code.specs.Layouts.{plan_in, any_global, is_small, is_small_statement}
 use Rattle.mv_flow_code.specs.Encoded.{more_layer, stm_more, CallsAreEncoded, FlowIsEncoded}
+use Rattle.mv_flow_code.proofs.ArraysWithin.{plan_within}
 use Rattle.mv_flow_code.proofs.Small.{small_tree}
 use Rattle.mv_flow_code.proofs.StatementsDo.{code_roll, fine_roll}
 
@@ -178,4 +179,7 @@ module _ (plan : Plan) (within : (a : ℕ) → plan.array_at a + 4 * plan.array_
   statement_holds = stm_ind StmHolds (λ x h. from_layer x (layer x h))
 
 pub flow_encoded : FlowIsEncoded
-flow_encoded plan within most calls code small around label = in_order_holds plan within most calls code (stms_ind (StmHolds plan within most calls) (statement_holds plan within most calls) code) small around label
+flow_encoded layout within most lines calls code small around label =
+    let plan = plan_in layout lines in
+    let arrays = plan_within layout lines within in
+    in_order_holds plan arrays most calls code (stms_ind (StmHolds plan arrays most calls) (statement_holds plan arrays most calls) code) small around label

@@ -1,5 +1,5 @@
 -- The code of statements within one another has encodings, and few words.
-use Rattle.std.specs.Prelude.{ℕ, ◌≡◌, ◌+◌, ◌*◌, ◌≤◌, true, List, ◌++◌, map, Option}
+use Rattle.std.specs.Prelude.{ℕ, ◌≡◌, ◌+◌, ◌*◌, true, List, ◌++◌, All, map, Option}
 use Rattle.mv_ast.specs.declared.program.Known.{Known}
 use Rattle.mv_ir.specs.declared.tree.Tree.{Tree}
 use Rattle.mv_ir.specs.declared.stm.Callee.{Callee}
@@ -11,8 +11,9 @@ use Rattle.mv_ir.specs.Trees.{nodes_of_all}
 use Rattle.mv_ir.specs.Measures.{total, callee_trees, tree_nodes, statements}
 use Rattle.mv_statement_code.specs.Encoded.{IsCode}
 use Rattle.mv_flow_code.specs.declared.enclosing.Enclosing.{Enclosing}
-use Rattle.mv_flow_code.specs.FlowCode.{CallLines, Plan, code_of}
-use Rattle.mv_flow_code.specs.Layouts.{small_call, small_known, are_small}
+use Rattle.mv_flow_code.specs.declared.layout.Layout.{Layout}
+use Rattle.mv_flow_code.specs.FlowCode.{CallLines, code_of}
+use Rattle.mv_flow_code.specs.Layouts.{array_size_in, IsInFrame, plan_in, small_call, small_known, are_small}
 
 -- ---- what isn't bounded by a statement's trees: the elements that are made 0, and so many words for each call
 
@@ -43,7 +44,6 @@ pub record CallsAreEncoded (most : ℕ) (calls : CallLines) : Type 0 where
 -- that is made 0, and so many for each call.
 abbrev pub FlowIsEncoded : Type 0
 FlowIsEncoded =
-    (plan : Plan) → ((a : ℕ) → plan.array_at a + 4 * plan.array_size a ≤ 2032) →
-    (most : ℕ) → CallsAreEncoded most plan.calls →
+    (layout : Layout) → All IsInFrame layout.arrays → (most : ℕ) (calls : CallLines) → CallsAreEncoded most calls →
     (code : List Stm) → are_small code ≡ true → (around : List Enclosing) (label : ℕ) →
-    IsCode (2 * tree_nodes code + 9 * statements code + more plan.array_size most code) ((code_of plan code).lines around label)
+    IsCode (2 * tree_nodes code + 9 * statements code + more (array_size_in layout.arrays) most code) ((code_of (plan_in layout calls) code).lines around label)
