@@ -1,5 +1,5 @@
 -- The code of each form of statement, and what it is for one to be fine.
-use Rattle.std.proofs.Common.{◌≡◌, ℕ, ◌&&◌, Bool, true, ltb, List, map, Option, sym, ap, ◌∙◌}
+use Rattle.std.proofs.Common.{◌≡◌, ℕ, ◌&&◌, Bool, true, eqb, ltb, length, List, map, Option, sym, ap, ◌∙◌}
 use Rattle.mv_ast.specs.declared.program.Known.{Known}
 use Rattle.mv_ir.specs.declared.tree.Tree.{Tree}
 use Rattle.mv_ir.specs.declared.stm.Array.{Array}
@@ -9,8 +9,9 @@ use Rattle.mv_ir.specs.declared.stm.Stm as at
 use Rattle.mv_ir.specs.declared.stm.Stm.TheOpen as stm
 use Rattle.mv_ir.specs.declared.stm.Stm.TheVariants.{rolls-Set, rolls-SetGlobal, rolls-Divide, rolls-Check, rolls-Read, rolls-Write, rolls-Zero, rolls-If, rolls-Loop, rolls-Block, rolls-Break, rolls-Back, rolls-Call, rolls-Known, rolls-Return}
 use Rattle.mv_ir.specs.Measures.{callee_trees}
+use Rattle.mv_ir.specs.WellFormed.{known_arguments}
 use Rattle.mv_statement_code.specs.StatementCode.{set_lines, set_global_lines, divide_lines, check_lines, read_lines, write_lines, zero_lines, return_lines}
-use Rattle.mv_flow_code.specs.FlowCode.{Plan, plain, home, size, if_code, loop_code, block_code, break_code, back_code, statement_code, code_of, all_true, fine_target, is_fine_statement, are_fine}
+use Rattle.mv_flow_code.specs.FlowCode.{Plan, plain, home, size, if_code, loop_code, block_code, break_code, back_code, statement_code, code_of, all_true, fine_target, fine_known, is_fine_statement, are_fine}
 use Rattle.mv_flow_code.proofs.StatementsDo.{code_roll, fine_roll}
 
 module _ (plan : Plan) where
@@ -96,15 +97,17 @@ module _ (is_fine : Tree → Bool) (temps : ℕ) (is_scalar : ℕ → Bool) wher
   pub fine_back : (n : ℕ) → is_fine_statement is_fine temps is_scalar (at.Back n) ≡ (true)
   fine_back n = ap (is_fine_statement is_fine temps is_scalar) (sym (rolls-Back n)) ∙ fine_roll is_fine temps is_scalar (stm.Back n)
 
-  pub fine_call : (r : Option ℕ) (f : Callee) (args : List Tree) → is_fine_statement is_fine temps is_scalar (at.Call r f args) ≡ (fine_target is_fine temps is_scalar r && (all_true (map is_fine (callee_trees f)) && all_true (map is_fine args)))
+  pub fine_call : (r : Option ℕ) (f : Callee) (args : List Tree) → is_fine_statement is_fine temps is_scalar (at.Call r f args)
+      ≡ (ltb (length args) 9 && (fine_target is_fine temps is_scalar r && (all_true (map is_fine (callee_trees f)) && all_true (map is_fine args))))
   fine_call r f args = ap (is_fine_statement is_fine temps is_scalar) (sym (rolls-Call r f args)) ∙ fine_roll is_fine temps is_scalar (stm.Call r f args)
 
-  pub fine_known : (r : Option ℕ) (k : Known) (args : List Tree) → is_fine_statement is_fine temps is_scalar (at.Known r k args) ≡ (fine_target is_fine temps is_scalar r && all_true (map is_fine args))
-  fine_known r k args = ap (is_fine_statement is_fine temps is_scalar) (sym (rolls-Known r k args)) ∙ fine_roll is_fine temps is_scalar (stm.Known r k args)
+  pub fine_known_call : (r : Option ℕ) (k : Known) (args : List Tree) → is_fine_statement is_fine temps is_scalar (at.Known r k args)
+      ≡ (eqb (length args) (known_arguments k) && (fine_known is_fine temps is_scalar k && (fine_target is_fine temps is_scalar r && all_true (map is_fine args))))
+  fine_known_call r k args = ap (is_fine_statement is_fine temps is_scalar) (sym (rolls-Known r k args)) ∙ fine_roll is_fine temps is_scalar (stm.Known r k args)
 
   pub fine_return : (v : Tree) → is_fine_statement is_fine temps is_scalar (at.Return v) ≡ (is_fine v)
   fine_return v = ap (is_fine_statement is_fine temps is_scalar) (sym (rolls-Return v)) ∙ fine_roll is_fine temps is_scalar (stm.Return v)
 
 pub ruleset codes = (code_set, code_setglobal, code_divide, code_check, code_read, code_write, code_zero, code_if, code_loop, code_block, code_break, code_back, code_call, code_known, code_return)
 
-pub ruleset fines = (fine_set, fine_setglobal, fine_divide, fine_check, fine_read, fine_write, fine_zero, fine_if, fine_loop, fine_block, fine_break, fine_back, fine_call, fine_known, fine_return)
+pub ruleset fines = (fine_set, fine_setglobal, fine_divide, fine_check, fine_read, fine_write, fine_zero, fine_if, fine_loop, fine_block, fine_break, fine_back, fine_call, fine_known_call, fine_return)

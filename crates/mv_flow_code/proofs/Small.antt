@@ -16,7 +16,7 @@ use Rattle.mv_tree_code.specs.TreeCode.{temps_of}
 use Rattle.mv_tree_code.proofs.TreesRun.{and_left, and_right}
 use Rattle.mv_statement_code.specs.Encoded.{IsSmall}
 use Rattle.mv_flow_code.specs.Layouts.{any_global, is_small, small_call, small_known, is_small_statement, are_small}
-use Rattle.mv_flow_code.proofs.Equations.{fine_set, fine_setglobal, fine_divide, fine_check, fine_read, fine_write, fine_if, fine_loop, fine_block, fine_call, fine_known, fine_return}
+use Rattle.mv_flow_code.proofs.Equations.{fine_set, fine_setglobal, fine_divide, fine_check, fine_read, fine_write, fine_if, fine_loop, fine_block, fine_call, fine_known_call, fine_return}
 
 pub small_tree : (v : Tree) → is_small v ≡ true → IsSmall v
 small_tree v h =
@@ -73,8 +73,8 @@ module _ (s : Stm) (small : is_small_statement s ≡ true) where
   pub small_calls : (r : Option ℕ) (f : Callee) (args : List Tree) → s ≡ at.Call r f args → small_call r f args ≡ true
   small_calls r f args same = of_kind (at.Call r f args) (small_call r f args) same (fine_call is_small 507 any_global r f args)
 
-  pub small_knowns : (r : Option ℕ) (k : Known) (args : List Tree) → s ≡ at.Known r k args → small_known r args ≡ true
-  small_knowns r k args same = of_kind (at.Known r k args) (small_known r args) same (fine_known is_small 507 any_global r k args)
+  pub small_knowns : (r : Option ℕ) (k : Known) (args : List Tree) → s ≡ at.Known r k args → small_known r k args ≡ true
+  small_knowns r k args same = of_kind (at.Known r k args) (small_known r k args) same (fine_known_call is_small 507 any_global r k args)
 
   pub small_return : (v : Tree) → s ≡ at.Return v → IsSmall v
   small_return v same = small_tree v (of_kind (at.Return v) (is_small v) same (fine_return is_small 507 any_global v))

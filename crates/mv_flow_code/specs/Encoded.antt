@@ -37,7 +37,7 @@ module _ (array_size : ℕ → ℕ) (most : ℕ) where
 pub record CallsAreEncoded (most : ℕ) (calls : CallLines) : Type 0 where
   pub call : (r : Option ℕ) (f : Callee) (args : List Tree) → small_call r f args ≡ true →
       IsCode (2 * nodes_of_all (callee_trees f ++ args) + most) (calls.call r f args)
-  pub known : (r : Option ℕ) (k : Known) (args : List Tree) → small_known r args ≡ true →
+  pub known : (r : Option ℕ) (k : Known) (args : List Tree) → small_known r k args ≡ true →
       IsCode (2 * nodes_of_all args + most) (calls.known r k args)
 
 -- If that is so, the code of statements has encodings, and at most two words for each node of a tree, nine for each statement, one for each element

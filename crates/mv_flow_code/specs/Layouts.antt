@@ -1,16 +1,18 @@
 -- What a layout says of the places of globals and arrays, and which statements there are registers and room for.
-use Rattle.std.specs.Prelude.{ℕ, ◌+◌, ◌*◌, ◌≤◌, ◌&&◌, Bool, true, cond, eqb, leb, List, [], ◌∷◌, map, Option, slice_index_or}
+use Rattle.std.specs.Prelude.{ℕ, ◌+◌, ◌*◌, ◌≤◌, ◌&&◌, Bool, true, cond, eqb, ltb, leb, length, List, [], ◌∷◌, map, Option, slice_index_or}
+use Rattle.mv_ast.specs.declared.program.Known.{Known}
 use Rattle.mv_ir.specs.declared.body.Room.{Room}
 use Rattle.mv_ir.specs.declared.tree.Tree.{Tree}
 use Rattle.mv_ir.specs.declared.stm.Callee.{Callee}
 use Rattle.mv_ir.specs.declared.stm.Stm.{Stm}
 use Rattle.mv_ir.specs.Measures.{callee_trees}
 use Rattle.mv_ir.specs.Trees.{depth}
+use Rattle.mv_ir.specs.WellFormed.{known_arguments}
 use Rattle.mv_tree_code.specs.TreeCode.{temps_of}
 use Rattle.mv_tree_code.specs.Rooms.{place_in}
 use Rattle.mv_flow_code.specs.declared.layout.Space.{Space}
 use Rattle.mv_flow_code.specs.declared.layout.Layout.{Layout}
-use Rattle.mv_flow_code.specs.FlowCode.{CallLines, Plan, all_true, fine_target, is_fine_statement, are_fine}
+use Rattle.mv_flow_code.specs.FlowCode.{CallLines, Plan, all_true, fine_target, fine_known, is_fine_statement, are_fine}
 
 -- how many words a global has, and 0 where it has no room
 abbrev pub size_in : List Room → ℕ → ℕ
@@ -48,13 +50,15 @@ is_small t = leb (depth t) 4 && leb (temps_of t) 507
 abbrev pub any_global : ℕ → Bool
 any_global g = true
 
--- likewise for the trees of a call
+-- likewise for the trees of a call, which has at most eight arguments, and of a known function, which has its own number
 abbrev pub small_call : Option ℕ → Callee → List Tree → Bool
 small_call r f args =
-    fine_target is_small 507 any_global r && (all_true (map is_small (callee_trees f)) && all_true (map is_small args))
+    ltb (length args) 9 && (fine_target is_small 507 any_global r && (all_true (map is_small (callee_trees f)) && all_true (map is_small args)))
 
-abbrev pub small_known : Option ℕ → List Tree → Bool
-small_known r args = fine_target is_small 507 any_global r && all_true (map is_small args)
+abbrev pub small_known : Option ℕ → Known → List Tree → Bool
+small_known r k args =
+    eqb (length args) (known_arguments k)
+    && (fine_known is_small 507 any_global k && (fine_target is_small 507 any_global r && all_true (map is_small args)))
 
 -- and for all trees of statements
 abbrev pub is_small_statement : Stm → Bool

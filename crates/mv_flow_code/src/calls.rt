@@ -33,6 +33,6 @@ pub trait CallCode {
         known: Known,
         arguments: &List<Tree>,
     ) -> Result<(), AllocError>
-        requires { small_known temp arguments.now ≡ true }
+        requires { small_known temp known arguments.now ≡ true }
         ensures { OnOk result (code.new ≡ code.old ++ (lines self.now).known temp known arguments.now) };
 }

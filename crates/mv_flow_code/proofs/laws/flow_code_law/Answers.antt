@@ -5,8 +5,8 @@ use Rattle.mv_flow_code.proofs.TargetsStand.{targets_stand}
 use Rattle.mv_flow_code.proofs.laws.flow_code_law.Goals as goal
 
 pub returns-clause-done : goal.returns-clause-done
-returns-clause-done g c access s setting frame fit machine ok is_fine fine_trees place end budget far most calls calls_do code fine =
-    flow_done access s setting frame fit machine ok is_fine fine_trees place end budget far most calls calls_do code fine
+returns-clause-done g c access s setting frame fit machine ok is_fine fine_trees place end budget far top calls calls_do code fine =
+    flow_done access s setting frame fit machine ok is_fine fine_trees place end budget far top calls calls_do code fine
 
 pub returns-clause-encoded : goal.returns-clause-encoded
 returns-clause-encoded g c = flow_encoded
