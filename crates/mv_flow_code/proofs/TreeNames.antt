@@ -45,7 +45,7 @@ module _ (P : ℕ → Type 0) where
   words : (i j : Instr) → AllName (two i j)
   words i j = All-cons (Names P) (Word i) (one j) tt (word j)
 
-  number_names : (n r : ℕ) → AllName (number_lines n r)
+  pub number_names : (n r : ℕ) → AllName (number_lines n r)
   unfolding number_lines
   number_names n r = by_length (eqb (upper_bits n) 0)
     where
