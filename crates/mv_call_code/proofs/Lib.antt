@@ -8,3 +8,4 @@ pub mod Equations
 pub mod CallsEncoded
 pub mod CallsName
 pub mod Small
+pub mod Tested
