@@ -47,6 +47,7 @@ use Rattle.mv_call_code.proofs.Arguments.{arguments_short, values, arguments_fir
 use Rattle.mv_call_code.proofs.CallerShown.{globals_held, shows_after}
 use Rattle.mv_call_code.proofs.Transfers.{sets_on, result_stands}
 use Rattle.mv_call_code.proofs.Guarded.{straight_walk}
+use Rattle.mv_call_code.proofs.Small.{few_arguments}
 
 module _ {M : Type 0} (access : Access M) (y : Layout) (s : Site) (setting : ir.Setting) (frame : ir.Frame) (fit : IsFit s access setting frame) (caller : IsCaller y s setting frame)
     (machine : Machine M) (ok : IsRun access s machine) (budget far : ℕ) (place : ℕ → ℕ) (end : ℕ) (linked : IsLinked y place)
@@ -241,12 +242,6 @@ module _ {M : Type 0} (access : Access M) (y : Layout) (s : Site) (setting : ir.
   request_small Putchar = omega arith
   request_small Poll = omega arith
   request_small (Plan code index) = omega arith
-
-  few_arguments : (k : Known) → known_arguments k ≤ 1
-  few_arguments Getchar = omega arith
-  few_arguments Putchar = omega arith
-  few_arguments Poll = omega arith
-  few_arguments (Plan code index) = omega arith
 
   order_kept : (k : Known) (regs : List ℕ) (v : ℕ) → HoldsOrder k regs → HoldsOrder k (put regs request_register v)
   order_kept Getchar regs v h = tt

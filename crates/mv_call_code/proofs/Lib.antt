@@ -5,3 +5,7 @@ pub mod Guarded
 pub mod FunctionCalls
 pub mod KnownCalls
 pub mod Equations
+pub mod CallsEncoded
+pub mod CallsName
+pub mod Small
+pub mod Tested

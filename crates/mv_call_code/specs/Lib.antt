@@ -2,3 +2,4 @@ pub mod CallCode
 pub mod Convention
 pub mod Environment
 pub mod Laws
+pub mod Lines

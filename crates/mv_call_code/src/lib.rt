@@ -2,7 +2,12 @@
 #![tactic(auto)]
 
 mod calls;
+mod emitter;
 mod laws;
 
 pub use calls::{push_call, push_known};
-pub use laws::call_code_law;
+pub use emitter::Calls;
+pub use laws::{call_code_law, call_lines_law};
+
+#[cfg(test)]
+mod tests;

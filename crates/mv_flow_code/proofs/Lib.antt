@@ -1,5 +1,15 @@
+pub mod Around
+pub mod ArraysWithin
 pub mod Composition
 pub mod Control
+pub mod Emitting
+pub mod Equations
+pub mod FlowEncoded
+pub mod LabelsOwn
 pub mod Leaves
+pub mod Nested
+pub mod Small
 pub mod StatementsDo
+pub mod TargetsStand
+pub mod TreeNames
 pub mod Walk

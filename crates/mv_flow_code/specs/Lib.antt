@@ -1,5 +1,9 @@
+pub mod Emitters
+pub mod Encoded
 pub mod FlowCode
 pub mod Flow
+pub mod Labels
 pub mod Laws
+pub mod Layouts
 pub mod Placed
 pub mod Runs

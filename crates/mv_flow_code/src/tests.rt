@@ -1,0 +1,144 @@
+//! The lines of a branch in a block in a loop, with the words that LLVM's assembler gives for its instructions.
+ghost use Rattle.std.specs.Prelude.{◌≡◌, [], ◌∷◌, IfOk};
+
+use crate::calls::CallCode;
+use crate::emitter::Emitter;
+use crate::layout::Layout;
+use crate::{flow_code_law, push_statements};
+use mv_ast::program::Known;
+use mv_ir::stm::{Callee, Stm};
+use mv_ir::tree::Tree;
+use mv_isa::decode;
+use mv_isa::labelled::Line;
+use mv_num::list::List;
+use std::alloc::{AllocError, Global};
+
+// No code at all for calls.
+struct NoCalls;
+
+impl CallCode for NoCalls {
+    ghost lines = { λ s. record { call = λ r f args. []; known = λ r k args. [] } };
+
+    fn push_call(
+        &self,
+        _code: &mut List<Line>,
+        _temp: Option<u32>,
+        _callee: &Callee,
+        _arguments: &List<Tree>,
+    ) -> Result<(), AllocError> {
+        Ok(())
+    }
+
+    fn push_known(
+        &self,
+        _code: &mut List<Line>,
+        _temp: Option<u32>,
+        _known: Known,
+        _arguments: &List<Tree>,
+    ) -> Result<(), AllocError> {
+        Ok(())
+    }
+}
+
+// What stands at an index of the code.
+#[derive(Clone, Copy)]
+enum Item {
+    Word(u32),
+    Label(u32),
+    Jump(u32),
+    Unless(u32),
+}
+
+fn is_item(line: &Line, item: &Item) -> bool {
+    match (line, item) {
+        (Line::Word(instr), Item::Word(word)) => decode(*word) == Some(*instr),
+        (Line::Label(l), Item::Label(k)) => l == k,
+        (Line::Jump(rd, l), Item::Jump(k)) => *rd == 0 && l == k,
+        (Line::Branch(funct3, rs1, rs2, l), Item::Unless(k)) => *funct3 == 0
+            && *rs1 == 10
+            && *rs2 == 0
+            && l == k,
+        _ => false,
+    }
+}
+
+fn one(alloc: Global, statement: Stm) -> Result<List<Stm>, AllocError>
+    ensures { IfOk result (λ list. list ≡ statement ∷ []) }
+{
+    let mut list = List::new(alloc);
+    list.push(statement)?;
+    Ok(list)
+}
+
+fn two(alloc: Global, first: Stm, second: Stm) -> Result<List<Stm>, AllocError>
+    ensures { IfOk result (λ list. list ≡ first ∷ second ∷ []) }
+{
+    let mut list = one(alloc, first)?;
+    list.push(second)?;
+    Ok(list)
+}
+
+// A loop around a block. The block is left where the first temporary isn't 0, and else the loop; behind the branch the block
+// sets the temporary to 5; behind the block the loop starts again.
+fn nested(alloc: Global) -> Result<List<Stm>, AllocError>
+    ensures { IfOk result (λ code. code ≡
+        Stm.Loop (Stm.Block (Stm.If (Tree.Temp 0) (Stm.Break 0 ∷ []) (Stm.Break 1 ∷ []) ∷ Stm.Set 0 (Tree.Number 5) ∷ []) ∷ Stm.Back 0 ∷ [])
+        ∷ Stm.Return (Tree.Temp 0) ∷ []) }
+{
+    let first = one(alloc, Stm::Break(0))?;
+    let second = one(alloc, Stm::Break(1))?;
+    let branch = Stm::If(Tree::Temp(0), first, second);
+    let block = two(alloc, branch, Stm::Set(0, Tree::Number(5)))?;
+    let body = two(alloc, Stm::Block(block), Stm::Back(0))?;
+    two(alloc, Stm::Loop(body), Stm::Return(Tree::Temp(0)))
+}
+
+fn is_code(code: &List<Line>, items: &[Item]) -> bool {
+    code.len() == items.len()
+        && code
+            .as_slice()
+            .iter()
+            .zip(items)
+            .all(|(line, item)| is_item(line, item))
+}
+
+// The instructions between the labels are `addi a0, s1, 0` and the branch on 0; `addi a0, x0, 5` and `addi s1, a0, 0`; and for
+// the value that is returned `addi a0, s1, 0`.
+#[test]
+#[tactic(auto, using(crate::proofs::Nested::nested_fits))]
+fn a_branch_in_a_block_in_a_loop(rt: HostRuntime) {
+    let alloc = rt.alloc();
+    let statements = nested(alloc).expect(&rt, "memory");
+    let layout = Layout {
+        rooms: List::new(alloc),
+        arrays: List::new(alloc),
+        end: 9,
+    };
+    let mut emitter = Emitter::new(alloc, 1);
+    push_statements(&mut emitter, &layout, &NoCalls, &statements).expect(&rt, "memory");
+    let items = [
+        Item::Label(1),
+        Item::Word(0x0004_8513),
+        Item::Unless(4),
+        Item::Jump(3),
+        Item::Jump(5),
+        Item::Label(4),
+        Item::Jump(2),
+        Item::Label(5),
+        Item::Word(0x0050_0513),
+        Item::Word(0x0005_0493),
+        Item::Label(3),
+        Item::Jump(1),
+        Item::Jump(1),
+        Item::Label(2),
+        Item::Word(0x0004_8513),
+        Item::Jump(9),
+    ];
+    assert!(rt; emitter.free == 6);
+    assert!(rt; is_code(&emitter.lines, &items));
+}
+
+#[test]
+fn the_law_is_a_call_that_does_nothing(_rt: HostRuntime) {
+    flow_code_law::<u32>();
+}
