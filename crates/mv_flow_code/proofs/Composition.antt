@@ -1,11 +1,17 @@
 -- How stretches of code compose: by cases on the outcome, over any meanings.
-use Rattle.std.proofs.Common.{◌≡◌, ℕ, zero, suc, ◌+◌, ◌≤◌, List, [], ◌∷◌, length, Some, None, subst, arith}
+use Rattle.std.proofs.Common.{◌≡◌, ℕ, zero, suc, ◌+◌, ◌≤◌, List, [], ◌∷◌, length, Some, None, inl, inr, ⊎_elim, refl, subst, arith}
 use Rattle.mv_isa.specs.Execution.{Access}
 use Rattle.mv_ir.specs.Outcome.{State, End, Returned, Trapped, More, Stuck, Outcome, Next, Leaves, Restarts, Ends, Run, Bound, Meaning, now, goes_on, then_do, block_end, block, turn_end, turn, loop}
 use Rattle.mv_statement_code.specs.Frames.{Site}
 use Rattle.mv_flow_code.specs.declared.enclosing.Enclosing.{Enclosing}
 use Rattle.mv_flow_code.specs.Runs.{Machine}
-use Rattle.mv_flow_code.specs.Flow.{Here, IsCut, FollowsEnd, Follows, Does}
+use Rattle.mv_flow_code.specs.Flow.{IsWithin, Here, IsCut, FollowsEnd, Follows, Does}
+
+-- a bound within one that is within another
+pub within_within : (a b c : Bound) → IsWithin a b → IsWithin b c → IsWithin a c
+within_within a b [] h e = subst (IsWithin a) e h
+within_within a b (calls ∷ below) h k =
+    ⊎_elim (λ (e : b ≡ calls ∷ below). subst (IsWithin a) e h) (λ (w : IsWithin b below). inr (within_within a b below h w)) k
 
 module _ {M : Type 0} (access : Access M) (s : Site) (machine : Machine M) (place : ℕ → ℕ) (end budget far : ℕ) where
   abbrev H : (over spare k pc : ℕ) → State → ℕ → Type 0
@@ -122,11 +128,11 @@ module _ {M : Type 0} (access : Access M) (s : Site) (machine : Machine M) (plac
 
   -- a loop, by recursion on the bound: each turn may use what its body does at every bound below
   pub loop_does : (spare : ℕ) (e : Enclosing) (around : List Enclosing) (pc mid next : ℕ) (m : Meaning) (bound : Bound) → place e.start ≡ pc → place e.end ≡ next → Jumps mid pc
-      → ((spare : ℕ) (b : Bound) → length b ≤ length bound → D spare (length b) (e ∷ around) pc mid (m b)) → D spare (length bound) around pc next (loop m bound)
+      → ((spare : ℕ) (b : Bound) → IsWithin b bound → D spare (length b) (e ∷ around) pc mid (m b)) → D spare (length bound) around pc next (loop m bound)
   loop_does spare e around pc mid next m [] start stop jumps does =
-      turn_does spare 0 e around pc mid next (m []) (λ l. now (Ends (More l.world))) start stop jumps (λ spare. does spare [] (omega arith)) (λ l j h. (j, cut 1 (spare + 0) pc l j h))
+      turn_does spare 0 e around pc mid next (m []) (λ l. now (Ends (More l.world))) start stop jumps (λ spare. does spare [] refl) (λ l j h. (j, cut 1 (spare + 0) pc l j h))
   loop_does spare e around pc mid next m (calls ∷ below) start stop jumps does =
-      turn_does spare (suc (length below)) e around pc mid next (m (calls ∷ below)) (loop m below) start stop jumps (λ spare. does spare (calls ∷ below) (omega arith))
+      turn_does spare (suc (length below)) e around pc mid next (m (calls ∷ below)) (loop m below) start stop jumps (λ spare. does spare (calls ∷ below) (inl refl))
       (λ l j h. fewer spare spare (length below) (suc (length below)) around next (loop m below l).outcome (omega arith) (omega arith)
-      (loop_does spare e around pc mid next m below start stop jumps (λ spare b le. does spare b (omega (arith, le))) l j
+      (loop_does spare e around pc mid next m below start stop jumps (λ spare b le. does spare b (inr le)) l j
       (rest 1 (spare + (loop m below l).cost) (suc (length below)) 0 (spare + (loop m below l).cost) (length below) pc l j (omega arith) (omega arith) h)))

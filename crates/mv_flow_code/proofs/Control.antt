@@ -1,5 +1,5 @@
 -- The code of branches, loops and blocks, and of what leaves them and starts them again, on a run.
-use Rattle.std.proofs.Common.{◌≡◌, ℕ, ◌+◌, ◌*◌, ◌≤◌, Bool, true, false, cond, eqb, List, [], ◌∷◌, ◌++◌, length, refl, sym, ap, ◌∙◌, subst, arith}
+use Rattle.std.proofs.Common.{◌≡◌, ℕ, ◌+◌, ◌*◌, Bool, true, false, cond, eqb, List, [], ◌∷◌, ◌++◌, length, refl, sym, ap, ◌∙◌, subst, arith}
 use Rattle.std.proofs.lemmas.List.{append-nil}
 use Rattle.mv_isa.specs.declared.labelled.Line.{Line}
 use Rattle.mv_isa.specs.declared.labelled.Line.TheVariants.{Label, Jump, Branch}
@@ -22,7 +22,7 @@ use Rattle.mv_flow_code.specs.declared.enclosing.Enclosing.{Enclosing}
 use Rattle.mv_flow_code.specs.FlowCode.{enclosing_at, if_lines, loop_lines, block_lines, loop_at, block_at}
 use Rattle.mv_flow_code.specs.Placed.{IsPlaced, Placed}
 use Rattle.mv_flow_code.specs.Runs.{Machine, IsRun}
-use Rattle.mv_flow_code.specs.Flow.{Here, Follows, Does}
+use Rattle.mv_flow_code.specs.Flow.{IsWithin, Here, Follows, Does}
 use Rattle.mv_flow_code.proofs.Composition.{Jumps, rest, at_place, block_does, jump_follows, loop_does}
 use Rattle.mv_flow_code.proofs.Walk.{placed_split, Reaches, jump_stands, branch_passes, taken, line_does, leads_walk, to_stands, to_here}
 
@@ -81,7 +81,7 @@ module _ {M : Type 0} (access : Access M) (s : Site) (setting : ir.Setting) (fra
       (does next (subst (P ls pc) same q.1))
 
   pub loop_stands : (label spare pc next : ℕ) (around : List Enclosing) (bound : Bound) (b : List Meaning) (ls : List Line) → P (loop_lines label ls) pc next
-      → ((spare : ℕ) (under : Bound) (start stop : ℕ) → length under ≤ length bound → P ls start stop → D spare (length under) (loop_at label ∷ around) start stop (in_order b under))
+      → ((spare : ℕ) (under : Bound) (start stop : ℕ) → IsWithin under bound → P ls start stop → D spare (length under) (loop_at label ∷ around) start stop (in_order b under))
       → D spare (length bound) around pc next (statement setting frame (stm.Loop b) bound)
   loop_stands label spare pc next around bound b ls p does =
       let q = split ls (Jump 0 label ∷ Label (label + 1) ∷ []) p.0 next p.2 in
@@ -146,8 +146,8 @@ module _ {M : Type 0} (access : Access M) (s : Site) (setting : ir.Setting) (fra
       go true is h =
           let cost = (in_order b bound x).cost in
           let y = tree_reached v x 0 (spare + (8 + 3 * nodes v + cost)) k pc q.0 i z q.1 h in
-          let e = subst (λ d. BranchRuns access machine.text m d q.0 q.2.0 (place label) z.after) (by true is)
-          (line_does access s machine ok place end budget far x.world q.0 q.2.0 z.after m y.time (Branch 0 first 0 label) q.2.1 y.stands) in
+          let e = subst (λ d. BranchRuns access machine.text.word m d q.0 q.2.0 (place label) z.after) (by true is)
+          (line_does access s machine ok place end budget far x.world q.0 q.2.0 z.after m y.time (Branch 0 first 0 label) q.2.1.stands q.2.1 y.stands) in
           let t = taken access s machine ok place end budget far x.world q.0 q.2.0 (place label) z.after m y.time e y.stands in
           let paid = h.paid in let asked = h.asked in let late = y.late in let soon = y.soon in let later = t.late in let sooner = t.soon in
           let here = to_here access s machine ok place end budget far 0 (spare + cost) k (place label) x x.world z.after m t.time refl z.shown (omega (arith, paid, soon, sooner)) (omega (arith, asked, late, later)) t.stands in

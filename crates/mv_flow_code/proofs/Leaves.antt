@@ -8,7 +8,7 @@ use Rattle.mv_ir.specs.declared.stm.Array.TheVariants as array
 use Rattle.mv_ir.specs.declared.stm.Stm.TheOpen.{Stm-F}
 use Rattle.mv_ir.specs.World as ir
 use Rattle.mv_ir.specs.World.{World}
-use Rattle.mv_ir.specs.Outcome.{State, Returned, Trapped, More, Stuck, Outcome, Next, Leaves, Restarts, Ends, Meaning}
+use Rattle.mv_ir.specs.Outcome.{State, Returned, Trapped, More, Stuck, Outcome, Next, Leaves, Restarts, Ends, Bound, Meaning}
 use Rattle.mv_ir.specs.Meaning.{statement, with_elements}
 use Rattle.mv_statement_code.specs.StatementCode.{first, trap_label}
 use Rattle.mv_statement_code.specs.Frames.{Site}
@@ -37,7 +37,7 @@ same_elements (array.Global g) l xs = refl
 same_elements (array.Local a) l xs = refl
 
 module _ {M : Type 0} (access : Access M) (s : Site) (setting : ir.Setting) (frame : ir.Frame) (machine : Machine M) (ok : IsRun access s machine)
-    (place : ℕ → ℕ) (end budget far : ℕ) (is_fine : Tree → Bool) (most : ℕ) where
+    (place : ℕ → ℕ) (end budget far : ℕ) (is_fine : Tree → Bool) (top : Bound) where
   abbrev H : (over spare k pc : ℕ) → State → ℕ → Type 0
   H = Here access s machine place end budget far
 
@@ -70,7 +70,7 @@ module _ {M : Type 0} (access : Access M) (s : Site) (setting : ir.Setting) (fra
 
   -- code that does what a statement means, wherever it stands, does so on the run
   pub leaf_does : (lines : List Line) (x : Stm-F Meaning) → statements.Does access s setting frame end lines x → ((bound : _) (l : State) → SameOutside l.world (statement setting frame x bound l).outcome)
-      → LinesDo access s setting frame machine place end budget far is_fine most lines x
+      → LinesDo access s setting frame machine place end budget far is_fine top lines x
   leaf_does lines x done same spare around pc next bound le p l i h =
       let r = statement setting frame x bound l in
       leaf_follows lines r.cost spare (length bound) pc next around l i r.outcome p (same bound l) (done bound l (machine.run i).regs (machine.run i).memory h.shows) h

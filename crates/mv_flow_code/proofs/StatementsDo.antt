@@ -1,5 +1,5 @@
 -- The code of statements does what they mean, at each bound, by induction over the statements.
-use Rattle.std.proofs.Common.{◌≡◌, ℕ, ◌+◌, ◌<◌, ◌≤◌, Bool, true, ltb, ◌&&◌, eqb, List, [], ◌∷◌, length, map, slice_index, slice_set, refl, sym, ◌∙◌, subst, arith}
+use Rattle.std.proofs.Common.{◌≡◌, ℕ, ◌+◌, ◌<◌, Bool, true, ltb, ◌&&◌, eqb, List, [], ◌∷◌, length, map, slice_index, slice_set, refl, sym, ◌∙◌, subst}
 use Rattle.std.proofs.lemmas.Bool.{ltb-true}
 use Rattle.mv_isa.specs.declared.labelled.Line.{Line}
 use Rattle.mv_isa.specs.Execution.{Access}
@@ -24,9 +24,9 @@ use Rattle.mv_flow_code.specs.declared.enclosing.Enclosing.{Enclosing}
 use Rattle.mv_flow_code.specs.FlowCode.{CallLines, Plan, Emitted, in_turn, loop_at, block_at, code_layer, statement_code, all_true, fine_layer, is_fine_statement}
 use Rattle.mv_flow_code.specs.Placed.{Placed}
 use Rattle.mv_flow_code.specs.Runs.{Machine, IsRun}
-use Rattle.mv_flow_code.specs.Flow.{Does}
+use Rattle.mv_flow_code.specs.Flow.{IsWithin, Does}
 use Rattle.mv_flow_code.specs.Laws.{plan_of, has_word, LinesDo, CallsDo}
-use Rattle.mv_flow_code.proofs.Composition.{nothing_does, then_does}
+use Rattle.mv_flow_code.proofs.Composition.{within_within, nothing_does, then_does}
 use Rattle.mv_flow_code.proofs.Control.{break_does, back_does, block_stands, loop_stands, if_stands}
 use Rattle.mv_flow_code.proofs.Leaves.{same_either, same_elements, leaf_does}
 use Rattle.mv_flow_code.proofs.Walk.{placed_split}
@@ -41,8 +41,8 @@ unfolding is_fine_statement
 fine_roll is_fine temps is_scalar x = fold-roll-Stm Bool (fine_layer is_fine temps is_scalar) x
 
 module _ {M : Type 0} (access : Access M) (s : Site) (setting : ir.Setting) (frame : ir.Frame) (fit : IsFit s access setting frame) (machine : Machine M) (ok : IsRun access s machine)
-    (is_fine : Tree → Bool) (fine_trees : (t : Tree) → is_fine t ≡ true → IsFine s setting frame t) (place : ℕ → ℕ) (end budget far most : ℕ) (calls : CallLines)
-    (calls_do : CallsDo access s setting frame machine place end budget far is_fine most calls) where
+    (is_fine : Tree → Bool) (fine_trees : (t : Tree) → is_fine t ≡ true → IsFine s setting frame t) (place : ℕ → ℕ) (end budget far : ℕ) (top : Bound) (calls : CallLines)
+    (calls_do : CallsDo access s setting frame machine place end budget far is_fine top calls) where
   abbrev P : List Line → ℕ → ℕ → Type 0
   P = Placed machine.text place s.entry
 
@@ -59,11 +59,11 @@ module _ {M : Type 0} (access : Access M) (s : Site) (setting : ir.Setting) (fra
   Mean = meaning setting frame
 
   abbrev Lines : List Line → Stm-F Meaning → Type 0
-  Lines = LinesDo access s setting frame machine place end budget far is_fine most
+  Lines = LinesDo access s setting frame machine place end budget far is_fine top
 
   -- code does what something means, at each bound up to the greatest
   abbrev Performs : Emitted → Meaning → Type 0
-  Performs code m = (spare label : ℕ) (around : List Enclosing) (pc next : ℕ) (bound : Bound) → length bound ≤ most → P (code.lines around label) pc next → D spare (length bound) around pc next (m bound)
+  Performs code m = (spare label : ℕ) (around : List Enclosing) (pc next : ℕ) (bound : Bound) → IsWithin bound top → P (code.lines around label) pc next → D spare (length bound) around pc next (m bound)
 
   abbrev StmDoes : Stm → Type 0
   StmDoes t = Fine t ≡ true → Performs (Code t) (Mean t)
@@ -96,31 +96,31 @@ module _ {M : Type 0} (access : Access M) (s : Site) (setting : ir.Setting) (fra
 
   layer : (x : Stm-F Stm) → StmChildren StmDoes x → LayerDoes x
   layer (stm.Set t v) h fine spare label around pc next bound le p =
-      leaf_does access s setting frame machine ok place end budget far is_fine most _ (stm.Set t v)
+      leaf_does access s setting frame machine ok place end budget far is_fine top _ (stm.Set t v)
       (set_done access s setting frame fit end t v (below t (is_fine v) fine) (fine_trees v (and_right (ltb t s.temps) (is_fine v) fine))) (λ bound l. refl) spare around pc next bound le p
   layer (stm.SetGlobal g v) h fine spare label around pc next bound le p =
-      leaf_does access s setting frame machine ok place end budget far is_fine most _ (stm.SetGlobal g v)
+      leaf_does access s setting frame machine ok place end budget far is_fine top _ (stm.SetGlobal g v)
       (set_global_done access s setting frame fit end g v (ltb-true 0 (s.size g) (and_left (has_word s g) (is_fine v) fine)) (fine_trees v (and_right (has_word s g) (is_fine v) fine))) (λ bound l. refl) spare around pc next bound le p
   layer (stm.Divide t o a b) h fine spare label around pc next bound le p =
       let both = and_right (ltb t s.temps) (is_fine a && is_fine b) fine in
-      leaf_does access s setting frame machine ok place end budget far is_fine most _ (stm.Divide t o a b)
+      leaf_does access s setting frame machine ok place end budget far is_fine top _ (stm.Divide t o a b)
       (divide_done access s setting frame fit end t o a b (below t (is_fine a && is_fine b) fine) (fine_trees a (and_left (is_fine a) (is_fine b) both)) (fine_trees b (and_right (is_fine a) (is_fine b) both)))
       (λ bound l. same_either l.world (eqb (V b l) 0) (traps 1 l) (Next (with_temp l t (divide o (V a l) (V b l)))) refl refl) spare around pc next bound le p
   layer (stm.Check a i) h fine spare label around pc next bound le p =
-      leaf_does access s setting frame machine ok place end budget far is_fine most _ (stm.Check a i) (check_done access s setting frame fit end a i (fine_trees i fine))
+      leaf_does access s setting frame machine ok place end budget far is_fine top _ (stm.Check a i) (check_done access s setting frame fit end a i (fine_trees i fine))
       (λ bound l. same_either l.world (ltb (V i l) (length (elements a l))) (Next l) (traps 2 l) refl refl) spare around pc next bound le p
   layer (stm.Read t a i) h fine spare label around pc next bound le p =
-      leaf_does access s setting frame machine ok place end budget far is_fine most _ (stm.Read t a i)
+      leaf_does access s setting frame machine ok place end budget far is_fine top _ (stm.Read t a i)
       (read_done access s setting frame fit end t a i (below t (is_fine i) fine) (fine_trees i (and_right (ltb t s.temps) (is_fine i) fine)))
       (λ bound l. same_either l.world (ltb (V i l) (length (elements a l))) (Next (with_temp l t (slice_index (elements a l) (V i l)))) (traps 2 l) refl refl) spare around pc next bound le p
   layer (stm.Write a i v) h fine spare label around pc next bound le p =
-      leaf_does access s setting frame machine ok place end budget far is_fine most _ (stm.Write a i v)
+      leaf_does access s setting frame machine ok place end budget far is_fine top _ (stm.Write a i v)
       (write_done access s setting frame fit end a i v (fine_trees i (and_left (is_fine i) (is_fine v) fine)) (fine_trees v (and_right (is_fine i) (is_fine v) fine)))
       (λ bound l. same_either l.world (ltb (V i l) (length (elements a l))) (Next (with_elements a l (slice_set (elements a l) (V i l) (V v l)))) (traps 2 l) (same_elements a l _) refl) spare around pc next bound le p
   layer (stm.Zero a) h fine spare label around pc next bound le p =
-      leaf_does access s setting frame machine ok place end budget far is_fine most _ (stm.Zero a) (zero_done access s setting frame fit end a) (λ bound l. refl) spare around pc next bound le p
+      leaf_does access s setting frame machine ok place end budget far is_fine top _ (stm.Zero a) (zero_done access s setting frame fit end a) (λ bound l. refl) spare around pc next bound le p
   layer (stm.Return v) h fine spare label around pc next bound le p =
-      leaf_does access s setting frame machine ok place end budget far is_fine most _ (stm.Return v) (return_done access s setting frame fit end v (fine_trees v fine)) (λ bound l. refl) spare around pc next bound le p
+      leaf_does access s setting frame machine ok place end budget far is_fine top _ (stm.Return v) (return_done access s setting frame fit end v (fine_trees v fine)) (λ bound l. refl) spare around pc next bound le p
   layer (stm.Call r f args) h fine spare label around pc next bound le p = calls_do.call r f args fine spare around pc next bound le p
   layer (stm.Known r k args) h fine spare label around pc next bound le p = calls_do.known r k args fine spare around pc next bound le p
   layer (stm.Break n) h fine spare label around pc next bound le p =
@@ -137,7 +137,7 @@ module _ {M : Type 0} (access : Access M) (s : Site) (setting : ir.Setting) (fra
       (λ spare pc next q. code_does b h.1 (and_right (all_true (map Fine a)) (all_true (map Fine b)) parts) spare (label + 2 + x.labels) around pc next bound le q)
   layer (stm.Loop b) h fine spare label around pc next bound le p =
       loop_stands access s setting frame fit machine ok place end budget far label spare pc next around bound (map Mean b) ((in_turn (map Code b)).lines (loop_at label ∷ around) (label + 2)) p
-      (λ spare under start stop le' q. code_does b h fine spare (label + 2) (loop_at label ∷ around) start stop under (omega (arith, le, le')) q)
+      (λ spare under start stop le' q. code_does b h fine spare (label + 2) (loop_at label ∷ around) start stop under (within_within under bound top le' le) q)
   layer (stm.Block b) h fine spare label around pc next bound le p =
       block_stands access s setting frame fit machine ok place end budget far label spare (length bound) pc next around bound (map Mean b) ((in_turn (map Code b)).lines (block_at label ∷ around) (label + 1)) p
       (λ stop q. code_does b h fine spare (label + 1) (block_at label ∷ around) pc stop bound le q)

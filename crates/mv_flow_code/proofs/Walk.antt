@@ -1,10 +1,11 @@
 -- A run walks where lines lead.
-use Rattle.std.proofs.Common.{◌≡◌, inl, inr, ⊎_elim, ℕ, ◌+◌, ◌<◌, ◌≤◌, true, false, List, [], ◌∷◌, ◌++◌, length, Option, refl, sym, ap, ◌∙◌, subst, arith}
+use Rattle.std.proofs.Common.{◌≡◌, inl, inr, ⊎_elim, ℕ, ◌+◌, ◌<◌, ◌≤◌, true, false, List, [], ◌∷◌, ◌++◌, length, refl, sym, ap, ◌∙◌, subst, arith}
 use Rattle.std.proofs.lemmas.Bool.{cases_eq}
 use Rattle.mv_num.specs.Words.{add}
 use Rattle.mv_isa.specs.declared.labelled.Line.{Line}
 use Rattle.mv_isa.specs.declared.labelled.Line.TheVariants.{Word, Label, Jump, Branch, Entry, Slot}
 use Rattle.mv_isa.specs.Execution.{Access, Goes, reg, put, step}
+use Rattle.mv_isa.specs.Standing.{LineStands}
 use Rattle.mv_isa.specs.LineSteps.{branch_holds, named, BranchRuns, LineRuns}
 use Rattle.mv_isa.proofs.LineSteps.{line_runs}
 use Rattle.mv_ir.specs.World.{World}
@@ -12,7 +13,7 @@ use Rattle.mv_ir.specs.Outcome.{State}
 use Rattle.mv_statement_code.specs.Frames.{Site, Shows}
 use Rattle.mv_statement_code.specs.Leads.{Exit, Past, To, Writes, Stays, Leads}
 use Rattle.mv_statement_code.proofs.TreesFirst.{add_small}
-use Rattle.mv_flow_code.specs.Placed.{IsPlaced, Placed}
+use Rattle.mv_flow_code.specs.Placed.{Text, IsPlaced, Placed}
 use Rattle.mv_flow_code.specs.Runs.{Spot, Machine, outside, Calm, LeadsOn, IsRun}
 use Rattle.mv_flow_code.specs.Flow.{SoundBefore, Here}
 
@@ -28,7 +29,7 @@ unfolding put
 put_zero regs v = refl
 
 -- the lines of a list stand where those of its parts do
-pub placed_split : (text : ℕ → Option ℕ) (place entry : ℕ → ℕ) (a b : List Line) (at end : ℕ) → Placed text place entry (a ++ b) at end
+pub placed_split : (text : Text) (place entry : ℕ → ℕ) (a b : List Line) (at end : ℕ) → Placed text place entry (a ++ b) at end
     → (mid : ℕ) × Placed text place entry a at mid × Placed text place entry b mid end
 placed_split text place entry [] b at end h = (at, refl, h)
 placed_split text place entry (x ∷ a) b at end h = let r = placed_split text place entry a b h.0 end h.2 in (r.0, (h.0, h.1, r.1), r.2)
@@ -50,7 +51,7 @@ module _ {M : Type 0} (access : Access M) (s : Site) (machine : Machine M) (ok :
   stands_at w pc to regs m i e h = subst (λ z. Stands w z regs m i) e h
 
   -- one step
-  pub steps_on : (w : World) (pc to : ℕ) (regs regs' : List ℕ) (m m' : M) (i : ℕ) → step access (machine.text pc) regs pc m ≡ Goes regs' to m' → Writes access s m m'
+  pub steps_on : (w : World) (pc to : ℕ) (regs regs' : List ℕ) (m m' : M) (i : ℕ) → step access (machine.text.word pc) regs pc m ≡ Goes regs' to m' → Writes access s m m'
       → Stands w pc regs m i → Stands w to regs' m' (i + 1)
   steps_on w pc to regs regs' m m' i e writes h = record {
     is = ok.goes i w (spot to regs' m') leads;
@@ -61,7 +62,7 @@ module _ {M : Type 0} (access : Access M) (s : Site) (machine : Machine M) (ok :
       leads : LeadsOn access s machine i w (spot to regs' m')
       leads = record {
         calm = subst (λ (x : Spot M). Calm access s machine w x.memory) (sym h.is) h.calm;
-        steps = subst (λ (x : Spot M). step access (machine.text x.pc) x.regs x.pc x.memory ≡ Goes regs' to m') (sym h.is) e;
+        steps = subst (λ (x : Spot M). step access (machine.text.word x.pc) x.regs x.pc x.memory ≡ Goes regs' to m') (sym h.is) e;
         writes = subst (λ (x : Spot M). Writes access s x.memory m') (sym h.is) writes;
       }
 
@@ -69,9 +70,9 @@ module _ {M : Type 0} (access : Access M) (s : Site) (machine : Machine M) (ok :
   has_registers w pc regs m i h = subst (λ (x : Spot M). length x.regs ≡ 32) h.is (ok.registers i)
 
   -- what a line does from where the run stands
-  pub line_does : (w : World) (pc mid : ℕ) (regs : List ℕ) (m : M) (i : ℕ) (line : Line) (p : IsPlaced machine.text place s.entry pc mid line) → Stands w pc regs m i
-      → LineRuns access machine.text m pc mid (named place s.entry pc line) regs line
-  line_does w pc mid regs m i line p h = line_runs access m machine.text place s.entry pc mid line p.stands p.fits p.here p.there regs (has_registers w pc regs m i h)
+  pub line_does : (w : World) (pc mid : ℕ) (regs : List ℕ) (m : M) (i : ℕ) (line : Line) → LineStands machine.text.word place s.entry pc mid line → (p : IsPlaced machine.text place s.entry pc mid line) → Stands w pc regs m i
+      → LineRuns access machine.text.word m pc mid (named place s.entry pc line) regs line
+  line_does w pc mid regs m i line stands p h = line_runs access m machine.text.word place s.entry pc mid line stands p.fits p.here p.there regs (has_registers w pc regs m i h)
 
   abbrev target : Exit → ℕ → ℕ
   target Past next = next
@@ -101,17 +102,17 @@ module _ {M : Type 0} (access : Access M) (s : Site) (machine : Machine M) (ok :
       → Stands w (place l) regs m (i + 1)
   jump_stands w pc mid rd l regs m i zero p a =
       let same : put regs rd mid ≡ regs = ap (λ r. put regs r mid) zero ∙ put_zero regs mid in
-      steps_on w pc (place l) regs regs m m i (line_does w pc mid regs m i (Jump rd l) p a ∙ ap (λ r. Goes r (place l) m) same) (inl refl) a
+      steps_on w pc (place l) regs regs m m i (line_does w pc mid regs m i (Jump rd l) p.stands p a ∙ ap (λ r. Goes r (place l) m) same) (inl refl) a
 
   -- a branch that isn't taken
   pub branch_passes : (w : World) (pc mid funct3 rs1 rs2 l : ℕ) (regs : List ℕ) (m : M) (i : ℕ) → branch_holds funct3 (reg regs rs1) (reg regs rs2) ≡ false
       → IsPlaced machine.text place s.entry pc mid (Branch funct3 rs1 rs2 l) → Stands w pc regs m i → Stands w mid regs m (i + 1)
   branch_passes w pc mid funct3 rs1 rs2 l regs m i passes p a =
       steps_on w pc mid regs regs m m i
-      (subst (λ b. BranchRuns access machine.text m b pc mid (place l) regs) passes (line_does w pc mid regs m i (Branch funct3 rs1 rs2 l) p a)) (inl refl) a
+      (subst (λ b. BranchRuns access machine.text.word m b pc mid (place l) regs) passes (line_does w pc mid regs m i (Branch funct3 rs1 rs2 l) p.stands p a)) (inl refl) a
 
   -- a branch that is taken, in one step or in two
-  pub taken : (w : World) (pc mid to : ℕ) (regs : List ℕ) (m : M) (i : ℕ) → BranchRuns access machine.text m true pc mid to regs → Stands w pc regs m i → Reaches w to regs m i 2
+  pub taken : (w : World) (pc mid to : ℕ) (regs : List ℕ) (m : M) (i : ℕ) → BranchRuns access machine.text.word m true pc mid to regs → Stands w pc regs m i → Reaches w to regs m i 2
   taken w pc mid to regs m i (inl e) h = reached w to regs m i (i + 1) 2 (omega arith) (omega arith) (steps_on w pc to regs regs m m i e (inl refl) h)
   taken w pc mid to regs m i (inr e) h =
       reached w to regs m i (i + 1 + 1) 2 (omega arith) (omega arith)
@@ -124,7 +125,7 @@ module _ {M : Type 0} (access : Access M) (s : Site) (machine : Machine M) (ok :
   leads_walk (Word x ∷ ls) n w pc next regs m exit regs' m' i p h a =
       let here = p.1.here in
       let on : add pc 4 ≡ p.0 = add_small pc 4 (omega (arith, here.1)) ∙ sym p.1.stands.1 in
-      let e = line_does w pc p.0 regs m i (Word x) p.1 a ∙ h.4.0 pc ∙ ap (λ z. Goes h.2 z h.3) on in
+      let e = line_does w pc p.0 regs m i (Word x) p.1.stands p.1 a ∙ h.4.0 pc ∙ ap (λ z. Goes h.2 z h.3) on in
       let b = steps_on w pc p.0 regs h.2 m h.3 i e h.4.1 a in
       reaches_more w (target exit next) regs' m' (i + 1) i h.0 n (omega arith) (omega (arith, h.1)) (leads_walk ls h.0 w p.0 next h.2 h.3 exit regs' m' (i + 1) p.2 h.5 b)
   leads_walk (Label l ∷ ls) n w pc next regs m exit regs' m' i p h a =
@@ -132,13 +133,13 @@ module _ {M : Type 0} (access : Access M) (s : Site) (machine : Machine M) (ok :
   leads_walk (Jump rd l ∷ ls) n w pc next regs m exit regs' m' i p h a =
       ended w next exit (To l) regs regs' m m' i n h.2 h.3 (reached w (place l) regs m i (i + 1) n (omega arith) (omega (arith, h.1)) (jump_stands w pc p.0 rd l regs m i h.0 p.1 a))
   leads_walk (Branch funct3 rs1 rs2 l ∷ ls) n w pc next regs m exit regs' m' i p (inl h) a =
-      let e = subst (λ b. BranchRuns access machine.text m b pc p.0 (place l) regs) h.0 (line_does w pc p.0 regs m i (Branch funct3 rs1 rs2 l) p.1 a) in
+      let e = subst (λ b. BranchRuns access machine.text.word m b pc p.0 (place l) regs) h.0 (line_does w pc p.0 regs m i (Branch funct3 rs1 rs2 l) p.1.stands p.1 a) in
       ended w next exit (To l) regs regs' m m' i n h.2 h.3 (reaches_more w (place l) regs m i i 2 n (omega arith) (omega (arith, h.1)) (taken w pc p.0 (place l) regs m i e a))
   leads_walk (Branch funct3 rs1 rs2 l ∷ ls) n w pc next regs m exit regs' m' i p (inr h) a =
       let b = branch_passes w pc p.0 funct3 rs1 rs2 l regs m i h.0 p.1 a in
       reaches_more w (target exit next) regs' m' (i + 1) i h.1 n (omega arith) (omega (arith, h.2)) (leads_walk ls h.1 w p.0 next regs m exit regs' m' (i + 1) p.2 h.3 b)
   leads_walk (Entry rd f ∷ ls) n w pc next regs m exit regs' m' i p h a =
-      let e = line_does w pc p.0 regs m i (Entry rd f) p.1 a in
+      let e = line_does w pc p.0 regs m i (Entry rd f) p.1.stands p.1 a in
       let b = steps_on w pc (pc + 4) regs e.0 m m i e.1 (inl refl) a in
       let c = steps_on w (pc + 4) p.0 e.0 (put regs rd (s.entry f)) m m (i + 1) e.2 (inl refl) b in
       reaches_more w (target exit next) regs' m' (i + 1 + 1) i h.0 n (omega arith) (omega (arith, h.1)) (leads_walk ls h.0 w p.0 next (put regs rd (s.entry f)) m exit regs' m' (i + 1 + 1) p.2 h.2 c)

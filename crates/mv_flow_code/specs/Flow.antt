@@ -1,13 +1,18 @@
 -- What it is for a time of a run to stand at a place with what the statements have there, and for a stretch of code to do what they mean.
-use Rattle.std.specs.Prelude.{ℕ, ◌≡◌, ◌+◌, ◌<◌, ◌≤◌, true, List, Some, None}
+use Rattle.std.specs.Prelude.{ℕ, ◌≡◌, ◌+◌, ◌<◌, ◌≤◌, ◌⊎◌, true, List, [], ◌∷◌, Some, None}
 use Rattle.mv_isa.specs.Execution.{Access, reg}
 use Rattle.mv_ir.specs.World.{World}
-use Rattle.mv_ir.specs.Outcome.{State, End, Returned, Trapped, More, Stuck, Outcome, Next, Leaves, Restarts, Ends, Run}
+use Rattle.mv_ir.specs.Outcome.{State, End, Returned, Trapped, More, Stuck, Outcome, Next, Leaves, Restarts, Ends, Run, Bound}
 use Rattle.mv_statement_code.specs.StatementCode.{first, trap_label}
 use Rattle.mv_statement_code.specs.Frames.{Site, Shows}
 use Rattle.mv_flow_code.specs.declared.enclosing.Enclosing.{Enclosing}
 use Rattle.mv_flow_code.specs.FlowCode.{enclosing_at}
 use Rattle.mv_flow_code.specs.Runs.{Machine, Calm}
+
+-- a bound, or one below it
+abbrev pub IsWithin : Bound → Bound → Type 0
+IsWithin bound [] = bound ≡ []
+IsWithin bound (calls ∷ below) = (bound ≡ calls ∷ below) ⊎ IsWithin bound below
 
 -- `place` is where each label stands, `end` the label of the end of the function. So many instructions are paid for in all, the budget; and at least
 -- `far` of them are asked for where the bound is used up.

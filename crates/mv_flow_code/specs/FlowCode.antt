@@ -1,6 +1,7 @@
 -- The code of statements within one another. Its labels are counted on from a first free one.
-use Rattle.std.specs.Prelude.{ℕ, zero, suc, ◌+◌, ◌&&◌, Bool, true, ltb, List, [], ◌∷◌, ◌++◌, map, Option, Some, None}
+use Rattle.std.specs.Prelude.{ℕ, zero, suc, ◌+◌, ◌^◌, ◌&&◌, Bool, true, eqb, ltb, length, List, [], ◌∷◌, ◌++◌, map, Option, Some, None}
 use Rattle.mv_ast.specs.declared.program.Known.{Known}
+use Rattle.mv_ast.specs.declared.program.Known.TheVariants as known
 use Rattle.mv_isa.specs.declared.labelled.Line.{Line}
 use Rattle.mv_isa.specs.declared.labelled.Line.TheVariants.{Label, Jump, Branch}
 use Rattle.mv_ir.specs.declared.tree.Tree.{Tree}
@@ -12,6 +13,7 @@ use Rattle.mv_ir.specs.declared.stm.Stm.TheOpen.{Stm-F}
 use Rattle.mv_ir.specs.declared.stm.Stm.TheOpen as stm
 use Rattle.mv_ir.specs.declared.stm.Stm.TheFolds.{fold-Stm}
 use Rattle.mv_ir.specs.Measures.{callee_trees}
+use Rattle.mv_ir.specs.WellFormed.{known_arguments}
 use Rattle.mv_tree_code.specs.TreeCode.{tree_lines}
 use Rattle.mv_statement_code.specs.declared.elements.Home.{Home}
 use Rattle.mv_statement_code.specs.declared.elements.Home.TheVariants as place_at
@@ -150,11 +152,17 @@ abbrev pub all_true : List Bool → Bool
 all_true [] = true
 all_true (b ∷ bs) = b && all_true bs
 
--- Trees are fine by a test, each temporary that is written is below a number, and each global that is written as a scalar may be.
+-- Trees are fine by a test, each temporary that is written is below a number, and each global that is written as a scalar may be. A call has at most
+-- eight arguments, and a known function its own number.
 module _ (is_fine : Tree → Bool) (temps : ℕ) (is_scalar : ℕ → Bool) where
   abbrev pub fine_target : Option ℕ → Bool
   fine_target None = true
   fine_target (Some t) = ltb t temps
+
+  -- an order's numbers are a byte and a word
+  abbrev pub fine_known : Known → Bool
+  fine_known (known.Plan code index) = ltb code 256 && ltb index (2 ^ 32)
+  fine_known _ = true
 
   abbrev pub fine_layer : Stm-F Bool → Bool
   fine_layer (stm.Set t v) = ltb t temps && is_fine v
@@ -169,8 +177,8 @@ module _ (is_fine : Tree → Bool) (temps : ℕ) (is_scalar : ℕ → Bool) wher
   fine_layer (stm.Block b) = all_true b
   fine_layer (stm.Break n) = true
   fine_layer (stm.Back n) = true
-  fine_layer (stm.Call r f args) = fine_target r && (all_true (map is_fine (callee_trees f)) && all_true (map is_fine args))
-  fine_layer (stm.Known r k args) = fine_target r && all_true (map is_fine args)
+  fine_layer (stm.Call r f args) = ltb (length args) 9 && (fine_target r && (all_true (map is_fine (callee_trees f)) && all_true (map is_fine args)))
+  fine_layer (stm.Known r k args) = eqb (length args) (known_arguments k) && (fine_known k && (fine_target r && all_true (map is_fine args)))
   fine_layer (stm.Return v) = is_fine v
 
   unfoldable pub is_fine_statement : Stm → Bool

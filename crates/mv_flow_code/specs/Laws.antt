@@ -1,5 +1,5 @@
 -- What the code of statements promises: it does what they mean, at every bound.
-use Rattle.std.specs.Prelude.{ℕ, ◌≡◌, ◌≤◌, Bool, true, ltb, List, length, Option}
+use Rattle.std.specs.Prelude.{ℕ, ◌≡◌, Bool, true, ltb, List, length, Option}
 use Rattle.mv_ast.specs.declared.program.Known.{Known}
 use Rattle.mv_isa.specs.declared.labelled.Line.{Line}
 use Rattle.mv_isa.specs.Execution.{Access}
@@ -16,7 +16,7 @@ use Rattle.mv_flow_code.specs.declared.enclosing.Enclosing.{Enclosing}
 use Rattle.mv_flow_code.specs.FlowCode.{CallLines, Plan, code_of, fine_layer, are_fine}
 use Rattle.mv_flow_code.specs.Placed.{Placed}
 use Rattle.mv_flow_code.specs.Runs.{Machine, IsRun}
-use Rattle.mv_flow_code.specs.Flow.{Does}
+use Rattle.mv_flow_code.specs.Flow.{IsWithin, Does}
 
 -- what code in a frame knows
 abbrev pub plan_of : Site → ℕ → CallLines → Plan
@@ -27,11 +27,11 @@ abbrev pub has_word : Site → ℕ → Bool
 has_word s g = ltb 0 (s.size g)
 
 module _ {M : Type 0} (access : Access M) (s : Site) (setting : ir.Setting) (frame : ir.Frame) (machine : Machine M) (place : ℕ → ℕ)
-    (end budget far : ℕ) (is_fine : Tree → Bool) (most : ℕ) where
-  -- wherever lines stand, they do what a statement means, at each bound up to the greatest
+    (end budget far : ℕ) (is_fine : Tree → Bool) (top : Bound) where
+  -- wherever lines stand, they do what a statement means, at each bound from the highest down
   abbrev pub LinesDo : List Line → Stm-F Meaning → Type 0
   LinesDo lines x =
-      (spare : ℕ) (around : List Enclosing) (pc next : ℕ) (bound : Bound) → length bound ≤ most → Placed machine.text place s.entry lines pc next →
+      (spare : ℕ) (around : List Enclosing) (pc next : ℕ) (bound : Bound) → IsWithin bound top → Placed machine.text place s.entry lines pc next →
       Does access s machine place end budget far spare (length bound) around pc next (statement setting frame x bound)
 
   -- the code of calls does what they mean
@@ -44,7 +44,7 @@ module _ {M : Type 0} (access : Access M) (s : Site) (setting : ir.Setting) (fra
   -- the code of statements does what they mean, wherever it stands
   abbrev pub CodeDoes : CallLines → List Stm → Type 0
   CodeDoes calls code =
-      (spare label : ℕ) (around : List Enclosing) (pc next : ℕ) (bound : Bound) → length bound ≤ most →
+      (spare label : ℕ) (around : List Enclosing) (pc next : ℕ) (bound : Bound) → IsWithin bound top →
       Placed machine.text place s.entry ((code_of (plan_of s end calls) code).lines around label) pc next →
       Does access s machine place end budget far spare (length bound) around pc next (code_meaning setting frame code bound)
 
@@ -54,7 +54,7 @@ FlowIsDone M =
     (access : Access M) (s : Site) (setting : ir.Setting) (frame : ir.Frame) → IsFit s access setting frame →
     (machine : Machine M) → IsRun access s machine →
     (is_fine : Tree → Bool) → ((t : Tree) → is_fine t ≡ true → IsFine s setting frame t) →
-    (place : ℕ → ℕ) (end budget far most : ℕ) (calls : CallLines) →
-    CallsDo access s setting frame machine place end budget far is_fine most calls →
+    (place : ℕ → ℕ) (end budget far : ℕ) (top : Bound) (calls : CallLines) →
+    CallsDo access s setting frame machine place end budget far is_fine top calls →
     (code : List Stm) → are_fine is_fine s.temps (has_word s) code ≡ true →
-    CodeDoes access s setting frame machine place end budget far is_fine most calls code
+    CodeDoes access s setting frame machine place end budget far is_fine top calls code

@@ -1,9 +1,10 @@
 -- Runs of a machine on which code of a frame stands.
-use Rattle.std.specs.Prelude.{ℕ, ◌≡◌, ◌+◌, Bool, true, List, [], length, Option}
+use Rattle.std.specs.Prelude.{ℕ, ◌≡◌, ◌+◌, Bool, true, List, [], length}
 use Rattle.mv_isa.specs.Execution.{Access, Goes, step}
 use Rattle.mv_ir.specs.World.{World}
 use Rattle.mv_statement_code.specs.Frames.{Site}
 use Rattle.mv_statement_code.specs.Leads.{Writes}
+use Rattle.mv_flow_code.specs.Placed.{Text}
 
 -- a machine between two instructions
 pub record Spot (M : Type 0) : Type 0 where
@@ -11,11 +12,11 @@ pub record Spot (M : Type 0) : Type 0 where
   pub pc : ℕ
   pub memory : M
 
--- A run: where it stands after each number of instructions. `text` is the word at each address of text that is never patched. `is_calm` tells that
+-- A run: where it stands after each number of instructions. `is_calm` tells that
 -- memory, and all else besides the registers, is as a world says apart from the globals, and that no commit is under way. `is_sound` is whatever is to
 -- hold before each instruction.
 pub record Machine (M : Type 0) : Type 0 where
-  pub text : ℕ → Option ℕ
+  pub text : Text
   pub is_calm : World → M → Bool
   pub is_sound : Spot M → Bool
   pub run : ℕ → Spot M
@@ -31,7 +32,7 @@ module _ {M : Type 0} (access : Access M) (s : Site) (machine : Machine M) where
   -- a time of the run is calm, and the word of text leads from there to a place, storing at most to a cell of the frame's own
   pub record LeadsOn (i : ℕ) (w : World) (next : Spot M) : Type 0 where
     pub calm : Calm w (machine.run i).memory
-    pub steps : step access (machine.text (machine.run i).pc) (machine.run i).regs (machine.run i).pc (machine.run i).memory ≡ Goes next.regs next.pc next.memory
+    pub steps : step access (machine.text.word (machine.run i).pc) (machine.run i).regs (machine.run i).pc (machine.run i).memory ≡ Goes next.regs next.pc next.memory
     pub writes : Writes access s (machine.run i).memory next.memory
 
   -- The run takes such steps, each from a sound place; it has 32 registers; and it stays calm.

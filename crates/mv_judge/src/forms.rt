@@ -1,6 +1,6 @@
 // The forms of an expression: what a node is, given what its parts are, and the rules that it breaks.
 
-ghost use Rattle.std.specs.Prelude.{◌≡◌, IfOk};
+ghost use Rattle.std.specs.Prelude.{◌≡◌, IfOk, Some};
 ghost use Rattle.mv_ast.specs.declared.unit.What.TheOpen as what;
 ghost use Rattle.mv_judge.specs.Judged.{IsJudged};
 ghost use Rattle.mv_judge.specs.Breaches.{by_itself};
@@ -109,13 +109,17 @@ fn unary_seen(alloc: Global, used: Use, op: u8, operand: Seen) -> Result<Seen, A
     ensures { IfOk result (λ r. r ≡ unary_seen used op operand) }
 {
     if op == ADDRESS {
-        return Ok(address_of(used, operand));
+        let seen = address_of(used, operand);
+        return Ok(seen);
     }
     let value = value_of(operand);
     if op == INDIRECTION {
-        return Ok(Seen::Designator(value));
+        let seen = Seen::Designator(value);
+        return Ok(seen);
     }
-    Ok(Seen::Value(unary_of(alloc, op, value)?))
+    let value = unary_of(alloc, op, value)?;
+    let seen = Seen::Value(value);
+    Ok(seen)
 }
 
 pub fn unary(
@@ -153,7 +157,8 @@ pub fn binary(
     let left = value_of(left);
     let right = value_of(right);
     let operands = !takes_two(op, &left, &right);
-    let seen = Seen::Value(binary_of(alloc, op, left, right)?);
+    let value = binary_of(alloc, op, left, right)?;
+    let seen = Seen::Value(value);
     let breaches = Breaches {
         operands,
         ..breaches_of_use(used, &seen)
@@ -176,7 +181,8 @@ pub fn choose(
     let first = value_of(first);
     let second = value_of(second);
     let operands = !(is_scalar(test.ctype) && meet(&first, &second));
-    let seen = Seen::Value(choose_of(alloc, test, first, second)?);
+    let value = choose_of(alloc, test, first, second)?;
+    let seen = Seen::Value(value);
     let breaches = Breaches {
         operands,
         ..breaches_of_use(used, &seen)
@@ -201,7 +207,8 @@ pub fn assign(
     let assigned = !is_assignable(&left);
     let converted = op == ASSIGNMENT && !converts(&right, stored);
     let switch = scope.attributed && switch_of(&left).is_some();
-    let seen = Seen::Value(assign_of(alloc, op, object_of(left), right)?);
+    let value = assign_of(alloc, op, object_of(left), right)?;
+    let seen = Seen::Value(value);
     let breaches = Breaches {
         operands,
         assigned,
@@ -225,7 +232,8 @@ pub fn before(
     let operands = !is_integer(type_of(&operand));
     let assigned = !is_assignable(&operand);
     let switch = scope.attributed && switch_of(&operand).is_some();
-    let seen = Seen::Value(before_of(alloc, up, object_of(operand))?);
+    let value = before_of(alloc, up, object_of(operand))?;
+    let seen = Seen::Value(value);
     let breaches = Breaches {
         operands,
         assigned,
@@ -262,25 +270,43 @@ fn element_at(alloc: Global, storage: Storage, index: Expr) -> Result<Target, Al
 {
     let index = Boxed::new(alloc, index)?;
     match storage {
-        Storage::Global(g) => Ok(Target::GlobalAt(g, index)),
-        Storage::Local(l) => Ok(Target::LocalAt(l, index)),
+        Storage::Global(g) => {
+            let target = Target::GlobalAt(g, index);
+            Ok(target)
+        }
+        Storage::Local(l) => {
+            let target = Target::LocalAt(l, index);
+            Ok(target)
+        }
     }
+}
+
+// The element of an array at an index.
+fn element_in(alloc: Global, array: Elements, index: Expr) -> Result<Seen, AllocError>
+    ensures { IfOk result (λ r. r ≡ element_of (Some array) index) }
+{
+    let index = promoted(alloc, index)?;
+    let target = element_at(alloc, array.storage, index)?;
+    let element = Object {
+        target,
+        ctype: array.ctype,
+        fixed: array.fixed,
+        switch: None,
+    };
+    let seen = Seen::Object(element);
+    Ok(seen)
 }
 
 fn element_of(alloc: Global, array: Option<Elements>, index: Expr) -> Result<Seen, AllocError>
     ensures { IfOk result (λ r. r ≡ element_of array index) }
 {
     match array {
-        None => Ok(Seen::Value(no_value())),
-        Some(elements) => {
-            let index = promoted(alloc, index)?;
-            Ok(Seen::Object(Object {
-                target: element_at(alloc, elements.storage, index)?,
-                ctype: elements.ctype,
-                fixed: elements.fixed,
-                switch: None,
-            }))
+        None => {
+            drop(index);
+            let seen = Seen::Value(no_value());
+            Ok(seen)
         }
+        Some(elements) => element_in(alloc, elements, index),
     }
 }
 
@@ -328,7 +354,8 @@ pub fn cast(
 {
     let operand = value_of(operand);
     let misplaced = is_wrong_cast(used, to, operand.ctype);
-    let seen = Seen::Value(converted_to(alloc, to, operand)?);
+    let value = converted_to(alloc, to, operand)?;
+    let seen = Seen::Value(value);
     let breaches = Breaches {
         misplaced,
         ..breaches_of_use(used, &seen)

@@ -10,6 +10,7 @@ use crate::seen::{Object, no_value, number};
 use mv_ast::program::{CType, Expr, Form};
 use mv_num::boxed::Boxed;
 use mv_num::kind::Kind;
+use mv_num::results::both;
 use mv_scope::constant::converts;
 use mv_scope::convert::{converted_to, is_integer, is_pointer, promoted, promotion, usual};
 use std::alloc::{AllocError, Global};
@@ -144,18 +145,20 @@ pub fn unary_of(alloc: Global, op: u8, a: Expr) -> Result<Expr, AllocError>
 {
     if op == NOT {
         let a = Boxed::new(alloc, a)?;
-        return Ok(Expr {
+        let value = Expr {
             ctype: INT,
             what: Form::Unary(op, a),
-        });
+        };
+        return Ok(value);
     }
     let ctype = promotion(a.ctype);
     let a = promoted(alloc, a)?;
     let a = Boxed::new(alloc, a)?;
-    Ok(Expr {
+    let value = Expr {
         ctype,
         what: Form::Unary(op, a),
-    })
+    };
+    Ok(value)
 }
 
 // An expression converted to a type, on the heap.
@@ -176,13 +179,8 @@ fn converted_boxes(
 ) -> Result<(Boxed<Expr>, Boxed<Expr>), AllocError>
     ensures { IfOk result (λ r. (r.0 ≡ converted_to s a) × (r.1 ≡ converted_to t b)) }
 {
-    match converted_box(alloc, s, a) {
-        Ok(a) => Ok((a, converted_box(alloc, t, b)?)),
-        Err(e) => {
-            drop(b);
-            Err(e)
-        }
-    }
+    let (b, a) = both(b, converted_box(alloc, s, a))?;
+    both(a, converted_box(alloc, t, b))
 }
 
 // An operator that computes with operands of two types.
@@ -197,43 +195,41 @@ fn computed_of(
     ensures { IfOk result (λ r. r ≡ computed_of op s t a b) }
 {
     let (a, b) = converted_boxes(alloc, s, t, a, b)?;
-    Ok(Expr {
+    let value = Expr {
         ctype: result_type(op, s),
         what: Form::Binary(op, a, b),
-    })
+    };
+    Ok(value)
 }
 
 // Two expressions on the heap.
 fn boxes(alloc: Global, a: Expr, b: Expr) -> Result<(Boxed<Expr>, Boxed<Expr>), AllocError>
     ensures { IfOk result (λ r. (r.0 ≡ a) × (r.1 ≡ b)) }
 {
-    match Boxed::new(alloc, a) {
-        Ok(a) => Ok((a, Boxed::new(alloc, b)?)),
-        Err(e) => {
-            drop(b);
-            Err(e)
-        }
-    }
+    let (b, a) = both(b, Boxed::new(alloc, a))?;
+    both(a, Boxed::new(alloc, b))
 }
 
 fn both_of(alloc: Global, a: Expr, b: Expr) -> Result<Expr, AllocError>
     ensures { IfOk result (λ r. r ≡ typed int (form.Both a b)) }
 {
     let (a, b) = boxes(alloc, a, b)?;
-    Ok(Expr {
+    let value = Expr {
         ctype: INT,
         what: Form::Both(a, b),
-    })
+    };
+    Ok(value)
 }
 
 fn either_of(alloc: Global, a: Expr, b: Expr) -> Result<Expr, AllocError>
     ensures { IfOk result (λ r. r ≡ typed int (form.Either a b)) }
 {
     let (a, b) = boxes(alloc, a, b)?;
-    Ok(Expr {
+    let value = Expr {
         ctype: INT,
         what: Form::Either(a, b),
-    })
+    };
+    Ok(value)
 }
 
 /// The value of an operator on two operands.
@@ -258,16 +254,13 @@ pub fn choose_of(alloc: Global, test: Expr, a: Expr, b: Expr) -> Result<Expr, Al
     ensures { IfOk result (λ r. r ≡ choose_of test a b) }
 {
     let ctype = common_type(a.ctype, b.ctype);
-    match converted_boxes(alloc, ctype, ctype, a, b) {
-        Ok((a, b)) => Ok(Expr {
-            ctype,
-            what: Form::Choose(Boxed::new(alloc, test)?, a, b),
-        }),
-        Err(e) => {
-            drop(test);
-            Err(e)
-        }
-    }
+    let (test, arms) = both(test, converted_boxes(alloc, ctype, ctype, a, b))?;
+    let ((a, b), test) = both(arms, Boxed::new(alloc, test))?;
+    let value = Expr {
+        ctype,
+        what: Form::Choose(test, a, b),
+    };
+    Ok(value)
 }
 
 // A compound assignment with an operator.
@@ -277,11 +270,12 @@ fn change_of(alloc: Global, op: u8, object: Object, b: Expr) -> Result<Expr, All
 {
     let s = left_type(op, object.ctype, b.ctype);
     let t = right_type(op, object.ctype, b.ctype);
-    let b = converted_box(alloc, t, b)?;
-    Ok(Expr {
+    let (object, b) = both(object, converted_box(alloc, t, b))?;
+    let value = Expr {
         ctype: object.ctype,
         what: Form::Change(op, s, object.target, b),
-    })
+    };
+    Ok(value)
 }
 
 #[tactic(auto, unfolding(crate::specs::Found::assign_to))]
@@ -289,11 +283,13 @@ fn assign_to(alloc: Global, op: u8, object: Object, b: Expr) -> Result<Expr, All
     ensures { IfOk result (λ r. r ≡ assign_to op object b) }
 {
     if op == ASSIGNMENT {
-        let b = converted_box(alloc, object.ctype, b)?;
-        Ok(Expr {
-            ctype: object.ctype,
+        let ctype = object.ctype;
+        let (object, b) = both(object, converted_box(alloc, ctype, b))?;
+        let value = Expr {
+            ctype,
             what: Form::Set(object.target, b),
-        })
+        };
+        Ok(value)
     } else {
         change_of(alloc, compound_operator(op), object, b)
     }

@@ -23,17 +23,17 @@ register_zero : temp_register 0 ≡ 9
 unfolding temp_register
 register_zero = refl
 
-one_register : (t u : ℕ) → t ≢ u → temp_register t ≡ temp_register u → ⊥
+pub one_register : (t u : ℕ) → t ≢ u → temp_register t ≡ temp_register u → ⊥
 one_register zero zero ne e = ne refl
 one_register zero (suc u) ne e = omega (arith, register_zero, register_is (suc u) (omega arith), e)
 one_register (suc t) zero ne e = omega (arith, register_zero, register_is (suc t) (omega arith), e)
 one_register (suc t) (suc u) ne e = ne (omega (arith, register_is (suc t) (omega arith), register_is (suc u) (omega arith), e))
 
-register_low : (t : ℕ) → 9 ≤ temp_register t
+pub register_low : (t : ℕ) → 9 ≤ temp_register t
 register_low zero = omega (arith, register_zero)
 register_low (suc t) = omega (arith, register_is (suc t) (omega arith))
 
-register_high : (t : ℕ) → t < 9 → temp_register t < 26
+pub register_high : (t : ℕ) → t < 9 → temp_register t < 26
 register_high zero h = omega (arith, register_zero)
 register_high (suc t) h = omega (arith, register_is (suc t) (omega arith), h)
 
@@ -138,6 +138,7 @@ module _ (s : Site) where
       sizes = f.sizes;
       low_words = f.low_words;
       in_register = λ t p q. h.others (temp_register t) (frame_outside lo hi (temp_register t) scratch (temp_in_frame t q)) ∙ f.in_register t p q;
+      unused = λ t p q. h.others (temp_register t) (frame_outside lo hi (temp_register t) scratch (temp_in_frame t q)) ∙ f.unused t p q;
       words = f.words;
       in_memory = f.in_memory;
     }
@@ -151,6 +152,7 @@ module _ (s : Site) where
       sizes = λ a. ap length (elements_temp a l t v) ∙ f.sizes a;
       low_words = λ u p q. ⊎_elim (λ (e : u ≡ t). rw e (rw (now) b)) (λ (ne : u ≡ t → ⊥). rw (get_or-set_other l.temps t u v 0 ne) (f.low_words u p q)) (cases_eq u t);
       in_register = λ u p q. ⊎_elim (same u) (other u p q) (cases_eq u t);
+      unused = λ u p q. put_other regs r (temp_register u) v above (one_register u t (λ e. omega (arith, e, lt, p))) ∙ f.unused u p q;
       words = λ x h. rw (unchanged x h) (f.words x h);
       in_memory = λ x h. f.in_memory x h ∙ ap Some (sym (unchanged x h));
     }
@@ -185,6 +187,7 @@ module _ (s : Site) where
       sizes = λ a. u.sizes a ∙ f.sizes a;
       low_words = λ t p q. rw (u.low t q) (f.low_words t p q);
       in_register = λ t p q. f.in_register t p q ∙ sym (u.low t q);
+      unused = f.unused;
       words = words;
       in_memory = in_memory;
     }

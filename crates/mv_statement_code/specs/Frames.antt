@@ -38,9 +38,9 @@ abbrev pub IsOwn : Cell → Type 0
 IsOwn (Kept b) = ⊥
 IsOwn _ = Unit {0}
 
--- the registers x0 to x8, s10 and s11, ra and sp among them, which only calls change
+-- sp, s10 and s11, which only calls change and set back
 abbrev pub IsLeft : ℕ → Type 0
-IsLeft q = (q < 9) ⊎ ((26 ≤ q) × (q < 28))
+IsLeft q = (q ≡ 2) ⊎ ((26 ≤ q) × (q < 28))
 
 module _ (s : Site) where
   abbrev pub home_of : Array → Home
@@ -109,7 +109,7 @@ module _ (s : Site) where
       pub entries : (f : ℕ) → f < length setting.numbers → slice_index setting.numbers f ≡ s.entry f
       pub entry_words : (f : ℕ) → f < length setting.numbers → s.entry f < 2 ^ 32
 
-    -- registers and memory show a state
+    -- Registers and memory show a state. A register that would have one of the first nine temporaries and has none is left alone.
     pub record Shows (l : State) (regs : List ℕ) (m : M) : Type 0 where
       pub are : AreRegisters regs
       pub left : (q : ℕ) → IsLeft q → reg regs q ≡ s.register q
@@ -117,5 +117,6 @@ module _ (s : Site) where
       pub sizes : (a : Array) → length (elements a l) ≡ size_of a
       pub low_words : (t : ℕ) → t < s.temps → t < 9 → slice_index l.temps t < 2 ^ 32
       pub in_register : (t : ℕ) → t < s.temps → t < 9 → reg regs (temp_register t) ≡ slice_index l.temps t
+      pub unused : (t : ℕ) → s.temps ≤ t → t < 9 → reg regs (temp_register t) ≡ s.register (temp_register t)
       pub words : (x : Cell) → IsThere x → content l x < 2 ^ 32
       pub in_memory : (x : Cell) → IsThere x → access.load m (address x) 4 ≡ Some (content l x)

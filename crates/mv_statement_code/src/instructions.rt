@@ -12,9 +12,9 @@ pub(crate) const SECOND: u8 = 11;
 /// One more for addresses and sizes, a2.
 pub(crate) const THIRD: u8 = 12;
 
-// The instruction that puts a register into a temporary.
+/// The instruction that puts a register into a temporary.
 #[tactic(auto, unfolding(crate::specs::StatementCode::write_temp))]
-pub(crate) fn write_temp(temp: u32, register: u8) -> Instr
+pub fn write_temp(temp: u32, register: u8) -> Instr
     requires { temp < 507 }
     ensures { result ≡ write_temp temp register }
 {

@@ -6,6 +6,7 @@ mod instructions;
 mod laws;
 pub mod values;
 
+pub use instructions::write_temp;
 pub use laws::statement_code_law;
 
 #[cfg(test)]

@@ -1,0 +1,9 @@
+use Rattle.mv_call_code.proofs.FunctionCalls.{call_done}
+use Rattle.mv_call_code.proofs.KnownCalls.{known_done}
+use Rattle.mv_call_code.proofs.laws.call_code_law.Goals as goal
+
+pub returns : goal.returns
+returns g c access y s setting frame fit caller machine ok budget far serves top keep is_fine fine_trees place end linked is_attributed = record {
+  call = call_done access y s setting frame fit caller machine ok budget far place end linked is_fine fine_trees is_attributed top keep;
+  known = known_done access y s setting frame fit caller machine ok budget far place end linked is_fine fine_trees serves top;
+}

@@ -1,0 +1,4 @@
+pub mod CallCode
+pub mod Convention
+pub mod Environment
+pub mod Laws

@@ -1,0 +1,12 @@
+mod Steps
+mod Registers
+mod Memory
+mod Calming
+mod Fetches
+mod Starts
+mod OnRuns
+mod Fitness
+mod Packing
+mod Answering
+mod Inputs
+mod Serving

@@ -1,0 +1,5 @@
+use Rattle.mv_machine_runs.proofs.Answering.{answered_calls}
+use Rattle.mv_machine_runs.proofs.laws.environment_calls.Goals as goal
+
+pub returns : goal.returns
+returns c = answered_calls

@@ -1,0 +1,101 @@
+-- The machine is one on which code of frames runs, and its memory is fit for frames that are laid out.
+use Rattle.std.specs.Prelude.{ℕ, ◌≡◌, ◌↔◌, ◌+◌, ◌*◌, ◌^◌, ◌<◌, Bool, true, false, List, [], length, replicate, slice_get, Option, Some, None}
+use Rattle.std.specs.List.{All}
+use Rattle.mv_ast.specs.declared.program.Program.{Program}
+use Rattle.mv_ast.specs.Plans.{free}
+use Rattle.mv_image.specs.Spelling.{Fields}
+use Rattle.mv_ir.specs.declared.stm.Stm.{Stm}
+use Rattle.mv_ir.specs.declared.tree.Tree.{Tree}
+use Rattle.mv_ir.specs.World as ir
+use Rattle.mv_ir.specs.World.{World}
+use Rattle.mv_ir.specs.Outcome.{Bound}
+use Rattle.mv_ir.specs.Programs.{setting_of}
+use Rattle.mv_machine.specs.Runs.{bytes_to_come}
+use Rattle.mv_statement_code.specs.Frames.{Site, IsFine, IsFit}
+use Rattle.mv_flow_code.specs.FlowCode.{CallLines, are_fine}
+use Rattle.mv_flow_code.specs.Laws.{has_word, CallsDo, CodeDoes}
+use Rattle.mv_flow_code.specs.Runs.{IsRun, Calm}
+use Rattle.mv_call_code.specs.Convention.{Layout}
+use Rattle.mv_call_code.specs.Environment.{ServesCalls}
+use Rattle.mv_machine_runs.specs.Calm.{Rest, IsCalm, is_calm}
+use Rattle.mv_machine_runs.specs.Calls.{CallsAreAnswered}
+use Rattle.mv_machine_runs.specs.Steps.{StepsAreTaken}
+use Rattle.mv_machine_runs.specs.MachineRuns.{access, machine_of, may_be_patched, image_word, unpatched_word, bound_word}
+use Rattle.mv_machine_runs.specs.Layout.{OwnOutsideText, IsLaidOut, IsPacked, AreNamed}
+
+-- the test of calm tells what it stands for
+abbrev pub CalmIsTested : Type 0
+CalmIsTested = (image : Fields) (w : World) (m : Rest) → (is_calm image w m ≡ true) ↔ IsCalm image w m
+
+-- For every image, input and picks, the machine's run is one of a machine on which code runs, at each site whose own cells lie outside text.
+abbrev pub RunsAreRuns : Type 0
+RunsAreRuns =
+    (attributed : List ℕ) (image : Fields) (input : List (Option ℕ)) (picks : List ℕ) (s : Site) → OwnOutsideText s → IsRun access s (machine_of attributed image input picks)
+
+-- and it takes the steps of the words that stand under the bindings
+abbrev pub BoundStepsAreTaken : Type 0
+BoundStepsAreTaken = (image : Fields) (input : List (Option ℕ)) (picks : List ℕ) (s : Site) → OwnOutsideText s → StepsAreTaken image input picks s
+
+-- The words of an image's text are found at their addresses. Where bindings don't show, they stand there under all bindings; and bindings show
+-- nowhere in an image without functions and sites.
+pub record TextIsFound (image : Fields) : Type 0 where
+  pub found : (k word : ℕ) → slice_get image.text k ≡ Some word → 0x1000 + 4 * k < 0x0010_0000 → image_word image (0x1000 + 4 * k) ≡ Some word
+  pub kept : (a word : ℕ) → image_word image a ≡ Some word → may_be_patched image a ≡ false → unpatched_word image a ≡ Some word
+  pub stands : (w : World) (a word : ℕ) → unpatched_word image a ≡ Some word → bound_word image w a ≡ Some word
+  pub unpatched : image.functions ≡ [] → image.sites ≡ [] → (a : ℕ) → may_be_patched image a ≡ false
+
+abbrev pub TextsAreFound : Type 0
+TextsAreFound = (image : Fields) → TextIsFound image
+
+-- a world before the first instruction: nothing is written or bound
+pub record IsFirst (image : Fields) (bytes : List ℕ) (w : World) : Type 0 where
+  pub input : w.input ≡ bytes
+  pub output : w.output ≡ []
+  pub bindings : w.bindings ≡ replicate (length image.functions) free
+  pub log : w.log ≡ []
+
+-- a run begins in calm
+abbrev pub RunsBeginInCalm : Type 0
+RunsBeginInCalm =
+    (attributed : List ℕ) (image : Fields) (bytes picks : List ℕ) (s : Site) (w : World) → IsFirst image bytes w →
+    let machine = machine_of attributed image (bytes_to_come bytes) picks in Calm access s machine w (machine.run 0).memory
+
+-- environment calls are answered, for every image, input and picks
+abbrev pub EnvironmentCalls : Type 0
+EnvironmentCalls = (image : Fields) (input : List (Option ℕ)) (picks : List ℕ) → CallsAreAnswered image input picks
+
+-- an answer to a read is a byte, or the end of the input
+abbrev pub IsByteOrEnd : Option ℕ → Type 0
+IsByteOrEnd None = Unit {0}
+IsByteOrEnd (Some byte) = byte < 2 ^ 8
+
+-- So where its input is bytes, the machine serves those known functions that are environment calls, for every program and layout.
+abbrev pub KnownCallsAreServed : Type 0
+KnownCallsAreServed =
+    (attributed : List ℕ) (image : Fields) (input : List (Option ℕ)) (picks : List ℕ) → All IsByteOrEnd input →
+    (y : Layout) (budget far : ℕ) (numbers : List ℕ) (p : Program) →
+    ServesCalls access y (machine_of attributed image input picks) budget far (setting_of numbers p)
+
+-- memory is fit for a frame that is laid out
+abbrev pub MemoryIsFit : Type 0
+MemoryIsFit =
+    (bytes : ℕ) (s : Site) (setting : ir.Setting) (frame : ir.Frame) → IsLaidOut bytes s → AreNamed s setting frame → IsFit s access setting frame
+
+-- and its own cells lie outside text
+abbrev pub FramesAreOutsideText : Type 0
+FramesAreOutsideText = (bytes : ℕ) (s : Site) → IsLaidOut bytes s → OwnOutsideText s
+
+-- globals and arrays that stand one behind the other are laid out
+abbrev pub PackedIsLaidOut : Type 0
+PackedIsLaidOut = (globals arrays : List ℕ) (bytes : ℕ) (s : Site) → IsPacked globals arrays bytes s → IsLaidOut bytes s
+
+-- So on the machine, in a frame that is laid out, the code of fine statements does what they mean, if that of calls does.
+abbrev pub CodeRunsOnTheMachine : Type 0
+CodeRunsOnTheMachine =
+    (attributed : List ℕ) (image : Fields) (input : List (Option ℕ)) (picks : List ℕ) (bytes : ℕ) (s : Site) (setting : ir.Setting) (frame : ir.Frame) →
+    IsLaidOut bytes s → AreNamed s setting frame →
+    (is_fine : Tree → Bool) → ((t : Tree) → is_fine t ≡ true → IsFine s setting frame t) →
+    (place : ℕ → ℕ) (end budget far : ℕ) (top : Bound) (calls : CallLines) →
+    CallsDo access s setting frame (machine_of attributed image input picks) place end budget far is_fine top calls →
+    (code : List Stm) → are_fine is_fine s.temps (has_word s) code ≡ true →
+    CodeDoes access s setting frame (machine_of attributed image input picks) place end budget far is_fine top calls code
