@@ -37,7 +37,6 @@ fn made(alloc: Global, completed: Completed) -> Result<Program, TypeError>
 }
 
 // The limits that counts decide are tested before the program is made: behind them it has few functions and switches.
-#[tactic(auto, using(crate::proofs::Counted::excess_counted))]
 fn limited(alloc: Global, completed: Completed) -> Result<Program, TypeError>
     ensures { IsChecked (Good (completed_program completed)) result }
 {

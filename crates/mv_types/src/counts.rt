@@ -11,7 +11,13 @@ use mv_limits::counts::{Counts, are_too_many_parameters};
 fn count_defined(functions: &[Option<Function>]) -> u64
     ensures { result ≡ count_by (λ f. is_some f) functions.now }
 {
-    functions.iter().filter(|f| f.is_some()).count() as u64
+    let mut count: u64 = 0;
+    for function in functions {
+        if function.is_some() {
+            count += 1;
+        }
+    }
+    count
 }
 
 fn count_switches(objects: &[Object]) -> u64
