@@ -5,6 +5,7 @@ ghost use Rattle.mv_judge.specs.Judged.{IsJudged};
 ghost use Rattle.mv_declare.specs.Attributes.{fits, with_value, domain, given_domain, is_main, shape_holder, holder_of, holder_of_all, both_hold, nothing_holds, holds, held, attributes};
 
 use crate::constants::is_value_of;
+use crate::domain::Domain;
 use crate::value_set::ValueSet;
 use mv_ast::place::Place;
 use mv_ast::unit::{Declarator, Mark, Node, Shape};
@@ -27,7 +28,7 @@ pub enum Position {
 /// An attribute, with the values of its domain if it has a list of them.
 #[derive(Drop)]
 pub struct Attribute {
-    pub values: Option<List<u32>>,
+    pub values: Option<Domain>,
 }
 
 /// Whether an attribute without values may stand at a place, and whether one with values may.
@@ -89,6 +90,7 @@ fn given_domain(
         None => Ok(Attribute { values: None }),
         Some(nodes) => {
             let values = domain(alloc, kind, scope, nodes.as_slice())?;
+            let values = Domain::of(alloc, values)?;
             Ok(Attribute {
                 values: Some(values),
             })
@@ -96,9 +98,9 @@ fn given_domain(
     }
 }
 
-/// A copy of an attribute.
-pub fn copied(alloc: Global, attribute: &Option<Attribute>) -> Result<Option<Attribute>, AllocError>
-    ensures { IfOk result (λ copy. copy ≡ attribute.now) }
+/// The same attribute for one more declarator. Its values aren't copied.
+pub fn shared(attribute: &Option<Attribute>) -> Result<Option<Attribute>, AllocError>
+    ensures { IfOk result (λ same. same ≡ attribute.now) }
 {
     match attribute {
         None => Ok(None),
@@ -108,7 +110,7 @@ pub fn copied(alloc: Global, attribute: &Option<Attribute>) -> Result<Option<Att
                 values: Some(values),
             },
         ) => {
-            let values = values.copied(alloc)?;
+            let values = values.shared()?;
             Ok(Some(Attribute {
                 values: Some(values),
             }))

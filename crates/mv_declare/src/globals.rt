@@ -8,8 +8,9 @@ ghost use Rattle.mv_judge.specs.Judged.{IsJudged};
 ghost use Rattle.mv_declare.specs.Turns.{IsBehind};
 ghost use Rattle.mv_declare.specs.Globals.{file_declarator, object_type, constant_word, with_word, first_word, first_words, single_word, listed_words, is_char, room_behind, string_words, global_words, distinct, values_of_enumeration, default_domain, domain_of};
 
-use crate::attributes::{Attribute, Position, attributes, copied, holder_of};
+use crate::attributes::{Attribute, Position, attributes, holder_of, shared};
 use crate::declarators::{Entity, designated};
+use crate::domain::Domain;
 use crate::initials::{array_size, has_room};
 use crate::specifiers::{Specified, scalar_kind};
 use crate::value_set::ValueSet;
@@ -45,7 +46,7 @@ pub fn file_declarator(
 {
     let entity = designated(alloc, scope, base.ctype, base.fixed, &declarator.shape)?;
     let holder = holder_of(Position::File, base.fixed, declarator);
-    let before = copied(alloc, &base.attribute)?;
+    let before = shared(&base.attribute)?;
     let kind = scalar_kind(base.ctype);
     let marks = declarator.marks.as_slice();
     let attribute = attributes(alloc, holder, kind, scope, marks, before)?;
@@ -280,11 +281,14 @@ pub fn domain_of(
     scope: &Scope,
     enumeration: Option<u32>,
     attribute: Attribute,
-) -> Result<List<u32>, AllocError>
-    ensures { IfOk result (λ values. values ≡ domain_of scope.now enumeration attribute) }
+) -> Result<Domain, AllocError>
+    ensures { IfOk result (λ domain. domain ≡ domain_of scope.now enumeration attribute) }
 {
     match attribute.values {
-        Some(values) => Ok(values),
-        None => default_domain(alloc, scope, enumeration),
+        Some(domain) => Ok(domain),
+        None => {
+            let values = default_domain(alloc, scope, enumeration)?;
+            Domain::of(alloc, values)
+        }
     }
 }

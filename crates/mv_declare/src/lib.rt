@@ -4,6 +4,7 @@
 pub mod attributes;
 pub mod constants;
 pub mod declarators;
+pub mod domain;
 pub mod enumerators;
 pub mod globals;
 pub mod initials;

@@ -1,2 +1,3 @@
 mod Bounds
+pub mod Firsts
 mod Turns

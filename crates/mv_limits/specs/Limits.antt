@@ -4,6 +4,7 @@ use Rattle.std.specs.List.{find, flat_map}
 use Rattle.mv_ast.specs.declared.program.Program.{Program}
 use Rattle.mv_ast.specs.declared.program.Function.{Function}
 use Rattle.mv_ast.specs.Counts.{assignments}
+use Rattle.mv_limits.specs.declared.counts.Counts.{Counts}
 use Rattle.mv_limits.specs.declared.excess.Exceeded.{Exceeded}
 
 -- a limit with its number, the greatest count that it allows, and the counts of the objects that it holds for
@@ -94,3 +95,28 @@ first_some (Some e ∷ os) = Some e
 -- the least limit that a program exceeds, with the first count that exceeds it
 abbrev pub first_exceeded : Program → Option Exceeded
 first_exceeded p = first_some (map excess (limits p))
+
+-- ---- limits 1 to 4, which a few counts of a program decide
+
+abbrev pub counts_of : Program → Counts
+counts_of p = record {
+  functions = length p.functions;
+  globals = length p.globals;
+  parameters = first_above 8 (parameters_limit p).counts;
+  switches = length p.switches;
+}
+
+-- the least of them that a program with these counts exceeds
+abbrev pub exceeded_by_counts : Counts → Option Exceeded
+exceeded_by_counts c =
+    first_some
+    (reported 1 (first_above 1000 (c.functions ∷ [])) ∷
+    reported 2 (first_above 4096 (c.globals ∷ [])) ∷
+    reported 3 c.parameters ∷
+    reported 4 (first_above 64 (c.switches ∷ [])) ∷
+    [])
+
+-- ---- limits 5 to 8, for which the program itself is looked at
+
+abbrev pub exceeded_by_contents : Program → Option Exceeded
+exceeded_by_contents p = first_some (map excess (values_limit p ∷ switches_of_function_limit p ∷ assignments_limit p ∷ elements_limit p ∷ []))

@@ -1,11 +1,28 @@
 // The first count of a program that exceeds a limit.
 
-ghost use Rattle.std.specs.Prelude.{◌≡◌, ◌≤◌, [], ◌∷◌, None, map, IsTrue, length};
+ghost use Rattle.std.specs.Prelude.{◌≡◌, ◌≤◌, [], ◌∷◌, None, map, IsTrue, length, nat_lt};
 ghost use Rattle.mv_ast.specs.Counts.{assignments, product_of};
 ghost use Rattle.mv_ast.specs.Plans.{switch_domain};
-ghost use Rattle.mv_limits.specs.Limits.{first_above, elements, own_switches, global_sizes, local_sizes, parameters_limit, values_limit, switches_of_function_limit, assignments_limit, elements_limit};
+ghost use Rattle.mv_limits.specs.Limits.{first_above, counts_of, elements, own_switches, global_sizes, local_sizes, parameters_limit, values_limit, switches_of_function_limit, assignments_limit, elements_limit};
 
 use mv_ast::program::{Function, Local, Program};
+
+/// The counts of a program that decide the first four limits.
+#[derive(Clone, Copy, Debug, PartialEq, Eq)]
+pub struct Counts {
+    pub functions: u64,
+    pub globals: u64,
+    /// The first number of parameters, of a type or a defined function, that is too many.
+    pub parameters: Option<u64>,
+    pub switches: u64,
+}
+
+/// Whether a function may not have so many parameters.
+pub fn are_too_many_parameters(count: u64) -> bool
+    ensures { result ≡ nat_lt 8 count }
+{
+    count > 8
+}
 
 // A count that is above a bound.
 pub fn above(greatest: u64, count: u64) -> Option<u64>
@@ -14,7 +31,7 @@ pub fn above(greatest: u64, count: u64) -> Option<u64>
     if count > greatest { Some(count) } else { None }
 }
 
-pub fn parameters(program: &Program) -> Option<u64>
+fn parameters(program: &Program) -> Option<u64>
     ensures { result ≡ first_above 8 (parameters_limit program.now).counts }
 {
     let of_types = program
@@ -28,6 +45,18 @@ pub fn parameters(program: &Program) -> Option<u64>
         .iter()
         .map(|f| u64::from(f.params));
     of_types.chain(of_functions).find(|count| *count > 8)
+}
+
+/// The counts of a program.
+pub fn counts_of(program: &Program) -> Counts
+    ensures { result ≡ counts_of program.now }
+{
+    Counts {
+        functions: program.functions.len() as u64,
+        globals: program.globals.len() as u64,
+        parameters: parameters(program),
+        switches: program.switches.len() as u64,
+    }
 }
 
 pub fn values(program: &Program) -> Option<u64>

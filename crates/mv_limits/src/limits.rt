@@ -1,9 +1,10 @@
 // The limits, by their numbers.
 
 ghost use Rattle.std.specs.Prelude.{◌≡◌, None};
-ghost use Rattle.mv_limits.specs.Limits.{reported, excess, functions_limit, globals_limit, parameters_limit, switches_limit, values_limit, switches_of_function_limit, assignments_limit, elements_limit, first_exceeded};
+ghost use Rattle.mv_limits.specs.Limits.{reported, excess, values_limit, switches_of_function_limit, assignments_limit, elements_limit, first_exceeded, exceeded_by_contents, exceeded_by_counts};
 
 use crate::counts;
+use crate::counts::{Counts, above};
 use crate::excess::Exceeded;
 use mv_ast::program::Program;
 
@@ -14,34 +15,6 @@ fn reported(limit: u8, count: Option<u64>) -> Option<Exceeded>
         Some(count) => Some(Exceeded { limit, count }),
         None => None,
     }
-}
-
-#[tactic(auto, unfolding(crate::specs::Limits::excess))]
-fn functions(program: &Program) -> Option<Exceeded>
-    ensures { result ≡ excess (functions_limit program.now) }
-{
-    reported(1, counts::above(1000, program.functions.len() as u64))
-}
-
-#[tactic(auto, unfolding(crate::specs::Limits::excess))]
-fn globals(program: &Program) -> Option<Exceeded>
-    ensures { result ≡ excess (globals_limit program.now) }
-{
-    reported(2, counts::above(4096, program.globals.len() as u64))
-}
-
-#[tactic(auto, unfolding(crate::specs::Limits::excess))]
-fn parameters(program: &Program) -> Option<Exceeded>
-    ensures { result ≡ excess (parameters_limit program.now) }
-{
-    reported(3, counts::parameters(program))
-}
-
-#[tactic(auto, unfolding(crate::specs::Limits::excess))]
-fn switches(program: &Program) -> Option<Exceeded>
-    ensures { result ≡ excess (switches_limit program.now) }
-{
-    reported(4, counts::above(64, program.switches.len() as u64))
 }
 
 #[tactic(auto, unfolding(crate::specs::Limits::excess))]
@@ -74,22 +47,10 @@ fn elements(program: &Program) -> Option<Exceeded>
     reported(8, counts::all_elements(program))
 }
 
-/// The least limit that a program exceeds, with the count of the first part in order of declaration that exceeds it.
-pub fn exceeded(program: &Program) -> Option<Exceeded>
-    ensures { result ≡ first_exceeded program.now }
+// The least of limits 5 to 8 that a program exceeds.
+fn exceeded_by_contents(program: &Program) -> Option<Exceeded>
+    ensures { result ≡ exceeded_by_contents program.now }
 {
-    if let Some(excess) = functions(program) {
-        return Some(excess);
-    }
-    if let Some(excess) = globals(program) {
-        return Some(excess);
-    }
-    if let Some(excess) = parameters(program) {
-        return Some(excess);
-    }
-    if let Some(excess) = switches(program) {
-        return Some(excess);
-    }
     if let Some(excess) = values(program) {
         return Some(excess);
     }
@@ -100,4 +61,31 @@ pub fn exceeded(program: &Program) -> Option<Exceeded>
         return Some(excess);
     }
     elements(program)
+}
+
+/// The least of limits 1 to 4 that a program with these counts exceeds. What it answers is what `exceeded` does of such a program.
+pub fn exceeded_by_counts(counts: &Counts) -> Option<Exceeded>
+    ensures { result ≡ exceeded_by_counts counts.now }
+{
+    if let Some(excess) = reported(1, above(1000, counts.functions)) {
+        return Some(excess);
+    }
+    if let Some(excess) = reported(2, above(4096, counts.globals)) {
+        return Some(excess);
+    }
+    if let Some(excess) = reported(3, counts.parameters) {
+        return Some(excess);
+    }
+    reported(4, above(64, counts.switches))
+}
+
+/// The least limit that a program exceeds, with the count of the first part in order of declaration that exceeds it.
+#[tactic(auto, using(crate::proofs::Firsts::by_counts))]
+pub fn exceeded(program: &Program) -> Option<Exceeded>
+    ensures { result ≡ first_exceeded program.now }
+{
+    match exceeded_by_counts(&counts::counts_of(program)) {
+        Some(excess) => Some(excess),
+        None => exceeded_by_contents(program),
+    }
 }

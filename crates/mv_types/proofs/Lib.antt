@@ -2,5 +2,6 @@ mod OneMore
 mod Outlines
 mod Types
 mod Answers
+mod Counted
 mod Ends
 mod Turns

@@ -1,4 +1,5 @@
 pub mod Checked
+pub mod Completed
 pub mod Contents
 pub mod Foreknown
 pub mod Functions

@@ -2,14 +2,18 @@
 
 ghost use Rattle.mv_judge.specs.Judged.{Good};
 ghost use Rattle.mv_types.specs.Checked.{IsChecked};
+ghost use Rattle.mv_types.specs.Completed.{completed_program};
 ghost use Rattle.mv_types.specs.Units.{unit_judgement};
 
+use crate::contents::Completed;
+use crate::counts::counts_of;
 use crate::error::TypeError;
+use crate::program::program_of;
 use crate::units::judge;
 use mv_ast::program::Program;
 use mv_ast::unit::Unit;
 use mv_judge::error::RuleError;
-use mv_limits::limits::exceeded;
+use mv_limits::limits::{exceeded, exceeded_by_counts};
 use std::alloc::{AllocError, Global};
 
 fn within_limits(program: Program) -> Result<Program, TypeError>
@@ -21,6 +25,30 @@ fn within_limits(program: Program) -> Result<Program, TypeError>
     }
 }
 
+#[tactic(auto, using(crate::proofs::Answers::same_answer))]
+fn made(alloc: Global, completed: Completed) -> Result<Program, TypeError>
+    ensures { IsChecked (Good (completed_program completed)) result }
+{
+    let Completed { contents, main } = completed;
+    match program_of(alloc, contents, main) {
+        Ok(program) => within_limits(program),
+        Err(error) => Err(TypeError::Memory(error)),
+    }
+}
+
+// The limits that counts decide are tested before the program is made: behind them it has few functions and switches.
+fn limited(alloc: Global, completed: Completed) -> Result<Program, TypeError>
+    ensures { IsChecked (Good (completed_program completed)) result }
+{
+    match exceeded_by_counts(&counts_of(&completed)) {
+        None => made(alloc, completed),
+        Some(excess) => {
+            drop(completed);
+            Err(TypeError::Limit(excess.limit, excess.count))
+        }
+    }
+}
+
 /// The program of a unit: conversions written out, constants evaluated, names numbered. `Rule` comes where a rule is broken, `Limit`
 /// where none is and the program exceeds a limit, and `Memory` for want of memory.
 #[tactic(auto, using(crate::proofs::Answers::answers))]
@@ -28,7 +56,7 @@ pub fn check(alloc: Global, unit: &Unit) -> Result<Program, TypeError>
     ensures { IsChecked (unit_judgement unit.now) result }
 {
     match judge(alloc, unit) {
-        Ok(program) => within_limits(program),
+        Ok(completed) => limited(alloc, completed),
         Err(RuleError::Rule(place, rule)) => Err(TypeError::Rule(place, rule)),
         Err(RuleError::Memory) => Err(TypeError::Memory(AllocError)),
     }

@@ -1,6 +1,7 @@
 // What the declarations of a unit so far come to.
 
 use mv_ast::program::{Function, Global};
+use mv_declare::domain::Domain;
 use mv_num::list::List;
 use mv_outline::names::Names;
 use mv_outline::outline::Outline;
@@ -11,7 +12,7 @@ use mv_scope::scope::Scope;
 pub struct Object {
     pub global: Global,
     pub given: bool,
-    pub domain: Option<List<u32>>,
+    pub domain: Option<Domain>,
 }
 
 /// What the declarations of a unit so far come to: the scope behind them, the globals in order of first declaration, and of each
@@ -21,6 +22,13 @@ pub struct Contents {
     pub scope: Scope,
     pub objects: List<Object>,
     pub functions: List<Option<Function>>,
+}
+
+/// A unit that breaks no rule: what its declarations come to, and the number of its `main`.
+#[derive(Drop)]
+pub struct Completed {
+    pub contents: Contents,
+    pub main: u32,
 }
 
 /// What is known of a unit's names before its first declaration is judged: which functions and switches it has, the functions of which

@@ -4,6 +4,7 @@
 
 pub mod check;
 pub mod contents;
+mod counts;
 pub mod error;
 pub mod foreknown;
 pub mod functions;

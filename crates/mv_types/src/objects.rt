@@ -15,6 +15,7 @@ use mv_ast::program::Local;
 use mv_ast::unit::{Declarator, Initial};
 use mv_declare::attributes::Attribute;
 use mv_declare::declarators::Entity;
+use mv_declare::domain::Domain;
 use mv_declare::globals::{domain_of, global_words, object_type};
 use mv_judge::error::RuleError;
 use mv_judge::rules;
@@ -56,7 +57,7 @@ fn same_size(a: Option<u32>, b: Option<u32>) -> bool
     }
 }
 
-fn same_domain(a: &Option<List<u32>>, b: &Option<List<u32>>) -> bool
+fn same_domain(a: &Option<Domain>, b: &Option<Domain>) -> bool
     ensures { result ≡ spec.same_domain a.now b.now }
 {
     match a {
@@ -69,7 +70,7 @@ fn same_domain(a: &Option<List<u32>>, b: &Option<List<u32>>) -> bool
 }
 
 // Whether an object may be declared once more as this.
-fn agrees(object: &Object, local: Local, given: bool, domain: &Option<List<u32>>) -> bool
+fn agrees(object: &Object, local: Local, given: bool, domain: &Option<Domain>) -> bool
     ensures { result ≡ spec.agrees object.now local given domain.now }
 {
     same_type(object.global.ctype, local.ctype)
@@ -83,7 +84,7 @@ fn may_declare(
     objects: &List<Object>,
     local: Local,
     given: bool,
-    domain: &Option<List<u32>>,
+    domain: &Option<Domain>,
 ) -> bool
     ensures { result ≡ spec.may_declare before objects.now local given domain.now }
 {
@@ -121,7 +122,7 @@ fn type_by_rules(
     entity: Entity,
     initial: &Option<Initial>,
     block: bool,
-    domain: &Option<List<u32>>,
+    domain: &Option<Domain>,
 ) -> Result<Local, RuleError>
     ensures { IsJudged (spec.type_by_rules place before objects.now (object_type place entity initial.now) (is_some initial.now) block domain.now) result }
 {
@@ -204,7 +205,7 @@ fn add_object(
     local: Local,
     first: List<u32>,
     given: bool,
-    domain: Option<List<u32>>,
+    domain: Option<Domain>,
 ) -> Result<(), AllocError>
     ensures { OnOk result (objects.new ≡ spec.with_new objects.old name.now local first given domain) }
 {
@@ -224,7 +225,7 @@ fn add_object(
 }
 
 // What one more declaration says of an object.
-fn say_again(object: &mut Object, words: List<u32>, given: bool, domain: Option<List<u32>>)
+fn say_again(object: &mut Object, words: List<u32>, given: bool, domain: Option<Domain>)
     ensures { object.new ≡ spec.again object.old words given domain }
 {
     if given {
@@ -242,7 +243,7 @@ fn replace_object(
     number: usize,
     words: List<u32>,
     given: bool,
-    domain: Option<List<u32>>,
+    domain: Option<Domain>,
 )
     ensures { objects.new ≡ spec.replaced objects.old number (slice_get objects.old number) words given domain }
 {
@@ -263,7 +264,7 @@ fn put_object(
     local: Local,
     words: List<u32>,
     given: bool,
-    domain: Option<List<u32>>,
+    domain: Option<Domain>,
 ) -> Result<(), AllocError>
     ensures { OnOk result (objects.new ≡ spec.objects_behind objects.old name.now before local words given domain) }
 {
@@ -285,7 +286,7 @@ fn initialise(
     declarator: &Declarator,
     name: &[u8],
     before: Option<Meaning>,
-    domain: Option<List<u32>>,
+    domain: Option<Domain>,
     local: Local,
     contents: &mut Contents,
 ) -> Result<(), RuleError>
@@ -324,14 +325,14 @@ pub fn domain_by(
     scope: &Scope,
     enumeration: Option<u32>,
     attribute: Option<Attribute>,
-) -> Result<Option<List<u32>>, AllocError>
+) -> Result<Option<Domain>, AllocError>
     ensures { IfOk result (λ domain. domain ≡ spec.domain_by scope.now enumeration attribute) }
 {
     match attribute {
         None => Ok(None),
         Some(attribute) => {
-            let values = domain_of(alloc, scope, enumeration, attribute)?;
-            Ok(Some(values))
+            let domain = domain_of(alloc, scope, enumeration, attribute)?;
+            Ok(Some(domain))
         }
     }
 }
@@ -343,7 +344,7 @@ fn declare_behind(
     declarator: &Declarator,
     name: &[u8],
     entity: Entity,
-    domain: Option<List<u32>>,
+    domain: Option<Domain>,
     block: bool,
     before: Option<Meaning>,
     contents: &mut Contents,
@@ -374,7 +375,7 @@ pub fn declare(
     declarator: &Declarator,
     name: &[u8],
     entity: Entity,
-    domain: Option<List<u32>>,
+    domain: Option<Domain>,
     block: bool,
     contents: &mut Contents,
 ) -> Result<(), RuleError>

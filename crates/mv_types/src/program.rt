@@ -2,15 +2,16 @@
 
 ghost use Rattle.std.specs.Prelude.{◌≡◌, ◌++◌, IfOk, OnOk, codes, map, slice_get, [], if◌then◌else◌};
 ghost use Rattle.mv_scope.specs.Spaces.{named};
-ghost use Rattle.mv_judge.specs.Judged.{IsJudged};
 ghost use Rattle.mv_uses.specs.Uses.{switches_named};
+ghost use Rattle.mv_types.specs.Completed.{IsCompleted};
 ghost use Rattle.mv_types.specs.Contents.{present, switch_of, switches_from};
 ghost use Rattle.mv_types.specs.Units.{is_main_type, main_of, with_switches, program_of, program_judgement};
 
-use crate::contents::{Contents, Object};
+use crate::contents::{Completed, Contents, Object};
 use crate::functions::is_plain_int;
 use mv_ast::place::Place;
 use mv_ast::program::{Function, Global as Variable, Program, Signature, Switch};
+use mv_declare::domain::Domain;
 use mv_judge::error::RuleError;
 use mv_judge::rules;
 use mv_num::list::List;
@@ -57,16 +58,19 @@ struct Globals {
 
 // The switch that a global is, if it has a domain.
 fn add_switch(
+    alloc: Global,
     switches: &mut List<Switch>,
     number: usize,
-    domain: Option<List<u32>>,
+    domain: Option<Domain>,
 ) -> Result<(), AllocError>
     ensures { OnOk result (switches.new ≡ switches.old ++ switch_of number domain) }
 {
     match domain {
         None => Ok(()),
-        Some(values) => {
+        Some(domain) => {
             let global = number_of(number)?;
+            let values = domain.to_list(alloc)?;
+            drop(domain);
             switches.push(Switch { global, values })?;
             Ok(())
         }
@@ -97,7 +101,7 @@ fn globals_of(alloc: Global, objects: List<Object>) -> Result<Globals, AllocErro
             given: _,
             domain,
         } = object;
-        add_switch(&mut switches, globals.len(), domain)?;
+        add_switch(alloc, &mut switches, globals.len(), domain)?;
         globals.push(global)?;
     }
     Ok(Globals { globals, switches })
@@ -149,8 +153,10 @@ fn functions_of(
     Ok(done)
 }
 
+/// The program that declarations come to, with this `main`. Each function's own switches are looked for among all of them, and each
+/// switch has a list of its own of its values: call it only once there are known to be few.
 #[tactic(auto, unfolding(crate::specs::Units::program_of))]
-fn program_of(alloc: Global, contents: Contents, main: u32) -> Result<Program, AllocError>
+pub fn program_of(alloc: Global, contents: Contents, main: u32) -> Result<Program, AllocError>
     ensures { IfOk result (λ p. p ≡ program_of contents main) }
 {
     let Contents {
@@ -179,16 +185,16 @@ fn program_of(alloc: Global, contents: Contents, main: u32) -> Result<Program, A
     })
 }
 
-/// The program of a unit that ends at a place, by what its declarations come to. The rule of `main` is broken where it has no `main`.
+/// What a unit that ends at a place comes to, by what its declarations do. The rule of `main` is broken where it has no `main`.
 #[tactic(auto, unfolding(crate::specs::Units::program_judgement))]
-pub fn judge_program(alloc: Global, place: Place, contents: Contents) -> Result<Program, RuleError>
-    ensures { IsJudged (program_judgement place contents) result }
+pub fn complete(place: Place, contents: Contents) -> Result<Completed, RuleError>
+    ensures { IsCompleted (program_judgement place contents) result }
 {
     match main_of(&contents.scope) {
         None => {
             drop(contents);
             Err(RuleError::Rule(place, rules::MAIN))
         }
-        Some(main) => Ok(program_of(alloc, contents, main)?),
+        Some(main) => Ok(Completed { contents, main }),
     }
 }

@@ -2,22 +2,23 @@
 
 ghost use Rattle.std.specs.Prelude.{◌≡◌, IfOk, None, replicate};
 ghost use Rattle.std.specs.List.{list_any};
-ghost use Rattle.mv_judge.specs.Judged.{IsJudged, and_then};
+ghost use Rattle.mv_judge.specs.Judged.{and_then};
 ghost use Rattle.mv_declare.specs.declared.attributes.Position.TheVariants as position;
 ghost use Rattle.mv_declare.specs.Specifiers.{specifiers};
 ghost use Rattle.mv_declare.specs.Turns.{through, IsBehind};
+ghost use Rattle.mv_types.specs.Completed.{IsCompleted};
 ghost use Rattle.mv_types.specs.Contents.{nothing_declared, IsContinued};
 ghost use Rattle.mv_types.specs.Foreknown.{is_fixed};
 ghost use Rattle.mv_types.specs.Objects.{object_judgement, domain_by};
 ghost use Rattle.mv_types.specs.Units.{base_of, by_entity, named_declarator, declarator_judgement, declares_constant, holders, declares_nothing, names_judgement, item_judgement, program_judgement, unit_judgement};
 
-use crate::contents::{Contents, Foreknown};
+use crate::contents::{Completed, Contents, Foreknown};
 use crate::foreknown::{foreknown_of, is_function, name_of};
-use crate::program::judge_program;
+use crate::program::complete;
 use crate::{functions, objects};
-use mv_ast::program::{Function, Program};
+use mv_ast::program::Function;
 use mv_ast::unit::{Declarator, Item, Line, Unit};
-use mv_declare::attributes::{Position, copied};
+use mv_declare::attributes::{Position, shared};
 use mv_declare::declarators::Entity;
 use mv_declare::globals::{Designated, file_declarator};
 use mv_declare::specifiers::{Specified, specifiers};
@@ -115,14 +116,13 @@ fn named_declarator(
 
 // What the specifiers say of a declarator: one of a `const` object has the word `const`, in whatever declaration it stands.
 fn base_of(
-    alloc: Global,
     known: &Foreknown,
     declarator: &Declarator,
     base: &Specified,
 ) -> Result<Specified, AllocError>
     ensures { IfOk result (λ b. b ≡ base_of known.now declarator.now base.now) }
 {
-    let attribute = copied(alloc, &base.attribute)?;
+    let attribute = shared(&base.attribute)?;
     Ok(Specified {
         ctype: base.ctype,
         fixed: is_fixed(known, name_of(declarator)),
@@ -143,7 +143,7 @@ fn declare(
     ensures { IsContinued (declarator_judgement known.now base.now body.now declarator.now contents.old) result contents.new }
 {
     functions::check_parameters(alloc, &mut contents.scope, declarator, body)?;
-    let own = base_of(alloc, known, declarator, base)?;
+    let own = base_of(known, declarator, base)?;
     let designated = file_declarator(alloc, &mut contents.scope, &own, declarator)?;
     named_declarator(alloc, known, base, body, declarator, designated, contents)
 }
@@ -279,22 +279,22 @@ fn nothing_declared(alloc: Global, known: &Foreknown) -> Result<Contents, AllocE
     })
 }
 
-fn judge_known(alloc: Global, known: &Foreknown, unit: &Unit) -> Result<Program, RuleError>
-    ensures { IsJudged (and_then (through (item_judgement known.now) unit.now.items (nothing_declared known.now)) (program_judgement unit.now.end)) result }
+fn judge_known(alloc: Global, known: &Foreknown, unit: &Unit) -> Result<Completed, RuleError>
+    ensures { IsCompleted (and_then (through (item_judgement known.now) unit.now.items (nothing_declared known.now)) (program_judgement unit.now.end)) result }
 {
     let mut contents = nothing_declared(alloc, known)?;
     let judged = judge_items(alloc, known, unit.items.as_slice(), &mut contents);
     let (contents, ()) = both(contents, judged)?;
-    judge_program(alloc, unit.end, contents)
+    complete(unit.end, contents)
 }
 
-/// The program of a unit, or the first place in it at which a rule is broken.
+/// What a unit comes to, or the first place in it at which a rule is broken.
 #[tactic(auto, unfolding(crate::specs::Units::unit_judgement))]
-pub fn judge(alloc: Global, unit: &Unit) -> Result<Program, RuleError>
-    ensures { IsJudged (unit_judgement unit.now) result }
+pub fn judge(alloc: Global, unit: &Unit) -> Result<Completed, RuleError>
+    ensures { IsCompleted (unit_judgement unit.now) result }
 {
     let known = foreknown_of(alloc, unit)?;
-    let program = judge_known(alloc, &known, unit);
+    let completed = judge_known(alloc, &known, unit);
     drop(known);
-    program
+    completed
 }
