@@ -199,6 +199,7 @@ module _ {M : Type 0} (access : Access M) (y : Layout) (s : Site) (setting : ir.
     record {
       arguments = λ j lt. ap (λ r. reg r (first + j)) regs_is ∙ ready.arguments j lt;
       live = saved live_register (inr (inr (omega arith, omega arith))) ∙ other live_register (omega arith) ∙ f.left live_register (inr (omega arith, omega arith)) ∙ caller.live;
+      counts = caller.counts;
       left = omega (arith, left_is, e, caller.left);
       even = subst (λ sp. sp % 4 ≡ 0) (sym sp_is) caller.even;
       room = subst (λ sp. y.bottom + (reg (machine.run i).regs left_register + 1) * frame_limit ≤ sp) (sym sp_is)

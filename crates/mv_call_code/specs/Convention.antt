@@ -70,6 +70,7 @@ module _ {M : Type 0} (access : Access M) (y : Layout) (machine : Machine M) (bu
   pub record Enters (depth frames : ℕ) (args : List ℕ) (i : ℕ) : Type 0 where
     pub arguments : (j : ℕ) → j < length args → reg (machine.run i).regs (first + j) ≡ slice_index args j
     pub live : reg (machine.run i).regs live_register ≡ frames
+    pub counts : frames ≤ depth
     pub left : reg (machine.run i).regs left_register + 1 + depth ≡ depth_limit
     pub even : reg (machine.run i).regs 2 % 4 ≡ 0
     pub room : y.bottom + (reg (machine.run i).regs left_register + 1) * frame_limit ≤ reg (machine.run i).regs 2

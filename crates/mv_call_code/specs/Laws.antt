@@ -27,6 +27,7 @@ pub record IsCaller (y : Layout) (s : Site) (setting : ir.Setting) (frame : ir.F
   pub entries : (f : ℕ) → s.entry f ≡ y.entry f
   pub entry_places : (f : ℕ) → f < length setting.numbers → IsPlace (s.entry f)
   pub live : s.register live_register ≡ frame.live
+  pub counts : frame.live ≤ frame.depth
   pub left : s.register left_register + frame.depth ≡ depth_limit
   pub even : s.register 2 % 4 ≡ 0
   pub room : y.bottom + s.register left_register * frame_limit ≤ s.register 2

@@ -1,0 +1,3 @@
+pub mod FunctionCode
+pub mod Functions
+pub mod Programs
