@@ -215,6 +215,7 @@ module _ (y : Layout) (laid : IsLaid y) (is_read : ℕ → Bool) (shape : Shape)
       places = λ g. refl;
       sizes = λ g. refl;
       entries = λ f. refl;
+      may_ask = λ k e. e;
       entry_places = λ f lt. (entries f lt).1;
       live = live;
       counts = counts;

@@ -28,6 +28,7 @@ words_site y = record {
   size = λ g. 0;
   is_read = λ g. false;
   entry = y.entry;
+  may_ask = y.may_ask;
   temps = 0;
   array_at = λ a. 0;
   array_size = λ a. (y.top - y.bottom + 3) / 4;

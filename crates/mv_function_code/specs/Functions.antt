@@ -60,6 +60,7 @@ site_of y is_read shape register is_kept kept = record {
   size = y.size;
   is_read = is_read;
   entry = y.entry;
+  may_ask = y.may_ask;
   temps = shape.temps;
   array_at = array_offset shape.temps shape.arrays;
   array_size = slice_index shape.arrays;
@@ -83,7 +84,7 @@ pub record IsFunction (y : Layout) (setting : ir.Setting) (attributed : Bool) (b
   pub small : bytes_of (shape_of attributed body) ≤ frame_limit
   pub read : (g : ℕ) → is_read g ≡ true → 0 < y.size g
   pub free : (g : ℕ) → is_read g ≡ true → found bound g ≡ None
-  pub fine : are_fine is_fine body.temps (λ g. ltb 0 (y.size g)) body.code ≡ true
+  pub fine : are_fine is_fine y.may_ask body.temps (λ g. ltb 0 (y.size g)) body.code ≡ true
   pub trees : (t : Tree) → is_fine t ≡ true → (depth live : ℕ) (register : ℕ → ℕ) (is_kept : ℕ → Bool) (kept : ℕ → ℕ) →
       IsFine (site_of y is_read (shape_of attributed body) register is_kept kept) setting (frame_in attributed bound depth live) t
   pub settled : (frame : ir.Frame) (contents : Contents) (args : List ℕ) (levels : Bound) (w : World) → length args ≡ body.params →
