@@ -7,3 +7,4 @@ pub mod Prologue
 pub mod Epilogue
 pub mod FunctionKeeps
 pub mod Programs
+pub mod Equations
