@@ -5,3 +5,4 @@ pub mod Guarded
 pub mod FunctionCalls
 pub mod KnownCalls
 pub mod Equations
+pub mod EncodedCalls

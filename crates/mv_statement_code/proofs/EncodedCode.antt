@@ -21,27 +21,27 @@ use Rattle.mv_statement_code.specs.Encoded.{IsCode, IsSmall, AreEncoded, Stateme
 
 -- ---- parts put together
 
-both : (n k : ℕ) (a b : List Line) → IsCode n a → IsCode k b → IsCode (n + k) (a ++ b)
+pub both : (n k : ℕ) (a b : List Line) → IsCode n a → IsCode k b → IsCode (n + k) (a ++ b)
 both n k a b h l = (All-append LineFits a b h.0 l.0, omega (arith, h.1, l.1, sum_by-append greatest_words a b))
 
-wider : (n k : ℕ) (ls : List Line) → n ≤ k → IsCode n ls → IsCode k ls
+pub wider : (n k : ℕ) (ls : List Line) → n ≤ k → IsCode n ls → IsCode k ls
 wider n k ls le h = (h.0, omega (arith, le, h.1))
 
-single : (i : Instr) → Fits i → IsCode 1 (one i)
+pub single : (i : Instr) → Fits i → IsCode 1 (one i)
 single i h = (one_fits i h, omega arith)
 
-pair : (i j : Instr) → Fits i → Fits j → IsCode 2 (two i j)
+pub pair : (i j : Instr) → Fits i → Fits j → IsCode 2 (two i j)
 pair i j h l = both 1 1 (one i) (one j) (single i h) (single j l)
 
-branch : (funct3 rs1 rs2 l : ℕ) → IsCondition funct3 → rs1 < 32 → rs2 < 32 → IsCode 2 (Branch funct3 rs1 rs2 l ∷ [])
+pub branch : (funct3 rs1 rs2 l : ℕ) → IsCondition funct3 → rs1 < 32 → rs2 < 32 → IsCode 2 (Branch funct3 rs1 rs2 l ∷ [])
 branch funct3 rs1 rs2 l c p q = (All-cons LineFits (Branch funct3 rs1 rs2 l) [] (c, p, q) (All-nil LineFits), omega arith)
 
-jump : (l : ℕ) → IsCode 1 (Jump 0 l ∷ [])
+pub jump : (l : ℕ) → IsCode 1 (Jump 0 l ∷ [])
 jump l = (All-cons LineFits (Jump 0 l) [] (omega arith) (All-nil LineFits), omega arith)
 
 -- ---- parts of statements
 
-write_fits : (t r : ℕ) → t < 507 → r < 32 → Fits (write_temp t r)
+pub write_fits : (t r : ℕ) → t < 507 → r < 32 → Fits (write_temp t r)
 unfolding write_temp temp_offset
 write_fits t r lt h = ⊎_elim low high (cases_lt t 9)
   where
@@ -87,7 +87,7 @@ zero_code at (suc n) h =
 -- ---- statements
 
 module _ (place : ℕ → ℕ) where
-  tree_code : (v : Tree) (r : ℕ) → r ≤ 28 → IsSmall v → IsCode (2 * nodes v) (tree_lines place v r)
+  pub tree_code : (v : Tree) (r : ℕ) → r ≤ 28 → IsSmall v → IsCode (2 * nodes v) (tree_lines place v r)
   tree_code v r le h = (trees_fit place v r (omega (arith, h.0, le)) h.1, trees_are_short place v r)
 
   pub are_encoded : AreEncoded place
