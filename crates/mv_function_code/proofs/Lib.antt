@@ -8,3 +8,4 @@ pub mod Epilogue
 pub mod FunctionKeeps
 pub mod Programs
 pub mod Equations
+pub mod EncodedFrames

@@ -1,3 +1,4 @@
+use Rattle.mv_function_code.proofs.EncodedFrames.{frames_encoded}
 use Rattle.mv_function_code.proofs.FunctionKeeps.{function_keeps}
 use Rattle.mv_function_code.proofs.Programs.{programs_keep}
 use Rattle.mv_function_code.proofs.laws.function_code_law.Goals as goal
@@ -10,3 +11,6 @@ returns-clause-each g c access y laid machine memory runs setting entries budget
 pub returns-clause-all : goal.returns-clause-all
 returns-clause-all g c access y laid machine memory runs setting entries budget far serves program stand none k =
     programs_keep access y laid machine memory runs setting entries budget far serves program stand none k
+
+pub returns-clause-encoded : goal.returns-clause-encoded
+returns-clause-encoded g c = frames_encoded
