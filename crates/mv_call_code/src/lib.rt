@@ -6,3 +6,6 @@ mod laws;
 
 pub use calls::{push_call, push_known};
 pub use laws::call_code_law;
+
+#[cfg(test)]
+mod tests;
