@@ -131,7 +131,7 @@ CodeRunsOnTheMachine =
     (is_fine : Tree → Bool) → ((t : Tree) → is_fine t ≡ true → IsFine s setting frame t) →
     (place : ℕ → ℕ) (end budget far : ℕ) (top : Bound) (calls : CallLines) →
     CallsDo access s setting frame (machine_of attributed image input picks) place end budget far is_fine top calls →
-    (code : List Stm) → are_fine is_fine s.temps (has_word s) code ≡ true →
+    (code : List Stm) → are_fine is_fine s.may_ask s.temps (has_word s) code ≡ true →
     CodeDoes access s setting frame (machine_of attributed image input picks) place end budget far is_fine top calls code
 
 -- And so does code with calls, if the functions keep the calling convention at each lower bound and the stub serves orders and polls.
@@ -145,5 +145,5 @@ CallsRunOnTheMachine =
     (budget far : ℕ) → ServesOrders access y machine budget far setting → (top : Bound) → Conventions access y machine budget far top →
     (is_fine : Tree → Bool) → ((t : Tree) → is_fine t ≡ true → IsFine s setting frame t) →
     (place : ℕ → ℕ) (end : ℕ) → IsLinked y place → (is_attributed : ℕ → Bool) →
-    (code : List Stm) → are_fine is_fine s.temps (has_word s) code ≡ true →
+    (code : List Stm) → are_fine is_fine s.may_ask s.temps (has_word s) code ≡ true →
     CodeDoes access s setting frame machine place end budget far is_fine top (calls_of s.place is_attributed) code
