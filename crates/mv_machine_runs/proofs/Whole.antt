@@ -1,8 +1,7 @@
 -- All functions of a program on the machine.
-use Rattle.std.proofs.Common.{◌≡◌, ⊎_elim, inl, inr, ℕ, ◌+◌, ◌-◌, ◌*◌, ◌/◌, ◌%◌, ◌^◌, ◌<◌, ◌≤◌, true, List, [], length, slice_index, slice_get, Option, Some, None, option_and_then, sym, ap, ◌∙◌, arith}
+use Rattle.std.proofs.Common.{◌≡◌, ⊎_elim, inl, inr, ℕ, ◌+◌, ◌*◌, ◌^◌, ◌<◌, ◌≤◌, true, List, [], slice_get, Option, Some, None, option_and_then, sym, ap, arith}
 use Rattle.std.specs.List.{All}
 use Rattle.std.proofs.lemmas.Bool.{cases_lt, cases_order}
-use Rattle.std.proofs.lemmas.Option.{slice_get-get_or}
 use Rattle.mv_ast.specs.declared.program.Program.{Program}
 use Rattle.mv_image.specs.Spelling.{Fields}
 use Rattle.mv_image.specs.Patched.{site_at}
@@ -12,13 +11,13 @@ use Rattle.mv_ir.specs.World.{World}
 use Rattle.mv_ir.specs.Levels.{Code}
 use Rattle.mv_ir.specs.Programs.{setting_of}
 use Rattle.mv_statement_code.specs.Frames.{Site, address}
-use Rattle.mv_flow_code.specs.Runs.{Machine, IsRun}
+use Rattle.mv_flow_code.specs.Runs.{Machine}
 use Rattle.mv_call_code.specs.Convention.{Layout, Conventions}
 use Rattle.mv_call_code.specs.Environment.{ServesOrders}
 use Rattle.mv_function_code.specs.Functions.{IsStack, IsWord, IsLaid, Kept, IsMemory, StandsInWords}
 use Rattle.mv_function_code.specs.Programs.{fitted_levels, Stands}
 use Rattle.mv_function_code.proofs.Programs.{programs_keep}
-use Rattle.mv_machine_runs.specs.Calm.{Rest, stack_words, is_calm}
+use Rattle.mv_machine_runs.specs.Calm.{Rest, is_calm}
 use Rattle.mv_machine_runs.specs.MachineRuns.{access, called_at, machine_of}
 use Rattle.mv_machine_runs.specs.Layout.{IsOutsideText, OwnOutsideText, IsSetOut, AreEntries}
 use Rattle.mv_machine_runs.specs.Laws.{IsByteOrEnd}
