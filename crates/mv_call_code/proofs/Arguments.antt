@@ -35,7 +35,7 @@ at_scratch = inr (omega arith, omega arith)
 
 -- ---- sizes
 
-nodes_some : (t : Tree) → 1 ≤ nodes t
+pub nodes_some : (t : Tree) → 1 ≤ nodes t
 nodes_some = tree_ind (λ t. 1 ≤ nodes t) layer
   where
     layer : (x : Tree-F Tree) → TreeChildren (λ t. 1 ≤ nodes t) x → 1 ≤ nodes (roll-Tree x)

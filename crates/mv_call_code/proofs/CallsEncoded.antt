@@ -22,7 +22,7 @@ use Rattle.mv_statement_code.specs.StatementCode.{first, second, trap_label, wri
 use Rattle.mv_statement_code.specs.Encoded.{IsCode, IsSmall}
 use Rattle.mv_statement_code.proofs.EncodedCode.{both, wider, single, branch, write_fits, tree_code}
 use Rattle.mv_flow_code.specs.FlowCode.{fine_known}
-use Rattle.mv_flow_code.specs.Layouts.{any_global, is_small}
+use Rattle.mv_flow_code.specs.Layouts.{any_global, any_known, is_small}
 use Rattle.mv_call_code.specs.CallCode.{link_register, left_register, request_register, scratch_register, request_of, commit_label, result_lines, guard_lines, back_lines, guarded_lines, slot_lines, jump_lines, argument_lines, transfer_lines, call_lines, order_lines, ask_lines, known_lines}
 use Rattle.mv_call_code.specs.Lines.{CallsHaveCode}
 use Rattle.mv_call_code.proofs.Small.{HasRoom, FineParts, call_callee, call_parts, known_order, known_parts}
@@ -106,7 +106,7 @@ module _ (place : ℕ → ℕ) where
 
   -- ---- calls of known functions
 
-  order_code : (k : Known) → fine_known is_small 507 any_global k ≡ true → IsCode 3 (order_lines k)
+  order_code : (k : Known) → fine_known is_small any_known 507 any_global k ≡ true → IsCode 3 (order_lines k)
   order_code Getchar h = wider 0 3 [] (omega arith) nothing
   order_code Putchar h = wider 0 3 [] (omega arith) nothing
   order_code Poll h = wider 0 3 [] (omega arith) nothing
@@ -127,7 +127,7 @@ module _ (place : ℕ → ℕ) where
   ask_code (Plan code index) = jump link_register commit_label (omega arith)
   ask_code Poll = jump link_register commit_label (omega arith)
 
-  known_code : (r : Option ℕ) (k : Known) (args : List Tree) → FineParts 1 r args → fine_known is_small 507 any_global k ≡ true
+  known_code : (r : Option ℕ) (k : Known) (args : List Tree) → FineParts 1 r args → fine_known is_small any_known 507 any_global k ≡ true
       → IsCode (2 * nodes_of_all args + 16) (known_lines place r k args)
   known_code r k args fine h =
       let few = fine.few in

@@ -110,7 +110,7 @@ module _ {M : Type 0} (access : Access M) (y : Layout) (s : Site) (setting : ir.
   Served spare k i back a = (j : ℕ) × Returns access y machine budget far spare k i back a.world j × (reg (machine.run j).regs first ≡ a.value)
 
   -- the answer comes into its temporary
-  answered : (result : Option ℕ) (a : Answer) (spare k i back next : ℕ) (l : State) (regs regs' : List ℕ) (m : M) (pc : ℕ) → fine_target is_fine s.temps (has_word s) result ≡ true
+  answered : (result : Option ℕ) (a : Answer) (spare k i back next : ℕ) (l : State) (regs regs' : List ℕ) (m : M) (pc : ℕ) → fine_target is_fine s.may_ask s.temps (has_word s) result ≡ true
       → Shows s access l regs m → ((q : ℕ) → 2 ≤ q → reg regs' q ≡ reg regs q) → W l.world pc regs' m i → P (result_lines result) back next → Served (spare + 1) k i back a
       → (t : ℕ) × H 0 spare k next (meaning.put result a.value (with_world l a.world)) t
   answered result a spare k i back next l regs regs' m pc fine f same at p x =
@@ -134,24 +134,24 @@ module _ {M : Type 0} (access : Access M) (y : Layout) (s : Site) (setting : ir.
   -- ---- the question
 
   -- an environment call
-  direct_asked : (k : Known) (args : List ℕ) (result : Option ℕ) (spare bound pc next : ℕ) (l : State) (regs : List ℕ) (m : M) (i : ℕ) → IsDirect k → length args ≡ known_arguments k
-      → fine_target is_fine s.temps (has_word s) result ≡ true → Asked k args l regs m → P (Word Ecall ∷ result_lines result) pc next → W l.world pc regs m i
+  direct_asked : (k : Known) (args : List ℕ) (result : Option ℕ) (spare bound pc next : ℕ) (l : State) (regs : List ℕ) (m : M) (i : ℕ) → y.may_ask k ≡ true → IsDirect k → length args ≡ known_arguments k
+      → fine_target is_fine s.may_ask s.temps (has_word s) result ≡ true → Asked k args l regs m → P (Word Ecall ∷ result_lines result) pc next → W l.world pc regs m i
       → i + (spare + 2 + (Gives k args l).cost) ≤ budget → far ≤ i + bound
       → (t : ℕ) × H 0 spare bound next (meaning.put result (Gives k args l).value (with_world l (Gives k args l).world)) t
-  direct_asked k args result spare bound pc next l regs m i is count fine x p a paid asked =
+  direct_asked k args result spare bound pc next l regs m i may is count fine x p a paid asked =
       let z = asks_at k args pc l regs regs m i x (λ q le. refl) x.order x.shown.are a in
       let live : setting.known k args (reg (machine.run i).regs live_register) l.world ≡ Gives k args l = ap (λ n. setting.known k args n l.world) z.2 in
-      let served = serves.calls k args pc i is count p.1.stands.0.word (spare + 1) bound l.world z.0 z.1
+      let served = serves.calls k args pc i may is count p.1.stands.0.word (spare + 1) bound l.world z.0 z.1
       (subst (λ (g : Answer). i + (spare + 1 + 1 + g.cost) ≤ budget) (sym live) (omega (arith, paid))) asked in
       answered result (Gives k args l) spare bound i p.0 next l regs regs m pc fine x.shown (λ q le. refl) a p.2
       (subst (λ b. Served (spare + 1) bound i b (Gives k args l)) (sym p.1.stands.1) (subst (Served (spare + 1) bound i (pc + 4)) live served))
 
   -- a jump to the stub
-  stub_asked : (k : Known) (args : List ℕ) (result : Option ℕ) (spare bound pc next : ℕ) (l : State) (regs : List ℕ) (m : M) (i : ℕ) → (IsDirect k → ⊥) → length args ≡ known_arguments k
-      → fine_target is_fine s.temps (has_word s) result ≡ true → Asked k args l regs m → ((back : ℕ) → HoldsOrder k (put regs link_register back))
+  stub_asked : (k : Known) (args : List ℕ) (result : Option ℕ) (spare bound pc next : ℕ) (l : State) (regs : List ℕ) (m : M) (i : ℕ) → y.may_ask k ≡ true → (IsDirect k → ⊥) → length args ≡ known_arguments k
+      → fine_target is_fine s.may_ask s.temps (has_word s) result ≡ true → Asked k args l regs m → ((back : ℕ) → HoldsOrder k (put regs link_register back))
       → P (Jump link_register commit_label ∷ result_lines result) pc next → W l.world pc regs m i → i + (spare + 17 + (Gives k args l).cost) ≤ budget → far ≤ i + bound
       → (t : ℕ) × H 0 spare bound next (meaning.put result (Gives k args l).value (with_world l (Gives k args l).world)) t
-  stub_asked k args result spare bound pc next l regs m i is count fine x order p a paid asked =
+  stub_asked k args result spare bound pc next l regs m i may is count fine x order p a paid asked =
       answered result (Gives k args l) spare bound (i + 1) p.0 next l regs to m y.commit fine x.shown same now p.2 (subst (Served (spare + 1) bound (i + 1) p.0) live served)
     where
       to : List ℕ
@@ -184,21 +184,21 @@ module _ {M : Type 0} (access : Access M) (y : Layout) (s : Site) (setting : ir.
       enough = subst (λ (g : Answer). i + 1 + (spare + 1 + 15 + g.cost) ≤ budget) (sym live) (omega (arith, paid))
 
       served : Served (spare + 1) bound (i + 1) p.0 (setting.known k args (reg (machine.run (i + 1)).regs live_register) l.world)
-      served = serves.stub k args p.0 (i + 1) is count (small, even) ra (spare + 1) bound l.world z.0 z.1 enough (omega (arith, asked))
+      served = serves.stub k args p.0 (i + 1) may is count (small, even) ra (spare + 1) bound l.world z.0 z.1 enough (omega (arith, asked))
 
   -- ---- what is asked for
 
   -- the known function is asked
-  asked_follows : (k : Known) (args : List ℕ) (result : Option ℕ) (spare bound pc next : ℕ) (l : State) (regs : List ℕ) (m : M) (i : ℕ) → length args ≡ known_arguments k
-      → fine_target is_fine s.temps (has_word s) result ≡ true → Asked k args l regs m → P (ask_lines k ++ result_lines result) pc next → W l.world pc regs m i
+  asked_follows : (k : Known) (args : List ℕ) (result : Option ℕ) (spare bound pc next : ℕ) (l : State) (regs : List ℕ) (m : M) (i : ℕ) → y.may_ask k ≡ true → length args ≡ known_arguments k
+      → fine_target is_fine s.may_ask s.temps (has_word s) result ≡ true → Asked k args l regs m → P (ask_lines k ++ result_lines result) pc next → W l.world pc regs m i
       → i + (spare + 17 + (Gives k args l).cost) ≤ budget → far ≤ i + bound
       → (t : ℕ) × H 0 spare bound next (meaning.put result (Gives k args l).value (with_world l (Gives k args l).world)) t
-  asked_follows Getchar args result spare bound pc next l regs m i count fine x p a paid asked = direct_asked Getchar args result spare bound pc next l regs m i tt count fine x p a (omega (arith, paid)) asked
-  asked_follows Putchar args result spare bound pc next l regs m i count fine x p a paid asked = direct_asked Putchar args result spare bound pc next l regs m i tt count fine x p a (omega (arith, paid)) asked
-  asked_follows Poll args result spare bound pc next l regs m i count fine x p a paid asked =
-      stub_asked Poll args result spare bound pc next l regs m i (λ h. h) count fine x (λ back. tt) p a paid asked
-  asked_follows (Plan code index) args result spare bound pc next l regs m i count fine x p a paid asked =
-      stub_asked (Plan code index) args result spare bound pc next l regs m i (λ h. h) count fine x
+  asked_follows Getchar args result spare bound pc next l regs m i may count fine x p a paid asked = direct_asked Getchar args result spare bound pc next l regs m i may tt count fine x p a (omega (arith, paid)) asked
+  asked_follows Putchar args result spare bound pc next l regs m i may count fine x p a paid asked = direct_asked Putchar args result spare bound pc next l regs m i may tt count fine x p a (omega (arith, paid)) asked
+  asked_follows Poll args result spare bound pc next l regs m i may count fine x p a paid asked =
+      stub_asked Poll args result spare bound pc next l regs m i may (λ h. h) count fine x (λ back. tt) p a paid asked
+  asked_follows (Plan code index) args result spare bound pc next l regs m i may count fine x p a paid asked =
+      stub_asked (Plan code index) args result spare bound pc next l regs m i may (λ h. h) count fine x
       (λ back. (put_other regs link_register first back (omega arith) (λ e. omega (arith, e)) ∙ x.order.0, put_other regs link_register second back (omega arith) (λ e. omega (arith, e)) ∙ x.order.1)) p a paid asked
 
   -- ---- an order's numbers
@@ -216,13 +216,14 @@ module _ {M : Type 0} (access : Access M) (y : Layout) (s : Site) (setting : ir.
   order_short Poll = omega arith
   order_short (Plan code index) = omega (arith, sum_by-cons greatest_words (Word (Addi first 0 (pos code))) (number_lines index second), number_size index second)
 
-  order_held : (k : Known) (l : State) (regs : List ℕ) (m : M) → fine_known is_fine s.temps (has_word s) k ≡ true → Shows s access l regs m → HasOrder k l regs m
+  order_held : (k : Known) (l : State) (regs : List ℕ) (m : M) → fine_known is_fine s.may_ask s.temps (has_word s) k ≡ true → Shows s access l regs m → HasOrder k l regs m
   order_held Getchar l regs m fine f = record { after = regs; runs = refl; shown = f; order = tt; kept = λ j lt. refl }
   order_held Putchar l regs m fine f = record { after = regs; runs = refl; shown = f; order = tt; kept = λ j lt. refl }
   order_held Poll l regs m fine f = record { after = regs; runs = refl; shown = f; order = tt; kept = λ j lt. refl }
   order_held (Plan code index) l regs m fine f =
-      let small = ltb-true code 256 (and_left (ltb code 256) (ltb index (2 ^ 32)) fine) in
-      let word = ltb-true index (2 ^ 32) (and_right (ltb code 256) (ltb index (2 ^ 32)) fine) in
+      let fit = and_right (s.may_ask (Plan code index)) (ltb code 256 && ltb index (2 ^ 32)) fine in
+      let small = ltb-true code 256 (and_left (ltb code 256) (ltb index (2 ^ 32)) fit) in
+      let word = ltb-true index (2 ^ 32) (and_right (ltb code 256) (ltb index (2 ^ 32)) fit) in
       let mid = put regs first code in
       let changes = changes_put 10 11 first code regs f.are (omega arith) (omega arith) (omega arith) (omega arith) (omega (arith, small)) in
       let shown = frame_scratch s access 10 11 l regs mid m (inl (omega arith, omega arith)) changes f in
@@ -234,6 +235,13 @@ module _ {M : Type 0} (access : Access M) (y : Layout) (s : Site) (setting : ir.
         order = (g.changes.others first (inl (omega arith)) ∙ put_same regs first code (omega arith) (omega (arith, f.are.count)), g.holds);
         kept = λ j lt. absurd (omega (arith, lt));
       }
+
+  -- the code may ask for it
+  may_be_asked : (k : Known) → fine_known is_fine s.may_ask s.temps (has_word s) k ≡ true → y.may_ask k ≡ true
+  may_be_asked Getchar fine = caller.may_ask Getchar fine
+  may_be_asked Putchar fine = caller.may_ask Putchar fine
+  may_be_asked Poll fine = caller.may_ask Poll fine
+  may_be_asked (Plan code index) fine = caller.may_ask (Plan code index) (and_left (s.may_ask (Plan code index)) (ltb code 256 && ltb index (2 ^ 32)) fine)
 
   -- ---- the whole call
 
@@ -264,12 +272,12 @@ module _ {M : Type 0} (access : Access M) (y : Layout) (s : Site) (setting : ir.
       n : ℕ
       n = request_of k
 
-  pub known_done : (top : Bound) (result : Option ℕ) (k : Known) (args : List Tree) → fine_layer is_fine s.temps (has_word s) (stm.Known result k args) ≡ true
+  pub known_done : (top : Bound) (result : Option ℕ) (k : Known) (args : List Tree) → fine_layer is_fine s.may_ask s.temps (has_word s) (stm.Known result k args) ≡ true
       → LinesDo access s setting frame machine place end budget far is_fine top (known_lines s.place result k args) (stm.Known result k args)
   known_done top result k args fine spare around pc next bound within p l i h =
       let trees = all_true (map is_fine args) in
-      let target = fine_target is_fine s.temps (has_word s) result in
-      let order = fine_known is_fine s.temps (has_word s) k in
+      let target = fine_target is_fine s.may_ask s.temps (has_word s) result in
+      let order = fine_known is_fine s.may_ask s.temps (has_word s) k in
       let count = eqb-true (length args) (known_arguments k) (and_left (eqb (length args) (known_arguments k)) (order && (target && trees)) fine) in
       let parts = and_right (eqb (length args) (known_arguments k)) (order && (target && trees)) fine in
       let both = and_right order (target && trees) parts in
@@ -291,6 +299,6 @@ module _ {M : Type 0} (access : Access M) (y : Layout) (s : Site) (setting : ir.
       (addi_sets access m request_register 0 (pos (request_of k)) o.after 0 (request_of k) (request_of k) (reg_zero o.after) (word_of_pos (request_of k) (omega (arith, request_small k))) (add_zero (request_of k) (omega (arith, request_small k))))
       u.2.1 w.stands in
       let late = r.late in let soon = r.soon in let later = w.late in let sooner = w.soon in let paid = h.paid in let asked = h.asked in
-      asked_follows k vs result spare (length bound) u.2.0 next l (put o.after request_register (request_of k)) m (w.time + 1) same (and_left target trees both)
+      asked_follows k vs result spare (length bound) u.2.0 next l (put o.after request_register (request_of k)) m (w.time + 1) (may_be_asked k (and_left order (target && trees) parts)) same (and_left target trees both)
       (requested k vs l o.after m same o.shown (λ j lt. o.kept j (omega (arith, lt, same)) ∙ z.hold j (omega (arith, lt, same, count))) o.order)
       u.2.2 a (omega (arith, paid, soon, sooner)) (omega (arith, asked, late, later))

@@ -11,7 +11,7 @@ use Rattle.mv_ir.specs.WellFormed.{known_arguments}
 use Rattle.mv_tree_code.proofs.TreesRun.{and_left, and_right}
 use Rattle.mv_statement_code.specs.Encoded.{IsSmall}
 use Rattle.mv_flow_code.specs.FlowCode.{all_true, fine_target, fine_known}
-use Rattle.mv_flow_code.specs.Layouts.{any_global, is_small, small_call, small_known}
+use Rattle.mv_flow_code.specs.Layouts.{any_global, any_known, is_small, small_call, small_known}
 use Rattle.mv_flow_code.proofs.Small.{small_tree}
 
 all_small : (ts : List Tree) → all_true (map is_small ts) ≡ true → All IsSmall ts
@@ -23,7 +23,7 @@ all_small (t ∷ ts) h =
 abbrev pub HasRoom : Option ℕ → Type 0
 HasRoom r = IfSome r (λ t. t < 507)
 
-has_room : (r : Option ℕ) → fine_target is_small 507 any_global r ≡ true → HasRoom r
+has_room : (r : Option ℕ) → fine_target is_small any_known 507 any_global r ≡ true → HasRoom r
 has_room None h = tt
 has_room (Some t) h = ltb-true t 507 h
 
@@ -34,7 +34,7 @@ pub record FineParts (most : ℕ) (r : Option ℕ) (args : List Tree) : Type 0 w
   pub trees : All IsSmall args
 
 abbrev target : Option ℕ → Bool
-target r = fine_target is_small 507 any_global r
+target r = fine_target is_small any_known 507 any_global r
 
 abbrev smalls : List Tree → Bool
 smalls ts = all_true (map is_small ts)
@@ -64,7 +64,7 @@ few_arguments (Plan code index) = omega arith
 
 module _ (r : Option ℕ) (k : Known) (args : List Tree) (small : small_known r k args ≡ true) where
   abbrev order : Bool
-  order = fine_known is_small 507 any_global k
+  order = fine_known is_small any_known 507 any_global k
 
   is_count : length args ≡ known_arguments k
   is_count = eqb-true (length args) (known_arguments k) (and_left (eqb (length args) (known_arguments k)) (order && (target r && smalls args)) small)
@@ -75,7 +75,7 @@ module _ (r : Option ℕ) (k : Known) (args : List Tree) (small : small_known r 
   both : (target r && smalls args) ≡ true
   both = and_right order (target r && smalls args) rest
 
-  pub known_order : fine_known is_small 507 any_global k ≡ true
+  pub known_order : fine_known is_small any_known 507 any_global k ≡ true
   known_order = and_left order (target r && smalls args) rest
 
   pub known_parts : FineParts 1 r args

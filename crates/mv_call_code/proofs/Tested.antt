@@ -1,6 +1,6 @@
 -- The calls of the tests are small.
 use Rattle.std.proofs.Common.{◌≡◌, ℕ, true, List, [], ◌∷◌, Some, None, refl}
-use Rattle.mv_ast.specs.declared.program.Known.TheVariants.{Plan}
+use Rattle.mv_ast.specs.declared.program.Known.TheVariants.{Plan, Putchar}
 use Rattle.mv_ir.specs.declared.tree.Tree.{Tree}
 use Rattle.mv_ir.specs.declared.tree.Tree as tr
 use Rattle.mv_ir.specs.declared.stm.Callee.TheVariants.{Direct, Through}
@@ -21,3 +21,9 @@ pointer_small args is = rw is (simp (depth_temp, temps_temp))
 
 pub order_small : (args : List Tree) → args ≡ [] → small_known (Some 1) (Plan 3 9) args ≡ true
 order_small args is = rw is refl
+
+abbrev pub one : List Tree
+one = tr.Temp 1 ∷ []
+
+pub output_small : (args : List Tree) → args ≡ one → small_known (Some 9) Putchar args ≡ true
+output_small args is = rw is (simp (depth_temp, temps_temp))

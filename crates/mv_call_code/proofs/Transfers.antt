@@ -67,7 +67,7 @@ module _ {M : Type 0} (access : Access M) (y : Layout) (s : Site) (setting : ir.
       (line_does access s machine ok place end budget far w pc next regs m t (Word i) p.stands p a ∙ sets pc ∙ ap (λ z. Goes regs' z m) on) (inl refl) a
 
   -- the result comes into its temporary
-  pub result_stands : (result : Option ℕ) (v spare k pc next : ℕ) (l : State) (w : World) (regs : List ℕ) (m : M) (i : ℕ) → fine_target is_fine s.temps (has_word s) result ≡ true → reg regs first ≡ v
+  pub result_stands : (result : Option ℕ) (v spare k pc next : ℕ) (l : State) (w : World) (regs : List ℕ) (m : M) (i : ℕ) → fine_target is_fine s.may_ask s.temps (has_word s) result ≡ true → reg regs first ≡ v
       → Shows s access l regs m → outside l.world ≡ outside w → P (result_lines result) pc next → W w pc regs m i → i + (spare + 1) ≤ budget → far ≤ i + k
       → (j : ℕ) × H 0 spare k next (meaning.put result v l) j
   result_stands None v spare k pc next l w regs m i fine e f same p a paid asked = (
@@ -146,7 +146,7 @@ module _ {M : Type 0} (access : Access M) (y : Layout) (s : Site) (setting : ir.
       stack b h = r.kept.stack b (subst (λ sp. IsAbove y sp b) (sym sp_held) h) ∙ ap (λ (x : M). access.load x b 4) was.memory
 
   -- a call has come back with a value
-  returned : (result : Option ℕ) (v n spare k i back next : ℕ) (l : State) (w : World) (regs : List ℕ) (m : M) (j : ℕ) → fine_target is_fine s.temps (has_word s) result ≡ true
+  returned : (result : Option ℕ) (v n spare k i back next : ℕ) (l : State) (w : World) (regs : List ℕ) (m : M) (j : ℕ) → fine_target is_fine s.may_ask s.temps (has_word s) result ≡ true
       → n + 1 ≡ s.register left_register → Shows s access l regs m → Was regs n m i → Ret (spare + 2) k i back w j → reg (machine.run j).regs first ≡ v → P (back_lines result) back next
       → (t : ℕ) × H 0 spare k next (meaning.put result v (with_world l w)) t
   returned result v n spare k i back next l w regs m j fine e f was r value p =
@@ -164,7 +164,7 @@ module _ {M : Type 0} (access : Access M) (y : Layout) (s : Site) (setting : ir.
 
   -- what follows a call for its caller
   pub call_follows : (result : Option ℕ) (x : End) (n spare k i back next : ℕ) (around : List Enclosing) (l : State) (regs : List ℕ) (m : M)
-      → fine_target is_fine s.temps (has_word s) result ≡ true → n + 1 ≡ s.register left_register → Shows s access l regs m → Was regs n m i → P (back_lines result) back next
+      → fine_target is_fine s.may_ask s.temps (has_word s) result ≡ true → n + 1 ≡ s.register left_register → Shows s access l regs m → Was regs n m i → P (back_lines result) back next
       → FC (spare + 2) k i back x → F spare k around next (call_end result l x)
   call_follows None (Returned None w) n spare k i back next around l regs m fine e f was p h =
       returned None (reg (machine.run h.0).regs first) n spare k i back next l w regs m h.0 fine e f was h.1 refl p
@@ -199,6 +199,7 @@ module _ {M : Type 0} (access : Access M) (y : Layout) (s : Site) (setting : ir.
     record {
       arguments = λ j lt. ap (λ r. reg r (first + j)) regs_is ∙ ready.arguments j lt;
       live = saved live_register (inr (inr (omega arith, omega arith))) ∙ other live_register (omega arith) ∙ f.left live_register (inr (omega arith, omega arith)) ∙ caller.live;
+      counts = caller.counts;
       left = omega (arith, left_is, e, caller.left);
       even = subst (λ sp. sp % 4 ≡ 0) (sym sp_is) caller.even;
       room = subst (λ sp. y.bottom + (reg (machine.run i).regs left_register + 1) * frame_limit ≤ sp) (sym sp_is)

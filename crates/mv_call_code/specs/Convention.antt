@@ -1,7 +1,8 @@
 -- The calling convention of generated code. Arguments stand in a0 to a7 and the return address in ra; the result comes back in a0. The callee sets back
 -- sp and s1 to s11 and leaves the stack from sp up as it was; every other register it may change. s10 has the number of live attributed frames, and s11
 -- how many calls are left: one less in the callee than in its caller. For each of these, and one more, there is room for a frame below sp.
-use Rattle.std.specs.Prelude.{ℕ, ◌≡◌, ◌+◌, ◌*◌, ◌%◌, ◌^◌, ◌<◌, ◌≤◌, ◌⊎◌, true, List, [], ◌∷◌, length, slice_index, slice_index_or, Some, None}
+use Rattle.std.specs.Prelude.{ℕ, ◌≡◌, ◌+◌, ◌*◌, ◌%◌, ◌^◌, ◌<◌, ◌≤◌, ◌⊎◌, Bool, true, List, [], ◌∷◌, length, slice_index, slice_index_or, Some, None}
+use Rattle.mv_ast.specs.declared.program.Known.{Known}
 use Rattle.mv_isa.specs.Execution.{Access, reg}
 use Rattle.mv_ir.specs.World.{World}
 use Rattle.mv_ir.specs.Outcome.{End, Returned, Trapped, More, Stuck, Call, Calls, Bound}
@@ -11,13 +12,14 @@ use Rattle.mv_flow_code.specs.Runs.{Machine, outside}
 use Rattle.mv_call_code.specs.CallCode.{link_register, left_register, live_register}
 
 -- What the functions of a program share: the address of each global and the number of its words, where each function begins, where the stub of each trap
--- and that of orders and polls stand, and from where to where the stack goes.
+-- and that of orders and polls stand, which known functions may be asked for, and from where to where the stack goes.
 pub record Layout : Type 0 where
   pub place : ℕ → ℕ
   pub size : ℕ → ℕ
   pub entry : ℕ → ℕ
   pub trap : ℕ → ℕ
   pub commit : ℕ
+  pub may_ask : Known → Bool
   pub bottom : ℕ
   pub top : ℕ
 
@@ -70,6 +72,7 @@ module _ {M : Type 0} (access : Access M) (y : Layout) (machine : Machine M) (bu
   pub record Enters (depth frames : ℕ) (args : List ℕ) (i : ℕ) : Type 0 where
     pub arguments : (j : ℕ) → j < length args → reg (machine.run i).regs (first + j) ≡ slice_index args j
     pub live : reg (machine.run i).regs live_register ≡ frames
+    pub counts : frames ≤ depth
     pub left : reg (machine.run i).regs left_register + 1 + depth ≡ depth_limit
     pub even : reg (machine.run i).regs 2 % 4 ≡ 0
     pub room : y.bottom + (reg (machine.run i).regs left_register + 1) * frame_limit ≤ reg (machine.run i).regs 2

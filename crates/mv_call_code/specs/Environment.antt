@@ -1,5 +1,5 @@
 -- What the known functions do on a run: environment calls, and the stub that carries out orders and polls.
-use Rattle.std.specs.Prelude.{ℕ, ◌≡◌, ◌+◌, ◌<◌, ◌≤◌, List, length, slice_index, Some}
+use Rattle.std.specs.Prelude.{ℕ, ◌≡◌, ◌+◌, ◌<◌, ◌≤◌, true, List, length, slice_index, Some}
 use Rattle.mv_ast.specs.declared.program.Known.{Known}
 use Rattle.mv_ast.specs.declared.program.Known.TheVariants.{Getchar, Putchar, Plan}
 use Rattle.mv_isa.specs.declared.instr.Instr.TheVariants.{Ecall}
@@ -43,16 +43,16 @@ module _ {M : Type 0} (access : Access M) (y : Layout) (machine : Machine M) (bu
       (j : ℕ) × Returns access y machine budget far spare bound i back (setting.known k args (reg (machine.run i).regs live_register) w).world j
       × (reg (machine.run j).regs first ≡ (setting.known k args (reg (machine.run i).regs live_register) w).value)
 
-  -- an environment call stands where text has an ECALL
+  -- of the known functions that may be asked for: an environment call stands where text has an ECALL
   abbrev pub ServesCalls : Type 0
   ServesCalls =
-      (k : Known) (args : List ℕ) (pc i : ℕ) → IsDirect k → length args ≡ known_arguments k → machine.text.word pc ≡ Some (encode Ecall) →
+      (k : Known) (args : List ℕ) (pc i : ℕ) → y.may_ask k ≡ true → IsDirect k → length args ≡ known_arguments k → machine.text.word pc ≡ Some (encode Ecall) →
       Serves 1 pc (pc + 4) k args i
 
   -- the stub is called
   abbrev pub ServesOrders : Type 0
   ServesOrders =
-      (k : Known) (args : List ℕ) (back i : ℕ) → (IsDirect k → ⊥) → length args ≡ known_arguments k → IsTarget back →
+      (k : Known) (args : List ℕ) (back i : ℕ) → y.may_ask k ≡ true → (IsDirect k → ⊥) → length args ≡ known_arguments k → IsTarget back →
       reg (machine.run i).regs link_register ≡ back → Serves stub_cost y.commit back k args i
 
   pub record ServesKnown : Type 0 where

@@ -1,5 +1,6 @@
 -- What the code of calls promises: it does what they mean, at every bound, over any callees that keep the calling convention.
 use Rattle.std.specs.Prelude.{ℕ, ◌≡◌, ◌+◌, ◌*◌, ◌%◌, ◌<◌, ◌≤◌, Bool, true, length}
+use Rattle.mv_ast.specs.declared.program.Known.{Known}
 use Rattle.mv_isa.specs.Code.{IsPlace}
 use Rattle.mv_isa.specs.Execution.{Access}
 use Rattle.mv_ir.specs.declared.tree.Tree.{Tree}
@@ -25,8 +26,10 @@ pub record IsCaller (y : Layout) (s : Site) (setting : ir.Setting) (frame : ir.F
   pub places : (g : ℕ) → s.place g ≡ y.place g
   pub sizes : (g : ℕ) → s.size g ≡ y.size g
   pub entries : (f : ℕ) → s.entry f ≡ y.entry f
+  pub may_ask : (k : Known) → s.may_ask k ≡ true → y.may_ask k ≡ true
   pub entry_places : (f : ℕ) → f < length setting.numbers → IsPlace (s.entry f)
   pub live : s.register live_register ≡ frame.live
+  pub counts : frame.live ≤ frame.depth
   pub left : s.register left_register + frame.depth ≡ depth_limit
   pub even : s.register 2 % 4 ≡ 0
   pub room : y.bottom + s.register left_register * frame_limit ≤ s.register 2

@@ -7,7 +7,7 @@ mod laws;
 
 pub use calls::{push_call, push_known};
 pub use emitter::Calls;
-pub use laws::{call_code_law, call_lines_law};
+pub use laws::call_code_law;
 
 #[cfg(test)]
 mod tests;

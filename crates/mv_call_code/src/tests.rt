@@ -1,7 +1,7 @@
 //! The lines of calls, with the words that LLVM's assembler gives for their instructions.
 ghost use Rattle.std.specs.Prelude.{◌≡◌, [], ◌∷◌, IfOk};
 
-use crate::{Calls, call_code_law, call_lines_law};
+use crate::{Calls, call_code_law};
 use mv_ast::program::Known;
 use mv_flow_code::calls::CallCode;
 use mv_ir::stm::Callee;
@@ -65,6 +65,15 @@ fn two(alloc: Global) -> Result<List<Tree>, AllocError>
     let mut list = List::new(alloc);
     list.push(Tree::Temp(0))?;
     list.push(Tree::Number(7))?;
+    Ok(list)
+}
+
+// The second temporary.
+fn one(alloc: Global) -> Result<List<Tree>, AllocError>
+    ensures { IfOk result (λ list. list ≡ Tree.Temp 1 ∷ []) }
+{
+    let mut list = List::new(alloc);
+    list.push(Tree::Temp(1))?;
     Ok(list)
 }
 
@@ -158,8 +167,27 @@ fn an_order(rt: HostRuntime) {
     assert!(rt; is_code(&code, &items));
 }
 
+// `addi t3, s2, 0`, `addi a0, t3, 0`, `addi a7, x0, 2`, the environment call, and `sw a0, 40(sp)`: the tenth temporary stands
+// in the frame.
 #[test]
-fn the_laws_are_calls_that_do_nothing(_rt: HostRuntime) {
+fn output(rt: HostRuntime) {
+    let alloc = rt.alloc();
+    let arguments = one(alloc).expect(&rt, "memory");
+    let mut code = List::new(alloc);
+    CALLS
+        .push_known(&mut code, Some(9), Known::Putchar, &arguments)
+        .expect(&rt, "memory");
+    let items = [
+        Item::Word(0x0009_0e13),
+        Item::Word(0x000e_0513),
+        Item::Word(0x0020_0893),
+        Item::Word(0x0000_0073),
+        Item::Word(0x02a1_2423),
+    ];
+    assert!(rt; is_code(&code, &items));
+}
+
+#[test]
+fn the_law_is_a_call_that_does_nothing(_rt: HostRuntime) {
     call_code_law::<u32>();
-    call_lines_law();
 }

@@ -27,7 +27,7 @@ use Rattle.mv_statement_code.specs.Encoded.{IsCode, IsSmall, AreEncoded}
 use Rattle.mv_statement_code.proofs.EncodedCode.{are_encoded}
 use Rattle.mv_flow_code.specs.declared.enclosing.Enclosing.{Enclosing}
 use Rattle.mv_flow_code.specs.FlowCode.{Plan, Emitted, in_turn, enclosing_at, branch_lines, loop_lines, block_lines, loop_at, block_at, home, size, code_layer, statement_code, all_true, fine_layer}
-use Rattle.mv_flow_code.specs.Layouts.{plan_in, any_global, is_small, is_small_statement}
+use Rattle.mv_flow_code.specs.Layouts.{plan_in, any_global, any_known, is_small, is_small_statement}
 use Rattle.mv_flow_code.specs.Encoded.{more_layer, stm_more, CallsAreEncoded, FlowIsEncoded}
 use Rattle.mv_flow_code.proofs.ArraysWithin.{plan_within}
 use Rattle.mv_flow_code.proofs.Small.{small_tree}
@@ -100,7 +100,7 @@ module _ (plan : Plan) (within : (a : ℕ) → plan.array_at a + 4 * plan.array_
   StmHolds s = Holds (is_small_statement s) (bound (stm_trees s) (stm_size s) (More s)) (statement_code plan s)
 
   abbrev LayerHolds : Stm-F Stm → Type 0
-  LayerHolds x = Holds (fine_layer is_small 507 any_global (map-Stm Stm Bool is_small_statement x))
+  LayerHolds x = Holds (fine_layer is_small any_known 507 any_global (map-Stm Stm Bool is_small_statement x))
       (bound (layer_trees (map-Stm Stm (List Tree) stm_trees x)) (layer_size (map-Stm Stm ℕ stm_size x)) (more_layer plan.array_size most (map-Stm Stm ℕ More x)))
       (code_layer plan (map-Stm Stm Emitted (statement_code plan) x))
 
@@ -112,7 +112,7 @@ module _ (plan : Plan) (within : (a : ℕ) → plan.array_at a + 4 * plan.array_
       let count = size_roll x in
       let more = more_roll plan.array_size most x in
       wider n (bound (stm_trees (roll-Stm x)) (stm_size (roll-Stm x)) (More (roll-Stm x))) ((statement_code plan (roll-Stm x)).lines around label)
-      (subst (λ c. IsCode n (c.lines around label)) (sym code) (h (sym (fine_roll is_small 507 any_global x) ∙ small) around label))
+      (subst (λ c. IsCode n (c.lines around label)) (sym code) (h (sym (fine_roll is_small any_known 507 any_global x) ∙ small) around label))
       (omega (arith, nodes, count, more))
 
   -- statements in order

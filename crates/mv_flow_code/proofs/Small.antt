@@ -15,7 +15,7 @@ use Rattle.mv_ir.proofs.Rolls.{size_roll}
 use Rattle.mv_tree_code.specs.TreeCode.{temps_of}
 use Rattle.mv_tree_code.proofs.TreesRun.{and_left, and_right}
 use Rattle.mv_statement_code.specs.Encoded.{IsSmall}
-use Rattle.mv_flow_code.specs.Layouts.{any_global, is_small, small_call, small_known, is_small_statement, are_small}
+use Rattle.mv_flow_code.specs.Layouts.{any_global, any_known, is_small, small_call, small_known, is_small_statement, are_small}
 use Rattle.mv_flow_code.proofs.Equations.{fine_set, fine_setglobal, fine_divide, fine_check, fine_read, fine_write, fine_if, fine_loop, fine_block, fine_call, fine_known_call, fine_return}
 
 pub small_tree : (v : Tree) → is_small v ≡ true → IsSmall v
@@ -37,47 +37,47 @@ module _ (s : Stm) (small : is_small_statement s ≡ true) where
 
   pub small_set : (t : ℕ) (v : Tree) → s ≡ at.Set t v → (t < 507) × IsSmall v
   small_set t v same =
-      let h = target_and t (is_small v) (of_kind (at.Set t v) (ltb t 507 && is_small v) same (fine_set is_small 507 any_global t v)) in
+      let h = target_and t (is_small v) (of_kind (at.Set t v) (ltb t 507 && is_small v) same (fine_set is_small any_known 507 any_global t v)) in
       (h.0, small_tree v h.1)
 
   pub small_set_global : (g : ℕ) (v : Tree) → s ≡ at.SetGlobal g v → IsSmall v
-  small_set_global g v same = small_tree v (of_kind (at.SetGlobal g v) (is_small v) same (fine_setglobal is_small 507 any_global g v))
+  small_set_global g v same = small_tree v (of_kind (at.SetGlobal g v) (is_small v) same (fine_setglobal is_small any_known 507 any_global g v))
 
   pub small_divide : (t o : ℕ) (a b : Tree) → s ≡ at.Divide t o a b → (t < 507) × IsSmall a × IsSmall b
   small_divide t o a b same =
-      let h = target_and t (is_small a && is_small b) (of_kind (at.Divide t o a b) (ltb t 507 && (is_small a && is_small b)) same (fine_divide is_small 507 any_global t o a b)) in
+      let h = target_and t (is_small a && is_small b) (of_kind (at.Divide t o a b) (ltb t 507 && (is_small a && is_small b)) same (fine_divide is_small any_known 507 any_global t o a b)) in
       let l = pair (is_small a) (is_small b) h.1 in
       (h.0, small_tree a l.0, small_tree b l.1)
 
   pub small_check : (a : Array) (i : Tree) → s ≡ at.Check a i → is_small i ≡ true
-  small_check a i same = of_kind (at.Check a i) (is_small i) same (fine_check is_small 507 any_global a i)
+  small_check a i same = of_kind (at.Check a i) (is_small i) same (fine_check is_small any_known 507 any_global a i)
 
   pub small_read : (t : ℕ) (a : Array) (i : Tree) → s ≡ at.Read t a i → (t < 507) × (is_small i ≡ true)
-  small_read t a i same = target_and t (is_small i) (of_kind (at.Read t a i) (ltb t 507 && is_small i) same (fine_read is_small 507 any_global t a i))
+  small_read t a i same = target_and t (is_small i) (of_kind (at.Read t a i) (ltb t 507 && is_small i) same (fine_read is_small any_known 507 any_global t a i))
 
   pub small_write : (a : Array) (i v : Tree) → s ≡ at.Write a i v → (is_small i ≡ true) × (is_small v ≡ true)
-  small_write a i v same = pair (is_small i) (is_small v) (of_kind (at.Write a i v) (is_small i && is_small v) same (fine_write is_small 507 any_global a i v))
+  small_write a i v same = pair (is_small i) (is_small v) (of_kind (at.Write a i v) (is_small i && is_small v) same (fine_write is_small any_known 507 any_global a i v))
 
   pub small_if : (t : Tree) (a b : List Stm) → s ≡ at.If t a b → (is_small t ≡ true) × (are_small a ≡ true) × (are_small b ≡ true)
   small_if t a b same =
-      let h = pair (is_small t) (are_small a && are_small b) (of_kind (at.If t a b) (is_small t && (are_small a && are_small b)) same (fine_if is_small 507 any_global t a b)) in
+      let h = pair (is_small t) (are_small a && are_small b) (of_kind (at.If t a b) (is_small t && (are_small a && are_small b)) same (fine_if is_small any_known 507 any_global t a b)) in
       let l = pair (are_small a) (are_small b) h.1 in
       (h.0, l.0, l.1)
 
   pub small_loop : (b : List Stm) → s ≡ at.Loop b → are_small b ≡ true
-  small_loop b same = of_kind (at.Loop b) (are_small b) same (fine_loop is_small 507 any_global b)
+  small_loop b same = of_kind (at.Loop b) (are_small b) same (fine_loop is_small any_known 507 any_global b)
 
   pub small_block : (b : List Stm) → s ≡ at.Block b → are_small b ≡ true
-  small_block b same = of_kind (at.Block b) (are_small b) same (fine_block is_small 507 any_global b)
+  small_block b same = of_kind (at.Block b) (are_small b) same (fine_block is_small any_known 507 any_global b)
 
   pub small_calls : (r : Option ℕ) (f : Callee) (args : List Tree) → s ≡ at.Call r f args → small_call r f args ≡ true
-  small_calls r f args same = of_kind (at.Call r f args) (small_call r f args) same (fine_call is_small 507 any_global r f args)
+  small_calls r f args same = of_kind (at.Call r f args) (small_call r f args) same (fine_call is_small any_known 507 any_global r f args)
 
   pub small_knowns : (r : Option ℕ) (k : Known) (args : List Tree) → s ≡ at.Known r k args → small_known r k args ≡ true
-  small_knowns r k args same = of_kind (at.Known r k args) (small_known r k args) same (fine_known_call is_small 507 any_global r k args)
+  small_knowns r k args same = of_kind (at.Known r k args) (small_known r k args) same (fine_known_call is_small any_known 507 any_global r k args)
 
   pub small_return : (v : Tree) → s ≡ at.Return v → IsSmall v
-  small_return v same = small_tree v (of_kind (at.Return v) (is_small v) same (fine_return is_small 507 any_global v))
+  small_return v same = small_tree v (of_kind (at.Return v) (is_small v) same (fine_return is_small any_known 507 any_global v))
 
 -- ---- how many statements there are
 

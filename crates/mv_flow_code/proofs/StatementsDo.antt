@@ -1,6 +1,7 @@
 -- The code of statements does what they mean, at each bound, by induction over the statements.
 use Rattle.std.proofs.Common.{◌≡◌, ℕ, ◌+◌, ◌<◌, Bool, true, ltb, ◌&&◌, eqb, List, [], ◌∷◌, length, map, slice_index, slice_set, refl, sym, ◌∙◌, subst}
 use Rattle.std.proofs.lemmas.Bool.{ltb-true}
+use Rattle.mv_ast.specs.declared.program.Known.{Known}
 use Rattle.mv_isa.specs.declared.labelled.Line.{Line}
 use Rattle.mv_isa.specs.Execution.{Access}
 use Rattle.mv_ir.specs.declared.tree.Tree.{Tree}
@@ -35,10 +36,10 @@ pub code_roll : (plan : Plan) (x : Stm-F Stm) → statement_code plan (roll-Stm 
 unfolding statement_code
 code_roll plan x = fold-roll-Stm Emitted (code_layer plan) x
 
-pub fine_roll : (is_fine : Tree → Bool) (temps : ℕ) (is_scalar : ℕ → Bool) (x : Stm-F Stm)
-    → is_fine_statement is_fine temps is_scalar (roll-Stm x) ≡ fine_layer is_fine temps is_scalar (map-Stm Stm Bool (is_fine_statement is_fine temps is_scalar) x)
+pub fine_roll : (is_fine : Tree → Bool) (may_ask : Known → Bool) (temps : ℕ) (is_scalar : ℕ → Bool) (x : Stm-F Stm)
+    → is_fine_statement is_fine may_ask temps is_scalar (roll-Stm x) ≡ fine_layer is_fine may_ask temps is_scalar (map-Stm Stm Bool (is_fine_statement is_fine may_ask temps is_scalar) x)
 unfolding is_fine_statement
-fine_roll is_fine temps is_scalar x = fold-roll-Stm Bool (fine_layer is_fine temps is_scalar) x
+fine_roll is_fine may_ask temps is_scalar x = fold-roll-Stm Bool (fine_layer is_fine may_ask temps is_scalar) x
 
 module _ {M : Type 0} (access : Access M) (s : Site) (setting : ir.Setting) (frame : ir.Frame) (fit : IsFit s access setting frame) (machine : Machine M) (ok : IsRun access s machine)
     (is_fine : Tree → Bool) (fine_trees : (t : Tree) → is_fine t ≡ true → IsFine s setting frame t) (place : ℕ → ℕ) (end budget far : ℕ) (top : Bound) (calls : CallLines)
@@ -53,7 +54,7 @@ module _ {M : Type 0} (access : Access M) (s : Site) (setting : ir.Setting) (fra
   Code = statement_code (plan_of s end calls)
 
   abbrev Fine : Stm → Bool
-  Fine = is_fine_statement is_fine s.temps (has_word s)
+  Fine = is_fine_statement is_fine s.may_ask s.temps (has_word s)
 
   abbrev Mean : Stm → Meaning
   Mean = meaning setting frame
@@ -69,13 +70,13 @@ module _ {M : Type 0} (access : Access M) (s : Site) (setting : ir.Setting) (fra
   StmDoes t = Fine t ≡ true → Performs (Code t) (Mean t)
 
   abbrev LayerDoes : Stm-F Stm → Type 0
-  LayerDoes x = fine_layer is_fine s.temps (has_word s) (map-Stm Stm Bool Fine x) ≡ true
+  LayerDoes x = fine_layer is_fine s.may_ask s.temps (has_word s) (map-Stm Stm Bool Fine x) ≡ true
       → Performs (code_layer (plan_of s end calls) (map-Stm Stm Emitted Code x)) (statement setting frame (map-Stm Stm Meaning Mean x))
 
   from_layer : (x : Stm-F Stm) → LayerDoes x → StmDoes (roll-Stm x)
   from_layer x h fine =
       subst (Performs (Code (roll-Stm x))) (sym (meaning_roll setting frame x))
-      (subst (λ c. Performs c (statement setting frame (map-Stm Stm Meaning Mean x))) (sym (code_roll (plan_of s end calls) x)) (h (sym (fine_roll is_fine s.temps (has_word s) x) ∙ fine)))
+      (subst (λ c. Performs c (statement setting frame (map-Stm Stm Meaning Mean x))) (sym (code_roll (plan_of s end calls) x)) (h (sym (fine_roll is_fine s.may_ask s.temps (has_word s) x) ∙ fine)))
 
   -- statements in order
   pub code_does : (code : List Stm) → Each StmDoes code → all_true (map Fine code) ≡ true → Performs (in_turn (map Code code)) (in_order (map Mean code))

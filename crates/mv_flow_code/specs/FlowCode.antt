@@ -153,16 +153,16 @@ all_true [] = true
 all_true (b ∷ bs) = b && all_true bs
 
 -- Trees are fine by a test, each temporary that is written is below a number, and each global that is written as a scalar may be. A call has at most
--- eight arguments, and a known function its own number.
-module _ (is_fine : Tree → Bool) (temps : ℕ) (is_scalar : ℕ → Bool) where
+-- eight arguments, and a known function its own number; and the code may ask for it.
+module _ (is_fine : Tree → Bool) (may_ask : Known → Bool) (temps : ℕ) (is_scalar : ℕ → Bool) where
   abbrev pub fine_target : Option ℕ → Bool
   fine_target None = true
   fine_target (Some t) = ltb t temps
 
-  -- an order's numbers are a byte and a word
+  -- the code may ask for it, and an order's numbers are a byte and a word
   abbrev pub fine_known : Known → Bool
-  fine_known (known.Plan code index) = ltb code 256 && ltb index (2 ^ 32)
-  fine_known _ = true
+  fine_known (known.Plan code index) = may_ask (known.Plan code index) && (ltb code 256 && ltb index (2 ^ 32))
+  fine_known k = may_ask k
 
   abbrev pub fine_layer : Stm-F Bool → Bool
   fine_layer (stm.Set t v) = ltb t temps && is_fine v

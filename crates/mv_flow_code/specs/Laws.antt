@@ -36,9 +36,9 @@ module _ {M : Type 0} (access : Access M) (s : Site) (setting : ir.Setting) (fra
 
   -- the code of calls does what they mean
   pub record CallsDo (calls : CallLines) : Type 0 where
-    pub call : (r : Option ℕ) (f : Callee) (args : List Tree) → fine_layer is_fine s.temps (has_word s) (stm.Call r f args) ≡ true →
+    pub call : (r : Option ℕ) (f : Callee) (args : List Tree) → fine_layer is_fine s.may_ask s.temps (has_word s) (stm.Call r f args) ≡ true →
         LinesDo (calls.call r f args) (stm.Call r f args)
-    pub known : (r : Option ℕ) (k : Known) (args : List Tree) → fine_layer is_fine s.temps (has_word s) (stm.Known r k args) ≡ true →
+    pub known : (r : Option ℕ) (k : Known) (args : List Tree) → fine_layer is_fine s.may_ask s.temps (has_word s) (stm.Known r k args) ≡ true →
         LinesDo (calls.known r k args) (stm.Known r k args)
 
   -- the code of statements does what they mean, wherever it stands
@@ -56,5 +56,5 @@ FlowIsDone M =
     (is_fine : Tree → Bool) → ((t : Tree) → is_fine t ≡ true → IsFine s setting frame t) →
     (place : ℕ → ℕ) (end budget far : ℕ) (top : Bound) (calls : CallLines) →
     CallsDo access s setting frame machine place end budget far is_fine top calls →
-    (code : List Stm) → are_fine is_fine s.temps (has_word s) code ≡ true →
+    (code : List Stm) → are_fine is_fine s.may_ask s.temps (has_word s) code ≡ true →
     CodeDoes access s setting frame machine place end budget far is_fine top calls code

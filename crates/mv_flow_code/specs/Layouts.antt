@@ -50,19 +50,22 @@ is_small t = leb (depth t) 4 && leb (temps_of t) 507
 abbrev pub any_global : ℕ → Bool
 any_global g = true
 
+abbrev pub any_known : Known → Bool
+any_known k = true
+
 -- likewise for the trees of a call, which has at most eight arguments, and of a known function, which has its own number
 abbrev pub small_call : Option ℕ → Callee → List Tree → Bool
 small_call r f args =
-    ltb (length args) 9 && (fine_target is_small 507 any_global r && (all_true (map is_small (callee_trees f)) && all_true (map is_small args)))
+    ltb (length args) 9 && (fine_target is_small any_known 507 any_global r && (all_true (map is_small (callee_trees f)) && all_true (map is_small args)))
 
 abbrev pub small_known : Option ℕ → Known → List Tree → Bool
 small_known r k args =
     eqb (length args) (known_arguments k)
-    && (fine_known is_small 507 any_global k && (fine_target is_small 507 any_global r && all_true (map is_small args)))
+    && (fine_known is_small any_known 507 any_global k && (fine_target is_small any_known 507 any_global r && all_true (map is_small args)))
 
 -- and for all trees of statements
 abbrev pub is_small_statement : Stm → Bool
-is_small_statement = is_fine_statement is_small 507 any_global
+is_small_statement = is_fine_statement is_small any_known 507 any_global
 
 abbrev pub are_small : List Stm → Bool
-are_small = are_fine is_small 507 any_global
+are_small = are_fine is_small any_known 507 any_global

@@ -1,5 +1,5 @@
 -- The test of calm.
-use Rattle.std.proofs.Common.{◌≡◌, ℕ, zero, suc, Bool, true, false, ◌&&◌, eqb, List, [], ◌∷◌, Option, Some, None, refl, sym, ap, ap₂, ◌∙◌, subst, eq-eqb}
+use Rattle.std.proofs.Common.{◌≡◌, ℕ, zero, suc, Bool, true, false, ◌&&◌, eqb, List, [], ◌∷◌, length, Option, Some, None, refl, sym, ap, ap₂, ◌∙◌, subst, eq-eqb}
 use Rattle.std.proofs.lemmas.Bool.{and_parts, and_from, eqb-true}
 use Rattle.mv_ast.specs.declared.world.Binding.{Binding}
 use Rattle.mv_ast.specs.declared.world.Event.{Event}
@@ -9,7 +9,7 @@ use Rattle.mv_image.specs.Spelling.{Fields}
 use Rattle.mv_image.specs.Patched.{text_of}
 use Rattle.mv_ir.specs.World.{World}
 use Rattle.mv_machine.specs.Runs.{Stop, Going, Exit, Trap, Fault, bytes_to_come}
-use Rattle.mv_machine_runs.specs.Calm.{Rest, IsCalm, values_of, is_going, all_empty, gives_bytes, same_bindings, is_same_event, same_events, is_calm_text, is_world_outside, is_calm}
+use Rattle.mv_machine_runs.specs.Calm.{Rest, stack_words, IsCalm, values_of, is_going, all_empty, gives_bytes, same_bindings, is_same_event, same_events, is_calm_text, is_world_outside, is_calm}
 use Rattle.mv_machine_runs.proofs.Memory.{KeepsText}
 
 -- ---- what each test tells
@@ -111,18 +111,26 @@ events_same (x ∷ xs) = and_from (is_same_event x x) (same_events xs xs) (event
 
 -- ---- the whole test
 
+abbrev is_text : Fields → Rest → Bool
+is_text image m = same_words m.room.held.text (text_of image (values_of m.bindings))
+
+abbrev is_whole : Rest → Bool
+is_whole m = all_empty m.room.held.older && eqb (length m.room.held.stack) stack_words
+
 pub calm_told : (image : Fields) (w : World) (m : Rest) → is_calm image w m ≡ true → IsCalm image w m
 unfolding is_calm
 calm_told image w m h =
     let p = and_parts (is_calm_text image m) (is_world_outside w m) h in
-    let q = and_parts (is_going m.stop) (same_words m.room.held.text (text_of image (values_of m.bindings)) && all_empty m.room.held.older) p.0 in
-    let r = and_parts (same_words m.room.held.text (text_of image (values_of m.bindings))) (all_empty m.room.held.older) q.1 in
+    let q = and_parts (is_going m.stop) (is_text image m && is_whole m) p.0 in
+    let r = and_parts (is_text image m) (is_whole m) q.1 in
+    let v = and_parts (all_empty m.room.held.older) (eqb (length m.room.held.stack) stack_words) r.1 in
     let s = and_parts (gives_bytes m.input w.input) (same_words m.output w.output && (same_bindings m.bindings w.bindings && same_events m.log w.log)) p.1 in
     let t = and_parts (same_words m.output w.output) (same_bindings m.bindings w.bindings && same_events m.log w.log) s.1 in
     let u = and_parts (same_bindings m.bindings w.bindings) (same_events m.log w.log) t.1 in record {
       goes_on = going_told m.stop q.0;
       text = words_told m.room.held.text (text_of image (values_of m.bindings)) r.0;
-      no_older = empty_told m.room.held.older r.1;
+      no_older = empty_told m.room.held.older v.0;
+      stack = eqb-true (length m.room.held.stack) stack_words v.1;
       input = bytes_told m.input w.input s.0;
       output = words_told m.output w.output t.0;
       bindings = bindings_told m.bindings w.bindings u.0;
@@ -133,10 +141,12 @@ pub calm_tested : (image : Fields) (w : World) (m : Rest) → IsCalm image w m �
 unfolding is_calm
 calm_tested image w m h =
     and_from (is_calm_text image m) (is_world_outside w m)
-    (and_from (is_going m.stop) (same_words m.room.held.text (text_of image (values_of m.bindings)) && all_empty m.room.held.older)
+    (and_from (is_going m.stop) (is_text image m && is_whole m)
     (ap is_going h.goes_on)
-    (and_from (same_words m.room.held.text (text_of image (values_of m.bindings))) (all_empty m.room.held.older)
-    (ap (λ xs. same_words m.room.held.text xs) (sym h.text) ∙ words_same m.room.held.text) (empty_same m.room.held.older h.no_older)))
+    (and_from (is_text image m) (is_whole m)
+    (ap (λ xs. same_words m.room.held.text xs) (sym h.text) ∙ words_same m.room.held.text)
+    (and_from (all_empty m.room.held.older) (eqb (length m.room.held.stack) stack_words)
+    (empty_same m.room.held.older h.no_older) (eq-eqb (length m.room.held.stack) stack_words h.stack))))
     (and_from (gives_bytes m.input w.input) (same_words m.output w.output && (same_bindings m.bindings w.bindings && same_events m.log w.log))
     (ap (λ xs. gives_bytes xs w.input) h.input ∙ bytes_same w.input)
     (and_from (same_words m.output w.output) (same_bindings m.bindings w.bindings && same_events m.log w.log)
@@ -151,6 +161,7 @@ calm_kept image w m m' k calm = subst (λ (x : Rest). IsCalm image w x) (sym k.r
   goes_on = calm.goes_on;
   text = k.text ∙ calm.text;
   no_older = λ i. ap (λ older. older_at older i) k.older ∙ calm.no_older i;
+  stack = k.stack ∙ calm.stack;
   input = calm.input;
   output = calm.output;
   bindings = calm.bindings;

@@ -13,3 +13,4 @@ mod Jumps
 mod Bound
 mod Inputs
 mod Serving
+mod Whole

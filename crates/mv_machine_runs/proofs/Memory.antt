@@ -1,11 +1,12 @@
 -- What a load gives after a store, and where addresses lie.
-use Rattle.std.proofs.Common.{◌≡◌, ⊎_elim, inl, inr, ◌⊎◌, ℕ, zero, suc, ◌-◌, ◌/◌, ◌%◌, ◌^◌, ◌<◌, ◌≤◌, Bool, true, false, cond, eqb, ltb, List, [], ◌∷◌, set, slice_get, Option, Some, None, option_map, Err, refl, sym, ap, ap₂, ◌∙◌, subst, arith}
+use Rattle.std.proofs.Common.{◌≡◌, ⊎_elim, inl, inr, ◌⊎◌, ℕ, zero, suc, ◌-◌, ◌/◌, ◌%◌, ◌^◌, ◌<◌, ◌≤◌, Bool, true, false, cond, eqb, ltb, List, [], ◌∷◌, length, set, slice_get, get_or, unwrap_or, Option, Some, None, option_map, Err, refl, sym, ap, ap₂, ◌∙◌, subst, arith, length-set}
 use Rattle.std.specs.Result.{result_ok}
+use Rattle.std.proofs.lemmas.Option.{slice_get-get_or}
 use Rattle.std.proofs.lemmas.Bool.{lt-ltb, le-ltb, cases_lt, eqb-true}
 use Rattle.mv_fetch.specs.declared.memory.AccessError.TheVariants.{Misaligned}
 use Rattle.mv_fetch.specs.Held.{Held, Room, IsInText, region_of, index_of, words_of, present, part, joined, with_word, found, load, store}
 use Rattle.mv_rv32.specs.Stepping.{access as room_access, with_held}
-use Rattle.mv_machine_runs.specs.Calm.{Rest}
+use Rattle.mv_machine_runs.specs.Calm.{Rest, stack_words}
 use Rattle.mv_machine_runs.specs.MachineRuns.{access, with_room}
 use Rattle.mv_machine_runs.specs.Layout.{IsOutsideText}
 
@@ -274,26 +275,55 @@ stored_at m a v w lt h =
       others = λ b ne. load_other m (stored_to m a l.word v) b (λ hb. present_other m.room.held a b l.word l.word new l.aligned hb l.there ne);
     }
 
+-- ---- words of the stack
+
+pub load_word : (m : Rest) (a w : ℕ) → access.load m a 4 ≡ Some w → w < 2 ^ 32
+unfolding part
+load_word m a w h =
+    let l = load_finds m a w h in
+    let e : part a 4 l.word ≡ w = ap (λ o. unwrap_or o 0) (sym (load_is m a l.word l.aligned l.there) ∙ h) in
+    omega (arith, e)
+
+stack_index : (a : ℕ) → 0x0020_0000 ≤ a → a < 0x0040_0000 → index_of a ≡ (a - 0x0020_0000) / 4
+stack_index a ge lt = ⊎_elim (λ (e : Stack ≡ Nowhere). absurd (cc)) (λ (e : index_of a ≡ (a - 0x0020_0000) / 4). e) (in_stack a ge lt).told
+
+stack_region : (h : Held) → words_of h (region_of (begin Stack)) ≡ h.stack
+unfolding region_of
+stack_region h = refl
+
+stack_present : (h : Held) (a : ℕ) → 0x0020_0000 ≤ a → a < 0x0040_0000 → length h.stack ≡ stack_words → present h a ≡ Some (get_or h.stack ((a - 0x0020_0000) / 4) 0)
+unfolding present
+stack_present h a ge lt count =
+    ap₂ (λ xs i. slice_get xs i) (ap (words_of h) (in_stack a ge lt).same ∙ stack_region h) (stack_index a ge lt)
+    ∙ slice_get-get_or h.stack ((a - 0x0020_0000) / 4) 0 (omega (arith, ge, lt, count))
+
+-- where the stack has all its words, each can be loaded
+pub stack_loads : (m : Rest) (a : ℕ) → 0x0020_0000 ≤ a → a < 0x0040_0000 → a % 4 ≡ 0 → length m.room.held.stack ≡ stack_words → (v : ℕ) × (access.load m a 4 ≡ Some v)
+stack_loads m a ge lt aligned count =
+    let word = get_or m.room.held.stack ((a - 0x0020_0000) / 4) 0 in
+    (part a 4 word, load_is m a word aligned (stack_present m.room.held a ge lt count))
+
 -- ---- stores outside text
 
--- memory changed, and text and its older words did not
+-- memory changed, and text and its older words did not, nor the number of the stack's words
 pub record KeepsText (m m' : Rest) : Type 0 where
   pub room : Room
   pub rest : m' ≡ with_room m room
   pub text : room.held.text ≡ m.room.held.text
   pub older : room.held.older ≡ m.room.held.older
+  pub stack : length room.held.stack ≡ length m.room.held.stack
 
--- the text and the older words
+-- the text, the older words, and how many words the stack has
 abbrev SameText : Held → Held → Type 0
-SameText h h' = (h'.text ≡ h.text) × (h'.older ≡ h.older)
+SameText h h' = (h'.text ≡ h.text) × (h'.older ≡ h.older) × (length h'.stack ≡ length h.stack)
 
 globals_kept : (h : Held) (k old new : ℕ) → SameText h (with_word h (region_of (begin Globals)) k old new)
 unfolding region_of
-globals_kept h k old new = (refl, refl)
+globals_kept h k old new = (refl, refl, refl)
 
 stack_kept : (h : Held) (k old new : ℕ) → SameText h (with_word h (region_of (begin Stack)) k old new)
 unfolding region_of
-stack_kept h k old new = (refl, refl)
+stack_kept h k old new = (refl, refl, length-set h.stack k new)
 
 text_kept : (h : Held) (a k old new : ℕ) → IsOutsideText a → SameText h (with_word h (region_of a) k old new)
 text_kept h a k old new out = ⊎_elim
@@ -306,7 +336,7 @@ store_parts : (m m' : Rest) (a v : ℕ) (b : Bool) (o : Option ℕ) → IsOutsid
     → KeepsText m m'
 store_parts m m' a v true (Some w) out e =
     let kept = text_kept m.room.held a (index_of a) w (joined a 4 w v) out in
-    record { room = (stored_to m a w v).room; rest = cc; text = kept.0; older = kept.1 }
+    record { room = (stored_to m a w v).room; rest = cc; text = kept.0; older = kept.1; stack = kept.2 }
 store_parts m m' a v true None out e = absurd (cc)
 store_parts m m' a v false o out e = absurd (cc)
 

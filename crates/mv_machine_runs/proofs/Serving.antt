@@ -161,8 +161,8 @@ module _ (attributed : List ℕ) (image : Fields) (input : List (Option ℕ)) (p
         (answers.sound 2 i (outside w) at) spare bound (written x w).cost paid asked
 
     pub serves_calls : ServesCalls access y machine budget far (setting_of numbers p)
-    serves_calls Getchar args pc i direct count at_word = byte_served args pc i at_word
-    serves_calls Putchar [] pc i direct count at_word = absurd (cc)
-    serves_calls Putchar (x ∷ rest) pc i direct count at_word = written_served x rest pc i at_word
-    serves_calls Poll args pc i direct count at_word = absurd direct
-    serves_calls (Plan code index) args pc i direct count at_word = absurd direct
+    serves_calls Getchar args pc i may direct count at_word = byte_served args pc i at_word
+    serves_calls Putchar [] pc i may direct count at_word = absurd (cc)
+    serves_calls Putchar (x ∷ rest) pc i may direct count at_word = written_served x rest pc i at_word
+    serves_calls Poll args pc i may direct count at_word = absurd direct
+    serves_calls (Plan code index) args pc i may direct count at_word = absurd direct

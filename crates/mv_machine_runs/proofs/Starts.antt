@@ -1,13 +1,14 @@
 -- A run begins in calm.
 use Rattle.std.proofs.Common.{◌≡◌, ℕ, zero, suc, ◌+◌, true, List, [], ◌∷◌, length, replicate, None, refl, sym, ap, ap₂, ◌∙◌}
+use Rattle.std.proofs.lemmas.List.{length-replicate}
 use Rattle.mv_ast.specs.Plans.{free}
-use Rattle.mv_fetch.specs.Held.{older_at, first as first_memory}
+use Rattle.mv_fetch.specs.Held.{older_at, zeros, first as first_memory}
 use Rattle.mv_image.specs.Spelling.{Fields}
 use Rattle.mv_image.specs.Patched.{Bindings, words_under, text_of}
 use Rattle.mv_ir.specs.World.{World}
 use Rattle.mv_machine.specs.Runs.{bytes_to_come, first, runs}
 use Rattle.mv_machine.proofs.Turns.{runs_none}
-use Rattle.mv_machine_runs.specs.Calm.{IsCalm, values_of, is_calm}
+use Rattle.mv_machine_runs.specs.Calm.{stack_words, IsCalm, values_of, is_calm}
 use Rattle.mv_machine_runs.specs.MachineRuns.{rest_of}
 use Rattle.mv_machine_runs.specs.Laws.{IsFirst}
 use Rattle.mv_machine_runs.proofs.Calming.{calm_tested}
@@ -38,12 +39,17 @@ none_older zero k = refl
 none_older (suc n) zero = refl
 none_older (suc n) (suc k) = none_older n k
 
+zeros_count : (n : ℕ) → length (zeros n) ≡ n
+unfolding zeros
+zeros_count n = length-replicate n 0
+
 first_calm : (image : Fields) (input : List ℕ) (w : World) → IsFirst image input w → IsCalm image w (rest_of (first image (bytes_to_come input)))
 unfolding first first_memory
 first_calm image input w h = record {
   goes_on = refl;
   text = sym (free_text image (values_of (replicate (length image.functions) free)) (none_bound (length image.functions)));
   no_older = none_older (length image.text);
+  stack = zeros_count stack_words;
   input = ap bytes_to_come (sym h.input);
   output = sym h.output;
   bindings = sym h.bindings;

@@ -1,5 +1,5 @@
 -- When the machine is, apart from registers, pc and the words of data and stack, as a world says.
-use Rattle.std.specs.Prelude.{ℕ, ◌≡◌, Bool, true, false, ◌&&◌, List, [], ◌∷◌, take, slice_get, Option, Some, None, option_and_then, if◌then◌else◌, nat_eq}
+use Rattle.std.specs.Prelude.{ℕ, ◌≡◌, Bool, true, false, ◌&&◌, List, [], ◌∷◌, length, take, slice_get, Option, Some, None, option_and_then, if◌then◌else◌, nat_eq}
 use Rattle.mv_ast.specs.declared.world.Binding.{Binding}
 use Rattle.mv_ast.specs.declared.world.Event.{Event}
 use Rattle.mv_ast.specs.Plans.{same_words, is_same_binding}
@@ -25,12 +25,18 @@ bound_values b = if b.bound then Some (take b.count b.values) else None
 abbrev pub values_of : List Binding → Bindings
 values_of bindings function = option_and_then bound_values (slice_get bindings function)
 
--- The run goes on; text is the image's under the bindings, and each of its words is the only one that a fetch may give; and the input to come, the
--- output, the bindings and the log are those of the world. Nothing is said of the world's globals, of how many bytes it took, and of its actions.
+-- how many words the stack has
+abbrev pub stack_words : ℕ
+stack_words = 0x0008_0000
+
+-- The run goes on; text is the image's under the bindings, and each of its words is the only one that a fetch may give; the stack has all its words; and
+-- the input to come, the output, the bindings and the log are those of the world. Nothing is said of the world's globals, of how many bytes it took, and
+-- of its actions.
 pub record IsCalm (image : Fields) (w : World) (m : Rest) : Type 0 where
   pub goes_on : m.stop ≡ Going
   pub text : m.room.held.text ≡ text_of image (values_of m.bindings)
   pub no_older : (k : ℕ) → older_at m.room.held.older k ≡ []
+  pub stack : length m.room.held.stack ≡ stack_words
   pub input : m.input ≡ bytes_to_come w.input
   pub output : m.output ≡ w.output
   pub bindings : m.bindings ≡ w.bindings
@@ -73,7 +79,9 @@ same_events (a ∷ as') (b ∷ bs) = is_same_event a b && same_events as' bs
 
 -- the test of memory and of what doesn't depend on the world
 abbrev pub is_calm_text : Fields → Rest → Bool
-is_calm_text image m = is_going m.stop && (same_words m.room.held.text (text_of image (values_of m.bindings)) && all_empty m.room.held.older)
+is_calm_text image m =
+    is_going m.stop
+    && (same_words m.room.held.text (text_of image (values_of m.bindings)) && (all_empty m.room.held.older && nat_eq (length m.room.held.stack) stack_words))
 
 abbrev pub is_world_outside : World → Rest → Bool
 is_world_outside w m =

@@ -13,6 +13,7 @@ use Rattle.mv_ir.specs.declared.tree.Tree.{Tree}
 use Rattle.mv_ir.specs.World as ir
 use Rattle.mv_ir.specs.World.{World}
 use Rattle.mv_ir.specs.Outcome.{Bound}
+use Rattle.mv_ir.specs.Levels.{Code}
 use Rattle.mv_ir.specs.Programs.{setting_of}
 use Rattle.mv_machine.specs.Runs.{bytes_to_come}
 use Rattle.mv_statement_code.specs.Frames.{Site, IsFine, IsFit}
@@ -24,13 +25,14 @@ use Rattle.mv_call_code.specs.CallCode.{calls_of}
 use Rattle.mv_call_code.specs.Convention.{Layout, Conventions}
 use Rattle.mv_call_code.specs.Environment.{ServesCalls, ServesOrders}
 use Rattle.mv_call_code.specs.Laws.{IsCaller, IsLinked}
+use Rattle.mv_function_code.specs.Programs.{fitted_levels, Stands}
 use Rattle.mv_machine_runs.specs.Calm.{Rest, IsCalm, is_calm}
 use Rattle.mv_machine_runs.specs.Calls.{CallsAreAnswered}
 use Rattle.mv_machine_runs.specs.Steps.{StepsAreTaken}
 use Rattle.mv_machine_runs.specs.MachineRuns.{access, machine_of, machine_text, may_be_patched, image_word, unpatched_word, bound_word}
 use Rattle.mv_machine_runs.specs.Assembled.{HasWords, IsFreeAt, IsPart}
 use Rattle.mv_machine_runs.specs.Bound.{BindingsShow}
-use Rattle.mv_machine_runs.specs.Layout.{OwnOutsideText, IsLaidOut, IsPacked, AreNamed}
+use Rattle.mv_machine_runs.specs.Layout.{OwnOutsideText, IsLaidOut, IsPacked, AreNamed, IsSetOut, AreEntries}
 
 -- the test of calm tells what it stands for
 abbrev pub CalmIsTested : Type 0
@@ -131,7 +133,7 @@ CodeRunsOnTheMachine =
     (is_fine : Tree → Bool) → ((t : Tree) → is_fine t ≡ true → IsFine s setting frame t) →
     (place : ℕ → ℕ) (end budget far : ℕ) (top : Bound) (calls : CallLines) →
     CallsDo access s setting frame (machine_of attributed image input picks) place end budget far is_fine top calls →
-    (code : List Stm) → are_fine is_fine s.temps (has_word s) code ≡ true →
+    (code : List Stm) → are_fine is_fine s.may_ask s.temps (has_word s) code ≡ true →
     CodeDoes access s setting frame (machine_of attributed image input picks) place end budget far is_fine top calls code
 
 -- And so does code with calls, if the functions keep the calling convention at each lower bound and the stub serves orders and polls.
@@ -145,5 +147,17 @@ CallsRunOnTheMachine =
     (budget far : ℕ) → ServesOrders access y machine budget far setting → (top : Bound) → Conventions access y machine budget far top →
     (is_fine : Tree → Bool) → ((t : Tree) → is_fine t ≡ true → IsFine s setting frame t) →
     (place : ℕ → ℕ) (end : ℕ) → IsLinked y place → (is_attributed : ℕ → Bool) →
-    (code : List Stm) → are_fine is_fine s.temps (has_word s) code ≡ true →
+    (code : List Stm) → are_fine is_fine s.may_ask s.temps (has_word s) code ≡ true →
     CodeDoes access s setting frame machine place end budget far is_fine top (calls_of s.place is_attributed) code
+
+-- So where no function of a program is attributed, all of them keep the calling convention at every bound, if each stands at its entry, the globals and
+-- the stack are laid out, and the stub serves orders and polls.
+abbrev pub FunctionsRunOnTheMachine : Type 0
+FunctionsRunOnTheMachine =
+    (image : Fields) (input : List (Option ℕ)) (picks : List ℕ) → All IsByteOrEnd input →
+    (y : Layout) → IsSetOut y → (numbers : List ℕ) → AreEntries y numbers → (p : Program) →
+    let setting = setting_of numbers p in
+    let machine = machine_of [] image input picks in
+    (budget far : ℕ) → ServesOrders access y machine budget far setting →
+    (program : List Code) → ((f : ℕ) (c : Code) → slice_get program f ≡ Some c → Stands y setting machine (y.entry f) c) →
+    (k : ℕ) → Conventions access y machine budget far (fitted_levels setting program k)

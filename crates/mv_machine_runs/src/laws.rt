@@ -1,4 +1,4 @@
-ghost use Rattle.mv_machine_runs.specs.Laws.{CalmIsTested, RunsAreRuns, BoundStepsAreTaken, TextsAreFound, CodeIsPlaced, FreeLinesStand, BindingsAreShown, RunsBeginInCalm, KnownCallsAreServed, MemoryIsFit, FramesAreOutsideText, PackedIsLaidOut, EnvironmentCalls, CodeRunsOnTheMachine, CallsRunOnTheMachine};
+ghost use Rattle.mv_machine_runs.specs.Laws.{CalmIsTested, RunsAreRuns, BoundStepsAreTaken, TextsAreFound, CodeIsPlaced, FreeLinesStand, BindingsAreShown, RunsBeginInCalm, KnownCallsAreServed, MemoryIsFit, FramesAreOutsideText, PackedIsLaidOut, EnvironmentCalls, CodeRunsOnTheMachine, CallsRunOnTheMachine, FunctionsRunOnTheMachine};
 
 /// The test of calm is true exactly where the machine is calm. The call does nothing: its contract is the law.
 pub fn calm_is_tested()
@@ -74,4 +74,10 @@ pub fn code_runs_on_the_machine()
 /// convention and the stub serves orders and polls.
 pub fn calls_run_on_the_machine()
     ensures { CallsRunOnTheMachine }
+{}
+
+/// On the machine, all functions of a program without attributed ones keep the calling convention, where the code of each is
+/// placed at its entry and the stub serves orders and polls.
+pub fn functions_run_on_the_machine()
+    ensures { FunctionsRunOnTheMachine }
 {}

@@ -30,13 +30,13 @@ wider n k ls le h = (h.0, omega (arith, le, h.1))
 pub single : (i : Instr) → Fits i → IsCode 1 (one i)
 single i h = (one_fits i h, omega arith)
 
-pair : (i j : Instr) → Fits i → Fits j → IsCode 2 (two i j)
+pub pair : (i j : Instr) → Fits i → Fits j → IsCode 2 (two i j)
 pair i j h l = both 1 1 (one i) (one j) (single i h) (single j l)
 
 pub branch : (funct3 rs1 rs2 l : ℕ) → IsCondition funct3 → rs1 < 32 → rs2 < 32 → IsCode 2 (Branch funct3 rs1 rs2 l ∷ [])
 branch funct3 rs1 rs2 l c p q = (All-cons LineFits (Branch funct3 rs1 rs2 l) [] (c, p, q) (All-nil LineFits), omega arith)
 
-jump : (l : ℕ) → IsCode 1 (Jump 0 l ∷ [])
+pub jump : (l : ℕ) → IsCode 1 (Jump 0 l ∷ [])
 jump l = (All-cons LineFits (Jump 0 l) [] (omega arith) (All-nil LineFits), omega arith)
 
 -- ---- parts of statements

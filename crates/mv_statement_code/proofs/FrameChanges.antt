@@ -15,11 +15,11 @@ use Rattle.mv_statement_code.specs.Frames.{Site, Cell, TempCell, Element, Kept, 
 
 -- ---- registers of temporaries
 
-register_is : (t : ℕ) → 0 < t → temp_register t ≡ 17 + t
+pub register_is : (t : ℕ) → 0 < t → temp_register t ≡ 17 + t
 unfolding temp_register
 register_is t h = ap (λ b. cond b 9 (17 + t)) (ne_eqb t 0 (λ e. omega arith))
 
-register_zero : temp_register 0 ≡ 9
+pub register_zero : temp_register 0 ≡ 9
 unfolding temp_register
 register_zero = refl
 

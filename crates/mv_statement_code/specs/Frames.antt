@@ -1,5 +1,6 @@
 -- How registers and memory show the state of a frame.
 use Rattle.std.specs.Prelude.{ℕ, ◌≡◌, ◌≢◌, ◌+◌, ◌*◌, ◌^◌, ◌<◌, ◌≤◌, ◌⊎◌, Bool, true, List, length, slice_index, Some, None}
+use Rattle.mv_ast.specs.declared.program.Known.{Known}
 use Rattle.mv_isa.specs.Execution.{Access, reg}
 use Rattle.mv_ir.specs.declared.stm.Array.{Array}
 use Rattle.mv_ir.specs.declared.stm.Array.TheVariants as array
@@ -13,13 +14,15 @@ use Rattle.mv_tree_code.specs.View.{View, is_in_view, AreRegisters}
 use Rattle.mv_statement_code.specs.declared.elements.Home.{Home}
 use Rattle.mv_statement_code.specs.declared.elements.Home.TheVariants as home
 
--- Where a frame stands: the address of each global and function, how many words a global has and whether the code may read it, the number of
--- temporaries, the place and size of each array in bytes above sp and in words, and what the code is to leave alone: registers, and words of memory.
+-- Where a frame stands: the address of each global and function, how many words a global has and whether the code may read it, which known functions it
+-- may ask for, the number of temporaries, the place and size of each array in bytes above sp and in words, and what the code is to leave alone:
+-- registers, and words of memory.
 pub record Site : Type 0 where
   pub place : ℕ → ℕ
   pub size : ℕ → ℕ
   pub is_read : ℕ → Bool
   pub entry : ℕ → ℕ
+  pub may_ask : Known → Bool
   pub temps : ℕ
   pub array_at : ℕ → ℕ
   pub array_size : ℕ → ℕ

@@ -1,0 +1,11 @@
+pub mod Entry
+pub mod EntryShown
+pub mod Frame
+pub mod FrameWords
+pub mod Steps
+pub mod Prologue
+pub mod Epilogue
+pub mod FunctionKeeps
+pub mod Programs
+pub mod Equations
+pub mod EncodedFrames

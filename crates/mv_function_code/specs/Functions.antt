@@ -1,0 +1,106 @@
+-- What the code of a whole function promises: it keeps the calling convention, if the functions do at each lower bound.
+use Rattle.std.specs.Prelude.{ℕ, ◌≡◌, ◌≢◌, ◌+◌, ◌*◌, ◌%◌, ◌^◌, ◌<◌, ◌≤◌, ◌⊎◌, Bool, true, cond, ltb, List, length, slice_index, Some, None}
+use Rattle.mv_isa.specs.Code.{IsPlace}
+use Rattle.mv_isa.specs.Execution.{Access, reg}
+use Rattle.mv_ir.specs.declared.tree.Tree.{Tree}
+use Rattle.mv_ir.specs.declared.body.Body.{Body}
+use Rattle.mv_ir.specs.Trees.{found}
+use Rattle.mv_ir.specs.World as ir
+use Rattle.mv_ir.specs.World.{World}
+use Rattle.mv_ir.specs.Outcome.{Bound}
+use Rattle.mv_ir.specs.Meaning.{Contents, body_from, body_meaning}
+use Rattle.mv_statement_code.specs.Frames.{Site, Cell, IsOwn, IsThere, address, IsFine}
+use Rattle.mv_flow_code.specs.FlowCode.{are_fine}
+use Rattle.mv_flow_code.specs.Placed.{Placed}
+use Rattle.mv_flow_code.specs.Runs.{Machine, IsRun}
+use Rattle.mv_call_code.specs.CallCode.{link_register}
+use Rattle.mv_call_code.specs.Convention.{Layout, IsTarget, IsAbove, frame_limit, Conventions, Answers}
+use Rattle.mv_call_code.specs.Environment.{ServesKnown}
+use Rattle.mv_call_code.specs.Laws.{IsLinked}
+use Rattle.mv_function_code.specs.FunctionCode.{Shape, array_offset, bytes_of, function_lines}
+
+-- a word of the stack, and a word of the stack or of a global
+abbrev pub IsStack : Layout → ℕ → Type 0
+IsStack y = IsAbove y y.bottom
+
+abbrev pub IsWord : Layout → ℕ → Type 0
+IsWord y b = IsStack y b ⊎ ((g : ℕ) × (i : ℕ) × (i < y.size g) × (b ≡ y.place g + 4 * i))
+
+-- The globals stand apart from one another and from the stack.
+pub record IsLaid (y : Layout) : Type 0 where
+  pub apart : (g i h j : ℕ) → i < y.size g → j < y.size h → y.place g + 4 * i ≡ y.place h + 4 * j → (g ≡ h) × (i ≡ j)
+  pub off_stack : (g i : ℕ) → i < y.size g → IsStack y (y.place g + 4 * i) → ⊥
+  pub addresses : (g i : ℕ) → i < y.size g → y.place g + 4 * i < 2 ^ 32
+  pub sizes : (g : ℕ) → y.size g < 2 ^ 32
+  pub even : y.bottom % 4 ≡ 0
+  pub top : y.top < 2 ^ 32
+
+module _ {M : Type 0} (access : Access M) (y : Layout) where
+  -- after a store of a word, which works where the word can be loaded, it is read back, and the other words are as they were
+  pub record Kept (m : M) (b v : ℕ) : Type 0 where
+    pub after : M
+    pub stored : access.store m b 4 v ≡ Some after
+    pub same : access.load after b 4 ≡ Some v
+    pub others : (c : ℕ) → IsWord y c → c ≢ b → access.load after c 4 ≡ access.load m c 4
+
+  -- memory has words, and wherever it is calm all those of the stack
+  pub record IsMemory (machine : Machine M) : Type 0 where
+    pub stores : (m : M) (b v w : ℕ) → IsWord y b → v < 2 ^ 32 → access.load m b 4 ≡ Some w → Kept m b v
+    pub words : (m : M) (b w : ℕ) → IsWord y b → access.load m b 4 ≡ Some w → w < 2 ^ 32
+    pub stack : (w : World) (m : M) (b : ℕ) → machine.is_calm w m ≡ true → IsStack y b → (v : ℕ) × (access.load m b 4 ≡ Some v)
+
+-- the frame's own cells are words
+abbrev pub StandsInWords : Layout → Site → Type 0
+StandsInWords y s = (x : Cell) → IsOwn x → IsThere s x → IsWord y (address s x)
+
+-- a frame of a function, given its registers and what it is to leave alone
+abbrev pub site_of : Layout → (ℕ → Bool) → Shape → (register : ℕ → ℕ) → (is_kept : ℕ → Bool) → (kept : ℕ → ℕ) → Site
+site_of y is_read shape register is_kept kept = record {
+  place = y.place;
+  size = y.size;
+  is_read = is_read;
+  entry = y.entry;
+  may_ask = y.may_ask;
+  temps = shape.temps;
+  array_at = array_offset shape.temps shape.arrays;
+  array_size = slice_index shape.arrays;
+  register = register;
+  is_kept = is_kept;
+  kept = kept;
+}
+
+abbrev pub shape_of : Bool → Body → Shape
+shape_of attributed body = record { attributed = attributed; params = body.params; temps = body.temps; arrays = body.arrays }
+
+-- the frame of a function that is called from one with these numbers
+abbrev pub frame_in : Bool → List (ℕ × ℕ) → (depth live : ℕ) → ir.Frame
+frame_in attributed bound depth live = record { depth = depth + 1; live = live + cond attributed 1 0; bound = bound }
+
+-- A function whose frame is small enough, and whose code is fine for it. It means the same whatever its frame holds at first; and it reads the globals
+-- that it may, none of which is read as bound.
+pub record IsFunction (y : Layout) (setting : ir.Setting) (attributed : Bool) (bound : List (ℕ × ℕ)) (is_read : ℕ → Bool) (is_fine : Tree → Bool) (body : Body) : Type 0 where
+  pub params : body.params ≤ 8
+  pub temps : body.params ≤ body.temps
+  pub small : bytes_of (shape_of attributed body) ≤ frame_limit
+  pub read : (g : ℕ) → is_read g ≡ true → 0 < y.size g
+  pub free : (g : ℕ) → is_read g ≡ true → found bound g ≡ None
+  pub fine : are_fine is_fine y.may_ask body.temps (λ g. ltb 0 (y.size g)) body.code ≡ true
+  pub trees : (t : Tree) → is_fine t ≡ true → (depth live : ℕ) (register : ℕ → ℕ) (is_kept : ℕ → Bool) (kept : ℕ → ℕ) →
+      IsFine (site_of y is_read (shape_of attributed body) register is_kept kept) setting (frame_in attributed bound depth live) t
+  pub settled : (frame : ir.Frame) (contents : Contents) (args : List ℕ) (levels : Bound) (w : World) → length args ≡ body.params →
+      body_from setting frame contents body args levels w ≡ body_meaning setting frame body args levels w
+
+-- Called with as many arguments as it has parameters, the code of a function does what its body means, in 44 instructions more than that costs, and keeps
+-- the calling convention, over any functions that keep it at each lower bound.
+abbrev pub FunctionsKeep : Type 0 → Type 0
+FunctionsKeep M =
+    (access : Access M) (y : Layout) → IsLaid y → (machine : Machine M) → IsMemory access y machine →
+    ((s : Site) → StandsInWords y s → IsRun access s machine) → (setting : ir.Setting) →
+    ((f : ℕ) → f < length setting.numbers → (slice_index setting.numbers f ≡ y.entry f) × IsPlace (y.entry f)) →
+    (budget far : ℕ) → ServesKnown access y machine budget far setting → (levels : Bound) → Conventions access y machine budget far levels →
+    (attributed : Bool) (bound : List (ℕ × ℕ)) (is_read : ℕ → Bool) (is_fine : Tree → Bool) (body : Body) → IsFunction y setting attributed bound is_read is_fine body →
+    (place : ℕ → ℕ) → IsLinked y place → (is_attributed : ℕ → Bool) (pc next : ℕ) →
+    Placed machine.text place y.entry (function_lines y.place y.size is_attributed (shape_of attributed body) body.code) pc next →
+    (depth live : ℕ) (args : List ℕ) (back i : ℕ) → length args ≡ body.params → IsTarget back → reg (machine.run i).regs link_register ≡ back →
+    Answers access y machine budget far 44 (length levels) pc back depth live args
+    (body_meaning setting (frame_in attributed bound depth live) body args levels) i
