@@ -18,7 +18,7 @@ use Rattle.mv_flow_code.specs.Runs.{Spot, Machine, outside, Calm, LeadsOn, IsRun
 use Rattle.mv_flow_code.specs.Flow.{SoundBefore, Here}
 
 -- what holds below a number and at it holds below the next one
-before_next : (P : ℕ → Type 0) (i : ℕ) → ((t : ℕ) → t < i → P t) → P i → (t : ℕ) → t < i + 1 → P t
+pub before_next : (P : ℕ → Type 0) (i : ℕ) → ((t : ℕ) → t < i → P t) → P i → (t : ℕ) → t < i + 1 → P t
 before_next P i before here t lt = ⊎_elim (λ (e : t ≡ i). subst P (sym e) here) (λ (ne : t ≡ i → ⊥). before t (less ne)) (cases_eq t i)
   where
     less : (t ≡ i → ⊥) → t < i

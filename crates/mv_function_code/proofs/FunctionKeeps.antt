@@ -22,7 +22,7 @@ use Rattle.mv_flow_code.specs.Laws.{CallsDo}
 use Rattle.mv_flow_code.specs.Flow.{IsWithin, Here, Follows}
 use Rattle.mv_flow_code.proofs.Composition.{rest, at_place}
 use Rattle.mv_flow_code.proofs.StatementsDo.{flow_done}
-use Rattle.mv_flow_code.proofs.Walk.{placed_split, stands_at, to_stands, to_here}
+use Rattle.mv_flow_code.proofs.Walk.{before_next, placed_split, stands_at, to_stands, to_here}
 use Rattle.mv_call_code.specs.CallCode.{link_register, left_register, calls_of}
 use Rattle.mv_call_code.specs.Convention as convention
 use Rattle.mv_call_code.specs.Convention.{Layout, IsTarget, HoldsGlobals, Enters, Returns, FollowsCall, Conventions}
@@ -31,8 +31,8 @@ use Rattle.mv_call_code.specs.Laws.{IsCaller, IsLinked}
 use Rattle.mv_call_code.proofs.CallerShown.{globals_held}
 use Rattle.mv_call_code.proofs.FunctionCalls.{call_done}
 use Rattle.mv_call_code.proofs.KnownCalls.{known_done}
-use Rattle.mv_function_code.specs.FunctionCode.{Shape, bytes_of, saved_count, prologue_lines, epilogue_lines, body_lines, function_lines, end_label}
-use Rattle.mv_function_code.specs.Functions.{IsLaid, IsMemory, StandsInWords, IsStack, IsFunction, shape_of, frame_in}
+use Rattle.mv_function_code.specs.FunctionCode.{Shape, bytes_of, saved_count, lowered_lines, epilogue_lines, body_lines, later_lines, end_label}
+use Rattle.mv_function_code.specs.Functions.{IsLaid, IsMemory, StandsInWords, IsStack, IsFunction, LowersStack, shape_of, frame_in}
 use Rattle.mv_function_code.proofs.EntryShown as shown
 use Rattle.mv_function_code.proofs.Epilogue.{Unwound, epilogue_walk}
 use Rattle.mv_function_code.proofs.Frame.{IsFrame, own_words, frame_fits, frame_calls}
@@ -56,10 +56,11 @@ module _ {M : Type 0} (access : Access M) (y : Layout) (laid : IsLaid y) (machin
     (entries : (f : ℕ) → f < length setting.numbers → (slice_index setting.numbers f ≡ y.entry f) × IsPlace (y.entry f))
     (budget far : ℕ) (serves : ServesKnown access y machine budget far setting) (levels : Bound) (keep : Conventions access y machine budget far levels)
     (attributed : Bool) (bound : List (ℕ × ℕ)) (is_read : ℕ → Bool) (is_fine : Tree → Bool) (body : Body) (fn : IsFunction y setting attributed bound is_read is_fine body)
-    (place : ℕ → ℕ) (linked : IsLinked y place) (is_attributed : ℕ → Bool) (pc next : ℕ)
-    (placed : Placed machine.text place y.entry (function_lines y.place y.size is_attributed (shape_of attributed body) body.code) pc next)
+    (place : ℕ → ℕ) (linked : IsLinked y place) (is_attributed : ℕ → Bool) (pc mid next : ℕ)
+    (placed : Placed machine.text place y.entry (later_lines y.place y.size is_attributed (shape_of attributed body) body.code) mid next)
     (depth live : ℕ) (args : List ℕ) (back i : ℕ) (count : length args ≡ body.params) (target : IsTarget back) (ra : reg (machine.run i).regs link_register ≡ back)
-    (w : World) (stands : convention.Stands access y machine budget far pc w i) (enters : Enters access y machine budget far depth live args i) where
+    (w : World) (stands : convention.Stands access y machine budget far pc w i) (enters : Enters access y machine budget far depth live args i)
+    (lowers : LowersStack machine (bytes_of (shape_of attributed body)) mid i) where
   abbrev shape : Shape
   shape = shape_of attributed body
 
@@ -90,10 +91,10 @@ module _ {M : Type 0} (access : Access M) (y : Layout) (laid : IsLaid y) (machin
   epilogue = epilogue_lines attributed body.temps (bytes_of (shape_of attributed body))
 
   abbrev prologue : List Line
-  prologue = prologue_lines attributed body.params body.temps (bytes_of (shape_of attributed body))
+  prologue = lowered_lines attributed body.params body.temps
 
-  p : (mid : ℕ) × Ps prologue pc mid × Ps (body_code ++ (Label end_label ∷ epilogue)) mid next
-  p = placed_split machine.text place y.entry prologue (body_code ++ (Label end_label ∷ epilogue)) pc next placed
+  p : (m : ℕ) × Ps prologue mid m × Ps (body_code ++ (Label end_label ∷ epilogue)) m next
+  p = placed_split machine.text place y.entry prologue (body_code ++ (Label end_label ∷ epilogue)) mid next placed
 
   q : (mid : ℕ) × Ps body_code p.0 mid × Ps (Label end_label ∷ epilogue) mid next
   q = placed_split machine.text place y.entry body_code (Label end_label ∷ epilogue) p.0 next p.2
@@ -110,10 +111,9 @@ module _ {M : Type 0} (access : Access M) (y : Layout) (laid : IsLaid y) (machin
   live_small = omega (arith, enters.counts, enters.left)
 
   prep : Prepared access y laid machine memory runs budget far place (shape_of attributed body) args live sp (machine.run i).regs (machine.run i).memory w p.0 i
-  prep = prologue_walk access y laid machine memory runs budget far place shape args live sp caller before (machine.run i).memory w pc p.0 i is_frame fn.params refl enters.live live_small stands.are
+  prep = prologue_walk access y laid machine memory runs budget far place shape args live sp caller before (machine.run i).memory w mid p.0 i is_frame fn.params refl enters.live live_small stands.are
       (λ j lt. enters.arguments j (omega (arith, lt, count))) p.1
-      (stands_at access (words_site y) machine (ok access y laid machine memory runs budget far place) place 0 budget far w (machine.run i).pc pc before (machine.run i).memory i stands.at
-      (record { is = refl; calm = stands.calm; sound = stands.sound }))
+      (record { is = lowers.goes; calm = stands.calm; sound = before_next (λ t. machine.is_sound (machine.run t) ≡ true) i stands.sound lowers.sound })
 
   is : IsFrame y (shape_of attributed body) (reg prep.regs 2) (reg (machine.run i).regs 2)
   is = subst (λ z. IsFrame y (shape_of attributed body) z (reg (machine.run i).regs 2)) (sym prep.sp_is) is_frame
@@ -246,9 +246,9 @@ module _ {M : Type 0} (access : Access M) (y : Layout) (laid : IsLaid y) (machin
   finish spare k (Ends (More v)) f = (f.0, record { calm = f.1.calm; sound = f.1.sound; paid = f.1.paid; asked = f.1.asked })
   finish spare k (Ends Stuck) f = tt
 
-  pub function_keeps : (spare : ℕ) → i + (spare + 44 + (body_meaning setting frame body args levels w).cost) ≤ budget → far ≤ i + length levels
+  pub later_keeps : (spare : ℕ) → i + (spare + 44 + (body_meaning setting frame body args levels w).cost) ≤ budget → far ≤ i + length levels
       → FollowsCall access y machine budget far spare (length levels) i back (body_meaning setting frame body args levels w).end
-  function_keeps spare paid asked =
+  later_keeps spare paid asked =
       subst (λ (c : Call). i + (spare + 44 + c.cost) ≤ budget → FollowsCall access y machine budget far spare (length levels) i back c.end)
       (fn.settled frame (shown.contents access y laid machine memory budget far is_read attributed body (outside w) prep.regs prep.mem caller is calm args) args levels w count)
       (λ enough. finish spare (length levels) (code_meaning setting frame body.code levels begin).outcome (follows spare enough asked)) paid

@@ -6,6 +6,7 @@ pub mod Steps
 pub mod Prologue
 pub mod Epilogue
 pub mod FunctionKeeps
-pub mod Programs
 pub mod Equations
 pub mod EncodedFrames
+pub mod Programs
+pub mod WholeFunction

@@ -16,7 +16,7 @@ use Rattle.mv_call_code.specs.Environment.{ServesKnown}
 use Rattle.mv_function_code.specs.Functions.{IsLaid, IsMemory, StandsInWords, frame_in}
 use Rattle.mv_function_code.specs.Programs as programs
 use Rattle.mv_function_code.specs.Programs.{fitted, fitted_levels}
-use Rattle.mv_function_code.proofs.FunctionKeeps.{function_keeps}
+use Rattle.mv_function_code.proofs.WholeFunction.{function_keeps}
 
 module _ {M : Type 0} (access : Access M) (y : Layout) (laid : IsLaid y) (machine : Machine M) (memory : IsMemory access y machine)
     (runs : (s : Site) → StandsInWords y s → IsRun access s machine) (setting : ir.Setting)
@@ -49,7 +49,7 @@ module _ {M : Type 0} (access : Access M) (y : Layout) (laid : IsLaid y) (machin
         free spare w stands enters paid asked =
             with_less spare (length levels) i back (body_meaning setting (frame_in false [] depth frames) c.body args levels w).end
             (function_keeps access y laid machine memory runs setting entries budget far serves levels keep false [] s.is_read s.is_fine c.body s.is s.place s.linked s.is_attributed entry s.next s.placed
-            depth frames args back i count target ra w stands enters (spare + 1) (omega (arith, paid)) asked)
+            depth frames args back i count target ra (spare + 1) w stands enters (omega (arith, paid)) asked)
 
     by_count : (c : Code) (b : Bool) → eqb (length args) c.body.params ≡ b → programs.Stands y setting machine entry c
         → A (λ w. cond b (called setting (Some c) levels args depth frames w) (record { cost = 0; end = Stuck }))

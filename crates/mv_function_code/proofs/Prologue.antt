@@ -1,5 +1,5 @@
 -- The prologue as a whole.
-use Rattle.std.proofs.Common.{◌≡◌, ◌≢◌, ℕ, ◌+◌, ◌-◌, ◌*◌, ◌^◌, ◌<◌, ◌≤◌, cond, List, ◌++◌, slice_index, Some, sym, ap, ◌∙◌, subst, arith}
+use Rattle.std.proofs.Common.{◌≡◌, ◌≢◌, ℕ, ◌+◌, ◌*◌, ◌^◌, ◌<◌, ◌≤◌, cond, List, ◌++◌, slice_index, Some, sym, ap, ◌∙◌, arith}
 use Rattle.std.proofs.Math.Nat.{le-max_right, min-le_right}
 use Rattle.mv_isa.specs.declared.labelled.Line.{Line}
 use Rattle.mv_isa.specs.Execution.{Access, reg, put}
@@ -14,12 +14,12 @@ use Rattle.mv_flow_code.specs.Runs.{Machine, IsRun}
 use Rattle.mv_flow_code.proofs.Walk.{placed_split}
 use Rattle.mv_call_code.specs.CallCode.{live_register}
 use Rattle.mv_call_code.specs.Convention.{Layout}
-use Rattle.mv_function_code.specs.FunctionCode.{Shape, bytes_of, saved_count, saved_register, save_lines, parameter_lines, enter_lines, prologue_lines}
+use Rattle.mv_function_code.specs.FunctionCode.{Shape, bytes_of, saved_count, saved_register, save_lines, parameter_lines, enter_lines, lowered_lines}
 use Rattle.mv_function_code.specs.Functions.{IsStack, IsWord, IsLaid, IsMemory, StandsInWords}
 use Rattle.mv_function_code.proofs.Entry.{Saves, Moves, sp_apart, save_walk, parameter_walk}
 use Rattle.mv_function_code.proofs.Frame.{IsFrame}
 use Rattle.mv_function_code.proofs.FrameWords.{W, P}
-use Rattle.mv_function_code.proofs.Steps.{Counted, down, enter_walk}
+use Rattle.mv_function_code.proofs.Steps.{Counted, enter_walk}
 
 -- a frame has room for its saved registers
 pub room_for_saved : (shape : Shape) → 40 ≤ bytes_of shape
@@ -63,7 +63,7 @@ module _ {M : Type 0} (access : Access M) (y : Layout) (laid : IsLaid y) (machin
 
   pub prologue_walk : (shape : Shape) (args : List ℕ) (live sp caller : ℕ) (before : List ℕ) (m0 : M) (w : World) (pc next i : ℕ) → IsFrame y shape sp caller → shape.params ≤ 8
       → reg before 2 ≡ caller → reg before live_register ≡ live → live + 1 < 2 ^ 32 → AreRegisters before → ((j : ℕ) → j < shape.params → reg before (first + j) ≡ slice_index args j)
-      → Ps (prologue_lines shape.attributed shape.params shape.temps (bytes_of shape)) pc next → Ws w pc before m0 i → Prepared shape args live sp before m0 w next i
+      → Ps (lowered_lines shape.attributed shape.params shape.temps) pc next → Ws w pc (put before 2 sp) m0 (i + 1) → Prepared shape args live sp before m0 w next i
   prologue_walk shape args live sp caller before m0 w pc next i is few sp_before live_before small are held p a = record {
     regs = d.after;
     mem = b.after;
@@ -96,22 +96,15 @@ module _ {M : Type 0} (access : Access M) (y : Layout) (laid : IsLaid y) (machin
       are_now : AreRegisters (put before 2 sp)
       are_now = put_registers before 2 sp are (omega arith) (omega arith) below
 
-      lower : caller - bytes_of shape ≡ sp
-      lower = omega (arith, is.below)
-
-      q : (mid : ℕ) × Ps (save_lines (saved_count shape.temps)) p.0 mid × Ps (parameter_lines shape.params ++ enter_lines shape.attributed) mid next
-      q = placed_split machine.text place y.entry (save_lines (saved_count shape.temps)) (parameter_lines shape.params ++ enter_lines shape.attributed) p.0 next p.2
+      q : (mid : ℕ) × Ps (save_lines (saved_count shape.temps)) pc mid × Ps (parameter_lines shape.params ++ enter_lines shape.attributed) mid next
+      q = placed_split machine.text place y.entry (save_lines (saved_count shape.temps)) (parameter_lines shape.params ++ enter_lines shape.attributed) pc next p
 
       u : (mid : ℕ) × Ps (parameter_lines shape.params) q.0 mid × Ps (enter_lines shape.attributed) mid next
       u = placed_split machine.text place y.entry (parameter_lines shape.params) (enter_lines shape.attributed) q.0 next q.2
 
-      first_step : Ws w p.0 (put before 2 sp) m0 (i + 1)
-      first_step = subst (λ z. Ws w p.0 (put before 2 z) m0 (i + 1)) lower
-          (down access y laid machine memory runs budget far place (bytes_of shape) caller w pc p.0 before m0 i (omega (arith, room_for_saved shape)) (omega (arith, is.below)) (omega (arith, is.high, laid.top)) sp_before p.1 a)
-
       b : Saves access y laid machine memory runs budget far place (saved_count shape.temps) sp w q.0 (put before 2 sp) m0 (i + 1 + saved_count shape.temps)
-      b = save_walk access y laid machine memory runs budget far place (saved_count shape.temps) sp w p.0 q.0 now m0 (i + 1) saved_few sp_now
-          (λ j lt. saved_words y shape sp caller is j (omega (arith, lt, saved_few))) are_now q.1 first_step
+      b = save_walk access y laid machine memory runs budget far place (saved_count shape.temps) sp w pc q.0 now m0 (i + 1) saved_few sp_now
+          (λ j lt. saved_words y shape sp caller is j (omega (arith, lt, saved_few))) are_now q.1 a
 
       c : Moves access y laid machine memory runs budget far place shape.params w u.0 (put before 2 sp) b.after (i + 1 + saved_count shape.temps + shape.params)
       c = parameter_walk access y laid machine memory runs budget far place shape.params w q.0 u.0 now b.after (i + 1 + saved_count shape.temps) few are_now u.1 b.stands

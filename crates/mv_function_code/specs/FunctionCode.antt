@@ -60,9 +60,12 @@ enter_lines attributed = cond attributed (one (Addi live_register live_register 
 abbrev pub leave_lines : Bool → List Line
 leave_lines attributed = cond attributed (one (Addi live_register live_register minus_one)) []
 
+-- what follows where sp has moved
+abbrev pub lowered_lines : Bool → (params temps : ℕ) → List Line
+lowered_lines attributed params temps = save_lines (saved_count temps) ++ (parameter_lines params ++ enter_lines attributed)
+
 abbrev pub prologue_lines : Bool → (params temps bytes : ℕ) → List Line
-prologue_lines attributed params temps bytes =
-    Word (Addi 2 2 (pos 0 -ℤ pos bytes)) ∷ (save_lines (saved_count temps) ++ (parameter_lines params ++ enter_lines attributed))
+prologue_lines attributed params temps bytes = Word (Addi 2 2 (pos 0 -ℤ pos bytes)) ∷ lowered_lines attributed params temps
 
 abbrev pub epilogue_lines : Bool → (temps bytes : ℕ) → List Line
 epilogue_lines attributed temps bytes =
@@ -97,6 +100,12 @@ module _ (place size : ℕ → ℕ) (is_attributed : ℕ → Bool) (shape : Shap
 
   abbrev pub body_lines : List Stm → List Line
   body_lines code = (code_of plan code).lines [] (end_label + 1)
+
+  -- the code behind its first instruction
+  abbrev pub later_lines : List Stm → List Line
+  later_lines code =
+      lowered_lines shape.attributed shape.params shape.temps
+      ++ (body_lines code ++ (Label end_label ∷ epilogue_lines shape.attributed shape.temps (bytes_of shape)))
 
   abbrev pub function_lines : List Stm → List Line
   function_lines code =

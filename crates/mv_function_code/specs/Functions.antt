@@ -1,7 +1,7 @@
 -- What the code of a whole function promises: it keeps the calling convention, if the functions do at each lower bound.
-use Rattle.std.specs.Prelude.{ℕ, ◌≡◌, ◌≢◌, ◌+◌, ◌*◌, ◌%◌, ◌^◌, ◌<◌, ◌≤◌, ◌⊎◌, Bool, true, cond, ltb, List, length, slice_index, Some, None}
+use Rattle.std.specs.Prelude.{ℕ, ◌≡◌, ◌≢◌, ◌+◌, ◌-◌, ◌*◌, ◌%◌, ◌^◌, ◌<◌, ◌≤◌, ◌⊎◌, Bool, true, cond, ltb, List, length, slice_index, Some, None}
 use Rattle.mv_isa.specs.Code.{IsPlace}
-use Rattle.mv_isa.specs.Execution.{Access, reg}
+use Rattle.mv_isa.specs.Execution.{Access, reg, put}
 use Rattle.mv_ir.specs.declared.tree.Tree.{Tree}
 use Rattle.mv_ir.specs.declared.body.Body.{Body}
 use Rattle.mv_ir.specs.Trees.{found}
@@ -17,7 +17,7 @@ use Rattle.mv_call_code.specs.CallCode.{link_register}
 use Rattle.mv_call_code.specs.Convention.{Layout, IsTarget, IsAbove, frame_limit, Conventions, Answers}
 use Rattle.mv_call_code.specs.Environment.{ServesKnown}
 use Rattle.mv_call_code.specs.Laws.{IsLinked}
-use Rattle.mv_function_code.specs.FunctionCode.{Shape, array_offset, bytes_of, function_lines}
+use Rattle.mv_function_code.specs.FunctionCode.{Shape, array_offset, bytes_of, later_lines, function_lines}
 
 -- a word of the stack, and a word of the stack or of a global
 abbrev pub IsStack : Layout → ℕ → Type 0
@@ -102,5 +102,30 @@ FunctionsKeep M =
     (place : ℕ → ℕ) → IsLinked y place → (is_attributed : ℕ → Bool) (pc next : ℕ) →
     Placed machine.text place y.entry (function_lines y.place y.size is_attributed (shape_of attributed body) body.code) pc next →
     (depth live : ℕ) (args : List ℕ) (back i : ℕ) → length args ≡ body.params → IsTarget back → reg (machine.run i).regs link_register ≡ back →
+    Answers access y machine budget far 44 (length levels) pc back depth live args
+    (body_meaning setting (frame_in attributed bound depth live) body args levels) i
+
+-- at time i the run moves sp down by so many bytes, from a sound place, and goes on at another
+pub record LowersStack {M : Type 0} (machine : Machine M) (bytes mid i : ℕ) : Type 0 where
+  pub goes : machine.run (i + 1) ≡ record {
+    regs = put (machine.run i).regs 2 (reg (machine.run i).regs 2 - bytes);
+    pc = mid;
+    memory = (machine.run i).memory;
+  }
+  pub sound : machine.is_sound (machine.run i) ≡ true
+
+-- So does a function whose first instruction is carried out wherever it stands, as at an entry that may be patched: the rest of its code is text that is
+-- never patched.
+abbrev pub LaterKeeps : Type 0 → Type 0
+LaterKeeps M =
+    (access : Access M) (y : Layout) → IsLaid y → (machine : Machine M) → IsMemory access y machine →
+    ((s : Site) → StandsInWords y s → IsRun access s machine) → (setting : ir.Setting) →
+    ((f : ℕ) → f < length setting.numbers → (slice_index setting.numbers f ≡ y.entry f) × IsPlace (y.entry f)) →
+    (budget far : ℕ) → ServesKnown access y machine budget far setting → (levels : Bound) → Conventions access y machine budget far levels →
+    (attributed : Bool) (bound : List (ℕ × ℕ)) (is_read : ℕ → Bool) (is_fine : Tree → Bool) (body : Body) → IsFunction y setting attributed bound is_read is_fine body →
+    (place : ℕ → ℕ) → IsLinked y place → (is_attributed : ℕ → Bool) (pc mid next : ℕ) →
+    Placed machine.text place y.entry (later_lines y.place y.size is_attributed (shape_of attributed body) body.code) mid next →
+    (depth live : ℕ) (args : List ℕ) (back i : ℕ) → length args ≡ body.params → IsTarget back → reg (machine.run i).regs link_register ≡ back →
+    LowersStack machine (bytes_of (shape_of attributed body)) mid i →
     Answers access y machine budget far 44 (length levels) pc back depth live args
     (body_meaning setting (frame_in attributed bound depth live) body args levels) i
