@@ -101,6 +101,15 @@ module _ (n : ℕ) (a b : List Part) (keeps : Keeps a b) where
     around = record { none = replicate n false; leaves = all_kept (λ x. x.behind) (reverse ns.levels) within.behind i; restarts = all_kept (λ x. x.start) (reverse ns.levels) within.start i };
   }
 
+  pub within_kept : (ns : Numbered) → AreWithin a ns → AreWithin b ns
+  within_kept ns within = record {
+    live = (let l = within.live in let long = keeps.long in omega (arith, l, long));
+    saved = all_more (λ x. x) (reverse ns.saved) within.saved;
+    behind = all_more (λ x. x.behind) (reverse ns.levels) within.behind;
+    start = all_more (λ x. x.start) (reverse ns.levels) within.start;
+    rows = all_more (λ x. x) (reverse ns.rows) within.rows;
+  }
+
   module _ (ns : Numbered) (within : AreWithin a ns) (number : ℕ) where
     pub sets_kept : (bits : Bits) → bits_at n b number ≡ bits → sets_at n b (record ns { live = number }) ≡ with_live (sets_at n a ns) bits
     sets_kept bits e = λ i. record {

@@ -1,7 +1,8 @@
 -- Temporaries told, a part after the other and a row after the other.
-use Rattle.std.proofs.Common.{arith, ◌≡◌, ℕ, zero, suc, ◌+◌, ◌-◌, ◌*◌, ◌/◌, ◌<◌, ◌≤◌, Bool, true, false, cond, eqb, not, ◌&&◌, ◌||◌, List, [], ◌∷◌, length, drop, get_or, map, refl, sym, ap, ◌∙◌, subst, ◌⊎◌, inl, inr, None, Some}
+use Rattle.std.proofs.Common.{arith, ◌≡◌, ℕ, zero, suc, ◌+◌, ◌-◌, ◌*◌, ◌/◌, ◌<◌, ◌≤◌, Bool, true, false, cond, eqb, not, ◌&&◌, ◌||◌, List, [], ◌∷◌, length, drop, map, reverse, refl, sym, ap, ◌∙◌, subst, ◌⊎◌, inl, inr, None, Some}
 use Rattle.std.specs.Prelude.{slice_index, slice_index_or, replicate}
 use Rattle.std.proofs.lemmas.Bool.{cases_eq, eq-eqb, ne_eqb}
+use Rattle.std.proofs.lemmas.List.{drop_all, drop_more, get_or-map, get_or-reverse, length-drop, length-map, length-reverse}
 use Rattle.mv_ir.specs.Live.{mark_at, any, marks_length}
 use Rattle.mv_regalloc.specs.declared.parts.Part.{Part}
 use Rattle.mv_regalloc.specs.declared.told.Firsts.{Firsts}
@@ -12,6 +13,7 @@ use Rattle.mv_regalloc.specs.Rows.{Bits}
 use Rattle.mv_regalloc.specs.Shared.{bits_at}
 use Rattle.mv_regalloc.specs.Spanned.{AreCounts, behind_last, column, from_first}
 use Rattle.mv_regalloc.specs.Told.{AreSeen, AreTold, IsAllTold, IsPartTold, IsPut, IsRowTold}
+use Rattle.mv_regalloc.proofs.BodySpans.{long_zeros, zeros_at}
 use Rattle.mv_regalloc.proofs.PartWords.{at_each, even_place, even_word, none_words, odd_place, odd_word, word_here}
 use Rattle.mv_regalloc.proofs.Positions.{column_long, none_last}
 use Rattle.mv_regalloc.proofs.Putting.{put_as, put_none}
@@ -274,3 +276,65 @@ begins_all all n s h = record { long = h.long; items = λ t l. by t l (word_bit 
     by : (t : ℕ) → t < n → (b : Bool) → word_bit s.told t ≡ b → slice_index s.values t ≡ from_first (column t all)
     by t l true e = h.done t l e
     by t l false e = h.none t l e ∙ sym (h.left t l e)
+
+-- ---- the rows of all positions, of which the last one was noted first
+
+module _ (n : ℕ) (s : Firsts) (values : s.values ≡ replicate n 0) (told : s.told ≡ replicate (n / 64 + 1) 0) where
+  fresh_long : length s.values ≡ n
+  fresh_long = ap (λ l. length l) values ∙ long_zeros n
+
+  fresh_room : n ≤ length s.told * 64
+  fresh_room = let a = ap (λ l. length l) told ∙ long_zeros (n / 64 + 1) in omega (arith, a)
+
+  fresh_value : (t : ℕ) → slice_index s.values t ≡ 0
+  fresh_value t = ap (λ l. slice_index l t) values ∙ zeros_at n t
+
+  fresh_told : (t : ℕ) → word_bit s.told t ≡ false
+  fresh_told t = ap (λ l. word_bit l t) told ∙ ap (λ w. in_word w t) (zeros_at (n / 64 + 1) (t / 64)) ∙ none_in t
+
+  pub ends_none : (rows : List Bits) → rows ≡ [] → EndsSoFar rows n s
+  ends_none rows e = subst (λ l. EndsSoFar l n s) (sym e) (record { long = fresh_long; room = fresh_room; told = λ t l. fresh_told t; values = λ t l. fresh_value t })
+
+  pub begins_none : (all : List Bits) → BeginsSoFar all all n s
+  begins_none all = record {
+    long = fresh_long;
+    room = fresh_room;
+    done = λ t l b. (let d : false ≡ true = sym (fresh_told t) ∙ b in absurd cc);
+    none = λ t l b. fresh_value t;
+    left = λ t l b. refl;
+  }
+
+module _ (parts : List Part) (n : ℕ) (rows : List ℕ) where
+  abbrev all : List Bits
+  all = map (bits_at n parts) (reverse rows)
+
+  pub all_long : length all ≡ length rows
+  all_long = length-map (reverse rows) (bits_at n parts) ∙ length-reverse rows
+
+  row_next : (k : ℕ) → k < length rows → drop k all ≡ bits_at n parts (slice_index rows (length rows - 1 - k)) ∷ drop (k + 1) all
+  row_next k l =
+      let long = all_long in
+      let back = length-reverse rows in
+      drop_more all k [] (omega (arith, long, l)) ∙ ap (λ x. x ∷ drop (k + 1) all) (get_or-map (bits_at n parts) (reverse rows) k 0 [] (omega (arith, back, l)) ∙ ap (bits_at n parts) (get_or-reverse rows k 0 l))
+
+  module _ (i : ℕ) (l : i < length rows) (s s' : Firsts) where
+    pub ends_next : IsRowTold (λ t. in_word (word_of parts (slice_index rows i) (t / 64)) t) i s s' → EndsSoFar (drop (length rows - i) all) n s → EndsSoFar (drop (length rows - (i + 1)) all) n s'
+    ends_next h k =
+        let long = all_long in
+        let rest = length-drop (length rows - i) all in
+        let here : length rows - 1 - (length rows - (i + 1)) ≡ i = omega (arith, l) in
+        let next : length rows - (i + 1) + 1 ≡ length rows - i = omega (arith, l) in
+        subst (λ x. EndsSoFar x n s') (sym (row_next (length rows - (i + 1)) (omega (arith, l)) ∙ ap (λ j. bits_at n parts (slice_index rows j) ∷ drop (length rows - (i + 1) + 1) all) here ∙ ap (λ j. bits_at n parts (slice_index rows i) ∷ drop j all) next))
+        (ends_more parts (slice_index rows i) n s s' (drop (length rows - i) all) i (omega (arith, rest, long, l)) h k)
+
+    pub begins_next : IsRowTold (λ t. in_word (word_of parts (slice_index rows (length rows - 1 - i)) (t / 64)) t) (length rows - 1 - i + 1) s s' → BeginsSoFar all (drop i all) n s → BeginsSoFar all (drop (i + 1) all) n s'
+    begins_next h k =
+        let long = all_long in
+        let rest = length-drop (i + 1) all in
+        begins_more parts (slice_index rows (length rows - 1 - i)) n s s' all (drop (i + 1) all) (length rows - 1 - i + 1) (omega (arith, rest, long, l)) h (subst (λ x. BeginsSoFar all x n s) (row_next i l) k)
+
+  pub ends_done : (k : ℕ) (s : Firsts) → length rows ≤ k → EndsSoFar (drop (length rows - k) all) n s → AreCounts behind_last all n s.values
+  ends_done k s l h = let z : length rows - k ≡ 0 = omega (arith, l) in let g = subst (λ j. EndsSoFar (drop j all) n s) z h in record { long = g.long; items = g.values }
+
+  pub begins_done : (k : ℕ) (s : Firsts) → length rows ≤ k → BeginsSoFar all (drop k all) n s → AreCounts from_first all n s.values
+  begins_done k s l h = let long = all_long in begins_all all n s (subst (λ x. BeginsSoFar all x n s) (drop_all k all (omega (arith, long, l))) h)

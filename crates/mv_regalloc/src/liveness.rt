@@ -104,6 +104,20 @@ fn with_bit(parts: &mut Parts, number: u32, temp: u32) -> Result<u32, AllocError
     parts.with_word(number, temp / 64, word)
 }
 
+// The number of a set with another temporary, if there is one.
+fn with_some(parts: &mut Parts, number: u32, temp: Option<u32>) -> Result<u32, AllocError>
+    requires { number < length parts.old }
+    ensures keeps { Keeps parts.old parts.new }
+    ensures within { IfOk result (λ made. made < length parts.new) }
+    ensures bits { IfOk result (λ made.
+        (temps : ℕ) → bits_at temps parts.new made ≡ put_bit temp true (bits_at temps parts.old number)) }
+{
+    match temp {
+        Some(temp) => with_bit(parts, number, temp),
+        None => Ok(number),
+    }
+}
+
 impl Numbers {
     // The number of a set, which is that of no temporaries where there is no such set.
     fn of(&self, row: Row, none: u32) -> u32
@@ -210,11 +224,7 @@ impl Liveness {
     pub fn mark(&mut self, written: Option<u32>) -> Result<(), AllocError>
         ensures { OnOk result (self.new ≡ with_rows self.old (put_bit written true self.old.live ∷ [])) }
     {
-        let live = self.numbers.live;
-        let row = match written {
-            Some(temp) => with_bit(&mut self.parts, live, temp)?,
-            None => live,
-        };
+        let row = with_some(&mut self.parts, self.numbers.live, written)?;
         self.numbers.rows.push(row)?;
         Ok(())
     }
