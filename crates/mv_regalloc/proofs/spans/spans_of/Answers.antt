@@ -1,4 +1,5 @@
 use Rattle.std.proofs.Common.{[], ◌∷◌, length, map, sym, ap, ◌∙◌, subst}
+use Rattle.std.proofs.lemmas.List.{append-nil}
 use Rattle.mv_regalloc.specs.Rows.{live_before, rows_in_order, sets, stm_rows}
 use Rattle.mv_regalloc.specs.Shared.{LiveSets, walked, with_live, with_rows}
 use Rattle.mv_regalloc.specs.Spanned.{AreRowSpans, with_params}
@@ -17,5 +18,5 @@ returns c =
     ap (λ v. walked v (live_before (map stm_rows body.code) (sets v.around v.live)) (rows_in_order (map stm_rows body.code) (sets v.around v.live))) start)) in
     let wide : length (none body) ≡ body.temps = long_clear body.temps in
     if_ok_by c.spans.result
-    (λ s k. body_spans body s (length (none body)) wide (subst (λ v. AreRowSpans v.rows (length v.around.none) s) all k))
+    (λ s k. body_spans body s (length (none body)) wide (subst (λ l. AreRowSpans (first body ∷ l) (length (none body)) s) (append-nil (rows body)) (subst (λ v. AreRowSpans v.rows (length v.around.none) s) all k)))
     c.spans.ensures
