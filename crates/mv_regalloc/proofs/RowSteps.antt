@@ -23,7 +23,7 @@ module _ (s : LiveSets) where
   loop_walked b = let r = sets s.around s.live in ap (walked s ((stm_rows (at.Loop b)).live r)) (sym (rows_loop r b))
 
   pub if_walked : (t : Tree) (a b : List Stm) → (let r = sets s.around s.live in let live = with_all_reads (own_trees (at.If t a b)) (either_bits (live_before (map stm_rows a) r) (live_before (map stm_rows b) r)) in
-      walked s live (live ∷ (rows_in_order (map stm_rows a) r ++ rows_in_order (map stm_rows b) r))) ≡ walked s ((stm_rows (at.If t a b)).live r) ((stm_rows (at.If t a b)).rows r)
+      walked s live (live ∷ (rows_in_order (map stm_rows a) r ++ rows_in_order (map stm_rows b) r))) ≡ walked s ((stm_rows (at.If t a b)).live (sets s.around s.live)) ((stm_rows (at.If t a b)).rows (sets s.around s.live))
   if_walked t a b =
       let r = sets s.around s.live in
       ap (λ l. walked s l (l ∷ (rows_in_order (map stm_rows a) r ++ rows_in_order (map stm_rows b) r))) (sym (live_if r t a b)) ∙ ap (walked s ((stm_rows (at.If t a b)).live r)) (sym (rows_if r t a b))

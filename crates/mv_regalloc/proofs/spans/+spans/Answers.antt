@@ -30,7 +30,7 @@ mark_block-returns t c =
     let old = c.args.liveness.now in
     on_ok_weaker c.mark.result
     (λ z. z ∙ ap (λ v. with_rows v (v.live ∷ [])) (c.leave.ensures ∙ ap left (c.in_ok-mark_code.ensures ∙
-    ap (λ v. walked v (live_before (map stm_rows code) (sets v.around v.live)) (rows_in_order (map stm_rows code) (sets v.around v.live))) c.in_ok-enter.ensures)) ∙
+    ap (λ v. walked v (live_before (map stm_rows code) (sets v.around v.live)) (rows_in_order (map stm_rows code) (sets v.around v.live))) c.in_ok-enter.ensures.ok)) ∙
     block_walked old code)
     c.mark.ensures
 
@@ -40,7 +40,16 @@ mark_loop-returns t c =
     let old = c.args.liveness.now in
     on_ok_weaker c.mark.result
     (λ z. z ∙ ap (λ v. with_rows v (v.live ∷ [])) (c.forget.ensures ∙ ap forgotten (c.leave.ensures ∙ ap left (c.turn.ensures ∙ ap (λ v. with_live v (row_of v (Start 0))) (c.in_ok-mark_code.ensures ∙
-    ap (λ v. walked v (live_before (map stm_rows code) (sets v.around v.live)) (rows_in_order (map stm_rows code) (sets v.around v.live))) (c.in_ok-enter.ensures ∙ ap (λ v. entered v (row_of v (Saved 0)) v.live)
-    (c.in_ok-live_loop.ensures ∙ ap (λ v. with_live v ((stm_rows (at.Loop code)).live (sets v.around v.live))) c.in_ok-save.ensures)))))) ∙
+    ap (λ v. walked v (live_before (map stm_rows code) (sets v.around v.live)) (rows_in_order (map stm_rows code) (sets v.around v.live))) (c.in_ok-enter.ensures.ok ∙ ap (λ v. entered v (row_of v (Saved 0)) v.live)
+    (c.in_ok-live_loop.ensures ∙ ap (λ v. with_live v ((stm_rows (at.Loop code)).live (sets v.around v.live))) c.in_ok-save.ensures.ok)))))) ∙
     loop_walked old code)
     c.mark.ensures
+
+pub mark_stm-returns-in_ok-join-in-If : goal.mark_stm-returns-in_ok-join-in-If
+mark_stm-returns-in_ok-join-in-If t c =
+    let old = c.args.liveness.now in
+    let test = c.in-If.test in
+    let a = c.in-If.a in
+    let b = c.in-If.b in
+    let code = λ (l : List Stm). λ (v : LiveSets). walked v (live_before (map stm_rows l) (sets v.around v.live)) (rows_in_order (map stm_rows l) (sets v.around v.live)) in
+    ?
