@@ -6,14 +6,13 @@ use Rattle.std.proofs.lemmas.Bool.{cases_eq, cases_lt, lt-ltb, le-ltb, eq-eqb, n
 use Rattle.mv_ir.specs.declared.body.Body.{Body}
 use Rattle.mv_ir.specs.Live.{mark_at, any, marks_length, live_in_order, marks_in_order, flow, nowhere, live_at_start, all_marks}
 use Rattle.mv_regalloc.specs.Rows.{Bits, sets, live_before, rows_in_order, stm_rows, no_sets}
-use Rattle.mv_regalloc.specs.Spanned.{SoFar, no_spans, shown, column, from_first, behind_last, Adds, AreSpansOf, with_params}
+use Rattle.mv_regalloc.specs.Spanned.{SpanTable, column, from_first, behind_last, AreRowSpans, AreSpansOf, with_params}
 use Rattle.mv_regalloc.specs.LiveBits.{in_word, word_bit}
 use Rattle.mv_regalloc.proofs.RowBits.{set_bit}
 use Rattle.mv_regalloc.proofs.WordBits.{none_in}
 use Rattle.mv_regalloc.proofs.RowsShow.{ListShows, body_shows, seen_nowhere}
 use Rattle.mv_regalloc.proofs.RowsLong.{code_rows_long}
 use Rattle.mv_regalloc.proofs.Marks.{code_long}
-use Rattle.mv_regalloc.proofs.Adding.{adds_two, none_first, none_last}
 
 params_long : (n : ℕ) (bits : Bits) → length (with_params n bits) ≡ length bits
 params_long zero bits = refl
@@ -54,7 +53,7 @@ clear_at zero t = refl
 clear_at (suc n) zero = refl
 clear_at (suc n) (suc t) = clear_at n t
 
-long_zeros : (n : ℕ) → length {A = ℕ} (replicate n 0) ≡ n
+pub long_zeros : (n : ℕ) → length {A = ℕ} (replicate n 0) ≡ n
 long_zeros zero = refl
 long_zeros (suc n) = ap suc (long_zeros n)
 
@@ -63,13 +62,13 @@ long_clear zero = refl
 long_clear (suc n) = ap suc (long_clear n)
 
 module _ (b : Body) where
-  abbrev none : Bits
+  abbrev pub none : Bits
   none = replicate b.temps false
 
-  abbrev rows : List Bits
+  abbrev pub rows : List Bits
   rows = rows_in_order (map stm_rows b.code) (no_sets none)
 
-  abbrev first : Bits
+  abbrev pub first : Bits
   first = with_params b.params (live_before (map stm_rows b.code) (no_sets none))
 
   shows : ListShows b.temps b.code (no_sets none)
@@ -87,33 +86,11 @@ module _ (b : Body) where
   rows_all t = ap suc (code_rows_long b.code (no_sets none) ∙ sym (code_long t b.code nowhere))
 
   -- from what the code has made
-  pub body_spans : (clear bits after : Bits) (leaves restarts : List Bits) (old s s' : SoFar) → clear ≡ none → leaves ≡ [] → restarts ≡ [] → bits ≡ none → old ≡ no_spans b.temps →
-      after ≡ live_before (map stm_rows b.code) (sets (record { none = clear; leaves = leaves; restarts = restarts }) bits) →
-      Adds (rows_in_order (map stm_rows b.code) (sets (record { none = clear; leaves = leaves; restarts = restarts }) bits)) old s → Adds (with_params b.params after ∷ []) s s' → AreSpansOf (all_marks b) b.temps (shown s')
-  body_spans clear bits after leaves restarts old s s' k l m z f e x y =
-      let same : sets (record { none = clear; leaves = leaves; restarts = restarts }) bits ≡ no_sets none = λ i. record { none = k i; next = z i; leaves = l i; restarts = m i } in
-      let body : Adds rows (no_spans b.temps) s = subst (λ o. Adds o (no_spans b.temps) s) (ap (rows_in_order (map stm_rows b.code)) same) (subst (λ o. Adds (rows_in_order (map stm_rows b.code) (sets (record { none = clear; leaves = leaves; restarts = restarts }) bits)) o s) f x) in
-      let here : after ≡ live_before (map stm_rows b.code) (no_sets none) = e ∙ ap (live_before (map stm_rows b.code)) same in
-      let all : Adds (first ∷ rows) (no_spans b.temps) s' = adds_two rows (first ∷ []) (no_spans b.temps) s s' body (subst (λ o. Adds (with_params b.params o ∷ []) s s') here y) in
-      let wide = long_zeros b.temps in
-      let at = all.positions in
-      record {
-        positions = λ t. (let k = rows_all t in omega (arith, at, k));
-        begins_long = all.begins_long ∙ wide;
-        ends_long = all.ends_long ∙ wide;
-        begins = λ t l. all.begins t (omega (arith, wide, l)) refl ∙ ap (cond (any (column t (first ∷ rows))) (from_first (column t (first ∷ rows)) + 0)) (zeros_at b.temps t) ∙ begins_by (column t (first ∷ rows)) (any (column t (first ∷ rows))) refl ∙ ap from_first (columns t l);
-        ends = λ t l.
-            all.ends t (omega (arith, wide, l)) ∙ ap (λ g. cond (any (column t (first ∷ rows)) && not g) (behind_last (column t (first ∷ rows)) + 0) (slice_index (no_spans b.temps).ends t)) (clear_word t) ∙
-            ap (cond (any (column t (first ∷ rows)) && true) (behind_last (column t (first ∷ rows)) + 0)) (zeros_at b.temps t) ∙ ends_by (column t (first ∷ rows)) (any (column t (first ∷ rows))) refl ∙ ap behind_last (columns t l);
-      }
-    where
-      clear_word : (t : ℕ) → word_bit (no_spans b.temps).begun t ≡ false
-      clear_word t = ap (λ w. in_word w t) (zeros_at (b.temps / 64 + 1) (t / 64)) ∙ none_in t
-
-      begins_by : (xs : List Bool) (a : Bool) → any xs ≡ a → cond (any xs) (from_first xs + 0) 0 ≡ from_first xs
-      begins_by xs true e = ap (λ c. cond c (from_first xs + 0) 0) e ∙ omega arith
-      begins_by xs false e = ap (λ c. cond c (from_first xs + 0) 0) e ∙ sym (none_first xs e)
-
-      ends_by : (xs : List Bool) (a : Bool) → any xs ≡ a → cond (any xs && true) (behind_last xs + 0) 0 ≡ behind_last xs
-      ends_by xs true e = ap (λ c. cond (c && true) (behind_last xs + 0) 0) e ∙ omega arith
-      ends_by xs false e = ap (λ c. cond (c && true) (behind_last xs + 0) 0) e ∙ sym (none_last xs e)
+  pub body_spans : (s : SpanTable) (n : ℕ) → n ≡ b.temps → AreRowSpans (first ∷ rows) n s → AreSpansOf (all_marks b) b.temps s
+  body_spans s n e h = record {
+    positions = λ t. h.positions ∙ rows_all t;
+    begins_long = h.begins.long ∙ e;
+    ends_long = h.ends.long ∙ e;
+    begins = λ t l. h.begins.items t (omega (arith, e, l)) ∙ ap from_first (columns t l);
+    ends = λ t l. h.ends.items t (omega (arith, e, l)) ∙ ap behind_last (columns t l);
+  }

@@ -7,7 +7,7 @@ use Rattle.mv_regalloc.specs.Scan.{Placed, Interval, placed, scan}
 use Rattle.mv_regalloc.specs.Intervals.{first_from, last_from, span, beginning, by_first, given}
 use Rattle.mv_regalloc.specs.Spanned.{SpanTable, from_first, behind_last, AreSpansOf}
 use Rattle.mv_regalloc.specs.Tracked.{Tracks, interval}
-use Rattle.mv_regalloc.proofs.Adding.{none_first}
+use Rattle.mv_regalloc.proofs.Positions.{none_first}
 use Rattle.mv_regalloc.proofs.Ranges.{first_last}
 use Rattle.mv_regalloc.proofs.Sweep.{scan_append, by_first_more, given_placed}
 

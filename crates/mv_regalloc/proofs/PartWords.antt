@@ -11,7 +11,7 @@ use Rattle.std.proofs.lemmas.List.Elements.{All-weaker}
 use Rattle.mv_regalloc.specs.declared.joins.Join.{Join}
 use Rattle.mv_regalloc.specs.declared.parts.Part.{Part}
 use Rattle.mv_regalloc.specs.Scan.{has}
-use Rattle.mv_regalloc.specs.Parts.{IsJoin, no_part, part_at, further, word_within, word_of, AreParts, Keeps}
+use Rattle.mv_regalloc.specs.Parts.{AreJoined, IsJoin, no_part, part_at, further, word_within, word_of, AreParts, Keeps}
 
 pub if_ok_by : {T E : Type 0} {P Q : T → Type 0} (r : Result T E) → ((x : T) → P x → Q x) → IfOk r P → IfOk r Q
 if_ok_by {P} {Q} r h k = IfOk-weaker r P Q h k
@@ -249,57 +249,44 @@ none_join parts are = record {
   words = λ p. none_words parts are p ∙ sym (or_zero_l 0) ∙ ap (λ w. bit_or w 0) (sym (none_words parts are p)) ∙ ap (bit_or (word_of parts 0 p)) (sym (none_words parts are p));
 }
 
--- ---- where two differ
+-- ---- the places of a part's words
 
-or_first : (a b : Bool) → (a || b) ≡ false → a ≡ false
-or_first false b h = refl
-or_first true b h = h
+module _ (parts : List Part) (number : ℕ) where
+  pub odd_word : (q : ℕ) → word_of parts number (2 * q + 1) ≡ word_of parts (part_at parts number).odd q
+  odd_word q =
+      let side : (2 * q + 1) % 2 ≡ 1 = omega arith in
+      let half : (2 * q + 1 - 1) / 2 ≡ q = omega arith in
+      word_further parts number (2 * q + 1) (omega arith) ∙ ap (λ c. word_of parts (cond c (part_at parts number).odd (part_at parts number).even) ((2 * q + 1 - 1) / 2)) (eq-eqb ((2 * q + 1) % 2) 1 side) ∙
+      ap (word_of parts (part_at parts number).odd) half
 
-or_second : (a b : Bool) → (a || b) ≡ false → b ≡ false
-or_second false b h = h
-or_second true b h = let d : true ≡ false = h in absurd cc
+  pub even_word : (q : ℕ) → word_of parts number (2 * q + 2) ≡ word_of parts (part_at parts number).even q
+  even_word q =
+      let side : (2 * q + 2) % 2 ≡ 1 → ⊥ = λ k. omega (arith, k) in
+      let half : (2 * q + 2 - 1) / 2 ≡ q = omega arith in
+      word_further parts number (2 * q + 2) (omega arith) ∙ ap (λ c. word_of parts (cond c (part_at parts number).odd (part_at parts number).even) ((2 * q + 2 - 1) / 2)) (ne_eqb ((2 * q + 2) % 2) 1 side) ∙
+      ap (word_of parts (part_at parts number).even) half
 
-pub listed_before : (p : ℕ) (xs ys : List ℕ) → has p (xs ++ ys) ≡ false → has p xs ≡ false
-listed_before p [] ys h = refl
-listed_before p (x ∷ xs) ys h =
-    let later = listed_before p xs ys (or_second (eqb x p) (has p (xs ++ ys)) h) in
-    ap (λ c. c || has p xs) (or_first (eqb x p) (has p (xs ++ ys)) h) ∙ later
+  module _ (first step : ℕ) where
+    pub odd_place : (q : ℕ) → first + step + step * 2 * q ≡ first + step * (2 * q + 1)
+    odd_place q = omega arith
 
-pub listed_last : (p : ℕ) (xs : List ℕ) → has p (xs ++ p ∷ []) ≡ false → true ≡ false
-listed_last p [] h = sym (eq-eqb p p refl) ∙ or_first (eqb p p) false h
-listed_last p (x ∷ xs) h = listed_last p xs (or_second (eqb x p) (has p (xs ++ p ∷ [])) h)
+    pub even_place : (q : ℕ) → first + step * 2 + step * 2 * q ≡ first + step * (2 * q + 2)
+    even_place q = omega arith
 
--- a place in a part, and in the two that it leads to
-module _ (parts : List Part) (one other first step : ℕ) (listed : ℕ → Bool)
-    (here : listed first ≡ false → (part_at parts one).word ≡ (part_at parts other).word)
-    (odd : (q : ℕ) → listed (first + step + step * 2 * q) ≡ false → word_of parts (part_at parts one).odd q ≡ word_of parts (part_at parts other).odd q)
-    (even : (q : ℕ) → listed (first + step * 2 + step * 2 * q) ≡ false → word_of parts (part_at parts one).even q ≡ word_of parts (part_at parts other).even q) where
-  pub same_words : (q : ℕ) → listed (first + step * q) ≡ false → word_of parts one q ≡ word_of parts other q
-  same_words zero h = word_here parts one ∙ here (ap listed (let e : first ≡ first + step * 0 = omega arith in e) ∙ h) ∙ sym (word_here parts other)
-  same_words (suc n) h = word_further parts one p (omega arith) ∙ by (cases_eq (p % 2) 1) ∙ sym (word_further parts other p (omega arith))
-    where
-      p : ℕ
-      p = suc n
-
-      r : ℕ
-      r = (p - 1) / 2
-
-      side : Bool → Type 0
-      side c = word_of parts (cond c (part_at parts one).odd (part_at parts one).even) r ≡ word_of parts (cond c (part_at parts other).odd (part_at parts other).even) r
-
-      at_odd : p % 2 ≡ 1 → first + step + step * 2 * r ≡ first + step * p
-      at_odd k = let e : 2 * r + 1 ≡ p = omega (arith, k) in let m : step * (2 * r + 1) ≡ step * p = ap (λ v. step * v) e in omega (arith, m)
-
-      at_even : (p % 2 ≡ 1 → ⊥) → first + step * 2 + step * 2 * r ≡ first + step * p
-      at_even k = let e : 2 * r + 2 ≡ p = omega (arith, k) in let m : step * (2 * r + 2) ≡ step * p = ap (λ v. step * v) e in omega (arith, m)
-
-      by : (p % 2 ≡ 1) ⊎ (p % 2 ≡ 1 → ⊥) → side (eqb (p % 2) 1)
-      by (inl k) = subst side (sym (eq-eqb (p % 2) 1 k)) (odd r (ap listed (at_odd k) ∙ h))
-      by (inr k) = subst side (sym (ne_eqb (p % 2) 1 k)) (even r (ap listed (at_even k) ∙ h))
-
-pub same_if : (a b : ℕ) → not (eqb a b) ≡ false → a ≡ b
-same_if a b h = by (cases_eq a b)
-  where
-    by : (a ≡ b) ⊎ (a ≡ b → ⊥) → a ≡ b
-    by (inl e) = e
-    by (inr n) = let d : true ≡ false = sym (ap not (ne_eqb a b n)) ∙ h in absurd cc
+    -- what holds of its own word, and of those of the two parts that it leads to
+    pub at_each : (P : ℕ → ℕ → Type 0) → P first (part_at parts number).word →
+        ((q : ℕ) → P (first + step + step * 2 * q) (word_of parts (part_at parts number).odd q)) →
+        ((q : ℕ) → P (first + step * 2 + step * 2 * q) (word_of parts (part_at parts number).even q)) → (q : ℕ) → P (first + step * q) (word_of parts number q)
+    at_each P own odd even q = by (cases_eq q 0) (cases_eq (q % 2) 1)
+      where
+        by : (q ≡ 0) ⊎ (q ≡ 0 → ⊥) → (q % 2 ≡ 1) ⊎ (q % 2 ≡ 1 → ⊥) → P (first + step * q) (word_of parts number q)
+        by (inl z) _ =
+            let here : first ≡ first + step * q = (let e : step * 0 ≡ step * q = ap (λ v. step * v) (sym z) in omega (arith, e)) in
+            subst (λ p. P p (word_of parts number q)) here (subst (λ w. P first w) (sym (ap (word_of parts number) z ∙ word_here parts number)) own)
+        by (inr n) (inl k) =
+            let r : 2 * (q / 2) + 1 ≡ q = omega (arith, k) in
+            subst (λ v. P (first + step * v) (word_of parts number v)) r (subst (λ p. P p (word_of parts number (2 * (q / 2) + 1))) (odd_place (q / 2)) (subst (λ w. P (first + step + step * 2 * (q / 2)) w) (sym (odd_word (q / 2))) (odd (q / 2))))
+        by (inr n) (inr k) =
+            let r : 2 * (q / 2 - 1) + 2 ≡ q = omega (arith, k, n) in
+            subst (λ v. P (first + step * v) (word_of parts number v)) r
+            (subst (λ p. P p (word_of parts number (2 * (q / 2 - 1) + 2))) (even_place (q / 2 - 1)) (subst (λ w. P (first + step * 2 + step * 2 * (q / 2 - 1)) w) (sym (even_word (q / 2 - 1))) (even (q / 2 - 1))))

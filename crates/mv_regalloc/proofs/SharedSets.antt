@@ -10,11 +10,11 @@ use Rattle.mv_ir.specs.Live.{mark_at}
 use Rattle.mv_regalloc.specs.declared.liveness.Level.{Level}
 use Rattle.mv_regalloc.specs.declared.parts.Part.{Part}
 use Rattle.mv_regalloc.specs.LiveBits.{in_word}
-use Rattle.mv_regalloc.specs.Parts.{IsWithin, word_of, Keeps}
+use Rattle.mv_regalloc.specs.Parts.{word_of, Keeps}
 use Rattle.mv_regalloc.specs.Rows.{Bits, either_bits}
 use Rattle.mv_regalloc.specs.declared.liveness.Row.{Row}
-use Rattle.mv_regalloc.specs.declared.liveness.Row.TheVariants.{Empty, Live, Marked, Saved, Behind, Start}
-use Rattle.mv_regalloc.specs.Shared.{LiveSets, Numbered, AreWithin, bits_at, entered, forgotten, is_kept, number_of, row_of, sets_at, with_live, with_saved}
+use Rattle.mv_regalloc.specs.declared.liveness.Row.TheVariants.{Empty, Live, Saved, Behind, Start}
+use Rattle.mv_regalloc.specs.Shared.{LiveSets, Numbered, AreWithin, bits_at, entered, forgotten, number_of, row_of, sets_at, with_live, with_rows, with_saved}
 use Rattle.mv_regalloc.proofs.BitLists.{at_get, same_bits, past_bit, either_or}
 use Rattle.mv_regalloc.proofs.RowBits.{set_bit, either_long}
 use Rattle.mv_regalloc.proofs.WordBits.{bits_either, none_in}
@@ -42,22 +42,6 @@ module _ (n : ℕ) where
 
     pub bit_past : (t : ℕ) → n ≤ t → mark_at (bits_at n parts number) t ≡ false
     bit_past t l = past_bit (bits_at n parts number) t (let a = tests_long (λ t. in_word (word_of parts number (t / 64)) t) in omega (arith, a, l))
-
-    -- also past the end
-    pub bit_below : (t : ℕ) → mark_at (bits_at n parts number) t ≡ (in_word (word_of parts number (t / 64)) t && ltb t n)
-    bit_below t = by (cases_lt t n)
-      where
-        on : (c : Bool) → c ≡ (c && true)
-        on true = refl
-        on false = refl
-
-        off : (c : Bool) → false ≡ (c && false)
-        off true = refl
-        off false = refl
-
-        by : (t < n) ⊎ (n ≤ t) → mark_at (bits_at n parts number) t ≡ (in_word (word_of parts number (t / 64)) t && ltb t n)
-        by (inl l) = bit_in t l ∙ on (in_word (word_of parts number (t / 64)) t) ∙ ap (λ c. in_word (word_of parts number (t / 64)) t && c) (sym (lt-ltb t n l))
-        by (inr l) = bit_past t l ∙ off (in_word (word_of parts number (t / 64)) t) ∙ ap (λ c. in_word (word_of parts number (t / 64)) t && c) (sym (le-ltb t n l))
 
     pub none_at : ((place : ℕ) → word_of parts number place ≡ 0) → bits_at n parts number ≡ replicate n false
     none_at h =
@@ -91,15 +75,6 @@ module _ (n : ℕ) where
         ap (λ c. mark_at (bits_at n parts number) t || c) (sym (tests_bit (λ t. in_word (word_of parts other (t / 64)) t) t l)) ∙
         sym (either_or (bits_at n parts number) (bits_at n parts other) t (omega (arith, one, l))))
 
--- a bit of a word is one of the other word, which it is within
-pub word_among : (n t word other : ℕ) → IsWithin word other → (in_word word t && ltb t n) ≡ true → (in_word other t && ltb t n) ≡ true
-word_among n t word other e = by (in_word word t) (in_word other t) (ltb t n) (sym (bits_either word other t) ∙ ap (λ w. in_word w t) e)
-  where
-    by : (a b low : Bool) → (a || b) ≡ b → (a && low) ≡ true → (b && low) ≡ true
-    by true true low e h = h
-    by true false low e h = let d : true ≡ false = e in absurd cc
-    by false b low e h = let d : false ≡ true = h in absurd cc
-
 -- ---- the other sets
 
 map_as : {X Y : Type 0} (f g : X → Y) (xs : List X) → ((k : ℕ) (d : X) → k < length xs → f (slice_index_or xs k d) ≡ g (slice_index_or xs k d)) → map f xs ≡ map g xs
@@ -121,25 +96,26 @@ module _ (n : ℕ) (a b : List Part) (keeps : Keeps a b) where
   pub same_kept : (ns : Numbered) → AreWithin a ns → sets_at n b ns ≡ sets_at n a ns
   same_kept ns within = λ i. record {
     live = kept_at ns.live within.live i;
-    marked = kept_at ns.marked within.marked i;
     saved = all_kept (λ x. x) (reverse ns.saved) within.saved i;
+    rows = all_kept (λ x. x) (reverse ns.rows) within.rows i;
     around = record { none = replicate n false; leaves = all_kept (λ x. x.behind) (reverse ns.levels) within.behind i; restarts = all_kept (λ x. x.start) (reverse ns.levels) within.start i };
   }
 
-  module _ (ns : Numbered) (within : AreWithin a ns) (number : ℕ) where
-    pub marked_kept : (bits : Bits) → bits_at n b number ≡ bits → sets_at n b (record ns { marked = number }) ≡ (let v : LiveSets = record (sets_at n a ns) { marked = bits } in v)
-    marked_kept bits e = λ i. record {
-      live = kept_at ns.live within.live i;
-      marked = e i;
-      saved = all_kept (λ x. x) (reverse ns.saved) within.saved i;
-      around = record { none = replicate n false; leaves = all_kept (λ x. x.behind) (reverse ns.levels) within.behind i; restarts = all_kept (λ x. x.start) (reverse ns.levels) within.start i };
-    }
+  pub within_kept : (ns : Numbered) → AreWithin a ns → AreWithin b ns
+  within_kept ns within = record {
+    live = (let l = within.live in let long = keeps.long in omega (arith, l, long));
+    saved = all_more (λ x. x) (reverse ns.saved) within.saved;
+    behind = all_more (λ x. x.behind) (reverse ns.levels) within.behind;
+    start = all_more (λ x. x.start) (reverse ns.levels) within.start;
+    rows = all_more (λ x. x) (reverse ns.rows) within.rows;
+  }
 
+  module _ (ns : Numbered) (within : AreWithin a ns) (number : ℕ) where
     pub sets_kept : (bits : Bits) → bits_at n b number ≡ bits → sets_at n b (record ns { live = number }) ≡ with_live (sets_at n a ns) bits
     sets_kept bits e = λ i. record {
       live = e i;
-      marked = kept_at ns.marked within.marked i;
       saved = all_kept (λ x. x) (reverse ns.saved) within.saved i;
+      rows = all_kept (λ x. x) (reverse ns.rows) within.rows i;
       around = record { none = replicate n false; leaves = all_kept (λ x. x.behind) (reverse ns.levels) within.behind i; restarts = all_kept (λ x. x.start) (reverse ns.levels) within.start i };
     }
 
@@ -179,7 +155,6 @@ module _ (n : ℕ) (parts : List Part) (ns : Numbered) where
     pub row_at : (row : Row) → at (number_of none ns row) ≡ row_of (sets_at n parts ns) row
     row_at Empty = none_here
     row_at Live = refl
-    row_at Marked = refl
     row_at (Saved k) = any_map at (reverse ns.saved) k none ∙ ap (slice_index_or (map at (reverse ns.saved)) k) none_here
     row_at (Behind k) = any_side at (λ l. l.behind) (reverse ns.levels) k none ∙ ap (slice_index_or (map (λ l. at l.behind) (reverse ns.levels)) k) none_here
     row_at (Start k) = any_side at (λ l. l.start) (reverse ns.levels) k none ∙ ap (slice_index_or (map (λ l. at l.start) (reverse ns.levels)) k) none_here
@@ -188,43 +163,54 @@ module _ (n : ℕ) (parts : List Part) (ns : Numbered) where
     pub row_within : (none : ℕ) → none < length parts → (row : Row) → number_of none ns row < length parts
     row_within none low Empty = low
     row_within none low Live = within.live
-    row_within none low Marked = within.marked
     row_within none low (Saved k) = subst (λ l. slice_index_or l k none < length parts) (map_id (reverse ns.saved)) (any_within (length parts) none (λ x. x) (reverse ns.saved) k within.saved low)
     row_within none low (Behind k) = any_within (length parts) none (λ l. l.behind) (reverse ns.levels) k within.behind low
     row_within none low (Start k) = any_within (length parts) none (λ l. l.start) (reverse ns.levels) k within.start low
 
     pub turn_within : (number : ℕ) → number < length parts → AreWithin parts (record ns { live = number })
-    turn_within number l = record { live = l; marked = within.marked; saved = within.saved; behind = within.behind; start = within.start }
+    turn_within number l = record { live = l; saved = within.saved; behind = within.behind; start = within.start; rows = within.rows }
 
     pub save_within : (number : ℕ) → number < length parts → AreWithin parts (record ns { saved = ns.saved ++ number ∷ [] })
     save_within number l = record {
       live = within.live;
-      marked = within.marked;
       saved = subst (λ xs. All (λ k. k < length parts) xs) (sym (reverse-append ns.saved (number ∷ []))) (All-cons (λ k. k < length parts) number (reverse ns.saved) l within.saved);
       behind = within.behind;
       start = within.start;
+      rows = within.rows;
+    }
+
+    pub mark_within : (number : ℕ) → number < length parts → AreWithin parts (record ns { rows = ns.rows ++ number ∷ [] })
+    mark_within number l = record {
+      live = within.live;
+      saved = within.saved;
+      behind = within.behind;
+      start = within.start;
+      rows = subst (λ xs. All (λ k. k < length parts) xs) (sym (reverse-append ns.rows (number ∷ []))) (All-cons (λ k. k < length parts) number (reverse ns.rows) l within.rows);
     }
 
     pub forget_within : (rest : List ℕ) → reverse rest ≡ drop 1 (reverse ns.saved) → AreWithin parts (record ns { saved = rest })
     forget_within rest e = record {
       live = within.live;
-      marked = within.marked;
       saved = subst (λ xs. All (λ k. k < length parts) xs) (sym e) (All-drop (λ k. k < length parts) 1 (reverse ns.saved) within.saved);
       behind = within.behind;
       start = within.start;
+      rows = within.rows;
     }
 
     pub enter_within : (l : Level) → l.behind < length parts → l.start < length parts → AreWithin parts (record ns { levels = ns.levels ++ l ∷ [] })
     enter_within l b s = record {
       live = within.live;
-      marked = within.marked;
       saved = within.saved;
       behind = subst (λ xs. All (λ x. x.behind < length parts) xs) (sym (reverse-append ns.levels (l ∷ []))) (All-cons (λ x. x.behind < length parts) l (reverse ns.levels) b within.behind);
       start = subst (λ xs. All (λ x. x.start < length parts) xs) (sym (reverse-append ns.levels (l ∷ []))) (All-cons (λ x. x.start < length parts) l (reverse ns.levels) s within.start);
+      rows = within.rows;
     }
 
   pub save_at : (number : ℕ) (bits : Bits) → at number ≡ bits → sets_at n parts (record ns { saved = ns.saved ++ number ∷ [] }) ≡ with_saved (sets_at n parts ns) bits
   save_at number bits e = ap (λ l. let v : LiveSets = record (sets_at n parts ns) { saved = map at l } in v) (reverse-append ns.saved (number ∷ [])) ∙ ap (with_saved (sets_at n parts ns)) e
+
+  pub mark_at_end : (number : ℕ) (bits : Bits) → at number ≡ bits → sets_at n parts (record ns { rows = ns.rows ++ number ∷ [] }) ≡ with_rows (sets_at n parts ns) (bits ∷ [])
+  mark_at_end number bits e = ap (λ l. let v : LiveSets = record (sets_at n parts ns) { rows = map at l } in v) (reverse-append ns.rows (number ∷ [])) ∙ ap (λ b. with_rows (sets_at n parts ns) (b ∷ [])) e
 
   pub forget_at : (rest : List ℕ) → reverse rest ≡ drop 1 (reverse ns.saved) → sets_at n parts (record ns { saved = rest }) ≡ forgotten (sets_at n parts ns)
   forget_at rest e = ap (λ l. let v : LiveSets = record (sets_at n parts ns) { saved = l } in v) (ap (λ l. map at l) e ∙ sym (drop-map at 1 (reverse ns.saved)))
@@ -233,12 +219,3 @@ module _ (n : ℕ) (parts : List Part) (ns : Numbered) where
   enter_at l behind start e f =
       ap (λ xs. let v : LiveSets = record (sets_at n parts ns) { around = record { none = replicate n false; leaves = map (λ x. at x.behind) xs; restarts = map (λ x. at x.start) xs } } in v) (reverse-append ns.levels (l ∷ [])) ∙
       ap (λ b. entered (sets_at n parts ns) b (at l.start)) e ∙ ap (entered (sets_at n parts ns) behind) f
-
--- which row was marked last says nothing of the others
-pub kept_row : (s : LiveSets) (marked : Bits) (row : Row) → is_kept row ≡ true → row_of (record s { marked = marked }) row ≡ row_of s row
-kept_row s marked Empty h = refl
-kept_row s marked Live h = refl
-kept_row s marked Marked h = let d : false ≡ true = h in absurd cc
-kept_row s marked (Saved k) h = refl
-kept_row s marked (Behind k) h = refl
-kept_row s marked (Start k) h = refl

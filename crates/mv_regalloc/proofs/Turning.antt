@@ -3,7 +3,7 @@ use Rattle.std.proofs.Common.{arith, ◌≡◌, ℕ, ◌+◌, ◌<◌, ◌*◌, 
 use Rattle.std.specs.Prelude.{slice_index, slice_set}
 use Rattle.std.proofs.lemmas.Bool.{cases_eq, eq-eqb, ne_eqb}
 use Rattle.mv_regalloc.specs.LiveBits.{in_word, word_bit}
-use Rattle.mv_regalloc.specs.Tables.{IsPut}
+use Rattle.mv_regalloc.specs.Told.{IsPut}
 use Rattle.mv_regalloc.proofs.WordBits.{none_in, bits_either, word_put, word_stays}
 use Rattle.mv_regalloc.proofs.Putting.{put_same, put_step}
 
@@ -108,18 +108,6 @@ place_as place t a b h = by (cases_eq (t / 64) place)
     by (inl e) = ap (λ c. eqb (t / 64) place && c) (h e)
     by (inr ne) = ap (λ c. c && a) (ne_eqb (t / 64) place ne) ∙ ap (λ c. c && b) (sym (ne_eqb (t / 64) place ne))
 
-pub among : (a b : Bool) → (a ≡ true → b ≡ true) → (a && not b) ≡ false
-among true b h = ap not (h refl)
-among false b h = refl
-
-pub or_more : (e l x b : Bool) → ((e && x) || ((l && x) || b)) ≡ (((l || e) && x) || b)
-or_more true true true b = refl
-or_more true true false b = refl
-or_more true false true b = refl
-or_more true false false b = refl
-or_more false true x b = refl
-or_more false false x b = refl
-
 -- the bits of a word are set at a place
 pub place_marked : (ws : List ℕ) (place word old : ℕ) → place < length ws → old ≡ slice_index ws place → (t : ℕ) → word_bit (slice_set ws place (bit_or old word)) t ≡ ((eqb (t / 64) place && in_word word t) || word_bit ws t)
 place_marked ws place word old room k t = by (cases_eq (t / 64) place)
@@ -138,19 +126,3 @@ place_marked ws place word old room k t = by (cases_eq (t / 64) place)
 
 pub place_past : (place : ℕ) (a b : Bool) (t : ℕ) → (t / 64 ≡ place → ⊥) → b ≡ ((eqb (t / 64) place && a) || b)
 place_past place a b t ne = ap (λ c. (c && a) || b) (sym (ne_eqb (t / 64) place ne))
-
--- the word of one temporary
-module _ (temp word t : ℕ) (h : t / 64 ≡ temp / 64 → in_word word t ≡ eqb temp t) where
-  pub single_here : (eqb (t / 64) (temp / 64) && in_word word t) ≡ eqb temp t
-  single_here = by (cases_eq (t / 64) (temp / 64))
-    where
-      by : (t / 64 ≡ temp / 64) ⊎ (t / 64 ≡ temp / 64 → ⊥) → (eqb (t / 64) (temp / 64) && in_word word t) ≡ eqb temp t
-      by (inl e) = ap (λ c. c && in_word word t) (eq-eqb (t / 64) (temp / 64) e) ∙ h e
-      by (inr ne) = ap (λ c. c && in_word word t) (ne_eqb (t / 64) (temp / 64) ne) ∙ sym (ne_eqb temp t (λ k. ne (ap (λ i. i / 64) (sym k))))
-
-  pub place_single : (c : Bool) → (eqb (t / 64) (temp / 64) && (in_word word t && c)) ≡ (eqb temp t && c)
-  place_single c = shift (eqb (t / 64) (temp / 64)) (in_word word t) ∙ ap (λ d. d && c) single_here
-    where
-      shift : (a b : Bool) → (a && (b && c)) ≡ ((a && b) && c)
-      shift true b = refl
-      shift false b = refl

@@ -37,10 +37,6 @@ pub record Keeps (parts more : List Part) : Type 0 where
   pub long : length parts ≤ length more
   pub words : (number place : ℕ) → number < length parts → word_of more number place ≡ word_of parts number place
 
--- each bit of a word is one of another word
-abbrev pub IsWithin : ℕ → ℕ → Type 0
-IsWithin word other = bit_or word other ≡ other
-
 -- a part has the bits of two
 pub record IsJoin (parts : List Part) (one other made : ℕ) : Type 0 where
   pub first : one < length parts

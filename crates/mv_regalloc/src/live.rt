@@ -1,14 +1,13 @@
 // Where temporaries are live: a walk over some code from its end to its start.
 
 ghost use Rattle.std.specs.Prelude.{◌≡◌, false, map, OnOk};
-ghost use Rattle.mv_regalloc.specs.Rows.{either_bits, own_trees, put_bit, sets, with_all_reads, with_reads, live_before, stm_rows};
-ghost use Rattle.mv_regalloc.specs.Shared.{row_of, with_live};
+ghost use Rattle.mv_regalloc.specs.Rows.{own_trees, put_bit, sets, with_all_reads, live_before, stm_rows};
+ghost use Rattle.mv_regalloc.specs.Shared.{with_live};
 ghost use Rattle.mv_regalloc.specs.Spanned.{with_params};
 
 use crate::liveness::{Liveness, Row};
-use crate::reads::{own_reads, tree_reads};
+use crate::reads::own_reads;
 use mv_ir::stm::Stm;
-use mv_ir::tree::Tree;
 use mv_num::list::List;
 use std::alloc::{AllocError, Global};
 
@@ -28,24 +27,8 @@ pub fn live_plain(
     liveness.insert_all(reads.as_slice())
 }
 
-/// From what is live before one list of an `If` to what is live at its test, where the other list has another set.
-pub fn live_test(
-    alloc: Global,
-    test: &Tree,
-    other: Row,
-    liveness: &mut Liveness,
-) -> Result<(), AllocError>
-    ensures { OnOk result (
-        liveness.new ≡ with_live liveness.old (with_reads test.now (either_bits liveness.old.live (row_of liveness.old other)))
-        ) }
-{
-    let reads = tree_reads(alloc, test)?;
-    liveness.join(other)?;
-    liveness.insert_all(reads.as_slice())
-}
-
 /// The parameters are there at the start.
-#[tactic(auto, using(crate::proofs::Adding::params_more))]
+#[tactic(auto, using(crate::proofs::Positions::params_more))]
 pub fn live_params(liveness: &mut Liveness, params: u32) -> Result<(), AllocError>
     ensures { OnOk result (liveness.new ≡ with_live liveness.old (with_params params liveness.old.live)) }
 {

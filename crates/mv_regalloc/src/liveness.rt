@@ -1,24 +1,24 @@
 // What is live where a walk stands, and sets that the walk comes back to. All of them share their parts, so to keep one
 // costs nothing, and to change one costs the way to a word.
 
-ghost use Rattle.std.specs.Prelude.{ℕ, ◌≡◌, ◌<◌, ◌≤◌, ◌/◌, IfOk, OnErr, OnOk, MatchOption, false, true, [], drop, length, replicate, reverse, slice_index_or, slice_set};
-ghost use Rattle.mv_ir.specs.Live.{mark_at};
-ghost use Rattle.mv_regalloc.specs.LiveBits.{in_word};
+ghost use Rattle.std.specs.Prelude.{ℕ, ◌≡◌, ◌<◌, ◌≤◌, ◌∷◌, IfOk, OnErr, OnOk, MatchOption, false, true, [], drop, length, replicate, reverse, slice_index_or, slice_set};
+ghost use Rattle.mv_regalloc.specs.Parts.{Keeps};
 ghost use Rattle.mv_regalloc.specs.Rows.{either_bits, put_bit, with_temps};
-ghost use Rattle.mv_regalloc.specs.Shared.{AreBeyond, entered, forgotten, held, left, number_of, numbered, row_of, with_live, with_saved};
+ghost use Rattle.mv_regalloc.specs.Shared.{bits_at, entered, forgotten, left, number_of, numbered, row_of, with_live, with_rows, with_saved};
+ghost use Rattle.mv_regalloc.specs.Spanned.{AreRowSpans};
 
 use crate::parts::Parts;
-use crate::words::{below, cleared, has_bit, set};
+use crate::table::Spans;
+use crate::words::{cleared, set};
 use std::alloc::{AllocError, Global};
 use std::marker::Model;
 
-/// One of the sets of a walk: none, what is live, the row that was marked last, one that was put aside, where 0 is the
-/// last one, and what is live behind a level or at its start, where 0 is the innermost.
+/// One of the sets of a walk: none, what is live, one that was put aside, where 0 is the last one, and what is live behind
+/// a level or at its start, where 0 is the innermost.
 #[derive(Clone, Copy)]
 pub enum Row {
     Empty,
     Live,
-    Marked,
     Saved(u32),
     Behind(u32),
     Start(u32),
@@ -31,16 +31,17 @@ pub struct Level {
     pub start: u32,
 }
 
-/// The sets of a walk, as numbers of parts.
+/// The sets of a walk, as numbers of parts, and the row of each position that it has gone over.
 #[derive(Drop)]
 pub struct Numbers {
     pub live: u32,
-    pub marked: u32,
     pub saved: Vec<u32>,
+    pub rows: Vec<u32>,
     pub levels: Vec<Level>,
 }
 
-/// What is live, the row that was marked last, sets put aside, and the levels around some code.
+/// What is live, sets put aside, the levels around some code, and the rows that were marked: at each position what is
+/// live or written there.
 #[derive(Drop)]
 pub struct Liveness {
     parts: Parts,
@@ -91,6 +92,32 @@ fn drop_last(saved: &mut Vec<u32>)
     saved.pop();
 }
 
+// The number of a set with one temporary more.
+fn with_bit(parts: &mut Parts, number: u32, temp: u32) -> Result<u32, AllocError>
+    requires { number < length parts.old }
+    ensures keeps { Keeps parts.old parts.new }
+    ensures within { IfOk result (λ made. made < length parts.new) }
+    ensures bits { IfOk result (λ made.
+        (temps : ℕ) → bits_at temps parts.new made ≡ slice_set (bits_at temps parts.old number) temp true) }
+{
+    let word = set(parts.word(number, temp / 64), temp);
+    parts.with_word(number, temp / 64, word)
+}
+
+// The number of a set with another temporary, if there is one.
+fn with_some(parts: &mut Parts, number: u32, temp: Option<u32>) -> Result<u32, AllocError>
+    requires { number < length parts.old }
+    ensures keeps { Keeps parts.old parts.new }
+    ensures within { IfOk result (λ made. made < length parts.new) }
+    ensures bits { IfOk result (λ made.
+        (temps : ℕ) → bits_at temps parts.new made ≡ put_bit temp true (bits_at temps parts.old number)) }
+{
+    match temp {
+        Some(temp) => with_bit(parts, number, temp),
+        None => Ok(number),
+    }
+}
+
 impl Numbers {
     // The number of a set, which is that of no temporaries where there is no such set.
     fn of(&self, row: Row, none: u32) -> u32
@@ -99,7 +126,6 @@ impl Numbers {
         match row {
             Row::Empty => none,
             Row::Live => self.live,
-            Row::Marked => self.marked,
             Row::Saved(n) => from_last(self.saved.as_slice(), n, none),
             Row::Behind(n) => match enclosing(self.levels.as_slice(), n) {
                 Some(level) => level.behind,
@@ -120,13 +146,14 @@ impl Liveness {
         ensures none { IfOk result (λ liveness. liveness.around.none ≡ replicate temps false) }
         ensures leaves { IfOk result (λ liveness. liveness.around.leaves ≡ []) }
         ensures restarts { IfOk result (λ liveness. liveness.around.restarts ≡ []) }
+        ensures rows { IfOk result (λ liveness. liveness.rows ≡ []) }
     {
         let parts = Parts::new(alloc)?;
         let none = parts.none();
         let numbers = Numbers {
             live: none,
-            marked: none,
             saved: Vec::new(alloc),
+            rows: Vec::new(alloc),
             levels: Vec::new(alloc),
         };
         Ok(Liveness {
@@ -136,42 +163,13 @@ impl Liveness {
         })
     }
 
-    /// Whether a temporary is live.
-    pub fn has(&self, temp: u32) -> bool
-        ensures { result ≡ mark_at self.now.live temp }
-    {
-        (temp as usize) < self.temps
-            && has_bit(self.parts.word(self.numbers.live, temp / 64), temp as usize)
-    }
-
-    /// The bits of 64 temporaries in a set, from 64 times the place on.
-    pub fn word(&self, row: Row, place: u32) -> u64
-        ensures { (t : ℕ) → t / 64 ≡ place → in_word result t ≡ mark_at (row_of self.now row) t }
-    {
-        let number = self.numbers.of(row, self.parts.none());
-        below(self.parts.word(number, place), place as usize, self.temps)
-    }
-
-    /// The places of 64 temporaries where a set may have some that another one lacks.
-    pub fn beyond(&mut self, alloc: Global, one: Row, other: Row) -> Result<Vec<u32>, AllocError>
-        ensures same { self.new ≡ self.old }
-        ensures beyond { IfOk result (λ places. AreBeyond places.items (row_of self.old one) (row_of self.old other)) }
-        ensures empty { (t : ℕ) → mark_at self.old.around.none t ≡ false }
-    {
-        let none = self.parts.none();
-        let one = self.numbers.of(one, none);
-        let other = self.numbers.of(other, none);
-        self.parts.beyond(alloc, one, other)
-    }
-
     /// A temporary past the end has no bit. Where memory lacks, the sets are as they were.
     pub fn insert(&mut self, temp: u32) -> Result<(), AllocError>
         ensures ok { OnOk result (self.new ≡ with_live self.old (slice_set self.old.live temp true)) }
         ensures err { OnErr result (self.new ≡ self.old) }
     {
         let live = self.numbers.live;
-        let word = set(self.parts.word(live, temp / 64), temp);
-        self.numbers.live = self.parts.with_word(live, temp / 64, word)?;
+        self.numbers.live = with_bit(&mut self.parts, live, temp)?;
         Ok(())
     }
 
@@ -222,27 +220,17 @@ impl Liveness {
         Ok(())
     }
 
-    /// Takes what is live as the row that was marked last.
-    pub fn hold(&mut self)
-        ensures { self.new ≡ held self.old }
+    /// A position at which what is live is marked, and a temporary that is written there.
+    pub fn mark(&mut self, written: Option<u32>) -> Result<(), AllocError>
+        ensures { OnOk result (self.new ≡ with_rows self.old (put_bit written true self.old.live ∷ [])) }
     {
-        self.numbers.marked = self.numbers.live;
-    }
-
-    /// Joins a set to the row that was marked last.
-    pub fn join_marked(&mut self, row: Row) -> Result<(), AllocError>
-        ensures ok { OnOk result (self.new ≡ record self.old { marked = either_bits self.old.marked (row_of self.old row) }) }
-        ensures err { OnErr result (self.new ≡ self.old) }
-    {
-        let none = self.parts.none();
-        let other = self.numbers.of(row, none);
-        self.numbers.marked = self.parts.joined(self.numbers.marked, other)?;
+        let row = with_some(&mut self.parts, self.numbers.live, written)?;
+        self.numbers.rows.push(row)?;
         Ok(())
     }
 
     /// Puts a set aside.
     pub fn save(&mut self, row: Row) -> Result<(), AllocError>
-        ensures empty { OnOk result ((t : ℕ) → mark_at self.old.around.none t ≡ false) }
         ensures ok { OnOk result (self.new ≡ with_saved self.old (row_of self.old row)) }
         ensures err { OnErr result (self.new ≡ self.old) }
     {
@@ -276,5 +264,12 @@ impl Liveness {
         ensures { self.new ≡ left self.old }
     {
         self.numbers.levels.pop();
+    }
+
+    /// The spans over the rows that were marked.
+    pub fn spans(&self, alloc: Global) -> Result<Spans, AllocError>
+        ensures { IfOk result (AreRowSpans self.now.rows (length self.now.around.none)) }
+    {
+        Spans::of_rows(alloc, &self.parts, self.numbers.rows.as_slice(), self.temps)
     }
 }

@@ -1,8 +1,7 @@
 // Words by their places, in parts that are shared: a set of words is the number of a part, so a copy costs nothing.
 
-ghost use Rattle.std.specs.Prelude.{ℕ, ◌≡◌, ◌<◌, ◌≤◌, ◌+◌, ◌*◌, ◌%◌, bit_or, cond, eqb, false, length, IfOk, IfSome, OnOk};
-ghost use Rattle.mv_regalloc.specs.Scan.{has};
-ghost use Rattle.mv_regalloc.specs.Parts.{IsJoin, IsWithin, Keeps, further, part_at, word_of};
+ghost use Rattle.std.specs.Prelude.{ℕ, ◌≡◌, ◌<◌, ◌≤◌, ◌%◌, bit_or, cond, eqb, length, IfOk, IfSome};
+ghost use Rattle.mv_regalloc.specs.Parts.{IsJoin, Keeps, further, part_at, word_of};
 
 use crate::joins::{Join, no_joins, place_of};
 use std::alloc::{AllocError, Global};
@@ -40,33 +39,6 @@ impl Model for Parts {
     ghost invariant = { λ p. AreJoined p.parts.items p.joins.items };
 }
 
-// Places from a first one on: place n of a part stands for the first one and n steps.
-#[derive(Clone, Copy)]
-struct Places {
-    first: u32,
-    step: u32,
-}
-
-impl Places {
-    // Those that the odd places of a part stand for, if their numbers fit.
-    fn odd(self) -> Result<Places, AllocError>
-        ensures { IfOk result (λ places. (places.first ≡ self.first + self.step) × (places.step ≡ self.step * 2)) }
-    {
-        let first = self.first.checked_add(self.step).ok_or(AllocError)?;
-        let step = self.step.checked_mul(2).ok_or(AllocError)?;
-        Ok(Places { first, step })
-    }
-
-    // Those that its even places from 2 on stand for.
-    fn even(self) -> Result<Places, AllocError>
-        ensures { IfOk result (λ places. (places.first ≡ self.first + self.step * 2) × (places.step ≡ self.step * 2)) }
-    {
-        let step = self.step.checked_mul(2).ok_or(AllocError)?;
-        let first = self.first.checked_add(step).ok_or(AllocError)?;
-        Ok(Places { first, step })
-    }
-}
-
 impl Part {
     // A part without words.
     fn none() -> Part
@@ -98,17 +70,6 @@ impl Part {
     }
 }
 
-// Lists a place, or not.
-fn list_if(places: &mut Vec<u32>, listed: bool, place: u32) -> Result<(), AllocError>
-    ensures kept { (p : ℕ) → has p places.new.items ≡ false → has p places.old.items ≡ false }
-    ensures listed { OnOk result (has place places.new.items ≡ false → listed ≡ false) }
-{
-    if listed {
-        places.push(place)?;
-    }
-    Ok(())
-}
-
 impl Parts {
     /// The part without words alone.
     pub fn new(alloc: Global) -> Result<Parts, AllocError> {
@@ -121,8 +82,15 @@ impl Parts {
         })
     }
 
-    // A part by its number.
-    fn part(&self, number: u32) -> Part
+    /// How many parts there are.
+    pub fn count(&self) -> usize
+        ensures { result ≡ length self.now }
+    {
+        self.parts.len()
+    }
+
+    /// A part by its number.
+    pub fn part(&self, number: u32) -> Part
         ensures part { result ≡ part_at self.now number }
         ensures odd { 0 < number → result.odd < number }
         ensures even { 0 < number → result.even < number }
@@ -276,44 +244,5 @@ impl Parts {
         let word = first.word | second.word;
         let made = self.made_as(Part { word, odd, even }, one, other)?;
         self.remember(Join { one, other, made })
-    }
-
-    // Lists the places where the words of two differ.
-    fn list_differing(
-        &self,
-        places: &mut Vec<u32>,
-        one: u32,
-        other: u32,
-        at: Places,
-    ) -> Result<(), AllocError>
-        ensures kept { (p : ℕ) → has p places.new.items ≡ false → has p places.old.items ≡ false }
-        ensures differing { OnOk result (
-            (q : ℕ) → has (at.first + at.step * q) places.new.items ≡ false → word_of self.now one q ≡ word_of self.now other q
-            ) }
-    {
-        if one == other {
-            return Ok(());
-        }
-        let first = self.part(one);
-        let second = self.part(other);
-        list_if(places, first.word != second.word, at.first)?;
-        let odd = at.odd()?;
-        self.list_differing(places, first.odd, second.odd, odd)?;
-        let even = at.even()?;
-        self.list_differing(places, first.even, second.even, even)
-    }
-
-    /// The places where one may have a bit that the other one lacks.
-    pub fn beyond(&mut self, alloc: Global, one: u32, other: u32) -> Result<Vec<u32>, AllocError>
-        requires one { one < length self.old }
-        requires other { other < length self.old }
-        ensures keeps { Keeps self.old self.new }
-        ensures beyond { IfOk result (λ places.
-            (q : ℕ) → has q places.items ≡ false → IsWithin (word_of self.old one q) (word_of self.old other q)) }
-    {
-        let both = self.joined(one, other)?;
-        let mut places = Vec::new(alloc);
-        self.list_differing(&mut places, both, other, Places { first: 0, step: 1 })?;
-        Ok(places)
     }
 }

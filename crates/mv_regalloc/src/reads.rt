@@ -96,12 +96,3 @@ pub fn own_reads(alloc: Global, stm: &Stm) -> Result<List<u32>, AllocError>
     read_own(&mut temps, stm)?;
     Ok(temps)
 }
-
-/// The temporaries that a tree reads.
-pub fn tree_reads(alloc: Global, tree: &Tree) -> Result<List<u32>, AllocError>
-    ensures { IfOk result (λ temps. (bits : Bits) → with_temps temps bits ≡ with_reads tree.now bits) }
-{
-    let mut temps = List::new(alloc);
-    read_tree(&mut temps, tree)?;
-    Ok(temps)
-}

@@ -1,189 +1,130 @@
 // The first and the last position of each temporary: one walk from the end of a body to its start.
 
-ghost use Rattle.std.specs.Prelude.{◌≡◌, ◌≤◌, ◌∷◌, [], drop, false, true, map, slice_index_or, IfOk, OnOk};
+ghost use Rattle.std.specs.Prelude.{◌≡◌, ◌∷◌, [], false, true, map, IfOk, OnOk};
 ghost use Rattle.mv_ir.specs.Live.{all_marks};
-ghost use Rattle.mv_regalloc.specs.Rows.{sets, own_trees, with_reads, with_all_reads, either_bits, put_bit, live_before, rows_in_order, stm_rows};
-ghost use Rattle.mv_regalloc.specs.Shared.{is_kept};
-ghost use Rattle.mv_regalloc.specs.Spanned.{Adds, AreBegun, AreSpansOf, Rejoins};
-ghost use Rattle.mv_regalloc.specs.Tables.{row_in};
+ghost use Rattle.mv_regalloc.specs.Rows.{sets, own_trees, with_all_reads, put_bit, live_before, rows_in_order, stm_rows};
+ghost use Rattle.mv_regalloc.specs.Shared.{row_of, walked};
+ghost use Rattle.mv_regalloc.specs.Spanned.{AreSpansOf};
 
-use crate::liveness::Row;
-use crate::reads::own_reads;
+use crate::live::{live_loop, live_params, live_plain};
+use crate::liveness::{Liveness, Row};
 use crate::table::Spans;
-use crate::walk::Walk;
 use mv_ir::body::Body;
 use mv_ir::stm::Stm;
-use mv_ir::tree::Tree;
 use mv_num::list::List;
 use std::alloc::{AllocError, Global};
 
-/// Walks over some code from its end, as `live_code` does, and adds its positions to the spans.
+/// Walks over some code from its end, as `live_code` does, and marks its positions.
 #[cycle(spans)]
-pub fn mark_code(alloc: Global, code: &List<Stm>, walk: &mut Walk) -> Result<(), AllocError>
-    ensures live { OnOk result (walk.new.live ≡ live_before (map stm_rows code.now) (sets walk.old.around walk.old.live)) }
-    ensures saved { OnOk result (walk.new.saved ≡ walk.old.saved) }
-    ensures around { OnOk result (walk.new.around ≡ walk.old.around) }
-    ensures rows { OnOk result (
-        Adds (rows_in_order (map stm_rows code.now) (sets walk.old.around walk.old.live)) walk.old.spans walk.new.spans
-        ) }
+pub fn mark_code(alloc: Global, code: &List<Stm>, liveness: &mut Liveness) -> Result<(), AllocError>
+    ensures { OnOk result (liveness.new ≡ walked liveness.old
+        (live_before (map stm_rows code.now) (sets liveness.old.around liveness.old.live))
+        (rows_in_order (map stm_rows code.now) (sets liveness.old.around liveness.old.live))) }
 {
     let stms = code.as_slice();
     for done in 0..stms.len() {
-        mark_stm(alloc, &stms[stms.len() - 1 - done], walk)?;
+        mark_stm(alloc, &stms[stms.len() - 1 - done], liveness)?;
     }
     Ok(())
 }
 
 #[cycle(spans)]
 #[tactic(auto, using(crate::proofs::RowEquations::marked_stms))]
-fn mark_stm(alloc: Global, stm: &Stm, walk: &mut Walk) -> Result<(), AllocError>
-    ensures live { OnOk result (walk.new.live ≡ (stm_rows stm.now).live (sets walk.old.around walk.old.live)) }
-    ensures saved { OnOk result (walk.new.saved ≡ walk.old.saved) }
-    ensures around { OnOk result (walk.new.around ≡ walk.old.around) }
-    ensures rows { OnOk result (Adds ((stm_rows stm.now).rows (sets walk.old.around walk.old.live)) walk.old.spans walk.new.spans) }
+fn mark_stm(alloc: Global, stm: &Stm, liveness: &mut Liveness) -> Result<(), AllocError>
+    ensures { OnOk result (liveness.new ≡ walked liveness.old
+        ((stm_rows stm.now).live (sets liveness.old.around liveness.old.live))
+        ((stm_rows stm.now).rows (sets liveness.old.around liveness.old.live))) }
 {
     match stm {
-        Stm::Set(t, _) => mark_plain(alloc, stm, Some(*t), walk),
-        Stm::SetGlobal(_, _) => mark_plain(alloc, stm, None, walk),
-        Stm::Divide(t, _, _, _) => mark_plain(alloc, stm, Some(*t), walk),
-        Stm::Check(_, _) => mark_plain(alloc, stm, None, walk),
-        Stm::Read(t, _, _) => mark_plain(alloc, stm, Some(*t), walk),
-        Stm::Write(_, _, _) => mark_plain(alloc, stm, None, walk),
-        Stm::Zero(_) => mark_plain(alloc, stm, None, walk),
-        Stm::If(test, a, b) => {
-            walk.save(Row::Live)?;
-            walk.save_known()?;
-            let held = walk.suspend()?;
-            mark_code(alloc, b, walk)?;
-            walk.save_known()?;
-            let before = walk.suspend()?;
-            walk.save(Row::Live)?;
-            walk.turn(Row::Saved(5));
-            walk.know(Row::Saved(4))?;
-            mark_code(alloc, a, walk)?;
-            mark_test(alloc, test, before, held, walk)
+        Stm::Set(t, _) => mark_plain(alloc, stm, Some(*t), liveness),
+        Stm::SetGlobal(_, _) => mark_plain(alloc, stm, None, liveness),
+        Stm::Divide(t, _, _, _) => mark_plain(alloc, stm, Some(*t), liveness),
+        Stm::Check(_, _) => mark_plain(alloc, stm, None, liveness),
+        Stm::Read(t, _, _) => mark_plain(alloc, stm, Some(*t), liveness),
+        Stm::Write(_, _, _) => mark_plain(alloc, stm, None, liveness),
+        Stm::Zero(_) => mark_plain(alloc, stm, None, liveness),
+        Stm::If(_, a, b) => {
+            liveness.save(Row::Live)?;
+            mark_code(alloc, b, liveness)?;
+            liveness.save(Row::Live)?;
+            liveness.turn(Row::Saved(1));
+            mark_code(alloc, a, liveness)?;
+            liveness.join(Row::Saved(0))?;
+            liveness.forget();
+            liveness.forget();
+            mark_plain(alloc, stm, None, liveness)
         }
-        Stm::Loop(b) => mark_loop(alloc, b, walk),
-        Stm::Block(b) => mark_block(alloc, b, walk),
-        Stm::Break(n) => mark_jump(alloc, stm, Row::Behind(*n), walk),
-        Stm::Back(n) => mark_jump(alloc, stm, Row::Start(*n), walk),
-        Stm::Call(t, _, _) => mark_plain(alloc, stm, *t, walk),
-        Stm::Known(t, _, _) => mark_plain(alloc, stm, *t, walk),
-        Stm::Return(_) => mark_jump(alloc, stm, Row::Empty, walk),
+        Stm::Loop(b) => mark_loop(alloc, b, liveness),
+        Stm::Block(b) => mark_block(alloc, b, liveness),
+        Stm::Break(n) => mark_jump(alloc, stm, Row::Behind(*n), liveness),
+        Stm::Back(n) => mark_jump(alloc, stm, Row::Start(*n), liveness),
+        Stm::Call(t, _, _) => mark_plain(alloc, stm, *t, liveness),
+        Stm::Known(t, _, _) => mark_plain(alloc, stm, *t, liveness),
+        Stm::Return(_) => mark_jump(alloc, stm, Row::Empty, liveness),
     }
 }
 
+// A path that goes back in a loop is live at its start again.
 #[cycle(spans)]
-fn mark_loop(alloc: Global, code: &List<Stm>, walk: &mut Walk) -> Result<(), AllocError>
-    ensures live { OnOk result (walk.new.live ≡ (stm_rows (Stm.Loop code.now)).live (sets walk.old.around walk.old.live)) }
-    ensures saved { OnOk result (walk.new.saved ≡ walk.old.saved) }
-    ensures around { OnOk result (walk.new.around ≡ walk.old.around) }
-    ensures rows { OnOk result (
-        Adds ((stm_rows (Stm.Loop code.now)).rows (sets walk.old.around walk.old.live)) walk.old.spans walk.new.spans
-        ) }
+fn mark_loop(alloc: Global, code: &List<Stm>, liveness: &mut Liveness) -> Result<(), AllocError>
+    ensures { OnOk result (liveness.new ≡ walked liveness.old
+        ((stm_rows (Stm.Loop code.now)).live (sets liveness.old.around liveness.old.live))
+        ((stm_rows (Stm.Loop code.now)).rows (sets liveness.old.around liveness.old.live))) }
 {
-    let held = walk.suspend()?;
-    walk.save(Row::Live)?;
-    walk.turn_loop(alloc, code)?;
-    walk.enter(Row::Saved(0), Row::Live)?;
-    mark_code(alloc, code, walk)?;
-    walk.turn(Row::Start(0));
-    walk.leave();
-    walk.resume(alloc, 1, held)?;
-    walk.forget();
-    walk.forget();
-    walk.mark(alloc)
+    liveness.save(Row::Live)?;
+    live_loop(alloc, code, liveness)?;
+    liveness.enter(Row::Saved(0), Row::Live)?;
+    mark_code(alloc, code, liveness)?;
+    liveness.turn(Row::Start(0));
+    liveness.leave();
+    liveness.forget();
+    liveness.mark(None)
 }
 
 #[cycle(spans)]
-#[tactic(auto, using(crate::proofs::RowEquations::live_block))]
-fn mark_block(alloc: Global, code: &List<Stm>, walk: &mut Walk) -> Result<(), AllocError>
-    ensures live { OnOk result (walk.new.live ≡ (stm_rows (Stm.Block code.now)).live (sets walk.old.around walk.old.live)) }
-    ensures saved { OnOk result (walk.new.saved ≡ walk.old.saved) }
-    ensures around { OnOk result (walk.new.around ≡ walk.old.around) }
-    ensures rows { OnOk result (
-        Adds ((stm_rows (Stm.Block code.now)).rows (sets walk.old.around walk.old.live)) walk.old.spans walk.new.spans
-        ) }
+fn mark_block(alloc: Global, code: &List<Stm>, liveness: &mut Liveness) -> Result<(), AllocError>
+    ensures { OnOk result (liveness.new ≡ walked liveness.old
+        ((stm_rows (Stm.Block code.now)).live (sets liveness.old.around liveness.old.live))
+        ((stm_rows (Stm.Block code.now)).rows (sets liveness.old.around liveness.old.live))) }
 {
-    let held = walk.suspend()?;
-    walk.enter(Row::Live, Row::Empty)?;
-    mark_code(alloc, code, walk)?;
-    walk.leave();
-    walk.resume(alloc, 0, held)?;
-    walk.forget();
-    walk.mark(alloc)
-}
-
-// The test of an `If`, before its two lists: all that was set aside is told again. That is what is live before the one
-// list, what was marked there last, a row that is known to be marked, what was marked last behind the lists, a row that
-// was known there, and what is live there.
-fn mark_test(
-    alloc: Global,
-    test: &Tree,
-    before: u64,
-    held: u64,
-    walk: &mut Walk,
-) -> Result<(), AllocError>
-    requires before { before ≤ walk.old.spans.positions }
-    requires held { held ≤ walk.old.spans.positions }
-    requires known { AreBegun (row_in walk.old (Row.Saved 2)) walk.old.spans }
-    ensures live { OnOk result (walk.new.live ≡ with_reads test.now (either_bits walk.old.live (row_in walk.old (Row.Saved 0)))) }
-    ensures saved { OnOk result (walk.new.saved ≡ drop 6 walk.old.saved) }
-    ensures around { OnOk result (walk.new.around ≡ walk.old.around) }
-    ensures rows { OnOk result (Rejoins (row_in walk.old (Row.Saved 3)) held (row_in walk.old (Row.Saved 1)) before
-        (with_reads test.now (either_bits walk.old.live (row_in walk.old (Row.Saved 0)))) walk.old.spans walk.new.spans) }
-{
-    walk.turn_test(alloc, test, Row::Saved(0))?;
-    walk.leave_last(alloc)?;
-    walk.know(Row::Saved(2))?;
-    walk.resume(alloc, 1, before)?;
-    walk.resume(alloc, 3, held)?;
-    walk.forget();
-    walk.forget();
-    walk.forget();
-    walk.forget();
-    walk.forget();
-    walk.forget();
-    walk.mark(alloc)
+    liveness.enter(Row::Live, Row::Empty)?;
+    mark_code(alloc, code, liveness)?;
+    liveness.leave();
+    liveness.mark(None)
 }
 
 // The position of a statement that goes on elsewhere, where a set is live.
-fn mark_jump(alloc: Global, stm: &Stm, row: Row, walk: &mut Walk) -> Result<(), AllocError>
-    requires { is_kept row ≡ true }
-    ensures live { OnOk result (walk.new.live ≡ with_all_reads (own_trees stm.now) (row_in walk.old row)) }
-    ensures saved { OnOk result (walk.new.saved ≡ walk.old.saved) }
-    ensures around { OnOk result (walk.new.around ≡ walk.old.around) }
-    ensures rows { OnOk result (Adds (with_all_reads (own_trees stm.now) (row_in walk.old row) ∷ []) walk.old.spans walk.new.spans) }
+fn mark_jump(alloc: Global, stm: &Stm, row: Row, liveness: &mut Liveness) -> Result<(), AllocError>
+    ensures { OnOk result (liveness.new ≡ walked liveness.old
+        (with_all_reads (own_trees stm.now) (row_of liveness.old row))
+        (with_all_reads (own_trees stm.now) (row_of liveness.old row) ∷ [])) }
 {
-    walk.turn(row);
-    mark_plain(alloc, stm, None, walk)
+    liveness.turn(row);
+    mark_plain(alloc, stm, None, liveness)
 }
 
-// The position of a statement without statements of its own, and the temporary that it writes.
+// The position of a statement, before those of statements within it, and the temporary that it writes.
 fn mark_plain(
     alloc: Global,
     stm: &Stm,
     written: Option<u32>,
-    walk: &mut Walk,
+    liveness: &mut Liveness,
 ) -> Result<(), AllocError>
-    ensures live { OnOk result (walk.new.live ≡ with_all_reads (own_trees stm.now) (put_bit written false walk.old.live)) }
-    ensures saved { OnOk result (walk.new.saved ≡ walk.old.saved) }
-    ensures around { OnOk result (walk.new.around ≡ walk.old.around) }
-    ensures rows { OnOk result (
-        Adds (put_bit written true (with_all_reads (own_trees stm.now) (put_bit written false walk.old.live)) ∷ []) walk.old.spans walk.new.spans
-        ) }
+    ensures { OnOk result (liveness.new ≡ walked liveness.old
+        (with_all_reads (own_trees stm.now) (put_bit written false liveness.old.live))
+        (put_bit written true (with_all_reads (own_trees stm.now) (put_bit written false liveness.old.live)) ∷ [])) }
 {
-    let reads = own_reads(alloc, stm)?;
-    walk.step(alloc, written, reads.as_slice())
+    live_plain(alloc, stm, written, liveness)?;
+    liveness.mark(written)
 }
 
 /// The spans of a body's temporaries.
 pub fn spans_of(alloc: Global, body: &Body) -> Result<Spans, AllocError>
     ensures { IfOk result (λ spans. AreSpansOf (all_marks body.now) body.now.temps spans) }
 {
-    let mut walk = Walk::new(alloc, body.temps as usize)?;
-    mark_code(alloc, &body.code, &mut walk)?;
-    walk.turn_params(alloc, body.params)?;
-    walk.mark(alloc)?;
-    walk.into_spans(alloc)
+    let mut liveness = Liveness::new(alloc, body.temps as usize)?;
+    mark_code(alloc, &body.code, &mut liveness)?;
+    live_params(&mut liveness, body.params)?;
+    liveness.mark(None)?;
+    liveness.spans(alloc)
 }

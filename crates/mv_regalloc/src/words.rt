@@ -1,6 +1,6 @@
 // Bits in words: that of a temporary is in the word at a 64th of its number.
 
-ghost use Rattle.std.specs.Prelude.{ℕ, ◌≡◌, ◌<◌, ◌/◌, ◌%◌, ◌&&◌, true, false, cond, eqb, ltb, not, slice_index};
+ghost use Rattle.std.specs.Prelude.{ℕ, ◌≡◌, ◌<◌, ◌/◌, ◌%◌, ◌&&◌, true, false, cond, eqb, not, slice_index};
 ghost use Rattle.mv_regalloc.specs.LiveBits.{in_word};
 
 /// The word at a place.
@@ -11,14 +11,6 @@ pub fn word_at(words: &[u64], place: usize) -> u64
         Some(word) => *word,
         None => 0,
     }
-}
-
-/// Whether the bit of a temporary is set in the word that has it.
-#[tactic(auto, unfolding(crate::specs::LiveBits::in_word))]
-pub fn has_bit(word: u64, temp: usize) -> bool
-    ensures { result ≡ in_word word temp }
-{
-    word >> (temp % 64) & 1 == 1
 }
 
 /// The word with the bit of a temporary set.
@@ -33,20 +25,6 @@ pub fn cleared(word: u64, temp: u32) -> u64
     ensures { (t : ℕ) → t / 64 ≡ temp / 64 → in_word result t ≡ cond (eqb temp t) false (in_word word t) }
 {
     word & !(1 << (temp % 64))
-}
-
-/// The word at a place without the bits of temporaries from a bound on.
-pub fn below(word: u64, place: usize, temps: usize) -> u64
-    ensures { (t : ℕ) → t / 64 ≡ place → in_word result t ≡ (in_word word t && ltb t temps) }
-{
-    let last = temps / 64;
-    if place < last {
-        word
-    } else if place == last {
-        word & ((1 << (temps % 64)) - 1)
-    } else {
-        0
-    }
 }
 
 /// The place in a word of the lowest bit that is set.
@@ -66,13 +44,6 @@ pub fn without(word: u64, bit: u32) -> u64
     ensures less { result < word }
 {
     word & !(1 << bit)
-}
-
-/// The word with the bit of one temporary.
-pub fn single(temp: u32) -> u64
-    ensures { (t : ℕ) → t / 64 ≡ temp / 64 → in_word result t ≡ eqb temp t }
-{
-    1 << (temp % 64)
 }
 
 /// The bits of a word that aren't set in another one.

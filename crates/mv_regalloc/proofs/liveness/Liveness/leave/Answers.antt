@@ -9,7 +9,7 @@ invariant_of-self c =
     let h = c.self.invariant in
     record {
       live = h.live;
-      marked = h.marked;
+      rows = h.rows;
       saved = h.saved;
       behind = all_popped (λ l. l.behind < length s.parts) levels c.pop.new.self.items c.pop.result c.pop.ensures.items h.behind;
       start = all_popped (λ l. l.start < length s.parts) levels c.pop.new.self.items c.pop.result c.pop.ensures.items h.start;

@@ -20,6 +20,3 @@ returns-clause-ok c =
     ap (λ l. sets_at s.temps s.parts (record ns { saved = l })) c.in_ok-push.ensures.items ∙
     save_at s.temps s.parts ns c.of-number.result (row_of (sets_at s.temps s.parts ns) c.args.row) (ap (bits_at s.temps s.parts) c.of-number.ensures ∙ row_at s.temps s.parts ns c.none-none.result c.none-none.ensures.words c.args.row) ∙
     ap (λ v. with_saved v (row_of v c.args.row)) c.self.view_is
-
-pub returns-clause-empty : goal.returns-clause-empty
-returns-clause-empty c = λ t. ap (λ v. mark_at v.around.none t) (sym c.self.view_is) ∙ clear_at c.self.inside.temps t
