@@ -4,8 +4,8 @@ ghost use Rattle.std.specs.Prelude.{◌≡◌, map, reverse, slice_index, IfOk};
 ghost use Rattle.mv_regalloc.specs.Shared.{bits_at};
 ghost use Rattle.mv_regalloc.specs.Spanned.{AreCounts, AreRowSpans, behind_last, from_first};
 
-use crate::told::{Firsts, item};
 use crate::parts::Parts;
+use crate::told::{Firsts, item};
 use mv_num::list::List;
 use std::alloc::{AllocError, Global};
 use std::marker::Model;
