@@ -1,0 +1,2 @@
+pub mod SourceCalls
+pub mod Laws

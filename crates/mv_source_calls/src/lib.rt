@@ -1,0 +1,2 @@
+//! That lowered code does what the source means where its callees do.
+#![tactic(auto)]
