@@ -1,0 +1,4 @@
+mod Calls
+mod Bodies
+mod Globals
+mod Main
