@@ -17,6 +17,7 @@ use Rattle.mv_lowering.specs.Functions.{lower_function}
 use Rattle.mv_lowered_programs.specs.WellFormed.{IsWellFormed}
 use Rattle.mv_lowered_programs.specs.Laws.{HasGlobals, IsExecution, callee_frame}
 use Rattle.mv_source_calls.specs.SourceCalls.{source_call, source_levels, Promises}
+use Rattle.mv_source_calls.specs.Bindings.{NeverRebinds, EndsIn}
 
 -- At each bound, under each numbering, in each world and whatever its frame holds when it begins, the lowered body of a function of a well-formed program
 -- does what the function does by the source's meaning, if its callees do.
@@ -34,6 +35,12 @@ GlobalsKeepTheirSizes =
     (p : Program) (numbers : List ℕ) (bound f : ℕ) → IsWellFormed p →
     (args : List ℕ) (depth live : ℕ) (w : World) → HasGlobals p (seen_from depth live w) →
     (v : Option ℕ) (left : World) → (source_call p numbers bound f args depth live w).end ≡ Returned v left → HasGlobals p (seen_from depth live left)
+
+-- A function of a program without commits, reverts and polls leaves all bindings as they are, however it ends.
+abbrev pub BindingsStay : Type 0
+BindingsStay =
+    (p : Program) (numbers : List ℕ) (bound f : ℕ) → NeverRebinds p → (args : List ℕ) (depth live : ℕ) (w : World) →
+    EndsIn (λ left. left.bindings ≡ w.bindings) (source_call p numbers bound f args depth live w).end
 
 -- Whatever its frame holds when it begins, the lowered body of `main` of a well-formed program does what the program means, if its callees do what they do by
 -- the source's meaning: under each numbering, on each input, with all actions that fit, at each bound.

@@ -1,6 +1,6 @@
 // The laws of lowered code whose callees do what the source's functions do.
 
-ghost use Rattle.mv_source_calls.specs.Laws.{BodiesAreRight, GlobalsKeepTheirSizes, MainIsRight};
+ghost use Rattle.mv_source_calls.specs.Laws.{BindingsStay, BodiesAreRight, GlobalsKeepTheirSizes, MainIsRight};
 
 use mv_numbering::numbering_law;
 
@@ -16,6 +16,12 @@ pub fn bodies_are_right()
 /// contract is the law.
 pub fn globals_keep_their_sizes()
     ensures { GlobalsKeepTheirSizes }
+{}
+
+/// A function of a program without commits, reverts and polls leaves all bindings as they are, whether it returns, traps or is cut off by the bound.
+/// The call does nothing: its contract is the law.
+pub fn bindings_stay()
+    ensures { BindingsStay }
 {}
 
 /// The lowered body of `main` does what the program means, if its callees do what they do by the source's meaning (C11 5.1.2.3): under each
