@@ -234,6 +234,7 @@ module _ (p : Program) (numbers : List ℕ) (formed : (f : ℕ) (g : Function) �
       (shows_entry p f g here (formed f g here) vs count contents w globals numbers (is_void g.result))
       (agrees p f g here (formed f g here) vs count contents w globals)
 
+  -- and where it calls lowered functions
   function_does : (j : ℕ) → ((i : ℕ) → i ≤ j → Agreed lowered_calls i) → (f : ℕ) (g : Function) → slice_get p.functions f ≡ Some g → (contents : Contents) (vs : List ℕ) → length vs ≡ g.params → (w : World) → HasGlobals p w →
       BodyDoes p (is_void g.result) (frame_for p f g w.depth w).live w (body_from (setting_of numbers p) (frame_for p f g w.depth w) contents (lower_function p g) vs (below j) (seen w)) (flow_of_all p (strict_context p numbers j) g.body (frame_of f g vs) (deeper g w))
   function_does j ih f g here contents vs count w globals =
