@@ -29,8 +29,7 @@ use Rattle.mv_call_code.specs.Environment.{ServesKnown}
 use Rattle.mv_function_code.specs.Functions.{FunctionsKeep, frame_in}
 use Rattle.mv_source_calls.specs.SourceCalls.{as_call, any_frame, meaningless, call_by_source, source_call, source_levels, Promises}
 use Rattle.mv_source_calls.specs.Laws.{BodiesAreRight}
-use Rattle.mv_program_runs.specs.Hosts.{IsHost, IsSelected}
-use Rattle.mv_program_runs.specs.Laws.{IsLoaded}
+use Rattle.mv_program_runs.specs.Hosts.{IsHost, IsSelected, IsLoaded}
 use Rattle.mv_program_runs.proofs.Slots.{slot_answers}
 
 -- what keeps the meaning of a call promises what the call does
@@ -71,7 +70,7 @@ module _ {M : Type 0} (access : Access M) (y : Layout) (machine : Machine M) (bu
     FC spare i back = FollowsCall access y machine budget far spare (length (source_levels p numbers k)) i back
 
     -- what follows a call that promises another follows the other
-    promised : (spare i back : ℕ) (c other : Call) → Promises c other → i + (spare + 45 + other.cost) ≤ budget → (i + (spare + 44 + c.cost) ≤ budget → FC spare i back c.end) → FC spare i back other.end
+    promised : (spare i back : ℕ) (c other : Call) → Promises c other → i + (spare + entry_cost + other.cost) ≤ budget → (i + (spare + 44 + c.cost) ≤ budget → FC spare i back c.end) → FC spare i back other.end
     promised spare i back c other (inl stuck) paid f = subst (FC spare i back) (sym stuck) tt
     promised spare i back c other (inr h) paid f = let cheaper = h.1 in subst (FC spare i back) h.0 (f (omega (arith, paid, cheaper)))
 

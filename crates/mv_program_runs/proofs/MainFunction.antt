@@ -25,8 +25,8 @@ use Rattle.mv_function_code.specs.FunctionCode.{function_lines}
 use Rattle.mv_function_code.specs.Functions.{FunctionsKeep, MainKeeps, IsFunction, Begins, shape_of}
 use Rattle.mv_source_calls.specs.SourceCalls.{source_call, source_levels}
 use Rattle.mv_source_calls.specs.Laws.{BodiesAreRight, MainIsRight}
-use Rattle.mv_program_runs.specs.Hosts.{IsHost, IsSelected}
-use Rattle.mv_program_runs.specs.Laws.{IsLoaded, first_seen}
+use Rattle.mv_program_runs.specs.Hosts.{IsHost, IsSelected, IsLoaded}
+use Rattle.mv_program_runs.specs.Laws.{first_seen}
 use Rattle.mv_program_runs.proofs.AllFunctions.{serves, all_keep}
 
 -- there are as many levels as the bound says

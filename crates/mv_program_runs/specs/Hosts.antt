@@ -14,6 +14,7 @@ use Rattle.mv_ir.specs.Programs.{setting_of}
 use Rattle.mv_ir.specs.World.{World}
 use Rattle.mv_lowering.specs.Functions.{lower_function}
 use Rattle.mv_lowering.specs.Lower.{global_words}
+use Rattle.mv_lowered_programs.specs.WellFormed.{IsWellFormed}
 use Rattle.mv_statement_code.specs.Frames.{Site}
 use Rattle.mv_flow_code.specs.Placed.{Placed}
 use Rattle.mv_flow_code.specs.Runs.{Machine, IsRun}
@@ -50,3 +51,9 @@ pub record IsSelected {M : Type 0} (y : Layout) (machine : Machine M) (p : Progr
   pub is_attributed : ℕ → Bool
   pub next : ℕ
   pub placed : Placed machine.text place y.entry (function_lines y.place y.size is_attributed (shape_of g.attributed body) body.code) (y.entry f) next
+
+-- A well-formed program is loaded: a machine is a host for it, and the code of each function stands there.
+pub record IsLoaded {M : Type 0} (access : Access M) (y : Layout) (machine : Machine M) (budget far : ℕ) (p : Program) (numbers : List ℕ) : Type 0 where
+  pub formed : IsWellFormed p
+  pub host : IsHost access y machine budget far p numbers
+  pub functions : (f : ℕ) (g : Function) → slice_get p.functions f ≡ Some g → IsSelected y machine p numbers f g

@@ -1,7 +1,6 @@
 -- What is proved of all functions of a program at once.
-use Rattle.std.specs.Prelude.{ℕ, ◌≡◌, ◌+◌, ◌≤◌, All, IsTrue, List, slice_get, Some}
+use Rattle.std.specs.Prelude.{ℕ, ◌≡◌, ◌+◌, ◌≤◌, All, IsTrue, List}
 use Rattle.mv_ast.specs.declared.program.Program.{Program}
-use Rattle.mv_ast.specs.declared.program.Function.{Function}
 use Rattle.mv_ast.specs.declared.world.Action.{Action}
 use Rattle.mv_ast.specs.Actions.{fits}
 use Rattle.mv_ast.specs.Starts.{first_world_under}
@@ -12,20 +11,13 @@ use Rattle.mv_ir.specs.Outcome.{Call}
 use Rattle.mv_ir.specs.Programs.{execution_of}
 use Rattle.mv_ir.specs.World.{World}
 use Rattle.mv_lowering.specs.Correct.{seen}
-use Rattle.mv_lowered_programs.specs.WellFormed.{IsWellFormed}
 use Rattle.mv_lowered_programs.specs.Laws.{IsExecution}
 use Rattle.mv_flow_code.specs.Runs.{Machine}
 use Rattle.mv_call_code.specs.CallCode.{link_register}
 use Rattle.mv_call_code.specs.Convention.{Layout, IsTarget, Stands, FollowsCall, Conventions}
 use Rattle.mv_function_code.specs.Functions.{Begins}
 use Rattle.mv_source_calls.specs.SourceCalls.{source_levels}
-use Rattle.mv_program_runs.specs.Hosts.{IsHost, IsSelected}
-
--- the code of each function stands on a machine for the program
-pub record IsLoaded {M : Type 0} (access : Access M) (y : Layout) (machine : Machine M) (budget far : ℕ) (p : Program) (numbers : List ℕ) : Type 0 where
-  pub formed : IsWellFormed p
-  pub host : IsHost access y machine budget far p numbers
-  pub functions : (f : ℕ) (g : Function) → slice_get p.functions f ≡ Some g → IsSelected y machine p numbers f g
+use Rattle.mv_program_runs.specs.Hosts.{IsLoaded}
 
 -- Where a well-formed program is loaded all its functions keep the calling convention, at every bound: called at its entry or at a slot, each does what
 -- it does in the source.
