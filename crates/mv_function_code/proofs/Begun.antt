@@ -12,6 +12,7 @@ use Rattle.mv_function_code.specs.Functions.{Begins}
 abbrev pub frame_at : Bool → List (ℕ × ℕ) → (depth live : ℕ) → ir.Frame
 frame_at attributed bound depth live = record { depth = depth; live = live + cond attributed 1 0; bound = bound }
 
+-- what time i has for a function whose frame gets these numbers, before it counts as live
 pub record Begun {M : Type 0} (y : Layout) (machine : Machine M) (attributed : Bool) (depth live : ℕ) (args : List ℕ) (i : ℕ) : Type 0 where
   pub arguments : (j : ℕ) → j < length args → reg (machine.run i).regs (first + j) ≡ slice_index args j
   pub live_is : reg (machine.run i).regs live_register ≡ live
