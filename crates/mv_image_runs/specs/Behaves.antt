@@ -20,8 +20,8 @@ pub record IsWithin (bytes : List ℕ) (s : State) (m : Meant) : Type 0 where
   pub taken : taken_of bytes s ≤ m.taken
 
 -- a meaning has an end, and a state has done all that it does
-pub record IsWhole (bytes : List ℕ) (s : State) (m : Meant) (ending : End) : Type 0 where
-  pub ending : m.«end» ≡ ending
+pub record IsWhole (bytes : List ℕ) (s : State) (m : Meant) (e : End) : Type 0 where
+  pub ending : m.«end» ≡ e
   pub output : m.output ≡ s.output
   pub taken : m.taken ≡ taken_of bytes s
   pub bindings : m.bindings ≡ s.bindings

@@ -3,6 +3,7 @@ use Rattle.std.proofs.Common.{◌≡◌, ℕ, zero, suc, ◌+◌, ◌-◌, ◌*�
 use Rattle.std.specs.List.{All, flat_map}
 use Rattle.std.specs.Prelude.{slice_index, slice_index_or}
 use Rattle.std.proofs.lemmas.List.Elements.{All-get_or}
+use Rattle.std.proofs.lemmas.List.Sums.{sum_by-cons}
 use Rattle.std.proofs.lemmas.Option.{slice_get_within, get_or_from_slice_get}
 use Rattle.std.proofs.lemmas.Bool.{lt-ltb, le-ltb}
 use Rattle.mv_fetch.specs.Held.{Held, region_of, index_of, present, part, load}
@@ -36,7 +37,8 @@ there_in : (lists : List (List ℕ)) (g i : ℕ) → i < length (slice_index_or 
 there_in [] g i h = absurd (omega (arith, h))
 there_in (words ∷ lists) zero i h = let e : 0 + i ≡ i = omega arith in ap (slice_get (words ++ joined lists)) e ∙ get_left words (joined lists) i h
 there_in (words ∷ lists) (suc g) i h =
-    let e : length words + before lists g + i ≡ length words + (before lists g + i) = omega arith in
+    let first : before (words ∷ lists) (suc g) ≡ length words + before lists g = sum_by-cons (λ (x : ℕ). x) (length words) (take g (map length lists)) in
+    let e : before (words ∷ lists) (suc g) + i ≡ length words + (before lists g + i) = omega (arith, first) in
     ap (slice_get (words ++ joined lists)) e ∙ get_right words (joined lists) (before lists g + i) ∙ there_in lists g i h
 
 is_within : (lists : List (List ℕ)) (g i : ℕ) → i < length (slice_index_or lists g []) → g < length lists
@@ -53,15 +55,20 @@ data_present h a ge lt =
     let f : ltb a 0x0010_0000 ≡ false = le-ltb a 0x0010_0000 ge in
     let g : ltb a 0x0020_0000 ≡ true = lt-ltb a 0x0020_0000 lt in rw (e, f, g) refl
 
-load_whole : (m : Rest) (a word : ℕ) → a % 4 ≡ 0 → word < 2 ^ 32 → present m.room.held a ≡ Some word → access.load m a 4 ≡ Some word
-unfolding access room_access load part
-load_whole m a word aligned lt there = let whole : word / 1 % 2 ^ 32 ≡ word = omega (arith, lt) in rw (aligned, there) (ap Some whole)
+load_is : (m : Rest) (a word : ℕ) → a % 4 ≡ 0 → present m.room.held a ≡ Some word → access.load m a 4 ≡ Some (part a 4 word)
+unfolding access room_access load
+load_is m a word aligned there = rw (aligned, there) refl
+
+whole : (a word : ℕ) → a % 4 ≡ 0 → word < 2 ^ 32 → part a 4 word ≡ word
+unfolding part
+whole a word aligned lt = rw aligned (omega (arith, lt))
 
 data_loads : (m : Rest) (k word : ℕ) → 4 * k < 0x0010_0000 → word < 2 ^ 32 → slice_get m.room.held.globals k ≡ Some word → access.load m (0x0010_0000 + 4 * k) 4 ≡ Some word
 data_loads m k word lt small there =
     let a = 0x0010_0000 + 4 * k in
     let index : (a - 0x0010_0000) / 4 ≡ k = omega arith in
-    load_whole m a word (omega arith) small (data_present m.room.held a (omega arith) (omega (arith, lt)) ∙ ap (slice_get m.room.held.globals) index ∙ there)
+    let aligned : a % 4 ≡ 0 = omega arith in
+    load_is m a word aligned (data_present m.room.held a (omega arith) (omega (arith, lt)) ∙ ap (slice_get m.room.held.globals) index ∙ there) ∙ ap Some (whole a word aligned small)
 
 module _ (y : Layout) (image : Fields) (w : World) (data' : HoldsData y image w) (m : Rest) (same : m.room.held.globals ≡ image.globals) where
   abbrev words_of : ℕ → List ℕ

@@ -1,7 +1,7 @@
 -- A run that begins at the start stub comes to main.
-use Rattle.std.proofs.Common.{◌≡◌, ℕ, zero, suc, ◌+◌, ◌^◌, ◌<◌, Bool, true, false, cond, eqb, List, length, get_or, replicate, pos, refl, sym, ap, ◌∙◌, subst, arith}
+use Rattle.std.proofs.Common.{◌≡◌, ℕ, zero, suc, ◌+◌, ◌^◌, ◌<◌, Bool, true, false, cond, eqb, List, replicate, pos, refl, sym, ap, ◌∙◌, subst, arith}
 use Rattle.std.specs.Prelude.{slice_index}
-use Rattle.mv_num.specs.Words.{word_of, shl}
+use Rattle.mv_num.specs.Words.{shl}
 use Rattle.mv_isa.specs.declared.instr.Instr.TheVariants.{Lui, Addi}
 use Rattle.mv_isa.specs.Execution.{reg, put, upper}
 use Rattle.mv_fetch.specs.Held.{first as first_memory}
@@ -12,6 +12,7 @@ use Rattle.mv_machine.proofs.Turns.{runs_none}
 use Rattle.mv_tree_code.specs.View.{AreRegisters}
 use Rattle.mv_tree_code.proofs.Instructions.{lui_sets}
 use Rattle.mv_tree_code.proofs.Registers.{put_same, put_other, put_registers}
+use Rattle.mv_tree_code.proofs.Words.{word_of_pos}
 use Rattle.mv_flow_code.specs.Placed.{Placed}
 use Rattle.mv_flow_code.specs.Runs.{Spot, Machine, outside, IsRun}
 use Rattle.mv_call_code.specs.CallCode.{link_register, left_register, live_register}
@@ -26,18 +27,18 @@ use Rattle.mv_stub_runs.proofs.Walked.{no_frame, none_inside, At, sets, jumps, n
 
 -- ---- the first state
 
-zero_at : (n q : ℕ) → get_or (replicate n 0) q 0 ≡ 0
+zero_at : (n q : ℕ) → slice_index (replicate n 0) q ≡ 0
 zero_at zero q = refl
 zero_at (suc n) zero = refl
 zero_at (suc n) (suc q) = zero_at n q
 
-zero_both : (b : Bool) → cond b 0 0 ≡ 0
-zero_both true = refl
-zero_both false = refl
+either_way : (b : Bool) (n : ℕ) → cond b n n ≡ n
+either_way true n = refl
+either_way false n = refl
 
 zeros : (n q : ℕ) → reg (replicate n 0) q ≡ 0
 unfolding reg
-zeros n q = ap (cond (eqb q 0) 0) (zero_at n q) ∙ zero_both (eqb q 0)
+zeros n q = ap (cond (eqb q 0) 0) (zero_at n q) ∙ either_way (eqb q 0) 0
 
 first_zero : (image : Fields) (bytes : List ℕ) (q : ℕ) → reg (first image (bytes_to_come bytes)).regs q ≡ 0
 unfolding first
@@ -52,8 +53,8 @@ unfolding first first_memory
 first_data image bytes = refl
 
 stack_is : upper (pos 0x400) ≡ stack_end
-unfolding upper shl word_of
-stack_is = refl
+unfolding upper shl
+stack_is = ap (λ (n : ℕ). shl n 12) (word_of_pos 0x400 (omega arith))
 
 -- ---- the walk
 

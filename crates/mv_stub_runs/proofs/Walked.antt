@@ -87,7 +87,7 @@ module _ (tested : CalmIsTested) (are_runs : RunsAreRuns)
   abbrev pub run : ℕ → Spot Rest
   run = machine.run
 
-  ok : IsRun access (no_frame entry) machine
+  pub ok : IsRun access (no_frame entry) machine
   ok = are_runs attributed image input picks (no_frame entry) (none_inside entry)
 
   -- time t of the run stands at a place with these registers and this memory, in calm
