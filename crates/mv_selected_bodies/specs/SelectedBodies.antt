@@ -1,0 +1,50 @@
+-- The bodies that code can be selected for.
+use Rattle.std.specs.Prelude.{ℕ, ◌≡◌, ◌<◌, ◌≤◌, ◌^◌, ◌&&◌, Bool, true, ltb, List, [], ◌∷◌, ◌++◌, All, map}
+use Rattle.mv_ast.specs.declared.program.Known.{Known}
+use Rattle.mv_ast.specs.declared.program.Known.TheVariants.{Plan}
+use Rattle.mv_ir.specs.declared.stm.Stm.{Stm}
+use Rattle.mv_ir.specs.declared.stm.Stm.TheOpen.{Stm-F}
+use Rattle.mv_ir.specs.declared.stm.Stm.TheOpen as stm
+use Rattle.mv_ir.specs.declared.stm.Stm.TheFolds.{fold-Stm}
+use Rattle.mv_ir.specs.declared.body.Body.{Body}
+use Rattle.mv_ir.specs.Measures.{joined, deepest}
+use Rattle.mv_ir.specs.WellFormed.{IsWellFormed}
+use Rattle.mv_flow_code.specs.Layouts.{are_small}
+use Rattle.mv_call_code.specs.Convention.{frame_limit}
+use Rattle.mv_function_code.specs.FunctionCode.{bytes_of}
+use Rattle.mv_function_code.specs.Functions.{shape_of}
+
+-- ---- the known functions that code calls
+
+abbrev pub knowns_layer : Stm-F (List Known) → List Known
+knowns_layer (stm.If t a b) = joined a ++ joined b
+knowns_layer (stm.Loop b) = joined b
+knowns_layer (stm.Block b) = joined b
+knowns_layer (stm.Known r k args) = k ∷ []
+knowns_layer _ = []
+
+-- those that a statement calls, with the statements within it
+unfoldable pub stm_knowns : Stm → List Known
+stm_knowns = fold-Stm (List Known) knowns_layer
+
+-- those that some code calls
+abbrev pub knowns : List Stm → List Known
+knowns code = joined (map stm_knowns code)
+
+-- an order's numbers are a byte and a word
+abbrev pub IsOrder : Known → Type 0
+IsOrder (Plan code index) = (code < 256) × (index < 2 ^ 32)
+IsOrder _ = Unit {0}
+
+-- ---- bodies within the limits of selection
+
+-- A well-formed body with registers for its trees and a frame that isn't too large, whose orders are a byte and a word.
+pub record IsWithin (attributed : Bool) (b : Body) : Type 0 where
+  pub formed : IsWellFormed b
+  pub shallow : deepest b.code ≤ 4
+  pub frame : bytes_of (shape_of attributed b) ≤ frame_limit
+  pub orders : All IsOrder (knowns b.code)
+
+-- Such a body has at most 507 temporaries, and its code is small.
+abbrev pub BodiesAreSmall : Type 0
+BodiesAreSmall = (attributed : Bool) (b : Body) → IsWithin attributed b → (b.temps ≤ 507) × (are_small b.code ≡ true)
