@@ -1,3 +1,4 @@
 pub mod Lists
 pub mod FineCode
 pub mod Small
+pub mod SamePlaces

@@ -1,5 +1,5 @@
 -- The bodies that code can be selected for.
-use Rattle.std.specs.Prelude.{ℕ, ◌≡◌, ◌<◌, ◌≤◌, ◌^◌, ◌&&◌, Bool, true, ltb, List, [], ◌∷◌, ◌++◌, All, map}
+use Rattle.std.specs.Prelude.{ℕ, ◌≡◌, ◌<◌, ◌≤◌, ◌^◌, Bool, true, List, [], ◌∷◌, ◌++◌, All, map}
 use Rattle.mv_ast.specs.declared.program.Known.{Known}
 use Rattle.mv_ast.specs.declared.program.Known.TheVariants.{Plan}
 use Rattle.mv_ir.specs.declared.stm.Stm.{Stm}
@@ -7,11 +7,13 @@ use Rattle.mv_ir.specs.declared.stm.Stm.TheOpen.{Stm-F}
 use Rattle.mv_ir.specs.declared.stm.Stm.TheOpen as stm
 use Rattle.mv_ir.specs.declared.stm.Stm.TheFolds.{fold-Stm}
 use Rattle.mv_ir.specs.declared.body.Body.{Body}
+use Rattle.mv_ir.specs.declared.body.Room.{Room}
 use Rattle.mv_ir.specs.Measures.{joined, deepest}
-use Rattle.mv_ir.specs.WellFormed.{IsWellFormed}
-use Rattle.mv_flow_code.specs.Layouts.{are_small}
-use Rattle.mv_call_code.specs.Convention.{frame_limit}
-use Rattle.mv_function_code.specs.FunctionCode.{bytes_of}
+use Rattle.mv_ir.specs.WellFormed.{has_room, IsWellFormed}
+use Rattle.mv_tree_code.specs.Rooms.{place_in}
+use Rattle.mv_flow_code.specs.Layouts.{size_in, are_small}
+use Rattle.mv_call_code.specs.Convention.{Layout, frame_limit}
+use Rattle.mv_function_code.specs.FunctionCode.{bytes_of, function_lines}
 use Rattle.mv_function_code.specs.Functions.{shape_of}
 
 -- ---- the known functions that code calls
@@ -48,3 +50,17 @@ pub record IsWithin (attributed : Bool) (b : Body) : Type 0 where
 -- Such a body has at most 507 temporaries, and its code is small.
 abbrev pub BodiesAreSmall : Type 0
 BodiesAreSmall = (attributed : Bool) (b : Body) → IsWithin attributed b → (b.temps ≤ 507) × (are_small b.code ≡ true)
+
+-- ---- rooms of a program
+
+-- Each global that has a room stands there in the program, with as many words, and has one.
+pub record AreRooms (y : Layout) (rooms : List Room) : Type 0 where
+  pub places : (g : ℕ) → has_room rooms g ≡ true → place_in rooms g ≡ y.place g
+  pub sizes : (g : ℕ) → has_room rooms g ≡ true → size_in rooms g ≡ y.size g
+  pub words : (g : ℕ) → has_room rooms g ≡ true → 0 < y.size g
+
+-- The code of a well-formed body that is written from its own rooms is that which is written from the program's layout.
+abbrev pub CodeIsTheSame : Type 0
+CodeIsTheSame =
+    (y : Layout) (attributed : Bool) (is_attributed : ℕ → Bool) (b : Body) → IsWellFormed b → AreRooms y b.rooms →
+    function_lines (place_in b.rooms) (size_in b.rooms) is_attributed (shape_of attributed b) b.code ≡ function_lines y.place y.size is_attributed (shape_of attributed b) b.code
