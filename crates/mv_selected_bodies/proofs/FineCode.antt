@@ -30,10 +30,10 @@ pub knowns_roll : (x : Stm-F Stm) → stm_knowns (roll-Stm x) ≡ knowns_layer (
 unfolding stm_knowns
 knowns_roll x = fold-roll-Stm (List Known) knowns_layer x
 
-or_first : (a b : Bool) → a ≡ true → (a || b) ≡ true
+pub or_first : (a b : Bool) → a ≡ true → (a || b) ≡ true
 or_first a b h = ap (λ c. c || b) h
 
-or_last : (a b : Bool) → b ≡ true → (a || b) ≡ true
+pub or_last : (a b : Bool) → b ≡ true → (a || b) ≡ true
 or_last true b h = refl
 or_last false b h = h
 

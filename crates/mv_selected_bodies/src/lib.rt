@@ -3,4 +3,4 @@
 
 mod laws;
 
-pub use laws::{bodies_are_small, code_is_the_same};
+pub use laws::{bodies_are_functions, bodies_are_small, code_is_the_same};
