@@ -17,7 +17,7 @@ use Rattle.mv_flow_code.specs.FlowCode.{are_fine}
 use Rattle.mv_flow_code.specs.Labels.{tree_functions, functions}
 use Rattle.mv_call_code.specs.Convention.{Layout}
 use Rattle.mv_function_code.specs.Functions.{shape_of, site_of, frame_in, IsFunction}
-use Rattle.mv_selected_bodies.specs.SelectedBodies.{tree_constants, constants, IsOrder, knowns, IsSelectable, BodiesAreFunctions}
+use Rattle.mv_selected_bodies.specs.SelectedBodies.{tree_constants, constants, IsOrder, knowns, IsInProgram, BodiesAreFunctions}
 use Rattle.mv_selected_bodies.proofs.Lists.{each_weaker, each_both, each_joined, each_all, each_true, each_shallow, and_first, and_last, and_both}
 use Rattle.mv_selected_bodies.proofs.FineCode.{ReadsBelow, IsScalar, IsAsked, all_fine, or_last}
 use Rattle.mv_selected_bodies.proofs.Small.{marks_below, order_fine}
@@ -36,7 +36,7 @@ params_fit b has = by b.params (λ t low. has 0 t (or_last (live_at_start t b.co
     by zero h = omega arith
     by (suc n) h = h n (omega arith)
 
-module _ (y : Layout) (setting : ir.Setting) (attributed : Bool) (bound : List (ℕ × ℕ)) (b : Body) (selectable : IsSelectable y setting attributed bound b) where
+module _ (y : Layout) (setting : ir.Setting) (attributed : Bool) (bound : List (ℕ × ℕ)) (b : Body) (member : IsInProgram y setting attributed bound b) where
   -- a global with a room that isn't read as bound
   abbrev is_read : ℕ → Bool
   is_read g = has_room b.rooms g && is_none (found bound g)
@@ -73,18 +73,18 @@ module _ (y : Layout) (setting : ir.Setting) (attributed : Bool) (bound : List (
 
   trees_good : Each IsGood (trees b.code)
   trees_good =
-      let reads = reads_good (scalars_read b.code) (each_true (has_room b.rooms) (scalars_read b.code) selectable.within.formed.read)
-      (each_all (λ g. found bound g ≡ None) (scalars_read b.code) selectable.free) in
-      good_trees (trees b.code) (each_shallow 4 (trees b.code) selectable.within.shallow)
-      (each_joined IsWord tree_constants (trees b.code) (each_all IsWord (constants b.code) selectable.constants))
+      let reads = reads_good (scalars_read b.code) (each_true (has_room b.rooms) (scalars_read b.code) member.within.formed.read)
+      (each_all (λ g. found bound g ≡ None) (scalars_read b.code) member.free) in
+      good_trees (trees b.code) (each_shallow 4 (trees b.code) member.within.shallow)
+      (each_joined IsWord tree_constants (trees b.code) (each_all IsWord (constants b.code) member.constants))
       (each_joined (IsRead b.temps count is_read) tree_reads (trees b.code) reads)
-      (trees_named (IsOne b.temps count is_read) b.code (each_all (IsOne b.temps count is_read) (functions b.code) selectable.functions))
+      (trees_named (IsOne b.temps count is_read) b.code (each_all (IsOne b.temps count is_read) (functions b.code) member.functions))
 
   abbrev IsWordy : Array → Type 0
   IsWordy = IsScalar is_fine y.may_ask b.temps has_word IsGood tree_fine
 
   wordy : (a : Array) → IsKnownArray (has_room b.rooms) a → IsWordy a
-  wordy (array.Global g) h = lt-ltb 0 (y.size g) (selectable.rooms.words g h)
+  wordy (array.Global g) h = lt-ltb 0 (y.size g) (member.rooms.words g h)
   wordy (array.Local l) h = tt
 
   abbrev MayAsk : Known → Type 0
@@ -92,14 +92,14 @@ module _ (y : Layout) (setting : ir.Setting) (attributed : Bool) (bound : List (
 
   asked : Each (IsAsked is_fine y.may_ask b.temps has_word IsGood tree_fine) (knowns b.code)
   asked =
-      let both = each_both MayAsk IsOrder (knowns b.code) (each_all MayAsk (knowns b.code) selectable.knowns) (each_all IsOrder (knowns b.code) selectable.within.orders) in
+      let both = each_both MayAsk IsOrder (knowns b.code) (each_all MayAsk (knowns b.code) member.knowns) (each_all IsOrder (knowns b.code) member.within.orders) in
       each_weaker (λ k. MayAsk k × IsOrder k) (IsAsked is_fine y.may_ask b.temps has_word IsGood tree_fine) (λ k h. order_fine is_fine y.may_ask b.temps has_word k h.0 h.1) (knowns b.code) both
 
   code_fine : are_fine is_fine y.may_ask b.temps has_word b.code ≡ true
   code_fine =
       all_fine is_fine y.may_ask b.temps has_word IsGood tree_fine b.code trees_good
-      (each_weaker (IsKnownArray (has_room b.rooms)) IsWordy wordy (named b.code) (known_arrays b selectable.within.formed)) asked
-      selectable.within.formed.arguments (λ t. nowhere) (marks_below b b.temps selectable.within.formed.temps (omega arith))
+      (each_weaker (IsKnownArray (has_room b.rooms)) IsWordy wordy (named b.code) (known_arrays b member.within.formed)) asked
+      member.within.formed.arguments (λ t. nowhere) (marks_below b b.temps member.within.formed.temps (omega arith))
 
   fine_tree : (t : Tree) → is_fine t ≡ true → (depth_of live : ℕ) (register : ℕ → ℕ) (is_kept : ℕ → Bool) (kept : ℕ → ℕ) →
       IsFine (site_of y is_read (shape_of attributed b) register is_kept kept) setting (frame_in attributed bound depth_of live) t
@@ -113,15 +113,15 @@ module _ (y : Layout) (setting : ir.Setting) (attributed : Bool) (bound : List (
 
   is_function : IsFunction y setting attributed bound is_read is_fine b
   is_function = record {
-    params = selectable.within.formed.params;
-    temps = params_fit b selectable.within.formed.temps;
-    small = selectable.within.frame;
-    read = λ g h. selectable.rooms.words g (and_first (has_room b.rooms g) (is_none (found bound g)) h);
+    params = member.within.formed.params;
+    temps = params_fit b member.within.formed.temps;
+    small = member.within.frame;
+    read = λ g h. member.rooms.words g (and_first (has_room b.rooms g) (is_none (found bound g)) h);
     free = λ g h. none_is (found bound g) (and_last (has_room b.rooms g) (is_none (found bound g)) h);
     fine = code_fine;
     trees = fine_tree;
   }
 
 pub bodies_are_functions : BodiesAreFunctions
-bodies_are_functions y setting attributed bound b selectable =
-    (is_read y setting attributed bound b selectable, is_fine y setting attributed bound b selectable, is_function y setting attributed bound b selectable)
+bodies_are_functions y setting attributed bound b member =
+    (is_read y setting attributed bound b member, is_fine y setting attributed bound b member, is_function y setting attributed bound b member)

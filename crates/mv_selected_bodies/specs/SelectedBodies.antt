@@ -93,7 +93,7 @@ CodeIsTheSame =
 
 -- A body within the limits whose rooms are the program's, with words for constants, which asks for known functions that it may, and names functions that
 -- there are; and no tree reads a global that is read as bound.
-pub record IsSelectable (y : Layout) (setting : ir.Setting) (attributed : Bool) (bound : List (ℕ × ℕ)) (b : Body) : Type 0 where
+pub record IsInProgram (y : Layout) (setting : ir.Setting) (attributed : Bool) (bound : List (ℕ × ℕ)) (b : Body) : Type 0 where
   pub within : IsWithin attributed b
   pub rooms : AreRooms y b.rooms
   pub constants : All (λ n. n < 2 ^ 32) (constants b.code)
@@ -104,5 +104,5 @@ pub record IsSelectable (y : Layout) (setting : ir.Setting) (attributed : Bool) 
 -- Such a body is one whose code keeps the calling convention, with some globals for its trees to read and some test for them.
 abbrev pub BodiesAreFunctions : Type 0
 BodiesAreFunctions =
-    (y : Layout) (setting : ir.Setting) (attributed : Bool) (bound : List (ℕ × ℕ)) (b : Body) → IsSelectable y setting attributed bound b →
+    (y : Layout) (setting : ir.Setting) (attributed : Bool) (bound : List (ℕ × ℕ)) (b : Body) → IsInProgram y setting attributed bound b →
     (is_read : ℕ → Bool) × (is_fine : Tree → Bool) × IsFunction y setting attributed bound is_read is_fine b
