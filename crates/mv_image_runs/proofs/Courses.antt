@@ -9,6 +9,7 @@ use Rattle.mv_ir.specs.World.{World}
 use Rattle.mv_ir.specs.Outcome.{End, Returned, Trapped, More, Stuck}
 use Rattle.mv_ir.specs.Programs as code
 use Rattle.mv_ir.specs.Programs.{Ending, executed, execution_of}
+use Rattle.mv_ir_ends.specs.Reached.{IsReached}
 use Rattle.mv_lowered_programs.specs.Laws.{IsExecution, ending_of}
 use Rattle.mv_machine.specs.Runs.{State, Stop, Going, Exit, Trap, bytes_to_come, choices_at, first as first_state, runs}
 use Rattle.mv_meaning.specs.declared.meant.End as meant
@@ -28,7 +29,7 @@ use Rattle.mv_stub_runs.specs.Laws.{ExitIsRight, TrapIsRight}
 use Rattle.mv_stub_runs.specs.Stubs.{return_address}
 use Rattle.mv_stub_runs.proofs.Walked.{calm_inside}
 use Rattle.mv_image_runs.specs.Behaves.{IsWithin, IsWhole, EndsRight, HasDone, Behaves}
-use Rattle.mv_image_runs.specs.Main.{HasStubs, Counts, IsEndOfMain, main_cost, RunsMain}
+use Rattle.mv_image_runs.specs.Main.{HasStubs, main_cost, RunsMain}
 use Rattle.mv_image_runs.proofs.Growing.{run_grew, going_before}
 
 -- ---- how the meaning ends where code does
@@ -64,6 +65,10 @@ unfolding choices_at
 one_choice s h = eqb-true (length (choices s.room.held s.pc)) 1 h
 
 module _ (bytes : List ℕ) where
+  -- a world has taken what is missing of the input
+  abbrev Counts : World → Type 0
+  Counts w = w.taken + length w.input ≡ length bytes
+
   -- a meaning did what a world says
   record Says (m : Meant) (w : World) : Type 0 where
     output : m.output ≡ w.output
@@ -71,7 +76,7 @@ module _ (bytes : List ℕ) where
     bindings : m.bindings ≡ w.bindings
     log : m.log ≡ w.log
 
-  said : (m : Meant) (ending : Ending) (cost : ℕ) (w : World) → IsExecution m (executed ending cost w) → Counts bytes w → Says m w
+  said : (m : Meant) (ending : Ending) (cost : ℕ) (w : World) → IsExecution m (executed ending cost w) → Counts w → Says m w
   said m ending cost w x counts =
       let taken = x.taken in record { output = sym x.output; taken = omega (arith, taken, counts); bindings = sym x.bindings; log = sym x.log }
 
@@ -193,13 +198,13 @@ module _ (tested : CalmIsTested) (exit_right : ExitIsRight) (trap_right : TrapIs
       unfinished = more_told m.«end» x.ending;
     }
 
-    goes : (e : End) → IsExecution m (execution_of main.first cost e) → IsEndOfMain bytes e → FollowsCall access y machine budget far spare k 3 return_address e
-        → Ended m budget ⊎ Late m budget far
-    goes (Returned None w) x is f = absurd is
-    goes (Returned (Some v) w) x is f = inl (returned v w x is f)
-    goes (Trapped c w) x is f = inl (trapped c w x is.0 is.1 is.2 f)
-    goes (More w) x is f = inr (late w x is f)
-    goes Stuck x is f = absurd (never_stuck m.«end» x.ending)
+    goes : (e : End) → IsExecution m (execution_of main.first cost e) → IsReached main.first e → ((w : World) → e ≡ Returned None w → ⊥)
+        → FollowsCall access y machine budget far spare k 3 return_address e → Ended m budget ⊎ Late m budget far
+    goes (Returned None w) x reached valued f = absurd (valued w refl)
+    goes (Returned (Some v) w) x reached valued f = inl (returned v w x (reached ∙ main.input) f)
+    goes (Trapped c w) x reached valued f = inl (trapped c w x reached.0 reached.1 (reached.2 ∙ main.input) f)
+    goes (More w) x reached valued f = inr (late w x (reached ∙ main.input) f)
+    goes Stuck x reached valued f = absurd (never_stuck m.«end» x.ending)
 
   abbrev cost : ℕ → ℕ
   cost k = (main.call k).cost
@@ -209,7 +214,7 @@ module _ (tested : CalmIsTested) (exit_right : ExitIsRight) (trap_right : TrapIs
 
   course : (budget far k : ℕ) → 3 + (main_cost + cost k) ≤ budget → far ≤ 3 + k → Ended (meaning k) budget ⊎ Late (meaning k) budget far
   course budget far k paid asked =
-      goes budget far 0 k (meaning k) (cost k) (main.call k).end (main.means k) (main.ends k) (main.follows budget far 0 k (omega (arith, paid)) asked)
+      goes budget far 0 k (meaning k) (cost k) (main.call k).end (main.means k) (main.reached k) (main.returns k) (main.follows budget far 0 k (omega (arith, paid)) asked)
 
   -- ---- before a calm time and at it
 

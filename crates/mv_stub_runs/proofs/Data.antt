@@ -1,6 +1,6 @@
 -- Globals that stand one behind the other in the data are loaded from their addresses.
-use Rattle.std.proofs.Common.{◌≡◌, ℕ, zero, suc, ◌+◌, ◌-◌, ◌*◌, ◌/◌, ◌%◌, ◌^◌, ◌<◌, ◌≤◌, false, true, ltb, List, [], ◌∷◌, ◌++◌, length, map, take, sum, slice_get, get_or, Some, refl, sym, ap, ◌∙◌, subst, arith}
-use Rattle.std.specs.List.{All, flat_map}
+use Rattle.std.proofs.Common.{◌≡◌, ℕ, zero, suc, ◌+◌, ◌-◌, ◌*◌, ◌/◌, ◌%◌, ◌^◌, ◌<◌, ◌≤◌, false, true, ltb, List, [], ◌∷◌, ◌++◌, length, map, take, sum, slice_get, Some, refl, sym, ap, ◌∙◌, subst, arith}
+use Rattle.std.specs.List.{flat_map}
 use Rattle.std.specs.Prelude.{slice_index, slice_index_or}
 use Rattle.std.proofs.lemmas.List.Elements.{All-get_or}
 use Rattle.std.proofs.lemmas.List.Sums.{sum_by-cons}
@@ -86,7 +86,7 @@ module _ (y : Layout) (image : Fields) (w : World) (data' : HoldsData y image w)
       let there : slice_get image.globals k ≡ Some (slice_index (words_of g) i) = ap (λ l. slice_get l k) data'.are ∙ there_in w.globals g i lt' in
       let within : k < length image.globals = slice_get_within image.globals k (slice_index (words_of g) i) there in
       let small : slice_index (words_of g) i < 2 ^ 32 =
-          subst (λ v. v < 2 ^ 32) (get_or_from_slice_get image.globals k (slice_index (words_of g) i) 0 there) (All-get_or (λ v. v < 2 ^ 32) image.globals k 0 within data'.words) in
+      subst (λ v. v < 2 ^ 32) (get_or_from_slice_get image.globals k (slice_index (words_of g) i) 0 there) (All-get_or (λ v. v < 2 ^ 32) image.globals k 0 within data'.words) in
       let room = data'.room in
       let place = data'.places g (is_within w.globals g i lt') in
       let at : y.place g + 4 * i ≡ 0x0010_0000 + 4 * k = omega (arith, place) in record {

@@ -1,5 +1,5 @@
 -- A run ends where a stub exits or traps.
-use Rattle.std.proofs.Common.{◌≡◌, ℕ, ◌+◌, ◌%◌, ◌^◌, ◌<◌, ◌≤◌, true, List, Option, refl, sym, ap, ◌∙◌, subst, arith, pos}
+use Rattle.std.proofs.Common.{◌≡◌, ℕ, ◌+◌, ◌%◌, ◌^◌, ◌<◌, ◌≤◌, true, List, Option, refl, sym, ◌∙◌, subst, arith, pos}
 use Rattle.mv_isa.specs.declared.instr.Instr.TheVariants.{Addi}
 use Rattle.mv_isa.specs.Execution.{reg, put}
 use Rattle.mv_image.specs.Spelling.{Fields}
@@ -16,7 +16,7 @@ use Rattle.mv_machine_runs.specs.MachineRuns.{machine_text, has_one_choice}
 use Rattle.mv_machine_runs.specs.Laws.{CalmIsTested, RunsAreRuns, EnvironmentCalls}
 use Rattle.mv_stub_runs.specs.Stubs.{start_address, return_address, start_lines, trap_lines}
 use Rattle.mv_stub_runs.specs.Ends.{HasStopped, ComesTo, EndsAfter}
-use Rattle.mv_stub_runs.proofs.Walked.{run, At, comes, count, sets, number_sets, Requests, requests}
+use Rattle.mv_stub_runs.proofs.Walked.{run, comes, count, sets, number_sets, Requests, requests}
 
 -- a calm time that is left as it is
 settled : (image : Fields) (w : World) (now next : Spot Rest) (stop : Stop) → IsCalm image w now.memory → next ≡ stopped_at now stop → HasStopped w stop next.memory
@@ -63,7 +63,7 @@ module _ (tested : CalmIsTested) (are_runs : RunsAreRuns) (environment : Environ
       let a = comes tested are_runs attributed image input picks place entry p.0 i w (record { at = h.at ∙ p.1.label ∙ sym p.1.stands; calm = h.calm; sound = h.sound }) in
       let small : code < 2 ^ 32 = omega (arith, le) in
       let b = sets tested are_runs attributed image input picks place entry (Addi first 0 (pos code)) w p.0 p.2.0 i regs (put regs first code) (time i).memory
-          (number_sets tested are_runs attributed image input picks place entry first code regs (time i).memory small) p.2.1 a in
+      (number_sets tested are_runs attributed image input picks place entry first code regs (time i).memory small) p.2.1 a in
       let r = requests tested are_runs attributed image input picks place entry 3 w p.2.0 end (i + 1) (put regs first code) (time i).memory (omega arith) p.2.2 b in
       let many = count tested are_runs attributed image input picks place entry w p.0 i regs (time i).memory a in
       let argument : reg (time (i + 1 + 1)).regs 10 ≡ code = r.argument ∙ put_same regs first code (omega arith) (omega (arith, many)) in

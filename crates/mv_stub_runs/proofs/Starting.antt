@@ -1,5 +1,5 @@
 -- A run that begins at the start stub comes to main.
-use Rattle.std.proofs.Common.{◌≡◌, ℕ, zero, suc, ◌+◌, ◌^◌, ◌<◌, Bool, true, false, cond, eqb, List, replicate, pos, refl, sym, ap, ◌∙◌, subst, arith}
+use Rattle.std.proofs.Common.{◌≡◌, ℕ, zero, suc, Bool, true, false, cond, eqb, List, replicate, pos, refl, sym, ap, ◌∙◌, subst, arith}
 use Rattle.std.specs.Prelude.{slice_index}
 use Rattle.mv_num.specs.Words.{shl}
 use Rattle.mv_isa.specs.declared.instr.Instr.TheVariants.{Lui, Addi}

@@ -5,7 +5,7 @@ use Rattle.mv_isa.specs.declared.instr.Instr.{Instr}
 use Rattle.mv_isa.specs.declared.instr.Instr.TheVariants.{Addi, Ecall}
 use Rattle.mv_isa.specs.declared.labelled.Line.{Line}
 use Rattle.mv_isa.specs.declared.labelled.Line.TheVariants.{Word, Jump}
-use Rattle.mv_isa.specs.Execution.{Outcome, Goes, Calls, reg, put, step, execute}
+use Rattle.mv_isa.specs.Execution.{Goes, Calls, reg, put, step, execute}
 use Rattle.mv_image.specs.Spelling.{Fields}
 use Rattle.mv_ir.specs.declared.stm.Array.TheVariants as array
 use Rattle.mv_ir.specs.World.{World}
@@ -13,7 +13,7 @@ use Rattle.mv_tree_code.specs.Straight.{Sets}
 use Rattle.mv_tree_code.proofs.Instructions.{addi_sets}
 use Rattle.mv_tree_code.proofs.Registers.{reg_zero, put_same, put_other}
 use Rattle.mv_tree_code.proofs.Words.{word_of_pos, add_zero}
-use Rattle.mv_statement_code.specs.Frames.{Site, Cell, TempCell, Element, Kept}
+use Rattle.mv_statement_code.specs.Frames.{Site, TempCell, Element, Kept}
 use Rattle.mv_statement_code.proofs.TreesFirst.{add_small}
 use Rattle.mv_flow_code.specs.Placed.{IsPlaced, Placed}
 use Rattle.mv_flow_code.specs.Runs.{Spot, Machine, outside, IsRun}
@@ -143,7 +143,7 @@ module _ (tested : CalmIsTested) (are_runs : RunsAreRuns)
       let regs' = put regs request_register number in
       let b : At w p.0 regs' m (t + 1) = sets (Addi request_register 0 (pos number)) w pc p.0 t regs regs' m (number_sets request_register number regs m lt) p.1 a in
       let calls : step access (unpatched_word image p.0) regs' p.0 m ≡ Calls =
-          line_does access (no_frame entry) machine ok place 0 0 0 w p.0 p.2.0 regs' m (t + 1) (Word Ecall) p.2.1.stands p.2.1 b ∙ call_is regs' p.0 m in
+      line_does access (no_frame entry) machine ok place 0 0 0 w p.0 p.2.0 regs' m (t + 1) (Word Ecall) p.2.1.stands p.2.1 b ∙ call_is regs' p.0 m in
       let many = count w pc t regs m a in
       let number_is : reg regs' request_register ≡ number = put_same regs request_register number (omega arith) (omega (arith, many)) in
       let argument_is : reg regs' 10 ≡ reg regs 10 = put_other regs request_register 10 number (omega arith) (λ e. omega (arith, e)) in record {
