@@ -33,7 +33,7 @@ use Rattle.mv_program_runs.specs.Hosts.{IsHost, IsSelected, IsLoaded}
 use Rattle.mv_program_runs.proofs.Slots.{slot_answers}
 
 -- what keeps the meaning of a call promises what the call does
-pub promises_kept : (c kept promised : Call) → KeepsCall c kept → Promises c promised → Promises kept promised
+promises_kept : (c kept promised : Call) → KeepsCall c kept → Promises c promised → Promises kept promised
 promises_kept c kept promised k (inl stuck) = inl stuck
 promises_kept c kept promised k (inr h) = let cheaper = k.cheaper in let paid = h.1 in inr (sym k.same ∙ h.0, omega (arith, cheaper, paid))
 

@@ -1,5 +1,5 @@
 -- The main function does what the program means.
-use Rattle.std.proofs.Common.{◌≡◌, ℕ, zero, suc, ◌+◌, ◌≤◌, Bool, false, List, [], length, Some, refl, sym, ap, subst, ◌∙◌, arith}
+use Rattle.std.proofs.Common.{◌≡◌, ℕ, zero, suc, ◌+◌, ◌≤◌, false, List, [], length, Some, refl, sym, subst, ◌∙◌, arith}
 use Rattle.std.specs.Prelude.{All, IsTrue, slice_get}
 use Rattle.mv_ast.specs.declared.program.Program.{Program}
 use Rattle.mv_ast.specs.declared.program.Function.{Function}
@@ -10,7 +10,7 @@ use Rattle.mv_numbering.specs.Numberings.{IsNumbering}
 use Rattle.mv_isa.specs.Execution.{Access, reg}
 use Rattle.mv_ir.specs.World as ir
 use Rattle.mv_ir.specs.World.{World, Setting}
-use Rattle.mv_ir.specs.Outcome.{End, Calls, Call, Bound}
+use Rattle.mv_ir.specs.Outcome.{Calls, Call, Bound}
 use Rattle.mv_ir.specs.Keeps.{KeepsCall}
 use Rattle.mv_ir.specs.Meaning.{Contents, body_from}
 use Rattle.mv_ir.specs.Programs.{setting_of, execution_of}
