@@ -1,6 +1,6 @@
 -- Lines whose labels are renamed stand in text where the lines do at the places of the new labels.
 use Rattle.std.proofs.Common.{◌≡◌, ℕ, ◌+◌, ◌<◌, ◌≤◌, Bool, true, false, List, [], ◌∷◌, map, nat_lt, if◌then◌else◌, refl, sym, ap, arith, subst}
-use Rattle.std.proofs.lemmas.Bool.{le-ltb}
+use Rattle.std.proofs.lemmas.Bool.{lt-ltb, le-ltb}
 use Rattle.mv_isa.specs.declared.labelled.Line.{Line}
 use Rattle.mv_isa.specs.declared.labelled.Line.TheVariants.{Word, Label, Jump, Branch, Entry, Slot}
 use Rattle.mv_flow_code.specs.Placed.{Text, IsPlaced, Placed}
@@ -26,3 +26,7 @@ module _ (text : Text) (place entry : ℕ → ℕ) (first count : ℕ) where
 -- a label that isn't an own one stays
 pub own_stays : (first count l : ℕ) → count ≤ l → own first count l ≡ l
 own_stays first count l le = let e : nat_lt l count ≡ false = le-ltb l count le in rw (e) refl
+
+-- and an own label is counted from the first one on
+pub own_here : (first count l : ℕ) → l < count → own first count l ≡ first + l
+own_here first count l lt = let e : nat_lt l count ≡ true = lt-ltb l count lt in rw (e) refl

@@ -63,5 +63,5 @@ pub record IsBuilt (p : Program) (image : Fields) : Type 0 where
   pub one_each : length parts.functions ≡ length p.functions
   pub functions : (f : ℕ) (g : Function) (code : Labelled) → slice_get p.functions f ≡ Some g → slice_get parts.functions f ≡ Some code → IsCompiled p g code
   pub main : parts.main ≡ p.main
-  pub data : AreFirstWords p parts
+  pub globals : AreFirstWords p parts
   pub linked : IsLinked parts image

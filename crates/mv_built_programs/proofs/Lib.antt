@@ -1,0 +1,5 @@
+pub mod Unbound
+pub mod Rooms
+pub mod Renamed
+pub mod Numbers
+pub mod Places
