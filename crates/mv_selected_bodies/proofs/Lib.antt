@@ -4,3 +4,4 @@ pub mod Small
 pub mod SamePlaces
 pub mod NamedTrees
 pub mod Functions
+pub mod Holding
