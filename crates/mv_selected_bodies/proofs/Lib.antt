@@ -5,3 +5,4 @@ pub mod SamePlaces
 pub mod NamedTrees
 pub mod Functions
 pub mod Holding
+pub mod RoomsStand

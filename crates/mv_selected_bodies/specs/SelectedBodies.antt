@@ -98,6 +98,14 @@ pub record AreRooms (y : Layout) (rooms : List Room) : Type 0 where
   pub sizes : (g : ℕ) → has_room rooms g ≡ true → size_in rooms g ≡ y.size g
   pub words : (g : ℕ) → has_room rooms g ≡ true → 0 < y.size g
 
+-- one room stands where the program has its global
+abbrev pub IsRoom : Layout → Room → Type 0
+IsRoom y r = (r.at ≡ y.place r.global) × (r.size ≡ y.size r.global) × (0 < r.size)
+
+-- Where each of some rooms does, a global that has a room is found there.
+abbrev pub RoomsStand : Type 0
+RoomsStand = (y : Layout) (rooms : List Room) → All (IsRoom y) rooms → AreRooms y rooms
+
 -- The code of a well-formed body that is written from its own rooms is that which is written from the program's layout.
 abbrev pub CodeIsTheSame : Type 0
 CodeIsTheSame =

@@ -4,5 +4,5 @@
 mod laws;
 mod words;
 
-pub use laws::{bodies_are_functions, bodies_are_small, code_is_the_same};
+pub use laws::{bodies_are_functions, bodies_are_small, code_is_the_same, rooms_stand};
 pub use words::code_has_words;
