@@ -80,7 +80,8 @@ frame_in attributed bound depth live = record { depth = depth + 1; live = live +
 abbrev pub main_frame : List (ℕ × ℕ) → ir.Frame
 main_frame bound = record { depth = 0; live = 0; bound = bound }
 
--- A function whose frame is small enough, and whose code is fine for it. It reads the globals that it may, none of which is read as bound.
+-- A function whose frame is small enough, and whose code is fine for it. Each global that it may read has a word, and none of them is read
+-- as bound.
 pub record IsFunction (y : Layout) (setting : ir.Setting) (attributed : Bool) (bound : List (ℕ × ℕ)) (is_read : ℕ → Bool) (is_fine : Tree → Bool) (body : Body) : Type 0 where
   pub params : body.params ≤ 8
   pub temps : body.params ≤ body.temps
