@@ -4,3 +4,5 @@ pub mod Small
 pub mod SamePlaces
 pub mod NamedTrees
 pub mod Functions
+pub mod Holding
+pub mod RoomsStand

@@ -23,7 +23,7 @@ use Rattle.mv_selected_bodies.specs.SelectedBodies.{constants_layer, tree_consta
 use Rattle.mv_selected_bodies.proofs.Lists.{each_front, each_back, each_joined, and_both}
 use Rattle.mv_selected_bodies.proofs.FineCode.{ReadsBelow, or_first, or_last}
 
-constants_roll : (x : Tree-F Tree) → tree_constants (roll-Tree x) ≡ constants_layer (map-Tree Tree (List ℕ) tree_constants x)
+pub constants_roll : (x : Tree-F Tree) → tree_constants (roll-Tree x) ≡ constants_layer (map-Tree Tree (List ℕ) tree_constants x)
 unfolding tree_constants
 constants_roll x = fold-roll-Tree (List ℕ) constants_layer x
 

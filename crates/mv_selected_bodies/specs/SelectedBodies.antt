@@ -25,6 +25,7 @@ use Rattle.mv_function_code.specs.Functions.{IsFunction, shape_of}
 
 -- ---- the constants that stand in code, and the known functions that it calls
 
+-- the constants of one node, given those of its operands
 abbrev pub constants_layer : Tree-F (List ℕ) → List ℕ
 constants_layer (tree.Number n) = n ∷ []
 constants_layer (tree.Temp t) = []
@@ -38,10 +39,19 @@ constants_layer (tree.Narrow k a) = a
 unfoldable pub tree_constants : Tree → List ℕ
 tree_constants = fold-Tree (List ℕ) constants_layer
 
--- the constants of the trees of some code
-abbrev pub constants : List Stm → List ℕ
-constants code = joined (map tree_constants (trees code))
+-- the constants of trees in order
+abbrev pub constants_of_all : List Tree → List ℕ
+constants_of_all ts = joined (map tree_constants ts)
 
+-- the constants of some code
+abbrev pub constants : List Stm → List ℕ
+constants code = constants_of_all (trees code)
+
+-- numbers that are words
+abbrev pub AreWords : List ℕ → Type 0
+AreWords ns = All (λ n. n < 2 ^ 32) ns
+
+-- the known functions that one statement calls, given those that the ones within it call
 abbrev pub knowns_layer : Stm-F (List Known) → List Known
 knowns_layer (stm.If t a b) = joined a ++ joined b
 knowns_layer (stm.Loop b) = joined b
@@ -62,6 +72,11 @@ abbrev pub IsOrder : Known → Type 0
 IsOrder (Plan code index) = (code < 256) × (index < 2 ^ 32)
 IsOrder _ = Unit {0}
 
+-- the constants of some code are words, and the numbers of its orders fit
+pub record HasWords (code : List Stm) : Type 0 where
+  pub constants : AreWords (constants code)
+  pub orders : All IsOrder (knowns code)
+
 -- ---- bodies within the limits of selection
 
 -- A well-formed body with registers for its trees and a frame that isn't too large, whose orders are a byte and a word.
@@ -77,11 +92,19 @@ BodiesAreSmall = (attributed : Bool) (b : Body) → IsWithin attributed b → (b
 
 -- ---- rooms of a program
 
--- Each global that has a room stands there in the program, with as many words, and has one.
+-- Each global that has a room stands at its place in the program, and has as many words there, at least one.
 pub record AreRooms (y : Layout) (rooms : List Room) : Type 0 where
   pub places : (g : ℕ) → has_room rooms g ≡ true → place_in rooms g ≡ y.place g
   pub sizes : (g : ℕ) → has_room rooms g ≡ true → size_in rooms g ≡ y.size g
   pub words : (g : ℕ) → has_room rooms g ≡ true → 0 < y.size g
+
+-- one room stands where the program has its global
+abbrev pub IsRoom : Layout → Room → Type 0
+IsRoom y r = (r.at ≡ y.place r.global) × (r.size ≡ y.size r.global) × (0 < r.size)
+
+-- Where each of some rooms does, a global that has a room is found there.
+abbrev pub RoomsStand : Type 0
+RoomsStand = (y : Layout) (rooms : List Room) → All (IsRoom y) rooms → AreRooms y rooms
 
 -- The code of a well-formed body that is written from its own rooms is that which is written from the program's layout.
 abbrev pub CodeIsTheSame : Type 0
@@ -96,7 +119,7 @@ CodeIsTheSame =
 pub record IsInProgram (y : Layout) (setting : ir.Setting) (attributed : Bool) (bound : List (ℕ × ℕ)) (b : Body) : Type 0 where
   pub within : IsWithin attributed b
   pub rooms : AreRooms y b.rooms
-  pub constants : All (λ n. n < 2 ^ 32) (constants b.code)
+  pub constants : AreWords (constants b.code)
   pub knowns : All (λ k. y.may_ask k ≡ true) (knowns b.code)
   pub functions : All (λ f. f < length setting.numbers) (functions b.code)
   pub free : All (λ g. found bound g ≡ None) (scalars_read b.code)

@@ -1,4 +1,4 @@
-ghost use Rattle.mv_selected_bodies.specs.SelectedBodies.{BodiesAreFunctions, BodiesAreSmall, CodeIsTheSame};
+ghost use Rattle.mv_selected_bodies.specs.SelectedBodies.{BodiesAreFunctions, BodiesAreSmall, CodeIsTheSame, RoomsStand};
 
 /// A well-formed body whose trees have at most four nodes one below the other and whose frame has at most 2,032 bytes has at most
 /// 507 temporaries, and its code is small, as `push_statements` of `mv_flow_code` asks. The call does nothing: its contract is the
@@ -18,4 +18,10 @@ pub fn code_is_the_same()
 /// that is read as bound. The call does nothing: its contract is the law.
 pub fn bodies_are_functions()
     ensures { BodiesAreFunctions }
+{}
+
+/// Rooms that each stand where the layout has their globals are the layout's, as the other laws ask. The call does nothing: its
+/// contract is the law.
+pub fn rooms_stand()
+    ensures { RoomsStand }
 {}

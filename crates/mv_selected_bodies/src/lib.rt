@@ -2,5 +2,7 @@
 #![tactic(auto)]
 
 mod laws;
+mod words;
 
-pub use laws::{bodies_are_functions, bodies_are_small, code_is_the_same};
+pub use laws::{bodies_are_functions, bodies_are_small, code_is_the_same, rooms_stand};
+pub use words::code_has_words;
