@@ -1,5 +1,5 @@
 -- The course of a run through main: it ends in a stub, or goes on at least as long as was asked for.
-use Rattle.std.proofs.Common.{◌≡◌, ◌⊎◌, inl, inr, ⊎_elim, ℕ, ◌+◌, ◌-◌, ◌*◌, ◌%◌, ◌^◌, ◌<◌, ◌≤◌, true, eqb, List, [], length, map, Option, Some, None, refl, sym, ap, ◌∙◌, subst, arith}
+use Rattle.std.proofs.Common.{◌≡◌, ◌⊎◌, inl, inr, ⊎_elim, ℕ, ◌+◌, ◌-◌, ◌*◌, ◌%◌, ◌^◌, ◌<◌, ◌≤◌, true, List, [], length, Option, Some, None, refl, sym, ap, ◌∙◌, subst, arith}
 use Rattle.std.proofs.lemmas.Bool.{cases_lt, eqb-true}
 use Rattle.std.proofs.lemmas.List.{length-map}
 use Rattle.mv_ast.specs.declared.program.Program.{Program}
@@ -18,13 +18,12 @@ use Rattle.mv_meaning.specs.declared.meant.Meant.{Meant}
 use Rattle.mv_meaning.specs.Growth.{Begins}
 use Rattle.mv_meaning.specs.Meaning.{mean}
 use Rattle.mv_meaning.proofs.Growing.{Begins-refl}
-use Rattle.mv_statement_code.specs.StatementCode.{first, trap_label}
 use Rattle.mv_flow_code.specs.Runs.{Machine, outside}
-use Rattle.mv_call_code.specs.Convention.{Layout, Returns, Stops, IsLate, FollowsCall}
+use Rattle.mv_call_code.specs.Convention.{Layout, FollowsCall}
 use Rattle.mv_machine_runs.specs.Calm.{Rest, IsCalm, is_calm}
 use Rattle.mv_machine_runs.specs.Laws.{CalmIsTested}
 use Rattle.mv_machine_runs.specs.MachineRuns.{access, machine_of, rest_of, spot_of, has_one_choice}
-use Rattle.mv_stub_runs.specs.Ends.{HasStopped, ComesTo, EndsAfter}
+use Rattle.mv_stub_runs.specs.Ends.{HasStopped, EndsAfter}
 use Rattle.mv_stub_runs.specs.Laws.{ExitIsRight, TrapIsRight}
 use Rattle.mv_stub_runs.specs.Stubs.{return_address}
 use Rattle.mv_stub_runs.proofs.Walked.{calm_inside}
@@ -157,7 +156,7 @@ module _ (tested : CalmIsTested) (exit_right : ExitIsRight) (trap_right : TrapIs
         let paid = f.1.paid in
         let says = said bytes m (code.Exited (v % 256)) cost w x counts in
         let ends = exit_right attributed image input picks stubs.place stubs.entry stubs.main_label stubs.start_ends stubs.start f.0 w
-            (record { at = stands.at; calm = inside w f.0 stands.calm; sound = stands.sound }) in record {
+        (record { at = stands.at; calm = inside w f.0 stands.calm; sound = stands.sound }) in record {
           world = w;
           last = f.0 + 1;
           stop = Exit (v % 2 ^ 8);
