@@ -7,3 +7,4 @@ pub mod Selecting
 pub mod SelectedLines
 pub mod Small
 pub mod Totals
+pub mod Worked

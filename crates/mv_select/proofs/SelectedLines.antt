@@ -107,17 +107,17 @@ selected_targets_stand whole attributed body h =
 -- ---- encodings
 
 pub selected_encoded : SelectedIsEncoded
-selected_encoded attributed body selectable fits =
+selected_encoded attributed body suitable fits =
     let start = entry attributed body in
     let stop = return attributed body in
     let lines = (inner attributed body).lines [] 1 in
     let spaces = spaces_behind (arrays_start body.temps) body.arrays in
     let n = 2 * tree_nodes body.code + 9 * statements body.code + more (array_size_in spaces) 16 body.code in
     let sizes = ap (λ s. more s 16 body.code) (same_functions (array_size_in spaces) (slice_index body.arrays) (sizes_are (arrays_start body.temps) body.arrays)) in
-    let frames = frames_encoded attributed body.params body.temps (frame_bytes body.temps body.arrays) selectable.formed.params fits in
+    let frames = frames_encoded attributed body.params body.temps (frame_bytes body.temps body.arrays) suitable.formed.params fits in
     let over = flow_encoded (layout_in body) (arrays_within body fits) 16 (calls_in body) (calls_encoded (place_in body.rooms) (is_marked body.marked)) body.code
-    (bodies_are_small body selectable fits).1 [] 1 in
-    let within : IsCode n lines = subst (λ (c : Emitted). IsCode n (c.lines [] 1)) (layout_code attributed body selectable.formed) over in
+    (bodies_are_small body suitable fits).1 [] 1 in
+    let within : IsCode n lines = subst (λ (c : Emitted). IsCode n (c.lines [] 1)) (layout_code attributed body suitable.formed) over in
     let end : IsCode 0 (Label 0 ∷ []) = (All-cons LineFits (Label 0) [] tt (All-nil LineFits), omega arith) in
     wider (20 + (n + (0 + 13))) (greatest_length body) (selected_lines attributed body) (omega (arith, sizes))
     (both 20 (n + (0 + 13)) start (lines ++ (Label 0 ∷ stop)) frames.0 (both n (0 + 13) lines (Label 0 ∷ stop) within (both 0 13 (Label 0 ∷ []) stop end frames.1)))

@@ -15,7 +15,7 @@ use Rattle.mv_flow_code.specs.Layouts.{plan_in}
 use Rattle.mv_flow_code.proofs.LabelsOwn.{labels_few}
 use Rattle.mv_call_code.specs.CallCode.{calls_of, is_marked}
 use Rattle.mv_function_code.specs.FunctionCode.{frame_bytes, prologue_lines, epilogue_lines}
-use Rattle.mv_select.specs.Selected.{layout_in, plan_of, selected_lines, selected_labels, IsSelectable, FitsFrame, IsSelected}
+use Rattle.mv_select.specs.Selected.{layout_in, plan_of, selected_lines, selected_labels, IsSuitable, FitsFrame, IsSelected}
 use Rattle.mv_select.proofs.Layouts.{calls_in, layout_code}
 use Rattle.mv_select.proofs.SelectedLines.{entry, return, inner, selected_labels_own}
 
@@ -23,10 +23,10 @@ abbrev pub over_layout : Body → Emitted
 over_layout body = code_of (plan_in (layout_in body) (calls_in body)) body.code
 
 -- the labels of a body are words
-pub labels_fit : (body : Body) → IsSelectable body → 1 + (over_layout body).labels < 2 ^ 32
-labels_fit body selectable =
+pub labels_fit : (body : Body) → IsSuitable body → 1 + (over_layout body).labels < 2 ^ 32
+labels_fit body suitable =
     let few = labels_few (plan_in (layout_in body) (calls_in body)) body.code in
-    let size = selectable.formed.size in
+    let size = suitable.formed.size in
     omega (arith, few, size)
 
 -- the same over what is known to be the layout and the names of calls
@@ -41,21 +41,21 @@ over_same body layout rooms marked of_layout of_rooms of_marked =
 abbrev pub written : Bool → Body → List Line
 written attributed body = ((entry attributed body ++ (over_layout body).lines [] 1) ++ (Label 0 ∷ [])) ++ return attributed body
 
-pub written_lines : (attributed : Bool) (body : Body) → IsSelectable body → written attributed body ≡ selected_lines attributed body
-written_lines attributed body selectable =
+pub written_lines : (attributed : Bool) (body : Body) → IsSuitable body → written attributed body ≡ selected_lines attributed body
+written_lines attributed body suitable =
     let start = entry attributed body in
     let stop = return attributed body in
     let over = (over_layout body).lines [] 1 in
     let lines = (inner attributed body).lines [] 1 in
     let end = Label 0 ∷ [] in
-    let same : over ≡ lines = ap (λ (c : Emitted). c.lines [] 1) (layout_code attributed body selectable.formed) in
+    let same : over ≡ lines = ap (λ (c : Emitted). c.lines [] 1) (layout_code attributed body suitable.formed) in
     append_assoc (start ++ over) end stop ∙ append_assoc start over (end ++ stop) ∙ ap (λ ls. start ++ (ls ++ (Label 0 ∷ stop))) same
 
-pub selected : (attributed : Bool) (body : Body) → IsSelectable body → FitsFrame body → (code : Labelled) → code.items ≡ written attributed body → code.labels ≡ 1 + (over_layout body).labels
+pub selected : (attributed : Bool) (body : Body) → IsSuitable body → FitsFrame body → (code : Labelled) → code.items ≡ written attributed body → code.labels ≡ 1 + (over_layout body).labels
     → IsSelected attributed body code
-selected attributed body selectable fits code items labels =
-    let lines : code.items ≡ selected_lines attributed body = items ∙ written_lines attributed body selectable in
-    let counts = ap (λ (c : Emitted). c.labels) (layout_code attributed body selectable.formed) in
+selected attributed body suitable fits code items labels =
+    let lines : code.items ≡ selected_lines attributed body = items ∙ written_lines attributed body suitable in
+    let counts = ap (λ (c : Emitted). c.labels) (layout_code attributed body suitable.formed) in
     let count : code.labels ≡ selected_labels attributed body = omega (arith, labels, counts) in
     let few = labels_few (plan_of attributed body) body.code in
     record {

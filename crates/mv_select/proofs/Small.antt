@@ -15,7 +15,7 @@ use Rattle.mv_ir.proofs.Induction.{Each}
 use Rattle.mv_tree_code.specs.TreeCode.{temps_of}
 use Rattle.mv_flow_code.specs.FlowCode.{fine_known}
 use Rattle.mv_flow_code.specs.Layouts.{any_global, any_known, is_small, are_small}
-use Rattle.mv_select.specs.Selected.{IsOrder, knowns, IsSelectable, FitsFrame}
+use Rattle.mv_select.specs.Selected.{IsOrder, knowns, IsSuitable, FitsFrame}
 use Rattle.mv_select.proofs.Lists.{each_weaker, each_all, each_shallow, and_both}
 use Rattle.mv_select.proofs.FineCode.{ReadsBelow, Low, low_marks, temps_below, IsScalar, IsAsked, all_fine}
 
@@ -56,7 +56,7 @@ module _ (b : Body) (formed : IsWellFormed b) (few : b.temps ≤ 507) (shallow :
       (each_weaker IsOrder (IsAsked is_small any_known 507 any_global IsShallow tree_small) (λ k. order_fine is_small any_known 507 any_global k refl) (knowns b.code) orders)
       formed.arguments (λ t. nowhere) (marks_below b 507 formed.temps few)
 
-pub bodies_are_small : (b : Body) → IsSelectable b → FitsFrame b → (b.temps ≤ 507) × (are_small b.code ≡ true)
-bodies_are_small b selectable fits =
+pub bodies_are_small : (b : Body) → IsSuitable b → FitsFrame b → (b.temps ≤ 507) × (are_small b.code ≡ true)
+bodies_are_small b suitable fits =
     let few : b.temps ≤ 507 = few_temps b fits in
-    (few, code_small b selectable.formed few (each_shallow 4 (trees b.code) selectable.shallow) (each_all IsOrder (knowns b.code) selectable.orders))
+    (few, code_small b suitable.formed few (each_shallow 4 (trees b.code) suitable.shallow) (each_all IsOrder (knowns b.code) suitable.orders))

@@ -12,7 +12,7 @@ use Rattle.mv_flow_code.specs.Encoded.{more}
 use Rattle.mv_flow_code.specs.Labels.{OwnLabels, functions}
 use Rattle.mv_call_code.specs.CallCode.{commit_label}
 use Rattle.mv_function_code.specs.FunctionCode.{frame_bytes}
-use Rattle.mv_select.specs.Selected.{selected_lines, selected_labels, IsSelectable, FitsFrame}
+use Rattle.mv_select.specs.Selected.{selected_lines, selected_labels, IsSuitable, FitsFrame}
 
 -- how many words the code of a body has at most: two for each node of a tree, nine for each statement, one for each element that is made 0, 16 for each
 -- call, and 33 for entry and return
@@ -21,7 +21,7 @@ greatest_length body = 33 + (2 * tree_nodes body.code + 9 * statements body.code
 
 -- the code of a body has encodings, and few words
 abbrev pub SelectedIsEncoded : Type 0
-SelectedIsEncoded = (attributed : Bool) (body : Body) → IsSelectable body → FitsFrame body → IsCode (greatest_length body) (selected_lines attributed body)
+SelectedIsEncoded = (attributed : Bool) (body : Body) → IsSuitable body → FitsFrame body → IsCode (greatest_length body) (selected_lines attributed body)
 
 -- the labels that it takes are those that stand in it
 abbrev pub SelectedLabelsAreOwn : Type 0

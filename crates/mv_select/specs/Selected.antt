@@ -70,7 +70,7 @@ IsOrder (Plan code index) = (code < 256) × (index < 2 ^ 32)
 IsOrder _ = Unit {0}
 
 -- a well-formed body with registers for its trees, whose orders are a byte and a word
-pub record IsSelectable (body : Body) : Type 0 where
+pub record IsSuitable (body : Body) : Type 0 where
   pub formed : IsWellFormed body
   pub shallow : deepest body.code ≤ 4
   pub orders : All IsOrder (knowns body.code)

@@ -8,3 +8,6 @@ mod selection;
 
 pub use laws::selection_law;
 pub use selection::select;
+
+#[cfg(test)]
+mod tests;

@@ -4,7 +4,7 @@ ghost use Rattle.std.specs.Prelude.{◌≡◌, ◌≤◌, IfOk, MatchResult};
 ghost use Rattle.mv_ir.specs.Measures.{deepest};
 ghost use Rattle.mv_ir.specs.WellFormed.{IsWellFormed};
 ghost use Rattle.mv_function_code.specs.FunctionCode.{frame_bytes};
-ghost use Rattle.mv_select.specs.Selected.{layout_in, IsSelectable, IsSelected, PassesFrame, OnFrame};
+ghost use Rattle.mv_select.specs.Selected.{layout_in, IsSuitable, IsSelected, PassesFrame, OnFrame};
 
 use crate::error::SelectError;
 use crate::frame::{frame_bytes, spaces};
@@ -50,7 +50,7 @@ fn layout_of(alloc: Global, body: &Body) -> Result<Layout, AllocError>
 
 // The code of a body whose frame has so many bytes.
 fn written(alloc: Global, body: &Body, attributed: bool, bytes: u32) -> Result<Labelled, AllocError>
-    requires selectable { IsSelectable body.now }
+    requires suitable { IsSuitable body.now }
     requires bytes { bytes ≡ frame_bytes body.now.temps body.now.arrays }
     requires few { bytes ≤ 2032 }
     ensures { IfOk result (λ code. IsSelected attributed body.now code) }
@@ -92,7 +92,7 @@ pub fn select(
     attributed: bool,
     function: u32,
 ) -> Result<Labelled, SelectError>
-    requires { IsSelectable body.now }
+    requires { IsSuitable body.now }
     ensures { MatchResult result (λ code. IsSelected attributed body.now code) (λ e. OnFrame e (PassesFrame function body.now)) }
 {
     let bytes = fitting_bytes(body, function)?;

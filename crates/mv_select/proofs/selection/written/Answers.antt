@@ -15,12 +15,12 @@ push_statements-requires-clause-arrays c =
 pub push_statements-requires-clause-small : goal.push_statements-requires-clause-small
 push_statements-requires-clause-small c =
     let fits = subst (λ n. n ≤ 2032) c.requires.bytes c.requires.few in
-    (bodies_are_small c.args.body.now c.requires.selectable fits).1
+    (bodies_are_small c.args.body.now c.requires.suitable fits).1
 
 pub push_statements-requires-clause-labels : goal.push_statements-requires-clause-labels
 push_statements-requires-clause-labels c =
     let same = over_same c.args.body.now c.in_ok-layout.layout c.as_slice.result.now c.as_slice-2.result.now c.in_ok-layout.ensures c.as_slice.ensures c.as_slice-2.ensures in
-    let few = labels_fit c.args.body.now c.requires.selectable in
+    let few = labels_fit c.args.body.now c.requires.suitable in
     omega (arith, c.new-emitter.ensures.free, few, ap (λ e. e.labels) same)
 
 -- the code of the parts, in order
@@ -35,5 +35,5 @@ returns c =
     c.requires.bytes c.new-emitter.ensures.free c.new-emitter.ensures.around same c.new-emitter.ensures.lines
     c.in_ok-push_prologue.ensures (ap (λ (e : Emitter). e.lines) done) c.in_ok-push.ensures.ok c.in_ok-push_epilogue.ensures in
     let free = ap (λ (e : Emitter). e.free) done in
-    selected c.args.attributed body c.requires.selectable fits (record { items = c.push_epilogue.new.code; labels = c.push_statements.new.emitter.free }) items
+    selected c.args.attributed body c.requires.suitable fits (record { items = c.push_epilogue.new.code; labels = c.push_statements.new.emitter.free }) items
     (omega (arith, free, c.new-emitter.ensures.free, ap (λ e. e.labels) same))
