@@ -41,7 +41,7 @@ no_slots (Branch funct3 rs1 rs2 l ∷ rest) = no_slots rest
 no_slots (Entry rd f ∷ rest) = no_slots rest
 no_slots (Slot f ∷ rest) = false
 
-abbrev HasNone : List Line → Type 0
+abbrev pub HasNone : List Line → Type 0
 HasNone lines = no_slots lines ≡ true
 
 after : (a b : List Line) → HasNone a → HasNone b → HasNone (a ++ b)

@@ -128,7 +128,7 @@ module _ (parts : Parts) (are : AreParts parts) (stand : FunctionsStand) (sizing
     count = length-map-range_with_len (address_of parts sizing) 0 (length functions)
 
     number_is : (f d : ℕ) → f < length functions → get_or (numbers_of parts sizing) f d ≡ address_of parts sizing f
-    number_is f d lt = get_or-map-range_with_len (address_of parts sizing) 0 (length functions) f f d lt refl
+    number_is f d lt = get_or-map-range_with_len (address_of parts sizing) 0 (length functions) f f d lt (omega arith)
 
     place_of : (f : ℕ) → f < length functions → IsPlace (address_of parts sizing f)
     place_of f lt = subst IsPlace (sym (entry_is f (code_at f) (there f lt))) (words.places (index f))

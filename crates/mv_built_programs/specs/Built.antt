@@ -1,5 +1,5 @@
 -- What a compiler gives of a program in which no function is attributed.
-use Rattle.std.specs.Prelude.{ℕ, ◌≡◌, ◌<◌, ◌≤◌, ◌^◌, false, List, length, map, slice_get, slice_index, Some, All}
+use Rattle.std.specs.Prelude.{ℕ, ◌≡◌, ◌<◌, ◌≤◌, ◌^◌, false, List, length, map, slice_get, Some, All}
 use Rattle.std.specs.List.{flat_map}
 use Rattle.mv_ast.specs.declared.program.Program.{Program}
 use Rattle.mv_ast.specs.declared.program.Function.{Function}
@@ -18,10 +18,11 @@ use Rattle.mv_call_code.specs.CallCode.{is_marked}
 use Rattle.mv_call_code.specs.Environment.{IsDirect}
 use Rattle.mv_function_code.specs.FunctionCode.{function_lines}
 use Rattle.mv_function_code.specs.Functions.{shape_of}
-use Rattle.mv_selected_bodies.specs.SelectedBodies.{constants, knowns, IsWithin}
+use Rattle.mv_selected_bodies.specs.SelectedBodies.{knowns, HasWords, IsWithin}
 use Rattle.mv_linker.specs.declared.parts.Parts.{Parts}
 use Rattle.mv_linker.specs.Linked.{AreParts}
-use Rattle.mv_linker.specs.Outcome.{datum_word, IsLinked}
+use Rattle.mv_linker.specs.Outcome.{IsLinked}
+use Rattle.mv_first_data.specs.Laws.{datum_word}
 
 -- no function of a program is attributed
 abbrev pub IsUnattributed : Program → Type 0
@@ -32,14 +33,14 @@ abbrev pub HasWordsOfGlobals : Program → Type 0
 HasWordsOfGlobals p = All (λ (x : Global). 0 < words_of_size x.size) p.globals
 
 -- A function is compiled to a body that means what it is lowered to, at no greater cost. The body is within the limits of selection, and has the rooms and
--- marks of the lowered one; its constants are words; and it names functions of the program, and of the known ones input and output alone.
+-- marks of the lowered one; its numbers fit; and it names functions of the program, and of the known ones input and output alone.
 pub record IsCompiledTo (p : Program) (g : Function) (body : Body) : Type 0 where
   pub keeps : KeepsBody (lower_function p g) body
   pub params : body.params ≡ g.params
   pub rooms : body.rooms ≡ (lower_function p g).rooms
   pub marked : body.marked ≡ (lower_function p g).marked
   pub within : IsWithin false body
-  pub constants : All (λ n. n < 2 ^ 32) (constants body.code)
+  pub words : HasWords body.code
   pub knowns : All IsDirect (knowns body.code)
   pub functions : All (λ f. f < length p.functions) (functions body.code)
 
@@ -54,9 +55,9 @@ pub record IsCompiled (p : Program) (g : Function) (code : Labelled) : Type 0 wh
 abbrev pub AreFirstWords : Program → Parts → Type 0
 AreFirstWords p parts =
     (numbers : List ℕ) → length numbers ≡ length p.functions →
-    map (datum_word (slice_index numbers)) parts.globals ≡ flat_map (λ words. words) (map (first_words_under numbers) p.globals)
+    map (datum_word numbers) parts.globals ≡ flat_map (λ words. words) (map (first_words_under numbers) p.globals)
 
--- An image is linked of the code of all functions of a program, and of the first words of its globals.
+-- An image, whose data are words, is linked of the code of all functions of a program, and of the first words of its globals.
 pub record IsBuilt (p : Program) (image : Fields) : Type 0 where
   pub parts : Parts
   pub are : AreParts parts
@@ -65,3 +66,4 @@ pub record IsBuilt (p : Program) (image : Fields) : Type 0 where
   pub main : parts.main ≡ p.main
   pub globals : AreFirstWords p parts
   pub linked : IsLinked parts image
+  pub words : All (λ w. w < 2 ^ 32) image.globals
