@@ -133,7 +133,7 @@ module _ (lines_fit : LinesFit) (stubs_stand : StubsStand) (functions_stand : Fu
   function_there (g ∷ gs) zero lt = (g, refl)
   function_there (g ∷ gs) (suc f) lt = function_there gs f (omega (arith, lt))
 
-  each_begins : (f : ℕ) (code : Labelled) → slice_get parts.functions f ≡ Some code → BeginsWithWord code
+  pub each_begins : (f : ℕ) (code : Labelled) → slice_get parts.functions f ≡ Some code → BeginsWithWord code
   each_begins f code here =
       let lt = slice_get_within parts.functions f code here in
       let same = built.one_each in
@@ -144,7 +144,7 @@ module _ (lines_fit : LinesFit) (stubs_stand : StubsStand) (functions_stand : Fu
 
   -- ---- globals
 
-  abbrev global_count : map length (map (first_words_under numbers) p.globals) ≡ global_sizes p
+  abbrev pub global_count : map length (map (first_words_under numbers) p.globals) ≡ global_sizes p
   global_count = sizes_are p numbers (All-weaker IsWellFormedGlobal (λ (x : Global). length x.first ≤ words_of_size x.size) (λ x h. h.given) p.globals formed.globals)
 
   pub few : sum (global_sizes p) ≤ 262144

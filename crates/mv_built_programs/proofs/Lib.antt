@@ -6,3 +6,4 @@ pub mod NoSlots
 pub mod Places
 pub mod Linked
 pub mod Host
+pub mod Whole

@@ -18,7 +18,7 @@ use Rattle.mv_call_code.specs.Convention.{Layout, Stands, Returns, Stops, IsLate
 use Rattle.mv_call_code.specs.Environment.{IsDirect, Asks, ServesCalls}
 use Rattle.mv_function_code.specs.Functions.{IsMemory, Begins}
 
-abbrev has_no_bindings : World → Bool
+abbrev pub has_no_bindings : World → Bool
 has_no_bindings w = eqb (length w.bindings) 0
 
 none_listed : (bindings : List Binding) → eqb (length bindings) 0 ≡ true → (n : ℕ) (b : Binding) → slice_get bindings n ≡ Some b → b.bound ≡ false
