@@ -6,4 +6,5 @@ pub mod NoSlots
 pub mod Places
 pub mod Linked
 pub mod Host
+pub mod Main
 pub mod Whole

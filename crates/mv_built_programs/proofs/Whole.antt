@@ -1,32 +1,26 @@
 -- The run of a built image does what its program means.
-use Rattle.std.proofs.Common.{◌≡◌, ℕ, ◌+◌, ◌*◌, ◌<◌, ◌≤◌, ◌^◌, ◌%◌, Bool, true, false, eqb, List, [], ◌∷◌, Some, None, map, take, sum, length, get_or, filter, replicate, slice_get, All, refl, sym, ap, ◌∙◌, subst, arith}
-use Rattle.std.specs.Prelude.{IsTrue}
+use Rattle.std.proofs.Common.{◌≡◌, ℕ, ◌+◌, ◌*◌, ◌<◌, ◌≤◌, ◌^◌, ◌%◌, Bool, true, false, eqb, List, [], ◌∷◌, Option, Some, None, map, take, sum, length, get_or, filter, replicate, slice_get, All, refl, sym, ap, ◌∙◌, subst, arith}
 use Rattle.std.specs.List.{flat_map}
 use Rattle.std.proofs.Math.ListN as lists
 use Rattle.std.proofs.lemmas.List.{length-map}
 use Rattle.std.proofs.lemmas.List.Elements.{All-nil, All-head, All-tail}
 use Rattle.mv_ast.specs.declared.program.Program.{Program}
 use Rattle.mv_ast.specs.declared.program.Function.{Function}
-use Rattle.mv_ast.specs.declared.world.Action.{Action}
 use Rattle.mv_ast.specs.declared.world.Binding.{Binding}
-use Rattle.mv_ast.specs.Actions as actions
 use Rattle.mv_ast.specs.Plans.{attributed_functions, free}
 use Rattle.mv_ast.specs.Starts.{first_words_under}
-use Rattle.mv_meaning.specs.Meaning.{mean}
 use Rattle.mv_numbering.specs.Numberings.{IsNumbering}
-use Rattle.mv_isa.specs.Execution.{Access, reg}
 use Rattle.mv_isa.specs.Code.{label_address, text_start}
 use Rattle.mv_image.specs.Spelling.{Fields}
 use Rattle.mv_ir.specs.World.{World}
-use Rattle.mv_ir.specs.Outcome.{Call, Returned}
-use Rattle.mv_ir.specs.Programs.{execution_of}
-use Rattle.mv_ir_ends.specs.Reached.{IsReached}
-use Rattle.mv_lowered_programs.specs.Laws.{IsExecution}
+use Rattle.mv_ir.specs.Levels.{Code}
+use Rattle.mv_ir.specs.Programs.{setting_of, code_of, call_of_main}
+use Rattle.mv_ir_ends.specs.Reached.{IsReached, EndsAreReached}
+use Rattle.mv_lowering.specs.Functions.{lower_program}
 use Rattle.mv_lowered_programs.specs.WellFormed.{IsWellFormed}
 use Rattle.mv_machine.specs.Runs.{bytes_to_come}
 use Rattle.mv_flow_code.specs.Runs.{Machine}
-use Rattle.mv_call_code.specs.CallCode.{link_register}
-use Rattle.mv_call_code.specs.Convention.{Layout, IsTarget, Stands, FollowsCall}
+use Rattle.mv_call_code.specs.Convention.{Layout, Stands}
 use Rattle.mv_function_code.specs.Functions.{Begins}
 use Rattle.mv_selected_bodies.specs.SelectedBodies.{CodeIsTheSame, BodiesAreFunctions}
 use Rattle.mv_machine_runs.specs.Calm.{Rest}
@@ -37,8 +31,7 @@ use Rattle.mv_stub_runs.specs.Stubs.{start_address, return_address}
 use Rattle.mv_image_runs.specs.Behaves.{Behaves}
 use Rattle.mv_image_runs.specs.Laws.{ImagesBehave}
 use Rattle.mv_image_runs.specs.Main.{HasStubs, CallsMain, RunsMain}
-use Rattle.mv_program_runs.specs.Hosts.{IsLoaded}
-use Rattle.mv_program_runs.specs.Laws.{first_seen}
+use Rattle.mv_program_runs.specs.Laws.{first_seen, MainFollows}
 use Rattle.mv_linker.specs.declared.parts.Parts.{Parts}
 use Rattle.mv_linker.specs.declared.parts.Datum.{Datum}
 use Rattle.mv_linker.specs.declared.parts.Datum.TheVariants as datum
@@ -54,19 +47,10 @@ use Rattle.mv_built_programs.proofs.Linked.{has_stubs}
 use Rattle.mv_built_programs.proofs.Host.{each_begins, is_numbering, global_count, loaded}
 use Rattle.mv_built_programs.proofs.Unbound.{unbound, has_no_bindings, unbound_begins, stands_unbound, follows_too}
 
--- What main does, and besides, where its call ends: it has taken what is missing of the input, traps have codes 1 to 4, and it returns a value where it
--- returns.
-abbrev pub MainEnds : Type 0 → Type 0
-MainEnds M =
-    (access : Access M) (y : Layout) (machine : Machine M) (budget far : ℕ) (p : Program) (numbers : List ℕ) → IsLoaded access y machine budget far p numbers →
-    IsNumbering p numbers → (input : List ℕ) (actions : List Action) → All (λ a. IsTrue (actions.fits p a)) actions →
-    (back i : ℕ) → IsTarget back → reg (machine.run i).regs link_register ≡ back → Begins access y machine i →
-    Stands access y machine budget far (y.entry p.main) (first_seen p numbers input actions) i → (bound : ℕ) →
-    (c : Call)
-    × IsExecution (mean p input actions bound) (execution_of (first_seen p numbers input actions) c.cost c.end)
-    × IsReached (first_seen p numbers input actions) c.end
-    × ((w : World) → c.end ≡ Returned None w → ⊥)
-    × ((spare : ℕ) → i + (spare + 44 + c.cost) ≤ budget → far ≤ i + bound → FollowsCall access y machine budget far spare bound i back c.end)
+-- the run of a lowered program ends so, also where it has no main
+run_reached : EndsAreReached → (p : Program) (numbers : List ℕ) (codes : List Code) (main : Option Code) (bound : ℕ) (w : World) → IsReached w (call_of_main (setting_of numbers p) codes main bound w).end
+run_reached reached p numbers codes None bound w = tt
+run_reached reached p numbers codes (Some main) bound w = reached p numbers codes main bound w
 
 -- no function is attributed
 none_attributed : (gs : List Function) → ((k : ℕ) (g : Function) → slice_get gs k ≡ Some g → g.attributed ≡ false) → filter (λ (g : Function). g.attributed) gs ≡ []
@@ -89,7 +73,7 @@ module _ (address : ℕ → ℕ) (numbers : List ℕ) (count : ℕ) (same : (f :
 
 module _ (lines_fit : LinesFit) (stubs_stand : StubsStand) (functions_stand : FunctionsStand) (code_is_placed : CodeIsPlaced) (texts_are_found : TextsAreFound)
     (packed : PackedIsLaidOut) (same_code : CodeIsTheSame) (are_functions : BodiesAreFunctions) (sizes_are : SizesAreCounts)
-    (start_right : StartIsRight) (images_behave : ImagesBehave) (main_ends : MainEnds Rest)
+    (start_right : StartIsRight) (images_behave : ImagesBehave) (main_follows : MainFollows Rest) (ends_reached : EndsAreReached)
     (p : Program) (image : Fields) (formed : IsWellFormed p) (plain : IsUnattributed p) (have_words : HasWordsOfGlobals p) (built : IsBuilt p image)
     (bytes picks : List ℕ) (are_bytes : All (λ b. b < 2 ^ 8) bytes) where
   abbrev parts : Parts
@@ -183,13 +167,13 @@ module _ (lines_fit : LinesFit) (stubs_stand : StubsStand) (functions_stand : Fu
     calls_main : (k : ℕ) → CallsMain [] p image bytes picks y first budget far k
     calls_main k =
         let none : has_no_bindings first ≡ true = ap (λ (bs : List Binding). eqb (length bs) 0) no_bindings in
-        let m = main_ends access y (unbound access y the_machine) budget far p numbers
+        let m = main_follows access y (unbound access y the_machine) budget far p numbers
         (loaded lines_fit stubs_stand functions_stand code_is_placed texts_are_found packed same_code are_functions sizes_are p image formed plain have_words built bytes picks are_bytes budget far)
         numbered bytes [] (All-nil _) return_address 3 (omega arith, refl) enters.link (unbound_begins access y the_machine 3 begins)
         (stands_unbound access y the_machine budget far (y.entry p.main) first 3 none stands) k in record {
           call = m.0;
           means = m.1;
-          reached = m.2;
+          reached = subst (IsReached first) (sym m.2) (run_reached ends_reached p numbers (code_of (lower_program p)) (slice_get (code_of (lower_program p)) p.main) k first);
           returns = m.3;
           follows = λ spare paid asked. follows_too access y the_machine budget far spare k 3 return_address m.0.end (m.4 spare paid asked);
         }
