@@ -50,7 +50,7 @@ use Rattle.mv_machine_runs.proofs.Whole.{laid, memory, own, no_slot}
 use Rattle.mv_program_runs.specs.Hosts.{IsHost, IsSelected, IsLoaded}
 use Rattle.mv_linker.specs.declared.parts.Parts.{Parts}
 use Rattle.mv_linker.specs.Laws.{LinesFit, StubsStand, FunctionsStand}
-use Rattle.mv_first_data.specs.Laws.{SizesAreCounts}
+use Rattle.mv_first_data.specs.Laws.{AreAddresses, SizesAreCounts}
 use Rattle.mv_built_programs.specs.Built.{IsUnattributed, HasWordsOfGlobals, IsCompiledTo, IsCompiled, IsBuilt}
 use Rattle.mv_built_programs.specs.Layouts.{global_sizes, address_of, numbers_of, layout_of}
 use Rattle.mv_built_programs.proofs.NoSlots.{HasNone, IsNoSlot, function_none, each_none}
@@ -142,13 +142,20 @@ module _ (lines_fit : LinesFit) (stubs_stand : StubsStand) (functions_stand : Fu
   pub is_numbering : IsNumbering p numbers
   is_numbering = numbering parts built.are functions_stand sizing built.linked.text built.linked.least.fits.sizes built.linked.text_is each_begins p built.one_each
 
+  pub addresses : AreAddresses (length p.functions) (address_of parts sizing) numbers
+  addresses f lt =
+      let count = is_numbering.count in
+      let within : f < length numbers = omega (arith, lt, count) in
+      slice_get-get_or numbers f 0 within ∙
+      ap Some (entries parts built.are functions_stand sizing built.linked.text built.linked.least.fits.sizes built.linked.text_is each_begins f within).0
+
   -- ---- globals
 
   abbrev pub global_count : map length (map (first_words_under numbers) p.globals) ≡ global_sizes p
   global_count = sizes_are p numbers (All-weaker IsWellFormedGlobal (λ (x : Global). length x.first ≤ words_of_size x.size) (λ x h. h.given) p.globals formed.globals)
 
   pub few : sum (global_sizes p) ≤ 262144
-  few = few_words lines_fit stubs_stand functions_stand code_is_placed texts_are_found p image built global_count is_numbering.count
+  few = few_words lines_fit stubs_stand functions_stand code_is_placed texts_are_found p image built global_count addresses
 
   module _ (rooms : List Room) (is_named : ℕ → Bool) (same : rooms ≡ rooms_from is_named 0 0 p.globals) (x : ℕ) (h : has_room rooms x ≡ true) where
     there : has_room (rooms_from is_named 0 0 p.globals) x ≡ true

@@ -28,7 +28,8 @@ use Rattle.mv_image_runs.specs.Main.{HasStubs}
 use Rattle.mv_linker.specs.declared.parts.Parts.{Parts}
 use Rattle.mv_linker.specs.Linked.{AreParts, IsFunction, own, relabelled, function_part, linked_lines, label_count, first_label, part_index}
 use Rattle.mv_linker.specs.Laws.{LinesFit, StubsStand, FunctionsStand, FunctionStands}
-use Rattle.mv_first_data.specs.Laws.{datum_word, SizesAreCounts}
+use Rattle.mv_linker.specs.Outcome.{datum_word}
+use Rattle.mv_first_data.specs.Laws.{AreAddresses}
 use Rattle.mv_built_programs.specs.Built.{IsCompiled, IsBuilt}
 use Rattle.mv_built_programs.specs.Layouts.{global_sizes, address_of, numbers_of, layout_of}
 use Rattle.mv_built_programs.proofs.NoSlots.{IsNoSlot, each_none}
@@ -160,17 +161,17 @@ module _ (lines_fit : LinesFit) (stubs_stand : StubsStand) (functions_stand : Fu
 
   -- ---- data
 
-  module _ (sizes_are : map length (map (first_words_under (numbers_of parts sizing)) p.globals) ≡ global_sizes p) (count : length (numbers_of parts sizing) ≡ length p.functions) where
+  module _ (sizes_are : map length (map (first_words_under (numbers_of parts sizing)) p.globals) ≡ global_sizes p) (addresses : AreAddresses (length p.functions) (address_of parts sizing) (numbers_of parts sizing)) where
     abbrev words : List (List ℕ)
     words = map (first_words_under (numbers_of parts sizing)) p.globals
 
     pub global_count : length parts.globals ≡ sum (global_sizes p)
     global_count =
-        let datums = length-map parts.globals (datum_word (numbers_of parts sizing)) in
+        let datums = length-map parts.globals (datum_word (address_of parts sizing)) in
         let flat = length-flat_map (λ (x : List ℕ). x) words in
         let sums : sum (map length words) ≡ sum (global_sizes p) = ap sum sizes_are in
         let by = sum-map (λ (x : List ℕ). length x) words in
-        sym datums ∙ ap length (built.globals (numbers_of parts sizing) count) ∙ flat ∙ sym by ∙ sums
+        sym datums ∙ ap length (built.globals (address_of parts sizing) (numbers_of parts sizing) addresses) ∙ flat ∙ sym by ∙ sums
 
     pub few_words : sum (global_sizes p) ≤ 262144
     few_words = let fits = built.linked.data_fits in omega (arith, fits, global_count)

@@ -32,7 +32,7 @@ use Rattle.mv_call_code.specs.CallCode.{link_register, request_register, scratch
 use Rattle.mv_function_code.specs.FunctionCode.{Shape, bytes_of, end_label, plan, body_lines, saved_count, saved_register, save_lines, restore_lines, parameter_lines, enter_lines, leave_lines, prologue_lines, epilogue_lines, function_lines}
 
 -- whether no line is a slot
-pub no_slots : List Line → Bool
+abbrev pub no_slots : List Line → Bool
 no_slots [] = true
 no_slots (Word i ∷ rest) = no_slots rest
 no_slots (Label l ∷ rest) = no_slots rest

@@ -82,8 +82,11 @@ module _ (is_named : ℕ → Bool) (g : ℕ) where
     room_place =
         let before = sum_by-take-le (λ (n : ℕ). n) (sizes_of xs) g in
         let low : 0 + sum (take g (sizes_of xs)) ≤ 262144 = omega (arith, before, few) in
-        room.place ∙ ap (λ i. address_behind (0 + sum (take i (sizes_of xs)))) same_index ∙ within (0 + sum (take g (sizes_of xs))) low
+        room.place ∙ ap (λ i. address_behind (0 + sum (take i (sizes_of xs)))) same_index ∙ within (0 + sum (take g (sizes_of xs))) low ∙ plain (sum (take g (sizes_of xs)))
       where
+        plain : (n : ℕ) → 0x0010_0000 + 4 * (0 + n) ≡ 0x0010_0000 + 4 * n
+        plain n = omega arith
+
         within : (n : ℕ) → n ≤ 262144 → address_behind n ≡ 0x0010_0000 + 4 * n
         within n le = omega (arith, le)
 

@@ -3,7 +3,7 @@ use Rattle.std.proofs.Common.{◌≡◌, ℕ, ◌+◌, ◌*◌, ◌<◌, ◌≤�
 use Rattle.std.specs.List.{flat_map}
 use Rattle.std.proofs.Math.ListN as lists
 use Rattle.std.proofs.lemmas.List.{length-map}
-use Rattle.std.proofs.lemmas.List.Elements.{All-nil, All-head, All-tail}
+use Rattle.std.proofs.lemmas.List.Elements.{All-nil}
 use Rattle.mv_ast.specs.declared.program.Program.{Program}
 use Rattle.mv_ast.specs.declared.program.Function.{Function}
 use Rattle.mv_ast.specs.declared.world.Binding.{Binding}
@@ -33,18 +33,14 @@ use Rattle.mv_image_runs.specs.Laws.{ImagesBehave}
 use Rattle.mv_image_runs.specs.Main.{HasStubs, CallsMain, RunsMain}
 use Rattle.mv_program_runs.specs.Laws.{first_seen, MainFollows}
 use Rattle.mv_linker.specs.declared.parts.Parts.{Parts}
-use Rattle.mv_linker.specs.declared.parts.Datum.{Datum}
-use Rattle.mv_linker.specs.declared.parts.Datum.TheVariants as datum
-use Rattle.mv_linker.specs.Linked.{IsDatum}
 use Rattle.mv_linker.specs.Laws.{LinesFit, StubsStand, FunctionsStand}
 use Rattle.mv_linker.specs.Outcome as linker
-use Rattle.mv_first_data.specs.Laws.{datum_word, SizesAreCounts}
+use Rattle.mv_first_data.specs.Laws.{SizesAreCounts}
 use Rattle.mv_built_programs.specs.Built.{IsUnattributed, HasWordsOfGlobals, IsBuilt}
 use Rattle.mv_built_programs.specs.Layouts.{global_sizes, address_of, numbers_of, layout_of}
 use Rattle.mv_built_programs.proofs.Rooms.{size_is}
-use Rattle.mv_built_programs.proofs.Numbers.{entries}
 use Rattle.mv_built_programs.proofs.Linked.{has_stubs}
-use Rattle.mv_built_programs.proofs.Host.{each_begins, is_numbering, global_count, loaded}
+use Rattle.mv_built_programs.proofs.Host.{is_numbering, addresses, global_count, loaded}
 use Rattle.mv_built_programs.proofs.Unbound.{unbound, has_no_bindings, unbound_begins, stands_unbound, follows_too}
 
 -- the run of a lowered program ends so, also where it has no main
@@ -58,18 +54,6 @@ none_attributed [] plain = refl
 none_attributed (g ∷ gs) plain =
     let here = plain 0 g refl in
     let rest = none_attributed gs (λ k h e. plain (k + 1) h e) in rw (here) rest
-
--- the words of data, by the addresses of functions and by their numbers
-module _ (address : ℕ → ℕ) (numbers : List ℕ) (count : ℕ) (same : (f : ℕ) → f < count → get_or numbers f 0 ≡ address f) where
-  datum_same : (d : Datum) → IsDatum count d → linker.datum_word address d ≡ datum_word numbers d
-  datum_same (datum.Number n) h = refl
-  datum_same (datum.Function f) h = sym (same f h)
-
-  data_same : (ds : List Datum) → All (IsDatum count) ds → map (linker.datum_word address) ds ≡ map (datum_word numbers) ds
-  data_same [] h = refl
-  data_same (d ∷ ds) h =
-      let here = datum_same d (All-head (IsDatum count) d ds h) in
-      let rest = data_same ds (All-tail (IsDatum count) d ds h) in cc (here, rest)
 
 module _ (lines_fit : LinesFit) (stubs_stand : StubsStand) (functions_stand : FunctionsStand) (code_is_placed : CodeIsPlaced) (texts_are_found : TextsAreFound)
     (packed : PackedIsLaidOut) (same_code : CodeIsTheSame) (are_functions : BodiesAreFunctions) (sizes_are : SizesAreCounts)
@@ -116,18 +100,13 @@ module _ (lines_fit : LinesFit) (stubs_stand : StubsStand) (functions_stand : Fu
   sizes_counted : map length (map (first_words_under numbers) p.globals) ≡ global_sizes p
   sizes_counted = global_count lines_fit stubs_stand functions_stand code_is_placed texts_are_found packed same_code are_functions sizes_are p image formed plain have_words built
 
-  entry_is : (f : ℕ) → f < length parts.functions → get_or numbers f 0 ≡ address_of parts sizing f
-  entry_is f lt =
-      let all = entries parts built.are functions_stand sizing built.linked.text built.linked.least.fits.sizes built.linked.text_is
-      (each_begins lines_fit stubs_stand functions_stand code_is_placed texts_are_found packed same_code are_functions sizes_are p image formed plain have_words built) in
-      let count = numbered.count in
-      let same = built.one_each in (all f (omega (arith, lt, count, same))).0
-
   data_is : image.globals ≡ map (linker.datum_word (address_of parts sizing)) parts.globals
   data_is = ap (λ (i : Fields). i.globals) built.linked.image_is
 
   globals_are : image.globals ≡ flat_map (λ words. words) first.globals
-  globals_are = data_is ∙ data_same (address_of parts sizing) numbers (length parts.functions) entry_is parts.globals built.are.globals ∙ built.globals numbers numbered.count
+  globals_are =
+      data_is ∙ built.globals (address_of parts sizing) numbers
+      (addresses lines_fit stubs_stand functions_stand code_is_placed texts_are_found packed same_code are_functions sizes_are p image formed plain have_words built)
 
   size_counted : (g : ℕ) → y.size g ≡ length (get_or first.globals g [])
   size_counted g =

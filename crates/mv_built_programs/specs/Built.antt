@@ -21,8 +21,8 @@ use Rattle.mv_function_code.specs.Functions.{shape_of}
 use Rattle.mv_selected_bodies.specs.SelectedBodies.{knowns, HasWords, IsWithin}
 use Rattle.mv_linker.specs.declared.parts.Parts.{Parts}
 use Rattle.mv_linker.specs.Linked.{AreParts}
-use Rattle.mv_linker.specs.Outcome.{IsLinked}
-use Rattle.mv_first_data.specs.Laws.{datum_word}
+use Rattle.mv_linker.specs.Outcome.{datum_word, IsLinked}
+use Rattle.mv_first_data.specs.Laws.{AreAddresses}
 
 -- no function of a program is attributed
 abbrev pub IsUnattributed : Program → Type 0
@@ -51,11 +51,11 @@ pub record IsCompiled (p : Program) (g : Function) (code : Labelled) : Type 0 wh
   pub items : code.items ≡ function_lines (place_in body.rooms) (size_in body.rooms) (is_marked body.marked) (shape_of false body) body.code
   pub labels : OwnLabels 0 code.labels code.items
 
--- the data are the first words of all globals in order, whatever the addresses of the functions are
+-- the data are the first words of all globals in order, wherever the functions stand
 abbrev pub AreFirstWords : Program → Parts → Type 0
 AreFirstWords p parts =
-    (numbers : List ℕ) → length numbers ≡ length p.functions →
-    map (datum_word numbers) parts.globals ≡ flat_map (λ words. words) (map (first_words_under numbers) p.globals)
+    (address : ℕ → ℕ) (numbers : List ℕ) → AreAddresses (length p.functions) address numbers →
+    map (datum_word address) parts.globals ≡ flat_map (λ words. words) (map (first_words_under numbers) p.globals)
 
 -- An image, whose data are words, is linked of the code of all functions of a program, and of the first words of its globals.
 pub record IsBuilt (p : Program) (image : Fields) : Type 0 where
