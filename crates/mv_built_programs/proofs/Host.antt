@@ -16,6 +16,7 @@ use Rattle.mv_isa.specs.declared.instr.Instr.TheVariants.{Addi}
 use Rattle.mv_isa.specs.declared.labelled.Labelled.{Labelled}
 use Rattle.mv_isa.specs.declared.labelled.Line.{Line}
 use Rattle.mv_isa.specs.declared.labelled.Line.TheVariants.{Word}
+use Rattle.mv_isa.specs.Code.{address, text_start}
 use Rattle.mv_image.specs.Spelling.{Fields}
 use Rattle.mv_ir.specs.declared.body.Body.{Body}
 use Rattle.mv_ir.specs.declared.body.Room.{Room}
@@ -49,6 +50,7 @@ use Rattle.mv_machine_runs.proofs.Serving.{serves_calls}
 use Rattle.mv_machine_runs.proofs.Whole.{laid, memory, own, no_slot}
 use Rattle.mv_program_runs.specs.Hosts.{IsHost, IsSelected, IsLoaded}
 use Rattle.mv_linker.specs.declared.parts.Parts.{Parts}
+use Rattle.mv_linker.specs.Linked.{function_part, first_label, part_index}
 use Rattle.mv_linker.specs.Laws.{LinesFit, StubsStand, FunctionsStand}
 use Rattle.mv_first_data.specs.Laws.{AreAddresses, SizesAreCounts}
 use Rattle.mv_built_programs.specs.Built.{IsUnattributed, HasWordsOfGlobals, IsCompiledTo, IsCompiled, IsBuilt}
@@ -79,7 +81,7 @@ none_marked : (is_called : ℕ → Bool) (f : ℕ) (gs : List Function) → ((k 
 none_marked is_called f [] plain = refl
 none_marked is_called f (g ∷ gs) plain =
     let here = plain 0 g refl in
-    let rest = none_marked is_called (f + 1) gs (λ k h e. plain (k + 1) h e) in
+    let rest = none_marked is_called (suc f) gs (λ k h e. plain (suc k) h e) in
     rw (here) rest
 
 module _ (lines_fit : LinesFit) (stubs_stand : StubsStand) (functions_stand : FunctionsStand) (code_is_placed : CodeIsPlaced) (texts_are_found : TextsAreFound)
@@ -263,6 +265,12 @@ module _ (lines_fit : LinesFit) (stubs_stand : StubsStand) (functions_stand : Fu
       lines_are : code.items ≡ function_lines y.place y.size (is_marked the_body.marked) (shape_of false the_body) the_body.code
       lines_are = the_compiled.items ∙ same_code y false (is_marked the_body.marked) the_body the_compiled.compiled.within.formed the_rooms
 
+      abbrev own_at : ℕ → ℕ
+      own_at = own_place (machine_text [] image) (address_of parts sizing) (address_of parts sizing) (first_label parts.functions f) code.labels
+
+      abbrev end_at : ℕ
+      end_at = address text_start sizing (part_index parts.functions f + length (function_part f (first_label parts.functions f) code))
+
       selected : IsSelected y machine p numbers f g
       selected =
           let fits = are_functions y (setting_of numbers p) false [] the_body in_program in
@@ -274,12 +282,12 @@ module _ (lines_fit : LinesFit) (stubs_stand : StubsStand) (functions_stand : Fu
             is_read = fits.0;
             is_fine = fits.1;
             fits = subst (λ a. IsFunction y (setting_of numbers p) a [] fits.0 fits.1 the_body) attributed fits.2;
-            place = _;
+            place = own_at;
             linked = is_linked lines_fit stubs_stand functions_stand code_is_placed texts_are_found p image built f code found_code.1;
             is_attributed = is_marked the_body.marked;
-            next = _;
-            placed = subst (λ a. Placed (machine_text [] image) _ y.entry (function_lines y.place y.size (is_marked the_body.marked) (shape_of a the_body) the_body.code) (y.entry f) _) attributed
-                (subst (λ (items : List Line). Placed (machine_text [] image) _ y.entry items (y.entry f) _) lines_are placed);
+            next = end_at;
+            placed = subst (λ a. Placed (machine_text [] image) own_at y.entry (function_lines y.place y.size (is_marked the_body.marked) (shape_of a the_body) the_body.code) (y.entry f) end_at) attributed
+                (subst (λ (items : List Line). Placed (machine_text [] image) own_at y.entry items (y.entry f) end_at) lines_are placed);
           }
 
     pub loaded : IsLoaded access y machine budget far p numbers

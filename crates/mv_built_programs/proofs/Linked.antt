@@ -34,7 +34,7 @@ use Rattle.mv_built_programs.specs.Built.{IsCompiled, IsBuilt}
 use Rattle.mv_built_programs.specs.Layouts.{global_sizes, address_of, numbers_of, layout_of}
 use Rattle.mv_built_programs.proofs.NoSlots.{IsNoSlot, each_none}
 use Rattle.mv_built_programs.proofs.Renamed.{own_place, lines_placed, own_stays}
-use Rattle.mv_built_programs.proofs.Places.{part_placed, kept_lines}
+use Rattle.mv_built_programs.proofs.Places.{IsKeptLine, each_kept, part_placed, kept_lines}
 
 module _ (lines_fit : LinesFit) (stubs_stand : StubsStand) (functions_stand : FunctionsStand) (code_is_placed : CodeIsPlaced) (texts_are_found : TextsAreFound)
     (p : Program) (image : Fields) (built : IsBuilt p image) where
@@ -73,26 +73,26 @@ module _ (lines_fit : LinesFit) (stubs_stand : StubsStand) (functions_stand : Fu
 
   -- ---- stubs
 
-  start_ends : ℕ
+  abbrev pub start_ends : ℕ
   start_ends = address text_start sizing (0 + length (start_lines parts.main))
 
-  start_placed : IsPlacedPart (start_lines parts.main) (address text_start sizing 0) start_ends
+  pub start_placed : IsPlacedPart (start_lines parts.main) (address text_start sizing 0) start_ends
   start_placed =
       part_placed image never lines fits sizing built.linked.text built.linked.text_is has code_is_placed 0 (start_lines parts.main) (stubs_stand parts built.are).0
-      (All-cons _ _ _ (tt, tt) (All-cons _ _ _ (tt, tt) (All-cons _ _ _ (tt, tt) (All-cons _ _ _ (tt, tt) (All-cons _ _ _ (tt, tt) (All-nil _))))))
+      (each_kept lines (start_lines parts.main) ((tt, tt), (tt, tt), (tt, tt), (tt, tt), (tt, tt), tt))
 
   module _ (c : ℕ) (from : 1 ≤ c) (to : c ≤ 4) where
     abbrev trap_at : ℕ
     trap_at = address text_start sizing (4 * c + 1)
 
-    trap_end : ℕ
+    abbrev trap_end : ℕ
     trap_end = address text_start sizing (4 * c + 1 + length (trap_lines c))
 
     trap_placed : IsPlacedPart (trap_lines c) trap_at trap_end
     trap_placed =
         let stands = (stubs_stand parts built.are).1 c from to in
         part_placed image never lines fits sizing built.linked.text built.linked.text_is has code_is_placed (4 * c + 1) (trap_lines c) stands.stub
-        (All-cons _ _ _ (tt, stands.label) (All-cons _ _ _ (tt, tt) (All-cons _ _ _ (tt, tt) (All-cons _ _ _ (tt, tt) (All-nil _)))))
+        (each_kept lines (trap_lines c) ((tt, stands.label), (tt, tt), (tt, tt), (tt, tt), tt))
 
     -- it stands where its label is
     trap_here : IsPlacedPart (trap_lines c) (y.trap c) trap_end
@@ -150,7 +150,7 @@ module _ (lines_fit : LinesFit) (stubs_stand : StubsStand) (functions_stand : Fu
       behind_label : IsPlacedPart (function_part f first code) (address text_start sizing (part_index parts.functions f)) next
       behind_label =
           part_placed image never lines fits sizing built.linked.text built.linked.text_is has code_is_placed (part_index parts.functions f) (function_part f first code) stands.part
-          (All-cons _ _ _ (tt, stands.entry)
+          (All-cons (IsKeptLine lines) (Label f) (map (relabelled first code.labels) code.items) (tt, stands.entry)
           (kept_lines lines first code compiled.labels (λ l lt once. stands.own l (lt, once)) (length parts.functions) none is_function.names))
 
       -- its own code stands at its entry

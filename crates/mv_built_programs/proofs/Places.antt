@@ -1,13 +1,14 @@
 -- Functions and stubs that are linked are placed in the text of the image.
 use Rattle.std.proofs.Common.{◌≡◌, ℕ, suc, ◌+◌, ◌*◌, ◌<◌, ◌≤◌, Bool, false, List, [], ◌∷◌, Some, map, length, get_or, slice_get, All, refl, sym, ap, ◌∙◌, subst, arith}
 use Rattle.std.proofs.lemmas.List.{length-map}
-use Rattle.std.proofs.lemmas.List.Elements.{All-get_or, All-from_get_or, All-map}
+use Rattle.std.proofs.lemmas.List.Elements.{All-nil, All-cons, All-get_or, All-from_get_or, All-map}
 use Rattle.mv_isa.specs.declared.labelled.Labelled.{Labelled}
 use Rattle.mv_isa.specs.declared.labelled.Line.{Line}
 use Rattle.mv_isa.specs.declared.labelled.Line.TheVariants.{Word, Label, Jump, Branch, Entry, Slot}
 use Rattle.mv_isa.specs.Code.{CodeFits, StandsOnce, line_at, address, label_address, text_start}
 use Rattle.mv_asm.specs.Outcome.{AreWordsUnder}
 use Rattle.mv_image.specs.Spelling.{Fields}
+use Rattle.mv_ir.proofs.Induction.{Each}
 use Rattle.mv_flow_code.specs.Labels.{OwnLabels}
 use Rattle.mv_flow_code.specs.Placed.{Text, Placed}
 use Rattle.mv_machine_runs.specs.Assembled.{HasWords, IsKept, IsOnlyLabel, IsPart}
@@ -30,6 +31,14 @@ no_slot_renamed first count (Branch funct3 rs1 rs2 l) h = tt
 no_slot_renamed first count (Entry rd f) h = tt
 no_slot_renamed first count (Slot f) h = h
 
+-- a line that isn't a slot, and stands nowhere else if it is a label
+abbrev pub IsKeptLine : List Line → Line → Type 0
+IsKeptLine lines line = IsNoSlot line × IsOnlyLabel lines line
+
+pub each_kept : (lines part : List Line) → Each (IsKeptLine lines) part → All (IsKeptLine lines) part
+each_kept lines [] h = All-nil (IsKeptLine lines)
+each_kept lines (line ∷ rest) h = All-cons (IsKeptLine lines) line rest h.0 (each_kept lines rest h.1)
+
 module _ (image : Fields) (never : (a : ℕ) → may_be_patched image a ≡ false) (lines : List Line) (fits : CodeFits lines) (sizing text : List ℕ)
     (words : AreWordsUnder text_start lines sizing text) (has : HasWords image text_start text) (code_is_placed : CodeIsPlaced) where
   abbrev at : ℕ → ℕ
@@ -37,10 +46,6 @@ module _ (image : Fields) (never : (a : ℕ) → may_be_patched image a ≡ fals
 
   abbrev place : ℕ → ℕ
   place = label_address text_start lines sizing
-
-  -- a line that isn't a slot, and stands nowhere else if it is a label
-  abbrev IsKeptLine : Line → Type 0
-  IsKeptLine line = IsNoSlot line × IsOnlyLabel lines line
 
   kept : (from to : ℕ) (line : Line) → IsNoSlot line → IsKept [] image from to line
   kept from to (Word i) h = λ a low high even. never a
@@ -51,13 +56,13 @@ module _ (image : Fields) (never : (a : ℕ) → may_be_patched image a ≡ fals
   kept from to (Slot f) h = absurd h
 
   -- lines of the linked code without slots are placed in text
-  pub part_placed : (k : ℕ) (part : List Line) → StandFrom lines k part → All IsKeptLine part → Placed (machine_text [] image) place place part (at k) (at (k + length part))
+  pub part_placed : (k : ℕ) (part : List Line) → StandFrom lines k part → All (IsKeptLine lines) part → Placed (machine_text [] image) place place part (at k) (at (k + length part))
   part_placed k part stand all =
       code_is_placed [] image text_start lines sizing text fits words has k part record {
         within = stand.within;
         each = stand.each;
-        kept = λ j lt. kept (at (k + j)) (at (k + j + 1)) (line_at part j) (All-get_or IsKeptLine part j (Label 0) lt all).0;
-        labels = λ j lt. (All-get_or IsKeptLine part j (Label 0) lt all).1;
+        kept = λ j lt. kept (at (k + j)) (at (k + j + 1)) (line_at part j) (All-get_or (IsKeptLine lines) part j (Label 0) lt all).0;
+        labels = λ j lt. (All-get_or (IsKeptLine lines) part j (Label 0) lt all).1;
       }
 
 -- ---- the part of a function
@@ -72,12 +77,9 @@ module _ (lines : List Line) (first : ℕ) (code : Labelled) (labels : OwnLabels
   only_renamed functions (Entry rd f) h = tt
   only_renamed functions (Slot f) h = tt
 
-  abbrev IsKeptHere : Line → Type 0
-  IsKeptHere line = IsNoSlot line × IsOnlyLabel lines line
-
   pub kept_lines : (functions : ℕ) → All IsNoSlot code.items → All (NamesAreThere functions code) code.items →
-      All IsKeptHere (map (relabelled first code.labels) code.items)
+      All (IsKeptLine lines) (map (relabelled first code.labels) code.items)
   kept_lines functions none names =
-      All-map IsKeptHere (relabelled first code.labels) code.items (All-from_get_or (λ line. IsKeptHere (relabelled first code.labels line)) code.items (Label 0) (λ i lt.
+      All-map (IsKeptLine lines) (relabelled first code.labels) code.items (All-from_get_or (λ line. (IsKeptLine lines) (relabelled first code.labels line)) code.items (Label 0) (λ i lt.
       let line = get_or code.items i (Label 0) in
       (no_slot_renamed first code.labels line (All-get_or IsNoSlot code.items i (Label 0) lt none), only_renamed functions line (All-get_or (NamesAreThere functions code) code.items i (Label 0) lt names))))

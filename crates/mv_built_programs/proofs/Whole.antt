@@ -1,16 +1,18 @@
 -- The run of a built image does what its program means.
-use Rattle.std.proofs.Common.{◌≡◌, ℕ, ◌+◌, ◌*◌, ◌<◌, ◌≤◌, ◌^◌, ◌%◌, Bool, true, false, eqb, List, [], ◌∷◌, Option, Some, None, map, take, sum, length, get_or, filter, replicate, slice_get, All, refl, sym, ap, ◌∙◌, subst, arith}
+use Rattle.std.proofs.Common.{◌≡◌, ℕ, suc, ◌+◌, ◌*◌, ◌<◌, ◌≤◌, ◌^◌, ◌%◌, Bool, true, false, eqb, List, [], ◌∷◌, Option, Some, None, map, take, sum, length, get_or, filter, replicate, slice_get, All, refl, sym, ap, ◌∙◌, subst, arith}
+use Rattle.std.specs.Prelude.{IsTrue}
 use Rattle.std.specs.List.{flat_map}
 use Rattle.std.proofs.Math.ListN as lists
 use Rattle.std.proofs.lemmas.List.{length-map}
 use Rattle.std.proofs.lemmas.List.Elements.{All-nil}
 use Rattle.mv_ast.specs.declared.program.Program.{Program}
 use Rattle.mv_ast.specs.declared.program.Function.{Function}
+use Rattle.mv_ast.specs.declared.world.Action.{Action}
 use Rattle.mv_ast.specs.declared.world.Binding.{Binding}
+use Rattle.mv_ast.specs.Actions.{fits}
 use Rattle.mv_ast.specs.Plans.{attributed_functions, free}
 use Rattle.mv_ast.specs.Starts.{first_words_under}
 use Rattle.mv_numbering.specs.Numberings.{IsNumbering}
-use Rattle.mv_isa.specs.Code.{label_address, text_start}
 use Rattle.mv_image.specs.Spelling.{Fields}
 use Rattle.mv_ir.specs.World.{World}
 use Rattle.mv_ir.specs.Levels.{Code}
@@ -39,7 +41,7 @@ use Rattle.mv_first_data.specs.Laws.{SizesAreCounts}
 use Rattle.mv_built_programs.specs.Built.{IsUnattributed, HasWordsOfGlobals, IsBuilt}
 use Rattle.mv_built_programs.specs.Layouts.{global_sizes, address_of, numbers_of, layout_of}
 use Rattle.mv_built_programs.proofs.Rooms.{size_is}
-use Rattle.mv_built_programs.proofs.Linked.{has_stubs}
+use Rattle.mv_built_programs.proofs.Linked.{start_ends, start_placed, has_stubs}
 use Rattle.mv_built_programs.proofs.Host.{is_numbering, addresses, global_count, loaded}
 use Rattle.mv_built_programs.proofs.Unbound.{unbound, has_no_bindings, unbound_begins, stands_unbound, follows_too}
 
@@ -53,7 +55,7 @@ none_attributed : (gs : List Function) → ((k : ℕ) (g : Function) → slice_g
 none_attributed [] plain = refl
 none_attributed (g ∷ gs) plain =
     let here = plain 0 g refl in
-    let rest = none_attributed gs (λ k h e. plain (k + 1) h e) in rw (here) rest
+    let rest = none_attributed gs (λ k h e. plain (suc k) h e) in rw (here) rest
 
 module _ (lines_fit : LinesFit) (stubs_stand : StubsStand) (functions_stand : FunctionsStand) (code_is_placed : CodeIsPlaced) (texts_are_found : TextsAreFound)
     (packed : PackedIsLaidOut) (same_code : CodeIsTheSame) (are_functions : BodiesAreFunctions) (sizes_are : SizesAreCounts)
@@ -127,8 +129,8 @@ module _ (lines_fit : LinesFit) (stubs_stand : StubsStand) (functions_stand : Fu
   module _ (budget far : ℕ) where
     enters : EntersMain y the_machine budget far (address_of parts sizing parts.main) first 3
     enters =
-        start_right [] image bytes picks y budget far first is_first holds (ap (λ (i : Fields). i.entry) built.linked.image_is) (label_address text_start _ sizing) (label_address text_start _ sizing) parts.main
-        stubs.start_ends stubs.start
+        start_right [] image bytes picks y budget far first is_first holds (ap (λ (i : Fields). i.entry) built.linked.image_is) (address_of parts sizing) (address_of parts sizing) parts.main
+        (start_ends lines_fit stubs_stand functions_stand code_is_placed texts_are_found p image built) (start_placed lines_fit stubs_stand functions_stand code_is_placed texts_are_found p image built)
 
     begins : Begins access y the_machine 3
     begins =
@@ -148,7 +150,7 @@ module _ (lines_fit : LinesFit) (stubs_stand : StubsStand) (functions_stand : Fu
         let none : has_no_bindings first ≡ true = ap (λ (bs : List Binding). eqb (length bs) 0) no_bindings in
         let m = main_follows access y (unbound access y the_machine) budget far p numbers
         (loaded lines_fit stubs_stand functions_stand code_is_placed texts_are_found packed same_code are_functions sizes_are p image formed plain have_words built bytes picks are_bytes budget far)
-        numbered bytes [] (All-nil _) return_address 3 (omega arith, refl) enters.link (unbound_begins access y the_machine 3 begins)
+        numbered bytes [] (All-nil (λ (a : Action). IsTrue (fits p a))) return_address 3 (omega arith, refl) enters.link (unbound_begins access y the_machine 3 begins)
         (stands_unbound access y the_machine budget far (y.entry p.main) first 3 none stands) k in record {
           call = m.0;
           means = m.1;
