@@ -76,6 +76,9 @@ direct_may_ask Putchar h = refl
 direct_may_ask Poll h = absurd h
 direct_may_ask (Plan code index) h = absurd h
 
+not_kept : false ≡ true → ⊥
+not_kept e = cc
+
 -- no function is marked where none is attributed
 none_marked : (is_called : ℕ → Bool) (f : ℕ) (gs : List Function) → ((k : ℕ) (g : Function) → slice_get gs k ≡ Some g → g.attributed ≡ false) → marked_from is_called f gs ≡ []
 none_marked is_called f [] plain = refl
@@ -176,7 +179,7 @@ module _ (lines_fit : LinesFit) (stubs_stand : StubsStand) (functions_stand : Fu
   rooms_are rooms is_named same = record { places = place_same rooms is_named same; sizes = size_same rooms is_named same; words = word_there rooms is_named same }
 
   -- the frame of a function without temporaries and arrays, at the bottom of the stack
-  any_site : Site
+  abbrev any_site : Site
   any_site = record {
     place = y.place;
     size = y.size;
@@ -201,7 +204,7 @@ module _ (lines_fit : LinesFit) (stubs_stand : StubsStand) (functions_stand : Fu
     frame_fits = omega arith;
     stack_begins = omega arith;
     stack_ends = omega arith;
-    kept = λ a e. absurd (let bad : ⊥ = cc in bad);
+    kept = λ a e. absurd (not_kept e);
   }
 
   pub set_out : IsSetOut y

@@ -79,7 +79,7 @@ module _ (lines_fit : LinesFit) (stubs_stand : StubsStand) (functions_stand : Fu
   pub start_placed : IsPlacedPart (start_lines parts.main) (address text_start sizing 0) start_ends
   start_placed =
       part_placed image never lines fits sizing built.linked.text built.linked.text_is has code_is_placed 0 (start_lines parts.main) (stubs_stand parts built.are).0
-      (each_kept lines (start_lines parts.main) ((tt, tt), (tt, tt), (tt, tt), (tt, tt), (tt, tt), tt))
+      (each_kept lines (start_lines parts.main) ((tt, tt), ((tt, tt), ((tt, tt), ((tt, tt), ((tt, tt), tt))))))
 
   module _ (c : ℕ) (from : 1 ≤ c) (to : c ≤ 4) where
     abbrev trap_at : ℕ
@@ -92,7 +92,7 @@ module _ (lines_fit : LinesFit) (stubs_stand : StubsStand) (functions_stand : Fu
     trap_placed =
         let stands = (stubs_stand parts built.are).1 c from to in
         part_placed image never lines fits sizing built.linked.text built.linked.text_is has code_is_placed (4 * c + 1) (trap_lines c) stands.stub
-        (each_kept lines (trap_lines c) ((tt, stands.label), (tt, tt), (tt, tt), (tt, tt), tt))
+        (each_kept lines (trap_lines c) ((tt, stands.label), ((tt, tt), ((tt, tt), ((tt, tt), tt)))))
 
     -- it stands where its label is
     trap_here : IsPlacedPart (trap_lines c) (y.trap c) trap_end
