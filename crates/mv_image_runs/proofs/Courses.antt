@@ -1,0 +1,310 @@
+-- The course of a run through main: it ends in a stub, or goes on at least as long as was asked for.
+use Rattle.std.proofs.Common.{◌≡◌, ◌⊎◌, inl, inr, ⊎_elim, ℕ, ◌+◌, ◌-◌, ◌*◌, ◌%◌, ◌^◌, ◌<◌, ◌≤◌, true, List, [], length, Option, Some, None, refl, sym, ap, ◌∙◌, subst, arith}
+use Rattle.std.proofs.lemmas.Bool.{cases_lt, eqb-true}
+use Rattle.std.proofs.lemmas.List.{length-map}
+use Rattle.mv_ast.specs.declared.program.Program.{Program}
+use Rattle.mv_fetch.specs.Held.{choices}
+use Rattle.mv_image.specs.Spelling.{Fields}
+use Rattle.mv_ir.specs.World.{World}
+use Rattle.mv_ir.specs.Outcome.{End, Returned, Trapped, More, Stuck}
+use Rattle.mv_ir.specs.Programs as code
+use Rattle.mv_ir.specs.Programs.{Ending, executed, execution_of}
+use Rattle.mv_ir_ends.specs.Reached.{IsReached}
+use Rattle.mv_lowered_programs.specs.Laws.{IsExecution, ending_of}
+use Rattle.mv_machine.specs.Runs.{State, Stop, Going, Exit, Trap, bytes_to_come, choices_at, first as first_state, runs}
+use Rattle.mv_meaning.specs.declared.meant.End as meant
+use Rattle.mv_meaning.specs.declared.meant.End.TheVariants as source
+use Rattle.mv_meaning.specs.declared.meant.Meant.{Meant}
+use Rattle.mv_meaning.specs.Growth.{Begins}
+use Rattle.mv_meaning.specs.Meaning.{mean}
+use Rattle.mv_meaning.proofs.Growing.{Begins-refl}
+use Rattle.mv_flow_code.specs.Runs.{Machine, outside}
+use Rattle.mv_call_code.specs.Convention.{Layout, FollowsCall}
+use Rattle.mv_machine_runs.specs.Calm.{Rest, IsCalm, is_calm}
+use Rattle.mv_machine_runs.specs.Laws.{CalmIsTested}
+use Rattle.mv_machine_runs.specs.MachineRuns.{access, machine_of, rest_of, spot_of, has_one_choice}
+use Rattle.mv_stub_runs.specs.Ends.{HasStopped, EndsAfter}
+use Rattle.mv_stub_runs.specs.Laws.{ExitIsRight, TrapIsRight}
+use Rattle.mv_stub_runs.specs.Stubs.{return_address}
+use Rattle.mv_stub_runs.proofs.Walked.{calm_inside}
+use Rattle.mv_image_runs.specs.Behaves.{IsWithin, IsWhole, EndsRight, HasDone, Behaves}
+use Rattle.mv_image_runs.specs.Main.{HasStubs, main_cost, RunsMain}
+use Rattle.mv_image_runs.proofs.Growing.{run_grew, going_before}
+
+-- ---- how the meaning ends where code does
+
+exit_told : (e : meant.End) (status : ℕ) → code.Exited status ≡ ending_of e → e ≡ source.Exit status
+exit_told (source.Exit s) status h = let same : status ≡ s = cc in ap source.Exit (sym same)
+exit_told (source.Trap c) status h = absurd (cc)
+exit_told source.More status h = absurd (cc)
+
+trap_told : (e : meant.End) (c : ℕ) → code.Trapped c ≡ ending_of e → e ≡ source.Trap c
+trap_told (source.Exit s) c h = absurd (cc)
+trap_told (source.Trap d) c h = let same : c ≡ d = cc in ap source.Trap (sym same)
+trap_told source.More c h = absurd (cc)
+
+more_told : (e : meant.End) → code.Unfinished ≡ ending_of e → e ≡ source.More
+more_told (source.Exit s) h = absurd (cc)
+more_told (source.Trap d) h = absurd (cc)
+more_told source.More h = refl
+
+never_stuck : (e : meant.End) → code.Meaningless ≡ ending_of e → ⊥
+never_stuck (source.Exit s) h = cc
+never_stuck (source.Trap d) h = cc
+never_stuck source.More h = cc
+
+cost_is : (w : World) (cost : ℕ) (e : End) → (execution_of w cost e).cost ≡ cost
+cost_is w cost (Returned v u) = refl
+cost_is w cost (Trapped c u) = refl
+cost_is w cost (More u) = refl
+cost_is w cost Stuck = refl
+
+one_choice : (s : State) → has_one_choice (spot_of s) ≡ true → choices_at s ≡ 1
+unfolding choices_at
+one_choice s h = eqb-true (length (choices s.room.held s.pc)) 1 h
+
+module _ (bytes : List ℕ) where
+  -- a world has taken what is missing of the input
+  abbrev Counts : World → Type 0
+  Counts w = w.taken + length w.input ≡ length bytes
+
+  -- a meaning did what a world says
+  record Says (m : Meant) (w : World) : Type 0 where
+    output : m.output ≡ w.output
+    taken : m.taken + length w.input ≡ length bytes
+    bindings : m.bindings ≡ w.bindings
+    log : m.log ≡ w.log
+
+  said : (m : Meant) (ending : Ending) (cost : ℕ) (w : World) → IsExecution m (executed ending cost w) → Counts w → Says m w
+  said m ending cost w x counts =
+      let taken = x.taken in record { output = sym x.output; taken = omega (arith, taken, counts); bindings = sym x.bindings; log = sym x.log }
+
+  left_over : (input : List (Option ℕ)) (w : World) → input ≡ bytes_to_come w.input → length input ≡ length w.input
+  left_over input w e = ap length e ∙ length-map w.input Some
+
+  -- a state that has stopped in the world of a meaning
+  module _ (m : Meant) (w : World) (stop : Stop) (s : State) (h : HasStopped w stop (rest_of s)) (says : Says m w) where
+    stopped_whole : (ending : meant.End) → m.«end» ≡ ending → IsWhole bytes s m ending
+    stopped_whole ending e =
+        let taken = says.taken in
+        let left = left_over s.input w h.input in
+        record { ending = e; output = says.output ∙ sym h.output; taken = omega (arith, taken, left); bindings = says.bindings ∙ sym h.bindings; log = says.log ∙ sym h.log }
+
+    stopped_within : IsWithin bytes s m
+    stopped_within =
+        let taken = says.taken in
+        let left = left_over s.input w h.input in record {
+          output = subst (Begins s.output) (h.output ∙ sym says.output) (Begins-refl s.output);
+          log = subst (Begins s.log) (h.log ∙ sym says.log) (Begins-refl s.log);
+          taken = omega (arith, taken, left);
+        }
+
+    stopped_done : (stop ≡ Going → ⊥) → HasDone s m
+    stopped_done over = record {
+      output = subst (Begins m.output) (says.output ∙ sym h.output) (Begins-refl m.output);
+      log = subst (Begins m.log) (says.log ∙ sym h.log) (Begins-refl m.log);
+      ended = λ more going. over (sym h.is ∙ going);
+    }
+
+module _ (tested : CalmIsTested) (exit_right : ExitIsRight) (trap_right : TrapIsRight)
+    (attributed : List ℕ) (p : Program) (image : Fields) (bytes picks : List ℕ) (y : Layout)
+    (stubs : HasStubs attributed image y) (main : RunsMain attributed p image bytes picks y) where
+  abbrev input : List (Option ℕ)
+  input = bytes_to_come bytes
+
+  abbrev machine : Machine Rest
+  machine = machine_of attributed image input picks
+
+  abbrev state : ℕ → State
+  state n = runs image input picks n
+
+  abbrev IsSound : ℕ → Type 0
+  IsSound t = has_one_choice (spot_of (state t)) ≡ true
+
+  -- the run ends in a stub as a meaning does
+  record Ended (m : Meant) (budget : ℕ) : Type 0 where
+    world : World
+    last : ℕ
+    stop : Stop
+    ends : EndsAfter image input picks world last stop
+    soon : last ≤ budget + 2
+    says : Says bytes m world
+    over : stop ≡ Going → ⊥
+    right : (s : State) → HasStopped world stop (rest_of s) → EndsRight bytes s m stop
+
+  -- the run goes on at least as long as was asked for, and the meaning is unfinished
+  record Late (m : Meant) (budget far : ℕ) : Type 0 where
+    world : World
+    time : ℕ
+    calm : IsCalm image world (rest_of (state time))
+    sound : (t : ℕ) → t < time → IsSound t
+    soon : time ≤ budget
+    asked : far ≤ time
+    says : Says bytes m world
+    unfinished : m.«end» ≡ source.More
+
+  inside : (w : World) (t : ℕ) → is_calm image (outside w) (rest_of (state t)) ≡ true → IsCalm image w (rest_of (state t))
+  inside w t calm = calm_inside image w (rest_of (state t)) ((tested image (outside w) (rest_of (state t))).0 calm)
+
+  -- ---- what follows the call of main
+
+  module _ (budget far spare k : ℕ) (m : Meant) (cost : ℕ) where
+    returned : (v : ℕ) (w : World) → IsExecution m (executed (code.Exited (v % 256)) cost w) → Counts bytes w
+        → FollowsCall access y machine budget far spare k 3 return_address (Returned (Some v) w) → Ended m budget
+    returned v w x counts f =
+        let stands = f.1.stands in
+        let paid = f.1.paid in
+        let says = said bytes m (code.Exited (v % 256)) cost w x counts in
+        let ends = exit_right attributed image input picks stubs.place stubs.entry stubs.main_label stubs.start_ends stubs.start f.0 w
+        (record { at = stands.at; calm = inside w f.0 stands.calm; sound = stands.sound }) in record {
+          world = w;
+          last = f.0 + 1;
+          stop = Exit (v % 2 ^ 8);
+          ends = subst (λ (z : ℕ). EndsAfter image input picks w (f.0 + 1) (Exit (z % 2 ^ 8))) f.2 ends;
+          soon = omega (arith, paid);
+          says = says;
+          over = λ e. cc;
+          right = λ s h. stopped_whole bytes m w (Exit (v % 2 ^ 8)) s h says (source.Exit (v % 2 ^ 8)) (exit_told m.«end» (v % 256) x.ending);
+        }
+
+    trapped : (c : ℕ) (w : World) → IsExecution m (executed (code.Trapped c) cost w) → 1 ≤ c → c ≤ 4 → Counts bytes w
+        → FollowsCall access y machine budget far spare k 3 return_address (Trapped c w) → Ended m budget
+    trapped c w x ge le counts f =
+        let paid = f.1.paid in
+        let placed = stubs.traps c ge le in
+        let says = said bytes m (code.Trapped c) cost w x counts in record {
+          world = w;
+          last = f.0 + 2;
+          stop = Trap c;
+          ends = trap_right attributed image input picks c ge le stubs.place stubs.entry (y.trap c) (stubs.trap_ends c) placed f.0 w
+              (record { at = f.1.at ∙ sym placed.1.label; calm = inside w f.0 f.1.calm; sound = f.1.sound });
+          soon = omega (arith, paid);
+          says = says;
+          over = λ e. cc;
+          right = λ s h. stopped_whole bytes m w (Trap c) s h says (source.Trap c) (trap_told m.«end» c x.ending);
+        }
+
+    late : (w : World) → IsExecution m (executed code.Unfinished cost w) → Counts bytes w
+        → FollowsCall access y machine budget far spare k 3 return_address (More w) → Late m budget far
+    late w x counts f = record {
+      world = w;
+      time = f.0;
+      calm = inside w f.0 f.1.calm;
+      sound = f.1.sound;
+      soon = f.1.paid;
+      asked = f.1.asked;
+      says = said bytes m code.Unfinished cost w x counts;
+      unfinished = more_told m.«end» x.ending;
+    }
+
+    goes : (e : End) → IsExecution m (execution_of main.first cost e) → IsReached main.first e → ((w : World) → e ≡ Returned None w → ⊥)
+        → FollowsCall access y machine budget far spare k 3 return_address e → Ended m budget ⊎ Late m budget far
+    goes (Returned None w) x reached valued f = absurd (valued w refl)
+    goes (Returned (Some v) w) x reached valued f = inl (returned v w x (reached ∙ main.input) f)
+    goes (Trapped c w) x reached valued f = inl (trapped c w x reached.0 reached.1 (reached.2 ∙ main.input) f)
+    goes (More w) x reached valued f = inr (late w x (reached ∙ main.input) f)
+    goes Stuck x reached valued f = absurd (never_stuck m.«end» x.ending)
+
+  abbrev cost : ℕ → ℕ
+  cost k = (main.call k).cost
+
+  abbrev meaning : ℕ → Meant
+  meaning k = mean p bytes [] k
+
+  course : (budget far k : ℕ) → 3 + (main_cost + cost k) ≤ budget → far ≤ 3 + k → Ended (meaning k) budget ⊎ Late (meaning k) budget far
+  course budget far k paid asked =
+      goes budget far 0 k (meaning k) (cost k) (main.call k).end (main.means k) (main.reached k) (main.returns k) (main.follows budget far 0 k (omega (arith, paid)) asked)
+
+  -- ---- before a calm time and at it
+
+  module _ (m : Meant) (w : World) (t : ℕ) (calm : IsCalm image w (rest_of (state t))) (says : Says bytes m w) where
+    calm_within : (n : ℕ) → n ≤ t → IsWithin bytes (state n) m
+    calm_within n le =
+        let g = run_grew (first_state image input) picks n t le in
+        let fewer = g.input in
+        let taken = says.taken in
+        let left = left_over bytes (state t).input w calm.input in record {
+          output = subst (Begins (state n).output) (calm.output ∙ sym says.output) g.output;
+          log = subst (Begins (state n).log) (calm.log ∙ sym says.log) g.log;
+          taken = omega (arith, fewer, taken, left);
+        }
+
+    calm_going : (n : ℕ) → n ≤ t → (state n).stop ≡ Going
+    calm_going n le = going_before (first_state image input) picks n t le calm.goes_on
+
+    calm_done : (n : ℕ) → t ≤ n → m.«end» ≡ source.More → HasDone (state n) m
+    calm_done n le more =
+        let g = run_grew (first_state image input) picks t n le in record {
+          output = subst (λ o. Begins o (state n).output) (calm.output ∙ sym says.output) g.output;
+          log = subst (λ o. Begins o (state n).log) (calm.log ∙ sym says.log) g.log;
+          ended = λ finished going. finished more;
+        }
+
+  -- ---- at the bound n, after n instructions
+
+  module _ (n : ℕ) where
+    abbrev budget : ℕ
+    budget = 3 + (main_cost + cost n)
+
+    run_goes : Ended (meaning n) budget ⊎ Late (meaning n) budget (n + 1)
+    run_goes = course budget (n + 1) n (omega arith) (omega arith)
+
+    ended_within : Ended (meaning n) budget → IsWithin bytes (state n) (meaning n)
+    ended_within e = ⊎_elim
+        (λ (lt : e.last < n). stopped_within bytes (meaning n) e.world e.stop (state n) (e.ends.stopped n lt) e.says)
+        (λ (le : n ≤ e.last). calm_within (meaning n) e.world e.last e.ends.calm e.says n le)
+        (cases_lt e.last n)
+
+    late_within : Late (meaning n) budget (n + 1) → IsWithin bytes (state n) (meaning n)
+    late_within l = let asked = l.asked in calm_within (meaning n) l.world l.time l.calm l.says n (omega (arith, asked))
+
+    within : IsWithin bytes (state n) (meaning n)
+    within = ⊎_elim ended_within late_within run_goes
+
+    abbrev Right : Stop → Type 0
+    Right = EndsRight bytes (state n) (meaning n)
+
+    ended_right : Ended (meaning n) budget → Right (state n).stop
+    ended_right e = ⊎_elim
+        (λ (lt : e.last < n). let h = e.ends.stopped n lt in subst Right (sym h.is) (e.right (state n) h))
+        (λ (le : n ≤ e.last). subst Right (sym (calm_going (meaning n) e.world e.last e.ends.calm e.says n le)) tt)
+        (cases_lt e.last n)
+
+    late_right : Late (meaning n) budget (n + 1) → Right (state n).stop
+    late_right l = let asked = l.asked in subst Right (sym (calm_going (meaning n) l.world l.time l.calm l.says n (omega (arith, asked)))) tt
+
+    right : Right (state n).stop
+    right = ⊎_elim ended_right late_right run_goes
+
+    ended_sound : Ended (meaning n) budget → (state n).stop ≡ Going → IsSound n
+    ended_sound e going = ⊎_elim
+        (λ (lt : e.last < n). absurd (e.over (sym (e.ends.stopped n lt).is ∙ going)))
+        (λ (le : n ≤ e.last). e.ends.sound n le)
+        (cases_lt e.last n)
+
+    late_sound : Late (meaning n) budget (n + 1) → IsSound n
+    late_sound l = let asked = l.asked in l.sound n (omega (arith, asked))
+
+    fetches : (state n).stop ≡ Going → choices_at (state n) ≡ 1
+    fetches going = one_choice (state n) (⊎_elim (λ (e : Ended (meaning n) budget). ended_sound e going) late_sound run_goes)
+
+  -- ---- all that is meant is done in time
+
+  done : (n k : ℕ) → 100 * (1 + (meaning k).work) ≤ n → HasDone (state n) (meaning k)
+  done n k le = ⊎_elim ended late' (course (n - 3) 0 k (omega (arith, paid, is, le)) (omega arith))
+    where
+      is : (execution_of main.first (cost k) (main.call k).end).cost ≡ cost k
+      is = cost_is main.first (cost k) (main.call k).end
+
+      paid : (execution_of main.first (cost k) (main.call k).end).cost ≤ 20 + 100 * (meaning k).work
+      paid = (main.means k).paid
+
+      ended : Ended (meaning k) (n - 3) → HasDone (state n) (meaning k)
+      ended e =
+          let soon = e.soon in stopped_done bytes (meaning k) e.world e.stop (state n) (e.ends.stopped n (omega (arith, soon, le))) e.says e.over
+
+      late' : Late (meaning k) (n - 3) 0 → HasDone (state n) (meaning k)
+      late' l = let soon = l.soon in calm_done (meaning k) l.world l.time l.calm l.says n (omega (arith, soon)) l.unfinished
+
+  pub behaves : Behaves p image bytes picks
+  behaves = record { within = within; ends = right; does = done; fetches = fetches }

@@ -1,0 +1,50 @@
+-- What the run of an image does, by what a program means.
+use Rattle.std.specs.Prelude.{ℕ, ◌≡◌, ◌+◌, ◌-◌, ◌*◌, ◌≤◌, List, [], length}
+use Rattle.mv_ast.specs.declared.program.Program.{Program}
+use Rattle.mv_image.specs.Spelling.{Fields}
+use Rattle.mv_machine.specs.Runs.{State, Stop, Going, Exit, Trap, Fault, bytes_to_come, choices_at, runs}
+use Rattle.mv_meaning.specs.declared.meant.End.{End}
+use Rattle.mv_meaning.specs.declared.meant.End.TheVariants as source
+use Rattle.mv_meaning.specs.declared.meant.Meant.{Meant}
+use Rattle.mv_meaning.specs.Growth.{Begins}
+use Rattle.mv_meaning.specs.Meaning.{mean}
+
+-- how many bytes of an input a state has taken
+abbrev pub taken_of : (bytes : List ℕ) → State → ℕ
+taken_of bytes s = length bytes - length s.input
+
+-- what a state has written and logged is the beginning of what a meaning has, and it has taken no more
+pub record IsWithin (bytes : List ℕ) (s : State) (m : Meant) : Type 0 where
+  pub output : Begins s.output m.output
+  pub log : Begins s.log m.log
+  pub taken : taken_of bytes s ≤ m.taken
+
+-- a meaning has an end, and a state has done all that it does
+pub record IsWhole (bytes : List ℕ) (s : State) (m : Meant) (e : End) : Type 0 where
+  pub ending : m.«end» ≡ e
+  pub output : m.output ≡ s.output
+  pub taken : m.taken ≡ taken_of bytes s
+  pub bindings : m.bindings ≡ s.bindings
+  pub log : m.log ≡ s.log
+
+-- a state with this stop: where the run ended, it ended as the meaning does, and never with a fault
+abbrev pub EndsRight : (bytes : List ℕ) → State → Meant → Stop → Type 0
+EndsRight bytes s m Going = Unit {0}
+EndsRight bytes s m (Exit status) = IsWhole bytes s m (source.Exit status)
+EndsRight bytes s m (Trap code) = IsWhole bytes s m (source.Trap code)
+EndsRight bytes s m (Fault why) = ⊥
+
+-- a state has written and logged all that a meaning has, and has ended where that has
+pub record HasDone (s : State) (m : Meant) : Type 0 where
+  pub output : Begins m.output s.output
+  pub log : Begins m.log s.log
+  pub ended : (m.«end» ≡ source.More → ⊥) → s.stop ≡ Going → ⊥
+
+-- The run of an image on an input, by any picks of the fetches, does what a program means. After n instructions it has done no more than the meaning at
+-- the bound n, and all of the meaning at each bound whose work is less than a hundredth of n. It ends only as the meaning does. And each fetch has one
+-- choice, so that no pick matters.
+pub record Behaves (p : Program) (image : Fields) (bytes picks : List ℕ) : Type 0 where
+  pub within : (n : ℕ) → IsWithin bytes (runs image (bytes_to_come bytes) picks n) (mean p bytes [] n)
+  pub ends : (n : ℕ) → EndsRight bytes (runs image (bytes_to_come bytes) picks n) (mean p bytes [] n) (runs image (bytes_to_come bytes) picks n).stop
+  pub does : (n k : ℕ) → 100 * (1 + (mean p bytes [] k).work) ≤ n → HasDone (runs image (bytes_to_come bytes) picks n) (mean p bytes [] k)
+  pub fetches : (n : ℕ) → (runs image (bytes_to_come bytes) picks n).stop ≡ Going → choices_at (runs image (bytes_to_come bytes) picks n) ≡ 1

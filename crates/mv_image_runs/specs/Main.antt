@@ -1,0 +1,41 @@
+-- What main comes to, in code and on a run that has entered it.
+use Rattle.std.specs.Prelude.{ℕ, ◌≡◌, ◌+◌, ◌≤◌, List, [], length, None}
+use Rattle.mv_ast.specs.declared.program.Program.{Program}
+use Rattle.mv_image.specs.Spelling.{Fields}
+use Rattle.mv_ir.specs.World.{World}
+use Rattle.mv_ir.specs.Outcome.{Call, Returned}
+use Rattle.mv_ir.specs.Programs.{execution_of}
+use Rattle.mv_ir_ends.specs.Reached.{IsReached}
+use Rattle.mv_lowered_programs.specs.Laws.{IsExecution}
+use Rattle.mv_machine.specs.Runs.{bytes_to_come}
+use Rattle.mv_meaning.specs.Meaning.{mean}
+use Rattle.mv_flow_code.specs.Placed.{Placed}
+use Rattle.mv_call_code.specs.Convention.{Layout, FollowsCall}
+use Rattle.mv_machine_runs.specs.MachineRuns.{access, machine_of, machine_text}
+use Rattle.mv_stub_runs.specs.Stubs.{start_address, return_address, start_lines, trap_lines}
+
+-- The stubs stand in the text of an image, those of traps where the layout has them.
+pub record HasStubs (attributed : List ℕ) (image : Fields) (y : Layout) : Type 0 where
+  pub place : ℕ → ℕ
+  pub entry : ℕ → ℕ
+  pub main_label : ℕ
+  pub start_ends : ℕ
+  pub start : Placed (machine_text attributed image) place entry (start_lines main_label) start_address start_ends
+  pub trap_ends : ℕ → ℕ
+  pub traps : (code : ℕ) → 1 ≤ code → code ≤ 4 → Placed (machine_text attributed image) place entry (trap_lines code) (y.trap code) (trap_ends code)
+
+-- of what a call of main costs, what is left at its first word
+abbrev pub main_cost : ℕ
+main_cost = 44
+
+-- At each bound a call of main comes to what the program means, from a world that has the input, and it returns a value where it returns; and after the
+-- three instructions of the start stub, the run does what that call does.
+pub record RunsMain (attributed : List ℕ) (p : Program) (image : Fields) (bytes picks : List ℕ) (y : Layout) : Type 0 where
+  pub first : World
+  pub input : first.taken + length first.input ≡ length bytes
+  pub call : ℕ → Call
+  pub means : (k : ℕ) → IsExecution (mean p bytes [] k) (execution_of first (call k).cost (call k).end)
+  pub reached : (k : ℕ) → IsReached first (call k).end
+  pub returns : (k : ℕ) (w : World) → (call k).end ≡ Returned None w → ⊥
+  pub follows : (budget far spare k : ℕ) → 3 + (spare + main_cost + (call k).cost) ≤ budget → far ≤ 3 + k →
+      FollowsCall access y (machine_of attributed image (bytes_to_come bytes) picks) budget far spare k 3 return_address (call k).end

@@ -1,0 +1,4 @@
+pub mod Data
+pub mod Walked
+pub mod Starting
+pub mod Ending

@@ -1,0 +1,3 @@
+pub mod Stubs
+pub mod Ends
+pub mod Laws
