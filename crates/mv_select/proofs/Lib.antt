@@ -1,0 +1,10 @@
+pub mod EntryLines
+pub mod FineCode
+pub mod Layouts
+pub mod Lists
+pub mod SameCode
+pub mod Selecting
+pub mod SelectedLines
+pub mod Small
+pub mod Totals
+pub mod Worked

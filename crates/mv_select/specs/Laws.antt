@@ -1,0 +1,45 @@
+-- What is known of the code of a body.
+use Rattle.std.specs.Prelude.{ℕ, ◌≡◌, ◌+◌, ◌*◌, ◌<◌, ◌≤◌, Bool, List, ◌∷◌, All, slice_index, pos, ◌-ℤ◌}
+use Rattle.mv_isa.specs.declared.instr.Instr.TheVariants.{Addi}
+use Rattle.mv_isa.specs.declared.labelled.Line.{Line}
+use Rattle.mv_isa.specs.declared.labelled.Line.TheVariants.{Word}
+use Rattle.mv_isa.specs.Code.{StandsOnce, TargetStands}
+use Rattle.mv_ir.specs.declared.body.Body.{Body}
+use Rattle.mv_ir.specs.Measures.{tree_nodes, statements}
+use Rattle.mv_statement_code.specs.StatementCode.{trap_label}
+use Rattle.mv_statement_code.specs.Encoded.{IsCode}
+use Rattle.mv_flow_code.specs.Encoded.{more}
+use Rattle.mv_flow_code.specs.Labels.{OwnLabels, functions}
+use Rattle.mv_call_code.specs.CallCode.{commit_label}
+use Rattle.mv_function_code.specs.FunctionCode.{frame_bytes}
+use Rattle.mv_select.specs.Selected.{selected_lines, selected_labels, IsSuitable, FitsFrame}
+
+-- how many words the code of a body has at most: two for each node of a tree, nine for each statement, one for each element that is made 0, 16 for each
+-- call, and 33 for entry and return
+abbrev pub greatest_length : Body → ℕ
+greatest_length body = 33 + (2 * tree_nodes body.code + 9 * statements body.code + more (slice_index body.arrays) 16 body.code)
+
+-- the code of a body has encodings, and few words
+abbrev pub SelectedIsEncoded : Type 0
+SelectedIsEncoded = (attributed : Bool) (body : Body) → IsSuitable body → FitsFrame body → IsCode (greatest_length body) (selected_lines attributed body)
+
+-- the labels that it takes are those that stand in it
+abbrev pub SelectedLabelsAreOwn : Type 0
+SelectedLabelsAreOwn = (attributed : Bool) (body : Body) → OwnLabels 0 (selected_labels attributed body) (selected_lines attributed body)
+
+-- each label that it may name stands once in all lines: its own, the stubs of the traps, that of orders and polls, and the functions that it names
+pub record NamesStand (whole : List Line) (attributed : Bool) (body : Body) : Type 0 where
+  pub own : (l : ℕ) → l < selected_labels attributed body → StandsOnce whole l
+  pub traps : (c : ℕ) → 1 ≤ c → c ≤ 4 → StandsOnce whole (trap_label c)
+  pub commit : StandsOnce whole commit_label
+  pub named : All (StandsOnce whole) (functions body.code)
+
+-- then so does each that it names
+abbrev pub SelectedTargetsStand : Type 0
+SelectedTargetsStand =
+    (whole : List Line) (attributed : Bool) (body : Body) → NamesStand whole attributed body → All (TargetStands whole) (selected_lines attributed body)
+
+-- it begins with the instruction that moves sp, and so with no slot and no jump
+abbrev pub SelectedBegins : Type 0
+SelectedBegins =
+    (attributed : Bool) (body : Body) → (rest : List Line) × (selected_lines attributed body ≡ Word (Addi 2 2 (pos 0 -ℤ pos (frame_bytes body.temps body.arrays))) ∷ rest)

@@ -1,0 +1,102 @@
+-- The code of a body, which bodies have one, and why another has none.
+use Rattle.std.specs.Prelude.{ℕ, suc, ◌≡◌, ◌+◌, ◌*◌, ◌^◌, ◌<◌, ◌≤◌, Bool, min, List, [], ◌∷◌, ◌++◌, All, map}
+use Rattle.mv_ast.specs.declared.program.Known.{Known}
+use Rattle.mv_ast.specs.declared.program.Known.TheVariants.{Plan}
+use Rattle.mv_isa.specs.declared.labelled.Line.{Line}
+use Rattle.mv_isa.specs.declared.labelled.Labelled.{Labelled}
+use Rattle.mv_ir.specs.declared.stm.Stm.{Stm}
+use Rattle.mv_ir.specs.declared.stm.Stm.TheOpen.{Stm-F}
+use Rattle.mv_ir.specs.declared.stm.Stm.TheOpen as stm
+use Rattle.mv_ir.specs.declared.stm.Stm.TheFolds.{fold-Stm}
+use Rattle.mv_ir.specs.declared.body.Body.{Body}
+use Rattle.mv_ir.specs.Measures.{joined, total, statements, deepest}
+use Rattle.mv_ir.specs.WellFormed.{IsWellFormed}
+use Rattle.mv_tree_code.specs.Rooms.{place_in}
+use Rattle.mv_flow_code.specs.declared.layout.Space.{Space}
+use Rattle.mv_flow_code.specs.declared.layout.Layout.{Layout}
+use Rattle.mv_flow_code.specs.FlowCode.{Plan as PlanOfCode, code_of}
+use Rattle.mv_flow_code.specs.Labels.{OwnLabels}
+use Rattle.mv_flow_code.specs.Layouts.{size_in}
+use Rattle.mv_call_code.specs.CallCode.{is_marked}
+use Rattle.mv_call_code.specs.Convention.{frame_limit}
+use Rattle.mv_function_code.specs.FunctionCode.{arrays_start, frame_bytes, end_label, bytes_of, plan, function_lines}
+use Rattle.mv_function_code.specs.Functions.{shape_of}
+use Rattle.mv_select.specs.declared.error.SelectError.{SelectError}
+use Rattle.mv_select.specs.declared.error.SelectError.TheVariants.{Frame, Memory}
+
+-- ---- layouts
+
+-- the spaces of arrays of so many words each, one behind the other from a word above sp on
+abbrev pub spaces_behind : ℕ → List ℕ → List Space
+spaces_behind word [] = []
+spaces_behind word (n ∷ sizes) = record { at = 4 * word; size = n } ∷ spaces_behind (word + n) sizes
+
+-- where things stand that a body names
+abbrev pub layout_in : Body → Layout
+layout_in body = record { rooms = body.rooms; arrays = spaces_behind (arrays_start body.temps) body.arrays; end = end_label }
+
+-- ---- code
+
+abbrev pub plan_of : Bool → Body → PlanOfCode
+plan_of attributed body = plan (place_in body.rooms) (size_in body.rooms) (is_marked body.marked) (shape_of attributed body)
+
+-- the code of a body, with the addresses and sizes that its rooms give
+abbrev pub selected_lines : Bool → Body → List Line
+selected_lines attributed body = function_lines (place_in body.rooms) (size_in body.rooms) (is_marked body.marked) (shape_of attributed body) body.code
+
+-- how many labels it has: that of its end, and those of its statements
+abbrev pub selected_labels : Bool → Body → ℕ
+selected_labels attributed body = suc (code_of (plan_of attributed body) body.code).labels
+
+-- ---- bodies
+
+-- the known functions that a statement calls, with the statements within it, and those that some code calls
+abbrev pub knowns_layer : Stm-F (List Known) → List Known
+knowns_layer (stm.If t a b) = joined a ++ joined b
+knowns_layer (stm.Loop b) = joined b
+knowns_layer (stm.Block b) = joined b
+knowns_layer (stm.Known r k args) = k ∷ []
+knowns_layer _ = []
+
+unfoldable pub stm_knowns : Stm → List Known
+stm_knowns = fold-Stm (List Known) knowns_layer
+
+abbrev pub knowns : List Stm → List Known
+knowns code = joined (map stm_knowns code)
+
+-- an order's numbers are a byte and a word
+abbrev pub IsOrder : Known → Type 0
+IsOrder (Plan code index) = (code < 256) × (index < 2 ^ 32)
+IsOrder _ = Unit {0}
+
+-- a well-formed body with registers for its trees, whose orders are a byte and a word
+pub record IsSuitable (body : Body) : Type 0 where
+  pub formed : IsWellFormed body
+  pub shallow : deepest body.code ≤ 4
+  pub orders : All IsOrder (knowns body.code)
+
+-- its frame is small enough
+abbrev pub FitsFrame : Body → Type 0
+FitsFrame body = frame_bytes body.temps body.arrays ≤ frame_limit
+
+-- ---- results
+
+-- Code of a body whose frame is small enough. Each label below `labels` stands once in it, and no other does; these are few.
+pub record IsSelected (attributed : Bool) (body : Body) (code : Labelled) : Type 0 where
+  pub items : code.items ≡ selected_lines attributed body
+  pub frame : FitsFrame body
+  pub labels : OwnLabels 0 code.labels code.items
+  pub few : code.labels ≤ 2 * statements body.code + 1
+
+-- The frame of a function isn't small enough, and what is named are the function and the frame's bytes, as far as a `u64` goes. Its temporaries and
+-- the words of its arrays are many.
+pub record PassesFrame (function : ℕ) (body : Body) (named bytes : ℕ) : Type 0 where
+  pub is_function : named ≡ function
+  pub count : bytes ≡ min (frame_bytes body.temps body.arrays) 18446744073709551615
+  pub past : frame_limit < frame_bytes body.temps body.arrays
+  pub many : 480 < body.temps + total body.arrays
+
+-- a fact of the function and the bytes that are named
+abbrev pub OnFrame : SelectError → (ℕ → ℕ → Type 0) → Type 0
+OnFrame (Frame function bytes) P = P function bytes
+OnFrame (Memory e) P = Unit {0}

@@ -1,0 +1,16 @@
+ghost use Rattle.mv_select.specs.Laws.{SelectedIsEncoded, SelectedLabelsAreOwn, SelectedTargetsStand, SelectedBegins};
+
+/// The code that `select` gives for a body. The call does nothing: its contract is the law.
+///
+/// `encoded`: where a body keeps the conditions of `select` and its frame is small enough, all instructions have encodings; and
+/// their words are bounded by the nodes of the trees, the statements, the elements that are made 0 and the calls, with 33 for
+/// entry and return, each branch taken for two. `labels`: each label from 0 up to the number of labels stands once in the code,
+/// and no other label does. `targets`: each label that the code names stands once in any lines where its own labels do, the
+/// stubs of the traps and of orders and polls, and the functions that it names. `begins`: the first line is the instruction that
+/// moves sp, so no slot and no jump.
+pub fn selection_law()
+    ensures encoded { SelectedIsEncoded }
+    ensures labels { SelectedLabelsAreOwn }
+    ensures targets { SelectedTargetsStand }
+    ensures begins { SelectedBegins }
+{}
