@@ -1,5 +1,5 @@
 -- Code is fine whose trees are, since where a temporary is read or written it is marked.
-use Rattle.std.proofs.Common.{◌≡◌, ℕ, suc, ◌<◌, ◌≤◌, ◌&&◌, ◌||◌, Bool, true, false, not, eqb, ltb, length, List, [], ◌∷◌, ◌++◌, map, max, Option, Some, None, refl, sym, ap, ◌∙◌, subst, arith, eq-eqb}
+use Rattle.std.proofs.Common.{◌≡◌, ℕ, suc, ◌<◌, ◌≤◌, ◌&&◌, ◌||◌, Bool, true, false, not, eqb, ltb, length, List, [], ◌∷◌, ◌++◌, map, Option, Some, None, refl, sym, ap, ◌∙◌, subst, arith, eq-eqb}
 use Rattle.std.proofs.lemmas.Bool.{lt-ltb}
 use Rattle.mv_ast.specs.declared.program.Known.{Known}
 use Rattle.mv_ir.specs.declared.tree.Tree.{Tree}
@@ -30,10 +30,10 @@ pub knowns_roll : (x : Stm-F Stm) → stm_knowns (roll-Stm x) ≡ knowns_layer (
 unfolding stm_knowns
 knowns_roll x = fold-roll-Stm (List Known) knowns_layer x
 
-or_first : (a b : Bool) → a ≡ true → (a || b) ≡ true
+pub or_first : (a b : Bool) → a ≡ true → (a || b) ≡ true
 or_first a b h = ap (λ c. c || b) h
 
-or_last : (a b : Bool) → b ≡ true → (a || b) ≡ true
+pub or_last : (a b : Bool) → b ≡ true → (a || b) ≡ true
 or_last true b h = refl
 or_last false b h = h
 
@@ -112,11 +112,11 @@ module _ (is_fine : Tree → Bool) (may_ask : Known → Bool) (limit : ℕ) (is_
   IsAsked k = fine_known is_fine may_ask limit is_scalar k ≡ true
 
   -- what is asked of the trees, the names and the calls of a statement, and of some code
-  record Holds (of_trees : List Tree) (of_names : List Array) (of_knowns : List Known) (of_arguments : Bool) : Type 0 where
-    trees : Each P of_trees
-    named : Each IsScalar of_names
-    knowns : Each IsAsked of_knowns
-    arguments : of_arguments ≡ true
+  record Holds (vs : List Tree) (names : List Array) (calls : List Known) (has_arguments : Bool) : Type 0 where
+    trees : Each P vs
+    named : Each IsScalar names
+    knowns : Each IsAsked calls
+    arguments : has_arguments ≡ true
 
   abbrev HoldsOf : Stm → Type 0
   HoldsOf s = Holds (stm_trees s) (stm_named s) (stm_knowns s) (stm_arguments s)

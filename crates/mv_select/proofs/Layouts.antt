@@ -1,10 +1,8 @@
 -- The layout of a body whose frame is small enough: its arrays lie within the frame, and the code over it is that of the body's own plan.
-use Rattle.std.proofs.Common.{◌≡◌, ℕ, zero, suc, ◌+◌, ◌*◌, ◌<◌, ◌≤◌, Bool, true, List, [], ◌∷◌, length, All, refl, sym, ap, ◌∙◌, arith}
+use Rattle.std.proofs.Common.{◌≡◌, ℕ, zero, suc, ◌+◌, ◌*◌, ◌<◌, ◌≤◌, Bool, true, List, [], ◌∷◌, length, All, refl, ap, ◌∙◌, arith}
 use Rattle.std.specs.Prelude.{slice_index}
 use Rattle.std.proofs.lemmas.Bool.{ltb-true}
 use Rattle.std.proofs.lemmas.List.Elements.{All-nil, All-cons}
-use Rattle.mv_ir.specs.declared.stm.Array.{Array}
-use Rattle.mv_ir.specs.declared.stm.Array.TheVariants as array
 use Rattle.mv_ir.specs.declared.body.Body.{Body}
 use Rattle.mv_ir.specs.Measures.{total}
 use Rattle.mv_ir.specs.WellFormed.{is_there, named, IsWellFormed}

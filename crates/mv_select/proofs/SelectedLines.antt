@@ -1,10 +1,10 @@
 -- The lines of a whole body: its labels, what it names, and its encodings.
-use Rattle.std.proofs.Common.{◌≡◌, ⊎_elim, ℕ, suc, ◌+◌, ◌*◌, ◌<◌, ◌≤◌, Bool, cond, List, [], ◌∷◌, ◌++◌, All, count_by, refl, ap, subst, arith, eq-eqb, pos, ◌-ℤ◌}
+use Rattle.std.proofs.Common.{◌≡◌, ⊎_elim, ℕ, suc, ◌+◌, ◌*◌, ◌<◌, Bool, cond, List, [], ◌∷◌, ◌++◌, All, count_by, refl, ap, subst, arith, eq-eqb}
 use Rattle.std.specs.Prelude.{slice_index}
 use Rattle.std.proofs.lemmas.Bool.{cases_lt, ne_eqb}
 use Rattle.std.proofs.lemmas.List.Elements.{All-append, All-cons, All-nil}
 use Rattle.mv_isa.specs.declared.labelled.Line.{Line}
-use Rattle.mv_isa.specs.declared.labelled.Line.TheVariants.{Word, Label}
+use Rattle.mv_isa.specs.declared.labelled.Line.TheVariants.{Label}
 use Rattle.mv_isa.specs.Code.{LineFits, StandsOnce, TargetStands, is_label}
 use Rattle.mv_ir.specs.declared.body.Body.{Body}
 use Rattle.mv_ir.specs.Measures.{tree_nodes, statements}
@@ -16,17 +16,17 @@ use Rattle.mv_flow_code.specs.declared.enclosing.Enclosing.{Enclosing}
 use Rattle.mv_flow_code.specs.FlowCode.{Emitted, code_of}
 use Rattle.mv_flow_code.specs.Encoded.{more}
 use Rattle.mv_flow_code.specs.Labels.{Names, CallsName, OwnLabels}
-use Rattle.mv_flow_code.specs.Layouts.{array_size_in, plan_in}
+use Rattle.mv_flow_code.specs.Layouts.{array_size_in}
 use Rattle.mv_flow_code.proofs.FlowEncoded.{flow_encoded}
 use Rattle.mv_flow_code.proofs.LabelsOwn.{count_append, none, silent_own, both_own, labels_own}
 use Rattle.mv_flow_code.proofs.TargetsStand.{targets_stand}
-use Rattle.mv_call_code.specs.CallCode.{calls_of, is_marked}
+use Rattle.mv_call_code.specs.CallCode.{is_marked}
 use Rattle.mv_call_code.specs.Lines.{StubsStand}
 use Rattle.mv_call_code.proofs.CallsEncoded.{calls_encoded}
 use Rattle.mv_call_code.proofs.CallsName.{calls_have_no_labels, call_targets_stand}
-use Rattle.mv_function_code.specs.FunctionCode.{frame_bytes, arrays_start, prologue_lines, epilogue_lines, bytes_of}
+use Rattle.mv_function_code.specs.FunctionCode.{frame_bytes, arrays_start, prologue_lines, epilogue_lines}
 use Rattle.mv_function_code.proofs.EncodedFrames.{frames_encoded}
-use Rattle.mv_select.specs.Selected.{spaces_behind, layout_in, plan_of, selected_lines, selected_labels}
+use Rattle.mv_select.specs.Selected.{spaces_behind, layout_in, plan_of, selected_lines}
 use Rattle.mv_select.specs.Laws.{greatest_length, SelectedIsEncoded, SelectedLabelsAreOwn, SelectedTargetsStand, SelectedBegins}
 use Rattle.mv_select.proofs.EntryLines.{prologue_words, epilogue_words, words_name, words_stand}
 use Rattle.mv_select.proofs.Layouts.{calls_in, sizes_are, arrays_within, layout_code}

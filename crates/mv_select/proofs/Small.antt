@@ -1,5 +1,5 @@
 -- The code of bodies within the limits is small.
-use Rattle.std.proofs.Common.{◌≡◌, ℕ, suc, ◌<◌, ◌≤◌, ◌^◌, ◌&&◌, Bool, true, ltb, leb, List, [], ◌∷◌, map, All, refl, arith}
+use Rattle.std.proofs.Common.{◌≡◌, ℕ, suc, ◌<◌, ◌≤◌, ◌^◌, ◌&&◌, Bool, true, ltb, leb, List, [], ◌∷◌, map, refl, arith}
 use Rattle.std.proofs.lemmas.Bool.{lt-ltb, le-leb}
 use Rattle.mv_ast.specs.declared.program.Known.{Known}
 use Rattle.mv_ast.specs.declared.program.Known.TheVariants.{Getchar, Putchar, Poll, Plan}
@@ -8,9 +8,9 @@ use Rattle.mv_ir.specs.declared.stm.Array.{Array}
 use Rattle.mv_ir.specs.declared.stm.Array.TheVariants as array
 use Rattle.mv_ir.specs.declared.body.Body.{Body}
 use Rattle.mv_ir.specs.Trees.{depth}
-use Rattle.mv_ir.specs.Measures.{joined, stm_trees, trees}
+use Rattle.mv_ir.specs.Measures.{trees}
 use Rattle.mv_ir.specs.Live.{flow, marks_in_order, nowhere, HasTemps}
-use Rattle.mv_ir.specs.WellFormed.{stm_named, named, IsWellFormed}
+use Rattle.mv_ir.specs.WellFormed.{named, IsWellFormed}
 use Rattle.mv_ir.proofs.Induction.{Each}
 use Rattle.mv_tree_code.specs.TreeCode.{temps_of}
 use Rattle.mv_flow_code.specs.FlowCode.{fine_known}

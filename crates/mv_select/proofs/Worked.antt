@@ -1,5 +1,5 @@
 -- The body of the tests is one that code can be selected for.
-use Rattle.std.proofs.Common.{◌≡◌, ℕ, zero, suc, ◌+◌, ◌*◌, ◌<◌, ◌≤◌, ◌||◌, ◌&&◌, Bool, true, false, not, ltb, eqb, List, [], ◌∷◌, ◌++◌, All, map, Option, None, sym, ap, ◌∙◌, subst, arith, refl, ⊎_elim}
+use Rattle.std.proofs.Common.{◌≡◌, ℕ, zero, suc, ◌+◌, ◌≤◌, ◌||◌, ◌&&◌, Bool, true, false, not, ltb, eqb, List, [], ◌∷◌, All, map, sym, ap, ◌∙◌, subst, arith, ⊎_elim}
 use Rattle.std.proofs.lemmas.Bool.{ne_eqb, le-ltb, cases_lt}
 use Rattle.std.proofs.lemmas.List.Elements.{All-nil}
 use Rattle.mv_ast.specs.declared.program.Known.{Known}
@@ -18,7 +18,7 @@ use Rattle.mv_ir.specs.declared.body.Body.{Body}
 use Rattle.mv_ir.specs.Trees.{nodes, depth, nodes_of_all}
 use Rattle.mv_ir.specs.Measures.{joined, total, stm_trees, trees, tree_reads, scalars_read, stm_size, statements, tree_nodes, deepest, deepest_of}
 use Rattle.mv_ir.specs.Live.{reads_temp, Flow, live_in_order, marks_in_order, nowhere, layer_flow, flow, live_at_start, all_marks, mark_at, HasTemps}
-use Rattle.mv_ir.specs.WellFormed.{all_true, all_around, stm_targets, is_there, stm_named, named, has_room, stm_arguments, IsWellFormed}
+use Rattle.mv_ir.specs.WellFormed.{all_true, all_around, stm_targets, is_there, stm_named, named, has_room, stm_arguments}
 use Rattle.mv_ir.proofs.Rolls.{nodes_roll, depth_roll, reads_roll, trees_roll, size_roll, reads_temp_roll, flow_roll, targets_roll, named_roll, arguments_roll}
 use Rattle.mv_select.specs.Selected.{stm_knowns, knowns, IsOrder, IsSuitable}
 use Rattle.mv_select.proofs.FineCode.{knowns_roll}

@@ -19,7 +19,7 @@ use Rattle.mv_flow_code.specs.Labels.{OwnLabels}
 use Rattle.mv_flow_code.specs.Layouts.{size_in}
 use Rattle.mv_call_code.specs.CallCode.{is_marked}
 use Rattle.mv_call_code.specs.Convention.{frame_limit}
-use Rattle.mv_function_code.specs.FunctionCode.{arrays_start, frame_bytes, end_label, bytes_of, plan, function_lines}
+use Rattle.mv_function_code.specs.FunctionCode.{arrays_start, frame_bytes, end_label, plan, function_lines}
 use Rattle.mv_function_code.specs.Functions.{shape_of}
 use Rattle.mv_select.specs.declared.error.SelectError.{SelectError}
 use Rattle.mv_select.specs.declared.error.SelectError.TheVariants.{Frame, Memory}

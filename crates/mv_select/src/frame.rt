@@ -1,6 +1,6 @@
 //! The frame of a function: how many bytes it has, and where its arrays stand.
 
-ghost use Rattle.std.specs.Prelude.{◌≡◌, ◌≤◌, IfOk};
+ghost use Rattle.std.specs.Prelude.{◌≡◌, ◌^◌, ◌≤◌, IfOk};
 ghost use Rattle.mv_ir.specs.Measures.{total};
 ghost use Rattle.mv_function_code.specs.FunctionCode.{arrays_start, frame_bytes};
 ghost use Rattle.mv_select.specs.Selected.{spaces_behind};
@@ -12,7 +12,7 @@ use std::alloc::{AllocError, Global};
 // How many words all arrays have.
 fn words_of(arrays: &[u32]) -> u128
     ensures value { result ≡ total arrays.now }
-    ensures within { result ≤ 79228162514264337593543950336 }
+    ensures within { result ≤ 2 ^ 96 }
 {
     let mut words: u128 = 0;
     for size in arrays {

@@ -83,9 +83,10 @@ fn written(alloc: Global, body: &Body, attributed: bool, bytes: u32) -> Result<L
 }
 
 /// The code of a function, given by its body and whether it is attributed. It makes the frame, carries the body out and takes the
-/// frame down; what this code does is said by `function_code_law` of `mv_function_code`.
+/// frame down. What this code does is said by `function_code_law` of `mv_function_code`, and what stands in it by `selection_law`.
 ///
-/// `Frame` comes exactly where the frame needs more than 2,032 bytes. `function` is the number that this error names.
+/// The body is well formed, and no tree has more than four nodes one below the other. `Frame` comes where the frame needs more
+/// than 2,032 bytes, and only there. `function` is the number that this error names.
 pub fn select(
     alloc: Global,
     body: &Body,

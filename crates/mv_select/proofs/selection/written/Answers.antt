@@ -1,4 +1,4 @@
-use Rattle.std.proofs.Common.{◌≤◌, ◌+◌, ◌<◌, All, sym, ap, subst, arith}
+use Rattle.std.proofs.Common.{◌≤◌, All, sym, ap, subst, arith}
 use Rattle.mv_flow_code.specs.declared.emitter.Emitter.{Emitter}
 use Rattle.mv_flow_code.specs.declared.layout.Layout.{Layout}
 use Rattle.mv_flow_code.specs.Layouts.{IsInFrame}
