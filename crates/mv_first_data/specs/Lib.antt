@@ -1,0 +1,2 @@
+pub mod FirstData
+pub mod Laws

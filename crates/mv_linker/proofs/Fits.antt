@@ -1,0 +1,158 @@
+-- The linked lines keep the assembler's condition.
+use Rattle.std.proofs.Common.{◌≡◌, ℕ, zero, suc, ◌+◌, ◌-◌, ◌<◌, ◌≤◌, ◌⊎◌, ◌++◌, List, [], ◌∷◌, Some, length, take, slice_get, map, count_by, All, eqb, pos, refl, ap, sym, subst, ◌∙◌, ⊎_elim, arith, rules}
+use Rattle.std.proofs.lemmas.List.Elements.{All-nil, All-cons, All-append, All-map, All-head, All-tail, All-from_recursion}
+use Rattle.mv_isa.specs.declared.instr.Instr.TheVariants.{Lui, Addi, Ecall}
+use Rattle.mv_isa.specs.declared.labelled.Labelled.{Labelled}
+use Rattle.mv_isa.specs.declared.labelled.Line.{Line}
+use Rattle.mv_isa.specs.declared.labelled.Line.TheVariants.{Word, Label, Jump, Branch, Entry, Slot}
+use Rattle.mv_isa.specs.Code.{is_label, StandsOnce, TargetStands, LineFits, CodeFits}
+use Rattle.mv_linker.specs.declared.parts.Parts.{Parts}
+use Rattle.mv_linker.specs.Linked.{trap_label, own, relabelled, start_lines, trap_lines, stub_lines, function_part, function_parts, linked_lines, label_count, first_label, IsTrapLabel, IsOwnLabel, IsTarget, NamesAreThere, IsFunction, AreParts}
+use Rattle.mv_linker.proofs.Counting.{times, count_append, count_cons, unmarked, own_is, own_stays, label_count_more, labels_within, parts_other, parts_entry, parts_own}
+
+-- ---- labels of the stubs
+
+trap_count : (m c : ℕ) → count_by (is_label m) (trap_lines c) ≡ times (eqb (trap_label c) m)
+trap_count m c = omega (arith, count_cons m (Label (trap_label c)) (Word (Addi 10 0 (pos c)) ∷ Word (Addi 17 0 (pos 3)) ∷ Word Ecall ∷ []))
+
+stub_count : (main m : ℕ) → count_by (is_label m) (stub_lines main)
+    ≡ times (eqb (trap_label 1) m) + (times (eqb (trap_label 2) m) + (times (eqb (trap_label 3) m) + times (eqb (trap_label 4) m)))
+stub_count main m =
+    let start : count_by (is_label m) (start_lines main) ≡ 0 = refl in
+    omega (arith, start, trap_count m 1, trap_count m 2, trap_count m 3, trap_count m 4,
+        count_append m (start_lines main) (trap_lines 1 ++ (trap_lines 2 ++ (trap_lines 3 ++ trap_lines 4))),
+        count_append m (trap_lines 1) (trap_lines 2 ++ (trap_lines 3 ++ trap_lines 4)),
+        count_append m (trap_lines 2) (trap_lines 3 ++ trap_lines 4), count_append m (trap_lines 3) (trap_lines 4))
+
+stubs_other : (main m : ℕ) → m < trap_label 1 → count_by (is_label m) (stub_lines main) ≡ 0
+stubs_other main m below =
+    omega (arith, stub_count main m, unmarked m (trap_label 1) (λ e. omega (arith, e)), unmarked m (trap_label 2) (λ e. omega (arith, e)),
+        unmarked m (trap_label 3) (λ e. omega (arith, e)), unmarked m (trap_label 4) (λ e. omega (arith, e)))
+
+stubs_trap : (main c : ℕ) → 1 ≤ c → c ≤ 4 → StandsOnce (stub_lines main) (trap_label c)
+stubs_trap main zero from to = absurd (omega arith)
+stubs_trap main (suc zero) from to = refl
+stubs_trap main (suc (suc zero)) from to = refl
+stubs_trap main (suc (suc (suc zero))) from to = refl
+stubs_trap main (suc (suc (suc (suc zero)))) from to = refl
+stubs_trap main (suc (suc (suc (suc (suc c))))) from to = absurd (omega arith)
+
+-- ---- labels that stand once in the linked lines
+
+module _ (parts : Parts) (are : AreParts parts) where
+  counted : (m : ℕ) → count_by (is_label m) (linked_lines parts)
+      ≡ count_by (is_label m) (stub_lines parts.main) + count_by (is_label m) (function_parts 0 (length parts.functions) parts.functions)
+  counted m = count_append m (stub_lines parts.main) (function_parts 0 (length parts.functions) parts.functions)
+
+  pub entry_once : (f : ℕ) → f < length parts.functions → StandsOnce (linked_lines parts) f
+  entry_once f below =
+      omega (arith, counted f, stubs_other parts.main f (omega (arith, are.labels)),
+          parts_entry (length parts.functions) parts.functions 0 (length parts.functions) f are.functions (omega arith) (omega arith) below)
+
+  pub own_once : (f : ℕ) (code : Labelled) → slice_get parts.functions f ≡ Some code → (l : ℕ) → IsOwnLabel code l → StandsOnce (linked_lines parts) (first_label parts.functions f + l)
+  own_once f code found l is =
+      let m = first_label parts.functions f + l in
+      let within = labels_within parts.functions f code found in
+      omega (arith, counted m, stubs_other parts.main m (omega (arith, are.labels, is.0)), is.1,
+          parts_own (length parts.functions) parts.functions 0 (length parts.functions) f code l m are.functions (omega arith) found is.0 refl)
+
+  pub trap_once : (c : ℕ) → 1 ≤ c → c ≤ 4 → StandsOnce (linked_lines parts) (trap_label c)
+  trap_once c from to =
+      omega (arith, counted (trap_label c), stubs_trap parts.main c from to,
+          parts_other (length parts.functions) parts.functions 0 (length parts.functions) (trap_label c) are.functions
+              (λ le. omega (arith, are.labels)) (λ le. omega (arith, are.labels)))
+
+  trap_target : (l : ℕ) → IsTrapLabel l → StandsOnce (linked_lines parts) l
+  trap_target l is =
+      let c_is : trap_label (l - trap_label 0) ≡ l = omega (arith, is.0, is.1) in
+      subst (StandsOnce (linked_lines parts)) c_is (trap_once (l - trap_label 0) (omega (arith, is.0, is.1)) (omega (arith, is.0, is.1)))
+
+-- ---- what lines name stands once
+
+module _ (whole : List Line) (n : ℕ) (entries : (f : ℕ) → f < n → StandsOnce whole f) (traps : (l : ℕ) → IsTrapLabel l → StandsOnce whole l) where
+  module _ (first : ℕ) (code : Labelled) (owns : (l : ℕ) → IsOwnLabel code l → StandsOnce whole (first + l)) (room : code.labels ≤ trap_label 1) where
+    target_once : (l : ℕ) → IsTarget code l → StandsOnce whole (own first code.labels l)
+    target_once l is =
+        ⊎_elim (λ (mine : IsOwnLabel code l). subst (StandsOnce whole) (sym (own_is first code.labels l mine.0)) (owns l mine))
+        (λ (trap : IsTrapLabel l). subst (StandsOnce whole) (sym (own_stays first code.labels l (omega (arith, trap.0)))) (traps l trap))
+        is
+
+    line_target : (x : Line) → NamesAreThere n code x → TargetStands whole (relabelled first code.labels x)
+    line_target (Word instr) h = tt
+    line_target (Label l) h = tt
+    line_target (Jump rd l) h = target_once l h
+    line_target (Branch funct3 rs1 rs2 l) h = target_once l h
+    line_target (Entry rd f) h = entries f h
+    line_target (Slot f) h = entries f h
+
+    part_targets : (f : ℕ) → IsFunction n code → All (TargetStands whole) (function_part f first code)
+    part_targets f fun =
+        All-cons (TargetStands whole) (Label f) (map (relabelled first code.labels) code.items) tt
+            (All-map (TargetStands whole) (relabelled first code.labels) code.items (λ k d l. line_target _ (fun.names k d l)))
+
+  parts_targets : (functions : List Labelled) (f first : ℕ) → All (IsFunction n) functions → label_count functions ≤ trap_label 1
+      → ((k : ℕ) (code : Labelled) → slice_get functions k ≡ Some code → (l : ℕ) → IsOwnLabel code l → StandsOnce whole (first + label_count (take k functions) + l))
+      → All (TargetStands whole) (function_parts f first functions)
+  parts_targets [] f first all room owns = All-nil (TargetStands whole)
+  parts_targets (code ∷ rest) f first all room owns =
+      let more = label_count_more code rest in
+      All-append (TargetStands whole) (function_part f first code) (function_parts (f + 1) (first + code.labels) rest)
+          (part_targets first code (λ l is. let e : first + label_count (take 0 (code ∷ rest)) + l ≡ first + l = omega arith in subst (StandsOnce whole) e (owns 0 code refl l is)) (omega arith) f (All-head (IsFunction n) code rest all))
+          (parts_targets rest (f + 1) (first + code.labels) (All-tail (IsFunction n) code rest all) (omega arith)
+              (λ k x found l is. let e : first + label_count (take (suc k) (code ∷ rest)) + l ≡ first + code.labels + label_count (take k rest) + l = omega (arith, label_count_more code (take k rest)) in
+                  subst (StandsOnce whole) e (owns (suc k) x found l is)))
+
+-- ---- fields
+
+line_fields : (first count : ℕ) (x : Line) → LineFits x → LineFits (relabelled first count x)
+line_fields first count (Word instr) h = h
+line_fields first count (Label l) h = tt
+line_fields first count (Jump rd l) h = h
+line_fields first count (Branch funct3 rs1 rs2 l) h = h
+line_fields first count (Entry rd f) h = h
+line_fields first count (Slot f) h = tt
+
+parts_fields : (n : ℕ) (functions : List Labelled) (f first : ℕ) → All (IsFunction n) functions → All LineFits (function_parts f first functions)
+parts_fields n [] f first all = All-nil LineFits
+parts_fields n (code ∷ rest) f first all =
+    let fun = All-head (IsFunction n) code rest all in
+    All-append LineFits (function_part f first code) (function_parts (f + 1) (first + code.labels) rest)
+        (All-cons LineFits (Label f) (map (relabelled first code.labels) code.items) tt
+            (All-map LineFits (relabelled first code.labels) code.items (λ k d l. line_fields first code.labels _ (fun.fields k d l))))
+        (parts_fields n rest (f + 1) (first + code.labels) (All-tail (IsFunction n) code rest all))
+
+-- of the stubs
+module _ (P : Line → Type 0) (main : ℕ) (start : All P (start_lines main)) (traps : (c : ℕ) → c ≤ 4 → All P (trap_lines c)) where
+  stubs_all : All P (stub_lines main)
+  stubs_all =
+      All-append P (start_lines main) (trap_lines 1 ++ (trap_lines 2 ++ (trap_lines 3 ++ trap_lines 4))) start
+      (All-append P (trap_lines 1) (trap_lines 2 ++ (trap_lines 3 ++ trap_lines 4)) (traps 1 (omega arith))
+      (All-append P (trap_lines 2) (trap_lines 3 ++ trap_lines 4) (traps 2 (omega arith))
+      (All-append P (trap_lines 3) (trap_lines 4) (traps 3 (omega arith)) (traps 4 (omega arith)))))
+
+start_fields : (main : ℕ) → All LineFits (start_lines main)
+start_fields main = All-from_recursion LineFits (start_lines main) (search rules)
+
+trap_fields : (c : ℕ) → c ≤ 4 → All LineFits (trap_lines c)
+trap_fields c le = All-from_recursion LineFits (trap_lines c) (search rules)
+
+start_targets : (whole : List Line) (main : ℕ) → StandsOnce whole main → All (TargetStands whole) (start_lines main)
+start_targets whole main once = All-from_recursion (TargetStands whole) (start_lines main) (tt, (tt, (once, (tt, (tt, tt)))))
+
+trap_targets : (whole : List Line) (c : ℕ) → c ≤ 4 → All (TargetStands whole) (trap_lines c)
+trap_targets whole c le = All-from_recursion (TargetStands whole) (trap_lines c) (tt, (tt, (tt, (tt, tt))))
+
+-- ---- all lines
+
+pub lines_fit : (parts : Parts) → AreParts parts → CodeFits (linked_lines parts)
+lines_fit parts are =
+    let n = length parts.functions in
+    let rest = function_parts 0 n parts.functions in
+    let fields : All LineFits (linked_lines parts) =
+        All-append LineFits (stub_lines parts.main) rest (stubs_all LineFits parts.main (start_fields parts.main) trap_fields) (parts_fields n parts.functions 0 n are.functions) in
+    let whole = linked_lines parts in
+    let targets : All (TargetStands whole) whole =
+        All-append (TargetStands whole) (stub_lines parts.main) rest
+            (stubs_all (TargetStands whole) parts.main (start_targets whole parts.main (entry_once parts are parts.main are.main)) (trap_targets whole))
+            (parts_targets whole n (entry_once parts are) (trap_target parts are) parts.functions 0 n are.functions (omega (arith, are.labels)) (own_once parts are)) in
+    record { fields = λ k l. fields k (Label 0) l; targets = λ k l. targets k (Label 0) l }

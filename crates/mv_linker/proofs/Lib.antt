@@ -1,0 +1,3 @@
+pub mod Counting
+pub mod Fits
+pub mod Places

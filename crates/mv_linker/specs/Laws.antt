@@ -1,0 +1,38 @@
+-- What holds of the linked lines of all parts.
+use Rattle.std.specs.Prelude.{ℕ, ◌+◌, ◌*◌, ◌<◌, ◌≤◌, ◌≡◌, Some, List, length, slice_get}
+use Rattle.mv_isa.specs.declared.labelled.Labelled.{Labelled}
+use Rattle.mv_isa.specs.declared.labelled.Line.{Line}
+use Rattle.mv_isa.specs.Code.{CodeFits, StandsOnce, line_at}
+use Rattle.mv_linker.specs.declared.parts.Parts.{Parts}
+use Rattle.mv_linker.specs.Linked.{AreParts, IsOwnLabel, trap_label, start_lines, trap_lines, function_part, linked_lines, first_label, part_index}
+
+-- they may be assembled
+abbrev pub LinesFit : Type 0
+LinesFit = (parts : Parts) → AreParts parts → CodeFits (linked_lines parts)
+
+-- some lines stand in others, one behind the other from an index on
+pub record StandFrom (lines : List Line) (k : ℕ) (part : List Line) : Type 0 where
+  pub within : k + length part ≤ length lines
+  pub each : (j : ℕ) → j < length part → line_at lines (k + j) ≡ line_at part j
+
+-- the stub of a trap stands in lines, its label nowhere else
+pub record TrapStands (lines : List Line) (c : ℕ) : Type 0 where
+  pub stub : StandFrom lines (4 * c + 1) (trap_lines c)
+  pub label : StandsOnce lines (trap_label c)
+
+-- The start stands at the beginning, and the stubs of the traps behind it.
+abbrev pub StubsStand : Type 0
+StubsStand =
+    (parts : Parts) → AreParts parts →
+    StandFrom (linked_lines parts) 0 (start_lines parts.main) × ((c : ℕ) → 1 ≤ c → c ≤ 4 → TrapStands (linked_lines parts) c)
+
+-- The part of a function stands in lines, its entry's label nowhere else, and an own label that stands once in its code stands once in all lines.
+pub record FunctionStands (lines : List Line) (functions : List Labelled) (f : ℕ) (code : Labelled) : Type 0 where
+  pub part : StandFrom lines (part_index functions f) (function_part f (first_label functions f) code)
+  pub entry : StandsOnce lines f
+  pub own : (l : ℕ) → IsOwnLabel code l → StandsOnce lines (first_label functions f + l)
+
+abbrev pub FunctionsStand : Type 0
+FunctionsStand =
+    (parts : Parts) → AreParts parts → (f : ℕ) (code : Labelled) → slice_get parts.functions f ≡ Some code →
+    FunctionStands (linked_lines parts) parts.functions f code

@@ -1,0 +1,120 @@
+-- What the linker joins: the stubs, and the functions behind them.
+use Rattle.std.specs.Prelude.{ℕ, ◌+◌, ◌*◌, ◌<◌, ◌≤◌, ◌≡◌, ◌⊎◌, pos, nat_lt, if◌then◌else◌, List, [], ◌∷◌, ◌++◌, length, take, map, slice_index, All, sum_by}
+use Rattle.mv_isa.specs.declared.instr.Instr.TheVariants.{Lui, Addi, Ecall}
+use Rattle.mv_isa.specs.declared.labelled.Labelled.{Labelled}
+use Rattle.mv_isa.specs.declared.labelled.Line.{Line}
+use Rattle.mv_isa.specs.declared.labelled.Line.TheVariants.{Word, Label, Jump, Branch, Entry, Slot}
+use Rattle.mv_isa.specs.Code.{StandsOnce, LineFits}
+use Rattle.mv_linker.specs.declared.parts.Parts.{Parts}
+use Rattle.mv_linker.specs.declared.parts.Datum.{Datum}
+use Rattle.mv_linker.specs.declared.parts.Datum.TheVariants.{Number, Function}
+use Rattle.mv_linker.specs.declared.joined.Joined.{Joined}
+
+-- ---- labels. In the linked code the label of a function's entry is the function's number. Behind those of all functions come the own labels of
+-- each function in order, and the label of a trap's stub stays as it is.
+
+-- the label of the stub of a trap, 1 to 4
+abbrev pub trap_label : ℕ → ℕ
+trap_label c = 4294967289 + c
+
+-- what a label becomes of a function with so many own labels, which are counted from a first one on
+abbrev pub own : (first count : ℕ) → ℕ → ℕ
+own first count l = if nat_lt l count then first + l else l
+
+-- a line with its own labels renamed
+abbrev pub relabelled : (first count : ℕ) → Line → Line
+relabelled first count (Word instr) = Word instr
+relabelled first count (Label l) = Label (own first count l)
+relabelled first count (Jump rd l) = Jump rd (own first count l)
+relabelled first count (Branch funct3 rs1 rs2 l) = Branch funct3 rs1 rs2 (own first count l)
+relabelled first count (Entry rd f) = Entry rd f
+relabelled first count (Slot f) = Slot f
+
+-- ---- lines
+
+-- the stack pointer at the end of the stack, 512 calls left, a call of a function, and the exit with its result
+abbrev pub start_lines : (main : ℕ) → List Line
+start_lines main = Word (Lui 2 (pos 0x400)) ∷ Word (Addi 27 0 (pos 512)) ∷ Jump 1 main ∷ Word (Addi 17 0 (pos 0)) ∷ Word Ecall ∷ []
+
+-- the stub of a trap: the environment call of its code
+abbrev pub trap_lines : (c : ℕ) → List Line
+trap_lines c = Label (trap_label c) ∷ Word (Addi 10 0 (pos c)) ∷ Word (Addi 17 0 (pos 3)) ∷ Word Ecall ∷ []
+
+abbrev pub stub_lines : (main : ℕ) → List Line
+stub_lines main = start_lines main ++ (trap_lines 1 ++ (trap_lines 2 ++ (trap_lines 3 ++ trap_lines 4)))
+
+-- the code of a function behind the label of its entry, with its own labels counted from a first one on
+abbrev pub function_part : (f first : ℕ) → Labelled → List Line
+function_part f first code = Label f ∷ map (relabelled first code.labels) code.items
+
+-- the parts of functions in order, from a number and a first label on
+abbrev pub function_parts : (f first : ℕ) → List Labelled → List Line
+function_parts f first [] = []
+function_parts f first (code ∷ rest) = function_part f first code ++ function_parts (f + 1) (first + code.labels) rest
+
+-- the stubs, and the functions behind them
+abbrev pub linked_lines : Parts → List Line
+linked_lines parts = stub_lines parts.main ++ function_parts 0 (length parts.functions) parts.functions
+
+-- ---- places
+
+-- how many own labels functions have
+abbrev pub label_count : List Labelled → ℕ
+label_count functions = sum_by (λ (code : Labelled). code.labels) functions
+
+-- the first own label of a function in the linked code
+abbrev pub first_label : List Labelled → (f : ℕ) → ℕ
+first_label functions f = length functions + label_count (take f functions)
+
+-- how many lines the parts of functions have
+abbrev pub line_count : List Labelled → ℕ
+line_count functions = sum_by (λ (code : Labelled). 1 + length code.items) functions
+
+-- the index at which a function's part begins, behind the 21 lines of the stubs
+abbrev pub part_index : List Labelled → (f : ℕ) → ℕ
+part_index functions f = 21 + line_count (take f functions)
+
+-- ---- parts
+
+abbrev pub IsTrapLabel : ℕ → Type 0
+IsTrapLabel l = (trap_label 1 ≤ l) × (l ≤ trap_label 4)
+
+-- an own label of a function that stands in its code once
+abbrev pub IsOwnLabel : Labelled → ℕ → Type 0
+IsOwnLabel code l = (l < code.labels) × StandsOnce code.items l
+
+-- a label that a jump or a branch of a function may name
+abbrev pub IsTarget : Labelled → ℕ → Type 0
+IsTarget code l = IsOwnLabel code l ⊎ IsTrapLabel l
+
+-- a label of a function's code is an own one, and what its lines name is there, among so many functions
+abbrev pub NamesAreThere : (functions : ℕ) → Labelled → Line → Type 0
+NamesAreThere functions code (Word instr) = Unit {0}
+NamesAreThere functions code (Label l) = l < code.labels
+NamesAreThere functions code (Jump rd l) = IsTarget code l
+NamesAreThere functions code (Branch funct3 rs1 rs2 l) = IsTarget code l
+NamesAreThere functions code (Entry rd f) = f < functions
+NamesAreThere functions code (Slot f) = f < functions
+
+-- the code of one of so many functions
+pub record IsFunction (functions : ℕ) (code : Labelled) : Type 0 where
+  pub fields : All LineFits code.items
+  pub names : All (NamesAreThere functions code) code.items
+
+-- a function that data names is one of so many
+abbrev pub IsDatum : (functions : ℕ) → Datum → Type 0
+IsDatum functions (Number n) = Unit {0}
+IsDatum functions (Function f) = f < functions
+
+-- what can be linked: what is named is there, and there are numbers for all labels below those of the traps
+pub record AreParts (parts : Parts) : Type 0 where
+  pub main : parts.main < length parts.functions
+  pub functions : All (IsFunction (length parts.functions)) parts.functions
+  pub globals : All (IsDatum (length parts.functions)) parts.globals
+  pub labels : length parts.functions + label_count parts.functions < trap_label 1
+
+-- the lines of parts, and the index at which each function begins
+pub record IsJoined (parts : Parts) (joined : Joined) : Type 0 where
+  pub lines : joined.code.items ≡ linked_lines parts
+  pub one_each : length joined.entries ≡ length parts.functions
+  pub each : (f : ℕ) → f < length parts.functions → slice_index joined.entries f ≡ part_index parts.functions f

@@ -1,0 +1,9 @@
+ghost use Rattle.mv_linker.specs.Laws.{LinesFit, StubsStand, FunctionsStand};
+
+/// The lines of parts may be assembled, and the stubs and the part of each function stand in them. The call does nothing: its
+/// contract is the law.
+pub fn linking_law()
+    ensures fits { LinesFit }
+    ensures stubs { StubsStand }
+    ensures functions { FunctionsStand }
+{}

@@ -1,0 +1,1 @@
+//! Two functions that are linked.
