@@ -1,5 +1,5 @@
 -- What the run of an image does, by what a program means.
-use Rattle.std.specs.Prelude.{ℕ, ◌≡◌, ◌+◌, ◌-◌, ◌*◌, ◌≤◌, List, [], length}
+use Rattle.std.specs.Prelude.{ℕ, ◌≡◌, ◌+◌, ◌-◌, ◌*◌, ◌^◌, ◌<◌, ◌≤◌, List, [], length, All}
 use Rattle.mv_ast.specs.declared.program.Program.{Program}
 use Rattle.mv_image.specs.Spelling.{Fields}
 use Rattle.mv_machine.specs.Runs.{State, Stop, Going, Exit, Trap, Fault, bytes_to_come, choices_at, runs}
@@ -48,3 +48,7 @@ pub record Behaves (p : Program) (image : Fields) (bytes picks : List ℕ) : Typ
   pub ends : (n : ℕ) → EndsRight bytes (runs image (bytes_to_come bytes) picks n) (mean p bytes [] n) (runs image (bytes_to_come bytes) picks n).stop
   pub does : (n k : ℕ) → 100 * (1 + (mean p bytes [] k).work) ≤ n → HasDone (runs image (bytes_to_come bytes) picks n) (mean p bytes [] k)
   pub fetches : (n : ℕ) → (runs image (bytes_to_come bytes) picks n).stop ≡ Going → choices_at (runs image (bytes_to_come bytes) picks n) ≡ 1
+
+-- It does so on each input of bytes, whatever is picked.
+abbrev pub BehavesAlways : Program → Fields → Type 0
+BehavesAlways p image = (bytes picks : List ℕ) → All (λ b. b < 2 ^ 8) bytes → Behaves p image bytes picks

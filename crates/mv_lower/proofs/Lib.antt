@@ -5,5 +5,3 @@ pub mod Declaring
 pub mod Bodies
 pub mod Marking
 pub mod Small
-pub mod Idle
-pub mod Leaves

@@ -13,8 +13,6 @@ mod function;
 mod names;
 mod statement;
 mod switch;
-#[cfg(test)]
-mod tests;
 
 use crate::function::lower_functions;
 use mv_ast::program::Program;
@@ -39,8 +37,9 @@ pub fn lower(alloc: Global, program: &Program) -> Result<IrProgram, AllocError>
     lower_each(alloc, program)
 }
 
-// The program as it stands, beside its bodies.
-fn lower_each(alloc: Global, program: &Program) -> Result<IrProgram, AllocError>
+/// The program as it stands, beside its bodies, where it is small enough for the numbers of temporaries and blocks. No
+/// more is asked of it, so nothing is said of what the code means.
+pub fn lower_each(alloc: Global, program: &Program) -> Result<IrProgram, AllocError>
     requires { IsSmall program.now }
     ensures { IfOk result (λ ir. ir ≡ lower_program program.now) }
 {

@@ -4,4 +4,3 @@ pub mod Arguments
 pub mod Elements
 pub mod Sizes
 pub mod Forms
-pub mod Leaves

@@ -6,7 +6,5 @@ mod control;
 pub mod expression;
 mod operands;
 mod place;
-#[cfg(test)]
-mod tests;
 mod tree;
 pub mod value;

@@ -7,3 +7,5 @@ mod clone;
 mod fold;
 #[cfg(test)]
 mod merge;
+#[cfg(test)]
+mod regalloc;

@@ -1,15 +1,13 @@
 -- The spans of a body's temporaries, from its rows.
-use Rattle.std.proofs.Common.{arith, ◌≡◌, ℕ, zero, suc, ◌+◌, ◌/◌, ◌<◌, ◌≤◌, Bool, true, false, cond, eqb, ltb, not, ◌&&◌, ◌||◌, List, [], ◌∷◌, length, map, refl, sym, ap, ◌∙◌, subst, ◌⊎◌, inl, inr}
+use Rattle.std.proofs.Common.{arith, ◌≡◌, ℕ, zero, suc, ◌<◌, ◌≤◌, Bool, true, false, cond, eqb, ltb, ◌||◌, List, ◌∷◌, length, map, refl, sym, ap, ◌∙◌, ◌⊎◌, inl, inr}
 use Rattle.std.specs.Prelude.{slice_index, replicate}
 use Rattle.std.proofs.lemmas.List.{length-set}
 use Rattle.std.proofs.lemmas.Bool.{cases_eq, cases_lt, lt-ltb, le-ltb, eq-eqb, ne_eqb}
 use Rattle.mv_ir.specs.declared.body.Body.{Body}
-use Rattle.mv_ir.specs.Live.{mark_at, any, marks_length, live_in_order, marks_in_order, flow, nowhere, live_at_start, all_marks}
-use Rattle.mv_regalloc.specs.Rows.{Bits, sets, live_before, rows_in_order, stm_rows, no_sets}
+use Rattle.mv_ir.specs.Live.{mark_at, marks_length, live_in_order, marks_in_order, flow, nowhere, live_at_start, all_marks}
+use Rattle.mv_regalloc.specs.Rows.{Bits, live_before, rows_in_order, stm_rows, no_sets}
 use Rattle.mv_regalloc.specs.Spanned.{SpanTable, column, from_first, behind_last, AreRowSpans, AreSpansOf, with_params}
-use Rattle.mv_regalloc.specs.LiveBits.{in_word, word_bit}
 use Rattle.mv_regalloc.proofs.RowBits.{set_bit}
-use Rattle.mv_regalloc.proofs.WordBits.{none_in}
 use Rattle.mv_regalloc.proofs.RowsShow.{ListShows, body_shows, seen_nowhere}
 use Rattle.mv_regalloc.proofs.RowsLong.{code_rows_long}
 use Rattle.mv_regalloc.proofs.Marks.{code_long}

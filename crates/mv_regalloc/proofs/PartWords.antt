@@ -1,5 +1,5 @@
 -- Words by their places in parts: one step of the way to a word, and what a new part changes.
-use Rattle.std.proofs.Common.{arith, ◌≡◌, ℕ, zero, suc, ◌-◌, ◌/◌, ◌%◌, ◌<◌, ◌≤◌, true, false, Bool, cond, eqb, not, List, [], ◌∷◌, ◌++◌, length, refl, sym, ap, ◌∙◌, ◌⊎◌, inl, inr, bit_or, ◌*◌, ◌||◌, ◌+◌, subst}
+use Rattle.std.proofs.Common.{arith, ◌≡◌, ℕ, zero, suc, ◌-◌, ◌/◌, ◌%◌, ◌<◌, ◌≤◌, true, false, Bool, cond, eqb, List, [], ◌∷◌, ◌++◌, length, refl, sym, ap, ◌∙◌, ◌⊎◌, inl, inr, bit_or, ◌*◌, ◌+◌, subst}
 use Rattle.std.proofs.lemmas.List.{get_or_append_left, get_or_past, length-append}
 use Rattle.std.proofs.Math.Seq.{get_or-append_seam}
 use Rattle.std.proofs.lemmas.Bool.{cases_eq, cases_lt, eq-eqb, ne_eqb}
@@ -10,8 +10,7 @@ use Rattle.std.specs.Int.Bits.{or_zero_l}
 use Rattle.std.proofs.lemmas.List.Elements.{All-weaker}
 use Rattle.mv_regalloc.specs.declared.joins.Join.{Join}
 use Rattle.mv_regalloc.specs.declared.parts.Part.{Part}
-use Rattle.mv_regalloc.specs.Scan.{has}
-use Rattle.mv_regalloc.specs.Parts.{AreJoined, IsJoin, no_part, part_at, further, word_within, word_of, AreParts, Keeps}
+use Rattle.mv_regalloc.specs.Parts.{IsJoin, no_part, part_at, further, word_within, word_of, AreParts, Keeps}
 
 pub if_ok_by : {T E : Type 0} {P Q : T → Type 0} (r : Result T E) → ((x : T) → P x → Q x) → IfOk r P → IfOk r Q
 if_ok_by {P} {Q} r h k = IfOk-weaker r P Q h k

@@ -2,7 +2,7 @@
 use Rattle.std.proofs.Common.{arith, ◌≡◌, ℕ, suc, ◌+◌, ◌-◌, ◌<◌, Bool, true, false, cond, ◌||◌, List, [], ◌∷◌, length, drop, get_or, refl, sym, ap, ◌∙◌}
 use Rattle.std.specs.Prelude.{slice_set}
 use Rattle.std.proofs.lemmas.List.{drop_more}
-use Rattle.mv_ir.specs.Live.{mark_at, any, marks_length}
+use Rattle.mv_ir.specs.Live.{any, marks_length}
 use Rattle.mv_regalloc.specs.Rows.{Bits}
 use Rattle.mv_regalloc.specs.Spanned.{column, from_first, behind_last, with_params}
 

@@ -1,11 +1,11 @@
 -- Sets that share their parts: what an edit of words does to the bits, and that the other sets stay as they are.
-use Rattle.std.proofs.Common.{arith, ◌≡◌, ℕ, zero, suc, ◌<◌, ◌≤◌, ◌/◌, Bool, true, false, cond, eqb, ltb, ◌&&◌, ◌||◌, List, [], ◌∷◌, ◌++◌, length, drop, map, reverse, refl, sym, ap, ◌∙◌, ◌⊎◌, inl, inr, bit_or, subst}
+use Rattle.std.proofs.Common.{arith, ◌≡◌, ℕ, zero, suc, ◌<◌, ◌≤◌, ◌/◌, Bool, false, cond, eqb, ◌||◌, List, [], ◌∷◌, ◌++◌, length, drop, map, reverse, refl, sym, ap, ◌∙◌, ◌⊎◌, inl, inr, bit_or, subst}
 use Rattle.std.specs.Prelude.{slice_set, slice_index_or, replicate, Option, Some, None, option_to_list}
 use Rattle.std.specs.List.{All, range_with_len}
 use Rattle.std.proofs.lemmas.List.{drop-map, reverse-append, append-nil, length-set, length-replicate, get_or-replicate}
 use Rattle.std.proofs.lemmas.List.Elements.{All-cons, All-drop}
 use Rattle.std.proofs.lemmas.List.FromFn.{length-map-range_with_len, get_or-map-range_with_len}
-use Rattle.std.proofs.lemmas.Bool.{cases_eq, cases_lt, lt-ltb, le-ltb, eq-eqb, ne_eqb}
+use Rattle.std.proofs.lemmas.Bool.{cases_eq, eq-eqb, ne_eqb}
 use Rattle.mv_ir.specs.Live.{mark_at}
 use Rattle.mv_regalloc.specs.declared.liveness.Level.{Level}
 use Rattle.mv_regalloc.specs.declared.parts.Part.{Part}

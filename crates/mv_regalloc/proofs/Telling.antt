@@ -1,5 +1,5 @@
 -- Temporaries told, a part after the other and a row after the other.
-use Rattle.std.proofs.Common.{arith, ◌≡◌, ℕ, zero, suc, ◌+◌, ◌-◌, ◌*◌, ◌/◌, ◌<◌, ◌≤◌, Bool, true, false, cond, eqb, not, ◌&&◌, ◌||◌, List, [], ◌∷◌, length, drop, map, reverse, refl, sym, ap, ◌∙◌, subst, ◌⊎◌, inl, inr, None, Some}
+use Rattle.std.proofs.Common.{arith, ◌≡◌, ℕ, suc, ◌+◌, ◌-◌, ◌*◌, ◌/◌, ◌<◌, ◌≤◌, Bool, true, false, cond, eqb, not, ◌&&◌, ◌||◌, List, [], ◌∷◌, length, drop, map, reverse, refl, sym, ap, ◌∙◌, subst, ◌⊎◌, inl, inr, None}
 use Rattle.std.specs.Prelude.{slice_index, slice_index_or, replicate}
 use Rattle.std.proofs.lemmas.Bool.{cases_eq, eq-eqb, ne_eqb}
 use Rattle.std.proofs.lemmas.List.{drop_all, drop_more, get_or-map, get_or-reverse, length-drop, length-map, length-reverse}
@@ -8,13 +8,13 @@ use Rattle.mv_regalloc.specs.declared.parts.Part.{Part}
 use Rattle.mv_regalloc.specs.declared.told.Firsts.{Firsts}
 use Rattle.mv_regalloc.specs.declared.told.Places.{Places}
 use Rattle.mv_regalloc.specs.LiveBits.{in_word, word_bit}
-use Rattle.mv_regalloc.specs.Parts.{AreParts, part_at, word_of}
+use Rattle.mv_regalloc.specs.Parts.{part_at, word_of}
 use Rattle.mv_regalloc.specs.Rows.{Bits}
 use Rattle.mv_regalloc.specs.Shared.{bits_at}
 use Rattle.mv_regalloc.specs.Spanned.{AreCounts, behind_last, column, from_first}
 use Rattle.mv_regalloc.specs.Told.{AreSeen, AreTold, IsAllTold, IsPartTold, IsPut, IsRowTold}
 use Rattle.mv_regalloc.proofs.BodySpans.{long_zeros, zeros_at}
-use Rattle.mv_regalloc.proofs.PartWords.{at_each, even_place, even_word, none_words, odd_place, odd_word, word_here}
+use Rattle.mv_regalloc.proofs.PartWords.{at_each, even_place, even_word, odd_place, odd_word, word_here}
 use Rattle.mv_regalloc.proofs.Positions.{column_long, none_last}
 use Rattle.mv_regalloc.proofs.Putting.{put_as, put_none}
 use Rattle.mv_regalloc.proofs.SharedSets.{bit_in}

@@ -1,5 +1,5 @@
 -- What is live where a walk stands, with the sets that it keeps, over sets that share their parts.
-use Rattle.std.specs.Prelude.{ℕ, ◌≡◌, ◌/◌, ◌<◌, false, List, ◌∷◌, ◌++◌, drop, length, map, replicate, reverse, slice_index_or}
+use Rattle.std.specs.Prelude.{ℕ, ◌/◌, ◌<◌, false, List, ◌∷◌, ◌++◌, drop, length, map, replicate, reverse, slice_index_or}
 use Rattle.std.specs.List.{All, range_with_len}
 use Rattle.mv_regalloc.specs.declared.liveness.Level.{Level}
 use Rattle.mv_regalloc.specs.declared.liveness.Numbers.{Numbers}

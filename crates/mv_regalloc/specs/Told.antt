@@ -1,5 +1,5 @@
 -- Temporaries told row by row: each gets the value of the first row that has it.
-use Rattle.std.specs.Prelude.{ℕ, ◌≡◌, ◌+◌, ◌*◌, ◌/◌, ◌<◌, Bool, true, false, cond, not, ◌&&◌, ◌||◌, List, length, slice_index, slice_index_or, Option, Some, None}
+use Rattle.std.specs.Prelude.{ℕ, ◌≡◌, ◌+◌, ◌*◌, ◌/◌, ◌<◌, Bool, true, false, cond, not, ◌&&◌, ◌||◌, List, length, slice_index, slice_index_or, Some, None}
 use Rattle.mv_regalloc.specs.declared.told.Firsts.{Firsts}
 use Rattle.mv_regalloc.specs.declared.told.Places.{Places}
 use Rattle.mv_regalloc.specs.declared.parts.Part.{Part}

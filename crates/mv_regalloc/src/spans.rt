@@ -8,15 +8,15 @@ ghost use Rattle.mv_regalloc.specs.Spanned.{AreSpansOf};
 
 use crate::live::{live_loop, live_params, live_plain};
 use crate::liveness::{Liveness, Row};
-use crate::table::Spans;
+pub use crate::table::Spans;
 use mv_ir::body::Body;
 use mv_ir::stm::Stm;
 use mv_num::list::List;
 use std::alloc::{AllocError, Global};
 
-/// Walks over some code from its end, as `live_code` does, and marks its positions.
+// Walks over some code from its end, as `live_code` does, and marks its positions.
 #[cycle(spans)]
-pub fn mark_code(alloc: Global, code: &List<Stm>, liveness: &mut Liveness) -> Result<(), AllocError>
+fn mark_code(alloc: Global, code: &List<Stm>, liveness: &mut Liveness) -> Result<(), AllocError>
     ensures { OnOk result (liveness.new ≡ walked liveness.old
         (live_before (map stm_rows code.now) (sets liveness.old.around liveness.old.live))
         (rows_in_order (map stm_rows code.now) (sets liveness.old.around liveness.old.live))) }

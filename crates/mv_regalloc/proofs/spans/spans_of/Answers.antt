@@ -1,4 +1,4 @@
-use Rattle.std.proofs.Common.{◌≡◌, [], ◌∷◌, length, map, sym, ap, ◌∙◌, subst}
+use Rattle.std.proofs.Common.{◌≡◌, [], ◌∷◌, length, map, ap, ◌∙◌, subst}
 use Rattle.std.proofs.lemmas.List.{append-nil}
 use Rattle.mv_regalloc.specs.Rows.{live_before, rows_in_order, sets, stm_rows}
 use Rattle.mv_regalloc.specs.Shared.{LiveSets, walked, with_live, with_rows}

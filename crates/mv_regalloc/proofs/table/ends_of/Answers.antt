@@ -1,4 +1,4 @@
-use Rattle.std.proofs.Common.{◌-◌, ◌≤◌, length, map, reverse, arith}
+use Rattle.std.proofs.Common.{◌-◌, length, map, reverse, arith}
 use Rattle.std.proofs.lemmas.List.{drop_all}
 use Rattle.mv_regalloc.specs.Shared.{bits_at}
 use Rattle.mv_regalloc.proofs.Telling.{all_long, ends_done, ends_next, ends_none}

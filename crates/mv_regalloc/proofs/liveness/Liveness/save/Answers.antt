@@ -1,7 +1,5 @@
 use Rattle.std.proofs.Common.{◌<◌, length, sym, ap, ◌∙◌, subst}
-use Rattle.mv_ir.specs.Live.{mark_at}
 use Rattle.mv_regalloc.specs.Shared.{AreWithin, bits_at, numbered, row_of, sets_at, with_saved}
-use Rattle.mv_regalloc.proofs.BodySpans.{clear_at}
 use Rattle.mv_regalloc.proofs.SharedSets.{row_at, row_within, save_at, save_within}
 use Rattle.mv_regalloc.proofs.liveness.Liveness.save.Goals as goal
 

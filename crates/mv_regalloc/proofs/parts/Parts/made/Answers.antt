@@ -1,5 +1,4 @@
-use Rattle.std.proofs.Common.{◌<◌, ◌∷◌, [], ◌++◌, List, length, sym, subst}
-use Rattle.mv_regalloc.specs.declared.parts.Part.{Part}
+use Rattle.std.proofs.Common.{◌<◌, ◌∷◌, [], ◌++◌, length, sym, subst}
 use Rattle.mv_regalloc.specs.Parts.{AreJoined, Keeps}
 use Rattle.mv_regalloc.proofs.PartWords.{joins_kept, push_are, push_keeps}
 use Rattle.mv_regalloc.proofs.parts.Parts.made.Goals as goal

@@ -1,4 +1,3 @@
-use Rattle.std.proofs.Common.{sym, subst}
 use Rattle.std.proofs.lemmas.List.Elements.{All-same, All-replicate}
 use Rattle.mv_regalloc.specs.declared.joins.Join.{Join}
 use Rattle.mv_regalloc.specs.Parts.{IsJoin, no_join}

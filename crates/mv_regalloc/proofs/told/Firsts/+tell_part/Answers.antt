@@ -1,4 +1,4 @@
-use Rattle.std.proofs.Common.{◌≡◌, ℕ, ap, ◌∙◌}
+use Rattle.std.proofs.Common.{ap, ◌∙◌}
 use Rattle.mv_regalloc.specs.Parts.{word_of}
 use Rattle.mv_regalloc.proofs.Telling.{call_told, none_seen, part_same, part_seen}
 use Rattle.mv_regalloc.proofs.told.Firsts.+tell_part.Goals as goal

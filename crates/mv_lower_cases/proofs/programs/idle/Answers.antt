@@ -1,8 +1,8 @@
 use Rattle.std.proofs.Common.{◌≡◌, subst}
 use Rattle.mv_ast.specs.declared.program.Program.{Program}
 use Rattle.mv_lowered_programs.specs.WellFormed.{IsWellFormed}
-use Rattle.mv_lower.proofs.Idle.{program, idle_formed}
-use Rattle.mv_lower.proofs.tests.idle.Goals as goal
+use Rattle.mv_lower_cases.proofs.Idle.{program, idle_formed}
+use Rattle.mv_lower_cases.proofs.programs.idle.Goals as goal
 
 pub returns : goal.returns
 returns g c =

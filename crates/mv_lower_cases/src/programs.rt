@@ -1,92 +1,25 @@
-//! Each form of statement once, and small programs. What counts is how many statements they become, worked out by hand.
-#![tactic(auto, using(crate::proofs::StatementForms::sizes, mv_lower_expressions::proofs::Forms::sizes, mv_lower_expressions::proofs::Leaves::leaf_sizes, crate::proofs::Leaves::leaf_sizes))]
+//! Small programs, and the code that they are lowered to, worked out by hand.
+#![tactic(auto, using(mv_lower::proofs::StatementForms::sizes, mv_lower_expressions::proofs::Forms::sizes, crate::proofs::Leaves::expression_leaves, crate::proofs::Leaves::statement_leaves))]
 
-ghost use Rattle.std.specs.Prelude.{◌≡◌, ◌+◌, ◌*◌, ◌≤◌, ◌<◌, ◌∷◌, [], length};
+ghost use Rattle.std.specs.Prelude.{◌≡◌, ◌*◌, ◌≤◌, ◌∷◌, [], length};
 ghost use Rattle.mv_lowered_programs.specs.WellFormed.{IsWellFormed};
 ghost use Rattle.mv_lower_expressions.specs.Expressions.{expr_size};
 ghost use Rattle.mv_lower.specs.Programs.{HasRoom, IsSmall};
 ghost use Rattle.mv_lower.specs.Statements.{stmt_size, stmts_size, arm_size, arms_size};
 
-use crate::code::Jumps;
-use crate::statement::lower_stmts;
-use crate::{lower, lower_each};
+use crate::pieces::{INT, byte, count, five, pair, single};
 use mv_ast::program::{
-    Arm, CType, Expr, Form, Function, Global as Variable, Known, Local, Program, Stmt, Switch,
-    Target,
+    Arm, Expr, Form, Function, Global as Variable, Local, Program, Stmt, Switch, Target,
 };
 use mv_ir::body::{Body, Room};
 use mv_ir::stm::Stm;
 use mv_ir::tree::Tree;
+use mv_lower::{lower, lower_each};
 use mv_num::boxed::Boxed;
-use mv_num::kind::Kind;
 use mv_num::list::List;
 use mv_num::text::Text;
 use std::alloc::Global;
 use std::process::Abort;
-
-#[cycle(counting)]
-fn count(code: &List<Stm>) -> u64 {
-    let mut all = 0u64;
-    for stm in code.as_slice() {
-        all = all.wrapping_add(count_inside(stm)).wrapping_add(1);
-    }
-    all
-}
-
-#[cycle(counting)]
-fn count_inside(stm: &Stm) -> u64 {
-    match stm {
-        Stm::If(_, a, b) => count(a).wrapping_add(count(b)),
-        Stm::Loop(body) => count(body),
-        Stm::Block(body) => count(body),
-        _ => 0,
-    }
-}
-
-fn single<T: Drop>(rt: &impl Abort, alloc: Global, item: T) -> List<T>
-    ensures { result ≡ item ∷ [] }
-{
-    let mut list = List::new(alloc);
-    list.push(item).expect(rt, "memory");
-    list
-}
-
-fn pair<T: Drop>(rt: &impl Abort, alloc: Global, first: T, second: T) -> List<T>
-    ensures { result ≡ first ∷ second ∷ [] }
-{
-    let mut list = single(rt, alloc, first);
-    list.push(second).expect(rt, "memory");
-    list
-}
-
-const INT: CType = CType::Scalar(Kind::Int);
-
-// `5`, which takes no statement.
-fn five() -> Expr
-    ensures { expr_size result ≤ 9 }
-{
-    Expr {
-        ctype: INT,
-        what: Form::Number(5),
-    }
-}
-
-// `getchar()`, which takes one.
-fn byte(alloc: Global) -> Expr
-    ensures { expr_size result ≤ 9 }
-{
-    Expr {
-        ctype: INT,
-        what: Form::Known(Known::Getchar, List::new(alloc)),
-    }
-}
-
-// `getchar();`
-fn step(rt: &impl Abort, alloc: Global) -> List<Stmt>
-    ensures { stmts_size result ≤ 10 }
-{
-    single(rt, alloc, Stmt::Express(byte(alloc)))
-}
 
 // A function of type `int`, attributed where it has switches.
 fn function(
@@ -97,7 +30,7 @@ fn function(
     body: List<Stmt>,
 ) -> Function
     requires few { length locals ≤ 9 }
-    requires small { stmts_size body ≤ 99 }
+    requires small { stmts_size body ≤ 999999 }
     ensures locals { result.locals ≡ locals }
     ensures room { HasRoom result }
 {
@@ -112,57 +45,22 @@ fn function(
     }
 }
 
-// What a statement becomes in a function with a scalar and an array of four elements.
-fn lowered(rt: &impl Abort, alloc: Global, s: Stmt) -> List<Stm>
-    requires { stmt_size s ≤ 999999 }
+fn program(
+    globals: List<Variable>,
+    functions: List<Function>,
+    switches: List<Switch>,
+    alloc: Global,
+) -> Program
+    ensures globals { result.globals ≡ globals }
+    ensures functions { result.functions ≡ functions }
 {
-    let scalar = Local {
-        ctype: INT,
-        size: None,
-    };
-    let array = Local {
-        ctype: INT,
-        size: Some(4),
-    };
-    let locals = pair(rt, alloc, scalar, array);
-    let function = function(rt, alloc, locals, List::new(alloc), List::new(alloc));
-    let outermost = Jumps {
-        leave: 0,
-        again: 0,
-        around: 0,
-    };
-    let body = single(rt, alloc, s);
-    let code = lower_stmts(alloc, &function, &body, outermost).expect(rt, "memory");
-    code.code
-}
-
-fn counted(rt: &impl Abort, alloc: Global, s: Stmt) -> u64
-    requires { stmt_size s ≤ 999999 }
-{
-    count(&lowered(rt, alloc, s))
-}
-
-#[test]
-fn plain_statements(rt: HostRuntime) {
-    let a = rt.alloc();
-    assert_eq!(rt; counted(&rt, a, Stmt::Block(step(&rt, a))), 1);
-    assert_eq!(rt; counted(&rt, a, Stmt::Clear(0, single(&rt, a, five()))), 1);
-    assert_eq!(rt; counted(&rt, a, Stmt::Clear(1, List::new(a))), 1);
-    assert_eq!(rt; counted(&rt, a, Stmt::Express(byte(a))), 1);
-    assert_eq!(rt; counted(&rt, a, Stmt::Break), 1);
-    assert_eq!(rt; counted(&rt, a, Stmt::Continue), 1);
-    assert_eq!(rt; counted(&rt, a, Stmt::Return(None)), 1);
-    assert_eq!(rt; counted(&rt, a, Stmt::Return(Some(five()))), 1);
-}
-
-#[test]
-fn loops(rt: HostRuntime) {
-    let a = rt.alloc();
-    // a `Loop`, an `If`, the `Block` of the body, the body, and the jump out of the loop
-    assert_eq!(rt; counted(&rt, a, Stmt::While(five(), step(&rt, a))), 5);
-    assert_eq!(rt; counted(&rt, a, Stmt::Do(step(&rt, a), five())), 5);
-    let all = Stmt::For(step(&rt, a), None, Some(byte(a)), step(&rt, a));
-    assert_eq!(rt; counted(&rt, a, all), 7);
+    Program {
+        signatures: List::new(alloc),
+        globals,
+        functions,
+        switches,
+        main: 0,
+    }
 }
 
 // Two labels in front of a statement, or `default`.
@@ -182,17 +80,24 @@ fn arm(rt: &impl Abort, alloc: Global, other: bool, body: List<Stmt>) -> Arm
     }
 }
 
-#[test]
-fn choices(rt: HostRuntime) {
-    let a = rt.alloc();
-    let choice = Stmt::If(five(), step(&rt, a), step(&rt, a));
-    assert_eq!(rt; counted(&rt, a, choice), 3);
-    // the value put away; a block round all, and one round the tests; two tests with the place and the jump, and the place of
-    // `default`; for each arm a choice, its statement, and the first place again
-    let labelled = arm(&rt, a, false, step(&rt, a));
-    let last = arm(&rt, a, true, single(&rt, a, Stmt::Break));
-    let switch = Stmt::Switch(five(), pair(&rt, a, labelled, last));
-    assert_eq!(rt; counted(&rt, a, switch), 16);
+// `int f(void) { int i, t[4]; switch (5) { arms } }`
+fn switching(rt: &impl Abort, alloc: Global, arms: List<Arm>) -> Program
+    requires { arms_size arms ≤ 900000 }
+    ensures { IsSmall result }
+{
+    let scalar = Local {
+        ctype: INT,
+        size: None,
+    };
+    let array = Local {
+        ctype: INT,
+        size: Some(4),
+    };
+    let locals = pair(rt, alloc, scalar, array);
+    let body = single(rt, alloc, Stmt::Switch(five(), arms));
+    let f = function(rt, alloc, locals, List::new(alloc), body);
+    let functions = single(rt, alloc, f);
+    program(List::new(alloc), functions, List::new(alloc), alloc)
 }
 
 // `If temp 2 == label { temp 2 := place; Break 0 }`
@@ -228,9 +133,14 @@ fn are_tests(tests: &List<Stm>) -> bool {
     }
 }
 
+// The value put away, the block round all, and the end of the function.
 fn is_flat(code: &List<Stm>) -> bool {
     match code.as_slice() {
-        [Stm::Set(2, Tree::Number(5)), Stm::Block(whole)] => match whole.as_slice() {
+        [
+            Stm::Set(2, Tree::Number(5)),
+            Stm::Block(whole),
+            Stm::Return(Tree::Number(0)),
+        ] => match whole.as_slice() {
             [Stm::Block(tests), first, last] => {
                 are_tests(tests) && is_arm(first, 0) && is_arm(last, 1)
             }
@@ -243,10 +153,15 @@ fn is_flat(code: &List<Stm>) -> bool {
 #[test]
 fn the_arms_of_a_switch_stand_side_by_side(rt: HostRuntime) {
     let a = rt.alloc();
-    let labelled = arm(&rt, a, false, step(&rt, a));
+    let labelled = arm(&rt, a, false, single(&rt, a, Stmt::Express(byte(a))));
     let last = arm(&rt, a, true, single(&rt, a, Stmt::Break));
-    let code = lowered(&rt, a, Stmt::Switch(five(), pair(&rt, a, labelled, last)));
-    assert!(rt; is_flat(&code));
+    let program = switching(&rt, a, pair(&rt, a, labelled, last));
+    let ir = lower_each(a, &program).expect(&rt, "memory");
+    let flat = match ir.bodies.as_slice() {
+        [body] => is_flat(&body.code),
+        _ => false,
+    };
+    assert!(rt; flat);
 }
 
 // Many arms with a label and a statement each.
@@ -264,9 +179,15 @@ fn many_arms(rt: &impl Abort, alloc: Global, count: u32) -> List<Arm>
 #[test]
 fn many_arms_are_lowered_and_let_go(rt: HostRuntime) {
     let a = rt.alloc();
-    let switch = Stmt::Switch(five(), many_arms(&rt, a, 30_000));
-    // the value put away, two blocks and the place of `default`; for each arm two tests and a statement of its own
-    assert_eq!(rt; counted(&rt, a, switch), 4 + 30_000 * 9);
+    let program = switching(&rt, a, many_arms(&rt, a, 30_000));
+    let ir = lower_each(a, &program).expect(&rt, "memory");
+    let counted = match ir.bodies.as_slice() {
+        [body] => count(&body.code),
+        _ => 0,
+    };
+    // the value put away, two blocks, the place of `default` and the end of the function; for each arm two tests and a
+    // statement of its own
+    assert_eq!(rt; counted, 5 + 30_000 * 9);
 }
 
 fn variable(rt: &impl Abort, alloc: Global, size: Option<u32>) -> Variable {
@@ -275,24 +196,6 @@ fn variable(rt: &impl Abort, alloc: Global, size: Option<u32>) -> Variable {
         ctype: INT,
         size,
         first: List::new(alloc),
-    }
-}
-
-fn program(
-    globals: List<Variable>,
-    functions: List<Function>,
-    switches: List<Switch>,
-    alloc: Global,
-) -> Program
-    ensures globals { result.globals ≡ globals }
-    ensures functions { result.functions ≡ functions }
-{
-    Program {
-        signatures: List::new(alloc),
-        globals,
-        functions,
-        switches,
-        main: 0,
     }
 }
 

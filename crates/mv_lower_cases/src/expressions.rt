@@ -1,47 +1,17 @@
 //! Each form of expression once. What counts is how many statements it becomes, worked out by hand.
-#![tactic(auto, using(crate::proofs::Forms::sizes, crate::proofs::Leaves::leaf_sizes))]
+#![tactic(auto, using(mv_lower_expressions::proofs::Forms::sizes, crate::proofs::Leaves::expression_leaves))]
 
-ghost use Rattle.std.specs.Prelude.{◌≡◌, ◌+◌, ◌≤◌, ◌<◌};
-ghost use Rattle.mv_lower_expressions.specs.Expressions.{expr_size, exprs_size, form_size, target_size};
+ghost use Rattle.std.specs.Prelude.{◌≡◌, ◌+◌, ◌≤◌};
+ghost use Rattle.mv_lower_expressions.specs.Expressions.{expr_size, exprs_size, form_size};
 
-use crate::expression::lower_expr;
-use mv_ast::program::{CType, Expr, Form, Known, Target};
-use mv_ir::stm::Stm;
+use crate::pieces;
+use crate::pieces::{INT, count, pair};
+use mv_ast::program::{Expr, Form, Known, Target};
+use mv_lower_expressions::expression::lower_expr;
 use mv_num::boxed::Boxed;
-use mv_num::kind::Kind;
 use mv_num::list::List;
 use std::alloc::Global;
 use std::process::Abort;
-
-#[cycle(counting)]
-fn count(code: &List<Stm>) -> u64 {
-    let mut all = 0u64;
-    for stm in code.as_slice() {
-        all = all.wrapping_add(count_inside(stm)).wrapping_add(1);
-    }
-    all
-}
-
-#[cycle(counting)]
-fn count_inside(stm: &Stm) -> u64 {
-    match stm {
-        Stm::If(_, a, b) => count(a).wrapping_add(count(b)),
-        Stm::Loop(body) => count(body),
-        Stm::Block(body) => count(body),
-        _ => 0,
-    }
-}
-
-// An expression of type `int`.
-fn int(what: Form) -> Expr
-    requires { form_size what ≤ 8 }
-    ensures { expr_size result ≤ 9 }
-{
-    Expr {
-        ctype: CType::Scalar(Kind::Int),
-        what,
-    }
-}
 
 fn boxed(rt: &impl Abort, alloc: Global, e: Expr) -> Boxed<Expr>
     ensures { result ≡ e }
@@ -53,38 +23,28 @@ fn boxed(rt: &impl Abort, alloc: Global, e: Expr) -> Boxed<Expr>
 fn five(rt: &impl Abort, alloc: Global) -> Boxed<Expr>
     ensures { expr_size result ≤ 9 }
 {
-    boxed(rt, alloc, int(Form::Number(5)))
+    boxed(rt, alloc, pieces::five())
 }
 
 // `getchar()`, which takes one.
 fn byte(rt: &impl Abort, alloc: Global) -> Boxed<Expr>
     ensures { expr_size result ≤ 9 }
 {
-    boxed(
-        rt,
-        alloc,
-        int(Form::Known(Known::Getchar, List::new(alloc))),
-    )
+    boxed(rt, alloc, pieces::byte(alloc))
 }
 
 // Two values in a list.
 fn both(rt: &impl Abort, alloc: Global, a: Boxed<Expr>, b: Boxed<Expr>) -> List<Expr>
     ensures { exprs_size result ≡ expr_size a + expr_size b }
 {
-    let mut list = List::new(alloc);
-    list.push(a.into_inner()).expect(rt, "memory");
-    list.push(b.into_inner()).expect(rt, "memory");
-    list
+    pair(rt, alloc, a.into_inner(), b.into_inner())
 }
 
 // How many statements stand where a form is lowered behind three locals.
 fn counted(rt: &impl Abort, alloc: Global, what: Form) -> u64
     requires { form_size what ≤ 99 }
 {
-    let e = Expr {
-        ctype: CType::Scalar(Kind::Int),
-        what,
-    };
+    let e = Expr { ctype: INT, what };
     let value = lower_expr(alloc, &e, 3).expect(rt, "memory");
     count(&value.code)
 }
@@ -138,14 +98,13 @@ fn reads_and_stores(rt: HostRuntime) {
 #[test]
 fn changes(rt: HostRuntime) {
     let a = rt.alloc();
-    let int = CType::Scalar(Kind::Int);
-    let local = Form::Change(12, int, Target::Local(0), byte(&rt, a));
+    let local = Form::Change(12, INT, Target::Local(0), byte(&rt, a));
     assert_eq!(rt; counted(&rt, a, local), 2);
-    let global = Form::Change(12, int, Target::Global(0), byte(&rt, a));
+    let global = Form::Change(12, INT, Target::Global(0), byte(&rt, a));
     assert_eq!(rt; counted(&rt, a, global), 3);
     // of an element also the right side is put away, and the old value read
     let element = Target::LocalAt(2, five(&rt, a));
-    let element = Form::Change(12, int, element, byte(&rt, a));
+    let element = Form::Change(12, INT, element, byte(&rt, a));
     assert_eq!(rt; counted(&rt, a, element), 7);
     assert_eq!(rt; counted(&rt, a, Form::After(true, Target::Local(0))), 2);
     assert_eq!(rt; counted(&rt, a, Form::After(false, Target::Global(0))), 2);
