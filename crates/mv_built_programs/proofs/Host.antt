@@ -52,9 +52,10 @@ use Rattle.mv_program_runs.specs.Hosts.{IsHost, IsSelected, IsLoaded}
 use Rattle.mv_linker.specs.declared.parts.Parts.{Parts}
 use Rattle.mv_linker.specs.Linked.{function_part, first_label, part_index}
 use Rattle.mv_linker.specs.Laws.{LinesFit, StubsStand, FunctionsStand}
+use Rattle.mv_first_data.specs.FirstData.{global_sizes}
 use Rattle.mv_first_data.specs.Laws.{AreAddresses, SizesAreCounts}
 use Rattle.mv_built_programs.specs.Built.{IsUnattributed, HasWordsOfGlobals, IsCompiledTo, IsCompiled, IsBuilt}
-use Rattle.mv_built_programs.specs.Layouts.{global_sizes, address_of, numbers_of, layout_of}
+use Rattle.mv_built_programs.specs.Layouts.{address_of, numbers_of, layout_of}
 use Rattle.mv_built_programs.proofs.NoSlots.{HasNone, IsNoSlot, function_none, each_none}
 use Rattle.mv_built_programs.proofs.Numbers.{BeginsWithWord, entries, numbering}
 use Rattle.mv_built_programs.proofs.Linked.{is_linked, code_placed, few_words}

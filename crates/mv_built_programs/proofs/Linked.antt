@@ -29,9 +29,10 @@ use Rattle.mv_linker.specs.declared.parts.Parts.{Parts}
 use Rattle.mv_linker.specs.Linked.{AreParts, IsFunction, own, relabelled, function_part, linked_lines, label_count, first_label, part_index}
 use Rattle.mv_linker.specs.Laws.{LinesFit, StubsStand, FunctionsStand, FunctionStands}
 use Rattle.mv_linker.specs.Outcome.{datum_word}
+use Rattle.mv_first_data.specs.FirstData.{global_sizes}
 use Rattle.mv_first_data.specs.Laws.{AreAddresses}
 use Rattle.mv_built_programs.specs.Built.{IsCompiled, IsBuilt}
-use Rattle.mv_built_programs.specs.Layouts.{global_sizes, address_of, numbers_of, layout_of}
+use Rattle.mv_built_programs.specs.Layouts.{address_of, numbers_of, layout_of}
 use Rattle.mv_built_programs.proofs.NoSlots.{IsNoSlot, each_none}
 use Rattle.mv_built_programs.proofs.Renamed.{own_place, lines_placed, own_stays}
 use Rattle.mv_built_programs.proofs.Places.{IsKeptLine, each_kept, part_placed, kept_lines}

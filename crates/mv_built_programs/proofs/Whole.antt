@@ -37,9 +37,10 @@ use Rattle.mv_program_runs.specs.Laws.{first_seen, MainFollows}
 use Rattle.mv_linker.specs.declared.parts.Parts.{Parts}
 use Rattle.mv_linker.specs.Laws.{LinesFit, StubsStand, FunctionsStand}
 use Rattle.mv_linker.specs.Outcome as linker
+use Rattle.mv_first_data.specs.FirstData.{global_sizes}
 use Rattle.mv_first_data.specs.Laws.{SizesAreCounts}
 use Rattle.mv_built_programs.specs.Built.{IsUnattributed, HasWordsOfGlobals, IsBuilt}
-use Rattle.mv_built_programs.specs.Layouts.{global_sizes, address_of, numbers_of, layout_of}
+use Rattle.mv_built_programs.specs.Layouts.{address_of, numbers_of, layout_of}
 use Rattle.mv_built_programs.proofs.Rooms.{size_is}
 use Rattle.mv_built_programs.proofs.Linked.{start_ends, start_placed, has_stubs}
 use Rattle.mv_built_programs.proofs.Host.{is_numbering, addresses, global_count, loaded}

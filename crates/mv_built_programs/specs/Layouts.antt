@@ -2,8 +2,6 @@
 use Rattle.std.specs.Prelude.{ℕ, ◌+◌, ◌*◌, List, length, map, take, sum}
 use Rattle.std.specs.List.{range_with_len}
 use Rattle.mv_ast.specs.declared.program.Program.{Program}
-use Rattle.mv_ast.specs.declared.program.Global.{Global}
-use Rattle.mv_ast.specs.Counts.{words_of_size}
 use Rattle.mv_isa.specs.Code.{text_start, label_address}
 use Rattle.mv_lowering.specs.Lower.{global_words}
 use Rattle.mv_statement_code.specs.StatementCode.{trap_label}
@@ -12,10 +10,7 @@ use Rattle.mv_call_code.specs.Convention.{Layout}
 use Rattle.mv_source_calls.specs.Bindings.{keeps_bindings}
 use Rattle.mv_linker.specs.declared.parts.Parts.{Parts}
 use Rattle.mv_linker.specs.Linked.{linked_lines}
-
--- how many words each global has
-abbrev pub global_sizes : Program → List ℕ
-global_sizes p = map (λ (x : Global). words_of_size x.size) p.globals
+use Rattle.mv_first_data.specs.FirstData.{global_sizes}
 
 module _ (parts : Parts) (sizing : List ℕ) where
   -- the address of a label in the linked code, whose functions have the labels from 0 on
