@@ -205,15 +205,19 @@ module _ (tested : CalmIsTested) (exit_right : ExitIsRight) (trap_right : TrapIs
     goes (More w) x reached valued f = inr (late w x (reached ∙ main.input) f)
     goes Stuck x reached valued f = absurd (never_stuck m.«end» x.ending)
 
-  abbrev cost : ℕ → ℕ
-  cost k = (main.call k).cost
-
   abbrev meaning : ℕ → Meant
   meaning k = mean p bytes [] k
 
-  course : (budget far k : ℕ) → 3 + (main_cost + cost k) ≤ budget → far ≤ 3 + k → Ended (meaning k) budget ⊎ Late (meaning k) budget far
+  -- what is left for main is enough for what its call costs
+  abbrev main_budget : ℕ → ℕ
+  main_budget k = main_cost + (20 + 100 * (meaning k).work)
+
+  course : (budget far k : ℕ) → 3 + main_budget k ≤ budget → far ≤ 3 + k → Ended (meaning k) budget ⊎ Late (meaning k) budget far
   course budget far k paid asked =
-      goes budget far 0 k (meaning k) (cost k) (main.call k).end (main.means k) (main.reached k) (main.returns k) (main.follows budget far 0 k (omega (arith, paid)) asked)
+      let c = main.calls budget far k in
+      let is = cost_is main.first c.call.cost c.call.end in
+      let dear = c.means.paid in
+      goes budget far 0 k (meaning k) c.call.cost c.call.end c.means c.reached c.returns (c.follows 0 (omega (arith, paid, is, dear)) asked)
 
   -- ---- before a calm time and at it
 
@@ -244,7 +248,7 @@ module _ (tested : CalmIsTested) (exit_right : ExitIsRight) (trap_right : TrapIs
 
   module _ (n : ℕ) where
     abbrev budget : ℕ
-    budget = 3 + (main_cost + cost n)
+    budget = 3 + main_budget n
 
     run_goes : Ended (meaning n) budget ⊎ Late (meaning n) budget (n + 1)
     run_goes = course budget (n + 1) n (omega arith) (omega arith)
@@ -291,14 +295,8 @@ module _ (tested : CalmIsTested) (exit_right : ExitIsRight) (trap_right : TrapIs
   -- ---- all that is meant is done in time
 
   done : (n k : ℕ) → 100 * (1 + (meaning k).work) ≤ n → HasDone (state n) (meaning k)
-  done n k le = ⊎_elim ended late' (course (n - 3) 0 k (omega (arith, paid, is, le)) (omega arith))
+  done n k le = ⊎_elim ended late' (course (n - 3) 0 k (omega (arith, le)) (omega arith))
     where
-      is : (execution_of main.first (cost k) (main.call k).end).cost ≡ cost k
-      is = cost_is main.first (cost k) (main.call k).end
-
-      paid : (execution_of main.first (cost k) (main.call k).end).cost ≤ 20 + 100 * (meaning k).work
-      paid = (main.means k).paid
-
       ended : Ended (meaning k) (n - 3) → HasDone (state n) (meaning k)
       ended e =
           let soon = e.soon in stopped_done bytes (meaning k) e.world e.stop (state n) (e.ends.stopped n (omega (arith, soon, le))) e.says e.over

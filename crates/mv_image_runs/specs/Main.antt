@@ -28,14 +28,19 @@ pub record HasStubs (attributed : List ℕ) (image : Fields) (y : Layout) : Type
 abbrev pub main_cost : ℕ
 main_cost = 44
 
--- At each bound a call of main comes to what the program means, from a world that has the input, and it returns a value where it returns; and after the
--- three instructions of the start stub, the run does what that call does.
+module _ (attributed : List ℕ) (p : Program) (image : Fields) (bytes picks : List ℕ) (y : Layout) (first : World) where
+  -- At a bound, with so much paid and asked for, a call of main comes to what the program means, and it returns a value where it returns; and after the
+  -- three instructions of the start stub, the run does what that call does.
+  pub record CallsMain (budget far k : ℕ) : Type 0 where
+    pub call : Call
+    pub means : IsExecution (mean p bytes [] k) (execution_of first call.cost call.end)
+    pub reached : IsReached first call.end
+    pub returns : (w : World) → call.end ≡ Returned None w → ⊥
+    pub follows : (spare : ℕ) → 3 + (spare + main_cost + call.cost) ≤ budget → far ≤ 3 + k →
+        FollowsCall access y (machine_of attributed image (bytes_to_come bytes) picks) budget far spare k 3 return_address call.end
+
+-- The run calls main at every bound, whatever is paid and asked for, from a world that has the input.
 pub record RunsMain (attributed : List ℕ) (p : Program) (image : Fields) (bytes picks : List ℕ) (y : Layout) : Type 0 where
   pub first : World
   pub input : first.taken + length first.input ≡ length bytes
-  pub call : ℕ → Call
-  pub means : (k : ℕ) → IsExecution (mean p bytes [] k) (execution_of first (call k).cost (call k).end)
-  pub reached : (k : ℕ) → IsReached first (call k).end
-  pub returns : (k : ℕ) (w : World) → (call k).end ≡ Returned None w → ⊥
-  pub follows : (budget far spare k : ℕ) → 3 + (spare + main_cost + (call k).cost) ≤ budget → far ≤ 3 + k →
-      FollowsCall access y (machine_of attributed image (bytes_to_come bytes) picks) budget far spare k 3 return_address (call k).end
+  pub calls : (budget far k : ℕ) → CallsMain attributed p image bytes picks y first budget far k

@@ -107,7 +107,7 @@ module _ (n : ℕ) where
       let count = label_count_more code rest in
       let here = part_other n first code f fun m (λ e. omega (arith, e, entries (omega (arith, e)))) (λ le. omega (arith, owns le, count)) in
       let later = parts_other rest (f + 1) (first + code.labels) m (All-tail (IsFunction n) code rest all)
-          (λ le. omega (arith, entries (omega (arith, le)))) (λ le. omega (arith, owns (omega (arith, le)), count)) in
+      (λ le. omega (arith, entries (omega (arith, le)))) (λ le. omega (arith, owns (omega (arith, le)), count)) in
       omega (arith, count_append m (function_part f first code) (function_parts (f + 1) (first + code.labels) rest), here, later)
 
   -- each entry's label stands once
@@ -144,7 +144,7 @@ module _ (n : ℕ) where
       let here = part_own n first x f (All-head (IsFunction n) x rest all) l (λ e. omega (arith, e)) in
       let here' = subst (λ (o : ℕ). count_by (is_label o) (function_part f first x) ≡ count_by (is_label l) x.items) (sym at) here in
       let later = parts_other rest (f + 1) (first + x.labels) m (All-tail (IsFunction n) x rest all)
-          (λ le. omega (arith, le)) (λ le. absurd (omega (arith, le))) in
+      (λ le. omega (arith, le)) (λ le. absurd (omega (arith, le))) in
       omega (arith, count_append m (function_part f first x) (function_parts (f + 1) (first + x.labels) rest), here', items, later)
   parts_own (x ∷ rest) f first (suc k) code l m all low found below m_is =
       let more = label_count_more x (take k rest) in

@@ -19,15 +19,29 @@ stub_count : (main m : ℕ) → count_by (is_label m) (stub_lines main)
     ≡ times (eqb (trap_label 1) m) + (times (eqb (trap_label 2) m) + (times (eqb (trap_label 3) m) + times (eqb (trap_label 4) m)))
 stub_count main m =
     let start : count_by (is_label m) (start_lines main) ≡ 0 = refl in
-    omega (arith, start, trap_count m 1, trap_count m 2, trap_count m 3, trap_count m 4,
-        count_append m (start_lines main) (trap_lines 1 ++ (trap_lines 2 ++ (trap_lines 3 ++ trap_lines 4))),
-        count_append m (trap_lines 1) (trap_lines 2 ++ (trap_lines 3 ++ trap_lines 4)),
-        count_append m (trap_lines 2) (trap_lines 3 ++ trap_lines 4), count_append m (trap_lines 3) (trap_lines 4))
+    omega (
+      arith,
+      start,
+      trap_count m 1,
+      trap_count m 2,
+      trap_count m 3,
+      trap_count m 4,
+      count_append m (start_lines main) (trap_lines 1 ++ (trap_lines 2 ++ (trap_lines 3 ++ trap_lines 4))),
+      count_append m (trap_lines 1) (trap_lines 2 ++ (trap_lines 3 ++ trap_lines 4)),
+      count_append m (trap_lines 2) (trap_lines 3 ++ trap_lines 4),
+      count_append m (trap_lines 3) (trap_lines 4),
+    )
 
 stubs_other : (main m : ℕ) → m < trap_label 1 → count_by (is_label m) (stub_lines main) ≡ 0
 stubs_other main m below =
-    omega (arith, stub_count main m, unmarked m (trap_label 1) (λ e. omega (arith, e)), unmarked m (trap_label 2) (λ e. omega (arith, e)),
-        unmarked m (trap_label 3) (λ e. omega (arith, e)), unmarked m (trap_label 4) (λ e. omega (arith, e)))
+    omega (
+      arith,
+      stub_count main m,
+      unmarked m (trap_label 1) (λ e. omega (arith, e)),
+      unmarked m (trap_label 2) (λ e. omega (arith, e)),
+      unmarked m (trap_label 3) (λ e. omega (arith, e)),
+      unmarked m (trap_label 4) (λ e. omega (arith, e)),
+    )
 
 stubs_trap : (main c : ℕ) → 1 ≤ c → c ≤ 4 → StandsOnce (stub_lines main) (trap_label c)
 stubs_trap main zero from to = absurd (omega arith)
@@ -46,21 +60,34 @@ module _ (parts : Parts) (are : AreParts parts) where
 
   pub entry_once : (f : ℕ) → f < length parts.functions → StandsOnce (linked_lines parts) f
   entry_once f below =
-      omega (arith, counted f, stubs_other parts.main f (omega (arith, are.labels)),
-          parts_entry (length parts.functions) parts.functions 0 (length parts.functions) f are.functions (omega arith) (omega arith) below)
+      omega (
+        arith,
+        counted f,
+        stubs_other parts.main f (omega (arith, are.labels)),
+        parts_entry (length parts.functions) parts.functions 0 (length parts.functions) f are.functions (omega arith) (omega arith) below,
+      )
 
   pub own_once : (f : ℕ) (code : Labelled) → slice_get parts.functions f ≡ Some code → (l : ℕ) → IsOwnLabel code l → StandsOnce (linked_lines parts) (first_label parts.functions f + l)
   own_once f code found l is =
       let m = first_label parts.functions f + l in
       let within = labels_within parts.functions f code found in
-      omega (arith, counted m, stubs_other parts.main m (omega (arith, are.labels, is.0)), is.1,
-          parts_own (length parts.functions) parts.functions 0 (length parts.functions) f code l m are.functions (omega arith) found is.0 refl)
+      omega (
+        arith,
+        counted m,
+        stubs_other parts.main m (omega (arith, are.labels, is.0)),
+        is.1,
+        parts_own (length parts.functions) parts.functions 0 (length parts.functions) f code l m are.functions (omega arith) found is.0 refl,
+      )
 
   pub trap_once : (c : ℕ) → 1 ≤ c → c ≤ 4 → StandsOnce (linked_lines parts) (trap_label c)
   trap_once c from to =
-      omega (arith, counted (trap_label c), stubs_trap parts.main c from to,
-          parts_other (length parts.functions) parts.functions 0 (length parts.functions) (trap_label c) are.functions
-              (λ le. omega (arith, are.labels)) (λ le. omega (arith, are.labels)))
+      omega (
+        arith,
+        counted (trap_label c),
+        stubs_trap parts.main c from to,
+        parts_other (length parts.functions) parts.functions 0 (length parts.functions) (trap_label c) are.functions
+            (λ le. omega (arith, are.labels)) (λ le. omega (arith, are.labels)),
+      )
 
   trap_target : (l : ℕ) → IsTrapLabel l → StandsOnce (linked_lines parts) l
   trap_target l is =
@@ -88,7 +115,7 @@ module _ (whole : List Line) (n : ℕ) (entries : (f : ℕ) → f < n → Stands
     part_targets : (f : ℕ) → IsFunction n code → All (TargetStands whole) (function_part f first code)
     part_targets f fun =
         All-cons (TargetStands whole) (Label f) (map (relabelled first code.labels) code.items) tt
-            (All-map (TargetStands whole) (relabelled first code.labels) code.items (λ k d l. line_target _ (fun.names k d l)))
+        (All-map (TargetStands whole) (relabelled first code.labels) code.items (λ k d l. line_target _ (fun.names k d l)))
 
   parts_targets : (functions : List Labelled) (f first : ℕ) → All (IsFunction n) functions → label_count functions ≤ trap_label 1
       → ((k : ℕ) (code : Labelled) → slice_get functions k ≡ Some code → (l : ℕ) → IsOwnLabel code l → StandsOnce whole (first + label_count (take k functions) + l))
@@ -97,10 +124,10 @@ module _ (whole : List Line) (n : ℕ) (entries : (f : ℕ) → f < n → Stands
   parts_targets (code ∷ rest) f first all room owns =
       let more = label_count_more code rest in
       All-append (TargetStands whole) (function_part f first code) (function_parts (f + 1) (first + code.labels) rest)
-          (part_targets first code (λ l is. let e : first + label_count (take 0 (code ∷ rest)) + l ≡ first + l = omega arith in subst (StandsOnce whole) e (owns 0 code refl l is)) (omega arith) f (All-head (IsFunction n) code rest all))
-          (parts_targets rest (f + 1) (first + code.labels) (All-tail (IsFunction n) code rest all) (omega arith)
-              (λ k x found l is. let e : first + label_count (take (suc k) (code ∷ rest)) + l ≡ first + code.labels + label_count (take k rest) + l = omega (arith, label_count_more code (take k rest)) in
-                  subst (StandsOnce whole) e (owns (suc k) x found l is)))
+      (part_targets first code (λ l is. let e : first + label_count (take 0 (code ∷ rest)) + l ≡ first + l = omega arith in subst (StandsOnce whole) e (owns 0 code refl l is)) (omega arith) f (All-head (IsFunction n) code rest all))
+      (parts_targets rest (f + 1) (first + code.labels) (All-tail (IsFunction n) code rest all) (omega arith)
+      (λ k x found l is. let e : first + label_count (take (suc k) (code ∷ rest)) + l ≡ first + code.labels + label_count (take k rest) + l = omega (arith, label_count_more code (take k rest)) in
+      subst (StandsOnce whole) e (owns (suc k) x found l is)))
 
 -- ---- fields
 
@@ -117,9 +144,9 @@ parts_fields n [] f first all = All-nil LineFits
 parts_fields n (code ∷ rest) f first all =
     let fun = All-head (IsFunction n) code rest all in
     All-append LineFits (function_part f first code) (function_parts (f + 1) (first + code.labels) rest)
-        (All-cons LineFits (Label f) (map (relabelled first code.labels) code.items) tt
-            (All-map LineFits (relabelled first code.labels) code.items (λ k d l. line_fields first code.labels _ (fun.fields k d l))))
-        (parts_fields n rest (f + 1) (first + code.labels) (All-tail (IsFunction n) code rest all))
+    (All-cons LineFits (Label f) (map (relabelled first code.labels) code.items) tt
+    (All-map LineFits (relabelled first code.labels) code.items (λ k d l. line_fields first code.labels _ (fun.fields k d l))))
+    (parts_fields n rest (f + 1) (first + code.labels) (All-tail (IsFunction n) code rest all))
 
 -- of the stubs
 module _ (P : Line → Type 0) (main : ℕ) (start : All P (start_lines main)) (traps : (c : ℕ) → c ≤ 4 → All P (trap_lines c)) where
@@ -149,10 +176,10 @@ lines_fit parts are =
     let n = length parts.functions in
     let rest = function_parts 0 n parts.functions in
     let fields : All LineFits (linked_lines parts) =
-        All-append LineFits (stub_lines parts.main) rest (stubs_all LineFits parts.main (start_fields parts.main) trap_fields) (parts_fields n parts.functions 0 n are.functions) in
+    All-append LineFits (stub_lines parts.main) rest (stubs_all LineFits parts.main (start_fields parts.main) trap_fields) (parts_fields n parts.functions 0 n are.functions) in
     let whole = linked_lines parts in
     let targets : All (TargetStands whole) whole =
-        All-append (TargetStands whole) (stub_lines parts.main) rest
-            (stubs_all (TargetStands whole) parts.main (start_targets whole parts.main (entry_once parts are parts.main are.main)) (trap_targets whole))
-            (parts_targets whole n (entry_once parts are) (trap_target parts are) parts.functions 0 n are.functions (omega (arith, are.labels)) (own_once parts are)) in
+    All-append (TargetStands whole) (stub_lines parts.main) rest
+    (stubs_all (TargetStands whole) parts.main (start_targets whole parts.main (entry_once parts are parts.main are.main)) (trap_targets whole))
+    (parts_targets whole n (entry_once parts are) (trap_target parts are) parts.functions 0 n are.functions (omega (arith, are.labels)) (own_once parts are)) in
     record { fields = λ k l. fields k (Label 0) l; targets = λ k l. targets k (Label 0) l }

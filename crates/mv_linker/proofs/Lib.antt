@@ -1,3 +1,4 @@
 pub mod Counting
 pub mod Fits
 pub mod Places
+pub mod Images

@@ -18,6 +18,10 @@ stand_in before part after k e = record {
   each = λ j l. rw e (get_or-append-add before (part ++ after) j (Label 0) ∙ get_or_append_left part after (Label 0) j l);
 }
 
+-- lines in front of others that have a part
+in_front : (front before part after rest : List Line) → rest ≡ before ++ (part ++ after) → front ++ rest ≡ (front ++ before) ++ (part ++ after)
+in_front front before part after rest e = ap (λ ls. front ++ ls) e ∙ sym (append_assoc front before (part ++ after))
+
 -- ---- stubs
 
 module _ (main : ℕ) (rest : List Line) where
@@ -65,7 +69,7 @@ parts_split (x ∷ rest) f first (suc k) code g m found g_is m_is =
     record {
       before = part ++ s.before;
       after = s.after;
-      lines_are = ap (λ ls. part ++ ls) s.lines_are ∙ sym (append_assoc part s.before (function_part g m code ++ s.after));
+      lines_are = in_front part s.before (function_part g m code) s.after _ s.lines_are;
       count_is = omega (arith, line_count_more x (take k rest), s.count_is, length-append part s.before, length-map x.items (relabelled first x.labels));
     }
 
@@ -86,7 +90,7 @@ module _ (parts : Parts) (are : AreParts parts) where
         let stubs = stub_lines parts.main in
         let part = function_part f (first_label parts.functions f) code in
         let s = parts_split parts.functions 0 n f code f (first_label parts.functions f) found (omega arith) refl in
-        let lines_are : linked_lines parts ≡ (stubs ++ s.before) ++ (part ++ s.after) = ap (λ ls. stubs ++ ls) s.lines_are ∙ sym (append_assoc stubs s.before (part ++ s.after)) in
+        let lines_are : linked_lines parts ≡ (stubs ++ s.before) ++ (part ++ s.after) = in_front stubs s.before part s.after _ s.lines_are in
         let index_is : part_index parts.functions f ≡ length (stubs ++ s.before) = omega (arith, s.count_is, length-append stubs s.before) in
         subst (λ (ls : List Line). StandFrom ls (part_index parts.functions f) part) (sym lines_are) (stand_in (stubs ++ s.before) part s.after (part_index parts.functions f) index_is)
 

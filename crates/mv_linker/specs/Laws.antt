@@ -1,10 +1,11 @@
 -- What holds of the linked lines of all parts.
-use Rattle.std.specs.Prelude.{ℕ, ◌+◌, ◌*◌, ◌<◌, ◌≤◌, ◌≡◌, Some, List, length, slice_get}
+use Rattle.std.specs.Prelude.{ℕ, ◌+◌, ◌*◌, ◌<◌, ◌≤◌, ◌≡◌, Option, Some, List, length, slice_get}
 use Rattle.mv_isa.specs.declared.labelled.Labelled.{Labelled}
 use Rattle.mv_isa.specs.declared.labelled.Line.{Line}
 use Rattle.mv_isa.specs.Code.{CodeFits, StandsOnce, line_at}
+use Rattle.mv_isa.specs.Standing.{LineStands}
 use Rattle.mv_linker.specs.declared.parts.Parts.{Parts}
-use Rattle.mv_linker.specs.Linked.{AreParts, IsOwnLabel, trap_label, start_lines, trap_lines, function_part, linked_lines, first_label, part_index}
+use Rattle.mv_linker.specs.Linked.{AreParts, IsOwnLabel, own, relabelled, trap_label, start_lines, trap_lines, function_part, linked_lines, first_label, part_index}
 
 -- they may be assembled
 abbrev pub LinesFit : Type 0
@@ -36,3 +37,9 @@ abbrev pub FunctionsStand : Type 0
 FunctionsStand =
     (parts : Parts) → AreParts parts → (f : ℕ) (code : Labelled) → slice_get parts.functions f ≡ Some code →
     FunctionStands (linked_lines parts) parts.functions f code
+
+-- A line with its labels renamed that stands in text is a line that stands there, if each label is where what it becomes is.
+abbrev pub RenamedLinesStand : Type 0
+RenamedLinesStand =
+    (text : ℕ → Option ℕ) (place entry : ℕ → ℕ) (at end first count : ℕ) (line : Line) →
+    LineStands text place entry at end (relabelled first count line) → LineStands text (λ l. place (own first count l)) entry at end line

@@ -9,14 +9,19 @@ use std::alloc::{AllocError, Global};
 
 /// The label of the stub of trap c is this and c.
 const TRAPS: u32 = 4_294_967_289;
+
 const RA: u8 = 1;
+
 const SP: u8 = 2;
+
 const A0: u8 = 10;
+
 const A7: u8 = 17;
 /// s11 has how many calls are left.
 const LEFT: u8 = 27;
 /// The numbers of the environment calls, which a7 has.
 const EXIT: i32 = 0;
+
 const TRAP: i32 = 3;
 
 /// The code of all parts.

@@ -1,9 +1,9 @@
 ghost use Rattle.std.specs.Prelude.{◌≡◌, ◌<◌, ℕ, IfOk, MatchResult, All, map, length, slice_index};
-ghost use Rattle.mv_linker.specs.Linked.{AreParts, IsDatum};
-ghost use Rattle.mv_linker.specs.Outcome.{datum_word, IsLinked, IsRefusal};
+ghost use Rattle.mv_linker.specs.Linked.{AreParts, IsDatum, IsJoined};
+ghost use Rattle.mv_linker.specs.Outcome.{datum_word, WithinLimit, IsLinked, IsRefusal};
 
 use crate::error::LinkError;
-use crate::joined::join_parts;
+use crate::joined::{Joined, join_parts};
 use crate::parts::{Datum, Parts};
 use mv_asm::error::AsmError;
 use mv_asm::place;
@@ -29,24 +29,28 @@ pub fn link(alloc: Global, parts: &Parts) -> Result<Image, LinkError>
     if words > DATA_LIMIT {
         return Err(LinkError::DataLimit(words as u64));
     }
-    let joined = join_parts(alloc, parts)?;
+    let joined = join_parts(alloc, parts).map_err(LinkError::Memory)?;
+    assembled(alloc, parts, &joined)
+}
+
+/// The image of parts whose code is joined.
+fn assembled(alloc: Global, parts: &Parts, joined: &Joined) -> Result<Image, LinkError>
+    requires parts { AreParts parts.now }
+    requires joined { IsJoined parts.now joined.now }
+    requires data { WithinLimit parts.now }
+    ensures { MatchResult result (IsLinked parts.now) (IsRefusal parts.now) }
+{
     let placed = match place(alloc, &joined.code, TEXT_START) {
         Ok(placed) => placed,
         Err(AsmError::TextLimit(count)) => return Err(LinkError::TextLimit(count)),
         Err(AsmError::Memory(e)) => return Err(LinkError::Memory(e)),
     };
-    let globals = data(
-        alloc,
-        parts.globals.as_slice(),
-        joined.entries.as_slice(),
-        placed.addresses.as_slice(),
+    let globals = parts.globals.as_slice();
+    let entries = joined.entries.as_slice();
+    let words = data(alloc, globals, entries, placed.addresses.as_slice()).map_err(
+        LinkError::Memory,
     )?;
-    Ok(Image::without_tables(
-        alloc,
-        TEXT_START,
-        placed.words,
-        globals,
-    ))
+    Ok(Image::without_tables(alloc, TEXT_START, placed.words, words))
 }
 
 /// The words of data, given at which item each function begins and the address of each item.

@@ -118,6 +118,27 @@ executed_is p first void before x (Stopped stops.Unfinished w work) q scope inne
     subst (λ (y : Call). IsExecution (meaning_of (Stopped stops.Unfinished w work)) (execution_of first y.cost y.end)) (sym (h.ends refl))
     (record { output = refl; taken = refl; ending = refl; bindings = refl; log = refl; paid = h.paid })
 
+-- Two calls end alike, and where they return they return a value.
+pub record EndAlike (x z : Call) : Type 0 where
+  pub same : x.end ≡ z.end
+  pub valued : (w : code_world.World) → x.end ≡ Returned None w → ⊥
+
+ends_alike : (p : Program) (void : Bool) (before : World) (x z : Call) (o q : Outcome Frame Flow) (scope inner : Scope) (b c : Bool) → void ≡ false → AlikeOutcome Nothing NotAstray Flow (Leads scope inner b c) q q → meaning_of o ≡ meaning_of q →
+    BodyDoes p void 0 before x o → BodyDoes p void 0 before z o → EndAlike x z
+ends_alike p void before x z (Came flow f w work) q scope inner b c nv k e h g =
+    let ends = λ (y : Call) (d : BodyDoes p void 0 before y (Came flow f w work)). ap (λ (u : Call). u.end) d.ends ∙ ap (λ v. Returned (result_of v (returned_value flow)) (seen w)) nv in
+    record { same = ends x h ∙ sym (ends z g); valued = λ u none. some_value (returned_value flow) (seen w) u (sym (ends x h) ∙ none) }
+  where
+    some_value : (v : ℕ) (w u : code_world.World) → Returned (Some v) w ≡ Returned None u → ⊥
+    some_value v w u same = cc
+ends_alike p void before x z (Stopped (stops.Trapped n) w work) q scope inner b c nv k e h g =
+    let there = stops_there (stops.Trapped n) w work q scope inner b c k e in
+    let end = λ (y : Call) (d : BodyDoes p void 0 before y (Stopped (stops.Trapped n) w work)). ap (λ (u : Call). u.end) (d.ends there) in
+    record { same = end x h ∙ sym (end z g); valued = λ u none. let bad = sym (end x h) ∙ none in cc }
+ends_alike p void before x z (Stopped stops.Unfinished w work) q scope inner b c nv k e h g =
+    let end = λ (y : Call) (d : BodyDoes p void 0 before y (Stopped stops.Unfinished w work)). ap (λ (u : Call). u.end) (d.ends refl) in
+    record { same = end x h ∙ sym (end z g); valued = λ u none. let bad = sym (end x h) ∙ none in cc }
+
 module _ (p : Program) (numbers : List ℕ) (formed : IsWellFormed p) (numbering : IsNumbering p numbers) (input : List ℕ) (actions : List Action) (bound : ℕ)
     (any : AnyNumberingServes) (strays : StraysDoNotShow) (fit : All (λ a. IsTrue (fits p a)) actions) where
   abbrev main : Function
@@ -222,3 +243,15 @@ module _ (p : Program) (numbers : List ℕ) (formed : IsWellFormed p) (numbering
       (subst (λ (l : Bound). IsExecution (mean p input actions bound) (let x = body_from (setting_of numbers p) frame cleared (lower_function p main) [] l (seen first) in execution_of (seen first) x.cost x.end))
       (same_levels p numbers formed.functions bound)
       (main_is_right (lowered_calls p numbers formed.functions) (λ i up. all_agreed p numbers formed.functions i) cleared))
+
+  -- whatever calls that agree with the source's it makes, it ends as the lowered program does, and returns a value where it returns
+  pub main_ends_alike : (calls : ℕ → Calls) → ((i : ℕ) → i ≤ bound → Agreed p numbers formed.functions calls i) → (contents : Contents) →
+      EndAlike (main_from calls contents) (call_of_main (setting_of numbers p) (code_of (lower_program p)) (slice_get (code_of (lower_program p)) p.main) bound (seen first))
+  main_ends_alike calls agreed contents =
+      subst (λ (o : Option Code). EndAlike (main_from calls contents) (call_of_main (setting_of numbers p) (code_of (lower_program p)) o bound (seen first)))
+      (sym (code_is p p.main main here))
+      (subst (λ (l : Bound). EndAlike (main_from calls contents) (body_from (setting_of numbers p) frame cleared (lower_function p main) [] l (seen first)))
+      (same_levels p numbers formed.functions bound)
+      (ends_alike p (is_void main.result) first (main_from calls contents) (main_from (lowered_calls p numbers formed.functions) cleared) (came (strict_context p numbers bound)) (came (context_at p numbers bound))
+      (parameters main) (parameters main) false false (integer_result main.result formed.typed.entry.result) plain_stops (strict_mean ∙ sym plain_mean) (main_does calls agreed contents)
+      (main_does (lowered_calls p numbers formed.functions) (λ i up. all_agreed p numbers formed.functions i) cleared)))

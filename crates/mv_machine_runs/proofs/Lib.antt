@@ -4,7 +4,7 @@ mod Memory
 mod Calming
 mod Fetches
 mod Starts
-mod OnRuns
+pub mod OnRuns
 mod Fitness
 mod Packing
 mod Answering
@@ -12,5 +12,5 @@ mod Placing
 mod Jumps
 mod Bound
 mod Inputs
-mod Serving
-mod Whole
+pub mod Serving
+pub mod Whole

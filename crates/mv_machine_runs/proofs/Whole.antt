@@ -60,7 +60,7 @@ module _ (y : Layout) (h : IsSetOut y) where
       (λ (some : 1 ≤ y.size g). let end = h.data_ends g some in omega (arith, end))
       (cases_lt (y.size g) 1)
 
-  laid : IsLaid y
+  pub laid : IsLaid y
   laid = record {
     apart = apart;
     off_stack = λ g i lt stack. let low = stack.0 in let end = ends g i lt in let begin = h.stack_begins in omega (arith, low, end, begin);
@@ -86,18 +86,18 @@ module _ (y : Layout) (h : IsSetOut y) where
       let low = stack.0 in let high = stack.1 in let begin = h.stack_begins in let end = h.stack_ends in
       stack_loads m b (omega (arith, low, begin)) (omega (arith, high, end)) stack.2 (calm_told image w m calm).stack
 
-  memory : (attributed : List ℕ) (image : Fields) (input : List (Option ℕ)) (picks : List ℕ) → IsMemory access y (machine_of attributed image input picks)
+  pub memory : (attributed : List ℕ) (image : Fields) (input : List (Option ℕ)) (picks : List ℕ) → IsMemory access y (machine_of attributed image input picks)
   memory attributed image input picks = record {
     stores = λ m b v w word lt loads. kept m b v w lt loads;
     words = λ m b w word loads. load_word m b w loads;
     stack = stack_there image;
   }
 
-  own : (s : Site) → StandsInWords y s → OwnOutsideText s
+  pub own : (s : Site) → StandsInWords y s → OwnOutsideText s
   own s stands x is there = outside (address s x) (stands x is there)
 
 -- where no function is attributed, no site calls one
-no_slot : (image : Fields) (a f : ℕ) → called_at [] image a ≡ Some f → ⊥
+pub no_slot : (image : Fields) (a f : ℕ) → called_at [] image a ≡ Some f → ⊥
 unfolding called_at
 no_slot image a f e = none_called (site_at image a) e
   where

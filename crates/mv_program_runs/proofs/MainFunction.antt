@@ -1,5 +1,5 @@
 -- The main function does what the program means.
-use Rattle.std.proofs.Common.{◌≡◌, ℕ, zero, suc, ◌+◌, ◌≤◌, false, List, [], length, Some, refl, sym, subst, ◌∙◌, arith}
+use Rattle.std.proofs.Common.{◌≡◌, ℕ, zero, suc, ◌+◌, ◌≤◌, false, List, [], length, Some, None, refl, sym, subst, ◌∙◌, arith}
 use Rattle.std.specs.Prelude.{All, IsTrue, slice_get}
 use Rattle.mv_ast.specs.declared.program.Program.{Program}
 use Rattle.mv_ast.specs.declared.program.Function.{Function}
@@ -10,11 +10,11 @@ use Rattle.mv_numbering.specs.Numberings.{IsNumbering}
 use Rattle.mv_isa.specs.Execution.{Access, reg}
 use Rattle.mv_ir.specs.World as ir
 use Rattle.mv_ir.specs.World.{World, Setting}
-use Rattle.mv_ir.specs.Outcome.{Calls, Call, Bound}
+use Rattle.mv_ir.specs.Outcome.{Calls, Call, Bound, Returned}
 use Rattle.mv_ir.specs.Keeps.{KeepsCall}
 use Rattle.mv_ir.specs.Meaning.{Contents, body_from}
-use Rattle.mv_ir.specs.Programs.{setting_of, execution_of}
-use Rattle.mv_lowering.specs.Functions.{lower_function}
+use Rattle.mv_ir.specs.Programs.{setting_of, execution_of, run_of_main}
+use Rattle.mv_lowering.specs.Functions.{lower_function, lower_program}
 use Rattle.mv_lowering.specs.Statements.{levels}
 use Rattle.mv_lowered_programs.specs.Laws.{IsExecution}
 use Rattle.mv_flow_code.specs.Placed.{Placed}
@@ -24,7 +24,7 @@ use Rattle.mv_call_code.specs.Convention.{Layout, IsTarget, Stands, FollowsCall}
 use Rattle.mv_function_code.specs.FunctionCode.{function_lines}
 use Rattle.mv_function_code.specs.Functions.{FunctionsKeep, MainKeeps, IsFunction, Begins, shape_of}
 use Rattle.mv_source_calls.specs.SourceCalls.{source_call, source_levels}
-use Rattle.mv_source_calls.specs.Laws.{BodiesAreRight, MainIsRight}
+use Rattle.mv_source_calls.specs.Laws.{BodiesAreRight, MainIsRight, MainEndsAlike}
 use Rattle.mv_program_runs.specs.Hosts.{IsHost, IsSelected, IsLoaded}
 use Rattle.mv_program_runs.specs.Laws.{first_seen}
 use Rattle.mv_program_runs.proofs.AllFunctions.{serves, all_keep}
@@ -35,7 +35,7 @@ level_count calls zero = refl
 level_count calls (suc k) = let below = level_count calls k in omega (arith, below)
 
 module _ {M : Type 0} (access : Access M) (y : Layout) (machine : Machine M) (budget far : ℕ) (p : Program) (numbers : List ℕ) (loaded : IsLoaded access y machine budget far p numbers)
-    (keep : FunctionsKeep M) (keep_main : MainKeeps M) (right : BodiesAreRight) (right_main : MainIsRight)
+    (keep : FunctionsKeep M) (keep_main : MainKeeps M) (right : BodiesAreRight) (right_main : MainIsRight) (alike : MainEndsAlike)
     (numbering : IsNumbering p numbers) (input : List ℕ) (actions : List Action) (fit : All (λ a. IsTrue (fits p a)) actions)
     (back i : ℕ) (target : IsTarget back) (ra : reg (machine.run i).regs link_register ≡ back) (begins : Begins access y machine i)
     (stands : Stands access y machine budget far (y.entry p.main) (first_seen p numbers input actions) i) (k : ℕ) where
@@ -87,9 +87,15 @@ module _ {M : Type 0} (access : Access M) (y : Layout) (machine : Machine M) (bu
 
   pub main_follows : (c : Call)
       × IsExecution (mean p input actions k) (execution_of first c.cost c.end)
+      × (c.end ≡ (run_of_main numbers (lower_program p) input actions k).end)
+      × ((w : World) → c.end ≡ Returned None w → ⊥)
       × ((spare : ℕ) → i + (spare + 44 + c.cost) ≤ budget → far ≤ i + k → FollowsCall access y machine budget far spare k i back c.end)
-  main_follows = (c, right_main p numbers loaded.formed numbering input actions k fit followed.contents main here, follows)
+  main_follows = (c, right_main p numbers loaded.formed numbering input actions k fit followed.contents main here, ends.0, ends.1, follows)
     where
+      ends : ((body_from setting frame followed.contents (lower_function p main) [] below first).end ≡ (run_of_main numbers (lower_program p) input actions k).end)
+          × ((w : World) → (body_from setting frame followed.contents (lower_function p main) [] below first).end ≡ Returned None w → ⊥)
+      ends = alike p numbers loaded.formed numbering input actions k fit followed.contents main here
+
       c : Call
       c = body_from setting frame followed.contents (lower_function p main) [] below first
 

@@ -7,7 +7,7 @@
 ghost use Rattle.mv_program_runs.specs.Laws.{FunctionsKeepConvention, MainFollows};
 
 use mv_function_code::function_code_law;
-use mv_source_calls::{bodies_are_right, main_is_right};
+use mv_source_calls::{bodies_are_right, main_ends_alike, main_is_right};
 
 /// The code of a well-formed program does what the program means, over any memory `M`, where the code of each function stands on a machine for the program.
 /// No function is ever bound there, and orders and polls aren't asked for. The call does nothing: its contract is the law.
@@ -15,7 +15,7 @@ use mv_source_calls::{bodies_are_right, main_is_right};
 /// `functions`: at every bound all functions keep the calling convention: called at its entry or at a slot, each does what it does by the source's meaning
 /// (C11 6.5.2.2). `main`: under each numbering of the functions, on each input, with all actions of the operator that fit, and at each bound, the main
 /// function, begun in the program's first world, does what some call means that comes to the output, bytes taken, end, bindings and log of the program
-/// (C11 5.1.2.3). It takes at most 44 instructions more than the call costs, which is at most 20 and 100 for one of work.
+/// (C11 5.1.2.3), and ends as the lowered program does, with a value where it returns. It takes at most 44 instructions more than the call costs, which is at most 20 and 100 for one of work.
 pub fn programs_keep<M>()
     ensures functions { FunctionsKeepConvention M }
     ensures main { MainFollows M }
@@ -23,4 +23,5 @@ pub fn programs_keep<M>()
     function_code_law::<M>();
     bodies_are_right();
     main_is_right();
+    main_ends_alike();
 }

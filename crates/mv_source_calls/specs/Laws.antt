@@ -1,5 +1,5 @@
 -- What is proved of lowered code whose callees do what the source's functions do.
-use Rattle.std.specs.Prelude.{◌≡◌, ℕ, All, IsTrue, List, [], length, Option, Some, slice_get}
+use Rattle.std.specs.Prelude.{◌≡◌, ℕ, All, IsTrue, List, [], length, Option, Some, None, slice_get}
 use Rattle.mv_ast.specs.declared.program.Program.{Program}
 use Rattle.mv_ast.specs.declared.program.Function.{Function}
 use Rattle.mv_ast.specs.declared.world.Action.{Action}
@@ -11,9 +11,9 @@ use Rattle.mv_ir.specs.World.{World}
 use Rattle.mv_ir.specs.KnownFunctions.{seen_from}
 use Rattle.mv_ir.specs.Outcome.{Returned}
 use Rattle.mv_ir.specs.Meaning.{Contents, body_from}
-use Rattle.mv_ir.specs.Programs.{setting_of, execution_of}
+use Rattle.mv_ir.specs.Programs.{setting_of, execution_of, run_of_main}
 use Rattle.mv_lowering.specs.Correct.{seen}
-use Rattle.mv_lowering.specs.Functions.{lower_function}
+use Rattle.mv_lowering.specs.Functions.{lower_function, lower_program}
 use Rattle.mv_lowered_programs.specs.WellFormed.{IsWellFormed}
 use Rattle.mv_lowered_programs.specs.Laws.{HasGlobals, IsExecution, callee_frame}
 use Rattle.mv_source_calls.specs.SourceCalls.{source_call, source_levels, Promises}
@@ -51,3 +51,12 @@ MainIsRight =
     let first = seen (first_world_under p numbers input actions) in
     let c = body_from (setting_of numbers p) (record { depth = 0; live = 0; bound = [] }) contents (lower_function p main) [] (source_levels p numbers bound) first in
     IsExecution (mean p input actions bound) (execution_of first c.cost c.end)
+
+-- And whatever its frame holds when it begins, it ends as the lowered program does; and where it returns, it returns a value.
+abbrev pub MainEndsAlike : Type 0
+MainEndsAlike =
+    (p : Program) (numbers : List ℕ) → IsWellFormed p → IsNumbering p numbers → (input : List ℕ) (actions : List Action) (bound : ℕ) → All (λ a. IsTrue (fits p a)) actions →
+    (contents : Contents) (main : Function) → slice_get p.functions p.main ≡ Some main →
+    let first = seen (first_world_under p numbers input actions) in
+    let c = body_from (setting_of numbers p) (record { depth = 0; live = 0; bound = [] }) contents (lower_function p main) [] (source_levels p numbers bound) first in
+    (c.end ≡ (run_of_main numbers (lower_program p) input actions bound).end) × ((w : World) → c.end ≡ Returned None w → ⊥)

@@ -1,6 +1,6 @@
 // The laws of lowered code whose callees do what the source's functions do.
 
-ghost use Rattle.mv_source_calls.specs.Laws.{BindingsStay, BodiesAreRight, GlobalsKeepTheirSizes, MainIsRight};
+ghost use Rattle.mv_source_calls.specs.Laws.{BindingsStay, BodiesAreRight, GlobalsKeepTheirSizes, MainEndsAlike, MainIsRight};
 
 use mv_numbering::numbering_law;
 
@@ -30,6 +30,13 @@ pub fn bindings_stay()
 /// its contract is the law.
 pub fn main_is_right()
     ensures { MainIsRight }
+{
+    numbering_law();
+}
+
+/// And it ends as the lowered program does, and returns a value where it returns. The call does nothing: its contract is the law.
+pub fn main_ends_alike()
+    ensures { MainEndsAlike }
 {
     numbering_law();
 }

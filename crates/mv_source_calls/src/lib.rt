@@ -6,4 +6,6 @@
 
 mod laws;
 
-pub use laws::{bindings_stay, bodies_are_right, globals_keep_their_sizes, main_is_right};
+pub use laws::{
+    bindings_stay, bodies_are_right, globals_keep_their_sizes, main_ends_alike, main_is_right,
+};

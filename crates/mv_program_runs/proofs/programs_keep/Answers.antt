@@ -8,5 +8,5 @@ returns-clause-functions g c access y machine budget far p numbers loaded bound 
 
 pub returns-clause-main : goal.returns-clause-main
 returns-clause-main g c access y machine budget far p numbers loaded numbering input actions fit back i target ra begins stands bound =
-    main_follows access y machine budget far p numbers loaded c.function_code_law.ensures.each c.function_code_law.ensures.main c.bodies_are_right.ensures c.main_is_right.ensures
+    main_follows access y machine budget far p numbers loaded c.function_code_law.ensures.each c.function_code_law.ensures.main c.bodies_are_right.ensures c.main_is_right.ensures c.main_ends_alike.ensures
     numbering input actions fit back i target ra begins stands bound

@@ -13,6 +13,6 @@ five old s₁ s₂ s₃ s₄ s₅ a b c d e e₁ e₂ e₃ e₄ e₅ = rw (e₅,
 pub returns : goal.returns
 returns c =
     on_ok_weaker c.push_trap-4.result
-        (five _ _ _ _ _ _ (start_lines c.args.main) (trap_lines 1) (trap_lines 2) (trap_lines 3) (trap_lines 4)
-            c.in_ok-push_start.ensures c.in_ok-push_trap.ensures c.in_ok-push_trap-2.ensures c.in_ok-push_trap-3.ensures)
-        c.push_trap-4.ensures
+    (five _ _ _ _ _ _ (start_lines c.args.main) (trap_lines 1) (trap_lines 2) (trap_lines 3) (trap_lines 4)
+    c.in_ok-push_start.ensures c.in_ok-push_trap.ensures c.in_ok-push_trap-2.ensures c.in_ok-push_trap-3.ensures)
+    c.push_trap-4.ensures

@@ -1,0 +1,10 @@
+pub mod Unbound
+pub mod Rooms
+pub mod Renamed
+pub mod Numbers
+pub mod NoSlots
+pub mod Places
+pub mod Linked
+pub mod Host
+pub mod Main
+pub mod Whole

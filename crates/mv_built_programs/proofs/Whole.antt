@@ -1,0 +1,163 @@
+-- The run of a built image does what its program means.
+use Rattle.std.proofs.Common.{◌≡◌, ℕ, suc, ◌+◌, ◌*◌, ◌<◌, ◌≤◌, ◌^◌, ◌%◌, Bool, true, false, eqb, List, [], ◌∷◌, Option, Some, None, map, take, sum, length, get_or, filter, replicate, slice_get, All, refl, sym, ap, ◌∙◌, subst, arith}
+use Rattle.std.specs.Prelude.{IsTrue}
+use Rattle.std.specs.List.{flat_map}
+use Rattle.std.proofs.Math.ListN as lists
+use Rattle.std.proofs.lemmas.List.{length-map}
+use Rattle.std.proofs.lemmas.List.Elements.{All-nil}
+use Rattle.mv_ast.specs.declared.program.Program.{Program}
+use Rattle.mv_ast.specs.declared.program.Function.{Function}
+use Rattle.mv_ast.specs.declared.world.Action.{Action}
+use Rattle.mv_ast.specs.declared.world.Binding.{Binding}
+use Rattle.mv_ast.specs.Actions.{fits}
+use Rattle.mv_ast.specs.Plans.{attributed_functions, free}
+use Rattle.mv_ast.specs.Starts.{first_words_under}
+use Rattle.mv_numbering.specs.Numberings.{IsNumbering}
+use Rattle.mv_image.specs.Spelling.{Fields}
+use Rattle.mv_ir.specs.World.{World}
+use Rattle.mv_ir.specs.Levels.{Code}
+use Rattle.mv_ir.specs.Programs.{setting_of, code_of, call_of_main}
+use Rattle.mv_ir_ends.specs.Reached.{IsReached, EndsAreReached}
+use Rattle.mv_lowering.specs.Functions.{lower_program}
+use Rattle.mv_lowered_programs.specs.WellFormed.{IsWellFormed}
+use Rattle.mv_machine.specs.Runs.{bytes_to_come}
+use Rattle.mv_flow_code.specs.Runs.{Machine}
+use Rattle.mv_call_code.specs.Convention.{Layout, Stands}
+use Rattle.mv_function_code.specs.Functions.{Begins}
+use Rattle.mv_selected_bodies.specs.SelectedBodies.{CodeIsTheSame, BodiesAreFunctions}
+use Rattle.mv_machine_runs.specs.Calm.{Rest}
+use Rattle.mv_machine_runs.specs.Laws.{IsFirst, CodeIsPlaced, TextsAreFound, PackedIsLaidOut}
+use Rattle.mv_machine_runs.specs.MachineRuns.{access, machine_of}
+use Rattle.mv_stub_runs.specs.Laws.{HoldsData, EntersMain, StartIsRight}
+use Rattle.mv_stub_runs.specs.Stubs.{start_address, return_address}
+use Rattle.mv_image_runs.specs.Behaves.{Behaves}
+use Rattle.mv_image_runs.specs.Laws.{ImagesBehave}
+use Rattle.mv_image_runs.specs.Main.{HasStubs, CallsMain, RunsMain}
+use Rattle.mv_program_runs.specs.Laws.{first_seen, MainFollows}
+use Rattle.mv_linker.specs.declared.parts.Parts.{Parts}
+use Rattle.mv_linker.specs.Laws.{LinesFit, StubsStand, FunctionsStand}
+use Rattle.mv_linker.specs.Outcome as linker
+use Rattle.mv_first_data.specs.Laws.{SizesAreCounts}
+use Rattle.mv_built_programs.specs.Built.{IsUnattributed, HasWordsOfGlobals, IsBuilt}
+use Rattle.mv_built_programs.specs.Layouts.{global_sizes, address_of, numbers_of, layout_of}
+use Rattle.mv_built_programs.proofs.Rooms.{size_is}
+use Rattle.mv_built_programs.proofs.Linked.{start_ends, start_placed, has_stubs}
+use Rattle.mv_built_programs.proofs.Host.{is_numbering, addresses, global_count, loaded}
+use Rattle.mv_built_programs.proofs.Unbound.{unbound, has_no_bindings, unbound_begins, stands_unbound, follows_too}
+
+-- the run of a lowered program ends so, also where it has no main
+run_reached : EndsAreReached → (p : Program) (numbers : List ℕ) (codes : List Code) (main : Option Code) (bound : ℕ) (w : World) → IsReached w (call_of_main (setting_of numbers p) codes main bound w).end
+run_reached reached p numbers codes None bound w = tt
+run_reached reached p numbers codes (Some main) bound w = reached p numbers codes main bound w
+
+-- no function is attributed
+none_attributed : (gs : List Function) → ((k : ℕ) (g : Function) → slice_get gs k ≡ Some g → g.attributed ≡ false) → filter (λ (g : Function). g.attributed) gs ≡ []
+none_attributed [] plain = refl
+none_attributed (g ∷ gs) plain =
+    let here = plain 0 g refl in
+    let rest = none_attributed gs (λ k h e. plain (suc k) h e) in rw (here) rest
+
+module _ (lines_fit : LinesFit) (stubs_stand : StubsStand) (functions_stand : FunctionsStand) (code_is_placed : CodeIsPlaced) (texts_are_found : TextsAreFound)
+    (packed : PackedIsLaidOut) (same_code : CodeIsTheSame) (are_functions : BodiesAreFunctions) (sizes_are : SizesAreCounts)
+    (start_right : StartIsRight) (images_behave : ImagesBehave) (main_follows : MainFollows Rest) (ends_reached : EndsAreReached)
+    (p : Program) (image : Fields) (formed : IsWellFormed p) (plain : IsUnattributed p) (have_words : HasWordsOfGlobals p) (built : IsBuilt p image)
+    (bytes picks : List ℕ) (are_bytes : All (λ b. b < 2 ^ 8) bytes) where
+  abbrev parts : Parts
+  parts = built.parts
+
+  abbrev sizing : List ℕ
+  sizing = built.linked.sizing
+
+  abbrev y : Layout
+  y = layout_of parts sizing p
+
+  abbrev numbers : List ℕ
+  numbers = numbers_of parts sizing
+
+  abbrev first : World
+  first = first_seen p numbers bytes []
+
+  abbrev the_machine : Machine Rest
+  the_machine = machine_of [] image (bytes_to_come bytes) picks
+
+  numbered : IsNumbering p numbers
+  numbered = is_numbering lines_fit stubs_stand functions_stand code_is_placed texts_are_found packed same_code are_functions sizes_are p image formed plain have_words built
+
+  stubs : HasStubs [] image y
+  stubs = has_stubs lines_fit stubs_stand functions_stand code_is_placed texts_are_found p image built
+
+  -- ---- the first world
+
+  no_bindings : first.bindings ≡ []
+  no_bindings = ap (λ (gs : List Function). map (λ g. free) gs) (none_attributed p.functions plain)
+
+  is_first : IsFirst image bytes first
+  is_first = record {
+    input = refl;
+    output = refl;
+    bindings = no_bindings ∙ sym (ap (λ (i : Fields). replicate (length i.functions) free) built.linked.image_is);
+    log = refl;
+  }
+
+  sizes_counted : map length (map (first_words_under numbers) p.globals) ≡ global_sizes p
+  sizes_counted = global_count lines_fit stubs_stand functions_stand code_is_placed texts_are_found packed same_code are_functions sizes_are p image formed plain have_words built
+
+  data_is : image.globals ≡ map (linker.datum_word (address_of parts sizing)) parts.globals
+  data_is = ap (λ (i : Fields). i.globals) built.linked.image_is
+
+  globals_are : image.globals ≡ flat_map (λ words. words) first.globals
+  globals_are =
+      data_is ∙ built.globals (address_of parts sizing) numbers
+      (addresses lines_fit stubs_stand functions_stand code_is_placed texts_are_found packed same_code are_functions sizes_are p image formed plain have_words built)
+
+  size_counted : (g : ℕ) → y.size g ≡ length (get_or first.globals g [])
+  size_counted g =
+      sym (size_is p.globals g) ∙ ap (λ (ns : List ℕ). get_or ns g 0) (sym sizes_counted) ∙ lists.get_or-map length first.globals g []
+
+  holds : HoldsData y image first
+  holds = record {
+    are = globals_are;
+    sizes = size_counted;
+    places = λ g lt. ap (λ (ns : List ℕ). 0x0010_0000 + 4 * sum (take g ns)) (sym sizes_counted);
+    words = built.words;
+    room = let fits = built.linked.data_fits in
+        let count : length image.globals ≡ length parts.globals = ap length data_is ∙ length-map parts.globals (linker.datum_word (address_of parts sizing)) in omega (arith, fits, count);
+  }
+
+  -- ---- main is called
+
+  module _ (budget far : ℕ) where
+    enters : EntersMain y the_machine budget far (address_of parts sizing parts.main) first 3
+    enters =
+        start_right [] image bytes picks y budget far first is_first holds (ap (λ (i : Fields). i.entry) built.linked.image_is) (address_of parts sizing) (address_of parts sizing) parts.main
+        (start_ends lines_fit stubs_stand functions_stand code_is_placed texts_are_found p image built) (start_placed lines_fit stubs_stand functions_stand code_is_placed texts_are_found p image built)
+
+    begins : Begins access y the_machine 3
+    begins =
+        let sp = enters.stack in record {
+          live = enters.live;
+          left = enters.left;
+          even = ap (λ n. n % 4) sp;
+          room = omega (arith, sp);
+          within = omega (arith, sp);
+        }
+
+    stands : Stands access y the_machine budget far (y.entry p.main) first 3
+    stands = subst (λ f. Stands access y the_machine budget far (address_of parts sizing f) first 3) built.main enters.stands
+
+    calls_main : (k : ℕ) → CallsMain [] p image bytes picks y first budget far k
+    calls_main k =
+        let none : has_no_bindings first ≡ true = ap (λ (bs : List Binding). eqb (length bs) 0) no_bindings in
+        let m = main_follows access y (unbound access y the_machine) budget far p numbers
+        (loaded lines_fit stubs_stand functions_stand code_is_placed texts_are_found packed same_code are_functions sizes_are p image formed plain have_words built bytes picks are_bytes budget far)
+        numbered bytes [] (All-nil (λ (a : Action). IsTrue (fits p a))) return_address 3 (omega arith, refl) enters.link (unbound_begins access y the_machine 3 begins)
+        (stands_unbound access y the_machine budget far (y.entry p.main) first 3 none stands) k in record {
+          call = m.0;
+          means = m.1;
+          reached = subst (IsReached first) (sym m.2) (run_reached ends_reached p numbers (code_of (lower_program p)) (slice_get (code_of (lower_program p)) p.main) k first);
+          returns = m.3;
+          follows = λ spare paid asked. follows_too access y the_machine budget far spare k 3 return_address m.0.end (m.4 spare paid asked);
+        }
+
+  pub built_behaves : Behaves p image bytes picks
+  built_behaves = images_behave [] p image bytes picks y stubs record { first = first; input = omega arith; calls = calls_main }
