@@ -1,6 +1,6 @@
 -- At the end of the prologue the frame shows the state in which a body begins.
-use Rattle.std.proofs.Common.{◌≡◌, inl, ⊎_elim, ℕ, zero, suc, ◌+◌, ◌-◌, ◌^◌, ◌<◌, ◌≤◌, Bool, true, cond, ltb, List, [], ◌∷◌, length, slice_index, slice_index_or, unwrap_or, Some, refl, sym, ap, ◌∙◌, subst, arith}
-use Rattle.std.proofs.lemmas.Bool.{cases_lt, lt-ltb, le-ltb}
+use Rattle.std.proofs.Common.{◌≡◌, inl, ⊎_elim, ℕ, zero, suc, ◌+◌, ◌-◌, ◌^◌, ◌<◌, ◌≤◌, Bool, true, List, [], ◌∷◌, length, slice_index, slice_index_or, unwrap_or, Some, refl, sym, ap, ◌∙◌, subst, arith}
+use Rattle.std.proofs.lemmas.Bool.{cases_lt}
 use Rattle.std.proofs.lemmas.List.{get_or_append_left, get_or-append_right, length-append}
 use Rattle.mv_isa.specs.Execution.{Access, reg}
 use Rattle.mv_ir.specs.declared.body.Body.{Body}
@@ -59,39 +59,39 @@ module _ {M : Type 0} (access : Access M) (y : Layout) (laid : IsLaid y) (machin
   pub loaded : (b : ℕ) → IsStack y b → access.load m b 4 ≡ Some (word_of_stack b)
   loaded b h = let v = memory.stack w m b calm h in v.1 ∙ ap Some (sym (ap (λ o. unwrap_or o 0) v.1))
 
-  -- what the temporaries and the arrays hold
-  abbrev temp_holds : ℕ → ℕ
-  temp_holds t = cond (ltb t 9) (reg regs (temp_register t)) (word_of_stack (address Here (TempCell t)))
+  -- the contents of the frame, behind so many arguments, are what registers and memory have
+  pub record Holds (count : ℕ) (contents : Contents) : Type 0 where
+    pub low : (t : ℕ) → count ≤ t → t < 9 → contents.temps (t - count) ≡ reg regs (temp_register t)
+    pub high : (t : ℕ) → count ≤ t → 9 ≤ t → t < body.temps → contents.temps (t - count) ≡ word_of_stack (address Here (TempCell t))
+    pub arrays : (a i : ℕ) → i < slice_index body.arrays a → contents.arrays a i ≡ word_of_stack (address Here (Element (array.Local a) i))
 
-  abbrev pub contents : List ℕ → Contents
-  contents args = record { temps = λ j. temp_holds (length args + j); arrays = λ a i. word_of_stack (address Here (Element (array.Local a) i)) }
-
-  module _ (args : List ℕ) (now : World) (few : length args ≤ 8) (count : length args ≤ body.temps) (are : AreRegisters regs) (globals : HoldsGlobals access y machine budget far now m)
-      (held : (j : ℕ) → j < length args → reg regs (temp_register j) ≡ slice_index args j) where
+  module _ (args : List ℕ) (contents : Contents) (now : World) (few : length args ≤ 8) (count : length args ≤ body.temps) (are : AreRegisters regs)
+      (globals : HoldsGlobals access y machine budget far now m) (held : (j : ℕ) → j < length args → reg regs (temp_register j) ≡ slice_index args j) (holds : Holds (length args) contents) where
     abbrev pub begin : State
-    begin = entry_state (contents args) body args now
+    begin = entry_state contents body args now
 
-    behind : (t : ℕ) → length args ≤ t → t < body.temps → slice_index begin.temps t ≡ temp_holds t
-    behind t le lt = let same : length args + (t - length args) ≡ t = omega (arith, le) in rest_at (contents args).temps body.temps args t le lt ∙ ap temp_holds same
+    behind : (t : ℕ) → length args ≤ t → t < body.temps → slice_index begin.temps t ≡ contents.temps (t - length args)
+    behind t le lt = rest_at contents.temps body.temps args t le lt
 
     low_temp : (t : ℕ) → t < body.temps → t < 9 → reg regs (temp_register t) ≡ slice_index begin.temps t
     low_temp t lt small = ⊎_elim
-        (λ (h : t < length args). held t h ∙ sym (argument_at (contents args).temps body.temps args t h))
-        (λ (h : length args ≤ t). sym (behind t h lt ∙ ap (λ b. cond b (reg regs (temp_register t)) (word_of_stack (address Here (TempCell t)))) (lt-ltb t 9 small)))
+        (λ (h : t < length args). held t h ∙ sym (argument_at contents.temps body.temps args t h))
+        (λ (h : length args ≤ t). sym (behind t h lt ∙ holds.low t h small))
         (cases_lt t (length args))
 
     high_temp : (t : ℕ) → t < body.temps → 9 ≤ t → slice_index begin.temps t ≡ word_of_stack (address Here (TempCell t))
-    high_temp t lt big = behind t (omega (arith, few, big)) lt ∙ ap (λ b. cond b (reg regs (temp_register t)) (word_of_stack (address Here (TempCell t)))) (le-ltb t 9 big)
+    high_temp t lt big = let le : length args ≤ t = omega (arith, few, big) in behind t le lt ∙ holds.high t le big lt
 
     local_is : (a i : ℕ) → i < slice_index body.arrays a → slice_index (elements (array.Local a) begin) i ≡ word_of_stack (address Here (Element (array.Local a) i))
-    local_is a i lt = ap (λ xs. slice_index xs i) (arrays_at (contents args).arrays body.arrays a) ∙ items_at (slice_index body.arrays a) ((contents args).arrays a) i lt
+    local_is a i lt =
+        ap (λ xs. slice_index xs i) (arrays_at contents.arrays body.arrays a) ∙ items_at (slice_index body.arrays a) (contents.arrays a) i lt ∙ holds.arrays a i lt
 
     stack_cell : (x : Cell) → IsAbove y (reg regs 2) (address Here x) → IsStack y (address Here x)
     stack_cell x h = let low = h.0 in (omega (arith, low, is.low), h.1, h.2)
 
     sizes : (a : Array) → length (elements a begin) ≡ size_of Here a
     sizes (array.Global g) = globals.sizes g
-    sizes (array.Local a) = ap length (arrays_at (contents args).arrays body.arrays a) ∙ items_count (slice_index body.arrays a) ((contents args).arrays a)
+    sizes (array.Local a) = ap length (arrays_at contents.arrays body.arrays a) ∙ items_count (slice_index body.arrays a) (contents.arrays a)
 
     in_memory : (x : Cell) → IsThere Here x → access.load m (address Here x) 4 ≡ Some (content Here begin x)
     in_memory (TempCell t) h =
@@ -117,7 +117,7 @@ module _ {M : Type 0} (access : Access M) (y : Layout) (laid : IsLaid y) (machin
     begins_shown = record {
       are = are;
       left = λ q h. refl;
-      count = temps_count (contents args).temps body.temps args count;
+      count = temps_count contents.temps body.temps args count;
       sizes = sizes;
       low_words = λ t lt small. subst (λ z. z < 2 ^ 32) (low_temp t lt small) (are.words (temp_register t));
       in_register = low_temp;

@@ -84,7 +84,7 @@ kept_high sp caller top b even low high =
 
 -- ---- a frame
 
-temp_is : (t : ℕ) → temp_offset t ≡ 4 * (t + 1)
+pub temp_is : (t : ℕ) → temp_offset t ≡ 4 * (t + 1)
 unfolding temp_offset
 temp_is t = refl
 

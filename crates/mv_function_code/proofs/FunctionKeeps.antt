@@ -1,5 +1,5 @@
--- The code of a function keeps the calling convention.
-use Rattle.std.proofs.Common.{◌≡◌, inl, inr, ℕ, ◌+◌, ◌-◌, ◌*◌, ◌^◌, ◌<◌, ◌≤◌, Bool, true, false, cond, List, [], ◌∷◌, ◌++◌, length, slice_index, Some, None, refl, sym, ap, ◌∙◌, subst, arith}
+-- The code of a function does what its body means, and keeps the calling convention.
+use Rattle.std.proofs.Common.{◌≡◌, inl, inr, ℕ, ◌+◌, ◌-◌, ◌*◌, ◌^◌, ◌<◌, ◌≤◌, Bool, true, List, [], ◌∷◌, ◌++◌, length, slice_index, Some, None, refl, sym, ap, ◌∙◌, subst, arith}
 use Rattle.std.proofs.Math.Nat.{min-le_right}
 use Rattle.mv_isa.specs.declared.labelled.Line.{Line}
 use Rattle.mv_isa.specs.declared.labelled.Line.TheVariants.{Label}
@@ -9,8 +9,8 @@ use Rattle.mv_ir.specs.declared.tree.Tree.{Tree}
 use Rattle.mv_ir.specs.declared.body.Body.{Body}
 use Rattle.mv_ir.specs.World as ir
 use Rattle.mv_ir.specs.World.{World}
-use Rattle.mv_ir.specs.Outcome.{State, Returned, Trapped, More, Stuck, Outcome, Next, Leaves, Restarts, Ends, Call, Bound}
-use Rattle.mv_ir.specs.Meaning.{code_meaning, body_end, body_meaning}
+use Rattle.mv_ir.specs.Outcome.{State, Returned, Trapped, More, Stuck, Outcome, Next, Leaves, Restarts, Ends, Bound}
+use Rattle.mv_ir.specs.Meaning.{Contents, code_meaning, body_end, body_from}
 use Rattle.mv_tree_code.specs.TreeCode.{temp_register}
 use Rattle.mv_tree_code.specs.View.{AreRegisters}
 use Rattle.mv_statement_code.specs.StatementCode.{first}
@@ -25,14 +25,16 @@ use Rattle.mv_flow_code.proofs.StatementsDo.{flow_done}
 use Rattle.mv_flow_code.proofs.Walk.{before_next, placed_split, stands_at, to_stands, to_here}
 use Rattle.mv_call_code.specs.CallCode.{link_register, left_register, calls_of}
 use Rattle.mv_call_code.specs.Convention as convention
-use Rattle.mv_call_code.specs.Convention.{Layout, IsTarget, HoldsGlobals, Enters, Returns, FollowsCall, Conventions}
+use Rattle.mv_call_code.specs.Convention.{Layout, IsTarget, HoldsGlobals, Returns, FollowsCall, Conventions}
 use Rattle.mv_call_code.specs.Environment.{ServesKnown}
 use Rattle.mv_call_code.specs.Laws.{IsCaller, IsLinked}
 use Rattle.mv_call_code.proofs.CallerShown.{globals_held}
 use Rattle.mv_call_code.proofs.FunctionCalls.{call_done}
 use Rattle.mv_call_code.proofs.KnownCalls.{known_done}
 use Rattle.mv_function_code.specs.FunctionCode.{Shape, bytes_of, saved_count, lowered_lines, epilogue_lines, body_lines, later_lines, end_label}
-use Rattle.mv_function_code.specs.Functions.{IsLaid, IsMemory, StandsInWords, IsStack, IsFunction, LowersStack, shape_of, frame_in}
+use Rattle.mv_function_code.specs.Functions.{IsLaid, IsMemory, StandsInWords, IsStack, IsFunction, LowersStack, shape_of}
+use Rattle.mv_function_code.proofs.Begun.{Begun, frame_at}
+use Rattle.mv_function_code.proofs.Contents.{contents_at, holds_still}
 use Rattle.mv_function_code.proofs.EntryShown as shown
 use Rattle.mv_function_code.proofs.Epilogue.{Unwound, epilogue_walk}
 use Rattle.mv_function_code.proofs.Frame.{IsFrame, own_words, frame_fits, frame_calls}
@@ -47,10 +49,6 @@ within_self (calls ∷ below) = inl refl
 saved_few : (temps : ℕ) → saved_count temps ≤ 10
 saved_few temps = omega (arith, min-le_right temps 9)
 
-counts_one : (b : Bool) → cond b 1 0 ≤ 1
-counts_one true = omega arith
-counts_one false = omega arith
-
 module _ {M : Type 0} (access : Access M) (y : Layout) (laid : IsLaid y) (machine : Machine M) (memory : IsMemory access y machine)
     (runs : (s : Site) → StandsInWords y s → IsRun access s machine) (setting : ir.Setting)
     (entries : (f : ℕ) → f < length setting.numbers → (slice_index setting.numbers f ≡ y.entry f) × IsPlace (y.entry f))
@@ -59,13 +57,13 @@ module _ {M : Type 0} (access : Access M) (y : Layout) (laid : IsLaid y) (machin
     (place : ℕ → ℕ) (linked : IsLinked y place) (is_attributed : ℕ → Bool) (pc mid next : ℕ)
     (placed : Placed machine.text place y.entry (later_lines y.place y.size is_attributed (shape_of attributed body) body.code) mid next)
     (depth live : ℕ) (args : List ℕ) (back i : ℕ) (count : length args ≡ body.params) (target : IsTarget back) (ra : reg (machine.run i).regs link_register ≡ back)
-    (w : World) (stands : convention.Stands access y machine budget far pc w i) (enters : Enters access y machine budget far depth live args i)
+    (w : World) (stands : convention.Stands access y machine budget far pc w i) (begun : Begun y machine attributed depth live args i)
     (lowers : LowersStack machine (bytes_of (shape_of attributed body)) mid i) where
   abbrev shape : Shape
   shape = shape_of attributed body
 
   abbrev frame : ir.Frame
-  frame = frame_in attributed bound depth live
+  frame = frame_at attributed bound depth live
 
   abbrev before : List ℕ
   before = (machine.run i).regs
@@ -102,17 +100,17 @@ module _ {M : Type 0} (access : Access M) (y : Layout) (laid : IsLaid y) (machin
   -- ---- entry
 
   small : bytes_of (shape_of attributed body) ≤ reg (machine.run i).regs 2
-  small = omega (arith, enters.room, fn.small)
+  small = omega (arith, begun.room, fn.small)
 
   is_frame : IsFrame y (shape_of attributed body) sp (reg (machine.run i).regs 2)
-  is_frame = record { below = omega (arith, small); even = enters.even; low = omega (arith, enters.room, fn.small, small); high = enters.within }
+  is_frame = record { below = omega (arith, small); even = begun.even; low = omega (arith, begun.room, fn.small, small); high = begun.within }
 
   live_small : live + 1 < 2 ^ 32
-  live_small = omega (arith, enters.counts, enters.left)
+  live_small = omega (arith, begun.counts, begun.left)
 
   prep : Prepared access y laid machine memory runs budget far place (shape_of attributed body) args live sp (machine.run i).regs (machine.run i).memory w p.0 i
-  prep = prologue_walk access y laid machine memory runs budget far place shape args live sp caller before (machine.run i).memory w mid p.0 i is_frame fn.params refl enters.live live_small stands.are
-      (λ j lt. enters.arguments j (omega (arith, lt, count))) p.1
+  prep = prologue_walk access y laid machine memory runs budget far place shape args live sp caller before (machine.run i).memory w mid p.0 i is_frame fn.params refl begun.live_is live_small stands.are
+      (λ j lt. begun.arguments j (omega (arith, lt, count))) p.1
       (record { is = lowers.goes; calm = stands.calm; sound = before_next (λ t. machine.is_sound (machine.run t) ≡ true) i stands.sound lowers.sound })
 
   is : IsFrame y (shape_of attributed body) (reg prep.regs 2) (reg (machine.run i).regs 2)
@@ -144,11 +142,18 @@ module _ {M : Type 0} (access : Access M) (y : Layout) (laid : IsLaid y) (machin
   enough : length args ≤ body.temps
   enough = omega (arith, count, fn.temps)
 
+  abbrev contents : Contents
+  contents = contents_at access machine attributed body (length args) i
+
+  held_still : shown.Holds access y laid machine memory budget far is_read attributed body (outside w) prep.regs prep.mem caller is calm (length args)
+      (contents_at access machine attributed body (length args) i)
+  held_still = holds_still access y laid machine memory runs budget far place is_read attributed body args live sp caller before (machine.run i).memory w p.0 i prep is calm count
+
   abbrev begin : State
-  begin = shown.begin access y laid machine memory budget far is_read attributed body (outside w) prep.regs prep.mem caller is calm args w few enough prep.are globals_now held
+  begin = shown.begin access y laid machine memory budget far is_read attributed body (outside w) prep.regs prep.mem caller is calm args contents w few enough prep.are globals_now held held_still
 
   begins : Shows S access begin prep.regs prep.mem
-  begins = shown.begins_shown access y laid machine memory budget far is_read attributed body (outside w) prep.regs prep.mem caller is calm args w few enough prep.are globals_now held
+  begins = shown.begins_shown access y laid machine memory budget far is_read attributed body (outside w) prep.regs prep.mem caller is calm args contents w few enough prep.are globals_now held held_still
 
   -- ---- the body
 
@@ -159,14 +164,14 @@ module _ {M : Type 0} (access : Access M) (y : Layout) (laid : IsLaid y) (machin
   left_is = prep.others left_register (λ e. omega (arith, e)) (λ e. omega (arith, e)) (λ j lt e. omega (arith, e, register_high j (omega (arith, lt, fn.params))))
 
   calls : IsCaller y S setting frame
-  calls = frame_calls y laid is_read shape (reg prep.regs) caller kept is access machine memory setting frame entries prep.live_is (omega (arith, enters.counts, counts_one attributed))
-      (omega (arith, left_is, enters.left)) (omega (arith, left_is, enters.room, fn.small, prep.sp_is, small))
+  calls = frame_calls y laid is_read shape (reg prep.regs) caller kept is access machine memory setting frame entries prep.live_is begun.counts
+      (omega (arith, left_is, begun.left)) (omega (arith, left_is, begun.room, fn.small, prep.sp_is, small))
 
   abbrev okS : IsRun access S machine
   okS = runs S (own_words y laid is_read shape (reg prep.regs) caller kept is)
 
   fine_trees : (t : Tree) → is_fine t ≡ true → IsFine S setting frame t
-  fine_trees t e = fn.trees t e depth live (reg prep.regs) S.is_kept kept
+  fine_trees t e = let fine = fn.trees t e depth live (reg prep.regs) S.is_kept kept in record { named = fine.named; shallow = fine.shallow }
 
   calls_do : CallsDo access S setting frame machine place end_label budget far is_fine levels (calls_of y.place is_attributed)
   calls_do = record {
@@ -205,7 +210,7 @@ module _ {M : Type 0} (access : Access M) (y : Layout) (laid : IsLaid y) (machin
 
       un : Unwound access y laid machine memory runs budget far place is_read attributed body (machine.run i).regs (machine.run i).memory back l.world (machine.run j).regs (machine.run j).memory j
       un = epilogue_walk access y laid machine memory runs budget far place is_read attributed body args live sp caller before (machine.run i).memory w p.0 i prep is calm l.world l
-          (machine.run j).regs (machine.run j).memory h.shows back q.2.0 next j fn.params fn.temps refl enters.live live_small ra target q.2.2 a
+          (machine.run j).regs (machine.run j).memory h.shows back q.2.0 next j fn.params fn.temps refl begun.live_is live_small ra target q.2.2 a
 
       memory_is : (machine.run un.time).memory ≡ (machine.run j).memory
       memory_is = ap (λ (x : Spot M). x.memory) un.stands.is
@@ -246,9 +251,6 @@ module _ {M : Type 0} (access : Access M) (y : Layout) (laid : IsLaid y) (machin
   finish spare k (Ends (More v)) f = (f.0, record { calm = f.1.calm; sound = f.1.sound; paid = f.1.paid; asked = f.1.asked })
   finish spare k (Ends Stuck) f = tt
 
-  pub later_keeps : (spare : ℕ) → i + (spare + 44 + (body_meaning setting frame body args levels w).cost) ≤ budget → far ≤ i + length levels
-      → FollowsCall access y machine budget far spare (length levels) i back (body_meaning setting frame body args levels w).end
-  later_keeps spare paid asked =
-      subst (λ (c : Call). i + (spare + 44 + c.cost) ≤ budget → FollowsCall access y machine budget far spare (length levels) i back c.end)
-      (fn.settled frame (shown.contents access y laid machine memory budget far is_read attributed body (outside w) prep.regs prep.mem caller is calm args) args levels w count)
-      (λ enough. finish spare (length levels) (code_meaning setting frame body.code levels begin).outcome (follows spare enough asked)) paid
+  pub later_keeps : (spare : ℕ) → i + (spare + 44 + (body_from setting frame contents body args levels w).cost) ≤ budget → far ≤ i + length levels
+      → FollowsCall access y machine budget far spare (length levels) i back (body_from setting frame contents body args levels w).end
+  later_keeps spare paid asked = finish spare (length levels) (code_meaning setting frame body.code levels begin).outcome (follows spare paid asked)

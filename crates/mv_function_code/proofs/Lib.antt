@@ -1,5 +1,7 @@
 pub mod Entry
 pub mod EntryShown
+pub mod Begun
+pub mod Contents
 pub mod Frame
 pub mod FrameWords
 pub mod Steps

@@ -1,12 +1,12 @@
 -- All functions of a program keep the calling convention, by induction on the bound.
-use Rattle.std.proofs.Common.{◌≡◌, ℕ, zero, suc, ◌+◌, ◌<◌, Bool, true, false, cond, eqb, List, [], length, slice_index, slice_get, Option, Some, None, refl, sym, subst, arith}
+use Rattle.std.proofs.Common.{◌≡◌, ℕ, zero, suc, ◌+◌, ◌<◌, ◌≤◌, Bool, true, false, cond, eqb, List, [], length, slice_index, slice_get, Option, Some, None, refl, sym, subst, arith}
 use Rattle.std.proofs.lemmas.Bool.{eqb-true}
 use Rattle.mv_isa.specs.Code.{IsPlace}
 use Rattle.mv_isa.specs.Execution.{Access, reg}
 use Rattle.mv_ir.specs.World as ir
 use Rattle.mv_ir.specs.World.{World, Frame}
 use Rattle.mv_ir.specs.Outcome.{End, Returned, Trapped, More, Stuck, Call, Bound}
-use Rattle.mv_ir.specs.Meaning.{body_meaning}
+use Rattle.mv_ir.specs.Meaning.{body_from, body_meaning}
 use Rattle.mv_ir.specs.Levels.{Code, called, frame_of_call}
 use Rattle.mv_statement_code.specs.Frames.{Site}
 use Rattle.mv_flow_code.specs.Runs.{Machine, IsRun}
@@ -16,7 +16,7 @@ use Rattle.mv_call_code.specs.Environment.{ServesKnown}
 use Rattle.mv_function_code.specs.Functions.{IsLaid, IsMemory, StandsInWords, frame_in}
 use Rattle.mv_function_code.specs.Programs as programs
 use Rattle.mv_function_code.specs.Programs.{fitted, fitted_levels}
-use Rattle.mv_function_code.proofs.WholeFunction.{function_keeps}
+use Rattle.mv_function_code.proofs.WholeFunction.{called_keeps}
 
 module _ {M : Type 0} (access : Access M) (y : Layout) (laid : IsLaid y) (machine : Machine M) (memory : IsMemory access y machine)
     (runs : (s : Site) → StandsInWords y s → IsRun access s machine) (setting : ir.Setting)
@@ -47,9 +47,11 @@ module _ {M : Type 0} (access : Access M) (y : Layout) (laid : IsLaid y) (machin
       where
         free : Answers access y machine budget far entry_cost (length levels) entry back depth frames args (body_meaning setting (frame_in false [] depth frames) c.body args levels) i
         free spare w stands enters paid asked =
-            with_less spare (length levels) i back (body_meaning setting (frame_in false [] depth frames) c.body args levels w).end
-            (function_keeps access y laid machine memory runs setting entries budget far serves levels keep false [] s.is_read s.is_fine c.body s.is s.place s.linked s.is_attributed entry s.next s.placed
-            depth frames args back i count target ra (spare + 1) w stands enters (omega (arith, paid)) asked)
+            let keeps = called_keeps access y laid machine memory runs setting entries budget far serves levels keep false [] s.is_read s.is_fine c.body s.is s.place s.linked s.is_attributed
+            entry s.next s.placed back i target ra depth frames args count in
+            subst (λ (call : Call). i + (spare + entry_cost + call.cost) ≤ budget → FC spare (length levels) i back call.end) (s.settled (frame_in false [] depth frames) keeps.0 args levels w count)
+            (λ enough. with_less spare (length levels) i back (body_from setting (frame_in false [] depth frames) keeps.0 c.body args levels w).end
+            (keeps.1 (spare + 1) w stands enters (omega (arith, enough)) asked)) paid
 
     by_count : (c : Code) (b : Bool) → eqb (length args) c.body.params ≡ b → programs.Stands y setting machine entry c
         → A (λ w. cond b (called setting (Some c) levels args depth frames w) (record { cost = 0; end = Stuck }))

@@ -1,5 +1,5 @@
 -- What the code of a whole function promises: it keeps the calling convention, if the functions do at each lower bound.
-use Rattle.std.specs.Prelude.{ℕ, ◌≡◌, ◌≢◌, ◌+◌, ◌-◌, ◌*◌, ◌%◌, ◌^◌, ◌<◌, ◌≤◌, ◌⊎◌, Bool, true, cond, ltb, List, length, slice_index, Some, None}
+use Rattle.std.specs.Prelude.{ℕ, ◌≡◌, ◌≢◌, ◌+◌, ◌-◌, ◌*◌, ◌%◌, ◌^◌, ◌<◌, ◌≤◌, ◌⊎◌, Bool, true, false, cond, ltb, List, [], length, slice_index, Some, None}
 use Rattle.mv_isa.specs.Code.{IsPlace}
 use Rattle.mv_isa.specs.Execution.{Access, reg, put}
 use Rattle.mv_ir.specs.declared.tree.Tree.{Tree}
@@ -7,14 +7,14 @@ use Rattle.mv_ir.specs.declared.body.Body.{Body}
 use Rattle.mv_ir.specs.Trees.{found}
 use Rattle.mv_ir.specs.World as ir
 use Rattle.mv_ir.specs.World.{World}
-use Rattle.mv_ir.specs.Outcome.{Bound}
-use Rattle.mv_ir.specs.Meaning.{Contents, body_from, body_meaning}
+use Rattle.mv_ir.specs.Outcome.{Call, Bound}
+use Rattle.mv_ir.specs.Meaning.{Contents, body_from}
 use Rattle.mv_statement_code.specs.Frames.{Site, Cell, IsOwn, IsThere, address, IsFine}
 use Rattle.mv_flow_code.specs.FlowCode.{are_fine}
 use Rattle.mv_flow_code.specs.Placed.{Placed}
 use Rattle.mv_flow_code.specs.Runs.{Machine, IsRun}
-use Rattle.mv_call_code.specs.CallCode.{link_register}
-use Rattle.mv_call_code.specs.Convention.{Layout, IsTarget, IsAbove, frame_limit, Conventions, Answers}
+use Rattle.mv_call_code.specs.CallCode.{link_register, left_register, live_register}
+use Rattle.mv_call_code.specs.Convention.{Layout, IsTarget, IsAbove, frame_limit, depth_limit, Stands, FollowsCall, Conventions, Answers}
 use Rattle.mv_call_code.specs.Environment.{ServesKnown}
 use Rattle.mv_call_code.specs.Laws.{IsLinked}
 use Rattle.mv_function_code.specs.FunctionCode.{Shape, array_offset, bytes_of, later_lines, function_lines}
@@ -76,8 +76,12 @@ shape_of attributed body = record { attributed = attributed; params = body.param
 abbrev pub frame_in : Bool → List (ℕ × ℕ) → (depth live : ℕ) → ir.Frame
 frame_in attributed bound depth live = record { depth = depth + 1; live = live + cond attributed 1 0; bound = bound }
 
--- A function whose frame is small enough, and whose code is fine for it. It means the same whatever its frame holds at first; and it reads the globals
--- that it may, none of which is read as bound.
+-- the frame of the main function, above which there is none
+abbrev pub main_frame : List (ℕ × ℕ) → ir.Frame
+main_frame bound = record { depth = 0; live = 0; bound = bound }
+
+-- A function whose frame is small enough, and whose code is fine for it. Each global that it may read has a word, and none of them is read
+-- as bound.
 pub record IsFunction (y : Layout) (setting : ir.Setting) (attributed : Bool) (bound : List (ℕ × ℕ)) (is_read : ℕ → Bool) (is_fine : Tree → Bool) (body : Body) : Type 0 where
   pub params : body.params ≤ 8
   pub temps : body.params ≤ body.temps
@@ -87,11 +91,9 @@ pub record IsFunction (y : Layout) (setting : ir.Setting) (attributed : Bool) (b
   pub fine : are_fine is_fine y.may_ask body.temps (λ g. ltb 0 (y.size g)) body.code ≡ true
   pub trees : (t : Tree) → is_fine t ≡ true → (depth live : ℕ) (register : ℕ → ℕ) (is_kept : ℕ → Bool) (kept : ℕ → ℕ) →
       IsFine (site_of y is_read (shape_of attributed body) register is_kept kept) setting (frame_in attributed bound depth live) t
-  pub settled : (frame : ir.Frame) (contents : Contents) (args : List ℕ) (levels : Bound) (w : World) → length args ≡ body.params →
-      body_from setting frame contents body args levels w ≡ body_meaning setting frame body args levels w
 
--- Called with as many arguments as it has parameters, the code of a function does what its body means, in 44 instructions more than that costs, and keeps
--- the calling convention, over any functions that keep it at each lower bound.
+-- Called with as many arguments as it has parameters, the code of a function does what its body means, given what its frame holds at first, in 44
+-- instructions more than that costs, and keeps the calling convention, over any functions that keep it at each lower bound.
 abbrev pub FunctionsKeep : Type 0 → Type 0
 FunctionsKeep M =
     (access : Access M) (y : Layout) → IsLaid y → (machine : Machine M) → IsMemory access y machine →
@@ -102,8 +104,9 @@ FunctionsKeep M =
     (place : ℕ → ℕ) → IsLinked y place → (is_attributed : ℕ → Bool) (pc next : ℕ) →
     Placed machine.text place y.entry (function_lines y.place y.size is_attributed (shape_of attributed body) body.code) pc next →
     (depth live : ℕ) (args : List ℕ) (back i : ℕ) → length args ≡ body.params → IsTarget back → reg (machine.run i).regs link_register ≡ back →
-    Answers access y machine budget far 44 (length levels) pc back depth live args
-    (body_meaning setting (frame_in attributed bound depth live) body args levels) i
+    (contents : Contents)
+    × Answers access y machine budget far 44 (length levels) pc back depth live args
+    (body_from setting (frame_in attributed bound depth live) contents body args levels) i
 
 -- at time i the run moves sp down by so many bytes, from a sound place, and goes on at another
 pub record LowersStack {M : Type 0} (machine : Machine M) (bytes mid i : ℕ) : Type 0 where
@@ -127,5 +130,36 @@ LaterKeeps M =
     Placed machine.text place y.entry (later_lines y.place y.size is_attributed (shape_of attributed body) body.code) mid next →
     (depth live : ℕ) (args : List ℕ) (back i : ℕ) → length args ≡ body.params → IsTarget back → reg (machine.run i).regs link_register ≡ back →
     LowersStack machine (bytes_of (shape_of attributed body)) mid i →
-    Answers access y machine budget far 44 (length levels) pc back depth live args
-    (body_meaning setting (frame_in attributed bound depth live) body args levels) i
+    (contents : Contents)
+    × Answers access y machine budget far 44 (length levels) pc back depth live args
+    (body_from setting (frame_in attributed bound depth live) contents body args levels) i
+
+module _ {M : Type 0} (access : Access M) (y : Layout) (machine : Machine M) where
+  -- Time i has what the main function finds at program startup: no attributed frame is live, all calls are left, and below sp there is room for its own
+  -- frame and one for each of them.
+  pub record Begins (i : ℕ) : Type 0 where
+    pub live : reg (machine.run i).regs live_register ≡ 0
+    pub left : reg (machine.run i).regs left_register ≡ depth_limit
+    pub even : reg (machine.run i).regs 2 % 4 ≡ 0
+    pub room : y.bottom + (depth_limit + 1) * frame_limit ≤ reg (machine.run i).regs 2
+    pub within : reg (machine.run i).regs 2 ≤ y.top
+
+  -- Time i stands at a place with what main finds there and `extra` more than the cost paid for, at a bound of k: what follows is what its call means.
+  abbrev pub AnswersStartup : (budget far extra k pc back : ℕ) → (World → Call) → ℕ → Type 0
+  AnswersStartup budget far extra k pc back call i =
+      (spare : ℕ) (w : World) → Stands access y machine budget far pc w i → Begins i → i + (spare + extra + (call w).cost) ≤ budget → far ≤ i + k →
+      FollowsCall access y machine budget far spare k i back (call w).end
+
+-- And so does the main function, which has no parameters and isn't attributed, where no frame is above its own.
+abbrev pub MainKeeps : Type 0 → Type 0
+MainKeeps M =
+    (access : Access M) (y : Layout) → IsLaid y → (machine : Machine M) → IsMemory access y machine →
+    ((s : Site) → StandsInWords y s → IsRun access s machine) → (setting : ir.Setting) →
+    ((f : ℕ) → f < length setting.numbers → (slice_index setting.numbers f ≡ y.entry f) × IsPlace (y.entry f)) →
+    (budget far : ℕ) → ServesKnown access y machine budget far setting → (levels : Bound) → Conventions access y machine budget far levels →
+    (bound : List (ℕ × ℕ)) (is_read : ℕ → Bool) (is_fine : Tree → Bool) (body : Body) → IsFunction y setting false bound is_read is_fine body → body.params ≡ 0 →
+    (place : ℕ → ℕ) → IsLinked y place → (is_attributed : ℕ → Bool) (pc next : ℕ) →
+    Placed machine.text place y.entry (function_lines y.place y.size is_attributed (shape_of false body) body.code) pc next →
+    (back i : ℕ) → IsTarget back → reg (machine.run i).regs link_register ≡ back →
+    (contents : Contents)
+    × AnswersStartup access y machine budget far 44 (length levels) pc back (body_from setting (main_frame bound) contents body [] levels) i

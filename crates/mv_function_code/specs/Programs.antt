@@ -6,6 +6,7 @@ use Rattle.mv_ir.specs.declared.tree.Tree.{Tree}
 use Rattle.mv_ir.specs.World as ir
 use Rattle.mv_ir.specs.World.{World}
 use Rattle.mv_ir.specs.Outcome.{Stuck, Call, Bound}
+use Rattle.mv_ir.specs.Meaning.{Contents, body_from, body_meaning}
 use Rattle.mv_ir.specs.Levels.{Code, called}
 use Rattle.mv_statement_code.specs.Frames.{Site}
 use Rattle.mv_flow_code.specs.Placed.{Placed}
@@ -28,7 +29,7 @@ fitted_levels setting program zero = []
 fitted_levels setting program (suc k) =
     (λ f args depth live w. fitted setting (slice_get program f) (fitted_levels setting program k) args depth live w) ∷ fitted_levels setting program k
 
--- A function that isn't attributed stands at its entry.
+-- A function that isn't attributed stands at its entry, and means the same whatever its frame holds at first.
 pub record Stands {M : Type 0} (y : Layout) (setting : ir.Setting) (machine : Machine M) (entry : ℕ) (c : Code) : Type 0 where
   pub free : c.attributed ≡ None
   pub is_read : ℕ → Bool
@@ -39,6 +40,8 @@ pub record Stands {M : Type 0} (y : Layout) (setting : ir.Setting) (machine : Ma
   pub is_attributed : ℕ → Bool
   pub next : ℕ
   pub placed : Placed machine.text place y.entry (function_lines y.place y.size is_attributed (shape_of false c.body) c.body.code) entry next
+  pub settled : (frame : ir.Frame) (contents : Contents) (args : List ℕ) (levels : Bound) (w : World) → length args ≡ c.body.params →
+      body_from setting frame contents c.body args levels w ≡ body_meaning setting frame c.body args levels w
 
 -- Where no function is attributed and each stands at its entry, all keep the calling convention at every bound.
 abbrev pub ProgramsKeep : Type 0 → Type 0
