@@ -169,20 +169,11 @@ module _ (p : Program) (numbers : List ℕ) (formed : (f : ℕ) (g : Function) �
   abbrev pub codes : List Code
   codes = code_of (lower_program p)
 
-  abbrev below : ℕ → Bound
-  below k = levels (setting_of numbers p) codes k
-
-  abbrev calls : ℕ → Calls
-  calls k f args depth live w = called (setting_of numbers p) (slice_get codes f) (below k) args depth live w
-
-  same_levels : (k : ℕ) → statements.levels calls k ≡ below k
-  same_levels zero = refl
-  same_levels (suc k) = ap (λ l. calls k ∷ l) (same_levels k)
-
-  abbrev Agreed : ℕ → Type 0
-  Agreed k =
+  -- What calls that code makes from any frame do at a bound is what they do in the source.
+  abbrev pub Agreed : (ℕ → Calls) → ℕ → Type 0
+  Agreed calls k =
       (frame : code_world.Frame) (began : List Binding) (own locals : ℕ) (sizes : ℕ → Option ℕ) (held : ℕ → Option (List ℕ × List ℕ)) (floor : ℕ) (scratch : ℕ → ℕ) (room : ℕ) → OwnIsLive p frame own →
-      c.CallsAgree p (setting_of numbers p) frame began own locals sizes held floor scratch room (below k) (strict_context p numbers k)
+      c.CallsAgree p (setting_of numbers p) frame began own locals sizes held floor scratch room (statements.levels calls k) (strict_context p numbers k)
 
   strict : (k : ℕ) → IsStrict p numbers (strict_context p numbers k)
   strict zero = record { numbers_are = refl; lets_are = refl; stray_is = refl }
@@ -192,11 +183,11 @@ module _ (p : Program) (numbers : List ℕ) (formed : (f : ℕ) (g : Function) �
   strays_keep scope = leaves.keeps_stop p Nothing Any any_trap scope astray tt
 
   -- a function's body, whatever its frame holds when it begins, in some frame that goes with it
-  pub body_does : (j : ℕ) → ((i : ℕ) → i ≤ j → Agreed i) → (f : ℕ) (g : Function) → slice_get p.functions f ≡ Some g → (inner : code_world.Frame) → OwnIsLive p inner f → (contents : Contents) (vs : List ℕ) → length vs ≡ g.params → (began w : World) →
+  pub body_does : (calls : ℕ → Calls) (j : ℕ) → ((i : ℕ) → i ≤ j → Agreed calls i) → (f : ℕ) (g : Function) → slice_get p.functions f ≡ Some g → (inner : code_world.Frame) → OwnIsLive p inner f → (contents : Contents) (vs : List ℕ) → length vs ≡ g.params → (began w : World) →
       statements.Shows p (setting_of numbers p) inner began.bindings f (length g.locals) (size_in g.locals) (lower_function p g).temps (is_void g.result) [] (entry_frame p f g (entry_state contents (lower_function p g) vs (seen w))) w (entry_state contents (lower_function p g) vs (seen w)) →
       Agree (parameters g) (entry_frame p f g (entry_state contents (lower_function p g) vs (seen w))) (frame_of f g vs) →
-      BodyDoes p (is_void g.result) inner.live began (body_from (setting_of numbers p) inner contents (lower_function p g) vs (below j) (seen w)) (flow_of_all p (strict_context p numbers j) g.body (frame_of f g vs) w)
-  body_does j ih f g here inner lively contents vs count began w shows same =
+      BodyDoes p (is_void g.result) inner.live began (body_from (setting_of numbers p) inner contents (lower_function p g) vs (statements.levels calls j) (seen w)) (flow_of_all p (strict_context p numbers j) g.body (frame_of f g vs) w)
+  body_does calls j ih f g here inner lively contents vs count began w shows same =
       let n = length g.locals in
       let sizes = size_in g.locals in
       let void = is_void g.result in
@@ -209,14 +200,23 @@ module _ (p : Program) (numbers : List ℕ) (formed : (f : ℕ) (g : Function) �
       function_flows p formed Nothing Any any_trap tt (λ z. strict_context p numbers j) (steady_same p formed Any any_trap tt numbers (fits_call p) (stop astray) strays_keep j) f g h from (frame_of f g vs) w same in
       let shown =
       body_correct p (setting_of numbers p) inner began.bindings f n sizes room void j calls (strict_context p numbers) (omega arith) strict (λ s. refl) (λ k s. refl)
-      (λ i up held floor scratch. subst (λ l. c.CallsAgree p (setting_of numbers p) inner began.bindings f n sizes held floor scratch room l (strict_context p numbers i)) (sym (same_levels i)) (ih i up inner began.bindings f n sizes held floor scratch room lively))
+      (λ i up held floor scratch. ih i up inner began.bindings f n sizes held floor scratch room lively)
       (λ i held floor scratch known. known_agrees p numbers inner began.bindings f n sizes held floor scratch room (statements.levels calls i) lively known)
       g.body h.named h.labels outermost (omega arith) j (omega arith) from w start shows in
-      let at = subst (λ l. statements.FlowShown p (setting_of numbers p) inner began.bindings f n sizes room void (out_of void outermost) 0 (code_meaning (setting_of numbers p) inner (lower_body g).code l start) (body from w)) (same_levels j) shown in
       same_body p void inner.live began _ (parameters g) (parameters g) false false (body from w) (body (frame_of f g vs) w) alike
-      (ended p numbers inner began f n sizes room void (below j) (lower_body g).code start (body from w) (stays (parameters g) (parameters g) (body from w) (body (frame_of f g vs) w) alike) at)
+      (ended p numbers inner began f n sizes room void (statements.levels calls j) (lower_body g).code start (body from w) (stays (parameters g) (parameters g) (body from w) (body (frame_of f g vs) w) alike) shown)
 
-  -- ---- calls
+  -- ---- calls of lowered functions
+
+  abbrev below : ℕ → Bound
+  below k = levels (setting_of numbers p) codes k
+
+  abbrev pub lowered_calls : ℕ → Calls
+  lowered_calls k f args depth live w = called (setting_of numbers p) (slice_get codes f) (below k) args depth live w
+
+  pub same_levels : (k : ℕ) → statements.levels lowered_calls k ≡ below k
+  same_levels zero = refl
+  same_levels (suc k) = ap (λ l. lowered_calls k ∷ l) (same_levels k)
 
   -- the frame of an attributed function is live
   entry_is_live : (f : ℕ) (g : Function) (depth : ℕ) (w : World) → slice_get p.functions f ≡ Some g → OwnIsLive p (frame_for p f g depth w) f
@@ -227,12 +227,20 @@ module _ (p : Program) (numbers : List ℕ) (formed : (f : ℕ) (g : Function) �
       omega (arith, one)
 
   -- a call of a function, whatever its frame holds
-  function_does : (j : ℕ) → ((i : ℕ) → i ≤ j → Agreed i) → (f : ℕ) (g : Function) → slice_get p.functions f ≡ Some g → (contents : Contents) (vs : List ℕ) → length vs ≡ g.params → (w : World) → HasGlobals p w →
-      BodyDoes p (is_void g.result) (frame_for p f g w.depth w).live w (body_from (setting_of numbers p) (frame_for p f g w.depth w) contents (lower_function p g) vs (below j) (seen w)) (flow_of_all p (strict_context p numbers j) g.body (frame_of f g vs) (deeper g w))
-  function_does j ih f g here contents vs count w globals =
-      body_does j ih f g here (frame_for p f g w.depth w) (entry_is_live f g w.depth w here) contents vs count w (deeper g w)
+  pub called_does : (calls : ℕ → Calls) (j : ℕ) → ((i : ℕ) → i ≤ j → Agreed calls i) → (f : ℕ) (g : Function) → slice_get p.functions f ≡ Some g → (contents : Contents) (vs : List ℕ) → length vs ≡ g.params → (w : World) → HasGlobals p w →
+      BodyDoes p (is_void g.result) (frame_for p f g w.depth w).live w (body_from (setting_of numbers p) (frame_for p f g w.depth w) contents (lower_function p g) vs (statements.levels calls j) (seen w)) (flow_of_all p (strict_context p numbers j) g.body (frame_of f g vs) (deeper g w))
+  called_does calls j ih f g here contents vs count w globals =
+      body_does calls j ih f g here (frame_for p f g w.depth w) (entry_is_live f g w.depth w here) contents vs count w (deeper g w)
       (shows_entry p f g here (formed f g here) vs count contents w globals numbers (is_void g.result))
       (agrees p f g here (formed f g here) vs count contents w globals)
+
+  -- and where it calls lowered functions
+  function_does : (j : ℕ) → ((i : ℕ) → i ≤ j → Agreed lowered_calls i) → (f : ℕ) (g : Function) → slice_get p.functions f ≡ Some g → (contents : Contents) (vs : List ℕ) → length vs ≡ g.params → (w : World) → HasGlobals p w →
+      BodyDoes p (is_void g.result) (frame_for p f g w.depth w).live w (body_from (setting_of numbers p) (frame_for p f g w.depth w) contents (lower_function p g) vs (below j) (seen w)) (flow_of_all p (strict_context p numbers j) g.body (frame_of f g vs) (deeper g w))
+  function_does j ih f g here contents vs count w globals =
+      subst
+      (λ (l : Bound). BodyDoes p (is_void g.result) (frame_for p f g w.depth w).live w (body_from (setting_of numbers p) (frame_for p f g w.depth w) contents (lower_function p g) vs l (seen w)) (flow_of_all p (strict_context p numbers j) g.body (frame_of f g vs) (deeper g w)))
+      (same_levels j) (called_does lowered_calls j ih f g here contents vs count w globals)
 
   module _ (frame : code_world.Frame) (began : List Binding) (own locals : ℕ) (sizes : ℕ → Option ℕ) (held : ℕ → Option (List ℕ × List ℕ)) (floor : ℕ) (scratch : ℕ → ℕ) (room : ℕ) (bound : Bound) (lively : OwnIsLive p frame own) where
     abbrev CallShown : Bool → Call → Frame → World → Outcome Frame ℕ → Type 0
@@ -257,7 +265,7 @@ module _ (p : Program) (numbers : List ℕ) (formed : (f : ℕ) (g : Function) �
     back void live x f w (Stopped why left work) globals up h = record { cost = h.cost; ends = h.ends; paid = h.paid }
 
     -- the code's call of what the source calls
-    entered : (j : ℕ) → ((i : ℕ) → i ≤ j → Agreed i) → (idx : ℕ) (void : Bool) (vs : List ℕ) (f : Frame) (w : World) → w.depth ≡ frame.depth → w.live ≡ frame.live → HasGlobals p w →
+    entered : (j : ℕ) → ((i : ℕ) → i ≤ j → Agreed lowered_calls i) → (idx : ℕ) (void : Bool) (vs : List ℕ) (f : Frame) (w : World) → w.depth ≡ frame.depth → w.live ≡ frame.live → HasGlobals p w →
         (o : Option Function) → slice_get p.functions idx ≡ o → takes o (length vs) void ≡ true →
         CallShown void (called (setting_of numbers p) (slice_get codes idx) (below j) vs frame.depth frame.live (seen w)) f w (call_of p (strict_context p numbers j) idx o vs f w)
     entered j ih idx void vs f w hd hl globals None e t = no t
@@ -276,20 +284,20 @@ module _ (p : Program) (numbers : List ℕ) (formed : (f : ℕ) (g : Function) �
         same false true q = no q
         same false false q = refl
 
-  at_zero : Agreed zero
+  at_zero : Agreed lowered_calls zero
   at_zero frame began own locals sizes held floor scratch room lively g void vs f w can hf hd hl globals = record { cost = 0; ends = λ ne. refl; paid = omega arith }
 
-  step : (j : ℕ) → ((i : ℕ) → i ≤ j → Agreed i) → Agreed (suc j)
+  step : (j : ℕ) → ((i : ℕ) → i ≤ j → Agreed lowered_calls i) → Agreed lowered_calls (suc j)
   step j ih frame began own locals sizes held floor scratch room lively g void vs f w can hf hd hl globals =
-      entered frame began own locals sizes held floor scratch room (below (suc j)) lively j ih g void vs f w hd hl globals (slice_get p.functions g) refl can
+      entered frame began own locals sizes held floor scratch room (statements.levels lowered_calls (suc j)) lively j ih g void vs f w hd hl globals (slice_get p.functions g) refl can
 
-  upto : (limit k : ℕ) → k ≤ limit → Agreed k
+  upto : (limit k : ℕ) → k ≤ limit → Agreed lowered_calls k
   upto limit zero up = at_zero
   upto zero (suc k) up = absurd (omega (arith, up))
   upto (suc limit) (suc k) up = step k (λ i lower. upto limit i (omega (arith, up, lower)))
 
   -- At each bound the calls of lowered functions do what the source's do.
-  pub all_agreed : (k : ℕ) → Agreed k
+  pub all_agreed : (k : ℕ) → Agreed lowered_calls k
   all_agreed k = upto k k (omega arith)
 
   -- and so does a function, whatever its frame holds when it begins

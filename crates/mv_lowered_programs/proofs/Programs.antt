@@ -1,5 +1,5 @@
 -- Whole programs: the lowered one does what the source means.
-use Rattle.std.proofs.Common.{inl, inr, ◌≡◌, ℕ, zero, suc, ◌-◌, ◌<◌, Bool, true, false, cond, List, [], ◌∷◌, map, length, replicate, Option, Some, None, refl, sym, ◌∙◌, subst, ap, arith}
+use Rattle.std.proofs.Common.{inl, inr, ◌≡◌, ℕ, zero, suc, ◌-◌, ◌<◌, ◌≤◌, Bool, true, false, cond, List, [], ◌∷◌, map, length, replicate, Option, Some, None, refl, sym, ◌∙◌, subst, ap, arith}
 use Rattle.std.specs.Prelude.{All, IsTrue, slice_get, slice_index_or, ◌&&◌, take}
 use Rattle.std.proofs.lemmas.Bool.{ne_eqb, eq-eqb}
 use Rattle.std.proofs.lemmas.List.{length-append, length-map, length-take, length-replicate}
@@ -27,9 +27,9 @@ use Rattle.mv_numbering.specs.Typing.{IsInteger}
 use Rattle.mv_numbering.specs.Numberings.{IsNumbering, Admits, meaning_in}
 use Rattle.mv_numbering.specs.Laws.{AnyNumberingServes, StraysDoNotShow}
 use Rattle.mv_ir.specs.World as code_world
-use Rattle.mv_ir.specs.Outcome.{State, Returned, Call}
-use Rattle.mv_ir.specs.Meaning.{cleared, entry_state, body_from}
-use Rattle.mv_ir.specs.Levels.{Code, levels}
+use Rattle.mv_ir.specs.Outcome.{State, Returned, Call, Calls, Bound}
+use Rattle.mv_ir.specs.Meaning.{Contents, cleared, entry_state, body_from}
+use Rattle.mv_ir.specs.Levels.{Code}
 use Rattle.mv_ir.specs.Programs.{setting_of, code_of, call_of_main, execution_of, ir_meaning}
 use Rattle.mv_lowering.specs.Lower.{is_void, takes, words_of_global}
 use Rattle.mv_lowering.specs.Correct.{seen, is_astray, astray, result_of}
@@ -47,7 +47,7 @@ use Rattle.mv_lowered_programs.proofs.Contexts.{function_flows}
 use Rattle.mv_lowered_programs.proofs.Pairs.{Nothing, steady_same}
 use Rattle.mv_lowered_programs.proofs.KnownAgree.{OwnIsLive}
 use Rattle.mv_lowered_programs.proofs.Entry.{all_head, all_tail, entry_frame, code_is, shows_entry, agrees}
-use Rattle.mv_lowered_programs.proofs.Knot.{BodyDoes, codes, body_does, all_agreed}
+use Rattle.mv_lowered_programs.proofs.Knot.{BodyDoes, Agreed, body_does, lowered_calls, same_levels, all_agreed}
 
 -- ---- the first world
 
@@ -132,8 +132,8 @@ module _ (p : Program) (numbers : List ℕ) (formed : IsWellFormed p) (numbering
   abbrev frame : code_world.Frame
   frame = record { depth = 0; live = 0; bound = [] }
 
-  abbrev start : State
-  start = entry_state cleared (lower_function p main) [] (seen first)
+  abbrev start : Contents → State
+  start contents = entry_state contents (lower_function p main) [] (seen first)
 
   no_arguments : length {A = ℕ} [] ≡ main.params
   no_arguments = sym formed.typed.entry.bare
@@ -149,9 +149,9 @@ module _ (p : Program) (numbers : List ℕ) (formed : IsWellFormed p) (numbering
   lively : OwnIsLive p frame p.main
   lively g e q = absurd (no (sym (formed.entry g e) ∙ q))
 
-  shows_main : statements.Shows p (setting_of numbers p) frame first.bindings p.main (length main.locals) (size_in main.locals) (lower_function p main).temps (is_void main.result) [] (entry_frame p p.main main start) first start
-  shows_main =
-      let h = shows_entry p p.main main here (formed.functions p.main main here) [] no_arguments cleared first globals numbers (is_void main.result) in
+  shows_main : (contents : Contents) → statements.Shows p (setting_of numbers p) frame first.bindings p.main (length main.locals) (size_in main.locals) (lower_function p main).temps (is_void main.result) [] (entry_frame p p.main main (start contents)) first (start contents)
+  shows_main contents =
+      let h = shows_entry p p.main main here (formed.functions p.main main here) [] no_arguments contents first globals numbers (is_void main.result) in
       record {
         world = refl;
         depth = refl;
@@ -174,10 +174,14 @@ module _ (p : Program) (numbers : List ℕ) (formed : IsWellFormed p) (numbering
   abbrev came : Context → Outcome Frame Flow
   came context = flow_of_all p context main.body (frame_of p.main main []) first
 
-  main_does : BodyDoes p (is_void main.result) 0 first (body_from (setting_of numbers p) frame cleared (lower_function p main) [] (levels (setting_of numbers p) (codes p numbers formed.functions) bound) (seen first)) (came (strict_context p numbers bound))
-  main_does =
-      body_does p numbers formed.functions bound (λ i up. all_agreed p numbers formed.functions i) p.main main here frame lively cleared [] no_arguments first first shows_main
-      (agrees p p.main main here (formed.functions p.main main here) [] no_arguments cleared first globals)
+  -- the code of `main`, where the calls that it makes do what they do in the source
+  abbrev pub main_from : (ℕ → Calls) → Contents → Call
+  main_from calls contents = body_from (setting_of numbers p) frame contents (lower_function p main) [] (statements.levels calls bound) (seen first)
+
+  main_does : (calls : ℕ → Calls) → ((i : ℕ) → i ≤ bound → Agreed p numbers formed.functions calls i) → (contents : Contents) → BodyDoes p (is_void main.result) 0 first (main_from calls contents) (came (strict_context p numbers bound))
+  main_does calls agreed contents =
+      body_does p numbers formed.functions calls bound agreed p.main main here frame lively contents [] no_arguments first first (shows_main contents)
+      (agrees p p.main main here (formed.functions p.main main here) [] no_arguments contents first globals)
 
   -- under the numbering and where calls through pointers are strict the source means what it means
   abbrev begun : Frame
@@ -203,10 +207,18 @@ module _ (p : Program) (numbers : List ℕ) (formed : IsWellFormed p) (numbering
       function_flows p formed.functions Nothing NotAstray trap_not_astray refl (λ z. context_at p numbers bound) (steady_same p formed.functions NotAstray trap_not_astray refl numbers all_reached (give 0) zero_keeps bound) p.main main (formed.functions p.main main here)
       (frame_of p.main main []) (frame_of p.main main []) first (agree_refl (parameters main) (frame_of p.main main []))
 
+  -- so `main` does what the program means
+  pub main_is_right : (calls : ℕ → Calls) → ((i : ℕ) → i ≤ bound → Agreed p numbers formed.functions calls i) → (contents : Contents) →
+      IsExecution (mean p input actions bound) (execution_of (seen first) (main_from calls contents).cost (main_from calls contents).end)
+  main_is_right calls agreed contents =
+      subst (λ (m : Meant). IsExecution m (execution_of (seen first) (main_from calls contents).cost (main_from calls contents).end)) strict_mean
+      (executed_is p (seen first) (is_void main.result) first (main_from calls contents) (came (strict_context p numbers bound)) (came (context_at p numbers bound)) (parameters main) (parameters main) false false
+      (integer_result main.result formed.typed.entry.result) plain_stops (strict_mean ∙ sym plain_mean) (main_does calls agreed contents))
+
   pub program_is_right : IsExecution (mean p input actions bound) (ir_meaning numbers (lower_program p) input actions bound)
   program_is_right =
-      subst (λ (m : Meant). IsExecution m (ir_meaning numbers (lower_program p) input actions bound)) strict_mean
-      (subst (λ (o : Option Code). IsExecution (meaning_of (came (strict_context p numbers bound))) (let x = call_of_main (setting_of numbers p) (code_of (lower_program p)) o bound (seen first) in execution_of (seen first) x.cost x.end))
+      subst (λ (o : Option Code). IsExecution (mean p input actions bound) (let x = call_of_main (setting_of numbers p) (code_of (lower_program p)) o bound (seen first) in execution_of (seen first) x.cost x.end))
       (sym (code_is p p.main main here))
-      (executed_is p (seen first) (is_void main.result) first (body_from (setting_of numbers p) frame cleared (lower_function p main) [] (levels (setting_of numbers p) (codes p numbers formed.functions) bound) (seen first))
-      (came (strict_context p numbers bound)) (came (context_at p numbers bound)) (parameters main) (parameters main) false false (integer_result main.result formed.typed.entry.result) plain_stops (strict_mean ∙ sym plain_mean) main_does))
+      (subst (λ (l : Bound). IsExecution (mean p input actions bound) (let x = body_from (setting_of numbers p) frame cleared (lower_function p main) [] l (seen first) in execution_of (seen first) x.cost x.end))
+      (same_levels p numbers formed.functions bound)
+      (main_is_right (lowered_calls p numbers formed.functions) (λ i up. all_agreed p numbers formed.functions i) cleared))

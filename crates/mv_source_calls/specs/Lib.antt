@@ -1,0 +1,3 @@
+pub mod SourceCalls
+pub mod Bindings
+pub mod Laws

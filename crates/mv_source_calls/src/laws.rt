@@ -1,0 +1,35 @@
+// The laws of lowered code whose callees do what the source's functions do.
+
+ghost use Rattle.mv_source_calls.specs.Laws.{BindingsStay, BodiesAreRight, GlobalsKeepTheirSizes, MainIsRight};
+
+use mv_numbering::numbering_law;
+
+/// The lowered body of a function does what the function does by the source's meaning, if its callees do (C11 6.5.2.2): at each bound, under each
+/// numbering of the functions, in each world, and whatever its temporaries and arrays hold when it begins, it ends in the same way, at a cost of at most
+/// 20 and 100 for one of work. Nothing is said of a call that goes, through a pointer, to no function that fits. The call does nothing: its contract
+/// is the law.
+pub fn bodies_are_right()
+    ensures { BodiesAreRight }
+{}
+
+/// A function that returns, by the source's meaning, leaves each global with the number of words that it is declared with. The call does nothing: its
+/// contract is the law.
+pub fn globals_keep_their_sizes()
+    ensures { GlobalsKeepTheirSizes }
+{}
+
+/// A function of a program without commits, reverts and polls leaves all bindings as they are, whether it returns, traps or is cut off by the bound.
+/// The call does nothing: its contract is the law.
+pub fn bindings_stay()
+    ensures { BindingsStay }
+{}
+
+/// The lowered body of `main` does what the program means, if its callees do what they do by the source's meaning (C11 5.1.2.3): under each
+/// numbering of the functions, on each input, with all actions of the operator that fit, at each bound, and whatever its temporaries and arrays hold
+/// when it begins, it has the same output, bytes taken, end, bindings and log, at a cost of at most 20 and 100 for one of work. The call does nothing:
+/// its contract is the law.
+pub fn main_is_right()
+    ensures { MainIsRight }
+{
+    numbering_law();
+}
