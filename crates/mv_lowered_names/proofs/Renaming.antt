@@ -18,7 +18,7 @@ use Rattle.mv_ir.proofs.Rolls.{trees_roll}
 use Rattle.mv_regalloc.specs.Rename.{renamed_tree, renamed_callee, renamed_layer, renamed_stm, renamed_code, renamed}
 use Rattle.mv_regalloc.proofs.RenamedTrees.{renamed_tree_roll, renamed_stm_roll}
 use Rattle.mv_flow_code.specs.Labels.{tree_functions, functions_of_all, callee_functions, named_layer, stm_functions, functions}
-use Rattle.mv_selected_bodies.specs.SelectedBodies.{tree_constants, constants_of_all, constants, knowns_layer, stm_knowns, knowns}
+use Rattle.mv_selected_bodies.specs.SelectedBodies.{tree_constants, constants_of_all, constants, knowns_layer, stm_knowns}
 use Rattle.mv_lowered_names.specs.Laws.{NamesTheSame}
 use Rattle.mv_lowered_names.proofs.Naming.{tree_functions_roll, tree_constants_roll, stm_functions_roll, stm_knowns_roll, constants_append}
 

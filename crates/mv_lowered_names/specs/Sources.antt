@@ -23,6 +23,7 @@ abbrev pub fits_order : Known → Bool
 fits_order (Plan code index) = nat_lt code 256 && is_word index
 fits_order _ = true
 
+-- whether a form's own constant or order fits, and all its parts do
 abbrev pub form_has_words : Form-F Bool Bool Bool → Bool
 form_has_words (form.Number n) = is_word n
 form_has_words (form.Known k args) = fits_order k && all_of args
@@ -38,9 +39,11 @@ counted (stmt.Clear l values) = length values
 counted (stmt.Switch e arms) = length arms
 counted _ = 0
 
+-- the same of a statement, and of what it counts
 abbrev pub layer_has_words : Stmt-F Bool Bool → Bool
 layer_has_words s = is_word (counted s + 1) && all_layer has_words s
 
+-- the same of an arm, and of its labels
 abbrev pub arm_has_words : Arm-F Bool Bool → Bool
 arm_has_words a = all_of (map is_word a.labels) && all_of a.body
 

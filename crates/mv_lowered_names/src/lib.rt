@@ -5,10 +5,10 @@ ghost use Rattle.mv_lowered_names.specs.Laws.{ConstantsAreWords, FunctionsAreThe
 
 /// The code of a well-formed program's functions names what the program has. The call does nothing: its contract is the law.
 ///
-/// `functions`: the functions that it calls by name, and those whose addresses it takes, are functions of the program. `orders`: each order is for an
-/// attributed function or a switch of the program, or for all. `direct`: where the program never commits, reverts or polls, the
-/// code calls no known functions but those for input and output. `marked`: where no function is attributed, none is marked. `words`: where the numbers in
-/// the program are below 2^32, so are the constants in the code, and the numbers of its orders are a byte and a word.
+/// `functions`: the functions that it calls by name, and those whose addresses it takes, are functions of the program. `orders`: an order for one function
+/// or one switch is for one that the program has. `direct`: where the program never commits, reverts or polls, the code calls no known functions but those
+/// for input and output. `marked`: where no function is attributed, none is marked. `words`: where the constants, labels, order numbers and counts of the
+/// program are in range (`specs/Sources.antt`), the constants in the code are below 2^32, and the numbers of its orders are a byte and a word.
 pub fn lowered_names_are_there()
     ensures functions { FunctionsAreThere }
     ensures orders { OrdersAreThere }
