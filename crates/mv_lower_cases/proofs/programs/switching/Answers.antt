@@ -3,4 +3,4 @@ use Rattle.mv_lower_cases.proofs.Small.{one_small}
 use Rattle.mv_lower_cases.proofs.programs.switching.Goals as goal
 
 pub returns : goal.returns
-returns g c = one_small c.program.result c.function.result (c.program.ensures.globals ∙ c.new-2.ensures) (c.program.ensures.functions ∙ c.single-functions.ensures) c.function.ensures.room
+returns g c = one_small c.program.result c.function-f.result (c.program.ensures.globals ∙ c.new-2.ensures) (c.program.ensures.functions ∙ c.single-functions.ensures) c.function-f.ensures.room

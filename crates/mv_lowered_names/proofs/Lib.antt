@@ -1,0 +1,8 @@
+pub mod Naming
+pub mod Premises
+pub mod Expressions
+pub mod Statements
+pub mod FromTypes
+pub mod FromFolds
+pub mod Lowered
+pub mod Renaming
