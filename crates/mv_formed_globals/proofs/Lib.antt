@@ -1,6 +1,7 @@
 mod Tests
 pub mod Values
 pub mod Words
+mod Sizes
 mod Domains
 mod Specified
 mod Designated

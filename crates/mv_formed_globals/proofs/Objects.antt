@@ -1,4 +1,4 @@
--- The objects of a unit: each is a well-formed global, and an integer scalar where it has a domain.
+-- The objects of a unit: each is a well-formed global that has a word, and an integer scalar where it has a domain.
 use Rattle.std.proofs.Common.{◌≡◌, ℕ, refl, sym, ap, subst, Bool, true, false, is_some, is_none, if◌then◌else◌, List, [], ◌∷◌, length, Option, Some, None, slice_get}
 use Rattle.std.specs.List.{AllByRecursion}
 use Rattle.std.proofs.lemmas.List.Elements.{All-from_recursion}
@@ -25,10 +25,11 @@ use Rattle.mv_types.specs.declared.contents.Contents.{Contents}
 use Rattle.mv_types.specs.declared.contents.Foreknown.{Foreknown}
 use Rattle.mv_types.specs.declared.contents.Object.{Object}
 use Rattle.mv_types.specs.Objects.{number_of, object_at, same_size, agrees, agrees_with, may_declare, broken_rule, unless_broken, type_by_rules, object_scope, new_object, either_domain, again, replaced, objects_again, objects_behind, initialised, object_behind, object_judgement}
-use Rattle.mv_typed_bodies.proofs.Judging.{IfGood, if_then, if_kept}
+use Rattle.mv_typed_bodies.proofs.Judging.{IfGood, if_then, if_kept, if_both}
 use Rattle.mv_typed_bodies.proofs.Lists.{all_last, all_at}
 use Rattle.mv_formed_globals.proofs.Tests.{all_set}
 use Rattle.mv_formed_globals.proofs.Values.{IsOf}
+use Rattle.mv_formed_globals.proofs.Sizes.{HasWord, type_has}
 use Rattle.mv_formed_globals.proofs.Words.{AreOf, AreWords, words_are}
 use Rattle.mv_formed_globals.proofs.Domains.{IsDomain}
 use Rattle.mv_formed_globals.proofs.Designated.{IsHolderOf}
@@ -47,6 +48,7 @@ IsSwitchIf t size None = Unit {0}
 IsSwitchIf t size (Some vs) = IsSwitch t size vs
 
 pub record IsFormedObject (o : Object) : Type 0 where
+  pub sized : HasWord o.global.size
   pub words : AreWords o.global.ctype o.global.size o.global.first
   pub switch : IsSwitchIf o.global.ctype o.global.size o.domain
 
@@ -141,9 +143,10 @@ module _ (P : Object → Type 0) (l : Local) (words : List ℕ) (given : Bool) (
   behind_have objects name None h k = all_last P objects (new_object name l words given domain) h (new name)
   behind_have objects name (Some m) h k = numbered_have objects (number_of m) h k
 
-module _ (l : Local) (words : List ℕ) (fit : AreWords l.ctype l.size words) (given : Bool) (domain : Option (List ℕ)) (switch : IsSwitchIf l.ctype l.size domain) where
+module _ (l : Local) (words : List ℕ) (fit : AreWords l.ctype l.size words) (given : Bool) (domain : Option (List ℕ)) (sized : HasWord l.size)
+    (switch : IsSwitchIf l.ctype l.size domain) where
   again_formed : (o : Object) → IsFormedObject o → agrees o l given domain ≡ true → IsFormedObject (again o words given domain)
-  again_formed o h q = record { words = first given; switch = either o.domain h.switch }
+  again_formed o h q = record { sized = h.sized; words = first given; switch = either o.domain h.switch }
     where
       types : o.global.ctype ≡ l.ctype
       types = same_types o l given domain q
@@ -162,25 +165,28 @@ module _ (l : Local) (words : List ℕ) (fit : AreWords l.ctype l.size words) (g
   behind_formed : (objects : List Object) (name : List ℕ) (before : Option Meaning) → AllByRecursion IsFormedObject objects →
       may_declare before objects l given domain ≡ true → AllByRecursion IsFormedObject (objects_behind objects name before l words given domain)
   behind_formed objects name before h k =
-      behind_have IsFormedObject l words given domain (λ name. record { words = fit; switch = switch }) again_formed objects name before h k
+      behind_have IsFormedObject l words given domain (λ name. record { sized = sized; words = fit; switch = switch }) again_formed objects name before h k
 
 -- ---- a declarator that designates an object
 
 module _ (k : Foreknown) (d : Declarator) (name : List ℕ) (domain : Option (List ℕ)) (c : Contents) (formed : AreFormed c) where
-  initialised_formed : (before : Option Meaning) (l : Local) → IsSwitchIf l.ctype l.size domain → may_declare before c.objects l (is_some d.initial) domain ≡ true →
+  initialised_formed : (before : Option Meaning) (l : Local) → HasWord l.size → IsSwitchIf l.ctype l.size domain → may_declare before c.objects l (is_some d.initial) domain ≡ true →
       IfGood (initialised k d name before domain l c) AreFormed
-  initialised_formed before l switch allowed =
+  initialised_formed before l sized switch allowed =
       let s : Scope = object_scope k name before l (length c.objects) c.scope in
       if_then (AreWords l.ctype l.size) AreFormed (global_words d.place l d.initial s) _ (words_are d.place l d.initial s) (λ words fit.
-      behind_formed l words fit (is_some d.initial) domain switch c.objects name before formed allowed)
+      behind_formed l words fit (is_some d.initial) domain sized switch c.objects name before formed allowed)
 
   object_behind_formed : (e : Entity) (block : Bool) (before : Option Meaning) → IsDomainFor e domain → IfGood (object_behind k d name e domain block c before) AreFormed
   object_behind_formed e block before h =
-      let X : Local → Type 0 = λ l. IsSwitchIf l.ctype l.size domain in
+      let Sized : Local → Type 0 = λ l. HasWord l.size in
+      let Switch : Local → Type 0 = λ l. IsSwitchIf l.ctype l.size domain in
+      let X : Local → Type 0 = λ l. Sized l × Switch l in
       if_then (Allowed X d.place before c.objects (is_some d.initial) block domain) AreFormed
       (type_by_rules d.place before c.objects (object_type d.place e d.initial) (is_some d.initial) block domain) _
-      (rules_kept X d.place before c.objects (is_some d.initial) block domain (object_type d.place e d.initial) (type_switch d.place e d.initial domain h))
-      (λ l a. initialised_formed before l a.0 a.1)
+      (rules_kept X d.place before c.objects (is_some d.initial) block domain (object_type d.place e d.initial)
+      (if_both Sized Switch (object_type d.place e d.initial) (type_has d.place e d.initial) (type_switch d.place e d.initial domain h)))
+      (λ l a. initialised_formed before l a.0.0 a.0.1 a.1)
 
   pub object_formed : (e : Entity) (block : Bool) → IsDomainFor e domain → IfGood (object_judgement k d name e domain block c) AreFormed
   unfolding object_judgement

@@ -14,6 +14,7 @@ use Rattle.mv_types.specs.declared.contents.Object.{Object}
 use Rattle.mv_types.specs.Contents.{switch_of, switches_from}
 use Rattle.mv_types.specs.Units.{program_of}
 use Rattle.mv_formed_globals.specs.Globals.{HasFormedGlobals}
+use Rattle.mv_formed_globals.proofs.Sizes.{HasWord}
 use Rattle.mv_formed_globals.proofs.Objects.{IsSwitchIf, IsFormedObject, AreFormed, global_formed, values_of}
 use Rattle.mv_typed_bodies.proofs.Lists.{all_append, mapped_there, all_mapped, all_more}
 
@@ -72,6 +73,8 @@ program_formed c main h =
     let there : AreThere p 0 c.objects = λ i o q. let e : i ≡ i + 0 = omega arith in subst (λ m. slice_get (map (λ (o : Object). o.global) c.objects) m ≡ Some o.global) e (mapped_there (λ (o : Object). o.global) c.objects i o q) in
     let switches : AllByRecursion (IsFormed p) (switches_from 0 c.objects) = from_formed p 0 c.objects there h in
     record {
+      words = All-from_recursion (λ (g : Global). HasWord g.size) (map (λ (o : Object). o.global) c.objects)
+          (all_mapped (λ (g : Global). HasWord g.size) (λ (o : Object). o.global) c.objects (all_more IsFormedObject (λ o. HasWord o.global.size) (λ o f. f.sized) c.objects h));
       globals = All-from_recursion IsWellFormedGlobal (map (λ (o : Object). o.global) c.objects)
           (all_mapped IsWellFormedGlobal (λ (o : Object). o.global) c.objects (all_more IsFormedObject (λ o. IsWellFormedGlobal o.global) global_formed c.objects h));
       switches = All-from_recursion (IsWellFormedSwitch p) (switches_from 0 c.objects) (all_more (IsFormed p) (IsWellFormedSwitch p) (λ s f. f.formed) (switches_from 0 c.objects) switches);

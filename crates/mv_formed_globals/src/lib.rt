@@ -6,8 +6,9 @@ ghost use Rattle.mv_formed_globals.specs.FirstValues.{FirstValuesAreTyped, First
 
 use mv_typing::{constants_come_to_their_values, good_expressions_are_typed};
 
-/// The globals of a unit that keeps the rules are given no more values than they have words, and values of their types (C11 6.7.9); its
-/// switches are scalar globals of integer types, with different values of these. The call does nothing: its contract is the law.
+/// Each global of a unit that keeps the rules has a word (C11 6.7.6.2), and is given no more values than it has words, and values of its
+/// type (C11 6.7.9); the switches are scalar globals of integer types, with different values of these. The call does nothing: its
+/// contract is the law.
 pub fn good_globals_are_formed()
     ensures { GlobalsAreFormed }
 {}
