@@ -1,6 +1,5 @@
 -- The machine with a built image is a host for its program, and the program is loaded there.
-use Rattle.std.proofs.Common.{◌≡◌, ℕ, ◌+◌, ◌*◌, ◌<◌, ◌≤◌, ◌^◌, ◌%◌, zero, suc, pos, ◌-ℤ◌, Bool, true, false, List, [], ◌∷◌, Option, Some, None, map, take, sum, length, get_or, slice_get, slice_index, All, refl, sym, ap, ◌∙◌, subst, arith}
-use Rattle.std.proofs.lemmas.List.{length-map}
+use Rattle.std.proofs.Common.{◌≡◌, ℕ, ◌+◌, ◌<◌, ◌≤◌, ◌^◌, zero, suc, pos, ◌-ℤ◌, Bool, true, false, List, [], ◌∷◌, Some, None, map, sum, length, slice_get, All, refl, sym, ap, ◌∙◌, subst, arith}
 use Rattle.std.proofs.lemmas.List.Elements.{All-from_get_or, All-map, All-weaker}
 use Rattle.std.proofs.lemmas.Option.{slice_get-get_or, slice_get_within}
 use Rattle.mv_ast.specs.declared.program.Program.{Program}
@@ -15,17 +14,15 @@ use Rattle.mv_numbering.specs.Numberings.{IsNumbering}
 use Rattle.mv_isa.specs.declared.instr.Instr.TheVariants.{Addi}
 use Rattle.mv_isa.specs.declared.labelled.Labelled.{Labelled}
 use Rattle.mv_isa.specs.declared.labelled.Line.{Line}
-use Rattle.mv_isa.specs.declared.labelled.Line.TheVariants.{Word}
 use Rattle.mv_isa.specs.Code.{address, text_start}
 use Rattle.mv_image.specs.Spelling.{Fields}
 use Rattle.mv_ir.specs.declared.body.Body.{Body}
 use Rattle.mv_ir.specs.declared.body.Room.{Room}
-use Rattle.mv_ir.specs.declared.tree.Tree.{Tree}
 use Rattle.mv_ir.specs.Measures.{scalars_read}
 use Rattle.mv_ir.specs.Programs.{setting_of}
 use Rattle.mv_ir.specs.Trees.{found}
 use Rattle.mv_ir.specs.WellFormed.{has_room}
-use Rattle.mv_lowering.specs.Functions.{names_global, rooms_from, marked_from, functions_called, lower_function, lower_function_code}
+use Rattle.mv_lowering.specs.Functions.{names_global, rooms_from, marked_from, functions_called, lower_function_code}
 use Rattle.mv_lowered_programs.specs.WellFormed.{IsWellFormed, IsWellFormedGlobal}
 use Rattle.mv_machine.specs.Runs.{bytes_to_come}
 use Rattle.mv_statement_code.specs.Frames.{Site}
@@ -42,7 +39,7 @@ use Rattle.mv_function_code.specs.Functions.{IsFunction, shape_of}
 use Rattle.mv_source_calls.specs.Bindings.{keeps_bindings}
 use Rattle.mv_selected_bodies.specs.SelectedBodies.{knowns, AreRooms, CodeIsTheSame, IsInProgram, BodiesAreFunctions}
 use Rattle.mv_machine_runs.specs.Calm.{Rest}
-use Rattle.mv_machine_runs.specs.Layout.{IsLaidOut, IsPacked, IsSetOut}
+use Rattle.mv_machine_runs.specs.Layout.{IsPacked, IsSetOut}
 use Rattle.mv_machine_runs.specs.Laws.{IsByteOrEnd, CodeIsPlaced, TextsAreFound, PackedIsLaidOut}
 use Rattle.mv_machine_runs.specs.MachineRuns.{access, machine_of, machine_text}
 use Rattle.mv_machine_runs.proofs.OnRuns.{runs_are}
@@ -54,7 +51,7 @@ use Rattle.mv_linker.specs.Linked.{function_part, first_label, part_index}
 use Rattle.mv_linker.specs.Laws.{LinesFit, StubsStand, FunctionsStand}
 use Rattle.mv_first_data.specs.FirstData.{global_sizes}
 use Rattle.mv_first_data.specs.Laws.{AreAddresses, SizesAreCounts}
-use Rattle.mv_built_programs.specs.Built.{IsUnattributed, HasWordsOfGlobals, IsCompiledTo, IsCompiled, IsBuilt}
+use Rattle.mv_built_programs.specs.Built.{IsUnattributed, HasWordsOfGlobals, IsCompiled, IsBuilt}
 use Rattle.mv_built_programs.specs.Layouts.{address_of, numbers_of, layout_of}
 use Rattle.mv_built_programs.proofs.NoSlots.{HasNone, IsNoSlot, function_none, each_none}
 use Rattle.mv_built_programs.proofs.Numbers.{BeginsWithWord, entries, numbering}

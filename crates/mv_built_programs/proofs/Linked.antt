@@ -1,20 +1,18 @@
 -- What stands in the text and the data of a built image.
-use Rattle.std.proofs.Common.{◌≡◌, ℕ, ◌+◌, ◌-◌, ◌*◌, ◌/◌, ◌<◌, ◌≤◌, ◌^◌, Bool, true, false, List, [], ◌∷◌, Some, map, take, sum, length, get_or, slice_get, slice_index_or, All, refl, sym, ap, ◌∙◌, subst, arith}
-use Rattle.std.specs.List.{flat_map}
-use Rattle.std.proofs.lemmas.List.{length-map, get_or-map, get_or_past}
+use Rattle.std.proofs.Common.{◌≡◌, ℕ, ◌+◌, ◌-◌, ◌*◌, ◌/◌, ◌<◌, ◌≤◌, false, List, [], Some, map, sum, length, slice_get, All, sym, ap, ◌∙◌, subst, arith}
+use Rattle.std.proofs.lemmas.List.{length-map}
 use Rattle.std.proofs.lemmas.List.Concat.{length-flat_map}
-use Rattle.std.proofs.lemmas.List.Elements.{All-cons, All-nil, All-get_or, All-weaker}
+use Rattle.std.proofs.lemmas.List.Elements.{All-cons, All-get_or}
 use Rattle.std.proofs.lemmas.List.Sums.{sum-map, sum_by_more_le}
-use Rattle.std.proofs.lemmas.Option.{slice_get-get_or, slice_get_within, get_or_from_slice_get}
+use Rattle.std.proofs.lemmas.Option.{slice_get_within, get_or_from_slice_get}
 use Rattle.mv_ast.specs.declared.program.Program.{Program}
 use Rattle.mv_ast.specs.declared.program.Function.{Function}
 use Rattle.mv_ast.specs.Starts.{first_words_under}
 use Rattle.mv_isa.specs.declared.labelled.Labelled.{Labelled}
 use Rattle.mv_isa.specs.declared.labelled.Line.{Line}
-use Rattle.mv_isa.specs.declared.labelled.Line.TheVariants.{Word, Label}
-use Rattle.mv_isa.specs.Code.{CodeFits, StandsOnce, address, label_address, text_start}
+use Rattle.mv_isa.specs.declared.labelled.Line.TheVariants.{Label}
+use Rattle.mv_isa.specs.Code.{CodeFits, address, label_address, text_start}
 use Rattle.mv_image.specs.Spelling.{Fields}
-use Rattle.mv_lowering.specs.Lower.{global_words}
 use Rattle.mv_statement_code.specs.StatementCode.{trap_label}
 use Rattle.mv_flow_code.specs.Placed.{Placed}
 use Rattle.mv_call_code.specs.CallCode.{commit_label}
@@ -23,17 +21,17 @@ use Rattle.mv_call_code.specs.Laws.{IsLinked}
 use Rattle.mv_machine_runs.specs.Assembled.{HasWords}
 use Rattle.mv_machine_runs.specs.Laws.{CodeIsPlaced, TextsAreFound}
 use Rattle.mv_machine_runs.specs.MachineRuns.{may_be_patched, machine_text}
-use Rattle.mv_stub_runs.specs.Stubs.{start_address, start_lines, trap_lines}
+use Rattle.mv_stub_runs.specs.Stubs.{start_lines, trap_lines}
 use Rattle.mv_image_runs.specs.Main.{HasStubs}
 use Rattle.mv_linker.specs.declared.parts.Parts.{Parts}
-use Rattle.mv_linker.specs.Linked.{AreParts, IsFunction, own, relabelled, function_part, linked_lines, label_count, first_label, part_index}
+use Rattle.mv_linker.specs.Linked.{IsFunction, own, relabelled, function_part, linked_lines, first_label, part_index}
 use Rattle.mv_linker.specs.Laws.{LinesFit, StubsStand, FunctionsStand, FunctionStands}
 use Rattle.mv_linker.specs.Outcome.{datum_word}
 use Rattle.mv_first_data.specs.FirstData.{global_sizes}
 use Rattle.mv_first_data.specs.Laws.{AreAddresses}
 use Rattle.mv_built_programs.specs.Built.{IsCompiled, IsBuilt}
 use Rattle.mv_built_programs.specs.Layouts.{address_of, numbers_of, layout_of}
-use Rattle.mv_built_programs.proofs.NoSlots.{IsNoSlot, each_none}
+use Rattle.mv_built_programs.proofs.NoSlots.{IsNoSlot}
 use Rattle.mv_built_programs.proofs.Renamed.{own_place, lines_placed, own_stays}
 use Rattle.mv_built_programs.proofs.Places.{IsKeptLine, each_kept, part_placed, kept_lines}
 

@@ -1,5 +1,5 @@
 -- What main does on the machine, of the laws on functions and on the source.
-use Rattle.std.proofs.Common.{◌+◌, false, [], length, sym}
+use Rattle.std.proofs.Common.{false, [], sym}
 use Rattle.mv_function_code.specs.Functions.{FunctionsKeep, MainKeeps}
 use Rattle.mv_function_code.proofs.Begun.{begun_main}
 use Rattle.mv_function_code.proofs.Contents.{contents_at}

@@ -1,6 +1,5 @@
 -- Functions and stubs that are linked are placed in the text of the image.
-use Rattle.std.proofs.Common.{◌≡◌, ℕ, suc, ◌+◌, ◌*◌, ◌<◌, ◌≤◌, Bool, false, List, [], ◌∷◌, Some, map, length, get_or, slice_get, All, refl, sym, ap, ◌∙◌, subst, arith}
-use Rattle.std.proofs.lemmas.List.{length-map}
+use Rattle.std.proofs.Common.{◌≡◌, ℕ, ◌+◌, ◌<◌, false, List, [], ◌∷◌, map, length, get_or, All, sym, subst, arith}
 use Rattle.std.proofs.lemmas.List.Elements.{All-nil, All-cons, All-get_or, All-from_get_or, All-map}
 use Rattle.mv_isa.specs.declared.labelled.Labelled.{Labelled}
 use Rattle.mv_isa.specs.declared.labelled.Line.{Line}
@@ -10,17 +9,14 @@ use Rattle.mv_asm.specs.Outcome.{AreWordsUnder}
 use Rattle.mv_image.specs.Spelling.{Fields}
 use Rattle.mv_ir.proofs.Induction.{Each}
 use Rattle.mv_flow_code.specs.Labels.{OwnLabels}
-use Rattle.mv_flow_code.specs.Placed.{Text, Placed}
-use Rattle.mv_machine_runs.specs.Assembled.{HasWords, IsKept, IsOnlyLabel, IsPart}
+use Rattle.mv_flow_code.specs.Placed.{Placed}
+use Rattle.mv_machine_runs.specs.Assembled.{HasWords, IsKept, IsOnlyLabel}
 use Rattle.mv_machine_runs.specs.Laws.{CodeIsPlaced}
 use Rattle.mv_machine_runs.specs.MachineRuns.{may_be_patched, machine_text}
-use Rattle.mv_linker.specs.declared.parts.Parts.{Parts}
-use Rattle.mv_linker.specs.Linked.{AreParts, NamesAreThere, own, relabelled, function_part, linked_lines, first_label, part_index}
-use Rattle.mv_linker.specs.Linked as linked
-use Rattle.mv_linker.specs.Laws.{StandFrom, FunctionStands, FunctionsStand}
-use Rattle.mv_built_programs.specs.Layouts.{address_of}
+use Rattle.mv_linker.specs.Linked.{NamesAreThere, own, relabelled}
+use Rattle.mv_linker.specs.Laws.{StandFrom}
 use Rattle.mv_built_programs.proofs.NoSlots.{IsNoSlot}
-use Rattle.mv_built_programs.proofs.Renamed.{own_place, lines_placed, own_here}
+use Rattle.mv_built_programs.proofs.Renamed.{own_here}
 
 -- a line that is no slot is none where its labels are renamed
 no_slot_renamed : (first count : ℕ) (line : Line) → IsNoSlot line → IsNoSlot (relabelled first count line)

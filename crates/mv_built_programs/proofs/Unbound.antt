@@ -1,5 +1,5 @@
 -- A machine that counts as calm in worlds without bindings alone. So nothing is bound wherever it is calm.
-use Rattle.std.proofs.Common.{◌≡◌, ℕ, ◌+◌, ◌<◌, ◌≤◌, Bool, true, false, ◌&&◌, eqb, List, [], ◌∷◌, length, slice_get, Option, Some, None, refl, sym, ap, ◌∙◌, subst, arith}
+use Rattle.std.proofs.Common.{◌≡◌, ℕ, ◌+◌, Bool, true, false, ◌&&◌, eqb, List, [], ◌∷◌, length, slice_get, Some, None, refl, ap, ◌∙◌, arith}
 use Rattle.std.proofs.lemmas.Bool.{eqb-true, and_from}
 use Rattle.std.proofs.lemmas.Option.{slice_get_within}
 use Rattle.mv_ast.specs.declared.program.Program.{Program}
@@ -14,7 +14,7 @@ use Rattle.mv_ir.specs.Programs.{setting_of}
 use Rattle.mv_ir.specs.World.{World}
 use Rattle.mv_statement_code.specs.Frames.{Site}
 use Rattle.mv_flow_code.specs.Runs.{Spot, Machine, outside, LeadsOn, IsRun}
-use Rattle.mv_call_code.specs.Convention.{Layout, Stands, Returns, Stops, IsLate, FollowsCall}
+use Rattle.mv_call_code.specs.Convention.{Layout, Stands, Returns, FollowsCall}
 use Rattle.mv_call_code.specs.Environment.{IsDirect, Asks, ServesCalls}
 use Rattle.mv_function_code.specs.Functions.{IsMemory, Begins}
 

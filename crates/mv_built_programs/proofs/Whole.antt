@@ -1,5 +1,5 @@
 -- The run of a built image does what its program means.
-use Rattle.std.proofs.Common.{◌≡◌, ℕ, suc, ◌+◌, ◌*◌, ◌<◌, ◌≤◌, ◌^◌, ◌%◌, Bool, true, false, eqb, List, [], ◌∷◌, Option, Some, None, map, take, sum, length, get_or, filter, replicate, slice_get, All, refl, sym, ap, ◌∙◌, subst, arith}
+use Rattle.std.proofs.Common.{◌≡◌, ℕ, suc, ◌+◌, ◌*◌, ◌<◌, ◌^◌, ◌%◌, true, false, eqb, List, [], ◌∷◌, Option, Some, None, map, take, sum, length, get_or, filter, replicate, slice_get, All, refl, sym, ap, ◌∙◌, subst, arith}
 use Rattle.std.specs.Prelude.{IsTrue}
 use Rattle.std.specs.List.{flat_map}
 use Rattle.std.proofs.Math.ListN as lists
@@ -10,7 +10,7 @@ use Rattle.mv_ast.specs.declared.program.Function.{Function}
 use Rattle.mv_ast.specs.declared.world.Action.{Action}
 use Rattle.mv_ast.specs.declared.world.Binding.{Binding}
 use Rattle.mv_ast.specs.Actions.{fits}
-use Rattle.mv_ast.specs.Plans.{attributed_functions, free}
+use Rattle.mv_ast.specs.Plans.{free}
 use Rattle.mv_ast.specs.Starts.{first_words_under}
 use Rattle.mv_numbering.specs.Numberings.{IsNumbering}
 use Rattle.mv_image.specs.Spelling.{Fields}
@@ -29,10 +29,10 @@ use Rattle.mv_machine_runs.specs.Calm.{Rest}
 use Rattle.mv_machine_runs.specs.Laws.{IsFirst, CodeIsPlaced, TextsAreFound, PackedIsLaidOut}
 use Rattle.mv_machine_runs.specs.MachineRuns.{access, machine_of}
 use Rattle.mv_stub_runs.specs.Laws.{HoldsData, EntersMain, StartIsRight}
-use Rattle.mv_stub_runs.specs.Stubs.{start_address, return_address}
+use Rattle.mv_stub_runs.specs.Stubs.{return_address}
 use Rattle.mv_image_runs.specs.Behaves.{Behaves}
 use Rattle.mv_image_runs.specs.Laws.{ImagesBehave}
-use Rattle.mv_image_runs.specs.Main.{HasStubs, CallsMain, RunsMain}
+use Rattle.mv_image_runs.specs.Main.{HasStubs, CallsMain}
 use Rattle.mv_program_runs.specs.Laws.{first_seen, MainFollows}
 use Rattle.mv_linker.specs.declared.parts.Parts.{Parts}
 use Rattle.mv_linker.specs.Laws.{LinesFit, StubsStand, FunctionsStand}
