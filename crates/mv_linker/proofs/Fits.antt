@@ -1,13 +1,13 @@
 -- The linked lines keep the assembler's condition.
-use Rattle.std.proofs.Common.{◌≡◌, ℕ, zero, suc, ◌+◌, ◌-◌, ◌<◌, ◌≤◌, ◌⊎◌, ◌++◌, List, [], ◌∷◌, Some, length, take, slice_get, map, count_by, All, eqb, pos, refl, ap, sym, subst, ◌∙◌, ⊎_elim, arith, rules}
+use Rattle.std.proofs.Common.{◌≡◌, ℕ, zero, suc, ◌+◌, ◌-◌, ◌<◌, ◌≤◌, ◌⊎◌, ◌++◌, List, [], ◌∷◌, Some, length, take, slice_get, map, count_by, All, eqb, pos, refl, sym, subst, ⊎_elim, arith, rules}
 use Rattle.std.proofs.lemmas.List.Elements.{All-nil, All-cons, All-append, All-map, All-head, All-tail, All-from_recursion}
-use Rattle.mv_isa.specs.declared.instr.Instr.TheVariants.{Lui, Addi, Ecall}
+use Rattle.mv_isa.specs.declared.instr.Instr.TheVariants.{Jalr, Addi, FenceI, Ecall}
 use Rattle.mv_isa.specs.declared.labelled.Labelled.{Labelled}
 use Rattle.mv_isa.specs.declared.labelled.Line.{Line}
 use Rattle.mv_isa.specs.declared.labelled.Line.TheVariants.{Word, Label, Jump, Branch, Entry, Slot}
 use Rattle.mv_isa.specs.Code.{is_label, StandsOnce, TargetStands, LineFits, CodeFits}
 use Rattle.mv_linker.specs.declared.parts.Parts.{Parts}
-use Rattle.mv_linker.specs.Linked.{trap_label, own, relabelled, start_lines, trap_lines, stub_lines, function_part, function_parts, linked_lines, label_count, first_label, IsTrapLabel, IsOwnLabel, IsTarget, NamesAreThere, IsFunction, AreParts}
+use Rattle.mv_linker.specs.Linked.{trap_label, commit_label, own, relabelled, start_lines, trap_lines, commit_lines, stub_lines, function_part, function_parts, linked_lines, label_count, first_label, IsStubLabel, IsOwnLabel, IsTarget, NamesAreThere, IsFunction, AreParts}
 use Rattle.mv_linker.proofs.Counting.{times, count_append, count_cons, unmarked, own_is, own_stays, label_count_more, labels_within, parts_other, parts_entry, parts_own}
 
 -- ---- labels of the stubs
@@ -15,8 +15,11 @@ use Rattle.mv_linker.proofs.Counting.{times, count_append, count_cons, unmarked,
 trap_count : (m c : ℕ) → count_by (is_label m) (trap_lines c) ≡ times (eqb (trap_label c) m)
 trap_count m c = omega (arith, count_cons m (Label (trap_label c)) (Word (Addi 10 0 (pos c)) ∷ Word (Addi 17 0 (pos 3)) ∷ Word Ecall ∷ []))
 
+commit_count : (m : ℕ) → count_by (is_label m) commit_lines ≡ times (eqb commit_label m)
+commit_count m = omega (arith, count_cons m (Label commit_label) (Word Ecall ∷ Word FenceI ∷ Word (Jalr 0 1 (pos 0)) ∷ []))
+
 stub_count : (main m : ℕ) → count_by (is_label m) (stub_lines main)
-    ≡ times (eqb (trap_label 1) m) + (times (eqb (trap_label 2) m) + (times (eqb (trap_label 3) m) + times (eqb (trap_label 4) m)))
+    ≡ times (eqb (trap_label 1) m) + (times (eqb (trap_label 2) m) + (times (eqb (trap_label 3) m) + (times (eqb (trap_label 4) m) + times (eqb commit_label m))))
 stub_count main m =
     let start : count_by (is_label m) (start_lines main) ≡ 0 = refl in
     omega (
@@ -26,10 +29,12 @@ stub_count main m =
       trap_count m 2,
       trap_count m 3,
       trap_count m 4,
-      count_append m (start_lines main) (trap_lines 1 ++ (trap_lines 2 ++ (trap_lines 3 ++ trap_lines 4))),
-      count_append m (trap_lines 1) (trap_lines 2 ++ (trap_lines 3 ++ trap_lines 4)),
-      count_append m (trap_lines 2) (trap_lines 3 ++ trap_lines 4),
-      count_append m (trap_lines 3) (trap_lines 4),
+      commit_count m,
+      count_append m (start_lines main) (trap_lines 1 ++ (trap_lines 2 ++ (trap_lines 3 ++ (trap_lines 4 ++ commit_lines)))),
+      count_append m (trap_lines 1) (trap_lines 2 ++ (trap_lines 3 ++ (trap_lines 4 ++ commit_lines))),
+      count_append m (trap_lines 2) (trap_lines 3 ++ (trap_lines 4 ++ commit_lines)),
+      count_append m (trap_lines 3) (trap_lines 4 ++ commit_lines),
+      count_append m (trap_lines 4) commit_lines,
     )
 
 stubs_other : (main m : ℕ) → m < trap_label 1 → count_by (is_label m) (stub_lines main) ≡ 0
@@ -41,6 +46,7 @@ stubs_other main m below =
       unmarked m (trap_label 2) (λ e. omega (arith, e)),
       unmarked m (trap_label 3) (λ e. omega (arith, e)),
       unmarked m (trap_label 4) (λ e. omega (arith, e)),
+      unmarked m commit_label (λ e. omega (arith, e)),
     )
 
 stubs_trap : (main c : ℕ) → 1 ≤ c → c ≤ 4 → StandsOnce (stub_lines main) (trap_label c)
@@ -50,6 +56,13 @@ stubs_trap main (suc (suc zero)) from to = refl
 stubs_trap main (suc (suc (suc zero))) from to = refl
 stubs_trap main (suc (suc (suc (suc zero)))) from to = refl
 stubs_trap main (suc (suc (suc (suc (suc c))))) from to = absurd (omega arith)
+
+stubs_commit : (main : ℕ) → StandsOnce (stub_lines main) commit_label
+stubs_commit main = refl
+
+-- the labels of the stubs are above all others
+stub_above : (l : ℕ) → IsStubLabel l → trap_label 1 ≤ l
+stub_above l is = ⊎_elim (λ (trap : (trap_label 1 ≤ l) × (l ≤ trap_label 4)). trap.0) (λ (commit : l ≡ commit_label). omega (arith, commit)) is
 
 -- ---- labels that stand once in the linked lines
 
@@ -89,19 +102,35 @@ module _ (parts : Parts) (are : AreParts parts) where
             (λ le. omega (arith, are.labels)) (λ le. omega (arith, are.labels)),
       )
 
-  trap_target : (l : ℕ) → IsTrapLabel l → StandsOnce (linked_lines parts) l
-  trap_target l is =
-      let c_is : trap_label (l - trap_label 0) ≡ l = omega (arith, is.0, is.1) in
-      subst (StandsOnce (linked_lines parts)) c_is (trap_once (l - trap_label 0) (omega (arith, is.0, is.1)) (omega (arith, is.0, is.1)))
+  pub commit_once : StandsOnce (linked_lines parts) commit_label
+  commit_once =
+      omega (
+        arith,
+        counted commit_label,
+        stubs_commit parts.main,
+        parts_other (length parts.functions) parts.functions 0 (length parts.functions) commit_label are.functions
+            (λ le. omega (arith, are.labels)) (λ le. omega (arith, are.labels)),
+      )
+
+  trap_target : (l : ℕ) → trap_label 1 ≤ l → l ≤ trap_label 4 → StandsOnce (linked_lines parts) l
+  trap_target l from to =
+      let c_is : trap_label (l - trap_label 0) ≡ l = omega (arith, from, to) in
+      subst (StandsOnce (linked_lines parts)) c_is (trap_once (l - trap_label 0) (omega (arith, from, to)) (omega (arith, from, to)))
+
+  stub_target : (l : ℕ) → IsStubLabel l → StandsOnce (linked_lines parts) l
+  stub_target l is =
+      ⊎_elim (λ (trap : (trap_label 1 ≤ l) × (l ≤ trap_label 4)). trap_target l trap.0 trap.1)
+      (λ (commit : l ≡ commit_label). subst (StandsOnce (linked_lines parts)) (sym commit) commit_once)
+      is
 
 -- ---- what lines name stands once
 
-module _ (whole : List Line) (n : ℕ) (entries : (f : ℕ) → f < n → StandsOnce whole f) (traps : (l : ℕ) → IsTrapLabel l → StandsOnce whole l) where
+module _ (whole : List Line) (n : ℕ) (entries : (f : ℕ) → f < n → StandsOnce whole f) (stubs : (l : ℕ) → IsStubLabel l → StandsOnce whole l) where
   module _ (first : ℕ) (code : Labelled) (owns : (l : ℕ) → IsOwnLabel code l → StandsOnce whole (first + l)) (room : code.labels ≤ trap_label 1) where
     target_once : (l : ℕ) → IsTarget code l → StandsOnce whole (own first code.labels l)
     target_once l is =
         ⊎_elim (λ (mine : IsOwnLabel code l). subst (StandsOnce whole) (sym (own_is first code.labels l mine.0)) (owns l mine))
-        (λ (trap : IsTrapLabel l). subst (StandsOnce whole) (sym (own_stays first code.labels l (omega (arith, trap.0)))) (traps l trap))
+        (λ (stub : IsStubLabel l). subst (StandsOnce whole) (sym (own_stays first code.labels l (omega (arith, stub_above l stub)))) (stubs l stub))
         is
 
     line_target : (x : Line) → NamesAreThere n code x → TargetStands whole (relabelled first code.labels x)
@@ -149,13 +178,14 @@ parts_fields n (code ∷ rest) f first all =
     (parts_fields n rest (f + 1) (first + code.labels) (All-tail (IsFunction n) code rest all))
 
 -- of the stubs
-module _ (P : Line → Type 0) (main : ℕ) (start : All P (start_lines main)) (traps : (c : ℕ) → c ≤ 4 → All P (trap_lines c)) where
+module _ (P : Line → Type 0) (main : ℕ) (start : All P (start_lines main)) (traps : (c : ℕ) → c ≤ 4 → All P (trap_lines c)) (commit : All P commit_lines) where
   stubs_all : All P (stub_lines main)
   stubs_all =
-      All-append P (start_lines main) (trap_lines 1 ++ (trap_lines 2 ++ (trap_lines 3 ++ trap_lines 4))) start
-      (All-append P (trap_lines 1) (trap_lines 2 ++ (trap_lines 3 ++ trap_lines 4)) (traps 1 (omega arith))
-      (All-append P (trap_lines 2) (trap_lines 3 ++ trap_lines 4) (traps 2 (omega arith))
-      (All-append P (trap_lines 3) (trap_lines 4) (traps 3 (omega arith)) (traps 4 (omega arith)))))
+      All-append P (start_lines main) (trap_lines 1 ++ (trap_lines 2 ++ (trap_lines 3 ++ (trap_lines 4 ++ commit_lines)))) start
+      (All-append P (trap_lines 1) (trap_lines 2 ++ (trap_lines 3 ++ (trap_lines 4 ++ commit_lines))) (traps 1 (omega arith))
+      (All-append P (trap_lines 2) (trap_lines 3 ++ (trap_lines 4 ++ commit_lines)) (traps 2 (omega arith))
+      (All-append P (trap_lines 3) (trap_lines 4 ++ commit_lines) (traps 3 (omega arith))
+      (All-append P (trap_lines 4) commit_lines (traps 4 (omega arith)) commit))))
 
 start_fields : (main : ℕ) → All LineFits (start_lines main)
 start_fields main = All-from_recursion LineFits (start_lines main) (search rules)
@@ -163,11 +193,17 @@ start_fields main = All-from_recursion LineFits (start_lines main) (search rules
 trap_fields : (c : ℕ) → c ≤ 4 → All LineFits (trap_lines c)
 trap_fields c le = All-from_recursion LineFits (trap_lines c) (search rules)
 
+commit_fields : All LineFits commit_lines
+commit_fields = All-from_recursion LineFits commit_lines (search rules)
+
 start_targets : (whole : List Line) (main : ℕ) → StandsOnce whole main → All (TargetStands whole) (start_lines main)
 start_targets whole main once = All-from_recursion (TargetStands whole) (start_lines main) (tt, (tt, (once, (tt, (tt, tt)))))
 
 trap_targets : (whole : List Line) (c : ℕ) → c ≤ 4 → All (TargetStands whole) (trap_lines c)
 trap_targets whole c le = All-from_recursion (TargetStands whole) (trap_lines c) (tt, (tt, (tt, (tt, tt))))
+
+commit_targets : (whole : List Line) → All (TargetStands whole) commit_lines
+commit_targets whole = All-from_recursion (TargetStands whole) commit_lines (tt, (tt, (tt, (tt, tt))))
 
 -- ---- all lines
 
@@ -176,10 +212,10 @@ lines_fit parts are =
     let n = length parts.functions in
     let rest = function_parts 0 n parts.functions in
     let fields : All LineFits (linked_lines parts) =
-    All-append LineFits (stub_lines parts.main) rest (stubs_all LineFits parts.main (start_fields parts.main) trap_fields) (parts_fields n parts.functions 0 n are.functions) in
+    All-append LineFits (stub_lines parts.main) rest (stubs_all LineFits parts.main (start_fields parts.main) trap_fields commit_fields) (parts_fields n parts.functions 0 n are.functions) in
     let whole = linked_lines parts in
     let targets : All (TargetStands whole) whole =
     All-append (TargetStands whole) (stub_lines parts.main) rest
-    (stubs_all (TargetStands whole) parts.main (start_targets whole parts.main (entry_once parts are parts.main are.main)) (trap_targets whole))
-    (parts_targets whole n (entry_once parts are) (trap_target parts are) parts.functions 0 n are.functions (omega (arith, are.labels)) (own_once parts are)) in
+    (stubs_all (TargetStands whole) parts.main (start_targets whole parts.main (entry_once parts are parts.main are.main)) (trap_targets whole) (commit_targets whole))
+    (parts_targets whole n (entry_once parts are) (stub_target parts are) parts.functions 0 n are.functions (omega (arith, are.labels)) (own_once parts are)) in
     record { fields = λ k l. fields k (Label 0) l; targets = λ k l. targets k (Label 0) l }

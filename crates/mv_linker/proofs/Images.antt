@@ -1,11 +1,11 @@
 -- The image of parts: its text, and the addresses in its data.
-use Rattle.std.proofs.Common.{◌≡◌, ℕ, zero, suc, ◌+◌, ◌*◌, ◌<◌, ◌≤◌, List, [], ◌∷◌, Some, length, map, slice_get, slice_index, sum, All, refl, ap, sym, subst, ◌∙◌, arith, eq-eqb}
+use Rattle.std.proofs.Common.{◌≡◌, ℕ, zero, suc, ◌+◌, ◌<◌, ◌≤◌, List, [], ◌∷◌, Some, length, map, slice_get, slice_index, All, refl, ap, sym, subst, ◌∙◌, arith, eq-eqb}
 use Rattle.std.proofs.lemmas.List.Elements.{All-head, All-tail, All-from_get_or}
 use Rattle.std.proofs.lemmas.List.Sums.{get_or-le-sum_by}
 use Rattle.mv_isa.specs.declared.labelled.Labelled.{Labelled}
 use Rattle.mv_isa.specs.declared.labelled.Line.{Line}
 use Rattle.mv_isa.specs.declared.labelled.Line.TheVariants.{Label}
-use Rattle.mv_isa.specs.Code.{CodeFits, is_label, line_at, label_index, label_address, address, text_start}
+use Rattle.mv_isa.specs.Code.{CodeFits, line_at, label_index, label_address, address, text_start}
 use Rattle.mv_asm.specs.Outcome.{ArePlaced, PassesText}
 use Rattle.mv_asm.proofs.Standing.{index_once}
 use Rattle.mv_image.specs.Spelling.{Fields, bare}
@@ -13,8 +13,7 @@ use Rattle.mv_linker.specs.declared.joined.Joined.{Joined}
 use Rattle.mv_linker.specs.declared.parts.Parts.{Parts}
 use Rattle.mv_linker.specs.declared.parts.Datum.{Datum}
 use Rattle.mv_linker.specs.declared.parts.Datum.TheVariants.{Number, Function}
-use Rattle.mv_linker.specs.Linked.{linked_lines, first_label, part_index, IsDatum, AreParts, IsJoined}
-use Rattle.mv_linker.specs.Laws.{FunctionStands}
+use Rattle.mv_linker.specs.Linked.{linked_lines, part_index, IsDatum, AreParts, IsJoined}
 use Rattle.mv_linker.specs.Outcome.{datum_word, WithinLimit, IsLinked}
 use Rattle.mv_linker.proofs.Fits.{lines_fit}
 use Rattle.mv_linker.proofs.Places.{function_law}
@@ -46,7 +45,7 @@ module _ (parts : Parts) (are : AreParts parts) where
       omega (arith, stands.part.within)
 
   -- the label of an entry stands where the function's part begins
-  entry_index : (f : ℕ) → f < length parts.functions → label_index (linked_lines parts) f ≡ part_index parts.functions f
+  pub entry_index : (f : ℕ) → f < length parts.functions → label_index (linked_lines parts) f ≡ part_index parts.functions f
   entry_index f below =
       let found = found_at parts.functions f below in
       let stands = function_law parts are f found.0 found.1 in

@@ -1,5 +1,5 @@
 -- Where the stubs and the parts of functions stand.
-use Rattle.std.proofs.Common.{◌≡◌, ℕ, zero, suc, ◌+◌, ◌*◌, ◌<◌, ◌≤◌, ◌++◌, List, [], ◌∷◌, Some, length, take, slice_get, map, refl, ap, sym, subst, ◌∙◌, arith}
+use Rattle.std.proofs.Common.{◌≡◌, ℕ, zero, suc, ◌+◌, ◌*◌, ◌≤◌, ◌++◌, List, [], ◌∷◌, Some, length, take, slice_get, refl, ap, sym, subst, ◌∙◌, arith}
 use Rattle.std.proofs.lemmas.List.{append_assoc, length-append, length-map, get_or-append-add, get_or_append_left}
 use Rattle.std.proofs.lemmas.List.Sums.{sum_by-cons}
 use Rattle.std.proofs.lemmas.Option.{slice_get_within}
@@ -7,10 +7,10 @@ use Rattle.mv_isa.specs.declared.labelled.Labelled.{Labelled}
 use Rattle.mv_isa.specs.declared.labelled.Line.{Line}
 use Rattle.mv_isa.specs.declared.labelled.Line.TheVariants.{Label}
 use Rattle.mv_linker.specs.declared.parts.Parts.{Parts}
-use Rattle.mv_linker.specs.Linked.{relabelled, start_lines, trap_lines, stub_lines, function_part, function_parts, linked_lines, label_count, first_label, line_count, part_index, AreParts}
-use Rattle.mv_linker.specs.Laws.{StandFrom, TrapStands, FunctionStands}
+use Rattle.mv_linker.specs.Linked.{relabelled, start_lines, trap_lines, commit_lines, stub_lines, function_part, function_parts, linked_lines, label_count, first_label, line_count, part_index, AreParts}
+use Rattle.mv_linker.specs.Laws.{StandFrom, TrapStands, CommitStands, FunctionStands}
 use Rattle.mv_linker.proofs.Counting.{label_count_more}
-use Rattle.mv_linker.proofs.Fits.{entry_once, own_once, trap_once}
+use Rattle.mv_linker.proofs.Fits.{entry_once, own_once, trap_once, commit_once}
 
 pub stand_in : (before part after : List Line) (k : ℕ) → k ≡ length before → StandFrom (before ++ (part ++ after)) k part
 stand_in before part after k e = record {
@@ -26,15 +26,18 @@ in_front front before part after rest e = ap (λ ls. front ++ ls) e ∙ sym (app
 
 module _ (main : ℕ) (rest : List Line) where
   start_stands : StandFrom (stub_lines main ++ rest) 0 (start_lines main)
-  start_stands = stand_in [] (start_lines main) ((trap_lines 1 ++ (trap_lines 2 ++ (trap_lines 3 ++ trap_lines 4))) ++ rest) 0 refl
+  start_stands = stand_in [] (start_lines main) ((trap_lines 1 ++ (trap_lines 2 ++ (trap_lines 3 ++ (trap_lines 4 ++ commit_lines)))) ++ rest) 0 refl
 
   trap_stands : (c : ℕ) → 1 ≤ c → c ≤ 4 → StandFrom (stub_lines main ++ rest) (4 * c + 1) (trap_lines c)
   trap_stands zero from to = absurd (omega arith)
-  trap_stands (suc zero) from to = stand_in (start_lines main) (trap_lines 1) ((trap_lines 2 ++ (trap_lines 3 ++ trap_lines 4)) ++ rest) 5 refl
-  trap_stands (suc (suc zero)) from to = stand_in (start_lines main ++ trap_lines 1) (trap_lines 2) ((trap_lines 3 ++ trap_lines 4) ++ rest) 9 refl
-  trap_stands (suc (suc (suc zero))) from to = stand_in (start_lines main ++ (trap_lines 1 ++ trap_lines 2)) (trap_lines 3) (trap_lines 4 ++ rest) 13 refl
-  trap_stands (suc (suc (suc (suc zero)))) from to = stand_in (start_lines main ++ (trap_lines 1 ++ (trap_lines 2 ++ trap_lines 3))) (trap_lines 4) rest 17 refl
+  trap_stands (suc zero) from to = stand_in (start_lines main) (trap_lines 1) ((trap_lines 2 ++ (trap_lines 3 ++ (trap_lines 4 ++ commit_lines))) ++ rest) 5 refl
+  trap_stands (suc (suc zero)) from to = stand_in (start_lines main ++ trap_lines 1) (trap_lines 2) ((trap_lines 3 ++ (trap_lines 4 ++ commit_lines)) ++ rest) 9 refl
+  trap_stands (suc (suc (suc zero))) from to = stand_in (start_lines main ++ (trap_lines 1 ++ trap_lines 2)) (trap_lines 3) ((trap_lines 4 ++ commit_lines) ++ rest) 13 refl
+  trap_stands (suc (suc (suc (suc zero)))) from to = stand_in (start_lines main ++ (trap_lines 1 ++ (trap_lines 2 ++ trap_lines 3))) (trap_lines 4) (commit_lines ++ rest) 17 refl
   trap_stands (suc (suc (suc (suc (suc c))))) from to = absurd (omega arith)
+
+  commit_stands : StandFrom (stub_lines main ++ rest) 21 commit_lines
+  commit_stands = stand_in (start_lines main ++ (trap_lines 1 ++ (trap_lines 2 ++ (trap_lines 3 ++ trap_lines 4)))) commit_lines rest 21 refl
 
 -- ---- functions
 
@@ -81,6 +84,12 @@ module _ (parts : Parts) (are : AreParts parts) where
   trap_law c from to = record {
     stub = trap_stands parts.main (function_parts 0 (length parts.functions) parts.functions) c from to;
     label = trap_once parts are c from to;
+  }
+
+  pub commit_law : CommitStands (linked_lines parts)
+  commit_law = record {
+    stub = commit_stands parts.main (function_parts 0 (length parts.functions) parts.functions);
+    label = commit_once parts are;
   }
 
   module _ (f : ℕ) (code : Labelled) (found : slice_get parts.functions f ≡ Some code) where

@@ -5,7 +5,7 @@ use Rattle.mv_isa.specs.declared.labelled.Line.{Line}
 use Rattle.mv_isa.specs.Code.{CodeFits, StandsOnce, line_at}
 use Rattle.mv_isa.specs.Standing.{LineStands}
 use Rattle.mv_linker.specs.declared.parts.Parts.{Parts}
-use Rattle.mv_linker.specs.Linked.{AreParts, IsOwnLabel, own, relabelled, trap_label, start_lines, trap_lines, function_part, linked_lines, first_label, part_index}
+use Rattle.mv_linker.specs.Linked.{AreParts, IsOwnLabel, own, relabelled, trap_label, commit_label, start_lines, trap_lines, commit_lines, function_part, linked_lines, first_label, part_index}
 
 -- they may be assembled
 abbrev pub LinesFit : Type 0
@@ -21,11 +21,16 @@ pub record TrapStands (lines : List Line) (c : ℕ) : Type 0 where
   pub stub : StandFrom lines (4 * c + 1) (trap_lines c)
   pub label : StandsOnce lines (trap_label c)
 
--- The start stands at the beginning, and the stubs of the traps behind it.
+-- the stub of commits stands in lines, its label nowhere else
+pub record CommitStands (lines : List Line) : Type 0 where
+  pub stub : StandFrom lines 21 commit_lines
+  pub label : StandsOnce lines commit_label
+
+-- The start stands at the beginning, the stubs of the traps behind it, and the stub of commits behind these.
 abbrev pub StubsStand : Type 0
 StubsStand =
     (parts : Parts) → AreParts parts →
-    StandFrom (linked_lines parts) 0 (start_lines parts.main) × ((c : ℕ) → 1 ≤ c → c ≤ 4 → TrapStands (linked_lines parts) c)
+    StandFrom (linked_lines parts) 0 (start_lines parts.main) × ((c : ℕ) → 1 ≤ c → c ≤ 4 → TrapStands (linked_lines parts) c) × CommitStands (linked_lines parts)
 
 -- The part of a function stands in lines, its entry's label nowhere else, and an own label that stands once in its code stands once in all lines.
 pub record FunctionStands (lines : List Line) (functions : List Labelled) (f : ℕ) (code : Labelled) : Type 0 where

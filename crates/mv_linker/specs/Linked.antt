@@ -1,6 +1,6 @@
 -- What the linker joins: the stubs, and the functions behind them.
-use Rattle.std.specs.Prelude.{ℕ, ◌+◌, ◌*◌, ◌<◌, ◌≤◌, ◌≡◌, ◌⊎◌, pos, nat_lt, if◌then◌else◌, List, [], ◌∷◌, ◌++◌, length, take, map, slice_index, All, sum_by}
-use Rattle.mv_isa.specs.declared.instr.Instr.TheVariants.{Lui, Addi, Ecall}
+use Rattle.std.specs.Prelude.{ℕ, ◌+◌, ◌<◌, ◌≤◌, ◌≡◌, ◌⊎◌, pos, nat_lt, if◌then◌else◌, List, [], ◌∷◌, ◌++◌, length, take, map, slice_index, All, sum_by}
+use Rattle.mv_isa.specs.declared.instr.Instr.TheVariants.{Lui, Jalr, Addi, FenceI, Ecall}
 use Rattle.mv_isa.specs.declared.labelled.Labelled.{Labelled}
 use Rattle.mv_isa.specs.declared.labelled.Line.{Line}
 use Rattle.mv_isa.specs.declared.labelled.Line.TheVariants.{Word, Label, Jump, Branch, Entry, Slot}
@@ -11,11 +11,15 @@ use Rattle.mv_linker.specs.declared.parts.Datum.TheVariants.{Number, Function}
 use Rattle.mv_linker.specs.declared.joined.Joined.{Joined}
 
 -- ---- labels. In the linked code the label of a function's entry is the function's number. Behind those of all functions come the own labels of
--- each function in order, and the label of a trap's stub stays as it is.
+-- each function in order, and the labels of the stubs stay as they are.
 
 -- the label of the stub of a trap, 1 to 4
 abbrev pub trap_label : ℕ → ℕ
 trap_label c = 4294967289 + c
+
+-- the label of the stub of commits
+abbrev pub commit_label : ℕ
+commit_label = 4294967295
 
 -- what a label becomes of a function with so many own labels, which are counted from a first one on
 abbrev pub own : (first count : ℕ) → ℕ → ℕ
@@ -40,8 +44,13 @@ start_lines main = Word (Lui 2 (pos 0x400)) ∷ Word (Addi 27 0 (pos 512)) ∷ J
 abbrev pub trap_lines : (c : ℕ) → List Line
 trap_lines c = Label (trap_label c) ∷ Word (Addi 10 0 (pos c)) ∷ Word (Addi 17 0 (pos 3)) ∷ Word Ecall ∷ []
 
+-- the stub of commits: the environment call that a7 names already, FENCE.I so that what it patched is fetched, and the return
+abbrev pub commit_lines : List Line
+commit_lines = Label commit_label ∷ Word Ecall ∷ Word FenceI ∷ Word (Jalr 0 1 (pos 0)) ∷ []
+
+-- the start, the stubs of the traps 1 to 4, and the stub of commits
 abbrev pub stub_lines : (main : ℕ) → List Line
-stub_lines main = start_lines main ++ (trap_lines 1 ++ (trap_lines 2 ++ (trap_lines 3 ++ trap_lines 4)))
+stub_lines main = start_lines main ++ (trap_lines 1 ++ (trap_lines 2 ++ (trap_lines 3 ++ (trap_lines 4 ++ commit_lines))))
 
 -- the code of a function behind the label of its entry, with its own labels counted from a first one on
 abbrev pub function_part : (f first : ℕ) → Labelled → List Line
@@ -70,14 +79,15 @@ first_label functions f = length functions + label_count (take f functions)
 abbrev pub line_count : List Labelled → ℕ
 line_count functions = sum_by (λ (code : Labelled). 1 + length code.items) functions
 
--- the index at which a function's part begins, behind the 21 lines of the stubs
+-- the index at which a function's part begins, behind the 25 lines of the stubs
 abbrev pub part_index : List Labelled → (f : ℕ) → ℕ
-part_index functions f = 21 + line_count (take f functions)
+part_index functions f = 25 + line_count (take f functions)
 
 -- ---- parts
 
-abbrev pub IsTrapLabel : ℕ → Type 0
-IsTrapLabel l = (trap_label 1 ≤ l) × (l ≤ trap_label 4)
+-- the label of the stub of a trap, or of the stub of commits
+abbrev pub IsStubLabel : ℕ → Type 0
+IsStubLabel l = ((trap_label 1 ≤ l) × (l ≤ trap_label 4)) ⊎ (l ≡ commit_label)
 
 -- an own label of a function that stands in its code once
 abbrev pub IsOwnLabel : Labelled → ℕ → Type 0
@@ -85,7 +95,7 @@ IsOwnLabel code l = (l < code.labels) × StandsOnce code.items l
 
 -- a label that a jump or a branch of a function may name
 abbrev pub IsTarget : Labelled → ℕ → Type 0
-IsTarget code l = IsOwnLabel code l ⊎ IsTrapLabel l
+IsTarget code l = IsOwnLabel code l ⊎ IsStubLabel l
 
 -- a label of a function's code is an own one, and what its lines name is there, among so many functions
 abbrev pub NamesAreThere : (functions : ℕ) → Labelled → Line → Type 0
@@ -106,7 +116,7 @@ abbrev pub IsDatum : (functions : ℕ) → Datum → Type 0
 IsDatum functions (Number n) = Unit {0}
 IsDatum functions (Function f) = f < functions
 
--- what can be linked: what is named is there, and there are numbers for all labels below those of the traps
+-- what can be linked: what is named is there, and there are numbers for all labels below those of the stubs
 pub record AreParts (parts : Parts) : Type 0 where
   pub main : parts.main < length parts.functions
   pub functions : All (IsFunction (length parts.functions)) parts.functions

@@ -1,5 +1,5 @@
 ghost use Rattle.std.specs.Prelude.{◌≡◌, ◌+◌, ◌<◌, ◌≤◌, [], ◌∷◌, ◌++◌, IfOk, OnOk};
-ghost use Rattle.mv_linker.specs.Linked.{own, relabelled, start_lines, trap_lines, stub_lines, function_part, AreParts, IsJoined};
+ghost use Rattle.mv_linker.specs.Linked.{own, relabelled, start_lines, trap_lines, commit_lines, stub_lines, function_part, AreParts, IsJoined};
 
 use crate::parts::Parts;
 use mv_isa::Instr;
@@ -9,6 +9,8 @@ use std::alloc::{AllocError, Global};
 
 /// The label of the stub of trap c is this and c.
 const TRAPS: u32 = 4_294_967_289;
+/// The label of the stub of commits.
+const COMMIT: u32 = 4_294_967_295;
 
 const RA: u8 = 1;
 
@@ -27,6 +29,8 @@ const TRAP: i32 = 3;
 /// The code of all parts.
 #[derive(Debug, Drop)]
 pub struct Joined {
+    /// Its `labels` is more than the label of each entry and each own label. Those of the stubs are above it, the last of them
+    /// the greatest number there is.
     pub code: Labelled,
     /// At which item each function begins.
     pub entries: List<usize>,
@@ -49,7 +53,7 @@ pub fn join_parts(alloc: Global, parts: &Parts) -> Result<Joined, AllocError>
     Ok(Joined {
         code: Labelled {
             items,
-            labels: TRAPS + 5,
+            labels: first,
         },
         entries,
     })
@@ -62,7 +66,8 @@ fn push_stubs(items: &mut List<Line>, main: u32) -> Result<(), AllocError>
     push_trap(items, 1)?;
     push_trap(items, 2)?;
     push_trap(items, 3)?;
-    push_trap(items, 4)
+    push_trap(items, 4)?;
+    push_commit(items)
 }
 
 /// The stub at which a run begins: the stack ends at 0x400000, and 512 calls are left. s10, which counts live attributed
@@ -87,6 +92,22 @@ fn push_trap(items: &mut List<Line>, code: u32) -> Result<(), AllocError>
     push_number(items, A0, code as i32)?;
     push_number(items, A7, TRAP)?;
     items.push(Line::Word(Instr::Ecall))?;
+    Ok(())
+}
+
+/// The stub of commits: who calls it has the number of the environment call in a7. FENCE.I stands behind the call because
+/// only then fetches see what it stored into text (RISC-V unprivileged ISA, Zifencei).
+fn push_commit(items: &mut List<Line>) -> Result<(), AllocError>
+    ensures { OnOk result (items.new ≡ items.old ++ commit_lines) }
+{
+    items.push(Line::Label(COMMIT))?;
+    items.push(Line::Word(Instr::Ecall))?;
+    items.push(Line::Word(Instr::FenceI))?;
+    items.push(Line::Word(Instr::Jalr {
+        rd: 0,
+        rs1: RA,
+        imm: 0,
+    }))?;
     Ok(())
 }
 

@@ -1,4 +1,4 @@
-ghost use Rattle.std.specs.Prelude.{◌≡◌, ◌<◌, ℕ, IfOk, MatchResult, All, map, length, slice_index};
+ghost use Rattle.std.specs.Prelude.{◌≡◌, ◌<◌, IfOk, MatchResult, All, map, length, slice_index};
 ghost use Rattle.mv_linker.specs.Linked.{AreParts, IsDatum, IsJoined};
 ghost use Rattle.mv_linker.specs.Outcome.{datum_word, WithinLimit, IsLinked, IsRefusal};
 

@@ -13,7 +13,9 @@ pub enum Datum {
 /// What is linked: the functions of a program, counted from 0, and its data.
 ///
 /// In the code of a function, entries and slots name functions. Jumps and branches name own labels of the function, each
-/// below its `labels`, and the stubs of the traps 1 to 4, whose labels are 4,294,967,290 to 4,294,967,293.
+/// below its `labels`, the stubs of the traps 1 to 4, whose labels are 4,294,967,290 to 4,294,967,293, and the stub of commits,
+/// whose label is 4,294,967,295: called with the number of the environment call that carries out an order or a poll in a7, it
+/// makes the call, executes FENCE.I and returns.
 #[derive(Debug, Drop)]
 pub struct Parts {
     pub functions: List<Labelled>,

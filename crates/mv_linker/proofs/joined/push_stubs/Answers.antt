@@ -2,17 +2,17 @@ use Rattle.std.proofs.Common.{◌≡◌, ◌++◌, List}
 use Rattle.std.proofs.lemmas.List.{append_assoc}
 use Rattle.std.proofs.lemmas.Result.{on_ok_weaker}
 use Rattle.mv_isa.specs.declared.labelled.Line.{Line}
-use Rattle.mv_linker.specs.Linked.{start_lines, trap_lines}
+use Rattle.mv_linker.specs.Linked.{start_lines, trap_lines, commit_lines}
 use Rattle.mv_linker.proofs.joined.push_stubs.Goals as goal
 
--- five pieces put at the end, one after the other
-five : (old s₁ s₂ s₃ s₄ s₅ a b c d e : List Line) → s₁ ≡ old ++ a → s₂ ≡ s₁ ++ b → s₃ ≡ s₂ ++ c → s₄ ≡ s₃ ++ d → s₅ ≡ s₄ ++ e
-    → s₅ ≡ old ++ (a ++ (b ++ (c ++ (d ++ e))))
-five old s₁ s₂ s₃ s₄ s₅ a b c d e e₁ e₂ e₃ e₄ e₅ = rw (e₅, e₄, e₃, e₂, e₁) (simp append_assoc)
+-- six pieces put at the end, one after the other
+six : (old s₁ s₂ s₃ s₄ s₅ s₆ a b c d e f : List Line) → s₁ ≡ old ++ a → s₂ ≡ s₁ ++ b → s₃ ≡ s₂ ++ c → s₄ ≡ s₃ ++ d → s₅ ≡ s₄ ++ e → s₆ ≡ s₅ ++ f
+    → s₆ ≡ old ++ (a ++ (b ++ (c ++ (d ++ (e ++ f)))))
+six old s₁ s₂ s₃ s₄ s₅ s₆ a b c d e f e₁ e₂ e₃ e₄ e₅ e₆ = rw (e₆, e₅, e₄, e₃, e₂, e₁) (simp append_assoc)
 
 pub returns : goal.returns
 returns c =
-    on_ok_weaker c.push_trap-4.result
-    (five _ _ _ _ _ _ (start_lines c.args.main) (trap_lines 1) (trap_lines 2) (trap_lines 3) (trap_lines 4)
-    c.in_ok-push_start.ensures c.in_ok-push_trap.ensures c.in_ok-push_trap-2.ensures c.in_ok-push_trap-3.ensures)
-    c.push_trap-4.ensures
+    on_ok_weaker c.push_commit.result
+    (six _ _ _ _ _ _ _ (start_lines c.args.main) (trap_lines 1) (trap_lines 2) (trap_lines 3) (trap_lines 4) commit_lines
+    c.in_ok-push_start.ensures c.in_ok-push_trap.ensures c.in_ok-push_trap-2.ensures c.in_ok-push_trap-3.ensures c.in_ok-push_trap-4.ensures)
+    c.push_commit.ensures

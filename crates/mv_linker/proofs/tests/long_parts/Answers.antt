@@ -1,4 +1,4 @@
-use Rattle.std.proofs.Common.{◌≡◌, ℕ, List, [], ◌∷◌, length, replicate, pos, refl, ap, arith, rules}
+use Rattle.std.proofs.Common.{◌≡◌, ℕ, [], ◌∷◌, length, replicate, pos, refl, ap, arith, rules}
 use Rattle.std.proofs.lemmas.List.Elements.{All-from_recursion, All-replicate}
 use Rattle.std.proofs.lemmas.Grind.{common_steps}
 use Rattle.mv_isa.specs.declared.instr.Instr.TheVariants.{Addi}

@@ -1,4 +1,4 @@
-use Rattle.std.proofs.Common.{◌≡◌, List, [], ◌∷◌, length, pos, refl, ap, inl, inr, arith, rules}
+use Rattle.std.proofs.Common.{◌≡◌, [], ◌∷◌, length, pos, refl, ap, inl, inr, arith, rules}
 use Rattle.std.proofs.lemmas.List.Elements.{All-from_recursion}
 use Rattle.std.proofs.lemmas.Grind.{common_steps}
 use Rattle.mv_isa.specs.declared.instr.Instr.TheVariants.{Jalr}
@@ -6,7 +6,6 @@ use Rattle.mv_isa.specs.declared.labelled.Labelled.{Labelled}
 use Rattle.mv_isa.specs.declared.labelled.Line.TheVariants.{Word, Label, Jump, Branch, Entry, Slot}
 use Rattle.mv_isa.specs.Code.{LineFits}
 use Rattle.mv_linker.specs.declared.parts.Parts.{Parts}
-use Rattle.mv_linker.specs.declared.parts.Datum.{Datum}
 use Rattle.mv_linker.specs.declared.parts.Datum.TheVariants.{Number, Function}
 use Rattle.mv_linker.specs.Linked.{NamesAreThere, IsFunction, IsDatum, AreParts}
 use Rattle.mv_linker.proofs.tests.two_functions.Goals as goal
@@ -20,7 +19,7 @@ caller = record { items = Slot 0 ∷ Label 0 ∷ Entry 10 0 ∷ Jump 0 0 ∷ [];
 called_fits : IsFunction 2 called
 called_fits = record {
   fields = All-from_recursion LineFits called.items (search rules);
-  names = All-from_recursion (NamesAreThere 2 called) called.items (inl (omega arith, refl), (inr (omega arith, omega arith), (omega arith, (tt, tt))));
+  names = All-from_recursion (NamesAreThere 2 called) called.items (inl (omega arith, refl), (inr (inl (omega arith, omega arith)), (omega arith, (tt, tt))));
 }
 
 caller_fits : IsFunction 2 caller
