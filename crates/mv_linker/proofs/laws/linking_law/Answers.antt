@@ -8,7 +8,7 @@ pub returns-clause-fits : goal.returns-clause-fits
 returns-clause-fits c = lines_fit
 
 pub returns-clause-stubs : goal.returns-clause-stubs
-returns-clause-stubs c parts are = (start_law parts are, (trap_law parts are, commit_law parts are))
+returns-clause-stubs c parts are = (start_law parts are, trap_law parts are, commit_law parts are)
 
 pub returns-clause-functions : goal.returns-clause-functions
 returns-clause-functions c = function_law
