@@ -37,10 +37,10 @@ use Rattle.mv_call_code.specs.Environment.{IsDirect}
 use Rattle.mv_function_code.specs.FunctionCode.{bytes_of, later_lines, function_lines}
 use Rattle.mv_function_code.specs.Functions.{IsFunction, shape_of}
 use Rattle.mv_source_calls.specs.Bindings.{keeps_bindings}
-use Rattle.mv_selected_bodies.specs.SelectedBodies.{knowns, AreRooms, CodeIsTheSame, IsInProgram, BodiesAreFunctions}
+use Rattle.mv_selected_bodies.specs.SelectedBodies.{knowns, AreRooms, IsInProgram}
 use Rattle.mv_machine_runs.specs.Calm.{Rest}
 use Rattle.mv_machine_runs.specs.Layout.{IsPacked, IsSetOut}
-use Rattle.mv_machine_runs.specs.Laws.{IsByteOrEnd, CodeIsPlaced, TextsAreFound, PackedIsLaidOut}
+use Rattle.mv_machine_runs.specs.Laws.{IsByteOrEnd}
 use Rattle.mv_machine_runs.specs.MachineRuns.{access, machine_of, machine_text}
 use Rattle.mv_machine_runs.proofs.OnRuns.{runs_are}
 use Rattle.mv_machine_runs.proofs.Serving.{serves_calls}
@@ -48,11 +48,11 @@ use Rattle.mv_machine_runs.proofs.Whole.{laid, memory, own, no_slot}
 use Rattle.mv_program_runs.specs.Hosts.{IsHost, IsSelected, IsLoaded}
 use Rattle.mv_linker.specs.declared.parts.Parts.{Parts}
 use Rattle.mv_linker.specs.Linked.{function_part, first_label, part_index}
-use Rattle.mv_linker.specs.Laws.{LinesFit, StubsStand, FunctionsStand}
 use Rattle.mv_first_data.specs.FirstData.{global_sizes}
-use Rattle.mv_first_data.specs.Laws.{AreAddresses, SizesAreCounts}
+use Rattle.mv_first_data.specs.Laws.{AreAddresses}
 use Rattle.mv_built_programs.specs.Built.{IsUnattributed, HasWordsOfGlobals, IsCompiled, IsBuilt}
 use Rattle.mv_built_programs.specs.Layouts.{address_of, numbers_of, layout_of}
+use Rattle.mv_built_programs.proofs.Facts.{Laws}
 use Rattle.mv_built_programs.proofs.NoSlots.{HasNone, IsNoSlot, function_none, each_none}
 use Rattle.mv_built_programs.proofs.Numbers.{BeginsWithWord, entries, numbering}
 use Rattle.mv_built_programs.proofs.Linked.{is_linked, code_placed, few_words}
@@ -85,9 +85,8 @@ none_marked is_called f (g ∷ gs) plain =
     let rest = none_marked is_called (suc f) gs (λ k h e. plain (suc k) h e) in
     rw (here) rest
 
-module _ (lines_fit : LinesFit) (stubs_stand : StubsStand) (functions_stand : FunctionsStand) (code_is_placed : CodeIsPlaced) (texts_are_found : TextsAreFound)
-    (packed : PackedIsLaidOut) (same_code : CodeIsTheSame) (are_functions : BodiesAreFunctions) (sizes_are : SizesAreCounts)
-    (p : Program) (image : Fields) (formed : IsWellFormed p) (plain : IsUnattributed p) (have_words : HasWordsOfGlobals p) (built : IsBuilt p image) where
+module _ (laws : Laws) (p : Program) (image : Fields) (formed : IsWellFormed p) (plain : IsUnattributed p) (have_words : HasWordsOfGlobals p)
+    (built : IsBuilt p image) where
   abbrev parts : Parts
   parts = built.parts
 
@@ -143,22 +142,22 @@ module _ (lines_fit : LinesFit) (stubs_stand : StubsStand) (functions_stand : Fu
       let g = function_there p.functions f (omega (arith, lt, same)) in begins f g.0 code g.1 here
 
   pub is_numbering : IsNumbering p numbers
-  is_numbering = numbering parts built.are functions_stand sizing built.linked.text built.linked.least.fits.sizes built.linked.text_is each_begins p built.one_each
+  is_numbering = numbering parts built.are laws.functions_stand sizing built.linked.text built.linked.least.fits.sizes built.linked.text_is each_begins p built.one_each
 
   pub addresses : AreAddresses (length p.functions) (address_of parts sizing) numbers
   addresses f lt =
       let count = is_numbering.count in
       let within : f < length numbers = omega (arith, lt, count) in
       slice_get-get_or numbers f 0 within ∙
-      ap Some (entries parts built.are functions_stand sizing built.linked.text built.linked.least.fits.sizes built.linked.text_is each_begins f within).0
+      ap Some (entries parts built.are laws.functions_stand sizing built.linked.text built.linked.least.fits.sizes built.linked.text_is each_begins f within).0
 
   -- ---- globals
 
   abbrev pub global_count : map length (map (first_words_under numbers) p.globals) ≡ global_sizes p
-  global_count = sizes_are p numbers (All-weaker IsWellFormedGlobal (λ (x : Global). length x.first ≤ words_of_size x.size) (λ x h. h.given) p.globals formed.globals)
+  global_count = laws.sizes_are_counts p numbers (All-weaker IsWellFormedGlobal (λ (x : Global). length x.first ≤ words_of_size x.size) (λ x h. h.given) p.globals formed.globals)
 
   pub few : sum (global_sizes p) ≤ 262144
-  few = few_words lines_fit stubs_stand functions_stand code_is_placed texts_are_found p image built global_count addresses
+  few = few_words laws p image built global_count addresses
 
   module _ (rooms : List Room) (is_named : ℕ → Bool) (same : rooms ≡ rooms_from is_named 0 0 p.globals) (x : ℕ) (h : has_room rooms x ≡ true) where
     there : has_room (rooms_from is_named 0 0 p.globals) x ≡ true
@@ -206,7 +205,7 @@ module _ (lines_fit : LinesFit) (stubs_stand : StubsStand) (functions_stand : Fu
   }
 
   pub set_out : IsSetOut y
-  set_out = let l = packed (global_sizes p) [] 40 any_site is_packed in record {
+  set_out = let l = laws.packed_is_laid_out (global_sizes p) [] 40 any_site is_packed in record {
     data_begins = l.data_begins;
     data_ends = l.data_ends;
     globals_ascend = l.globals_ascend;
@@ -230,7 +229,7 @@ module _ (lines_fit : LinesFit) (stubs_stand : StubsStand) (functions_stand : Fu
       memory = unbound_memory access y (machine_of [] image (bytes_to_come bytes) picks) (memory y set_out [] image (bytes_to_come bytes) picks);
       sizes = λ x. refl;
       runs = λ s stands. unbound_runs access y (machine_of [] image (bytes_to_come bytes) picks) s (runs_are image (bytes_to_come bytes) picks s (own y set_out s stands) []);
-      entries = entries parts built.are functions_stand sizing built.linked.text built.linked.least.fits.sizes built.linked.text_is each_begins;
+      entries = entries parts built.are laws.functions_stand sizing built.linked.text built.linked.least.fits.sizes built.linked.text_is each_begins;
       may_ask = may_ask_direct;
       serves = unbound_serves access y (machine_of [] image (bytes_to_come bytes) picks) budget far numbers p (serves_calls [] image (bytes_to_come bytes) picks bytes_or_end y budget far numbers p);
       unbound = nothing_bound access y (machine_of [] image (bytes_to_come bytes) picks);
@@ -264,7 +263,7 @@ module _ (lines_fit : LinesFit) (stubs_stand : StubsStand) (functions_stand : Fu
       }
 
       lines_are : code.items ≡ function_lines y.place y.size (is_marked the_body.marked) (shape_of false the_body) the_body.code
-      lines_are = the_compiled.items ∙ same_code y false (is_marked the_body.marked) the_body the_compiled.compiled.within.formed the_rooms
+      lines_are = the_compiled.items ∙ laws.code_is_the_same y false (is_marked the_body.marked) the_body the_compiled.compiled.within.formed the_rooms
 
       abbrev own_at : ℕ → ℕ
       own_at = own_place (machine_text [] image) (address_of parts sizing) (address_of parts sizing) (first_label parts.functions f) code.labels
@@ -274,9 +273,9 @@ module _ (lines_fit : LinesFit) (stubs_stand : StubsStand) (functions_stand : Fu
 
       selected : IsSelected y machine p numbers f g
       selected =
-          let fits = are_functions y (setting_of numbers p) false [] the_body in_program in
+          let fits = laws.bodies_are_functions y (setting_of numbers p) false [] the_body in_program in
           let attributed : false ≡ g.attributed = sym (plain f g here) in
-          let placed = code_placed lines_fit stubs_stand functions_stand code_is_placed texts_are_found p image built f code found_code.1 g here (no_slots f g code here found_code.1) in record {
+          let placed = code_placed laws p image built f code found_code.1 g here (no_slots f g code here found_code.1) in record {
             body = the_body;
             keeps = the_compiled.compiled.keeps;
             params = the_compiled.compiled.params;
@@ -284,7 +283,7 @@ module _ (lines_fit : LinesFit) (stubs_stand : StubsStand) (functions_stand : Fu
             is_fine = fits.1;
             fits = subst (λ a. IsFunction y (setting_of numbers p) a [] fits.0 fits.1 the_body) attributed fits.2;
             place = own_at;
-            linked = is_linked lines_fit stubs_stand functions_stand code_is_placed texts_are_found p image built f code found_code.1;
+            linked = is_linked laws p image built f code found_code.1;
             is_attributed = is_marked the_body.marked;
             next = end_at;
             placed = subst (λ a. Placed (machine_text [] image) own_at y.entry (function_lines y.place y.size (is_marked the_body.marked) (shape_of a the_body) the_body.code) (y.entry f) end_at) attributed

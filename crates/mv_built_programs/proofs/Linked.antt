@@ -19,24 +19,23 @@ use Rattle.mv_call_code.specs.CallCode.{commit_label}
 use Rattle.mv_call_code.specs.Convention.{Layout}
 use Rattle.mv_call_code.specs.Laws.{IsLinked}
 use Rattle.mv_machine_runs.specs.Assembled.{HasWords}
-use Rattle.mv_machine_runs.specs.Laws.{CodeIsPlaced, TextsAreFound}
 use Rattle.mv_machine_runs.specs.MachineRuns.{may_be_patched, machine_text}
 use Rattle.mv_stub_runs.specs.Stubs.{start_lines, trap_lines}
 use Rattle.mv_image_runs.specs.Main.{HasStubs}
 use Rattle.mv_linker.specs.declared.parts.Parts.{Parts}
-use Rattle.mv_linker.specs.Linked.{IsFunction, own, relabelled, function_part, linked_lines, first_label, part_index}
-use Rattle.mv_linker.specs.Laws.{LinesFit, StubsStand, FunctionsStand, FunctionStands}
+use Rattle.mv_linker.specs.Linked.{IsFunction, relabelled, function_part, linked_lines, first_label, part_index}
+use Rattle.mv_linker.specs.Laws.{FunctionStands}
 use Rattle.mv_linker.specs.Outcome.{datum_word}
 use Rattle.mv_first_data.specs.FirstData.{global_sizes}
 use Rattle.mv_first_data.specs.Laws.{AreAddresses}
 use Rattle.mv_built_programs.specs.Built.{IsCompiled, IsBuilt}
 use Rattle.mv_built_programs.specs.Layouts.{address_of, numbers_of, layout_of}
+use Rattle.mv_built_programs.proofs.Facts.{Laws}
 use Rattle.mv_built_programs.proofs.NoSlots.{IsNoSlot}
 use Rattle.mv_built_programs.proofs.Renamed.{own_place, lines_placed, own_stays}
 use Rattle.mv_built_programs.proofs.Places.{IsKeptLine, each_kept, part_placed, kept_lines}
 
-module _ (lines_fit : LinesFit) (stubs_stand : StubsStand) (functions_stand : FunctionsStand) (code_is_placed : CodeIsPlaced) (texts_are_found : TextsAreFound)
-    (p : Program) (image : Fields) (built : IsBuilt p image) where
+module _ (laws : Laws) (p : Program) (image : Fields) (built : IsBuilt p image) where
   abbrev parts : Parts
   parts = built.parts
 
@@ -54,7 +53,7 @@ module _ (lines_fit : LinesFit) (stubs_stand : StubsStand) (functions_stand : Fu
 
   -- nothing of the text is ever patched
   never : (a : ℕ) → may_be_patched image a ≡ false
-  never = (texts_are_found image).unpatched (ap (λ (i : Fields). i.functions) built.linked.image_is) (ap (λ (i : Fields). i.sites) built.linked.image_is)
+  never = (laws.texts_are_found image).unpatched (ap (λ (i : Fields). i.functions) built.linked.image_is) (ap (λ (i : Fields). i.sites) built.linked.image_is)
 
   text_is : image.text ≡ built.linked.text
   text_is = ap (λ (i : Fields). i.text) built.linked.image_is
@@ -65,7 +64,7 @@ module _ (lines_fit : LinesFit) (stubs_stand : StubsStand) (functions_stand : Fu
       subst (λ i. slice_get image.text i ≡ Some word) here (ap (λ (words : List ℕ). slice_get words k) text_is ∙ found)
 
   fits : CodeFits lines
-  fits = lines_fit parts built.are
+  fits = laws.lines_fit parts built.are
 
   abbrev IsPlacedPart : List Line → (from to : ℕ) → Type 0
   IsPlacedPart part from to = Placed (machine_text [] image) place place part from to
@@ -77,7 +76,7 @@ module _ (lines_fit : LinesFit) (stubs_stand : StubsStand) (functions_stand : Fu
 
   pub start_placed : IsPlacedPart (start_lines parts.main) (address text_start sizing 0) start_ends
   start_placed =
-      part_placed image never lines fits sizing built.linked.text built.linked.text_is has code_is_placed 0 (start_lines parts.main) (stubs_stand parts built.are).0
+      part_placed image never lines fits sizing built.linked.text built.linked.text_is has laws.code_is_placed 0 (start_lines parts.main) (laws.stubs_stand parts built.are).0
       (each_kept lines (start_lines parts.main) ((tt, tt), ((tt, tt), ((tt, tt), ((tt, tt), ((tt, tt), tt))))))
 
   module _ (c : ℕ) (from : 1 ≤ c) (to : c ≤ 4) where
@@ -89,8 +88,8 @@ module _ (lines_fit : LinesFit) (stubs_stand : StubsStand) (functions_stand : Fu
 
     trap_placed : IsPlacedPart (trap_lines c) trap_at trap_end
     trap_placed =
-        let stands = (stubs_stand parts built.are).1 c from to in
-        part_placed image never lines fits sizing built.linked.text built.linked.text_is has code_is_placed (4 * c + 1) (trap_lines c) stands.stub
+        let stands = (laws.stubs_stand parts built.are).1 c from to in
+        part_placed image never lines fits sizing built.linked.text built.linked.text_is has laws.code_is_placed (4 * c + 1) (trap_lines c) stands.stub
         (each_kept lines (trap_lines c) ((tt, stands.label), ((tt, tt), ((tt, tt), ((tt, tt), tt)))))
 
     -- it stands where its label is
@@ -115,7 +114,7 @@ module _ (lines_fit : LinesFit) (stubs_stand : StubsStand) (functions_stand : Fu
     first = first_label parts.functions f
 
     abbrev stands : FunctionStands lines parts.functions f code
-    stands = functions_stand parts built.are f code found
+    stands = laws.functions_stand parts built.are f code found
 
     within : f < length parts.functions
     within = slice_get_within parts.functions f code found
@@ -148,7 +147,7 @@ module _ (lines_fit : LinesFit) (stubs_stand : StubsStand) (functions_stand : Fu
 
       behind_label : IsPlacedPart (function_part f first code) (address text_start sizing (part_index parts.functions f)) next
       behind_label =
-          part_placed image never lines fits sizing built.linked.text built.linked.text_is has code_is_placed (part_index parts.functions f) (function_part f first code) stands.part
+          part_placed image never lines fits sizing built.linked.text built.linked.text_is has laws.code_is_placed (part_index parts.functions f) (function_part f first code) stands.part
           (All-cons (IsKeptLine lines) (Label f) (map (relabelled first code.labels) code.items) (tt, stands.entry)
           (kept_lines lines first code compiled.labels (λ l lt once. stands.own l (lt, once)) (length parts.functions) none is_function.names))
 

@@ -13,7 +13,7 @@ use Rattle.mv_flow_code.specs.Placed.{Placed}
 use Rattle.mv_machine_runs.specs.Assembled.{HasWords, IsKept, IsOnlyLabel}
 use Rattle.mv_machine_runs.specs.Laws.{CodeIsPlaced}
 use Rattle.mv_machine_runs.specs.MachineRuns.{may_be_patched, machine_text}
-use Rattle.mv_linker.specs.Linked.{NamesAreThere, own, relabelled}
+use Rattle.mv_linker.specs.Linked.{NamesAreThere, relabelled}
 use Rattle.mv_linker.specs.Laws.{StandFrom}
 use Rattle.mv_built_programs.proofs.NoSlots.{IsNoSlot}
 use Rattle.mv_built_programs.proofs.Renamed.{own_here}

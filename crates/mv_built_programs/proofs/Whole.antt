@@ -24,23 +24,20 @@ use Rattle.mv_machine.specs.Runs.{bytes_to_come}
 use Rattle.mv_flow_code.specs.Runs.{Machine}
 use Rattle.mv_call_code.specs.Convention.{Layout, Stands}
 use Rattle.mv_function_code.specs.Functions.{Begins}
-use Rattle.mv_selected_bodies.specs.SelectedBodies.{CodeIsTheSame, BodiesAreFunctions}
 use Rattle.mv_machine_runs.specs.Calm.{Rest}
-use Rattle.mv_machine_runs.specs.Laws.{IsFirst, CodeIsPlaced, TextsAreFound, PackedIsLaidOut}
+use Rattle.mv_machine_runs.specs.Laws.{IsFirst}
 use Rattle.mv_machine_runs.specs.MachineRuns.{access, machine_of}
-use Rattle.mv_stub_runs.specs.Laws.{HoldsData, EntersMain, StartIsRight}
+use Rattle.mv_stub_runs.specs.Laws.{HoldsData, EntersMain}
 use Rattle.mv_stub_runs.specs.Stubs.{return_address}
 use Rattle.mv_image_runs.specs.Behaves.{Behaves}
-use Rattle.mv_image_runs.specs.Laws.{ImagesBehave}
 use Rattle.mv_image_runs.specs.Main.{HasStubs, CallsMain}
-use Rattle.mv_program_runs.specs.Laws.{first_seen, MainFollows}
+use Rattle.mv_program_runs.specs.Laws.{first_seen}
 use Rattle.mv_linker.specs.declared.parts.Parts.{Parts}
-use Rattle.mv_linker.specs.Laws.{LinesFit, StubsStand, FunctionsStand}
 use Rattle.mv_linker.specs.Outcome as linker
 use Rattle.mv_first_data.specs.FirstData.{global_sizes}
-use Rattle.mv_first_data.specs.Laws.{SizesAreCounts}
 use Rattle.mv_built_programs.specs.Built.{IsUnattributed, HasWordsOfGlobals, IsBuilt}
 use Rattle.mv_built_programs.specs.Layouts.{address_of, numbers_of, layout_of}
+use Rattle.mv_built_programs.proofs.Facts.{Laws}
 use Rattle.mv_built_programs.proofs.Rooms.{size_is}
 use Rattle.mv_built_programs.proofs.Linked.{start_ends, start_placed, has_stubs}
 use Rattle.mv_built_programs.proofs.Host.{is_numbering, addresses, global_count, loaded}
@@ -58,11 +55,8 @@ none_attributed (g ∷ gs) plain =
     let here = plain 0 g refl in
     let rest = none_attributed gs (λ k h e. plain (suc k) h e) in rw (here) rest
 
-module _ (lines_fit : LinesFit) (stubs_stand : StubsStand) (functions_stand : FunctionsStand) (code_is_placed : CodeIsPlaced) (texts_are_found : TextsAreFound)
-    (packed : PackedIsLaidOut) (same_code : CodeIsTheSame) (are_functions : BodiesAreFunctions) (sizes_are : SizesAreCounts)
-    (start_right : StartIsRight) (images_behave : ImagesBehave) (main_follows : MainFollows Rest) (ends_reached : EndsAreReached)
-    (p : Program) (image : Fields) (formed : IsWellFormed p) (plain : IsUnattributed p) (have_words : HasWordsOfGlobals p) (built : IsBuilt p image)
-    (bytes picks : List ℕ) (are_bytes : All (λ b. b < 2 ^ 8) bytes) where
+module _ (laws : Laws) (p : Program) (image : Fields) (formed : IsWellFormed p) (plain : IsUnattributed p) (have_words : HasWordsOfGlobals p)
+    (built : IsBuilt p image) (bytes picks : List ℕ) (are_bytes : All (λ b. b < 2 ^ 8) bytes) where
   abbrev parts : Parts
   parts = built.parts
 
@@ -82,10 +76,10 @@ module _ (lines_fit : LinesFit) (stubs_stand : StubsStand) (functions_stand : Fu
   the_machine = machine_of [] image (bytes_to_come bytes) picks
 
   numbered : IsNumbering p numbers
-  numbered = is_numbering lines_fit stubs_stand functions_stand code_is_placed texts_are_found packed same_code are_functions sizes_are p image formed plain have_words built
+  numbered = is_numbering laws p image formed plain have_words built
 
   stubs : HasStubs [] image y
-  stubs = has_stubs lines_fit stubs_stand functions_stand code_is_placed texts_are_found p image built
+  stubs = has_stubs laws p image built
 
   -- ---- the first world
 
@@ -101,7 +95,7 @@ module _ (lines_fit : LinesFit) (stubs_stand : StubsStand) (functions_stand : Fu
   }
 
   sizes_counted : map length (map (first_words_under numbers) p.globals) ≡ global_sizes p
-  sizes_counted = global_count lines_fit stubs_stand functions_stand code_is_placed texts_are_found packed same_code are_functions sizes_are p image formed plain have_words built
+  sizes_counted = global_count laws p image formed plain have_words built
 
   data_is : image.globals ≡ map (linker.datum_word (address_of parts sizing)) parts.globals
   data_is = ap (λ (i : Fields). i.globals) built.linked.image_is
@@ -109,7 +103,7 @@ module _ (lines_fit : LinesFit) (stubs_stand : StubsStand) (functions_stand : Fu
   globals_are : image.globals ≡ flat_map (λ words. words) first.globals
   globals_are =
       data_is ∙ built.globals (address_of parts sizing) numbers
-      (addresses lines_fit stubs_stand functions_stand code_is_placed texts_are_found packed same_code are_functions sizes_are p image formed plain have_words built)
+      (addresses laws p image formed plain have_words built)
 
   size_counted : (g : ℕ) → y.size g ≡ length (get_or first.globals g [])
   size_counted g =
@@ -130,8 +124,8 @@ module _ (lines_fit : LinesFit) (stubs_stand : StubsStand) (functions_stand : Fu
   module _ (budget far : ℕ) where
     enters : EntersMain y the_machine budget far (address_of parts sizing parts.main) first 3
     enters =
-        start_right [] image bytes picks y budget far first is_first holds (ap (λ (i : Fields). i.entry) built.linked.image_is) (address_of parts sizing) (address_of parts sizing) parts.main
-        (start_ends lines_fit stubs_stand functions_stand code_is_placed texts_are_found p image built) (start_placed lines_fit stubs_stand functions_stand code_is_placed texts_are_found p image built)
+        laws.start_is_right [] image bytes picks y budget far first is_first holds (ap (λ (i : Fields). i.entry) built.linked.image_is) (address_of parts sizing) (address_of parts sizing) parts.main
+        (start_ends laws p image built) (start_placed laws p image built)
 
     begins : Begins access y the_machine 3
     begins =
@@ -149,16 +143,16 @@ module _ (lines_fit : LinesFit) (stubs_stand : StubsStand) (functions_stand : Fu
     calls_main : (k : ℕ) → CallsMain [] p image bytes picks y first budget far k
     calls_main k =
         let none : has_no_bindings first ≡ true = ap (λ (bs : List Binding). eqb (length bs) 0) no_bindings in
-        let m = main_follows access y (unbound access y the_machine) budget far p numbers
-        (loaded lines_fit stubs_stand functions_stand code_is_placed texts_are_found packed same_code are_functions sizes_are p image formed plain have_words built bytes picks are_bytes budget far)
+        let m = laws.main_follows access y (unbound access y the_machine) budget far p numbers
+        (loaded laws p image formed plain have_words built bytes picks are_bytes budget far)
         numbered bytes [] (All-nil (λ (a : Action). IsTrue (fits p a))) return_address 3 (omega arith, refl) enters.link (unbound_begins access y the_machine 3 begins)
         (stands_unbound access y the_machine budget far (y.entry p.main) first 3 none stands) k in record {
           call = m.0;
           means = m.1;
-          reached = subst (IsReached first) (sym m.2) (run_reached ends_reached p numbers (code_of (lower_program p)) (slice_get (code_of (lower_program p)) p.main) k first);
+          reached = subst (IsReached first) (sym m.2) (run_reached laws.ends_are_reached p numbers (code_of (lower_program p)) (slice_get (code_of (lower_program p)) p.main) k first);
           returns = m.3;
           follows = λ spare paid asked. follows_too access y the_machine budget far spare k 3 return_address m.0.end (m.4 spare paid asked);
         }
 
   pub built_behaves : Behaves p image bytes picks
-  built_behaves = images_behave [] p image bytes picks y stubs record { first = first; input = omega arith; calls = calls_main }
+  built_behaves = laws.images_behave [] p image bytes picks y stubs record { first = first; input = omega arith; calls = calls_main }
