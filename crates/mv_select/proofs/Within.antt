@@ -1,5 +1,5 @@
 -- A body that `select` takes, with a frame that is small enough, is within the limits of selection.
-use Rattle.std.proofs.Common.{◌≡◌, ℕ, ◌≤◌, Bool, true}
+use Rattle.std.proofs.Common.{◌≡◌, ◌≤◌, Bool, true}
 use Rattle.mv_ir.specs.declared.body.Body.{Body}
 use Rattle.mv_flow_code.specs.Layouts.{are_small}
 use Rattle.mv_selected_bodies.specs.SelectedBodies.{IsWithin}
