@@ -13,8 +13,8 @@ use Rattle.mv_flow_code.specs.Layouts.{array_at_in, array_size_in, IsInFrame, pl
 use Rattle.mv_call_code.specs.CallCode.{calls_of, is_marked}
 use Rattle.mv_tree_code.specs.Rooms.{place_in}
 use Rattle.mv_function_code.specs.FunctionCode.{arrays_start, words_before, array_offset}
+use Rattle.mv_selected_bodies.proofs.Lists.{each_true}
 use Rattle.mv_select.specs.Selected.{spaces_behind, layout_in, plan_of, FitsFrame}
-use Rattle.mv_select.proofs.Lists.{each_true}
 use Rattle.mv_select.proofs.SameCode.{code_same}
 
 pub sizes_are : (word : ℕ) (sizes : List ℕ) (a : ℕ) → array_size_in (spaces_behind word sizes) a ≡ slice_index sizes a

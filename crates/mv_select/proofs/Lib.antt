@@ -1,10 +1,8 @@
 pub mod EntryLines
-pub mod FineCode
 pub mod Layouts
-pub mod Lists
 pub mod SameCode
 pub mod Selecting
 pub mod SelectedLines
-pub mod Small
 pub mod Totals
+pub mod Within
 pub mod Worked

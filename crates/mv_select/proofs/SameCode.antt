@@ -14,7 +14,7 @@ use Rattle.mv_statement_code.specs.declared.elements.Home.TheVariants as place_a
 use Rattle.mv_statement_code.specs.StatementCode.{read_lines, write_lines, zero_lines}
 use Rattle.mv_flow_code.specs.FlowCode.{Plan, Emitted, in_turn, plain, if_code, loop_code, block_code, home, size, code_layer, statement_code, code_of}
 use Rattle.mv_flow_code.proofs.StatementsDo.{code_roll}
-use Rattle.mv_select.proofs.Lists.{each_front, each_back}
+use Rattle.mv_selected_bodies.proofs.Lists.{each_front, each_back}
 
 -- other places, which agree at the arrays that are there
 module _ (plan : Plan) (places : ℕ → ℕ) (There : Array → Type 0) (same : (a : ℕ) → There (array.Local a) → plan.array_at a ≡ places a) where

@@ -30,7 +30,7 @@ use Rattle.mv_select.specs.Selected.{spaces_behind, layout_in, plan_of, selected
 use Rattle.mv_select.specs.Laws.{greatest_length, SelectedIsEncoded, SelectedLabelsAreOwn, SelectedTargetsStand, SelectedBegins}
 use Rattle.mv_select.proofs.EntryLines.{prologue_words, epilogue_words, words_name, words_stand}
 use Rattle.mv_select.proofs.Layouts.{calls_in, sizes_are, arrays_within, layout_code}
-use Rattle.mv_select.proofs.Small.{bodies_are_small}
+use Rattle.mv_select.proofs.Within.{has_small_code}
 
 module _ (attributed : Bool) (body : Body) where
   abbrev pub entry : List Line
@@ -116,7 +116,7 @@ selected_encoded attributed body suitable fits =
     let sizes = ap (λ s. more s 16 body.code) (same_functions (array_size_in spaces) (slice_index body.arrays) (sizes_are (arrays_start body.temps) body.arrays)) in
     let frames = frames_encoded attributed body.params body.temps (frame_bytes body.temps body.arrays) suitable.formed.params fits in
     let over = flow_encoded (layout_in body) (arrays_within body fits) 16 (calls_in body) (calls_encoded (place_in body.rooms) (is_marked body.marked)) body.code
-    (bodies_are_small body suitable fits).1 [] 1 in
+    (has_small_code attributed body suitable fits).1 [] 1 in
     let within : IsCode n lines = subst (λ (c : Emitted). IsCode n (c.lines [] 1)) (layout_code attributed body suitable.formed) over in
     let end : IsCode 0 (Label 0 ∷ []) = (All-cons LineFits (Label 0) [] tt (All-nil LineFits), omega arith) in
     wider (20 + (n + (0 + 13))) (greatest_length body) (selected_lines attributed body) (omega (arith, sizes))

@@ -20,8 +20,9 @@ use Rattle.mv_ir.specs.Measures.{joined, total, stm_trees, trees, tree_reads, sc
 use Rattle.mv_ir.specs.Live.{reads_temp, Flow, live_in_order, marks_in_order, nowhere, layer_flow, flow, live_at_start, all_marks, mark_at, HasTemps}
 use Rattle.mv_ir.specs.WellFormed.{all_true, all_around, stm_targets, is_there, stm_named, named, has_room, stm_arguments}
 use Rattle.mv_ir.proofs.Rolls.{nodes_roll, depth_roll, reads_roll, trees_roll, size_roll, reads_temp_roll, flow_roll, targets_roll, named_roll, arguments_roll}
-use Rattle.mv_select.specs.Selected.{stm_knowns, knowns, IsOrder, IsSuitable}
-use Rattle.mv_select.proofs.FineCode.{knowns_roll}
+use Rattle.mv_selected_bodies.specs.SelectedBodies.{stm_knowns, knowns, IsOrder}
+use Rattle.mv_selected_bodies.proofs.FineCode.{knowns_roll}
+use Rattle.mv_select.specs.Selected.{IsSuitable}
 
 -- the parameter, and a return of it
 abbrev parameter : Tree

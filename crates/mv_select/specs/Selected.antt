@@ -1,15 +1,9 @@
 -- The code of a body, which bodies have one, and why another has none.
-use Rattle.std.specs.Prelude.{ℕ, suc, ◌≡◌, ◌+◌, ◌*◌, ◌^◌, ◌<◌, ◌≤◌, Bool, min, List, [], ◌∷◌, ◌++◌, All, map}
-use Rattle.mv_ast.specs.declared.program.Known.{Known}
-use Rattle.mv_ast.specs.declared.program.Known.TheVariants.{Plan}
+use Rattle.std.specs.Prelude.{ℕ, suc, ◌≡◌, ◌+◌, ◌*◌, ◌<◌, ◌≤◌, Bool, min, List, [], ◌∷◌, All}
 use Rattle.mv_isa.specs.declared.labelled.Line.{Line}
 use Rattle.mv_isa.specs.declared.labelled.Labelled.{Labelled}
-use Rattle.mv_ir.specs.declared.stm.Stm.{Stm}
-use Rattle.mv_ir.specs.declared.stm.Stm.TheOpen.{Stm-F}
-use Rattle.mv_ir.specs.declared.stm.Stm.TheOpen as stm
-use Rattle.mv_ir.specs.declared.stm.Stm.TheFolds.{fold-Stm}
 use Rattle.mv_ir.specs.declared.body.Body.{Body}
-use Rattle.mv_ir.specs.Measures.{joined, total, statements, deepest}
+use Rattle.mv_ir.specs.Measures.{total, statements, deepest}
 use Rattle.mv_ir.specs.WellFormed.{IsWellFormed}
 use Rattle.mv_tree_code.specs.Rooms.{place_in}
 use Rattle.mv_flow_code.specs.declared.layout.Space.{Space}
@@ -21,6 +15,7 @@ use Rattle.mv_call_code.specs.CallCode.{is_marked}
 use Rattle.mv_call_code.specs.Convention.{frame_limit}
 use Rattle.mv_function_code.specs.FunctionCode.{arrays_start, frame_bytes, end_label, plan, function_lines}
 use Rattle.mv_function_code.specs.Functions.{shape_of}
+use Rattle.mv_selected_bodies.specs.SelectedBodies.{IsOrder, knowns}
 use Rattle.mv_select.specs.declared.error.SelectError.{SelectError}
 use Rattle.mv_select.specs.declared.error.SelectError.TheVariants.{Frame, Memory}
 
@@ -50,26 +45,8 @@ selected_labels attributed body = suc (code_of (plan_of attributed body) body.co
 
 -- ---- bodies
 
--- the known functions that a statement calls, with the statements within it, and those that some code calls
-abbrev pub knowns_layer : Stm-F (List Known) → List Known
-knowns_layer (stm.If t a b) = joined a ++ joined b
-knowns_layer (stm.Loop b) = joined b
-knowns_layer (stm.Block b) = joined b
-knowns_layer (stm.Known r k args) = k ∷ []
-knowns_layer _ = []
-
-unfoldable pub stm_knowns : Stm → List Known
-stm_knowns = fold-Stm (List Known) knowns_layer
-
-abbrev pub knowns : List Stm → List Known
-knowns code = joined (map stm_knowns code)
-
--- an order's numbers are a byte and a word
-abbrev pub IsOrder : Known → Type 0
-IsOrder (Plan code index) = (code < 256) × (index < 2 ^ 32)
-IsOrder _ = Unit {0}
-
--- a well-formed body with registers for its trees, whose orders are a byte and a word
+-- A well-formed body with registers for its trees, whose orders are a byte and a word. With a frame that is small enough it is within the limits of
+-- selection, as `IsWithin` of `mv_selected_bodies` says.
 pub record IsSuitable (body : Body) : Type 0 where
   pub formed : IsWellFormed body
   pub shallow : deepest body.code ≤ 4

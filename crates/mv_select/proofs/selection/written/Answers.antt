@@ -3,8 +3,8 @@ use Rattle.mv_flow_code.specs.declared.emitter.Emitter.{Emitter}
 use Rattle.mv_flow_code.specs.declared.layout.Layout.{Layout}
 use Rattle.mv_flow_code.specs.Layouts.{IsInFrame}
 use Rattle.mv_select.proofs.Layouts.{arrays_within}
-use Rattle.mv_select.proofs.Small.{bodies_are_small}
 use Rattle.mv_select.proofs.Selecting.{labels_fit, over_same, put_together, selected}
+use Rattle.mv_select.proofs.Within.{has_small_code}
 use Rattle.mv_select.proofs.selection.written.Goals as goal
 
 pub push_statements-requires-clause-arrays : goal.push_statements-requires-clause-arrays
@@ -15,7 +15,7 @@ push_statements-requires-clause-arrays c =
 pub push_statements-requires-clause-small : goal.push_statements-requires-clause-small
 push_statements-requires-clause-small c =
     let fits = subst (λ n. n ≤ 2032) c.requires.bytes c.requires.few in
-    (bodies_are_small c.args.body.now c.requires.suitable fits).1
+    (has_small_code c.args.attributed c.args.body.now c.requires.suitable fits).1
 
 pub push_statements-requires-clause-labels : goal.push_statements-requires-clause-labels
 push_statements-requires-clause-labels c =
