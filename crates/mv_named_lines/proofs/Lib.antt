@@ -1,0 +1,3 @@
+pub mod TreeNames
+pub mod CallNames
+pub mod StatementNames
