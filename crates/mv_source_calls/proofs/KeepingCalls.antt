@@ -1,5 +1,5 @@
--- Calls of a program without commits, reverts and polls leave the bindings as they are.
-use Rattle.std.proofs.Common.{◌≡◌, ℕ, zero, suc, Bool, true, false, cond, List, length, Option, Some, None, refl, ◌∙◌, if◌then◌else◌, nat_eq}
+-- Calls of attributed functions leave the bindings as they are.
+use Rattle.std.proofs.Common.{◌≡◌, ℕ, zero, suc, ◌+◌, ◌<◌, Bool, true, false, cond, List, length, Option, Some, None, refl, sym, subst, arith, if◌then◌else◌, nat_eq}
 use Rattle.std.specs.Prelude.{slice_get}
 use Rattle.mv_ast.specs.declared.program.Program.{Program}
 use Rattle.mv_ast.specs.declared.program.Function.{Function}
@@ -17,35 +17,46 @@ use Rattle.mv_lowering.specs.Lower.{is_void}
 use Rattle.mv_lowering.specs.Correct.{seen, astray, end_of, is_astray}
 use Rattle.mv_lowering.specs.Law.{strict_context}
 use Rattle.mv_source_calls.specs.SourceCalls.{meaningless, as_call, any_frame, call_by_source}
-use Rattle.mv_source_calls.specs.Bindings.{NeverRebinds, EndsIn}
-use Rattle.mv_source_calls.specs.Laws.{BindingsStay}
-use Rattle.mv_source_calls.proofs.Keeping.{Keeps, keeps_give, keeps_stop}
+use Rattle.mv_source_calls.specs.Bindings.{EndsIn}
+use Rattle.mv_source_calls.specs.Laws.{CallsKeepBindings}
+use Rattle.mv_source_calls.proofs.Keeping.{IsKept, Keeps, keeps_give, keeps_stop}
 use Rattle.mv_source_calls.proofs.KeepingExpressions.{ContextKeeps}
 use Rattle.mv_source_calls.proofs.KeepingStatements.{keeps_flow, keeps_body}
 
-module _ (p : Program) (numbers : List ℕ) (never : NeverRebinds p) where
-  left_back : (frame : Frame) (w : World) (o : Outcome Frame Flow) → (world_left (back_in frame w o)).bindings ≡ (world_left o).bindings
-  left_back frame w (Came flow f left work) = refl
-  left_back frame w (Stopped why left work) = refl
+-- back in the caller there are as many live frames as before
+back_kept : (frame : Frame) (w : World) (o : Outcome Frame Flow) → (world_left o).bindings ≡ w.bindings → IsKept w (world_left (back_in frame w o))
+back_kept frame w (Came flow f left work) h = record { live = refl; bindings = h }
+back_kept frame w (Stopped why left work) h = record { live = refl; bindings = h }
 
-  called_keeps : (k : ℕ) → ContextKeeps (strict_context p numbers k) → (f : ℕ) (o : Option Function) → slice_get p.functions f ≡ o → (vs : List ℕ) → Keeps (call_of p (strict_context p numbers k) f o vs)
-  called_keeps k below f None here vs = keeps_give 0
-  called_keeps k below f (Some g) here vs = record {
-    bindings = λ frame w.
-        left_back frame w (flow_of_all p (strict_context p numbers k) g.body (frame_of f g vs) (deeper g w)) ∙
-        (keeps_body p (strict_context p numbers k) below g.body (never f g here)).bindings (frame_of f g vs) (deeper g w);
-  }
+module _ (p : Program) (numbers : List ℕ) where
+  -- a call whose own frame is live or is called under a live one
+  called_kept : (k : ℕ) → ContextKeeps (strict_context p numbers k) → (f : ℕ) (g : Function) (vs : List ℕ) (frame : Frame) (w : World) → 0 < (deeper g w).live →
+      IsKept w (world_left (call_of p (strict_context p numbers k) f (Some g) vs frame w))
+  called_kept k below f g vs frame w lives =
+      let body : IsKept (deeper g w) (world_left (flow_of_all p (strict_context p numbers k) g.body (frame_of f g vs) (deeper g w))) =
+      (keeps_body p (strict_context p numbers k) below g.body).kept (frame_of f g vs) (deeper g w) lives in
+      back_kept frame w (flow_of_all p (strict_context p numbers k) g.body (frame_of f g vs) (deeper g w)) body.bindings
 
-  context_keeps : (k : ℕ) → ContextKeeps (strict_context p numbers k)
-  context_keeps zero = record { strays = keeps_stop astray; calls = λ f vs. keeps_stop stops.Unfinished; loops = λ s q. keeps_stop stops.Unfinished }
+  called_keeps : (k : ℕ) → ContextKeeps (strict_context p numbers k) → (f : ℕ) (o : Option Function) (vs : List ℕ) → Keeps (call_of p (strict_context p numbers k) f o vs)
+  called_keeps k below f None vs = keeps_give 0
+  called_keeps k below f (Some g) vs = record { kept = λ frame w lives. called_kept k below f g vs frame w (omega arith) }
+
+  pub context_keeps : (k : ℕ) → ContextKeeps (strict_context p numbers k)
+  context_keeps zero = record { strays = keeps_stop astray; calls = λ f vs. keeps_stop stops.Unfinished; loops = λ s. keeps_stop stops.Unfinished }
   context_keeps (suc k) = record {
     strays = keeps_stop astray;
-    calls = λ f vs. called_keeps k (context_keeps k) f (slice_get p.functions f) refl vs;
-    loops = λ s q. keeps_flow p (strict_context p numbers k) (context_keeps k) s q;
+    calls = λ f vs. called_keeps k (context_keeps k) f (slice_get p.functions f) vs;
+    loops = λ s. keeps_flow p (strict_context p numbers k) (context_keeps k) s;
   }
 
-  pub call_keeps : (k f : ℕ) (o : Option Function) → slice_get p.functions f ≡ o → (vs : List ℕ) → Keeps (call_of p (strict_context p numbers k) f o vs)
-  call_keeps k = called_keeps k (context_keeps k)
+  -- the frame of an attributed function is live itself
+  own_live : (g : Function) (w : World) (b : Bool) → g.attributed ≡ b → b ≡ true → 0 < (deeper g w).live
+  own_live g w true e is = subst (λ a. 0 < w.live + (if a then 1 else 0)) (sym e) (omega arith)
+  own_live g w false e is = absurd (cc)
+
+  attributed_kept : (k f : ℕ) (g : Function) → g.attributed ≡ true → (vs : List ℕ) (frame : Frame) (w : World) →
+      IsKept w (world_left (call_of p (strict_context p numbers k) f (Some g) vs frame w))
+  attributed_kept k f g is vs frame w = called_kept k (context_keeps k) f g vs frame w (own_live g w true is refl)
 
 -- ---- as code sees it
 
@@ -59,21 +70,21 @@ module _ (fact : code_world.World → Type 0) where
   ends_in void (Came v f w work) h = h
   ends_in void (Stopped why w work) h = stopped_in why w (is_astray why) h
 
-pub bindings_kept : BindingsStay
-bindings_kept p numbers bound f never args depth live w = by (slice_get p.functions f) refl
+pub bindings_kept : CallsKeepBindings
+bindings_kept p numbers bound f g here is args depth live w =
+    subst (λ o. EndsIn fact (call_by_source p numbers bound f o args source).end) (sym here) (fitting (nat_eq g.params (length args)))
   where
     source : World
     source = seen_from depth live w
 
-    called : Function → Call
-    called g = as_call (is_void g.result) (call_of p (strict_context p numbers bound) f (Some g) args any_frame source)
+    fact : code_world.World → Type 0
+    fact left = left.bindings ≡ w.bindings
 
-    fitting : (g : Function) → slice_get p.functions f ≡ Some g → (z : Bool) → EndsIn (λ left. left.bindings ≡ w.bindings) (if z then called g else meaningless).end
-    fitting g here true =
-        ends_in (λ left. left.bindings ≡ w.bindings) (is_void g.result) (call_of p (strict_context p numbers bound) f (Some g) args any_frame source)
-        ((call_keeps p numbers never bound f (Some g) here args).bindings any_frame source)
-    fitting g here false = tt
+    called : Call
+    called = as_call (is_void g.result) (call_of p (strict_context p numbers bound) f (Some g) args any_frame source)
 
-    by : (o : Option Function) → slice_get p.functions f ≡ o → EndsIn (λ left. left.bindings ≡ w.bindings) (call_by_source p numbers bound f o args source).end
-    by None here = tt
-    by (Some g) here = fitting g here (nat_eq g.params (length args))
+    fitting : (z : Bool) → EndsIn fact (if z then called else meaningless).end
+    fitting true =
+        ends_in fact (is_void g.result) (call_of p (strict_context p numbers bound) f (Some g) args any_frame source)
+        (attributed_kept p numbers bound f g is args any_frame source).bindings
+    fitting false = tt

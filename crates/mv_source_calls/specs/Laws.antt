@@ -1,5 +1,5 @@
 -- What is proved of lowered code whose callees do what the source's functions do.
-use Rattle.std.specs.Prelude.{◌≡◌, ℕ, All, IsTrue, List, [], length, Option, Some, None, slice_get}
+use Rattle.std.specs.Prelude.{◌≡◌, ℕ, true, All, IsTrue, List, [], length, Option, Some, None, slice_get}
 use Rattle.mv_ast.specs.declared.program.Program.{Program}
 use Rattle.mv_ast.specs.declared.program.Function.{Function}
 use Rattle.mv_ast.specs.declared.world.Action.{Action}
@@ -17,7 +17,7 @@ use Rattle.mv_lowering.specs.Functions.{lower_function, lower_program}
 use Rattle.mv_lowered_programs.specs.WellFormed.{IsWellFormed}
 use Rattle.mv_lowered_programs.specs.Laws.{HasGlobals, IsExecution, callee_frame}
 use Rattle.mv_source_calls.specs.SourceCalls.{source_call, source_levels, Promises}
-use Rattle.mv_source_calls.specs.Bindings.{NeverRebinds, EndsIn}
+use Rattle.mv_source_calls.specs.Bindings.{EndsIn}
 
 -- At each bound, under each numbering, in each world and whatever its frame holds when it begins, the lowered body of a function of a well-formed program
 -- does what the function does by the source's meaning, if its callees do.
@@ -36,11 +36,11 @@ GlobalsKeepTheirSizes =
     (args : List ℕ) (depth live : ℕ) (w : World) → HasGlobals p (seen_from depth live w) →
     (v : Option ℕ) (left : World) → (source_call p numbers bound f args depth live w).end ≡ Returned v left → HasGlobals p (seen_from depth live left)
 
--- A function of a program without commits, reverts and polls leaves all bindings as they are, however it ends.
-abbrev pub BindingsStay : Type 0
-BindingsStay =
-    (p : Program) (numbers : List ℕ) (bound f : ℕ) → NeverRebinds p → (args : List ℕ) (depth live : ℕ) (w : World) →
-    EndsIn (λ left. left.bindings ≡ w.bindings) (source_call p numbers bound f args depth live w).end
+-- A call of an attributed function leaves all bindings as they are, however it ends: while its frame is live, commits, reverts and polls change nothing.
+abbrev pub CallsKeepBindings : Type 0
+CallsKeepBindings =
+    (p : Program) (numbers : List ℕ) (bound f : ℕ) (g : Function) → slice_get p.functions f ≡ Some g → g.attributed ≡ true →
+    (args : List ℕ) (depth live : ℕ) (w : World) → EndsIn (λ left. left.bindings ≡ w.bindings) (source_call p numbers bound f args depth live w).end
 
 -- Whatever its frame holds when it begins, the lowered body of `main` of a well-formed program does what the program means, if its callees do what they do by
 -- the source's meaning: under each numbering, on each input, with all actions that fit, at each bound.

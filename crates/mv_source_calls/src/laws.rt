@@ -1,6 +1,6 @@
 // The laws of lowered code whose callees do what the source's functions do.
 
-ghost use Rattle.mv_source_calls.specs.Laws.{BindingsStay, BodiesAreRight, GlobalsKeepTheirSizes, MainEndsAlike, MainIsRight};
+ghost use Rattle.mv_source_calls.specs.Laws.{BodiesAreRight, CallsKeepBindings, GlobalsKeepTheirSizes, MainEndsAlike, MainIsRight};
 
 use mv_numbering::numbering_law;
 
@@ -18,10 +18,10 @@ pub fn globals_keep_their_sizes()
     ensures { GlobalsKeepTheirSizes }
 {}
 
-/// A function of a program without commits, reverts and polls leaves all bindings as they are, whether it returns, traps or is cut off by the bound.
-/// The call does nothing: its contract is the law.
-pub fn bindings_stay()
-    ensures { BindingsStay }
+/// A call of an attributed function leaves all bindings as they are, whether it returns, traps or is cut off by the bound: while its frame is live,
+/// commits, reverts and polls change nothing. The call does nothing: its contract is the law.
+pub fn calls_keep_bindings()
+    ensures { CallsKeepBindings }
 {}
 
 /// The lowered body of `main` does what the program means, if its callees do what they do by the source's meaning (C11 5.1.2.3): under each

@@ -7,5 +7,5 @@
 mod laws;
 
 pub use laws::{
-    bindings_stay, bodies_are_right, globals_keep_their_sizes, main_ends_alike, main_is_right,
+    bodies_are_right, calls_keep_bindings, globals_keep_their_sizes, main_ends_alike, main_is_right,
 };

@@ -1,0 +1,4 @@
+mod Combining
+mod Bindings
+mod Worlds
+mod Functions
