@@ -5,7 +5,7 @@ use Rattle.mv_machine_runs.specs.Calm.{Rest}
 use Rattle.mv_machine_runs.specs.Laws.{CodeIsPlaced, TextsAreFound, PackedIsLaidOut}
 use Rattle.mv_stub_runs.specs.Laws.{StartIsRight}
 use Rattle.mv_image_runs.specs.Laws.{ImagesBehave}
-use Rattle.mv_program_runs.specs.Laws.{MainFollows}
+use Rattle.mv_program_runs.specs.Laws.{MainFollowsOpenly}
 use Rattle.mv_linker.specs.Laws.{LinesFit, StubsStand, FunctionsStand}
 use Rattle.mv_first_data.specs.Laws.{SizesAreCounts}
 
@@ -21,5 +21,5 @@ pub record Laws : Type 0 where
   pub sizes_are_counts : SizesAreCounts
   pub start_is_right : StartIsRight
   pub images_behave : ImagesBehave
-  pub main_follows : MainFollows Rest
+  pub main_follows : MainFollowsOpenly Rest
   pub ends_are_reached : EndsAreReached

@@ -1,5 +1,5 @@
 -- The machine with a built image is a host for its program, and the program is loaded there.
-use Rattle.std.proofs.Common.{◌≡◌, ℕ, ◌+◌, ◌<◌, ◌≤◌, ◌^◌, zero, suc, pos, ◌-ℤ◌, Bool, true, false, List, [], ◌∷◌, Some, None, map, sum, length, slice_get, All, refl, sym, ap, ◌∙◌, subst, arith}
+use Rattle.std.proofs.Common.{◌≡◌, ℕ, ◌+◌, ◌<◌, ◌≤◌, ◌^◌, zero, suc, pos, ◌-ℤ◌, Bool, true, false, List, [], ◌∷◌, Option, Some, None, map, sum, length, slice_get, All, refl, sym, ap, ◌∙◌, subst, arith}
 use Rattle.std.proofs.lemmas.List.Elements.{All-from_get_or, All-map, All-weaker}
 use Rattle.std.proofs.lemmas.Option.{slice_get-get_or, slice_get_within}
 use Rattle.mv_ast.specs.declared.program.Program.{Program}
@@ -7,6 +7,7 @@ use Rattle.mv_ast.specs.declared.program.Function.{Function}
 use Rattle.mv_ast.specs.declared.program.Global.{Global}
 use Rattle.mv_ast.specs.declared.program.Known.{Known}
 use Rattle.mv_ast.specs.declared.program.Known.TheVariants.{Getchar, Putchar, Poll, Plan}
+use Rattle.mv_ast.specs.declared.world.Binding.{Binding}
 use Rattle.mv_ast.specs.Counts.{words_of_size}
 use Rattle.mv_ast.specs.Plans.{is_among}
 use Rattle.mv_ast.specs.Starts.{first_words_under}
@@ -35,17 +36,19 @@ use Rattle.mv_call_code.specs.CallCode.{is_marked}
 use Rattle.mv_call_code.specs.Convention.{Layout}
 use Rattle.mv_call_code.specs.Environment.{IsDirect}
 use Rattle.mv_function_code.specs.FunctionCode.{bytes_of, later_lines, function_lines}
-use Rattle.mv_function_code.specs.Functions.{IsFunction, shape_of}
+use Rattle.mv_function_code.specs.Functions.{shape_of}
 use Rattle.mv_source_calls.specs.Bindings.{keeps_bindings}
 use Rattle.mv_selected_bodies.specs.SelectedBodies.{knowns, AreRooms, IsInProgram}
 use Rattle.mv_machine_runs.specs.Calm.{Rest}
 use Rattle.mv_machine_runs.specs.Layout.{IsPacked, IsSetOut}
 use Rattle.mv_machine_runs.specs.Laws.{IsByteOrEnd}
 use Rattle.mv_machine_runs.specs.MachineRuns.{access, machine_of, machine_text}
+use Rattle.mv_machine_runs.specs.Under.{words_under}
 use Rattle.mv_machine_runs.proofs.OnRuns.{runs_are}
+use Rattle.mv_machine_runs.proofs.Under.{runs_are_under}
 use Rattle.mv_machine_runs.proofs.Serving.{serves_calls}
 use Rattle.mv_machine_runs.proofs.Whole.{laid, memory, own, no_slot}
-use Rattle.mv_program_runs.specs.Hosts.{IsHost, IsSelected, IsLoaded}
+use Rattle.mv_program_runs.specs.Hosts.{IsPlain, IsSelected, IsOpenHost, IsOpenlyLoaded}
 use Rattle.mv_linker.specs.declared.parts.Parts.{Parts}
 use Rattle.mv_linker.specs.Linked.{function_part, first_label, part_index}
 use Rattle.mv_first_data.specs.FirstData.{global_sizes}
@@ -58,7 +61,6 @@ use Rattle.mv_built_programs.proofs.Numbers.{BeginsWithWord, entries, numbering}
 use Rattle.mv_built_programs.proofs.Linked.{is_linked, code_placed, few_words}
 use Rattle.mv_built_programs.proofs.Renamed.{own_place}
 use Rattle.mv_built_programs.proofs.Rooms.{room_there, room_place, room_size, size_is, has_word}
-use Rattle.mv_built_programs.proofs.Unbound.{unbound, nothing_bound, unbound_runs, unbound_memory, unbound_serves}
 
 -- ---- names
 
@@ -218,21 +220,24 @@ module _ (laws : Laws) (p : Program) (image : Fields) (formed : IsWellFormed p) 
 
   module _ (bytes picks : List ℕ) (are_bytes : All (λ b. b < 2 ^ 8) bytes) (budget far : ℕ) where
     abbrev machine : Machine Rest
-    machine = unbound access y (machine_of [] image (bytes_to_come bytes) picks)
+    machine = machine_of [] image (bytes_to_come bytes) picks
+
+    abbrev words : List Binding → ℕ → Option ℕ
+    words = words_under image
 
     bytes_or_end : All IsByteOrEnd (bytes_to_come bytes)
     bytes_or_end = All-map IsByteOrEnd Some bytes are_bytes
 
-    host : IsHost access y machine budget far p numbers
+    host : IsOpenHost access y machine words budget far p numbers
     host = record {
       laid = laid y set_out;
-      memory = unbound_memory access y (machine_of [] image (bytes_to_come bytes) picks) (memory y set_out [] image (bytes_to_come bytes) picks);
+      memory = memory y set_out [] image (bytes_to_come bytes) picks;
       sizes = λ x. refl;
-      runs = λ s stands. unbound_runs access y (machine_of [] image (bytes_to_come bytes) picks) s (runs_are image (bytes_to_come bytes) picks s (own y set_out s stands) []);
+      runs = λ s stands. runs_are image (bytes_to_come bytes) picks s (own y set_out s stands) [];
+      runs_under = λ bs s stands. runs_are_under [] image (bytes_to_come bytes) picks bs s (own y set_out s stands);
       entries = entries parts built.are laws.functions_stand sizing built.linked.text built.linked.least.fits.sizes built.linked.text_is each_begins;
-      may_ask = may_ask_direct;
-      serves = unbound_serves access y (machine_of [] image (bytes_to_come bytes) picks) budget far numbers p (serves_calls [] image (bytes_to_come bytes) picks bytes_or_end y budget far numbers p);
-      unbound = nothing_bound access y (machine_of [] image (bytes_to_come bytes) picks);
+      calls = serves_calls [] image (bytes_to_come bytes) picks bytes_or_end y budget far numbers p;
+      stub = λ k args back i asked orders count target ra. absurd (orders (may_ask_direct k asked));
       slots = λ at f e. absurd (no_slot image at f e);
     }
 
@@ -271,24 +276,25 @@ module _ (laws : Laws) (p : Program) (image : Fields) (formed : IsWellFormed p) 
       abbrev end_at : ℕ
       end_at = address text_start sizing (part_index parts.functions f + length (function_part f (first_label parts.functions f) code))
 
-      selected : IsSelected y machine p numbers f g
-      selected =
+      plain_code : IsPlain y machine.text words p numbers f g
+      plain_code =
           let fits = laws.bodies_are_functions y (setting_of numbers p) false [] the_body in_program in
-          let attributed : false ≡ g.attributed = sym (plain f g here) in
           let placed = code_placed laws p image built f code found_code.1 g here (no_slots f g code here found_code.1) in record {
             body = the_body;
             keeps = the_compiled.compiled.keeps;
             params = the_compiled.compiled.params;
             is_read = fits.0;
             is_fine = fits.1;
-            fits = subst (λ a. IsFunction y (setting_of numbers p) a [] fits.0 fits.1 the_body) attributed fits.2;
+            fits = fits.2;
             place = own_at;
             linked = is_linked laws p image built f code found_code.1;
             is_attributed = is_marked the_body.marked;
             next = end_at;
-            placed = subst (λ a. Placed (machine_text [] image) own_at y.entry (function_lines y.place y.size (is_marked the_body.marked) (shape_of a the_body) the_body.code) (y.entry f) end_at) attributed
-                (subst (λ (items : List Line). Placed (machine_text [] image) own_at y.entry items (y.entry f) end_at) lines_are placed);
+            placed = subst (λ (items : List Line). Placed (machine_text [] image) own_at y.entry items (y.entry f) end_at) lines_are placed;
           }
 
-    pub loaded : IsLoaded access y machine budget far p numbers
+      selected : IsSelected y machine.text words p numbers f g
+      selected = record { plain = λ e. plain_code; patched = λ e. let not : g.attributed ≡ false = plain f g here in absurd (cc) }
+
+    pub loaded : IsOpenlyLoaded access y machine words budget far p numbers
     loaded = record { formed = formed; host = host; functions = selected }

@@ -1,4 +1,3 @@
-pub mod Unbound
 pub mod Rooms
 pub mod Renamed
 pub mod Numbers
@@ -7,5 +6,6 @@ pub mod Places
 pub mod Facts
 pub mod Linked
 pub mod Host
+pub mod Patched
 pub mod Main
 pub mod Whole

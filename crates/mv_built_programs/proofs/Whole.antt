@@ -1,5 +1,5 @@
 -- The run of a built image does what its program means.
-use Rattle.std.proofs.Common.{◌≡◌, ℕ, suc, ◌+◌, ◌*◌, ◌<◌, ◌^◌, ◌%◌, true, false, eqb, List, [], ◌∷◌, Option, Some, None, map, take, sum, length, get_or, filter, replicate, slice_get, All, refl, sym, ap, ◌∙◌, subst, arith}
+use Rattle.std.proofs.Common.{◌≡◌, ℕ, suc, ◌+◌, ◌*◌, ◌<◌, ◌^◌, ◌%◌, false, List, [], ◌∷◌, Option, Some, None, map, take, sum, length, get_or, filter, replicate, slice_get, All, refl, sym, ap, ◌∙◌, subst, arith}
 use Rattle.std.specs.Prelude.{IsTrue}
 use Rattle.std.specs.List.{flat_map}
 use Rattle.std.proofs.Math.ListN as lists
@@ -8,7 +8,6 @@ use Rattle.std.proofs.lemmas.List.Elements.{All-nil}
 use Rattle.mv_ast.specs.declared.program.Program.{Program}
 use Rattle.mv_ast.specs.declared.program.Function.{Function}
 use Rattle.mv_ast.specs.declared.world.Action.{Action}
-use Rattle.mv_ast.specs.declared.world.Binding.{Binding}
 use Rattle.mv_ast.specs.Actions.{fits}
 use Rattle.mv_ast.specs.Plans.{free}
 use Rattle.mv_ast.specs.Starts.{first_words_under}
@@ -40,8 +39,8 @@ use Rattle.mv_built_programs.specs.Layouts.{address_of, numbers_of, layout_of}
 use Rattle.mv_built_programs.proofs.Facts.{Laws}
 use Rattle.mv_built_programs.proofs.Rooms.{size_is}
 use Rattle.mv_built_programs.proofs.Linked.{start_ends, start_placed, has_stubs}
+use Rattle.mv_machine_runs.specs.Under.{words_under}
 use Rattle.mv_built_programs.proofs.Host.{is_numbering, addresses, global_count, loaded}
-use Rattle.mv_built_programs.proofs.Unbound.{unbound, has_no_bindings, unbound_begins, stands_unbound, follows_too}
 
 -- the run of a lowered program ends so, also where it has no main
 run_reached : EndsAreReached → (p : Program) (numbers : List ℕ) (codes : List Code) (main : Option Code) (bound : ℕ) (w : World) → IsReached w (call_of_main (setting_of numbers p) codes main bound w).end
@@ -142,16 +141,14 @@ module _ (laws : Laws) (p : Program) (image : Fields) (formed : IsWellFormed p) 
 
     calls_main : (k : ℕ) → CallsMain [] p image bytes picks y first budget far k
     calls_main k =
-        let none : has_no_bindings first ≡ true = ap (λ (bs : List Binding). eqb (length bs) 0) no_bindings in
-        let m = laws.main_follows access y (unbound access y the_machine) budget far p numbers
+        let m = laws.main_follows access y the_machine (words_under image) budget far p numbers
         (loaded laws p image formed plain have_words built bytes picks are_bytes budget far)
-        numbered bytes [] (All-nil (λ (a : Action). IsTrue (fits p a))) return_address 3 (omega arith, refl) enters.link (unbound_begins access y the_machine 3 begins)
-        (stands_unbound access y the_machine budget far (y.entry p.main) first 3 none stands) k in record {
+        numbered bytes [] (All-nil (λ (a : Action). IsTrue (fits p a))) return_address 3 (omega arith, refl) enters.link begins stands k in record {
           call = m.0;
           means = m.1;
           reached = subst (IsReached first) (sym m.2) (run_reached laws.ends_are_reached p numbers (code_of (lower_program p)) (slice_get (code_of (lower_program p)) p.main) k first);
           returns = m.3;
-          follows = λ spare paid asked. follows_too access y the_machine budget far spare k 3 return_address m.0.end (m.4 spare paid asked);
+          follows = m.4;
         }
 
   pub built_behaves : Behaves p image bytes picks

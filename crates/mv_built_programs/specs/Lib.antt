@@ -1,3 +1,4 @@
 pub mod Built
 pub mod Layouts
 pub mod Laws
+pub mod Patched

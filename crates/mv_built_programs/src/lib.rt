@@ -6,4 +6,4 @@
 
 mod laws;
 
-pub use laws::built_programs_behave;
+pub use laws::{built_programs_behave, patched_functions_stand};

@@ -18,7 +18,7 @@ skipped : (x : Function) (rest : List Function) (z : Bool) (n : ℕ) → slice_g
 skipped x rest true n = let e : 1 + n ≡ suc n = omega arith in ap (λ m. slice_get (x ∷ rest) m) e
 skipped x rest false n = let e : 0 + n ≡ n = omega arith in ap (λ m. slice_get rest m) e
 
-attributed_at : (fs : List Function) (f : ℕ) (g : Function) → slice_get fs f ≡ Some g → g.attributed ≡ true →
+pub attributed_at : (fs : List Function) (f : ℕ) (g : Function) → slice_get fs f ≡ Some g → g.attributed ≡ true →
     slice_get (filter (λ (x : Function). x.attributed) fs) (attributed_before fs f) ≡ Some g
 attributed_at [] f g e is = absurd (cc)
 attributed_at (x ∷ fs) zero g e is =

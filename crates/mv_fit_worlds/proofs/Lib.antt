@@ -1,4 +1,4 @@
-mod Combining
+pub mod Combining
 mod Bindings
 mod Worlds
-mod Functions
+pub mod Functions

@@ -5,6 +5,8 @@ mod Calming
 mod Fetches
 mod Starts
 pub mod OnRuns
+pub mod Under
+pub mod Shown
 mod Fitness
 mod Packing
 mod Answering

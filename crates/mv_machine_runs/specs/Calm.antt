@@ -7,6 +7,7 @@ use Rattle.mv_fetch.specs.Held.{Room, older_at}
 use Rattle.mv_image.specs.Spelling.{Fields}
 use Rattle.mv_image.specs.Patched.{Bindings, text_of}
 use Rattle.mv_ir.specs.World.{World}
+use Rattle.mv_narrow_runs.specs.Narrowed.{same_bindings}
 use Rattle.mv_machine.specs.Runs.{Stop, Going, Exit, Trap, Fault, bytes_to_come}
 
 -- all of a machine's state but registers and pc
@@ -61,12 +62,6 @@ gives_bytes [] (byte ∷ bytes) = false
 gives_bytes (answer ∷ input) [] = false
 gives_bytes (None ∷ input) (byte ∷ bytes) = false
 gives_bytes (Some b ∷ input) (byte ∷ bytes) = nat_eq b byte && gives_bytes input bytes
-
-abbrev pub same_bindings : List Binding → List Binding → Bool
-same_bindings [] [] = true
-same_bindings [] (b ∷ bs) = false
-same_bindings (a ∷ as') [] = false
-same_bindings (a ∷ as') (b ∷ bs) = is_same_binding a b && same_bindings as' bs
 
 abbrev pub is_same_event : Event → Event → Bool
 is_same_event a b = nat_eq a.function b.function && is_same_binding a.binding b.binding

@@ -2,6 +2,7 @@
 use Rattle.std.specs.Prelude.{ℕ, ◌≡◌, ◌↔◌, ◌+◌, ◌*◌, ◌%◌, ◌^◌, ◌<◌, ◌≤◌, Bool, true, false, List, [], length, replicate, slice_get, Option, Some, None}
 use Rattle.std.specs.List.{All}
 use Rattle.mv_ast.specs.declared.program.Program.{Program}
+use Rattle.mv_ast.specs.declared.world.Binding.{Binding}
 use Rattle.mv_ast.specs.Plans.{free}
 use Rattle.mv_isa.specs.declared.labelled.Line.{Line}
 use Rattle.mv_isa.specs.Code.{CodeFits, line_at, address, label_address}
@@ -26,6 +27,8 @@ use Rattle.mv_call_code.specs.Convention.{Layout, Conventions}
 use Rattle.mv_call_code.specs.Environment.{ServesCalls, ServesOrders}
 use Rattle.mv_call_code.specs.Laws.{IsCaller, IsLinked}
 use Rattle.mv_function_code.specs.Programs.{fitted_levels, Stands}
+use Rattle.mv_narrow_runs.specs.Narrowed.{under}
+use Rattle.mv_machine_runs.specs.Under.{words_under}
 use Rattle.mv_machine_runs.specs.Calm.{Rest, IsCalm, is_calm}
 use Rattle.mv_machine_runs.specs.Calls.{CallsAreAnswered}
 use Rattle.mv_machine_runs.specs.Steps.{StepsAreTaken}
@@ -47,6 +50,12 @@ RunsAreRuns =
 -- and it takes the steps of the words that stand under the bindings
 abbrev pub BoundStepsAreTaken : Type 0
 BoundStepsAreTaken = (image : Fields) (input : List (Option ℕ)) (picks : List ℕ) (s : Site) → OwnOutsideText s → StepsAreTaken image input picks s
+
+-- So the machine under some bindings, over the words that stand under these, is one on which code runs.
+abbrev pub RunsAreRunsUnder : Type 0
+RunsAreRunsUnder =
+    (attributed : List ℕ) (image : Fields) (input : List (Option ℕ)) (picks : List ℕ) (bs : List Binding) (s : Site) → OwnOutsideText s →
+    IsRun access s (under (machine_of attributed image input picks) (words_under image) bs)
 
 -- The words of an image's text are found at their addresses. Where bindings don't show, they stand there under all bindings; and bindings show
 -- nowhere in an image without functions and sites.

@@ -5,4 +5,6 @@ pub mod Calls
 pub mod Layout
 pub mod Assembled
 pub mod Bound
+pub mod Under
+pub mod Shown
 pub mod Laws

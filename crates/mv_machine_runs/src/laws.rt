@@ -1,4 +1,5 @@
-ghost use Rattle.mv_machine_runs.specs.Laws.{CalmIsTested, RunsAreRuns, BoundStepsAreTaken, TextsAreFound, CodeIsPlaced, FreeLinesStand, BindingsAreShown, RunsBeginInCalm, KnownCallsAreServed, MemoryIsFit, FramesAreOutsideText, PackedIsLaidOut, EnvironmentCalls, CodeRunsOnTheMachine, CallsRunOnTheMachine, FunctionsRunOnTheMachine};
+ghost use Rattle.mv_machine_runs.specs.Laws.{CalmIsTested, RunsAreRuns, RunsAreRunsUnder, BoundStepsAreTaken, TextsAreFound, CodeIsPlaced, FreeLinesStand, BindingsAreShown, RunsBeginInCalm, KnownCallsAreServed, MemoryIsFit, FramesAreOutsideText, PackedIsLaidOut, EnvironmentCalls, CodeRunsOnTheMachine, CallsRunOnTheMachine, FunctionsRunOnTheMachine};
+ghost use Rattle.mv_machine_runs.specs.Shown.{BindingsHaveValues, BoundFunctionsShow, FreeFunctionsShow};
 
 /// The test of calm is true exactly where the machine is calm. The call does nothing: its contract is the law.
 pub fn calm_is_tested()
@@ -13,6 +14,11 @@ pub fn runs_are_runs()
 /// From a calm time, the word that stands under the bindings is executed, also where text may be patched.
 pub fn bound_steps_are_taken()
     ensures { BoundStepsAreTaken }
+{}
+
+/// The machine under some bindings, over the words that stand under these, is one on which code runs.
+pub fn runs_are_runs_under()
+    ensures { RunsAreRunsUnder }
 {}
 
 /// The words of an image's text are found at their addresses, and stand there under all bindings where none show.
@@ -33,6 +39,14 @@ pub fn free_lines_stand()
 /// Where the binding of a function shows, a jump to its variant stands, a call of it, or its inline body.
 pub fn bindings_are_shown()
     ensures { BindingsAreShown }
+{}
+
+/// What stands at entries and sites while a function is free or bound. `values`: an image reads what it is bound to. `free`: the lines of the code stand. `bound`:
+/// its variant shows, by a jump at the entry, and at a site by a call or the inline words.
+pub fn functions_show()
+    ensures values { BindingsHaveValues }
+    ensures free { FreeFunctionsShow }
+    ensures bound { BoundFunctionsShow }
 {}
 
 /// A run begins in calm.

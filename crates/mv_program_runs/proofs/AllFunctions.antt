@@ -1,78 +1,73 @@
 -- All functions of a program keep the calling convention, by induction on the bound.
-use Rattle.std.proofs.Common.{◌≡◌, inl, inr, ℕ, zero, suc, ◌+◌, ◌≤◌, Bool, true, false, cond, List, [], length, Option, Some, None, refl, sym, ap, subst, ◌∙◌, arith}
+use Rattle.std.proofs.Common.{◌≡◌, ◌⊎◌, inl, inr, ℕ, zero, suc, ◌+◌, ◌≤◌, Bool, true, false, List, map, length, Option, Some, None, refl, sym, ap, subst, ◌∙◌, arith}
 use Rattle.std.specs.Prelude.{slice_get, nat_eq, if◌then◌else◌}
 use Rattle.std.specs.List.{zip}
 use Rattle.std.proofs.lemmas.Bool.{eqb-true}
 use Rattle.mv_ast.specs.declared.program.Program.{Program}
 use Rattle.mv_ast.specs.declared.program.Function.{Function}
 use Rattle.mv_ast.specs.declared.world.Binding.{Binding}
-use Rattle.mv_ast.specs.Plans.{attributed_before}
+use Rattle.mv_ast.specs.Plans.{attributed_before, switch_domain}
 use Rattle.mv_meaning.specs.Meaning.{call_of}
+use Rattle.mv_isa.specs.declared.instr.Instr.{Instr}
+use Rattle.mv_isa.specs.Standing.{InstrStands}
 use Rattle.mv_isa.specs.Execution.{Access, reg}
-use Rattle.mv_isa.specs.Code.{IsPlace}
+use Rattle.mv_ir.specs.Combinations.{IsCombination}
 use Rattle.mv_ir.specs.KnownFunctions.{seen_from}
-use Rattle.mv_ir.specs.World as ir
 use Rattle.mv_ir.specs.World.{World, Setting}
-use Rattle.mv_ir.specs.Outcome.{End, Stuck, Call}
-use Rattle.mv_ir.specs.Keeps.{KeepsCall}
-use Rattle.mv_ir.specs.Meaning.{Contents, body_from}
-use Rattle.mv_ir.specs.Levels.{read_under, frame_of_call}
-use Rattle.mv_ir.specs.Programs.{setting_of, place_if}
+use Rattle.mv_ir.specs.Outcome.{End, Stuck, Call, Bound}
+use Rattle.mv_ir.specs.Programs.{setting_of}
+use Rattle.mv_fit_worlds.specs.Functions.{IsFreeIn, IsBoundIn}
+use Rattle.mv_fit_worlds.specs.Laws.{FunctionsAreFreeOrBound, FramesOfFree, FramesOfBound}
 use Rattle.mv_lowering.specs.Lower.{is_void}
-use Rattle.mv_lowering.specs.Law.{strict_context}
 use Rattle.mv_lowering.specs.Functions.{lower_function}
-use Rattle.mv_lowered_programs.specs.Laws.{HasGlobals}
+use Rattle.mv_lowering.specs.Law.{strict_context}
 use Rattle.mv_flow_code.specs.Runs.{Machine, outside}
 use Rattle.mv_call_code.specs.CallCode.{link_register}
-use Rattle.mv_call_code.specs.Convention.{Layout, IsTarget, FollowsCall, Answers, entry_cost, slot_cost, Convention, Conventions}
-use Rattle.mv_call_code.specs.Environment.{ServesKnown}
-use Rattle.mv_function_code.specs.Functions.{FunctionsKeep, frame_in}
-use Rattle.mv_source_calls.specs.SourceCalls.{as_call, any_frame, meaningless, call_by_source, source_call, source_levels, Promises}
-use Rattle.mv_source_calls.specs.Laws.{BodiesAreRight}
-use Rattle.mv_program_runs.specs.Hosts.{IsHost, IsSelected, IsLoaded}
-use Rattle.mv_program_runs.proofs.Slots.{slot_answers}
+use Rattle.mv_call_code.specs.Convention.{Layout, IsTarget, Stands, Enters, FollowsCall, Answers, entry_cost, slot_cost, Convention, Conventions}
+use Rattle.mv_function_code.specs.Functions.{FunctionsKeep, LaterKeeps}
+use Rattle.mv_narrow_runs.specs.Inline.{InlinesAreDone}
+use Rattle.mv_narrow_runs.specs.Narrowed.{has_bindings, words_alone, under, LeavesTrue}
+use Rattle.mv_narrow_runs.specs.Laws as narrow
+use Rattle.mv_source_calls.specs.SourceCalls.{as_call, any_frame, meaningless, call_by_source, source_call, source_levels}
+use Rattle.mv_source_calls.specs.Laws.{BodiesAreRight, CallsKeepBindings}
+use Rattle.mv_program_runs.specs.Hosts.{IsHost, IsVariant, IsPatched, IsLoaded, SlotShows}
+use Rattle.mv_program_runs.proofs.Frames.{leaves_true}
+use Rattle.mv_program_runs.proofs.Entries.{plain_answers, free_answers, variant_promises, variant_answers, bound_answers, promised}
 
--- what keeps the meaning of a call promises what the call does
-promises_kept : (c kept promised : Call) → KeepsCall c kept → Promises c promised → Promises kept promised
-promises_kept c kept promised k (inl stuck) = inl stuck
-promises_kept c kept promised k (inr h) = let cheaper = k.cheaper in let paid = h.1 in inr (sym k.same ∙ h.0, omega (arith, cheaper, paid))
+-- the laws that the induction stands on
+pub record Known (M : Type 0) : Type 0 where
+  pub each : FunctionsKeep M
+  pub later : LaterKeeps M
+  pub right : BodiesAreRight
+  pub bindings : CallsKeepBindings
+  pub free_or_bound : FunctionsAreFreeOrBound
+  pub frames_free : FramesOfFree
+  pub frames_bound : FramesOfBound
+  pub told : narrow.BindingsAreTold
+  pub alike : narrow.NarrowedAreAlike M
+  pub narrowed : narrow.NarrowedRuns M
+  pub slots : narrow.SlotsUnder M
+  pub jumps : narrow.JumpsUnder M
+  pub firsts : narrow.FirstsUnder M
+  pub inlines : InlinesAreDone M
 
--- ---- frames without bound switches
-
-abbrev NoneBound : World → Type 0
-NoneBound w = (n : ℕ) (b : Binding) → slice_get w.bindings n ≡ Some b → b.bound ≡ false
-
-nothing_read : (switches : List ℕ) (o : Option Binding) → ((b : Binding) → o ≡ Some b → b.bound ≡ false) → read_under switches o ≡ []
-nothing_read switches None h = refl
-nothing_read switches (Some b) h = ap (λ z. cond z (zip switches b.values) []) (h b refl)
-
-frame_is : (attributed : Bool) (n : ℕ) (switches : List ℕ) (depth live : ℕ) (w : World) → NoneBound w → frame_of_call (place_if attributed n) switches depth live w ≡ frame_in attributed [] depth live
-frame_is true n switches depth live w h = ap (λ l. record { depth = depth + 1; live = live + 1; bound = l }) (nothing_read switches (slice_get w.bindings n) (h n))
-frame_is false n switches depth live w h = refl
-
-module _ {M : Type 0} (access : Access M) (y : Layout) (machine : Machine M) (budget far : ℕ) (p : Program) (numbers : List ℕ) (loaded : IsLoaded access y machine budget far p numbers)
-    (keep : FunctionsKeep M) (right : BodiesAreRight) where
-  abbrev host : IsHost access y machine budget far p numbers
+module _ {M : Type 0} (access : Access M) (y : Layout) (machine : Machine M) (words : List Binding → ℕ → Option ℕ) (budget far : ℕ) (p : Program) (numbers : List ℕ)
+    (loaded : IsLoaded access y machine words budget far p numbers) (known : Known M) where
+  abbrev host : IsHost access y machine words budget far p numbers
   host = loaded.host
 
   abbrev setting : Setting
   setting = setting_of numbers p
 
-  -- orders and polls aren't asked for
-  pub serves : ServesKnown access y machine budget far setting
-  serves = record { calls = host.serves; stub = λ k args back i asked orders count target ra. absurd (orders (host.may_ask k asked)) }
-
   module _ (k : ℕ) (below : Conventions access y machine budget far (source_levels p numbers k)) where
+    abbrev levels : Bound
+    levels = source_levels p numbers k
+
     abbrev Source : ℕ → (depth frames : ℕ) → List ℕ → World → Call
     Source f depth frames args w = source_call p numbers k f args depth frames w
 
     abbrev FC : (spare i back : ℕ) → End → Type 0
-    FC spare i back = FollowsCall access y machine budget far spare (length (source_levels p numbers k)) i back
-
-    -- what follows a call that promises another follows the other
-    promised : (spare i back : ℕ) (c other : Call) → Promises c other → i + (spare + entry_cost + other.cost) ≤ budget → (i + (spare + 44 + c.cost) ≤ budget → FC spare i back c.end) → FC spare i back other.end
-    promised spare i back c other (inl stuck) paid f = subst (FC spare i back) (sym stuck) tt
-    promised spare i back c other (inr h) paid f = let cheaper = h.1 in subst (FC spare i back) h.0 (f (omega (arith, paid, cheaper)))
+    FC spare i back = FollowsCall access y machine budget far spare (length levels) i back
 
     module _ (f depth frames : ℕ) (args : List ℕ) where
       -- where there is no such function, or it has another number of parameters, nothing is promised
@@ -84,58 +79,124 @@ module _ {M : Type 0} (access : Access M) (y : Layout) (machine : Machine M) (bu
           ap (λ o. (call_by_source p numbers k f o args (seen_from depth frames w)).end) e ∙
           ap (λ b. (if b then as_call (is_void g.result) (call_of p (strict_context p numbers k) f (Some g) args any_frame (seen_from depth frames w)) else meaningless).end) wrong
 
-      module _ (g : Function) (here : slice_get p.functions f ≡ Some g) where
-        abbrev s : IsSelected y machine p numbers f g
-        s = loaded.functions f g here
+      -- what an attributed function is bound to
+      abbrev Bindings : Function → World → Type 0
+      Bindings g w =
+          IsFreeIn w.bindings (attributed_before p.functions f) ⊎
+          ((vs : List ℕ) × IsBoundIn w.bindings (attributed_before p.functions f) vs × IsCombination (map (switch_domain p) g.switches) vs × (length vs ≡ length g.switches))
 
-        abbrev lowered : Contents → ir.Frame → World → Call
-        lowered contents frame = body_from setting frame contents (lower_function p g) args (source_levels p numbers k)
+      bindings_of : (g : Function) → slice_get p.functions f ≡ Some g → g.attributed ≡ true → (pc i : ℕ) (w : World) → Stands access y machine budget far pc w i → Bindings g w
+      bindings_of g here is pc i w stands = known.free_or_bound p w.bindings f g (host.fit (outside w) (machine.run i).memory stands.calm).bindings here is
 
-        -- in a world without bound functions the selected body does what the source does
-        body_promises : (contents : Contents) (w : World) → NoneBound w → length args ≡ g.params → HasGlobals p (seen_from depth frames w) →
-            Promises (body_from setting (frame_in g.attributed [] depth frames) contents s.body args (source_levels p numbers k) w) (Source f depth frames args w)
-        body_promises contents w none count globals =
-            let frame = frame_in g.attributed [] depth frames in
-            promises_kept (lowered contents frame w) (body_from setting frame contents s.body args (source_levels p numbers k) w) (Source f depth frames args w)
-            (s.keeps setting frame contents args (source_levels p numbers k) w)
-            (subst (λ (x : ir.Frame). Promises (lowered contents x w) (Source f depth frames args w))
-            (frame_is g.attributed (attributed_before p.functions f) (lower_function p g).switches depth frames w none)
-            (right p numbers k f g loaded.formed here contents args depth frames w count globals))
+      -- ---- a function called at its entry
 
-        fitted : (back i : ℕ) → IsTarget back → reg (machine.run i).regs link_register ≡ back → length args ≡ g.params →
-            Answers access y machine budget far entry_cost (length (source_levels p numbers k)) (y.entry f) back depth frames args (Source f depth frames args) i
-        fitted back i target ra count spare w stands enters paid asked =
-            let kept =
-            keep access y host.laid machine host.memory host.runs setting host.entries budget far serves (source_levels p numbers k) below g.attributed [] s.is_read s.is_fine s.body s.fits s.place s.linked
-            s.is_attributed (y.entry f) s.next s.placed depth frames args back i (count ∙ sym s.params) target ra in
-            promised spare i back (body_from setting (frame_in g.attributed [] depth frames) kept.0 s.body args (source_levels p numbers k) w) (Source f depth frames args w)
-            (body_promises kept.0 w (host.unbound (outside w) (machine.run i).memory stands.calm) count (λ x. stands.globals.sizes x ∙ host.sizes x)) paid
-            (λ enough. kept.1 spare w stands enters enough asked)
+      module _ (g : Function) (here : slice_get p.functions f ≡ Some g) (count : length args ≡ g.params) where
+        fitted : (back i : ℕ) → IsTarget back → reg (machine.run i).regs link_register ≡ back → Answers access y machine budget far entry_cost (length levels) (y.entry f) back depth frames args (Source f depth frames args) i
+        fitted back i target ra spare w stands enters paid asked = by g.attributed refl
+          where
+            attributed : g.attributed ≡ true → Bindings g w → FC spare i back (Source f depth frames args w).end
+            attributed is (inl free) =
+                free_answers access y machine words budget far p numbers loaded known.right k below f depth frames args g here count is known.later known.firsts known.told known.frames_free back i target ra spare w free
+                stands enters paid asked
+            attributed is (inr b) =
+                bound_answers access y machine words budget far p numbers loaded known.right k below f depth frames args g here count is b.0 b.2 b.3 known.each known.jumps known.told known.frames_bound
+                back i target ra spare w b.1 stands enters paid asked
 
-      -- a function called at its entry
+            by : (z : Bool) → g.attributed ≡ z → FC spare i back (Source f depth frames args w).end
+            by true is = attributed is (bindings_of g here is (y.entry f) i w stands)
+            by false not =
+                plain_answers access y machine words budget far p numbers loaded known.right k below f depth frames args g here count not known.each back i target ra spare w stands enters paid asked
+
       at_entry : (back i : ℕ) → IsTarget back → reg (machine.run i).regs link_register ≡ back →
-          Answers access y machine budget far entry_cost (length (source_levels p numbers k)) (y.entry f) back depth frames args (Source f depth frames args) i
+          Answers access y machine budget far entry_cost (length levels) (y.entry f) back depth frames args (Source f depth frames args) i
       at_entry back i target ra spare w stands enters paid asked = by (slice_get p.functions f) refl
         where
           by_count : (g : Function) → slice_get p.functions f ≡ Some g → (b : Bool) → nat_eq g.params (length args) ≡ b → FC spare i back (Source f depth frames args w).end
-          by_count g e true q = fitted g e back i target ra (sym (eqb-true g.params (length args) q)) spare w stands enters paid asked
+          by_count g e true q = fitted g e (sym (eqb-true g.params (length args) q)) back i target ra spare w stands enters paid asked
           by_count g e false q = subst (FC spare i back) (sym (misfit g e q w)) tt
 
           by : (o : Option Function) → slice_get p.functions f ≡ o → FC spare i back (Source f depth frames args w).end
           by None e = subst (FC spare i back) (sym (no_function e w)) tt
           by (Some g) e = by_count g e (nat_eq g.params (length args)) refl
 
-      -- and at a slot
+      -- ---- and at a slot
+
+      module _ (g : Function) (here : slice_get p.functions f ≡ Some g) (count : length args ≡ g.params) (at i : ℕ) (slot : machine.text.slot at ≡ Some f)
+          (spare : ℕ) (w : World) (stands : Stands access y machine budget far at w i) (enters : Enters access y machine budget far depth frames args i)
+          (paid : i + (spare + slot_cost + (Source f depth frames args w).cost) ≤ budget) (asked : far ≤ i + length levels) where
+        abbrev is : g.attributed ≡ true
+        is = (host.slots at f slot).1 g here
+
+        abbrev s : IsPatched y machine.text words p numbers f g
+        s = (loaded.functions f g here).patched is
+
+        abbrev bs : List Binding
+        bs = w.bindings
+
+        holds : has_bindings bs (outside w) ≡ true
+        holds = (known.told bs bs).1 refl
+
+        -- the call leaves the bindings as they are
+        keeps : (u : World) → has_bindings bs (outside u) ≡ true → LeavesTrue (has_bindings bs) (Source f depth frames args u).end
+        keeps u t =
+            leaves_true (has_bindings bs) u (λ v e. (known.told bs v.bindings).1 ((known.told bs u.bindings).0 t ∙ sym e)) (Source f depth frames args u).end
+            (known.bindings p numbers k f g here is args depth frames u)
+
+        slot_is_free : IsFreeIn bs (attributed_before p.functions f) → FC spare i (at + 8) (Source f depth frames args w).end
+        slot_is_free free =
+            known.slots access y host.laid machine (has_bindings bs) (words_alone (words bs)) (host.runs_under bs) budget far (y.entry f) at (s.slot_free bs at slot free) (host.slots at f slot).0 s.here
+            (length levels) depth frames args (Source f depth frames args) keeps (λ back j target ra spare u t. at_entry back j target ra spare u) i spare w holds stands enters paid asked
+
+        slot_is_bound : (vs : List ℕ) → IsBoundIn bs (attributed_before p.functions f) vs → (combination : IsCombination (map (switch_domain p) g.switches) vs) → length vs ≡ length g.switches →
+            FC spare i (at + 8) (Source f depth frames args w).end
+        slot_is_bound vs bound combination fitting = by v.inline refl
+          where
+            v : IsVariant y machine.text words p numbers f g vs
+            v = s.variants vs combination
+
+            called : (back j : ℕ) → IsTarget back → reg (machine.run j).regs link_register ≡ back → (spare : ℕ) (u : World) → has_bindings bs (outside u) ≡ true →
+                Stands access y machine budget far v.address u j → Enters access y machine budget far depth frames args j → j + (spare + entry_cost + (Source f depth frames args u).cost) ≤ budget → far ≤ j + length levels →
+                FC spare j back (Source f depth frames args u).end
+            called back j target ra spare u t stands enters paid asked =
+                variant_answers access y machine words budget far p numbers loaded known.right k below f depth frames args g here count is vs combination fitting known.each known.frames_bound back j target ra spare u
+                (subst (λ (xs : List Binding). IsBoundIn xs (attributed_before p.functions f) vs) ((known.told bs u.bindings).0 t) bound) stands enters (omega (arith, paid)) asked
+
+            -- by two instructions
+            inlined : (both : Instr × Instr) → v.inline ≡ Some both → InstrStands (words bs) at both.0 × InstrStands (words bs) (at + 4) both.1 → FC spare i (at + 8) (Source f depth frames args w).end
+            inlined both e stand =
+                let a = known.alike access y machine (has_bindings bs) (words_alone (words bs)) budget far in
+                let done =
+                known.inlines access y setting (zip (lower_function p g).switches vs) v.body both.0 both.1 stand.0.fields stand.1.fields (v.shape both e) host.laid (under machine words bs)
+                ((known.narrowed access y machine (has_bindings bs)).2 (words_alone (words bs)) host.memory) (host.runs_under bs) budget far at stand.0.word stand.1.word (host.slots at f slot).0 levels depth frames args i (count ∙ sym v.params) in
+                promised access y machine words budget far p numbers loaded known.right k below f depth frames args g here count 2 47 spare i (at + 8) _ (Source f depth frames args w) (omega arith)
+                (variant_promises access y machine words budget far p numbers loaded known.right k below f depth frames args g here count is vs combination fitting known.frames_bound done.0 w at i bound stands) paid
+                (λ enough. a.2 spare (length levels) i (at + 8) _ (done.1 spare w ((a.0 at w i holds).0 stands) ((a.1 depth frames args i).0 enters) enough asked))
+
+            by : (o : Option (Instr × Instr)) → v.inline ≡ o → FC spare i (at + 8) (Source f depth frames args w).end
+            by None e =
+                known.slots access y host.laid machine (has_bindings bs) (words_alone (words bs)) (host.runs_under bs) budget far v.address at
+                (subst (SlotShows y machine.text words p numbers f g (words bs) at v.address) e (s.slot_bound bs at vs combination slot bound)) (host.slots at f slot).0 v.placed.1.here
+                (length levels) depth frames args (Source f depth frames args) keeps called i spare w holds stands enters paid asked
+            by (Some both) e = inlined both e (subst (SlotShows y machine.text words p numbers f g (words bs) at v.address) e (s.slot_bound bs at vs combination slot bound))
+
+        slot_fitted : FC spare i (at + 8) (Source f depth frames args w).end
+        slot_fitted = by (bindings_of g here is at i w stands)
+          where
+            by : Bindings g w → FC spare i (at + 8) (Source f depth frames args w).end
+            by (inl free) = slot_is_free free
+            by (inr b) = slot_is_bound b.0 b.1 b.2 b.3
+
       at_slot : (at i : ℕ) → machine.text.slot at ≡ Some f →
-          Answers access y machine budget far slot_cost (length (source_levels p numbers k)) at (at + 8) depth frames args (Source f depth frames args) i
+          Answers access y machine budget far slot_cost (length levels) at (at + 8) depth frames args (Source f depth frames args) i
       at_slot at i slot spare w stands enters paid asked = by (slice_get p.functions f) refl
         where
+          by_count : (g : Function) → slice_get p.functions f ≡ Some g → (b : Bool) → nat_eq g.params (length args) ≡ b → FC spare i (at + 8) (Source f depth frames args w).end
+          by_count g e true q = slot_fitted g e (sym (eqb-true g.params (length args) q)) at i slot spare w stands enters paid asked
+          by_count g e false q = subst (FC spare i (at + 8)) (sym (misfit g e q w)) tt
+
           by : (o : Option Function) → slice_get p.functions f ≡ o → FC spare i (at + 8) (Source f depth frames args w).end
           by None e = subst (FC spare i (at + 8)) (sym (no_function e w)) tt
-          by (Some g) e =
-              let there : IsPlace (y.entry f) = (loaded.functions f g e).placed.1.here in
-              let h = host.slots at f slot in
-              slot_answers access y host.laid machine host.runs budget far f at h.1 h.0 there (length (source_levels p numbers k)) depth frames args (Source f depth frames args) at_entry i spare w stands enters paid asked
+          by (Some g) e = by_count g e (nat_eq g.params (length args)) refl
 
     level_keeps : Convention access y machine budget far (source_call p numbers k) (length (source_levels p numbers k))
     level_keeps = record {

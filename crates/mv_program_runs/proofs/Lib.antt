@@ -1,3 +1,5 @@
-pub mod Slots
+pub mod Frames
+pub mod Entries
 pub mod AllFunctions
 pub mod MainFunction
+pub mod OpenHosts

@@ -1,9 +1,10 @@
 -- The main function does what the program means.
-use Rattle.std.proofs.Common.{◌≡◌, ℕ, zero, suc, ◌+◌, ◌≤◌, false, List, [], length, Some, None, refl, sym, subst, ◌∙◌, arith}
+use Rattle.std.proofs.Common.{◌≡◌, ℕ, zero, suc, ◌+◌, ◌≤◌, List, [], length, Option, Some, None, refl, sym, subst, ◌∙◌, arith}
 use Rattle.std.specs.Prelude.{All, IsTrue, slice_get}
 use Rattle.mv_ast.specs.declared.program.Program.{Program}
 use Rattle.mv_ast.specs.declared.program.Function.{Function}
 use Rattle.mv_ast.specs.declared.world.Action.{Action}
+use Rattle.mv_ast.specs.declared.world.Binding.{Binding}
 use Rattle.mv_ast.specs.Actions.{fits}
 use Rattle.mv_meaning.specs.Meaning.{mean}
 use Rattle.mv_numbering.specs.Numberings.{IsNumbering}
@@ -17,25 +18,23 @@ use Rattle.mv_ir.specs.Programs.{setting_of, execution_of, run_of_main}
 use Rattle.mv_lowering.specs.Functions.{lower_function, lower_program}
 use Rattle.mv_lowering.specs.Statements.{levels}
 use Rattle.mv_lowered_programs.specs.Laws.{IsExecution}
-use Rattle.mv_flow_code.specs.Placed.{Placed}
 use Rattle.mv_flow_code.specs.Runs.{Machine}
 use Rattle.mv_call_code.specs.CallCode.{link_register}
 use Rattle.mv_call_code.specs.Convention.{Layout, IsTarget, Stands, FollowsCall}
-use Rattle.mv_function_code.specs.FunctionCode.{function_lines}
-use Rattle.mv_function_code.specs.Functions.{FunctionsKeep, MainKeeps, IsFunction, Begins, shape_of}
+use Rattle.mv_function_code.specs.Functions.{MainKeeps, Begins}
 use Rattle.mv_source_calls.specs.SourceCalls.{source_call, source_levels}
-use Rattle.mv_source_calls.specs.Laws.{BodiesAreRight, MainIsRight, MainEndsAlike}
-use Rattle.mv_program_runs.specs.Hosts.{IsHost, IsSelected, IsLoaded}
+use Rattle.mv_source_calls.specs.Laws.{MainIsRight, MainEndsAlike}
+use Rattle.mv_program_runs.specs.Hosts.{IsHost, IsPlain, IsLoaded}
 use Rattle.mv_program_runs.specs.Laws.{first_seen}
-use Rattle.mv_program_runs.proofs.AllFunctions.{serves, all_keep}
+use Rattle.mv_program_runs.proofs.AllFunctions.{Known, all_keep}
 
 -- there are as many levels as the bound says
 level_count : (calls : ℕ → Calls) (k : ℕ) → length (levels calls k) ≡ k
 level_count calls zero = refl
 level_count calls (suc k) = let below = level_count calls k in omega (arith, below)
 
-module _ {M : Type 0} (access : Access M) (y : Layout) (machine : Machine M) (budget far : ℕ) (p : Program) (numbers : List ℕ) (loaded : IsLoaded access y machine budget far p numbers)
-    (keep : FunctionsKeep M) (keep_main : MainKeeps M) (right : BodiesAreRight) (right_main : MainIsRight) (alike : MainEndsAlike)
+module _ {M : Type 0} (access : Access M) (y : Layout) (machine : Machine M) (words : List Binding → ℕ → Option ℕ) (budget far : ℕ) (p : Program) (numbers : List ℕ)
+    (loaded : IsLoaded access y machine words budget far p numbers) (known : Known M) (keep_main : MainKeeps M) (right_main : MainIsRight) (alike : MainEndsAlike)
     (numbering : IsNumbering p numbers) (input : List ℕ) (actions : List Action) (fit : All (λ a. IsTrue (fits p a)) actions)
     (back i : ℕ) (target : IsTarget back) (ra : reg (machine.run i).regs link_register ≡ back) (begins : Begins access y machine i)
     (stands : Stands access y machine budget far (y.entry p.main) (first_seen p numbers input actions) i) (k : ℕ) where
@@ -45,14 +44,14 @@ module _ {M : Type 0} (access : Access M) (y : Layout) (machine : Machine M) (bu
   abbrev here : slice_get p.functions p.main ≡ Some main
   here = loaded.formed.typed.entry.defined
 
-  abbrev host : IsHost access y machine budget far p numbers
+  abbrev host : IsHost access y machine words budget far p numbers
   host = loaded.host
 
   abbrev setting : Setting
   setting = setting_of numbers p
 
-  abbrev s : IsSelected y machine p numbers p.main main
-  s = loaded.functions p.main main here
+  abbrev s : IsPlain y machine.text words p numbers p.main main
+  s = (loaded.functions p.main main here).plain (loaded.formed.entry main here)
 
   abbrev frame : ir.Frame
   frame = record { depth = 0; live = 0; bound = [] }
@@ -63,15 +62,6 @@ module _ {M : Type 0} (access : Access M) (y : Layout) (machine : Machine M) (bu
   abbrev first : World
   first = first_seen p numbers input actions
 
-  plain : main.attributed ≡ false
-  plain = loaded.formed.entry main here
-
-  is_function : IsFunction y setting false [] s.is_read s.is_fine s.body
-  is_function = subst (λ a. IsFunction y setting a [] s.is_read s.is_fine s.body) plain s.fits
-
-  placed : Placed machine.text s.place y.entry (function_lines y.place y.size s.is_attributed (shape_of false s.body) s.body.code) (y.entry p.main) s.next
-  placed = subst (λ a. Placed machine.text s.place y.entry (function_lines y.place y.size s.is_attributed (shape_of a s.body) s.body.code) (y.entry p.main) s.next) plain s.placed
-
   record Followed : Type 0 where
     contents : Contents
     follows : (spare : ℕ) → i + (spare + 44 + (body_from setting frame contents s.body [] below first).cost) ≤ budget → far ≤ i + length below →
@@ -80,9 +70,9 @@ module _ {M : Type 0} (access : Access M) (y : Layout) (machine : Machine M) (bu
   followed : Followed
   followed =
       let m =
-      keep_main access y host.laid machine host.memory host.runs setting host.entries budget far (serves access y machine budget far p numbers loaded keep right) below
-      (all_keep access y machine budget far p numbers loaded keep right k) [] s.is_read s.is_fine s.body is_function (s.params ∙ loaded.formed.typed.entry.bare) s.place s.linked s.is_attributed
-      (y.entry p.main) s.next placed back i target ra in
+      keep_main access y host.laid machine host.memory host.runs setting host.entries budget far host.serves below
+      (all_keep access y machine words budget far p numbers loaded known k) [] s.is_read s.is_fine s.body s.fits (s.params ∙ loaded.formed.typed.entry.bare) s.place s.linked s.is_attributed
+      (y.entry p.main) s.next s.placed back i target ra in
       record { contents = m.0; follows = λ spare paid asked. m.1 spare first stands begins paid asked }
 
   pub main_follows : (c : Call)

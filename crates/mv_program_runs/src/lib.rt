@@ -4,24 +4,44 @@
 //! told by the source's meaning (`mv_source_calls`), so the induction over calls needs nothing of what a callee's frame holds.
 #![tactic(auto)]
 
-ghost use Rattle.mv_program_runs.specs.Laws.{FunctionsKeepConvention, MainFollows};
+ghost use Rattle.mv_program_runs.specs.Laws.{FunctionsKeepConvention, HostsAreNarrowed, MainFollows, MainFollowsOpenly};
 
+use mv_fit_worlds::{fit_frames_law, fit_worlds_law};
 use mv_function_code::function_code_law;
-use mv_source_calls::{bodies_are_right, main_ends_alike, main_is_right};
+use mv_narrow_runs::{inline_bodies_law, narrow_runs_law};
+use mv_source_calls::{bodies_are_right, calls_keep_bindings, main_ends_alike, main_is_right};
 
 /// The code of a well-formed program does what the program means, over any memory `M`, where the code of each function stands on a machine for the program.
-/// No function is ever bound there, and orders and polls aren't asked for. The call does nothing: its contract is the law.
+/// Its attributed functions may be bound and freed: text shows the bindings, at entries and at slots. The call does nothing: its contract is the law.
 ///
 /// `functions`: at every bound all functions keep the calling convention: called at its entry or at a slot, each does what it does by the source's meaning
-/// (C11 6.5.2.2). `main`: under each numbering of the functions, on each input, with all actions of the operator that fit, and at each bound, the main
-/// function, begun in the program's first world, does what some call means that comes to the output, bytes taken, end, bindings and log of the program
-/// (C11 5.1.2.3), and ends as the lowered program does, with a value where it returns. It takes at most 44 instructions more than the call costs, which is at most 20 and 100 for one of work.
+/// (C11 6.5.2.2), whatever it is bound to. `main`: under each numbering of the functions, on each input, with all actions of the operator that fit, and at
+/// each bound, the main function, begun in the program's first world, does what some call means that comes to the output, bytes taken, end, bindings and log
+/// of the program (C11 5.1.2.3), and ends as the lowered program does, with a value where it returns. It takes at most 44 instructions more than the call
+/// costs, which is at most 20 and 100 for one of work.
 pub fn programs_keep<M>()
     ensures functions { FunctionsKeepConvention M }
     ensures main { MainFollows M }
 {
     function_code_law::<M>();
+    narrow_runs_law::<M>();
+    inline_bodies_law::<M>();
+    fit_frames_law();
     bodies_are_right();
+    calls_keep_bindings();
     main_is_right();
     main_ends_alike();
+}
+
+/// So it does on a machine of which nothing is known of the worlds in which it is calm, where the stub serves orders and polls in fit ones: each binding is to
+/// values of the domains, and the actions that are left fit. The call does nothing: its contract is the law.
+///
+/// `narrowed`: where only fit worlds count as calm, it is such a machine. `main`: so the main function does on it what `programs_keep` says.
+pub fn programs_keep_openly<M>()
+    ensures narrowed { HostsAreNarrowed M }
+    ensures main { MainFollowsOpenly M }
+{
+    programs_keep::<M>();
+    fit_worlds_law();
+    narrow_runs_law::<M>();
 }

@@ -3,10 +3,42 @@ use Rattle.mv_program_runs.proofs.MainFunction.{main_follows}
 use Rattle.mv_program_runs.proofs.programs_keep.Goals as goal
 
 pub returns-clause-functions : goal.returns-clause-functions
-returns-clause-functions g c access y machine budget far p numbers loaded bound =
-    all_keep access y machine budget far p numbers loaded c.function_code_law.ensures.each c.bodies_are_right.ensures bound
+returns-clause-functions g c access y machine words budget far p numbers loaded bound =
+    all_keep access y machine words budget far p numbers loaded
+    (record {
+      each = c.function_code_law.ensures.each;
+      later = c.function_code_law.ensures.later;
+      right = c.bodies_are_right.ensures;
+      bindings = c.calls_keep_bindings.ensures;
+      free_or_bound = c.fit_frames_law.ensures.functions;
+      frames_free = c.fit_frames_law.ensures.free;
+      frames_bound = c.fit_frames_law.ensures.bound;
+      told = c.narrow_runs_law.ensures.told;
+      alike = c.narrow_runs_law.ensures.alike;
+      narrowed = c.narrow_runs_law.ensures.runs;
+      slots = c.narrow_runs_law.ensures.slots;
+      jumps = c.narrow_runs_law.ensures.jumps;
+      firsts = c.narrow_runs_law.ensures.firsts;
+      inlines = c.inline_bodies_law.ensures;
+    }) bound
 
 pub returns-clause-main : goal.returns-clause-main
-returns-clause-main g c access y machine budget far p numbers loaded numbering input actions fit back i target ra begins stands bound =
-    main_follows access y machine budget far p numbers loaded c.function_code_law.ensures.each c.function_code_law.ensures.main c.bodies_are_right.ensures c.main_is_right.ensures c.main_ends_alike.ensures
+returns-clause-main g c access y machine words budget far p numbers loaded numbering input actions fit back i target ra begins stands bound =
+    main_follows access y machine words budget far p numbers loaded
+    (record {
+      each = c.function_code_law.ensures.each;
+      later = c.function_code_law.ensures.later;
+      right = c.bodies_are_right.ensures;
+      bindings = c.calls_keep_bindings.ensures;
+      free_or_bound = c.fit_frames_law.ensures.functions;
+      frames_free = c.fit_frames_law.ensures.free;
+      frames_bound = c.fit_frames_law.ensures.bound;
+      told = c.narrow_runs_law.ensures.told;
+      alike = c.narrow_runs_law.ensures.alike;
+      narrowed = c.narrow_runs_law.ensures.runs;
+      slots = c.narrow_runs_law.ensures.slots;
+      jumps = c.narrow_runs_law.ensures.jumps;
+      firsts = c.narrow_runs_law.ensures.firsts;
+      inlines = c.inline_bodies_law.ensures;
+    }) c.function_code_law.ensures.main c.main_is_right.ensures c.main_ends_alike.ensures
     numbering input actions fit back i target ra begins stands bound

@@ -19,6 +19,17 @@ returns c = built_behaves laws
       sizes_are_counts = c.data_law.ensures.sizes;
       start_is_right = c.start_is_right.ensures;
       images_behave = c.images_behave.ensures;
-      main_follows = follows c.bodies_are_right.ensures c.main_is_right.ensures c.main_ends_alike.ensures;
+      main_follows = follows (record {
+        right = c.bodies_are_right.ensures;
+        right_main = c.main_is_right.ensures;
+        alike = c.main_ends_alike.ensures;
+        bindings = c.calls_keep_bindings.ensures;
+        free_or_bound = c.fit_frames_law.ensures.functions;
+        frames_free = c.fit_frames_law.ensures.free;
+        frames_bound = c.fit_frames_law.ensures.bound;
+        told = c.fit_worlds_law.ensures.told;
+        knowns = c.fit_worlds_law.ensures.knowns;
+        first = c.fit_worlds_law.ensures.first;
+      });
       ends_are_reached = c.ends_are_reached.ensures;
     }

@@ -38,12 +38,12 @@ module _ {M : Type 0} (access : Access M) (y : Layout) (laid : IsLaid y) (machin
 
   -- ---- steps that leave memory alone
 
-  record Stepped (pc : ℕ) (regs : List ℕ) (w : World) (i : ℕ) : Type 0 where
-    registers : (machine.run (i + 1)).regs ≡ regs
-    memory : (machine.run (i + 1)).memory ≡ (machine.run i).memory
-    stands : At pc w (i + 1)
+  pub record Stepped (pc : ℕ) (regs : List ℕ) (w : World) (i : ℕ) : Type 0 where
+    pub registers : (machine.run (i + 1)).regs ≡ regs
+    pub memory : (machine.run (i + 1)).memory ≡ (machine.run i).memory
+    pub stands : At pc w (i + 1)
 
-  stepped : (pc to : ℕ) (regs : List ℕ) (w : World) (i : ℕ) → AreRegisters regs → Leads access machine.text.word (machine.run i).memory (machine.run i).regs pc regs to → At pc w i → Stepped to regs w i
+  pub stepped : (pc to : ℕ) (regs : List ℕ) (w : World) (i : ℕ) → AreRegisters regs → Leads access machine.text.word (machine.run i).memory (machine.run i).regs pc regs to → At pc w i → Stepped to regs w i
   stepped pc to regs w i are leads h = record {
     registers = ap (λ (x : Spot M). x.regs) a.is;
     memory = same;
@@ -66,16 +66,16 @@ module _ {M : Type 0} (access : Access M) (y : Layout) (laid : IsLaid y) (machin
 
   -- ---- the two instructions of a slot
 
-  module _ (f at : ℕ) (slot : SlotStands machine.text.word at (at + 8) (y.entry f)) (here : IsPlace at) (there : IsPlace (y.entry f)) where
-    does : (m : M) (regs : List ℕ) → length regs ≡ 32 → LineRuns access machine.text.word m at (at + 8) (y.entry f) regs (line.Slot f)
-    does m regs count = line_runs access m machine.text.word y.entry y.entry at (at + 8) (line.Slot f) slot tt here there regs count
+  module _ (to at : ℕ) (slot : SlotStands machine.text.word at (at + 8) to) (here : IsPlace at) (there : IsPlace to) where
+    does : (m : M) (regs : List ℕ) → length regs ≡ 32 → LineRuns access machine.text.word m at (at + 8) to regs (line.Slot 0)
+    does m regs count = line_runs access m machine.text.word (λ g. to) (λ g. to) at (at + 8) (line.Slot 0) slot tt here there regs count
 
     behind : at + 4 < 2 ^ 32
     behind = omega (arith, here.1)
 
-    goes : (w : World) (i : ℕ) → At at w i → Stepped (y.entry f) (put (machine.run i).regs link_register (at + 4)) w i
+    goes : (w : World) (i : ℕ) → At at w i → Stepped to (put (machine.run i).regs link_register (at + 4)) w i
     goes w i h =
-        stepped at (y.entry f) (put (machine.run i).regs link_register (at + 4)) w i (put_registers (machine.run i).regs link_register (at + 4) h.are (omega arith) (omega arith) behind)
+        stepped at to (put (machine.run i).regs link_register (at + 4)) w i (put_registers (machine.run i).regs link_register (at + 4) h.are (omega arith) (omega arith) behind)
         (does (machine.run i).memory (machine.run i).regs h.are.count).0 h
 
     comes : (w : World) (j : ℕ) → At (at + 4) w j → Stepped (at + 8) (machine.run j).regs w j
@@ -128,7 +128,7 @@ module _ {M : Type 0} (access : Access M) (y : Layout) (laid : IsLaid y) (machin
 
     -- A slot answers where its function does.
     pub slot_answers : (k depth frames : ℕ) (args : List ℕ) (call : World → Call) →
-        ((back j : ℕ) → IsTarget back → reg (machine.run j).regs link_register ≡ back → Answers access y machine budget far entry_cost k (y.entry f) back depth frames args call j) →
+        ((back j : ℕ) → IsTarget back → reg (machine.run j).regs link_register ≡ back → Answers access y machine budget far entry_cost k to back depth frames args call j) →
         (i : ℕ) → Answers access y machine budget far slot_cost k at (at + 8) depth frames args call i
     slot_answers k depth frames args call answers i spare w stands enters paid asked =
         follows w i stands spare k (call w).end

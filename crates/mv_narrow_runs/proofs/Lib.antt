@@ -1,0 +1,5 @@
+pub mod Slots
+pub mod Narrow
+pub mod Bindings
+pub mod Forms
+pub mod Inline
