@@ -4,6 +4,7 @@ use Rattle.std.proofs.lemmas.Bool.{eqb-true, leb-true, ltb-true}
 use Rattle.mv_image.specs.Places.{text_words, data_words, switch_rows, function_rows, variant_rows, guard_rows, site_rows}
 use Rattle.mv_image.specs.Rules.{header_fits, is_text_address, is_data_address}
 use Rattle.mv_image.specs.WellFormed.{IsInText, IsInData}
+use Rattle.mv_image.specs.Format.{IsWithin}
 use Rattle.mv_image.specs.Spelling.{Fields}
 use Rattle.mv_image.specs.Faults.{Rules, image_words}
 use Rattle.mv_image.proofs.PlaceLaws.{first_true, second_true}
@@ -59,17 +60,6 @@ guards_most ws h = leb-true _ _ (first_true _ _ h)
 sites_most : (ws : List ℕ) → header_fits ws 9 ≡ true → site_rows ws ≤ 16384
 unfolding header_fits
 sites_most ws h = leb-true _ _ h
-
-pub record IsWithin (a : Fields) : Type 0 where
-  pub some_text : 1 ≤ length a.text
-  pub text : length a.text ≤ 131072
-  pub globals : length a.globals ≤ 262144
-  pub switches : length a.switches ≤ 64
-  pub functions : length a.functions ≤ 1000
-  pub variants : length a.variants ≤ 64000
-  pub guards : length a.guards ≤ 64000
-  pub sites : length a.sites ≤ 16384
-  pub entry : IsInText a a.entry
 
 pub is_within : (a : Fields) → Rules a → IsWithin a
 is_within a r =

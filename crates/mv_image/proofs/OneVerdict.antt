@@ -14,6 +14,7 @@ use Rattle.mv_descriptors.specs.declared.rows.FunctionRow.{FunctionRow}
 use Rattle.mv_descriptors.specs.declared.rows.VariantRow.{VariantRow}
 use Rattle.mv_descriptors.specs.declared.rows.GuardRow.{GuardRow}
 use Rattle.mv_descriptors.specs.declared.rows.SiteRow.{SiteRow}
+use Rattle.mv_image.specs.Places.{header_words}
 use Rattle.mv_image.specs.declared.fault.ImageError.{ImageError}
 use Rattle.mv_image.specs.declared.fault.ImageError.TheVariants.{Memory, Truncated, BadField, Trailing}
 use Rattle.mv_image.specs.Spelling.{Fields, joined, header_of, words_in, names_in, spelling}
@@ -137,7 +138,7 @@ regrouped a rest = simp append_assoc
 
 header_same : (a b : Fields) (x y : List ℕ) → header_of a ++ x ≡ header_of b ++ y → (header_of a ≡ header_of b) × (x ≡ y)
 unfolding header_of
-header_same a b x y e = parted 12 (header_of a) (header_of b) x y refl refl e
+header_same a b x y e = parted header_words (header_of a) (header_of b) x y refl refl e
 
 record Counts (a b : Fields) : Type 0 where
   entry : a.entry ≡ b.entry

@@ -1,21 +1,20 @@
 -- What rows keep by their own fields.
-use Rattle.std.proofs.Common.{◌≡◌, ℕ, ◌+◌, ◌-◌, ◌/◌, ◌<◌, ◌≤◌, true, false, ltb, eqb, ◌||◌, ◌&&◌, List, [], ◌∷◌, length, slice_index, get_or, All, refl, sym, ap, subst, ◌∙◌, arith}
+use Rattle.std.proofs.Common.{◌≡◌, ℕ, ◌+◌, ◌-◌, ◌<◌, ◌≤◌, true, false, ltb, eqb, ◌||◌, ◌&&◌, List, [], ◌∷◌, length, slice_index, get_or, All, refl, sym, ap, subst, ◌∙◌, arith}
 use Rattle.std.proofs.lemmas.Bool.{lt-ltb, ne_eqb, eqb-true, leb-true, ltb-true}
 use Rattle.mv_num.specs.Kinds.{kind_number, is_value}
 use Rattle.mv_descriptors.specs.declared.rows.SwitchRow.{SwitchRow}
 use Rattle.mv_descriptors.specs.declared.rows.FunctionRow.{FunctionRow}
 use Rattle.mv_descriptors.specs.declared.rows.VariantRow.{VariantRow}
 use Rattle.mv_descriptors.specs.declared.rows.SiteRow.{SiteRow}
-use Rattle.mv_image.specs.Places.{switch_rows, function_rows, variant_rows, data_at, switch_field, function_field, variant_field, site_field, entry_of, text_word}
+use Rattle.mv_image.specs.Places.{switch_rows, function_rows, variant_rows, switch_field, function_field, variant_field, site_field, entry_of, text_word}
 use Rattle.mv_image.specs.Rules.{is_text_address, is_data_address, switch_fits, function_fits, variant_fits, site_fits}
 use Rattle.mv_image.specs.Jumps.{nop, jump}
 use Rattle.mv_image.specs.Spelling.{Fields}
 use Rattle.mv_image.specs.Faults.{Rules, image_words}
 use Rattle.mv_image.specs.WellFormed.{IsInText, IsInData, FitsSwitch, FitsFunction, FitsVariant, FitsSite}
 use Rattle.mv_image.proofs.PlaceLaws.{first_true, second_true}
-use Rattle.mv_image.proofs.WhatIsRead.{data_from}
-use Rattle.mv_image.proofs.RowReads.{index_range, switch_rule, function_rule, variant_rule, site_rule}
-use Rattle.mv_image.proofs.RowsStand.{counts_of, image_fits, behind, text_is, switch_is, function_is, variant_is, site_is, function_variants, variant_guards, function_switch_is}
+use Rattle.mv_image.proofs.RowReads.{switch_rule, function_rule, variant_rule, site_rule}
+use Rattle.mv_image.proofs.RowsStand.{counts_of, image_fits, image_stands, behind, text_word_stands, switch_is, function_is, variant_is, site_is, function_variants, variant_guards, function_switch_is}
 use Rattle.mv_image.proofs.Limits.{in_text, in_data}
 
 -- ---- switches
@@ -195,15 +194,6 @@ site_says ws k h = record {
   pad = eqb-true _ _ (second_true _ _ h);
 }
 
--- the word of text at an address
-text_word_is : (a : Fields) → Rules a → (x : ℕ) → IsInText a x → text_word (image_words a) x ≡ slice_index a.text ((x - 4096) / 4)
-unfolding text_word
-text_word_is a r x within =
-    let ws : List ℕ = image_words a in
-    let n = counts_of a r in
-    sym (ap (λ (t : List ℕ). slice_index t ((x - 4096) / 4)) (sym (text_is a r))
-    ∙ index_range ws 12 (data_at ws) ((x - 4096) / 4) (omega (arith, n.text, data_from ws, within.not_before, within.within, within.aligned)))
-
 pub sites_fit : (a : Fields) → Rules a → All (FitsSite a) a.sites
 sites_fit a r k d lt =
     let ws : List ℕ = image_words a in
@@ -221,8 +211,8 @@ sites_fit a r k d lt =
       address = first;
       next = second;
       function = below;
-      call = λ e. sym (text_word_is a r row.address first) ∙ ap (text_word ws) (sym f0) ∙ says.call
+      call = λ e. sym (text_word_stands ws a (image_stands a r) row.address first) ∙ ap (text_word ws) (sym f0) ∙ says.call
           ∙ ap (λ (x : ℕ). jump 1 x (entry_of ws (site_field ws k 1))) f0 ∙ ap (λ (f : ℕ). jump 1 row.address (entry_of ws f)) f1
           ∙ ap (jump 1 row.address) (function_is a r row.function 1 e below (omega arith));
-      pad = sym (text_word_is a r (row.address + 4) second) ∙ ap (λ (x : ℕ). text_word ws (x + 4)) (sym f0) ∙ says.pad;
+      pad = sym (text_word_stands ws a (image_stands a r) (row.address + 4) second) ∙ ap (λ (x : ℕ). text_word ws (x + 4)) (sym f0) ∙ says.pad;
     }

@@ -1,9 +1,10 @@
 -- Where the rows of an image stand among its words.
-use Rattle.std.proofs.Common.{◌≡◌, ℕ, zero, suc, ◌+◌, ◌-◌, ◌*◌, ◌<◌, List, [], ◌∷◌, ◌++◌, length, take, drop, slice_index, get_or, slice_range, refl, sym, ap, subst, ◌∙◌, arith, All, append_assoc}
+use Rattle.std.proofs.Common.{◌≡◌, ℕ, zero, suc, ◌+◌, ◌-◌, ◌*◌, ◌/◌, ◌<◌, List, [], ◌∷◌, ◌++◌, length, take, drop, slice_index, get_or, slice_range, refl, sym, ap, subst, ◌∙◌, arith, All, append_assoc}
 use Rattle.std.specs.List.{flat_map}
 use Rattle.std.proofs.lemmas.List.{take_at, drop_at, length-append}
 use Rattle.std.proofs.lemmas.List.Concat.{flat_map-cons}
-use Rattle.mv_num.specs.Bytes.{words_of}
+use Rattle.mv_num.specs.Bytes.{words_of, AreWords}
+use Rattle.mv_num.specs.Kinds.{kind_number}
 use Rattle.mv_descriptors.specs.Widths.{switch_words, function_words, variant_words, guard_words, site_words, SwitchWhole, FunctionWhole, VariantWhole, GuardWhole, SiteWhole}
 use Rattle.mv_descriptors.specs.WidthLaws.{switch_width, function_width, variant_width, guard_width, site_width}
 use Rattle.mv_descriptors.specs.declared.rows.SwitchRow.{SwitchRow}
@@ -11,10 +12,13 @@ use Rattle.mv_descriptors.specs.declared.rows.FunctionRow.{FunctionRow}
 use Rattle.mv_descriptors.specs.declared.rows.VariantRow.{VariantRow}
 use Rattle.mv_descriptors.specs.declared.rows.GuardRow.{GuardRow}
 use Rattle.mv_descriptors.specs.declared.rows.SiteRow.{SiteRow}
-use Rattle.mv_image.specs.Places.{data_at, switches_at, functions_at, variants_at, guards_at, sites_at, switch_field, function_field, variant_field, guard_field, site_field, variants_of, guards_of}
+use Rattle.mv_image.specs.Places.{header_words, data_at, switches_at, functions_at, variants_at, guards_at, sites_at, words_end, switch_field, function_field, variant_field, guard_field, site_field, variants_of, guards_of, text_word}
 use Rattle.mv_image.specs.Spelling.{Fields, header_of, words_in, names_in, spelling}
 use Rattle.mv_image.specs.Faults.{AllFit, Rules, Counts, image_words}
-use Rattle.mv_image.proofs.RowRules.{functions_from, variants_from, guards_from, sites_from}
+use Rattle.mv_image.specs.Format.{HasWidths}
+use Rattle.mv_image.specs.WellFormed.{IsInText}
+use Rattle.mv_image.proofs.RowRules.{functions_from, variants_from, guards_from, sites_from, end_from}
+use Rattle.mv_image.proofs.RowReads.{index_range}
 use Rattle.mv_image.proofs.WhatIsRead.{data_from, switches_after, all_fit}
 use Rattle.mv_image.proofs.OneVerdict.{words_in_front, flat_length, all_tail, all_head, whole_switches, whole_functions, whole_variants}
 
@@ -54,112 +58,116 @@ row_word f Whole w size (x ∷ rows) whole front rest (suc k) j i d hk hj e =
 
 -- ---- the words before each table
 
-abbrev front2 : Fields → List ℕ
-front2 a = header_of a ++ a.text ++ a.globals
+abbrev before_switches : Fields → List ℕ
+before_switches a = header_of a ++ a.text ++ a.globals
 
-abbrev front3 : Fields → List ℕ
-front3 a = front2 a ++ flat_map switch_words a.switches
+abbrev before_functions : Fields → List ℕ
+before_functions a = before_switches a ++ flat_map switch_words a.switches
 
-abbrev front4 : Fields → List ℕ
-front4 a = front3 a ++ flat_map function_words a.functions
+abbrev before_variants : Fields → List ℕ
+before_variants a = before_functions a ++ flat_map function_words a.functions
 
-abbrev front5 : Fields → List ℕ
-front5 a = front4 a ++ flat_map variant_words a.variants
+abbrev before_guards : Fields → List ℕ
+before_guards a = before_variants a ++ flat_map variant_words a.variants
 
-abbrev front6 : Fields → List ℕ
-front6 a = front5 a ++ flat_map guard_words a.guards
+abbrev before_sites : Fields → List ℕ
+before_sites a = before_guards a ++ flat_map guard_words a.guards
 
-length2 : (a : Fields) (x : List ℕ) → length (front2 a) ≡ switches_at (words_in a ++ x)
+switches_length : (a : Fields) (x : List ℕ) → length (before_switches a) ≡ switches_at (words_in a ++ x)
 unfolding header_of
-length2 a x =
+switches_length a x =
     let n = counts_are a x in
     omega (arith, n.text, n.globals, data_from (words_in a ++ x), switches_after (words_in a ++ x), length-append (header_of a ++ a.text) a.globals, length-append (header_of a) a.text)
 
-length3 : (a : Fields) (x : List ℕ) → Rules a → length (front3 a) ≡ functions_at (words_in a ++ x)
-length3 a x r =
+functions_length : (a : Fields) (x : List ℕ) → HasWidths a → length (before_functions a) ≡ functions_at (words_in a ++ x)
+functions_length a x r =
     let n = counts_are a x in
-    omega (arith, n.switches, length2 a x, functions_from (words_in a ++ x), length-append (front2 a) (flat_map switch_words a.switches), flat_length switch_words SwitchWhole 20 switch_width a.switches (whole_switches a r))
+    omega (arith, n.switches, switches_length a x, functions_from (words_in a ++ x), length-append (before_switches a) (flat_map switch_words a.switches), flat_length switch_words SwitchWhole 20 switch_width a.switches r.switches)
 
-length4 : (a : Fields) (x : List ℕ) → Rules a → length (front4 a) ≡ variants_at (words_in a ++ x)
-length4 a x r =
+variants_length : (a : Fields) (x : List ℕ) → HasWidths a → length (before_variants a) ≡ variants_at (words_in a ++ x)
+variants_length a x r =
     let n = counts_are a x in
-    omega (arith, n.functions, length3 a x r, variants_from (words_in a ++ x), length-append (front3 a) (flat_map function_words a.functions), flat_length function_words FunctionWhole 10 function_width a.functions (whole_functions a r))
+    omega (arith, n.functions, functions_length a x r, variants_from (words_in a ++ x), length-append (before_functions a) (flat_map function_words a.functions), flat_length function_words FunctionWhole 10 function_width a.functions r.functions)
 
-length5 : (a : Fields) (x : List ℕ) → Rules a → length (front5 a) ≡ guards_at (words_in a ++ x)
-length5 a x r =
+guards_length : (a : Fields) (x : List ℕ) → HasWidths a → length (before_guards a) ≡ guards_at (words_in a ++ x)
+guards_length a x r =
     let n = counts_are a x in
-    omega (arith, n.variants, length4 a x r, guards_from (words_in a ++ x), length-append (front4 a) (flat_map variant_words a.variants), flat_length variant_words VariantWhole 5 variant_width a.variants (whole_variants a r))
+    omega (arith, n.variants, variants_length a x r, guards_from (words_in a ++ x), length-append (before_variants a) (flat_map variant_words a.variants), flat_length variant_words VariantWhole 5 variant_width a.variants r.variants)
 
-length6 : (a : Fields) (x : List ℕ) → Rules a → length (front6 a) ≡ sites_at (words_in a ++ x)
-length6 a x r =
+sites_length : (a : Fields) (x : List ℕ) → HasWidths a → length (before_sites a) ≡ sites_at (words_in a ++ x)
+sites_length a x r =
     let n = counts_are a x in
-    omega (arith, n.guards, length5 a x r, sites_from (words_in a ++ x), length-append (front5 a) (flat_map guard_words a.guards), flat_length guard_words GuardWhole 12 guard_width a.guards r.guards)
+    omega (arith, n.guards, guards_length a x r, sites_from (words_in a ++ x), length-append (before_guards a) (flat_map guard_words a.guards), flat_length guard_words GuardWhole 12 guard_width a.guards r.guards)
 
-words2 : (a : Fields) (x : List ℕ) → words_in a ++ x ≡ front2 a ++ (flat_map switch_words a.switches ++ (flat_map function_words a.functions ++ flat_map variant_words a.variants ++ flat_map guard_words a.guards ++ flat_map site_words a.sites ++ x))
+switches_split : (a : Fields) (x : List ℕ) → words_in a ++ x ≡ before_switches a ++ (flat_map switch_words a.switches ++ (flat_map function_words a.functions ++ flat_map variant_words a.variants ++ flat_map guard_words a.guards ++ flat_map site_words a.sites ++ x))
 unfolding words_in
-words2 a x = simp append_assoc
+switches_split a x = simp append_assoc
 
-words3 : (a : Fields) (x : List ℕ) → words_in a ++ x ≡ front3 a ++ (flat_map function_words a.functions ++ (flat_map variant_words a.variants ++ flat_map guard_words a.guards ++ flat_map site_words a.sites ++ x))
+functions_split : (a : Fields) (x : List ℕ) → words_in a ++ x ≡ before_functions a ++ (flat_map function_words a.functions ++ (flat_map variant_words a.variants ++ flat_map guard_words a.guards ++ flat_map site_words a.sites ++ x))
 unfolding words_in
-words3 a x = simp append_assoc
+functions_split a x = simp append_assoc
 
-words4 : (a : Fields) (x : List ℕ) → words_in a ++ x ≡ front4 a ++ (flat_map variant_words a.variants ++ (flat_map guard_words a.guards ++ flat_map site_words a.sites ++ x))
+variants_split : (a : Fields) (x : List ℕ) → words_in a ++ x ≡ before_variants a ++ (flat_map variant_words a.variants ++ (flat_map guard_words a.guards ++ flat_map site_words a.sites ++ x))
 unfolding words_in
-words4 a x = simp append_assoc
+variants_split a x = simp append_assoc
 
-words5 : (a : Fields) (x : List ℕ) → words_in a ++ x ≡ front5 a ++ (flat_map guard_words a.guards ++ (flat_map site_words a.sites ++ x))
+guards_split : (a : Fields) (x : List ℕ) → words_in a ++ x ≡ before_guards a ++ (flat_map guard_words a.guards ++ (flat_map site_words a.sites ++ x))
 unfolding words_in
-words5 a x = simp append_assoc
+guards_split a x = simp append_assoc
 
-words6 : (a : Fields) (x : List ℕ) → words_in a ++ x ≡ front6 a ++ (flat_map site_words a.sites ++ x)
+sites_split : (a : Fields) (x : List ℕ) → words_in a ++ x ≡ before_sites a ++ (flat_map site_words a.sites ++ x)
 unfolding words_in
-words6 a x = simp append_assoc
+sites_split a x = simp append_assoc
 
-pub switch_stands : (a : Fields) (x : List ℕ) → Rules a → (k j : ℕ) (d : SwitchRow) → k < length a.switches → j < 20 → switch_field (words_in a ++ x) k j ≡ slice_index (switch_words (get_or a.switches k d)) j
+sites_last : (a : Fields) → words_in a ≡ before_sites a ++ flat_map site_words a.sites
+unfolding words_in
+sites_last a = simp append_assoc
+
+pub switch_stands : (a : Fields) (x : List ℕ) → HasWidths a → (k j : ℕ) (d : SwitchRow) → k < length a.switches → j < 20 → switch_field (words_in a ++ x) k j ≡ slice_index (switch_words (get_or a.switches k d)) j
 unfolding switch_field
 switch_stands a x r k j d hk hj =
-    ap (λ (t : List ℕ). slice_index t (switches_at (words_in a ++ x) + 20 * k + j)) (words2 a x)
-    ∙ row_word switch_words SwitchWhole 20 switch_width a.switches (whole_switches a r) (front2 a) _ k j (switches_at (words_in a ++ x) + 20 * k + j) d hk hj (omega (arith, length2 a x))
+    ap (λ (t : List ℕ). slice_index t (switches_at (words_in a ++ x) + 20 * k + j)) (switches_split a x)
+    ∙ row_word switch_words SwitchWhole 20 switch_width a.switches r.switches (before_switches a) _ k j (switches_at (words_in a ++ x) + 20 * k + j) d hk hj (omega (arith, switches_length a x))
 
-pub function_stands : (a : Fields) (x : List ℕ) → Rules a → (k j : ℕ) (d : FunctionRow) → k < length a.functions → j < 10 → function_field (words_in a ++ x) k j ≡ slice_index (function_words (get_or a.functions k d)) j
+pub function_stands : (a : Fields) (x : List ℕ) → HasWidths a → (k j : ℕ) (d : FunctionRow) → k < length a.functions → j < 10 → function_field (words_in a ++ x) k j ≡ slice_index (function_words (get_or a.functions k d)) j
 unfolding function_field
 function_stands a x r k j d hk hj =
-    ap (λ (t : List ℕ). slice_index t (functions_at (words_in a ++ x) + 10 * k + j)) (words3 a x)
-    ∙ row_word function_words FunctionWhole 10 function_width a.functions (whole_functions a r) (front3 a) _ k j (functions_at (words_in a ++ x) + 10 * k + j) d hk hj (omega (arith, length3 a x r))
+    ap (λ (t : List ℕ). slice_index t (functions_at (words_in a ++ x) + 10 * k + j)) (functions_split a x)
+    ∙ row_word function_words FunctionWhole 10 function_width a.functions r.functions (before_functions a) _ k j (functions_at (words_in a ++ x) + 10 * k + j) d hk hj (omega (arith, functions_length a x r))
 
-pub variant_stands : (a : Fields) (x : List ℕ) → Rules a → (k j : ℕ) (d : VariantRow) → k < length a.variants → j < 5 → variant_field (words_in a ++ x) k j ≡ slice_index (variant_words (get_or a.variants k d)) j
+pub variant_stands : (a : Fields) (x : List ℕ) → HasWidths a → (k j : ℕ) (d : VariantRow) → k < length a.variants → j < 5 → variant_field (words_in a ++ x) k j ≡ slice_index (variant_words (get_or a.variants k d)) j
 unfolding variant_field
 variant_stands a x r k j d hk hj =
-    ap (λ (t : List ℕ). slice_index t (variants_at (words_in a ++ x) + 5 * k + j)) (words4 a x)
-    ∙ row_word variant_words VariantWhole 5 variant_width a.variants (whole_variants a r) (front4 a) _ k j (variants_at (words_in a ++ x) + 5 * k + j) d hk hj (omega (arith, length4 a x r))
+    ap (λ (t : List ℕ). slice_index t (variants_at (words_in a ++ x) + 5 * k + j)) (variants_split a x)
+    ∙ row_word variant_words VariantWhole 5 variant_width a.variants r.variants (before_variants a) _ k j (variants_at (words_in a ++ x) + 5 * k + j) d hk hj (omega (arith, variants_length a x r))
 
-pub guard_stands : (a : Fields) (x : List ℕ) → Rules a → (k j : ℕ) (d : GuardRow) → k < length a.guards → j < 12 → guard_field (words_in a ++ x) k j ≡ slice_index (guard_words (get_or a.guards k d)) j
+pub guard_stands : (a : Fields) (x : List ℕ) → HasWidths a → (k j : ℕ) (d : GuardRow) → k < length a.guards → j < 12 → guard_field (words_in a ++ x) k j ≡ slice_index (guard_words (get_or a.guards k d)) j
 unfolding guard_field
 guard_stands a x r k j d hk hj =
-    ap (λ (t : List ℕ). slice_index t (guards_at (words_in a ++ x) + 12 * k + j)) (words5 a x)
-    ∙ row_word guard_words GuardWhole 12 guard_width a.guards r.guards (front5 a) _ k j (guards_at (words_in a ++ x) + 12 * k + j) d hk hj (omega (arith, length5 a x r))
+    ap (λ (t : List ℕ). slice_index t (guards_at (words_in a ++ x) + 12 * k + j)) (guards_split a x)
+    ∙ row_word guard_words GuardWhole 12 guard_width a.guards r.guards (before_guards a) _ k j (guards_at (words_in a ++ x) + 12 * k + j) d hk hj (omega (arith, guards_length a x r))
 
-pub site_stands : (a : Fields) (x : List ℕ) → Rules a → (k j : ℕ) (d : SiteRow) → k < length a.sites → j < 2 → site_field (words_in a ++ x) k j ≡ slice_index (site_words (get_or a.sites k d)) j
+pub site_stands : (a : Fields) (x : List ℕ) → HasWidths a → (k j : ℕ) (d : SiteRow) → k < length a.sites → j < 2 → site_field (words_in a ++ x) k j ≡ slice_index (site_words (get_or a.sites k d)) j
 unfolding site_field
 site_stands a x r k j d hk hj =
-    ap (λ (t : List ℕ). slice_index t (sites_at (words_in a ++ x) + 2 * k + j)) (words6 a x)
-    ∙ row_word site_words SiteWhole 2 site_width a.sites (λ i e lt. tt) (front6 a) _ k j (sites_at (words_in a ++ x) + 2 * k + j) d hk hj (omega (arith, length6 a x r))
+    ap (λ (t : List ℕ). slice_index t (sites_at (words_in a ++ x) + 2 * k + j)) (sites_split a x)
+    ∙ row_word site_words SiteWhole 2 site_width a.sites (λ i e lt. tt) (before_sites a) _ k j (sites_at (words_in a ++ x) + 2 * k + j) d hk hj (omega (arith, sites_length a x r))
 
 text_first : (a : Fields) (x : List ℕ) → words_in a ++ x ≡ header_of a ++ (a.text ++ (a.globals ++ (flat_map switch_words a.switches ++ flat_map function_words a.functions ++ flat_map variant_words a.variants ++ flat_map guard_words a.guards ++ flat_map site_words a.sites ++ x)))
 unfolding words_in
 text_first a x = simp append_assoc
 
-part_is : (front part back : List ℕ) (i j : ℕ) → i ≡ length front → j ≡ length front + length part → slice_range (front ++ (part ++ back)) i j ≡ part
+pub part_is : (front part back : List ℕ) (i j : ℕ) → i ≡ length front → j ≡ length front + length part → slice_range (front ++ (part ++ back)) i j ≡ part
 part_is front part back i j ei ej =
     let m : j - i ≡ length part = omega (arith, ei, ej) in
     ap (λ (n : ℕ). take n (drop i (front ++ (part ++ back)))) m ∙ ap (take (length part)) (drop_at front (part ++ back) i (sym ei)) ∙ take_at part back (length part) refl
 
-pub text_stands : (a : Fields) (x : List ℕ) → slice_range (words_in a ++ x) 12 (data_at (words_in a ++ x)) ≡ a.text
+pub text_stands : (a : Fields) (x : List ℕ) → slice_range (words_in a ++ x) header_words (data_at (words_in a ++ x)) ≡ a.text
 unfolding header_of
 text_stands a x =
     let n = counts_are a x in
-    ap (λ (t : List ℕ). slice_range t 12 (data_at (words_in a ++ x))) (text_first a x)
-    ∙ part_is (header_of a) a.text _ 12 (data_at (words_in a ++ x)) refl (omega (arith, n.text, data_from (words_in a ++ x)))
+    ap (λ (t : List ℕ). slice_range t header_words (data_at (words_in a ++ x))) (text_first a x)
+    ∙ part_is (header_of a) a.text _ header_words (data_at (words_in a ++ x)) refl (omega (arith, n.text, data_from (words_in a ++ x)))
 
 pub globals_stand : (a : Fields) (x : List ℕ) → slice_range (words_in a ++ x) (data_at (words_in a ++ x)) (switches_at (words_in a ++ x)) ≡ a.globals
 unfolding header_of
@@ -169,53 +177,137 @@ globals_stand a x =
     ap (λ (t : List ℕ). slice_range t (data_at (words_in a ++ x)) (switches_at (words_in a ++ x))) (text_first a x ∙ sym (append_assoc (header_of a) a.text _))
     ∙ part_is (header_of a ++ a.text) a.globals _ (data_at (words_in a ++ x)) (switches_at (words_in a ++ x)) (omega (arith, len, n.text, data_from (words_in a ++ x))) (omega (arith, len, n.text, n.globals, data_from (words_in a ++ x), switches_after (words_in a ++ x)))
 
+-- the words of an image are all that stand before the names
+pub words_length : (a : Fields) (x : List ℕ) → HasWidths a → words_end (words_in a ++ x) ≡ length (words_in a)
+words_length a x w =
+    let n = counts_are a x in
+    let len : length (before_sites a ++ flat_map site_words a.sites) ≡ length (words_in a) = ap length (sym (sites_last a)) in
+    omega (arith, len, n.sites, sites_length a x w, end_from (words_in a ++ x), length-append (before_sites a) (flat_map site_words a.sites), flat_length site_words SiteWhole 2 site_width a.sites (λ i e lt. tt))
+
+-- ---- words in which the fields stand
+
+-- The numbers of the header are those of the lists, and text, data and rows stand at their places.
+pub record StandIn (ws : List ℕ) (a : Fields) : Type 0 where
+  pub counts : Counts ws a
+  pub text : slice_range ws header_words (data_at ws) ≡ a.text
+  pub globals : slice_range ws (data_at ws) (switches_at ws) ≡ a.globals
+  pub switch : (k j : ℕ) (d : SwitchRow) → k < length a.switches → j < 20 → switch_field ws k j ≡ slice_index (switch_words (get_or a.switches k d)) j
+  pub function : (k j : ℕ) (d : FunctionRow) → k < length a.functions → j < 10 → function_field ws k j ≡ slice_index (function_words (get_or a.functions k d)) j
+  pub variant : (k j : ℕ) (d : VariantRow) → k < length a.variants → j < 5 → variant_field ws k j ≡ slice_index (variant_words (get_or a.variants k d)) j
+  pub guard : (k j : ℕ) (d : GuardRow) → k < length a.guards → j < 12 → guard_field ws k j ≡ slice_index (guard_words (get_or a.guards k d)) j
+  pub site : (k j : ℕ) (d : SiteRow) → k < length a.sites → j < 2 → site_field ws k j ≡ slice_index (site_words (get_or a.sites k d)) j
+  pub whole : HasWidths a
+
+-- the fields of an image whose rows are whole stand in its words, whatever follows
+pub fields_stand : (a : Fields) (x : List ℕ) → HasWidths a → StandIn (words_in a ++ x) a
+fields_stand a x w = record {
+  counts = counts_are a x;
+  text = text_stands a x;
+  globals = globals_stand a x;
+  switch = switch_stands a x w;
+  function = function_stands a x w;
+  variant = variant_stands a x w;
+  guard = guard_stands a x w;
+  site = site_stands a x w;
+  whole = w;
+}
+
+pub variants_stand : (ws : List ℕ) (a : Fields) → StandIn ws a → (k : ℕ) (d : FunctionRow) → k < length a.functions → variants_of ws k ≡ (get_or a.functions k d).variants
+variants_stand ws a s k d lt =
+    let row : FunctionRow = get_or a.functions k d in
+    let whole : length row.switches ≡ 6 = s.whole.functions k d lt in
+    s.function k 9 d lt (omega arith) ∙ behind row.switches (row.variants ∷ []) 6 0 (omega (arith, whole))
+
+pub guards_stand : (ws : List ℕ) (a : Fields) → StandIn ws a → (k : ℕ) (d : VariantRow) → k < length a.variants → guards_of ws k ≡ (get_or a.variants k d).guards
+guards_stand ws a s k d lt =
+    let row : VariantRow = get_or a.variants k d in
+    let whole : length row.words ≡ 2 = s.whole.variants k d lt in
+    s.variant k 4 d lt (omega arith) ∙ behind row.words (row.guards ∷ []) 2 0 (omega (arith, whole))
+
+pub function_switch_stands : (ws : List ℕ) (a : Fields) → StandIn ws a → (k i : ℕ) (d : FunctionRow) → k < length a.functions → i < 6 → function_field ws k (3 + i) ≡ slice_index (get_or a.functions k d).switches i
+function_switch_stands ws a s k i d lt hi =
+    let row : FunctionRow = get_or a.functions k d in
+    let whole : length row.switches ≡ 6 = s.whole.functions k d lt in
+    s.function k (3 + i) d lt (omega (arith, hi)) ∙ behind (row.length ∷ row.entry ∷ row.count ∷ []) (row.switches ++ row.variants ∷ []) (3 + i) i refl ∙ before row.switches (row.variants ∷ []) i (omega (arith, whole, hi))
+
+pub inline_word_stands : (ws : List ℕ) (a : Fields) → StandIn ws a → (k i : ℕ) (d : VariantRow) → k < length a.variants → i < 2 → variant_field ws k (2 + i) ≡ slice_index (get_or a.variants k d).words i
+inline_word_stands ws a s k i d lt hi =
+    let row : VariantRow = get_or a.variants k d in
+    let whole : length row.words ≡ 2 = s.whole.variants k d lt in
+    s.variant k (2 + i) d lt (omega (arith, hi)) ∙ behind (row.address ∷ row.inlined ∷ []) (row.words ++ row.guards ∷ []) (2 + i) i refl ∙ before row.words (row.guards ∷ []) i (omega (arith, whole, hi))
+
+pub switch_value_stands : (ws : List ℕ) (a : Fields) → StandIn ws a → (k i : ℕ) (d : SwitchRow) → k < length a.switches → i < 16 → switch_field ws k (4 + i) ≡ slice_index (get_or a.switches k d).values i
+switch_value_stands ws a s k i d lt hi =
+    let row : SwitchRow = get_or a.switches k d in
+    s.switch k (4 + i) d lt (omega (arith, hi)) ∙ behind (row.length ∷ row.address ∷ kind_number row.kind ∷ row.count ∷ []) row.values (4 + i) i refl
+
+pub lowest_stands : (ws : List ℕ) (a : Fields) → StandIn ws a → (k i : ℕ) (d : GuardRow) → k < length a.guards → i < 6 → guard_field ws k i ≡ slice_index (get_or a.guards k d).low i
+lowest_stands ws a s k i d lt hi =
+    let row : GuardRow = get_or a.guards k d in
+    let whole : length row.low ≡ 6 = (s.whole.guards k d lt).low in
+    s.guard k i d lt (omega (arith, hi)) ∙ before row.low row.high i (omega (arith, whole, hi))
+
+pub highest_stands : (ws : List ℕ) (a : Fields) → StandIn ws a → (k i : ℕ) (d : GuardRow) → k < length a.guards → i < 6 → guard_field ws k (6 + i) ≡ slice_index (get_or a.guards k d).high i
+highest_stands ws a s k i d lt hi =
+    let row : GuardRow = get_or a.guards k d in
+    let whole : length row.low ≡ 6 = (s.whole.guards k d lt).low in
+    s.guard k (6 + i) d lt (omega (arith, hi)) ∙ behind row.low row.high (6 + i) i (omega (arith, whole))
+
+-- the word of text at an address
+pub text_word_stands : (ws : List ℕ) (a : Fields) → StandIn ws a → (x : ℕ) → IsInText a x → text_word ws x ≡ slice_index a.text ((x - 4096) / 4)
+unfolding text_word
+text_word_stands ws a s x within =
+    let n = s.counts in
+    sym (ap (λ (t : List ℕ). slice_index t ((x - 4096) / 4)) (sym s.text)
+    ∙ index_range ws header_words (data_at ws) ((x - 4096) / 4) (omega (arith, n.text, data_from ws, within.not_before, within.within, within.aligned)))
+
 -- ---- the words that a reader sees
 
-pub image_words_are : (a : Fields) → Rules a → image_words a ≡ words_in a ++ words_of (names_in a)
+pub widths : (a : Fields) → Rules a → HasWidths a
+widths a r = record { switches = whole_switches a r; functions = whole_functions a r; variants = whole_variants a r; guards = r.guards }
+
+pub image_words_are : (a : Fields) → AreWords (words_in a) → image_words a ≡ words_in a ++ words_of (names_in a)
 unfolding spelling
-image_words_are a r = words_in_front (words_in a) (names_in a) r.words
+image_words_are a fits = words_in_front (words_in a) (names_in a) fits
 
 pub image_fits : (a : Fields) → Rules a → AllFit (image_words a)
 image_fits a r = all_fit (spelling a) r.spelled
 
-pub counts_of : (a : Fields) → Rules a → Counts (image_words a) a
-counts_of a r = subst (λ (ws : List ℕ). Counts ws a) (sym (image_words_are a r)) (counts_are a (words_of (names_in a)))
+pub stand_in_image : (a : Fields) → AreWords (words_in a) → HasWidths a → StandIn (image_words a) a
+stand_in_image a fits w = subst (λ (ws : List ℕ). StandIn ws a) (sym (image_words_are a fits)) (fields_stand a (words_of (names_in a)) w)
 
-pub text_is : (a : Fields) → Rules a → slice_range (image_words a) 12 (data_at (image_words a)) ≡ a.text
-text_is a r = subst (λ (ws : List ℕ). slice_range ws 12 (data_at ws) ≡ a.text) (sym (image_words_are a r)) (text_stands a (words_of (names_in a)))
+pub image_stands : (a : Fields) → Rules a → StandIn (image_words a) a
+image_stands a r = stand_in_image a r.words (widths a r)
+
+pub counts_of : (a : Fields) → Rules a → Counts (image_words a) a
+counts_of a r = (image_stands a r).counts
+
+pub text_is : (a : Fields) → Rules a → slice_range (image_words a) header_words (data_at (image_words a)) ≡ a.text
+text_is a r = (image_stands a r).text
 
 pub globals_are : (a : Fields) → Rules a → slice_range (image_words a) (data_at (image_words a)) (switches_at (image_words a)) ≡ a.globals
-globals_are a r = subst (λ (ws : List ℕ). slice_range ws (data_at ws) (switches_at ws) ≡ a.globals) (sym (image_words_are a r)) (globals_stand a (words_of (names_in a)))
+globals_are a r = (image_stands a r).globals
 
 pub switch_is : (a : Fields) → Rules a → (k j : ℕ) (d : SwitchRow) → k < length a.switches → j < 20 → switch_field (image_words a) k j ≡ slice_index (switch_words (get_or a.switches k d)) j
-switch_is a r k j d hk hj = ap (λ (ws : List ℕ). switch_field ws k j) (image_words_are a r) ∙ switch_stands a (words_of (names_in a)) r k j d hk hj
+switch_is a r = (image_stands a r).switch
 
 pub function_is : (a : Fields) → Rules a → (k j : ℕ) (d : FunctionRow) → k < length a.functions → j < 10 → function_field (image_words a) k j ≡ slice_index (function_words (get_or a.functions k d)) j
-function_is a r k j d hk hj = ap (λ (ws : List ℕ). function_field ws k j) (image_words_are a r) ∙ function_stands a (words_of (names_in a)) r k j d hk hj
+function_is a r = (image_stands a r).function
 
 pub variant_is : (a : Fields) → Rules a → (k j : ℕ) (d : VariantRow) → k < length a.variants → j < 5 → variant_field (image_words a) k j ≡ slice_index (variant_words (get_or a.variants k d)) j
-variant_is a r k j d hk hj = ap (λ (ws : List ℕ). variant_field ws k j) (image_words_are a r) ∙ variant_stands a (words_of (names_in a)) r k j d hk hj
+variant_is a r = (image_stands a r).variant
 
 pub guard_is : (a : Fields) → Rules a → (k j : ℕ) (d : GuardRow) → k < length a.guards → j < 12 → guard_field (image_words a) k j ≡ slice_index (guard_words (get_or a.guards k d)) j
-guard_is a r k j d hk hj = ap (λ (ws : List ℕ). guard_field ws k j) (image_words_are a r) ∙ guard_stands a (words_of (names_in a)) r k j d hk hj
+guard_is a r = (image_stands a r).guard
 
 pub site_is : (a : Fields) → Rules a → (k j : ℕ) (d : SiteRow) → k < length a.sites → j < 2 → site_field (image_words a) k j ≡ slice_index (site_words (get_or a.sites k d)) j
-site_is a r k j d hk hj = ap (λ (ws : List ℕ). site_field ws k j) (image_words_are a r) ∙ site_stands a (words_of (names_in a)) r k j d hk hj
+site_is a r = (image_stands a r).site
 
 pub function_variants : (a : Fields) → Rules a → (k : ℕ) (d : FunctionRow) → k < length a.functions → variants_of (image_words a) k ≡ (get_or a.functions k d).variants
-function_variants a r k d lt =
-    let row : FunctionRow = get_or a.functions k d in
-    let whole : length row.switches ≡ 6 = (r.functions k d lt).0 in
-    function_is a r k 9 d lt (omega arith) ∙ behind row.switches (row.variants ∷ []) 6 0 (omega (arith, whole))
+function_variants a r = variants_stand (image_words a) a (image_stands a r)
 
 pub variant_guards : (a : Fields) → Rules a → (k : ℕ) (d : VariantRow) → k < length a.variants → guards_of (image_words a) k ≡ (get_or a.variants k d).guards
-variant_guards a r k d lt =
-    let row : VariantRow = get_or a.variants k d in
-    let whole : length row.words ≡ 2 = (r.variants k d lt).0 in
-    variant_is a r k 4 d lt (omega arith) ∙ behind row.words (row.guards ∷ []) 2 0 (omega (arith, whole))
+variant_guards a r = guards_stand (image_words a) a (image_stands a r)
 
 pub function_switch_is : (a : Fields) → Rules a → (k i : ℕ) (d : FunctionRow) → k < length a.functions → i < 6 → function_field (image_words a) k (3 + i) ≡ slice_index (get_or a.functions k d).switches i
-function_switch_is a r k i d lt hi =
-    let row : FunctionRow = get_or a.functions k d in
-    let whole : length row.switches ≡ 6 = (r.functions k d lt).0 in
-    function_is a r k (3 + i) d lt (omega (arith, hi)) ∙ behind (row.length ∷ row.entry ∷ row.count ∷ []) (row.switches ++ row.variants ∷ []) (3 + i) i refl ∙ before row.switches (row.variants ∷ []) i (omega (arith, whole, hi))
+function_switch_is a r = function_switch_stands (image_words a) a (image_stands a r)

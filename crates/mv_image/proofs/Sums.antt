@@ -15,11 +15,11 @@ use Rattle.mv_image.specs.Rules.{header_fits, function_fits, variant_fits, guard
 use Rattle.mv_image.specs.Spelling.{Fields}
 use Rattle.mv_image.specs.Faults.{AllFit, Rules, image_words}
 use Rattle.mv_image.specs.Patched.{variants_before, guards_before, kind_of, kind_in}
-use Rattle.mv_image.specs.WellFormed.{FitsGuard}
+use Rattle.mv_image.specs.WellFormed.{FitsFunction, FitsGuard}
 use Rattle.mv_image.proofs.PlaceLaws.{second_true, first_true, sum_below-none, sum_below-more, owner-is}
 use Rattle.mv_image.proofs.WhatIsRead.{header_rule, not_last}
 use Rattle.mv_image.proofs.RowReads.{function_rule, variant_rule, guard_rule}
-use Rattle.mv_image.proofs.RowsStand.{counts_of, image_fits, behind, before, switch_is, function_is, guard_is, function_variants, variant_guards, function_switch_is}
+use Rattle.mv_image.proofs.RowsStand.{StandIn, image_stands, counts_of, image_fits, variants_stand, guards_stand, function_switch_stands, lowest_stands, highest_stands}
 use Rattle.mv_image.proofs.RowsFit.{functions_fit}
 
 variants_at_last : (ws : List ℕ) (k : ℕ) → function_fits ws k 9 ≡ true → k + 1 ≡ function_rows ws → sum_below (variants_of ws) (function_rows ws) ≡ variant_rows ws
@@ -63,7 +63,7 @@ guards_add_up ws fit =
     ]
 
 -- sums over words are sums over rows
-sums_are : {R : Type 0} (count : ℕ → ℕ) (f : R → ℕ) (rows : List R) → ((k : ℕ) (d : R) → k < length rows → count k ≡ f (get_or rows k d)) → (n : ℕ) (d : R) → n ≤ length rows → sum_below count n ≡ sum_by f (take n rows)
+pub sums_are : {R : Type 0} (count : ℕ → ℕ) (f : R → ℕ) (rows : List R) → ((k : ℕ) (d : R) → k < length rows → count k ≡ f (get_or rows k d)) → (n : ℕ) (d : R) → n ≤ length rows → sum_below count n ≡ sum_by f (take n rows)
 sums_are count f rows same zero d le = sum_below-none count
 sums_are count f rows same (suc n) d le =
     let e : suc n ≡ n + 1 = omega arith in
@@ -71,28 +71,28 @@ sums_are count f rows same (suc n) d le =
     let rest = sums_are count f rows same n d (omega (arith, le)) in
     ap (sum_below count) e ∙ sum_below-more count n ∙ omega (arith, rest, here, sum_by_more f rows n d (omega (arith, le))) ∙ ap (λ (k : ℕ). sum_by f (take k rows)) (sym e)
 
-any_function : FunctionRow
+pub any_function : FunctionRow
 any_function = record { length = 0; entry = 0; count = 0; switches = []; variants = 0 }
 
-any_variant : VariantRow
+pub any_variant : VariantRow
 any_variant = record { address = 0; inlined = 0; words = []; guards = 0 }
 
-variants_below : (a : Fields) → Rules a → (n : ℕ) → n ≤ length a.functions → sum_below (variants_of (image_words a)) n ≡ variants_before a n
-variants_below a r n le = sums_are (variants_of (image_words a)) (λ (row : FunctionRow). row.variants) a.functions (λ k d lt. function_variants a r k d lt) n any_function le
+pub variants_below : (ws : List ℕ) (a : Fields) → StandIn ws a → (n : ℕ) → n ≤ length a.functions → sum_below (variants_of ws) n ≡ variants_before a n
+variants_below ws a s n le = sums_are (variants_of ws) (λ (row : FunctionRow). row.variants) a.functions (λ k d lt. variants_stand ws a s k d lt) n any_function le
 
-guards_below : (a : Fields) → Rules a → (n : ℕ) → n ≤ length a.variants → sum_below (guards_of (image_words a)) n ≡ guards_before a n
-guards_below a r n le = sums_are (guards_of (image_words a)) (λ (row : VariantRow). row.guards) a.variants (λ k d lt. variant_guards a r k d lt) n any_variant le
+pub guards_below : (ws : List ℕ) (a : Fields) → StandIn ws a → (n : ℕ) → n ≤ length a.variants → sum_below (guards_of ws) n ≡ guards_before a n
+guards_below ws a s n le = sums_are (guards_of ws) (λ (row : VariantRow). row.guards) a.variants (λ k d lt. guards_stand ws a s k d lt) n any_variant le
 
 pub variants_sum : (a : Fields) → Rules a → sum_by (λ (row : FunctionRow). row.variants) a.functions ≡ length a.variants
 variants_sum a r =
     let n = counts_of a r in
-    ap (sum_by (λ (row : FunctionRow). row.variants)) (sym (take-length a.functions)) ∙ sym (variants_below a r (length a.functions) (omega arith))
+    ap (sum_by (λ (row : FunctionRow). row.variants)) (sym (take-length a.functions)) ∙ sym (variants_below (image_words a) a (image_stands a r) (length a.functions) (omega arith))
     ∙ ap (sum_below (variants_of (image_words a))) (sym n.functions) ∙ variants_add_up (image_words a) (image_fits a r) ∙ n.variants
 
 pub guards_sum : (a : Fields) → Rules a → sum_by (λ (row : VariantRow). row.guards) a.variants ≡ length a.guards
 guards_sum a r =
     let n = counts_of a r in
-    ap (sum_by (λ (row : VariantRow). row.guards)) (sym (take-length a.variants)) ∙ sym (guards_below a r (length a.variants) (omega arith))
+    ap (sum_by (λ (row : VariantRow). row.guards)) (sym (take-length a.variants)) ∙ sym (guards_below (image_words a) a (image_stands a r) (length a.variants) (omega arith))
     ∙ ap (sum_below (guards_of (image_words a))) (sym n.variants) ∙ guards_add_up (image_words a) (image_fits a r) ∙ n.guards
 
 -- ---- guard rows
@@ -129,63 +129,60 @@ guard_high_unused ws g f i e h le =
     eqb-true _ _ (rw (e, s, m, t) at h)
 
 -- the function of a guard row that stands among those of a variant of it
-owners_are : (a : Fields) → Rules a → (f v g : ℕ) → f < length a.functions → variants_before a f ≤ v → v < variants_before a (f + 1) → v < length a.variants → guards_before a v ≤ g → g < guards_before a (v + 1) → guard_function (image_words a) g ≡ f
+owners_are : (ws : List ℕ) (a : Fields) → StandIn ws a → (f v g : ℕ) → f < length a.functions → variants_before a f ≤ v → v < variants_before a (f + 1) → v < length a.variants → guards_before a v ≤ g → g < guards_before a (v + 1) → guard_function ws g ≡ f
 unfolding guard_function
-owners_are a r f v g hf from to hv above below =
-    let ws : List ℕ = image_words a in
-    let n = counts_of a r in
+owners_are ws a s f v g hf from to hv above below =
+    let n = s.counts in
     let variant : owner (guards_of ws) (variant_rows ws) g ≡ v =
-    owner-is (guards_of ws) (variant_rows ws) v g (omega (arith, n.variants, hv)) (omega (arith, guards_below a r v (omega (arith, hv)), above)) (λ lt. omega (arith, guards_below a r (v + 1) (omega (arith, hv)), below)) in
+    owner-is (guards_of ws) (variant_rows ws) v g (omega (arith, n.variants, hv)) (omega (arith, guards_below ws a s v (omega (arith, hv)), above)) (λ lt. omega (arith, guards_below ws a s (v + 1) (omega (arith, hv)), below)) in
     ap (owner (variants_of ws) (function_rows ws)) variant
-    ∙ owner-is (variants_of ws) (function_rows ws) f v (omega (arith, n.functions, hf)) (omega (arith, variants_below a r f (omega (arith, hf)), from)) (λ lt. omega (arith, variants_below a r (f + 1) (omega (arith, hf)), to))
+    ∙ owner-is (variants_of ws) (function_rows ws) f v (omega (arith, n.functions, hf)) (omega (arith, variants_below ws a s f (omega (arith, hf)), from)) (λ lt. omega (arith, variants_below ws a s (f + 1) (omega (arith, hf)), to))
 
 get_is : (rows : List SwitchRow) (k : ℕ) (d : SwitchRow) → k < length rows → slice_get rows k ≡ Some (get_or rows k d)
 get_is [] k d lt = absurd (omega (arith, lt))
 get_is (x ∷ rows) zero d lt = refl
 get_is (x ∷ rows) (suc k) d lt = get_is rows k d (omega (arith, lt))
 
-any_switch : SwitchRow
+pub any_switch : SwitchRow
 any_switch = record { length = 0; address = 0; kind = kinds.Int; count = 0; values = [] }
 
 -- the kind of a function's switch, in the words and in the rows
-kind_is : (a : Fields) → Rules a → (f i : ℕ) (d : FunctionRow) → f < length a.functions → i < (get_or a.functions f d).count → kind_at (image_words a) f i ≡ kind_of a (slice_index (get_or a.functions f d).switches i)
-kind_is a r f i d hf hi =
-    let fits = functions_fit a r f d hf in
-    let s : ℕ = slice_index (get_or a.functions f d).switches i in
-    let there : s < length a.switches = fits.switches i hi in
-    let number : function_field (image_words a) f (3 + i) ≡ s = function_switch_is a r f i d hf (omega (arith, hi, fits.count)) in
-    ap (λ (k : ℕ). switch_field (image_words a) k 2) number ∙ switch_is a r s 2 any_switch there (omega arith) ∙ sym (ap kind_in (get_is a.switches s any_switch there))
+pub kind_stands : (ws : List ℕ) (a : Fields) → StandIn ws a → (f i : ℕ) (d : FunctionRow) → f < length a.functions → FitsFunction a (get_or a.functions f d) → i < (get_or a.functions f d).count → kind_at ws f i ≡ kind_of a (slice_index (get_or a.functions f d).switches i)
+kind_stands ws a s f i d hf fits hi =
+    let k : ℕ = slice_index (get_or a.functions f d).switches i in
+    let there : k < length a.switches = fits.switches i hi in
+    let number : function_field ws f (3 + i) ≡ k = function_switch_stands ws a s f i d hf (omega (arith, hi, fits.count)) in
+    ap (λ (x : ℕ). switch_field ws x 2) number ∙ s.switch k 2 any_switch there (omega arith) ∙ sym (ap kind_in (get_is a.switches k any_switch there))
 
 pub guards_fit : (a : Fields) → Rules a → (f v g : ℕ) (d : FunctionRow) (e : GuardRow) → f < length a.functions → variants_before a f ≤ v → v < variants_before a (f + 1) → guards_before a v ≤ g → g < guards_before a (v + 1)
     → v < length a.variants → g < length a.guards → FitsGuard a (get_or a.functions f d) (get_or a.guards g e)
 guards_fit a r f v g d e hf from to above below hv hg =
     let ws : List ℕ = image_words a in
-    let n = counts_of a r in
+    let s = image_stands a r in
+    let n = s.counts in
     let fit = image_fits a r in
-    let own = owners_are a r f v g hf from to hv above below in
+    let own = owners_are ws a s f v g hf from to hv above below in
     let row : GuardRow = get_or a.guards g e in
-    let whole = r.guards g e hg in
     let here : g < guard_rows ws = omega (arith, n.guards, hg) in
-    let few : (get_or a.functions f d).count ≤ 6 = (functions_fit a r f d hf).count in
-    let count : function_field ws f 2 ≡ (get_or a.functions f d).count = function_is a r f 2 d hf (omega arith) in
-    let low : (i : ℕ) → i < 6 → guard_field ws g i ≡ slice_index row.low i =
-    λ i hi. guard_is a r g i e hg (omega (arith, hi)) ∙ before row.low row.high i (omega (arith, whole.low, hi)) in
-    let high : (i : ℕ) → i < 6 → guard_field ws g (6 + i) ≡ slice_index row.high i =
-    λ i hi. guard_is a r g (6 + i) e hg (omega (arith, hi)) ∙ behind row.low row.high (6 + i) i (omega (arith, whole.low)) in
+    let fits = functions_fit a r f d hf in
+    let few : (get_or a.functions f d).count ≤ 6 = fits.count in
+    let count : function_field ws f 2 ≡ (get_or a.functions f d).count = s.function f 2 d hf (omega arith) in
+    let low : (i : ℕ) → i < 6 → guard_field ws g i ≡ slice_index row.low i = λ i hi. lowest_stands ws a s g i e hg hi in
+    let high : (i : ℕ) → i < 6 → guard_field ws g (6 + i) ≡ slice_index row.high i = λ i hi. highest_stands ws a s g i e hg hi in
     record {
       low = λ i hi. (
           let small : i < 6 = omega (arith, hi, few) in
-          let k = kind_is a r f i d hf hi in
+          let k = kind_stands ws a s f i d hf fits hi in
           let h = guard_low ws g f i own small (guard_rule ws g i fit here (omega (arith, small))) (omega (arith, hi, count)) in
           ap (λ (x : ℕ). is_value x (slice_index row.low i)) (sym k) ∙ ap (is_value (kind_at ws f i)) (sym (low i small)) ∙ h);
       high = λ i hi. (
           let small : i < 6 = omega (arith, hi, few) in
-          let k = kind_is a r f i d hf hi in
+          let k = kind_stands ws a s f i d hf fits hi in
           let h = guard_high ws g f i own (guard_rule ws g (6 + i) fit here (omega (arith, small))) (omega (arith, hi, count)) in
           ap (λ (x : ℕ). is_value x (slice_index row.high i)) (sym k) ∙ ap (is_value (kind_at ws f i)) (sym (high i small)) ∙ first_true _ _ h);
       ordered = λ i hi. (
           let small : i < 6 = omega (arith, hi, few) in
-          let k = kind_is a r f i d hf hi in
+          let k = kind_stands ws a s f i d hf fits hi in
           let h = guard_high ws g f i own (guard_rule ws g (6 + i) fit here (omega (arith, small))) (omega (arith, hi, count)) in
           ap (λ (x : ℕ). is_at_most x (slice_index row.low i) (slice_index row.high i)) (sym k)
           ∙ ap (λ (x : ℕ). is_at_most (kind_at ws f i) x (slice_index row.high i)) (sym (low i small))

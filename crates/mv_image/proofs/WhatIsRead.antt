@@ -14,7 +14,7 @@ use Rattle.mv_descriptors.specs.WidthLaws.{switch_width, function_width}
 use Rattle.std.proofs.lemmas.List.Concat.{flat_map-cons}
 use Rattle.mv_descriptors.specs.declared.rows.SwitchRow.{SwitchRow}
 use Rattle.mv_descriptors.specs.declared.rows.FunctionRow.{FunctionRow}
-use Rattle.mv_image.specs.Places.{text_words, data_words, switch_rows, function_rows, variant_rows, guard_rows, site_rows, name_bytes, data_at, switches_at, functions_at, variants_at, guards_at, sites_at, words_end, switch_field, function_field, name_length, names, sum_below, first_of}
+use Rattle.mv_image.specs.Places.{header_words, text_words, data_words, switch_rows, function_rows, variant_rows, guard_rows, site_rows, name_bytes, data_at, switches_at, functions_at, variants_at, guards_at, sites_at, words_end, switch_field, function_field, name_length, names, sum_below, first_of}
 use Rattle.mv_image.specs.Rules.{header_fits, switch_fits, function_fits, name_fits}
 use Rattle.mv_image.specs.Spelling.{Fields, joined, filled, header_of, words_in, names_in, spelling}
 use Rattle.mv_image.specs.Faults.{AllFit, Spelled, Spells, lengths_in}
@@ -67,7 +67,7 @@ zeros_list (x ∷ xs) (suc n) len zeros =
 
 -- ---- the header
 
-first_twelve : (xs : List ℕ) → 12 ≤ length xs → take 12 xs ≡ slice_index xs 0 ∷ slice_index xs 1 ∷ slice_index xs 2 ∷ slice_index xs 3 ∷ slice_index xs 4 ∷ slice_index xs 5 ∷ slice_index xs 6 ∷ slice_index xs 7 ∷ slice_index xs 8 ∷ slice_index xs 9 ∷ slice_index xs 10 ∷ slice_index xs 11 ∷ []
+first_twelve : (xs : List ℕ) → header_words ≤ length xs → take header_words xs ≡ slice_index xs 0 ∷ slice_index xs 1 ∷ slice_index xs 2 ∷ slice_index xs 3 ∷ slice_index xs 4 ∷ slice_index xs 5 ∷ slice_index xs 6 ∷ slice_index xs 7 ∷ slice_index xs 8 ∷ slice_index xs 9 ∷ slice_index xs 10 ∷ slice_index xs 11 ∷ []
 first_twelve [] room = absurd (omega arith)
 first_twelve (a ∷ []) room = absurd (omega arith)
 first_twelve (a ∷ b ∷ []) room = absurd (omega arith)
@@ -82,7 +82,7 @@ first_twelve (a ∷ b ∷ c ∷ d ∷ e ∷ f ∷ g ∷ h ∷ i ∷ j ∷ []) ro
 first_twelve (a ∷ b ∷ c ∷ d ∷ e ∷ f ∷ g ∷ h ∷ i ∷ j ∷ k ∷ []) room = absurd (omega arith)
 first_twelve (a ∷ b ∷ c ∷ d ∷ e ∷ f ∷ g ∷ h ∷ i ∷ j ∷ k ∷ l ∷ rest) room = refl
 
-pub data_from : (ws : List ℕ) → data_at ws ≡ 12 + text_words ws
+pub data_from : (ws : List ℕ) → data_at ws ≡ header_words + text_words ws
 unfolding data_at
 data_from ws = refl
 
@@ -90,7 +90,7 @@ pub switches_after : (ws : List ℕ) → switches_at ws ≡ data_at ws + data_wo
 unfolding switches_at
 switches_after ws = refl
 
-pub header_rule : (ws : List ℕ) (i : ℕ) → AllFit ws → i < 12 → header_fits ws i ≡ true
+pub header_rule : (ws : List ℕ) (i : ℕ) → AllFit ws → i < header_words → header_fits ws i ≡ true
 header_rule ws i fit lt =
     sym (header_word ws i lt) ∙ fit i (omega (arith, switches_from ws, functions_from ws, variants_from ws, guards_from ws, sites_from ws, end_from ws))
 
@@ -142,7 +142,7 @@ names_sum ws fit =
 
 pub record IsRead (ws bytes : List ℕ) (image : Fields) : Type 0 where
   pub entry : image.entry ≡ slice_index ws 2
-  pub text : image.text ≡ slice_range ws 12 (data_at ws)
+  pub text : image.text ≡ slice_range ws header_words (data_at ws)
   pub globals : image.globals ≡ slice_range ws (data_at ws) (switches_at ws)
   pub switches : flat_map switch_words image.switches ≡ slice_range ws (switches_at ws) (functions_at ws)
   pub functions : flat_map function_words image.functions ≡ slice_range ws (functions_at ws) (variants_at ws)
@@ -159,7 +159,7 @@ pub record IsRead (ws bytes : List ℕ) (image : Fields) : Type 0 where
 
 -- the parts stand one after the other
 pub record InOrder (ws : List ℕ) : Type 0 where
-  pub first : 12 ≤ data_at ws
+  pub first : header_words ≤ data_at ws
   pub switches : data_at ws ≤ switches_at ws
   pub functions : switches_at ws ≤ functions_at ws
   pub variants : functions_at ws ≤ variants_at ws
@@ -178,14 +178,14 @@ in_order ws = record {
   end = omega (arith, end_from ws);
 }
 
-header_is : (ws bytes : List ℕ) (image : Fields) → AllFit ws → words_end ws ≤ length ws → 4 * words_end ws + name_bytes ws ≤ length bytes → IsRead ws bytes image → header_of image ≡ take 12 ws
+header_is : (ws bytes : List ℕ) (image : Fields) → AllFit ws → words_end ws ≤ length ws → 4 * words_end ws + name_bytes ws ≤ length bytes → IsRead ws bytes image → header_of image ≡ take header_words ws
 unfolding header_of
 header_is ws bytes image fit room more r =
     let o = in_order ws in
     let e0 = magic_is ws (header_rule ws 0 fit (omega arith)) in
     let e1 = version_is ws (header_rule ws 1 fit (omega arith)) in
     let e2 = r.entry in
-    let e3 : length image.text ≡ slice_index ws 3 = ap length r.text ∙ range_length ws 12 (data_at ws) o.first (omega (arith, o.switches, o.functions, o.variants, o.guards, o.sites, o.end)) ∙ omega (arith, data_from ws) in
+    let e3 : length image.text ≡ slice_index ws 3 = ap length r.text ∙ range_length ws header_words (data_at ws) o.first (omega (arith, o.switches, o.functions, o.variants, o.guards, o.sites, o.end)) ∙ omega (arith, data_from ws) in
     let e4 : length image.globals ≡ slice_index ws 4 = ap length r.globals ∙ range_length ws (data_at ws) (switches_at ws) o.switches (omega (arith, o.functions, o.variants, o.guards, o.sites, o.end)) ∙ omega (arith, switches_after ws) in
     let e5 = r.switches_count in
     let e6 = r.functions_count in
@@ -200,11 +200,11 @@ header_is ws bytes image fit room more r =
     rw (e2, e3, e4, e5, e6, e7, e8, e9, e10)
     (ap (λ (m : ℕ). made m 1 0) (sym e0) ∙ ap (λ (v : ℕ). made (slice_index ws 0) v 0) (sym e1) ∙ ap (λ (z : ℕ). made (slice_index ws 0) (slice_index ws 1) z) (sym e11) ∙ sym all)
 
-joined_words : (ws bytes : List ℕ) (image : Fields) → header_of image ≡ take 12 ws → IsRead ws bytes image → words_in image ≡ take (words_end ws) ws
+joined_words : (ws bytes : List ℕ) (image : Fields) → header_of image ≡ take header_words ws → IsRead ws bytes image → words_in image ≡ take (words_end ws) ws
 unfolding words_in
 joined_words ws bytes image header r =
     let o = in_order ws in
-    let s1 : header_of image ++ image.text ≡ take (data_at ws) ws = ap (λ (x : List ℕ). x ++ image.text) header ∙ ap (λ (x : List ℕ). take 12 ws ++ x) r.text ∙ front_join ws 12 (data_at ws) o.first in
+    let s1 : header_of image ++ image.text ≡ take (data_at ws) ws = ap (λ (x : List ℕ). x ++ image.text) header ∙ ap (λ (x : List ℕ). take header_words ws ++ x) r.text ∙ front_join ws header_words (data_at ws) o.first in
     let s2 : (header_of image ++ image.text) ++ image.globals ≡ take (switches_at ws) ws = ap (λ (x : List ℕ). x ++ image.globals) s1 ∙ ap (λ (x : List ℕ). take (data_at ws) ws ++ x) r.globals ∙ front_join ws (data_at ws) (switches_at ws) o.switches in
     let s3 : ((header_of image ++ image.text) ++ image.globals) ++ flat_map switch_words image.switches ≡ take (functions_at ws) ws =
     ap (λ (x : List ℕ). x ++ flat_map switch_words image.switches) s2 ∙ ap (λ (x : List ℕ). take (switches_at ws) ws ++ x) r.switches ∙ front_join ws (switches_at ws) (functions_at ws) o.functions in
@@ -438,20 +438,20 @@ image_of entry text globals tables names = record {
 }
 
 pub made_image : (bytes ws s text globals : List ℕ) (n d m k entry : ℕ) (tables : Tables) (named : List (List ℕ)) → AreBytes bytes → Spelled bytes → ws ≡ words_of bytes → s ≡ ws
-    → n ≡ text_words s → text ≡ slice_range ws 12 (12 + n) → d ≡ data_at s → m ≡ data_words s → globals ≡ slice_range ws d (d + m) → AreTables ws tables
+    → n ≡ text_words s → text ≡ slice_range ws header_words (header_words + n) → d ≡ data_at s → m ≡ data_words s → globals ≡ slice_range ws d (d + m) → AreTables ws tables
     → k ≡ names s → joined named ≡ slice_range bytes (4 * words_end s) (4 * words_end s + sum_below (name_length s) k) → map length named ≡ first_of (name_length s) k
     → entry ≡ slice_index s 2 → Spells bytes (image_of entry text globals tables named)
 made_image bytes ws s text globals n d m k entry tables named fits sp ew es en et ed em eg t ek ej el ee =
     let n2 : n ≡ text_words ws = en ∙ ap text_words es in
     let d2 : d ≡ data_at ws = ed ∙ ap data_at es in
     let m2 : m ≡ data_words ws = em ∙ ap data_words es in
-    let text_end : 12 + n ≡ data_at ws = omega (arith, n2, data_from ws) in
+    let text_end : header_words + n ≡ data_at ws = omega (arith, n2, data_from ws) in
     let data_end : data_at ws + m ≡ switches_at ws = omega (arith, m2, switches_after ws) in
     let joined2 : joined named ≡ slice_range bytes (4 * words_end s) (4 * words_end s + sum_below (name_length s) (names s)) = ej ∙ ap (λ (j : ℕ). slice_range bytes (4 * words_end s) (4 * words_end s + sum_below (name_length s) j)) ek in
     let lengths2 : map length named ≡ first_of (name_length s) (names s) = el ∙ ap (λ (j : ℕ). first_of (name_length s) j) ek in
     let r : IsRead ws bytes (image_of entry text globals tables named) = record {
       entry = ee ∙ ap (λ (x : List ℕ). slice_index x 2) es;
-      text = et ∙ ap (λ (x : ℕ). slice_range ws 12 x) text_end;
+      text = et ∙ ap (λ (x : ℕ). slice_range ws header_words x) text_end;
       globals = eg ∙ ap (λ (x : ℕ). slice_range ws x (x + m)) d2 ∙ ap (λ (x : ℕ). slice_range ws (data_at ws) x) data_end;
       switches = t.switches;
       functions = t.functions;

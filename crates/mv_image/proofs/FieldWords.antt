@@ -1,0 +1,125 @@
+-- The numbers of fields that fit the format are words of 32 bits.
+use Rattle.std.proofs.Common.{ℕ, zero, suc, ◌*◌, ◌^◌, ◌<◌, ◌≤◌, List, [], ◌∷◌, ◌++◌, length, slice_index, get_or, All, sym, subst, arith, inl, inr}
+use Rattle.std.specs.List.{flat_map}
+use Rattle.std.specs.Prelude.{sum_by}
+use Rattle.std.proofs.lemmas.Bool.{cases_lt}
+use Rattle.std.proofs.lemmas.List.{get_or_past}
+use Rattle.std.proofs.lemmas.List.Concat.{flat_map-cons}
+use Rattle.std.proofs.lemmas.List.Sums.{sum_by-le}
+use Rattle.mv_num.specs.Bytes.{AreWords}
+use Rattle.mv_num.specs.Kinds.{kind_number}
+use Rattle.mv_descriptors.specs.Widths.{switch_words, function_words, variant_words, guard_words, site_words}
+use Rattle.mv_descriptors.specs.WidthLaws.{kind_small}
+use Rattle.mv_descriptors.specs.declared.rows.SwitchRow.{SwitchRow}
+use Rattle.mv_descriptors.specs.declared.rows.FunctionRow.{FunctionRow}
+use Rattle.mv_descriptors.specs.declared.rows.VariantRow.{VariantRow}
+use Rattle.mv_descriptors.specs.declared.rows.GuardRow.{GuardRow}
+use Rattle.mv_descriptors.specs.declared.rows.SiteRow.{SiteRow}
+use Rattle.mv_image.specs.Places.{header_words}
+use Rattle.mv_image.specs.Spelling.{Fields, joined, header_of, words_in}
+use Rattle.mv_image.specs.Format.{IsTyped, FitsFormat}
+use Rattle.mv_image.proofs.OneVerdict.{all_head, all_tail}
+use Rattle.mv_image.proofs.FieldRules.{of_twelve}
+use Rattle.mv_image.proofs.NameRules.{names_count, joined_length, lengths_keep}
+
+no_words : AreWords []
+no_words i = omega arith
+
+word_more : (w : ℕ) (ws : List ℕ) → w < 2 ^ 32 → AreWords ws → AreWords (w ∷ ws)
+word_more w ws small fits zero = small
+word_more w ws small fits (suc i) = fits i
+
+one_word : (a : ℕ) → a < 2 ^ 32 → AreWords (a ∷ [])
+one_word a ha = word_more a [] ha no_words
+
+two_words : (a b : ℕ) → a < 2 ^ 32 → b < 2 ^ 32 → AreWords (a ∷ b ∷ [])
+two_words a b ha hb = word_more a (b ∷ []) ha (one_word b hb)
+
+three_words : (a b c : ℕ) → a < 2 ^ 32 → b < 2 ^ 32 → c < 2 ^ 32 → AreWords (a ∷ b ∷ c ∷ [])
+three_words a b c ha hb hc = word_more a (b ∷ c ∷ []) ha (two_words b c hb hc)
+
+four_words : (a b c d : ℕ) → a < 2 ^ 32 → b < 2 ^ 32 → c < 2 ^ 32 → d < 2 ^ 32 → AreWords (a ∷ b ∷ c ∷ d ∷ [])
+four_words a b c d ha hb hc hd = word_more a (b ∷ c ∷ d ∷ []) ha (three_words b c d hb hc hd)
+
+words_append : (a b : List ℕ) → AreWords a → AreWords b → AreWords (a ++ b)
+words_append [] b ha hb = hb
+words_append (x ∷ a) b ha hb = word_more x (a ++ b) (ha 0) (words_append a b (λ k. ha (suc k)) hb)
+
+words_flat : {R : Type 0} (f : R → List ℕ) (rows : List R) → All (λ r. AreWords (f r)) rows → AreWords (flat_map f rows)
+words_flat f [] all = no_words
+words_flat f (x ∷ rows) all =
+    subst AreWords (sym (flat_map-cons f x rows))
+    (words_append (f x) (flat_map f rows) (all_head (λ r. AreWords (f r)) x rows all) (words_flat f rows (all_tail (λ r. AreWords (f r)) x rows all)))
+
+switches_small : (a : Fields) → IsTyped a → FitsFormat a → All (λ (row : SwitchRow). AreWords (switch_words row)) a.switches
+switches_small a t h k d lt =
+    let row : SwitchRow = get_or a.switches k d in
+    let fits = h.fit.switches k d lt in
+    let limits = h.limits in
+    words_append (row.length ∷ row.address ∷ kind_number row.kind ∷ row.count ∷ []) row.values
+    (four_words row.length row.address (kind_number row.kind) row.count (omega (arith, fits.name)) (omega (arith, fits.address.within, limits.globals)) (omega (arith, kind_small row.kind)) (omega (arith, fits.count)))
+    (t.words.values k d lt)
+
+functions_small : (a : Fields) → FitsFormat a → All (λ (row : FunctionRow). AreWords (function_words row)) a.functions
+functions_small a h k d lt =
+    let row : FunctionRow = get_or a.functions k d in
+    let fits = h.fit.functions k d lt in
+    let clean = h.unused.functions k d lt in
+    let limits = h.limits in
+    words_append (row.length ∷ row.entry ∷ row.count ∷ []) (row.switches ++ row.variants ∷ [])
+    (three_words row.length row.entry row.count (omega (arith, fits.name)) (omega (arith, fits.entry.within, limits.text)) (omega (arith, fits.count)))
+    (words_append row.switches (row.variants ∷ [])
+    (λ i. elim (cases_lt i row.count) [
+      | inl used ↦ omega (arith, fits.switches i used, limits.switches)
+      | inr unused ↦ omega (arith, clean i unused)
+    ])
+    (one_word row.variants (omega (arith, fits.variants))))
+
+variants_small : (a : Fields) → IsTyped a → FitsFormat a → All (λ (row : VariantRow). AreWords (variant_words row)) a.variants
+variants_small a t h k d lt =
+    let row : VariantRow = get_or a.variants k d in
+    let fits = h.fit.variants k d lt in
+    let limits = h.limits in
+    words_append (row.address ∷ row.inlined ∷ []) (row.words ++ row.guards ∷ [])
+    (two_words row.address row.inlined (omega (arith, fits.address.within, limits.text)) (omega (arith, fits.inlined)))
+    (words_append row.words (row.guards ∷ []) (t.words.inlined k d lt) (one_word row.guards (omega (arith, fits.guards))))
+
+guards_small : (a : Fields) → IsTyped a → All (λ (row : GuardRow). AreWords (guard_words row)) a.guards
+guards_small a t k d lt =
+    let row : GuardRow = get_or a.guards k d in
+    words_append row.low row.high (t.words.lowest k d lt) (t.words.highest k d lt)
+
+sites_small : (a : Fields) → FitsFormat a → All (λ (row : SiteRow). AreWords (site_words row)) a.sites
+sites_small a h k d lt =
+    let row : SiteRow = get_or a.sites k d in
+    let fits = h.fit.sites k d lt in
+    let limits = h.limits in
+    two_words row.address row.function (omega (arith, fits.address.within, limits.text)) (omega (arith, fits.function, limits.functions))
+
+names_small : (a : Fields) → FitsFormat a → length (joined a.names) < 2 ^ 32
+names_small a h =
+    let most : sum_by length a.names ≤ length a.names * 63 = sum_by-le length 63 a.names (lengths_keep a (λ (n : ℕ). n ≤ 63) h.names.lengths (λ k d lt. (h.fit.switches k d lt).name) (λ k d lt. (h.fit.functions k d lt).name)) in
+    let limits = h.limits in
+    omega (arith, most, joined_length a.names, names_count a h.names.lengths, limits.switches, limits.functions)
+
+header_small : (a : Fields) → FitsFormat a → AreWords (header_of a)
+unfolding header_of
+header_small a h i =
+    let limits = h.limits in
+    elim (cases_lt i header_words) [
+      | inl low ↦ of_twelve (λ (k : ℕ). slice_index (header_of a) k < 2 ^ 32)
+          (omega arith) (omega arith) (omega (arith, limits.entry.within, limits.text)) (omega (arith, limits.text)) (omega (arith, limits.globals)) (omega (arith, limits.switches)) (omega (arith, limits.functions))
+          (omega (arith, limits.variants)) (omega (arith, limits.guards)) (omega (arith, limits.sites)) (names_small a h) (omega arith) i low
+      | inr high ↦ rw (get_or_past (header_of a) i 0 high) (omega arith)
+    ]
+
+pub are_words : (a : Fields) → IsTyped a → FitsFormat a → AreWords (words_in a)
+unfolding words_in
+are_words a t h =
+    let text = words_append (header_of a) a.text (header_small a h) t.words.text in
+    let globals = words_append (header_of a ++ a.text) a.globals text t.words.globals in
+    let switches = words_append (header_of a ++ a.text ++ a.globals) (flat_map switch_words a.switches) globals (words_flat switch_words a.switches (switches_small a t h)) in
+    let functions = words_append _ (flat_map function_words a.functions) switches (words_flat function_words a.functions (functions_small a h)) in
+    let variants = words_append _ (flat_map variant_words a.variants) functions (words_flat variant_words a.variants (variants_small a t h)) in
+    let guards = words_append _ (flat_map guard_words a.guards) variants (words_flat guard_words a.guards (guards_small a t)) in
+    words_append _ (flat_map site_words a.sites) guards (words_flat site_words a.sites (sites_small a h))
