@@ -21,6 +21,7 @@ module _ (ps : List (ℕ × ℕ)) where
       record {
         means = λ others fewer setting depth live. body_between setting (frame depth live ps) (frame depth live others) b r et ea (subst (λ c. Between setting (frame depth live ps) (frame depth live others) b.code c) (sym ec) (all_kept ps others fewer setting depth live b.code));
         scalars = reads;
+        code = ec;
         arrays = ap arrays_read ec ∙ ap joined (blind_all ps stm_arrays layer_arrays arrays_roll (blind_arrays ps) b.code);
         deepest = ap (λ c. deepest_of (trees c)) ec ∙ ap deepest_of (trees_bound ps b.code) ∙ deepest_bound ps (trees b.code);
         statements = size;

@@ -79,12 +79,14 @@ is_free ps g = not (is_some (found ps g))
 
 -- The second body is the first under the values of its switches. It means in every frame, whatever its switches
 -- are read as there, what the first means where they are read as these values; it reads the same globals but for
--- the switches; and nothing else of it differs, so that it is whole and well formed where the first is.
+-- the switches; and nothing else of it differs, so that it is whole and well formed where the first is. Its code is
+-- the first's with the reads replaced.
 pub record IsBound (ps : List (ℕ × ℕ)) (body result : Body) : Type 0 where
   pub means :
       (others : List (ℕ × ℕ)) → ReadsNoMore ps others → (setting : Setting) (depth live : ℕ) (contents : Contents) (args : List ℕ) (bound : Bound) (w : World) →
       KeepsCall (body_from setting (frame depth live ps) contents body args bound w) (body_from setting (frame depth live others) contents result args bound w)
   pub scalars : scalars_read result.code ≡ filter (is_free ps) (scalars_read body.code)
+  pub code : result.code ≡ bound_code ps body.code
   pub arrays : arrays_read result.code ≡ arrays_read body.code
   pub deepest : deepest result.code ≡ deepest body.code
   pub statements : statements result.code ≡ statements body.code

@@ -29,6 +29,7 @@ folded_is b needed h =
     record {
       means = body_trans b (with_code b simple) (with_code b code) (λ setting frame. body_between setting frame frame b (with_code b simple) refl refl (simple_keeps b.code setting frame)) (needed_keeps (with_code b simple) needed h);
       form = record { operators = form.0; choices = form.1; sets = none_unread needed simple h; reached = form.2 };
+      code = (needed, h, refl);
       smaller = folded_within needed b.code;
       whole = kept.whole;
       has_temps = kept.has_temps;

@@ -24,10 +24,11 @@ pub record IsNoGreater (code result : List Stm) : Type 0 where
   pub calls : calls result ≤ calls code
 
 -- The second body means what the first means, at no greater cost, and has the folded form. It is whole, and
--- well formed, where the first is.
+-- well formed, where the first is. Its code is the first's, folded.
 pub record IsFolded (body result : Body) : Type 0 where
   pub means : KeepsBody body result
   pub form : IsFoldedForm result.code
+  pub code : IsFoldedCode body.code result.code
   pub smaller : IsNoGreater body.code result.code
   pub whole : IsWhole body → IsWhole result
   pub has_temps : HasTemps body → HasTemps result

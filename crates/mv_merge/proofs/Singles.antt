@@ -1,6 +1,6 @@
 -- A row of one list of values holds of that list alone.
 use Rattle.std.proofs.Common.{arith, ◌≡◌, ℕ, zero, suc, ◌+◌, ◌-◌, ◌^◌, ◌<◌, Bool, true, false, ◌&&◌, List, [], ◌∷◌, length, replicate, refl, sym, ◌∙◌, ap, subst, inl, inr}
-use Rattle.std.specs.Prelude.{slice_index, slice_index_or, nat_lt, nat_le, if◌then◌else◌, Some}
+use Rattle.std.specs.Prelude.{slice_get, slice_index, slice_index_or, nat_lt, nat_le, if◌then◌else◌, Some}
 use Rattle.std.proofs.lemmas.Bool.Decides.{nat_tests}
 use Rattle.std.proofs.lemmas.List.{get_or_append_left, length-map}
 use Rattle.std.proofs.Math.Seq.{get_or-append_right}
@@ -15,7 +15,7 @@ use Rattle.mv_merge.specs.declared.rows.Domain.{Domain}
 use Rattle.mv_merge.specs.declared.rows.Bound.{Bound}
 use Rattle.mv_merge.specs.declared.rows.Guarded.{Guarded}
 use Rattle.mv_merge.specs.declared.rows.Variants.{Variants}
-use Rattle.mv_merge.specs.Guards.{kinds, domain_values, row_holds, AreValues, all_values, SomeHolds, AtMostOne, LeadsTo, EachLeads, IsClean, AreClean, IsMerged}
+use Rattle.mv_merge.specs.Guards.{kinds, domain_values, row_holds, AreValues, all_values, bodies_led_to, SomeHolds, AtMostOne, LeadsTo, EachLeads, IsClean, AreClean, IsMerged}
 use Rattle.mv_merge.specs.Grouping.{padded, single, Leads, HaveWords, IsGrouped}
 
 -- ---- values and their order
@@ -179,6 +179,21 @@ module _ (domains : List Domain) where
     each_leads all guards [] w l v h = tt
     each_leads all guards (r ∷ rows) w l v h = (leads_to all guards r.assignment.values r.body v.0 w l h.0, each_leads all guards rows w l v.1 h.1)
 
+    -- a body to which a row leads came with an assignment
+    came_with : (rows : List Bound) (guards : List Guarded) → Leads bodies rows guards → (i k : ℕ) → k < length (bodies_led_to guards) → ((d : ℕ) → slice_index_or (bodies_led_to guards) k d ≡ i) →
+        (r : Bound) × In r rows × (slice_get bodies i ≡ Some r.body)
+    came_with [] [] l i k lt e = absurd (omega arith)
+    came_with [] (g ∷ guards) l i k lt e = absurd l
+    came_with (r ∷ rows) [] l i k lt e = absurd l
+    came_with (r ∷ rows) (g ∷ guards) l i zero lt e =
+        let here : 0 < suc (length rows) = omega arith in
+        (r, (0, here, λ d. refl), subst (λ j. slice_get bodies j ≡ Some r.body) (e 0) l.0.1)
+    came_with (r ∷ rows) (g ∷ guards) l i (suc k) lt e =
+        let below : suc k < suc (length (bodies_led_to guards)) = lt in
+        let rest = came_with rows guards l.1 i k (omega arith) e in
+        let there : suc rest.1.0 < suc (length rows) = omega (arith, rest.1.1) in
+        (rest.0, (suc rest.1.0, there, rest.1.2), rest.2)
+
     as_many : (rows : List Bound) (guards : List Guarded) → Leads bodies rows guards → length guards ≡ length rows
     as_many [] [] l = refl
     as_many [] (g ∷ guards) l = absurd l
@@ -232,6 +247,7 @@ module _ (domains : List Domain) where
         exact = λ vs u. ((λ h. c.only vs (some_in v.bodies rows v.guards vs u w g.leads h)), (λ h. let i = c.every vs h in in_some v.bodies rows v.guards vs w g.leads i.0 i.1 i.2));
         disjoint = λ vs u. one_at_most v.bodies rows v.guards vs u w g.leads c.once;
         leads = each_leads v.bodies rows v.guards rows w g.leads w (each_agrees v.bodies rows c.once);
+        came = λ i lt. let u = g.used i lt in came_with v.bodies rows v.guards g.leads i u.0 u.1 u.2;
         apart = g.apart;
         used = g.used;
         count = as_many v.bodies rows v.guards g.leads;

@@ -67,12 +67,13 @@ AreClean domains [] = Unit {0}
 AreClean domains (g ∷ guards) = IsClean domains g.row × AreClean domains guards
 
 -- Of any words for the switches some row holds exactly where they are a combination of the domains' values, and at
--- most one; each assignment's row leads to the body that came with it; no two bodies are equal, and each has a row;
--- there are as many rows as assignments, and their unused words are 0.
+-- most one; each assignment's row leads to the body that came with it; each body came with an assignment, no two are
+-- equal, and each has a row; there are as many rows as assignments, and their unused words are 0.
 pub record IsMerged (domains : List Domain) (rows : List Bound) (variants : Variants) : Type 0 where
   pub exact : (vs : List ℕ) → AreValues domains vs → SomeHolds domains variants.guards vs ↔ IsCombination (domain_values domains) vs
   pub disjoint : (vs : List ℕ) → AreValues domains vs → AtMostOne domains variants.guards vs
   pub leads : EachLeads domains variants.bodies variants.guards rows
+  pub came : (i : ℕ) → i < length variants.bodies → (r : Bound) × In r rows × (slice_get variants.bodies i ≡ Some r.body)
   pub apart : AllApart variants.bodies
   pub used : (i : ℕ) → i < length variants.bodies → In i (bodies_led_to variants.guards)
   pub count : length variants.guards ≡ length rows

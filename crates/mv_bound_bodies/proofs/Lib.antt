@@ -1,0 +1,17 @@
+pub mod Fitting
+pub mod Tables
+pub mod Meant
+pub mod Words
+pub mod Naming
+pub mod BoundNames
+pub mod FoldedNames
+pub mod RenamedNames
+pub mod NamesKept
+pub mod Weights
+pub mod Variants
+pub mod Led
+pub mod Groups
+pub mod Slots
+pub mod FewSlots
+pub mod Switches
+pub mod Patchable

@@ -1,0 +1,297 @@
+-- One slot stands in the code of a function for each direct call of an attributed function.
+use Rattle.std.proofs.Common.{◌≡◌, ℕ, zero, suc, ◌+◌, ◌*◌, Bool, true, false, cond, eqb, List, [], ◌∷◌, ◌++◌, pos, Option, Some, None, map, refl, sym, subst, ap, ◌∙◌, arith}
+use Rattle.mv_num.specs.declared.kind.Kind.{Kind}
+use Rattle.mv_num.specs.declared.kind.Kind.TheVariants as kind
+use Rattle.mv_ast.specs.declared.program.Known.{Known}
+use Rattle.mv_ast.specs.declared.program.Known.TheVariants.{Getchar, Putchar, Poll, Plan}
+use Rattle.mv_isa.specs.declared.instr.Instr.TheVariants.{Lui, Lw, Sw, Addi, Jalr}
+use Rattle.mv_isa.specs.declared.labelled.Line.{Line}
+use Rattle.mv_isa.specs.declared.labelled.Line.TheVariants.{Word, Label, Jump, Branch, Entry, Slot}
+use Rattle.mv_ir.specs.declared.tree.Tree.{Tree}
+use Rattle.mv_ir.specs.declared.tree.Tree.TheOpen.{Tree-F}
+use Rattle.mv_ir.specs.declared.tree.Tree.TheOpen as tree
+use Rattle.mv_ir.specs.declared.tree.Tree.TheViews.{roll-Tree}
+use Rattle.mv_ir.specs.declared.stm.Callee.{Callee}
+use Rattle.mv_ir.specs.declared.stm.Callee.TheVariants as callee
+use Rattle.mv_ir.specs.declared.stm.Stm.{Stm}
+use Rattle.mv_ir.specs.declared.stm.Stm.TheOpen.{Stm-F}
+use Rattle.mv_ir.specs.declared.stm.Stm.TheOpen as stm
+use Rattle.mv_ir.specs.declared.stm.Stm.TheViews.{roll-Stm}
+use Rattle.mv_ir.specs.declared.stm.Stm.TheFolds.{map-Stm}
+use Rattle.mv_ir.proofs.Induction.{Each, TreeChildren, tree_ind, StmChildren, stm_ind, stms_ind}
+use Rattle.mv_tree_code.specs.TreeCode.{one, two, upper_bits, lower_bits, number_lines, load_lines, read_temp, unary_lines, binary_lines, narrow_lines, tree_lines, temp_register}
+use Rattle.mv_tree_code.proofs.Rolls.{lines_roll}
+use Rattle.mv_statement_code.specs.declared.elements.Home.{Home}
+use Rattle.mv_statement_code.specs.declared.elements.Home.TheVariants as place_at
+use Rattle.mv_statement_code.specs.StatementCode.{first, second, third, trap_label, write_temp, division, element_offset, element_lines, test_lines, zero_lines}
+use Rattle.mv_flow_code.specs.declared.enclosing.Enclosing.{Enclosing}
+use Rattle.mv_flow_code.specs.FlowCode.{Plan as PlanOfCode, Emitted, in_turn, branch_lines, loop_at, block_at, home, size, code_layer, statement_code}
+use Rattle.mv_flow_code.proofs.StatementsDo.{code_roll}
+use Rattle.mv_call_code.specs.CallCode.{link_register, request_register, scratch_register, request_of, result_lines, guarded_lines, slot_lines, jump_lines, argument_lines, transfer_lines, call_lines, order_lines, ask_lines, known_lines}
+use Rattle.mv_function_code.specs.FunctionCode.{Shape, bytes_of, end_label, plan, body_lines, saved_count, saved_register, save_lines, restore_lines, parameter_lines, enter_lines, leave_lines, prologue_lines, epilogue_lines}
+use Rattle.mv_lowered_forms.specs.Calls.{callee_weight, layer_weight, stm_weight, code_weight}
+use Rattle.mv_bound_bodies.specs.Slots.{slots, one_each, SlotsAreCalls}
+use Rattle.mv_bound_bodies.proofs.Weights.{w_roll}
+
+abbrev Has : ℕ → List Line → Type 0
+Has n lines = slots lines ≡ n
+
+abbrev HasNone : List Line → Type 0
+HasNone = Has 0
+
+slots_append : (a b : List Line) → slots (a ++ b) ≡ slots a + slots b
+slots_append [] b = omega arith
+slots_append (Word i ∷ a) b = slots_append a b
+slots_append (Label l ∷ a) b = slots_append a b
+slots_append (Jump rd l ∷ a) b = slots_append a b
+slots_append (Branch funct3 rs1 rs2 l ∷ a) b = slots_append a b
+slots_append (Entry rd f ∷ a) b = slots_append a b
+slots_append (Slot f ∷ a) b = let rest = slots_append a b in let more : suc (slots (a ++ b)) ≡ suc (slots a) + slots b = omega (arith, rest) in more
+
+-- lines without slots before some, and behind some
+after : {n : ℕ} (a b : List Line) → HasNone a → Has n b → Has n (a ++ b)
+after a b h k = omega (arith, slots_append a b, h, k)
+
+before : {n : ℕ} (a b : List Line) → Has n a → HasNone b → Has n (a ++ b)
+before a b h k = omega (arith, slots_append a b, h, k)
+
+-- ---- trees
+
+number_none : (n r : ℕ) → HasNone (number_lines n r)
+unfolding number_lines
+number_none n r = by_length (eqb (upper_bits n) 0)
+  where
+    by_length : (is_short : Bool) → HasNone (cond is_short (one (Addi r 0 (lower_bits n))) (two (Lui r (pos (upper_bits n))) (Addi r r (lower_bits n))))
+    by_length true = refl
+    by_length false = refl
+
+unary_none : (o r : ℕ) → HasNone (unary_lines o r)
+unfolding unary_lines
+unary_none zero r = refl
+unary_none (suc zero) r = refl
+unary_none (suc (suc zero)) r = refl
+unary_none (suc (suc (suc o))) r = refl
+
+binary_none : (o r : ℕ) → HasNone (binary_lines o r)
+unfolding binary_lines
+binary_none zero r = refl
+binary_none (suc zero) r = refl
+binary_none (suc (suc zero)) r = refl
+binary_none (suc (suc (suc zero))) r = refl
+binary_none (suc (suc (suc (suc zero)))) r = refl
+binary_none (suc (suc (suc (suc (suc zero))))) r = refl
+binary_none (suc (suc (suc (suc (suc (suc zero)))))) r = refl
+binary_none (suc (suc (suc (suc (suc (suc (suc zero))))))) r = refl
+binary_none (suc (suc (suc (suc (suc (suc (suc (suc zero)))))))) r = refl
+binary_none (suc (suc (suc (suc (suc (suc (suc (suc (suc zero))))))))) r = refl
+binary_none (suc (suc (suc (suc (suc (suc (suc (suc (suc (suc zero)))))))))) r = refl
+binary_none (suc (suc (suc (suc (suc (suc (suc (suc (suc (suc (suc zero))))))))))) r = refl
+binary_none (suc (suc (suc (suc (suc (suc (suc (suc (suc (suc (suc (suc zero)))))))))))) r = refl
+binary_none (suc (suc (suc (suc (suc (suc (suc (suc (suc (suc (suc (suc (suc o))))))))))))) r = refl
+
+narrow_none : (k : Kind) (r : ℕ) → HasNone (narrow_lines k r)
+unfolding narrow_lines
+narrow_none kind.Bool r = refl
+narrow_none kind.SChar r = refl
+narrow_none kind.UChar r = refl
+narrow_none kind.Short r = refl
+narrow_none kind.UShort r = refl
+narrow_none kind.Int r = refl
+narrow_none kind.UInt r = refl
+
+module _ (place : ℕ → ℕ) where
+  abbrev TreeNone : Tree → Type 0
+  TreeNone t = (r : ℕ) → HasNone (tree_lines place t r)
+
+  at : (x : Tree-F Tree) (ls : ℕ → List Line) → tree_lines place (roll-Tree x) ≡ ls → ((r : ℕ) → HasNone (ls r)) → TreeNone (roll-Tree x)
+  at x ls e h r = subst (λ (k : ℕ → List Line). HasNone (k r)) (sym e) (h r)
+
+  tree_layer_none : (x : Tree-F Tree) → TreeChildren TreeNone x → TreeNone (roll-Tree x)
+  tree_layer_none (tree.Number n) h = let x = tree.Number n in at x (number_lines n) (lines_roll place x) (number_none n)
+  tree_layer_none (tree.Temp t) h = let x = tree.Temp t in at x (λ r. one (read_temp t r)) (lines_roll place x) (λ r. refl)
+  tree_layer_none (tree.Global g) h = let x = tree.Global g in at x (load_lines (place g)) (lines_roll place x) (λ r. refl)
+  tree_layer_none (tree.Function f) h = let x = tree.Function f in at x (λ r. Entry r f ∷ []) (lines_roll place x) (λ r. refl)
+  tree_layer_none (tree.Unary o a) h =
+      let x = tree.Unary o a in
+      at x (λ r. tree_lines place a r ++ unary_lines o r) (lines_roll place x) (λ r. after (tree_lines place a r) (unary_lines o r) (h r) (unary_none o r))
+  tree_layer_none (tree.Binary o a b) h =
+      let x = tree.Binary o a b in
+      at x (λ r. tree_lines place a r ++ (tree_lines place b (r + 1) ++ binary_lines o r)) (lines_roll place x)
+      (λ r. after (tree_lines place a r) (tree_lines place b (r + 1) ++ binary_lines o r) (h.0 r) (after (tree_lines place b (r + 1)) (binary_lines o r) (h.1 (r + 1)) (binary_none o r)))
+  tree_layer_none (tree.Narrow k a) h =
+      let x = tree.Narrow k a in
+      at x (λ r. tree_lines place a r ++ narrow_lines k r) (lines_roll place x) (λ r. after (tree_lines place a r) (narrow_lines k r) (h r) (narrow_none k r))
+
+  tree_none : (t : Tree) → TreeNone t
+  tree_none = tree_ind TreeNone tree_layer_none
+
+-- ---- parts of statements
+
+test_none : (n : ℕ) → HasNone (test_lines n)
+test_none n = after (number_lines n third) (Branch 7 first third (trap_label 2) ∷ []) (number_none n third) refl
+
+element_none : (h : Home) → HasNone (element_lines h)
+element_none (place_at.Data a) = refl
+element_none (place_at.Frame a) = refl
+
+zero_none : (a n : ℕ) → HasNone (zero_lines a n)
+zero_none a zero = refl
+zero_none a (suc n) = after (zero_lines a n) (one (Sw 2 0 (pos (a + 4 * n)))) (zero_none a n) refl
+
+-- ---- calls
+
+result_none : (r : Option ℕ) → HasNone (result_lines r)
+result_none None = refl
+result_none (Some t) = refl
+
+order_none : (k : Known) → HasNone (order_lines k)
+order_none Getchar = refl
+order_none Putchar = refl
+order_none Poll = refl
+order_none (Plan code index) = number_none index second
+
+ask_none : (k : Known) → HasNone (ask_lines k)
+ask_none Getchar = refl
+ask_none Putchar = refl
+ask_none Poll = refl
+ask_none (Plan code index) = refl
+
+module _ (place : ℕ → ℕ) (is_attributed : ℕ → Bool) where
+  argument_none : (n : ℕ) (ts : List Tree) → HasNone (argument_lines place n ts)
+  argument_none n [] = refl
+  argument_none n (t ∷ ts) =
+      after (tree_lines place t scratch_register) (Word (Addi n scratch_register (pos 0)) ∷ argument_lines place (suc n) ts) (tree_none place t scratch_register) (argument_none (suc n) ts)
+
+  abbrev direct : ℕ → ℕ
+  direct = one_each is_attributed
+
+  transfer_has : (f : Callee) (r : Option ℕ) → Has (callee_weight direct 0 f) (transfer_lines place is_attributed f r)
+  transfer_has (callee.Direct f) r = by (is_attributed f)
+    where
+      by : (b : Bool) → Has (cond b 1 0) (cond b (guarded_lines (slot_lines f) r) (Entry scratch_register f ∷ guarded_lines jump_lines r))
+      by true = ap suc (result_none r)
+      by false = result_none r
+  transfer_has (callee.Through t) r =
+      after (tree_lines place t scratch_register) (Branch 0 scratch_register 0 (trap_label 3) ∷ guarded_lines jump_lines r) (tree_none place t scratch_register) (result_none r)
+
+  call_has : (r : Option ℕ) (f : Callee) (args : List Tree) → Has (callee_weight direct 0 f) (call_lines place is_attributed r f args)
+  call_has r f args = after (argument_lines place first args) (transfer_lines place is_attributed f r) (argument_none first args) (transfer_has f r)
+
+  known_none : (r : Option ℕ) (k : Known) (args : List Tree) → HasNone (known_lines place r k args)
+  known_none r k args =
+      let request = Word (Addi request_register 0 (pos (request_of k))) in
+      after (argument_lines place first args) (order_lines k ++ (request ∷ (ask_lines k ++ result_lines r))) (argument_none first args)
+      (after (order_lines k) (request ∷ (ask_lines k ++ result_lines r)) (order_none k) (after (ask_lines k) (result_lines r) (ask_none k) (result_none r)))
+
+  -- ---- statements
+
+  module _ (sizes : ℕ → ℕ) (shape : Shape) where
+    abbrev P : PlanOfCode
+    P = plan place sizes is_attributed shape
+
+    abbrev CodeHas : ℕ → Emitted → Type 0
+    CodeHas n code = (around : List Enclosing) (label : ℕ) → Has n (code.lines around label)
+
+    abbrev w : Stm → ℕ
+    w = stm_weight direct 0
+
+    abbrev StmHas : Stm → Type 0
+    StmHas s = CodeHas (w s) (statement_code P s)
+
+    in_order_has : (code : List Stm) → Each StmHas code → CodeHas (code_weight direct 0 code) (in_turn (map (statement_code P) code))
+    in_order_has [] h around label = refl
+    in_order_has (s ∷ code) h around label =
+        let here = statement_code P s in
+        let rest = in_turn (map (statement_code P) code) in
+        slots_append (here.lines around label) (rest.lines around (label + here.labels)) ∙ ap (λ n. n + slots (rest.lines around (label + here.labels))) (h.0 around label) ∙ ap (λ n. w s + n) (in_order_has code h.1 around (label + here.labels))
+
+    trees : (t : Tree) (r : ℕ) → HasNone (tree_lines place t r)
+    trees = tree_none place
+
+    layer : (x : Stm-F Stm) → StmChildren StmHas x → CodeHas (layer_weight direct 0 (map-Stm Stm ℕ w x)) (code_layer P (map-Stm Stm Emitted (statement_code P) x))
+    layer (stm.Set t v) h around label = after (tree_lines place v first) (one (write_temp t first)) (trees v first) refl
+    layer (stm.SetGlobal g v) h around label =
+        after (tree_lines place v first) (two (Lui second (pos (upper_bits (place g)))) (Sw second first (lower_bits (place g)))) (trees v first) refl
+    layer (stm.Divide t o a b) h around label =
+        let rest = Branch 0 second 0 (trap_label 1) ∷ two (division o) (write_temp t first) in
+        after (tree_lines place a first) (tree_lines place b second ++ rest) (trees a first) (after (tree_lines place b second) rest (trees b second) refl)
+    layer (stm.Check a i) h around label = after (tree_lines place i first) (test_lines (size P a)) (trees i first) (test_none (size P a))
+    layer (stm.Read t a i) h around label =
+        let load = two (Lw first first (element_offset (home P a))) (write_temp t first) in
+        after (tree_lines place i first) (test_lines (size P a) ++ (element_lines (home P a) ++ load)) (trees i first)
+        (after (test_lines (size P a)) (element_lines (home P a) ++ load) (test_none (size P a)) (after (element_lines (home P a)) load (element_none (home P a)) refl))
+    layer (stm.Write a i v) h around label =
+        let store = one (Sw first second (element_offset (home P a))) in
+        after (tree_lines place i first) (tree_lines place v second ++ (test_lines (size P a) ++ (element_lines (home P a) ++ store))) (trees i first)
+        (after (tree_lines place v second) (test_lines (size P a) ++ (element_lines (home P a) ++ store)) (trees v second)
+        (after (test_lines (size P a)) (element_lines (home P a) ++ store) (test_none (size P a)) (after (element_lines (home P a)) store (element_none (home P a)) refl)))
+    layer (stm.Zero a) h around label = zero_none (P.array_at a) (P.array_size a)
+    layer (stm.If t a b) h around label =
+        let one_code = in_turn (map (statement_code P) a) in
+        let other = in_turn (map (statement_code P) b) in
+        let ls = one_code.lines around (label + 2) in
+        let ls' = other.lines around (label + 2 + one_code.labels) in
+        let rest = ls' ++ (Label (label + 1) ∷ []) in
+        let behind : Has (code_weight direct 0 b) rest = before ls' (Label (label + 1) ∷ []) (in_order_has b h.1 around (label + 2 + one_code.labels)) refl in
+        let both : Has (code_weight direct 0 a + code_weight direct 0 b) (ls ++ (Jump 0 (label + 1) ∷ Label label ∷ rest)) =
+        slots_append ls (Jump 0 (label + 1) ∷ Label label ∷ rest) ∙ ap (λ n. n + slots rest) (in_order_has a h.0 around (label + 2)) ∙ ap (λ n. code_weight direct 0 a + n) behind
+        in
+        after (tree_lines place t first) (branch_lines label ls ls') (trees t first) both
+    layer (stm.Loop b) h around label =
+        let inner = in_turn (map (statement_code P) b) in
+        before (inner.lines (loop_at label ∷ around) (label + 2)) (Jump 0 label ∷ Label (label + 1) ∷ []) (in_order_has b h (loop_at label ∷ around) (label + 2)) refl
+    layer (stm.Block b) h around label =
+        let inner = in_turn (map (statement_code P) b) in
+        before (inner.lines (block_at label ∷ around) (label + 1)) (Label label ∷ []) (in_order_has b h (block_at label ∷ around) (label + 1)) refl
+    layer (stm.Break n) h around label = refl
+    layer (stm.Back n) h around label = refl
+    layer (stm.Call r f args) h around label = call_has r f args
+    layer (stm.Known r k args) h around label = known_none r k args
+    layer (stm.Return v) h around label = after (tree_lines place v first) (Jump 0 end_label ∷ []) (trees v first) refl
+
+    from_layer : (x : Stm-F Stm) → StmChildren StmHas x → StmHas (roll-Stm x)
+    from_layer x h = subst (λ n. CodeHas n (statement_code P (roll-Stm x))) (sym (w_roll direct 0 x)) (subst (CodeHas (layer_weight direct 0 (map-Stm Stm ℕ w x))) (sym (code_roll P x)) (layer x h))
+
+    code_has : (code : List Stm) → Has (code_weight direct 0 code) (body_lines place sizes is_attributed shape code)
+    code_has code = in_order_has code (stms_ind StmHas (stm_ind StmHas from_layer) code) [] (end_label + 1)
+
+-- ---- entry and return
+
+save_none : (k : ℕ) → HasNone (save_lines k)
+save_none zero = refl
+save_none (suc k) = after (save_lines k) (one (Sw 2 (saved_register k) (pos (4 * k)))) (save_none k) refl
+
+restore_none : (k : ℕ) → HasNone (restore_lines k)
+restore_none zero = refl
+restore_none (suc k) = after (restore_lines k) (one (Lw (saved_register k) 2 (pos (4 * k)))) (restore_none k) refl
+
+parameter_none : (k : ℕ) → HasNone (parameter_lines k)
+parameter_none zero = refl
+parameter_none (suc k) = after (parameter_lines k) (one (Addi (temp_register k) (first + k) (pos 0))) (parameter_none k) refl
+
+enter_none : (attributed : Bool) → HasNone (enter_lines attributed)
+enter_none true = refl
+enter_none false = refl
+
+leave_none : (attributed : Bool) → HasNone (leave_lines attributed)
+leave_none true = refl
+leave_none false = refl
+
+entry_none : (attributed : Bool) (params temps bytes : ℕ) → HasNone (prologue_lines attributed params temps bytes)
+entry_none attributed params temps bytes =
+    after (save_lines (saved_count temps)) (parameter_lines params ++ enter_lines attributed) (save_none (saved_count temps))
+    (after (parameter_lines params) (enter_lines attributed) (parameter_none params) (enter_none attributed))
+
+return_none : (attributed : Bool) (temps bytes : ℕ) → HasNone (epilogue_lines attributed temps bytes)
+return_none attributed temps bytes =
+    let back = two (Addi 2 2 (pos bytes)) (Jalr 0 link_register (pos 0)) in
+    after (leave_lines attributed) (restore_lines (saved_count temps) ++ back) (leave_none attributed) (after (restore_lines (saved_count temps)) back (restore_none (saved_count temps)) refl)
+
+-- ---- functions
+
+pub slots_are_calls : SlotsAreCalls
+slots_are_calls place sizes is_attributed shape code =
+    let end = Label end_label ∷ epilogue_lines shape.attributed shape.temps (bytes_of shape) in
+    let body = body_lines place sizes is_attributed shape code in
+    after (prologue_lines shape.attributed shape.params shape.temps (bytes_of shape)) (body ++ end) (entry_none shape.attributed shape.params shape.temps (bytes_of shape))
+    (before body end (code_has place is_attributed sizes shape code) (return_none shape.attributed shape.temps (bytes_of shape)))

@@ -1,0 +1,8 @@
+use Rattle.mv_bound_bodies.proofs.Meant.{made, made_of_lowered}
+use Rattle.mv_bound_bodies.proofs.made_bodies_are_variants.Goals as goal
+
+pub returns-clause-all : goal.returns-clause-all
+returns-clause-all c = made
+
+pub returns-clause-lowered : goal.returns-clause-lowered
+returns-clause-lowered c = made_of_lowered

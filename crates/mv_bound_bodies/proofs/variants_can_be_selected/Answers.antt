@@ -1,0 +1,11 @@
+use Rattle.mv_bound_bodies.proofs.Variants.{made_names, made_calls, made_in_program}
+use Rattle.mv_bound_bodies.proofs.variants_can_be_selected.Goals as goal
+
+pub returns-clause-names : goal.returns-clause-names
+returns-clause-names c = made_names
+
+pub returns-clause-calls : goal.returns-clause-calls
+returns-clause-calls c = made_calls
+
+pub returns-clause-selected : goal.returns-clause-selected
+returns-clause-selected c = made_in_program

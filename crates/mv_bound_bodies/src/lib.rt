@@ -1,0 +1,62 @@
+//! What holds of the bodies of attributed functions under values of their switches: which of them a table's rows lead to, and what they mean.
+#![tactic(auto)]
+
+ghost use Rattle.mv_bound_bodies.specs.Led.{BodiesAreMade, CombinationsAreLed};
+ghost use Rattle.mv_bound_bodies.specs.Meant.{LoweredAreVariants, MadeAreVariants};
+ghost use Rattle.mv_bound_bodies.specs.Names.{BindingNamesNoMore, FoldingNamesNoMore};
+ghost use Rattle.mv_bound_bodies.specs.Rows.{FittingIsLed, GroupedIsLed};
+ghost use Rattle.mv_bound_bodies.specs.Slots.{AllSlotsAreFew, OwnSlotsAreFew, SlotsAreCalls, SlotsAreFew, SlotsArePatchable, VariantSlotsAreFew};
+ghost use Rattle.mv_bound_bodies.specs.Switches.{FunctionsAreLed};
+ghost use Rattle.mv_bound_bodies.specs.Tables.{GroupsFit, VariantsAreLed};
+ghost use Rattle.mv_bound_bodies.specs.Variants.{MadeAreInProgram, MadeCallNoMore, MadeNameNoMore};
+
+/// The rows that a merge gives, grouped by the bodies that they lead to, lead from the values of the switches to the body that came with them.
+/// The call does nothing: its contract is the law.
+///
+/// `leads`: of a function's own rows, with others behind. `grouped`: of these alone. `tables`: of an image whose rows are those of all functions, one after the
+/// other. `combinations`: there each combination leads to a body that is made of the function's under it. `functions`: of a program's function, with the domains
+/// of its switches. `groups`: no group is empty, and all together have no more rows than there are assignments. `bodies`: each body that a merge keeps is made
+/// of the function's.
+pub fn rows_lead_to_variants()
+    ensures leads { FittingIsLed }
+    ensures grouped { GroupedIsLed }
+    ensures tables { VariantsAreLed }
+    ensures combinations { CombinationsAreLed }
+    ensures functions { FunctionsAreLed }
+    ensures groups { GroupsFit }
+    ensures bodies { BodiesAreMade }
+{}
+
+/// A body that is bound to values of its switches, folded and renamed means under these values what the first means, reads none of the switches, and is no
+/// greater. The call does nothing: its contract is the law.
+pub fn made_bodies_are_variants()
+    ensures all { MadeAreVariants }
+    ensures lowered { LoweredAreVariants }
+{}
+
+/// Code whose switches are bound, and folded code, name no functions and known functions that the code before doesn't, and constants stay words. The call
+/// does nothing: its contract is the law.
+pub fn passes_name_no_more()
+    ensures bind { BindingNamesNoMore }
+    ensures fold { FoldingNamesNoMore }
+{}
+
+/// A body that is bound to words, folded and renamed names no more than the first and has no more calls of each function; and it is one that code can be
+/// selected for, where the first is but for its temporaries. The call does nothing: its contract is the law.
+pub fn variants_can_be_selected()
+    ensures names { MadeNameNoMore }
+    ensures calls { MadeCallNoMore }
+    ensures selected { MadeAreInProgram }
+{}
+
+/// The lines of a function have one slot for each direct call of an attributed function in its code; its own and those of a variant have no more
+/// than it has calls of attributed functions in the source, its variants together no more than that for each assignment, and all functions together no more
+/// than a plan can patch. The call does nothing: its contract is the law.
+pub fn slots_are_counted()
+    ensures code { SlotsAreCalls }
+    ensures few { SlotsAreFew }
+    ensures own { OwnSlotsAreFew }
+    ensures all { AllSlotsAreFew }
+    ensures variants { VariantSlotsAreFew }
+    ensures patchable { SlotsArePatchable }
+{}
