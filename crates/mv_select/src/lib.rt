@@ -7,6 +7,7 @@ mod laws;
 mod selection;
 
 pub use laws::selection_law;
+pub use mv_inline_bodies::inline_of;
 pub use selection::select;
 
 #[cfg(test)]

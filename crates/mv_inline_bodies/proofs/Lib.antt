@@ -1,0 +1,9 @@
+pub mod Equations
+pub mod Rooms
+pub mod Steps
+pub mod Stored
+pub mod Shapes
+pub mod Bodies
+pub mod Fit
+pub mod Shown
+pub mod Exactly

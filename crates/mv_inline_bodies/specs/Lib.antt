@@ -1,0 +1,3 @@
+pub mod InlineOf
+pub mod Shapes
+pub mod Laws
