@@ -1,7 +1,7 @@
-use crate::error::LexError;
-use crate::lex;
 use mv_ast::place::Place;
 use mv_ast::token::{Piece, Token};
+use mv_lexer::error::LexError;
+use mv_lexer::lex;
 use mv_num::kind::Kind;
 use std::alloc::Global;
 use std::test::Fail;

@@ -1,8 +1,4 @@
-//! What no clause says: that the calls succeed, and what the objects over the machine do.
-use crate::{
-    Failed, FileShelf, MemShelf, MemSink, MemSource, Shelf, ShelfError, Sink, Source, StdSink,
-    StdSource,
-};
+use mv_io::{Failed, FileShelf, Shelf, ShelfError, Sink, Source, StdSink, StdSource};
 use std::io::{ErrorKind, Read, Write};
 use std::test::Fail;
 use std::{fs, io};
@@ -67,7 +63,7 @@ fn standard_input_fails_in_mid_stream_and_stays_at_its_end(rt: HostRuntime) {
         Ok(None),
     ];
     for want in wanted {
-        assert_eq!(rt; source.read_byte(), want);
+        assert!(rt; source.read_byte() == want);
     }
 }
 
@@ -95,9 +91,9 @@ fn standard_output_takes_pieces_and_fails(rt: HostRuntime) -> Result<(), Fail> {
     let mut sink = StdSink::new(&mut pipe);
     let wanted = [Ok(2), Err(Failed), Err(Failed), Ok(2)];
     for want in wanted {
-        assert_eq!(rt; sink.write(b"xyz"), want);
+        assert!(rt; sink.write(b"xyz") == want);
     }
-    assert_eq!(rt; sink.write(b""), Ok(0));
+    assert!(rt; sink.write(b"") == Ok(0));
     drop(sink);
     assert_eq!(rt; pipe.bytes.as_slice(), b"xyxyxy".as_slice());
     Ok(())
@@ -118,59 +114,10 @@ fn files_are_saved_and_loaded(rt: HostRuntime) -> Result<(), Fail> {
     ];
     for (name, want) in rows {
         let loaded = shelf.load(alloc, name).ok();
-        assert_eq!(rt;
-            loaded.as_ref().map(|bytes| bytes.as_slice()),
-            want,
-            "{name}"
-        );
+        assert!(rt; loaded.as_ref().map(|bytes| bytes.as_slice()) == want);
     }
     let refused = shelf.save(alloc, "mv_io_shelf", b"a folder");
-    assert_eq!(rt; refused, Err(ShelfError::Failed));
+    assert!(rt; matches!(refused, Err(ShelfError::Failed)));
     fs::remove_dir_all(&rt, "mv_io_shelf")?;
-    Ok(())
-}
-
-#[test]
-fn objects_in_memory_fail_where_they_are_told_to(rt: HostRuntime) -> Result<(), Fail> {
-    let alloc = rt.alloc();
-    let mut source = MemSource::new(b"ab".to_vec(alloc)?, [2, 5].to_vec(alloc)?);
-    let wanted = [
-        Ok(Some(b'a')),
-        Err(Failed),
-        Ok(Some(b'b')),
-        Ok(None),
-        Err(Failed),
-    ];
-    for want in wanted {
-        assert_eq!(rt; source.read_byte(), want);
-    }
-
-    let mut sink = MemSink::new(alloc, 5, 3, [2].to_vec(alloc)?)?;
-    let wanted = [Ok(3), Err(Failed), Ok(2), Err(Failed)];
-    for want in wanted {
-        assert_eq!(rt; sink.write(b"wxyz"), want);
-    }
-    assert_eq!(rt; sink.bytes(), b"wxywx".as_slice());
-    Ok(())
-}
-
-#[test]
-fn a_shelf_in_memory_fails_where_it_is_told_to(rt: HostRuntime) -> Result<(), Fail> {
-    let alloc = rt.alloc();
-    let mut shelf = MemShelf::new(alloc, [2, 4].to_vec(alloc)?);
-    shelf.put(alloc, "a", b"old")?;
-    assert_eq!(rt; shelf.load(alloc, "a")?.as_slice(), b"old".as_slice());
-    assert_eq!(rt; shelf.save(alloc, "a", b"new"), Err(ShelfError::Failed));
-    shelf.save(alloc, "b", b"new")?;
-    assert!(rt; shelf.load(alloc, "a").is_err());
-    assert!(rt; shelf.load(alloc, "c").is_err());
-    let rows = [
-        ("a", Some(b"old".as_slice())),
-        ("b", Some(b"new".as_slice())),
-        ("c", None),
-    ];
-    for (name, want) in rows {
-        assert_eq!(rt; shelf.file(name), want, "{name}");
-    }
     Ok(())
 }
