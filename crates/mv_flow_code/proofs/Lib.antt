@@ -13,3 +13,4 @@ pub mod StatementsDo
 pub mod TargetsStand
 pub mod TreeNames
 pub mod Walk
+pub mod Zeroing

@@ -3,7 +3,7 @@ ghost use Rattle.std.specs.Prelude.{◌≡◌, [], ◌∷◌, IfOk};
 
 use crate::calls::CallCode;
 use crate::emitter::Emitter;
-use crate::layout::Layout;
+use crate::layout::{Layout, Space};
 use crate::{flow_code_law, push_statements};
 use mv_ast::program::Known;
 use mv_ir::stm::{Callee, Stm};
@@ -47,6 +47,7 @@ enum Item {
     Label(u32),
     Jump(u32),
     Unless(u32),
+    Unequal(u32),
 }
 
 fn is_item(line: &Line, item: &Item) -> bool {
@@ -57,6 +58,10 @@ fn is_item(line: &Line, item: &Item) -> bool {
         (Line::Branch(funct3, rs1, rs2, l), Item::Unless(k)) => *funct3 == 0
             && *rs1 == 10
             && *rs2 == 0
+            && l == k,
+        (Line::Branch(funct3, rs1, rs2, l), Item::Unequal(k)) => *funct3 == 1
+            && *rs1 == 10
+            && *rs2 == 11
             && l == k,
         _ => false,
     }
@@ -135,6 +140,35 @@ fn a_branch_in_a_block_in_a_loop(rt: HostRuntime) {
         Item::Jump(9),
     ];
     assert!(rt; emitter.free == 6);
+    assert!(rt; is_code(&emitter.lines, &items));
+}
+
+// `addi a0, sp, 40` and `addi a1, sp, 2000`; `sw x0, 0(a0)` and `addi a0, a0, 4`; and `bne a0, a1` to the turn.
+#[test]
+#[tactic(auto, using(crate::proofs::Nested::cleared_fits))]
+fn an_array_of_490_words_is_made_0(rt: HostRuntime) {
+    let alloc = rt.alloc();
+    let statements = one(alloc, Stm::Zero(0)).expect(&rt, "memory");
+    let mut arrays = List::new(alloc);
+    arrays.push(Space { at: 40, size: 490 }).expect(&rt, "memory");
+    let layout = Layout {
+        rooms: List::new(alloc),
+        arrays,
+        end: 9,
+    };
+    let mut emitter = Emitter::new(alloc, 1);
+    push_statements(&mut emitter, &layout, &NoCalls, &statements).expect(&rt, "memory");
+    let items = [
+        Item::Word(0x0281_0513),
+        Item::Word(0x7D01_0593),
+        Item::Jump(2),
+        Item::Label(1),
+        Item::Word(0x0005_2023),
+        Item::Word(0x0045_0513),
+        Item::Label(2),
+        Item::Unequal(1),
+    ];
+    assert!(rt; emitter.free == 3);
     assert!(rt; is_code(&emitter.lines, &items));
 }
 

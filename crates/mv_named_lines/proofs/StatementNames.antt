@@ -13,7 +13,7 @@ use Rattle.mv_ir.specs.declared.stm.Stm.TheFolds.{fold-roll-Stm, map-Stm}
 use Rattle.mv_ir.specs.Measures.{joined}
 use Rattle.mv_ir.proofs.Induction.{Each, StmChildren, stm_ind, stms_ind}
 use Rattle.mv_tree_code.specs.TreeCode.{tree_lines}
-use Rattle.mv_statement_code.specs.StatementCode.{first, trap_label}
+use Rattle.mv_statement_code.specs.StatementCode.{first, second, bounds_lines, clear_lines, trap_label}
 use Rattle.mv_flow_code.specs.declared.enclosing.Enclosing.{Enclosing}
 use Rattle.mv_flow_code.specs.FlowCode.{Plan, Emitted, in_turn, enclosing_at, branch_lines, loop_at, block_at, home, size, code_layer, code_of, statement_code}
 use Rattle.mv_flow_code.specs.Labels.{named_layer, stm_functions, tree_functions}
@@ -23,7 +23,7 @@ use Rattle.mv_call_code.specs.Environment.{IsDirect}
 use Rattle.mv_selected_bodies.specs.SelectedBodies.{knowns_layer, stm_knowns}
 use Rattle.mv_named_lines.specs.Lines.{Names, CallsAreNamed, MayName, IsGoal, LinesAreNamed}
 use Rattle.mv_named_lines.proofs.CallNames.{calls_name}
-use Rattle.mv_named_lines.proofs.TreeNames.{tree_names, set_names, set_global_names, divide_names, check_names, read_names, write_names, zero_names, return_names}
+use Rattle.mv_named_lines.proofs.TreeNames.{tree_names, set_names, set_global_names, divide_names, check_names, read_names, write_names, bounds_names, clear_names, return_names}
 
 named_roll : (x : Stm-F Stm) → stm_functions (roll-Stm x) ≡ named_layer (map-Stm Stm (List ℕ) stm_functions x)
 unfolding stm_functions
@@ -106,7 +106,16 @@ module _ (L P Q : ℕ → Type 0) (plan : Plan) (calls : CallsAreNamed L P Q pla
   layer (stm.Check a i) h names asked around starts ends label own = check_names L P Q plan.place (size plan a) i index names
   layer (stm.Read t a i) h names asked around starts ends label own = read_names L P Q plan.place t (size plan a) (home plan a) i index names
   layer (stm.Write a i v) h names asked around starts ends label own = write_names L P Q plan.place (size plan a) (home plan a) i v index (left i v names) (right i v names)
-  layer (stm.Zero a) h names asked around starts ends label own = zero_names L P Q plan.place (plan.array_at a) (plan.array_size a)
+  layer (stm.Zero a) h names asked around starts ends label own =
+      let bounds = bounds_lines (plan.array_at a) (plan.array_size a) in
+      let test = Label (label + 1) ∷ Branch 1 first second label ∷ [] in
+      let turn = own label (omega arith) (omega arith) in
+      let tested = own (label + 1) (omega arith) (omega arith) in
+      after bounds (Jump 0 (label + 1) ∷ Label label ∷ (clear_lines ++ test)) (bounds_names L P Q plan.place (plan.array_at a) (plan.array_size a))
+      (then_line (Jump 0 (label + 1)) (Label label ∷ (clear_lines ++ test)) tested.1
+      (then_line (Label label) (clear_lines ++ test) turn.0
+      (after clear_lines test (clear_names L P Q plan.place)
+      (then_line (Label (label + 1)) (Branch 1 first second label ∷ []) tested.0 (then_line (Branch 1 first second label) [] turn.1 nothing)))))
   layer (stm.Return v) h names asked around starts ends label own = return_names L P Q plan.place plan.end v end names
   layer (stm.Break n) h names asked around starts ends label own =
       let to = (enclosing_at around n plan.end).end in

@@ -1,6 +1,6 @@
 //! The words of small statements, as LLVM's assembler gives them for the instructions that were worked out by hand.
 
-use crate::elements::{Home, push_check, push_read, push_write, push_zero};
+use crate::elements::{Home, push_bounds, push_check, push_clear, push_read, push_write};
 use crate::statement_code_law;
 use crate::values::{push_divide, push_return, push_set, push_set_global};
 use mv_ir::body::Room;
@@ -87,21 +87,25 @@ fn an_element_of_the_frame_is_read(rt: HostRuntime) {
     assert!(rt; is_code(&code, &words, &Line::Branch(7, 10, 12, 4_294_967_291)));
 }
 
-// A store to a global, `addi a0, x0, 5`, `lui a1, 0x101`, `sw a0, -2044(a1)`; two words cleared, `sw x0, 40(sp)` and
-// `sw x0, 44(sp)`; `addi a0, s1, 0` as the result, and the way to the end, label 9.
+// A store to a global, `addi a0, x0, 5`, `lui a1, 0x101`, `sw a0, -2044(a1)`; the bounds of two words, `addi a0, sp, 40` and
+// `addi a1, sp, 48`, and one of them cleared, `sw x0, 0(a0)` and `addi a0, a0, 4`; `addi a0, s1, 0` as the result, and the way
+// to the end, label 9.
 #[test]
 #[tactic(auto, using(mv_tree_code::proofs::Equations::trees))]
-fn a_store_two_zeros_and_a_return(rt: HostRuntime) {
+fn a_store_a_cleared_word_and_a_return(rt: HostRuntime) {
     let mut code = List::new(rt.alloc());
     push_set_global(&mut code, &ROOMS, 7, &Tree::Number(5)).expect(&rt, "memory");
-    push_zero(&mut code, 40, 2).expect(&rt, "memory");
+    push_bounds(&mut code, 40, 2).expect(&rt, "memory");
+    push_clear(&mut code).expect(&rt, "memory");
     push_return(&mut code, &ROOMS, 9, &Tree::Temp(0)).expect(&rt, "memory");
     let words = [
         Some(0x0050_0513),
         Some(0x0010_15B7),
         Some(0x80A5_A223),
-        Some(0x0201_2423),
-        Some(0x0201_2623),
+        Some(0x0281_0513),
+        Some(0x0301_0593),
+        Some(0x0005_2023),
+        Some(0x0045_0513),
         Some(0x0004_8513),
         None,
     ];
