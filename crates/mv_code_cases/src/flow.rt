@@ -3,7 +3,7 @@ ghost use Rattle.std.specs.Prelude.{◌≡◌, [], ◌∷◌, IfOk};
 use crate::lines::{Item, is_code};
 use mv_call_code::Calls;
 use mv_flow_code::emitter::Emitter;
-use mv_flow_code::layout::Layout;
+use mv_flow_code::layout::{Layout, Space};
 use mv_flow_code::push_statements;
 use mv_ir::stm::Stm;
 use mv_ir::tree::Tree;
@@ -78,5 +78,38 @@ fn a_branch_in_a_block_in_a_loop(rt: HostRuntime) {
         Item::Jump(0, 9),
     ];
     assert!(rt; emitter.free == 6);
+    assert!(rt; is_code(&emitter.lines, &items));
+}
+
+// `addi a0, sp, 40` and `addi a1, sp, 2000`; `sw x0, 0(a0)` and `addi a0, a0, 4`; and `bne a0, a1` to the turn.
+#[test]
+#[tactic(auto, using(crate::proofs::Nested::cleared_fits))]
+fn an_array_of_490_words_is_made_0(rt: HostRuntime) {
+    let alloc = rt.alloc();
+    let statements = one(alloc, Stm::Zero(0)).expect(&rt, "memory");
+    let mut arrays = List::new(alloc);
+    arrays.push(Space { at: 40, size: 490 }).expect(&rt, "memory");
+    let layout = Layout {
+        rooms: List::new(alloc),
+        arrays,
+        end: 9,
+    };
+    let calls = Calls {
+        rooms: &[],
+        marked: &[],
+    };
+    let mut emitter = Emitter::new(alloc, 1);
+    push_statements(&mut emitter, &layout, &calls, &statements).expect(&rt, "memory");
+    let items = [
+        Item::Word(0x0281_0513),
+        Item::Word(0x7D01_0593),
+        Item::Jump(0, 2),
+        Item::Label(1),
+        Item::Word(0x0005_2023),
+        Item::Word(0x0045_0513),
+        Item::Label(2),
+        Item::Branch(1, 10, 11, 1),
+    ];
+    assert!(rt; emitter.free == 3);
     assert!(rt; is_code(&emitter.lines, &items));
 }

@@ -2,7 +2,7 @@ use crate::lines::{Item, is_code};
 use mv_ir::body::Room;
 use mv_ir::tree::Tree;
 use mv_num::list::List;
-use mv_statement_code::elements::{Home, push_check, push_read, push_write, push_zero};
+use mv_statement_code::elements::{Home, push_bounds, push_check, push_clear, push_read, push_write};
 use mv_statement_code::values::{push_divide, push_return, push_set, push_set_global};
 
 const ROOMS: [Room; 1] = [Room {
@@ -42,7 +42,8 @@ fn values(rt: HostRuntime) {
 // An element of a global is written, `addi a0, s1, 0`, `addi a1, s2, 0`, `addi a2, x0, 5`, `bgeu a0, a2` to the stub of trap 2,
 // `slli a0, a0, 2`, `lui a2, 0x101`, `add a0, a0, a2`, `sw a1, -2044(a0)`; one of the frame is read, `addi a0, s2, 0`,
 // `lui a2, 1`, `addi a2, a2, -1096`, the test, `slli a0, a0, 2`, `add a0, a0, sp`, `lw a0, 48(a0)`, `addi s1, a0, 0`; an index is
-// tested, `addi a0, s2, 0`, `addi a2, x0, 5` and the test; and two words are cleared, `sw x0, 40(sp)` and `sw x0, 44(sp)`.
+// tested, `addi a0, s2, 0`, `addi a2, x0, 5` and the test; the bounds of two words, `addi a0, sp, 40` and `addi a1, sp, 48`, and one
+// of them cleared, `sw x0, 0(a0)` and `addi a0, a0, 4`.
 #[test]
 #[tactic(auto, using(mv_tree_code::proofs::Equations::trees))]
 fn elements(rt: HostRuntime) {
@@ -51,7 +52,8 @@ fn elements(rt: HostRuntime) {
     push_write(&mut code, &ROOMS, home, 5, &Tree::Temp(0), &Tree::Temp(1)).expect(&rt, "memory");
     push_read(&mut code, &ROOMS, 0, Home::Frame(48), 3000, &Tree::Temp(1)).expect(&rt, "memory");
     push_check(&mut code, &ROOMS, 5, &Tree::Temp(1)).expect(&rt, "memory");
-    push_zero(&mut code, 40, 2).expect(&rt, "memory");
+    push_bounds(&mut code, 40, 2).expect(&rt, "memory");
+    push_clear(&mut code).expect(&rt, "memory");
     let test = Item::Branch(7, 10, 12, 4_294_967_291);
     let items = [
         Item::Word(0x0004_8513),
@@ -73,8 +75,10 @@ fn elements(rt: HostRuntime) {
         Item::Word(0x0009_0513),
         Item::Word(0x0050_0613),
         test,
-        Item::Word(0x0201_2423),
-        Item::Word(0x0201_2623),
+        Item::Word(0x0281_0513),
+        Item::Word(0x0301_0593),
+        Item::Word(0x0005_2023),
+        Item::Word(0x0045_0513),
     ];
     assert!(rt; is_code(&code, &items));
 }

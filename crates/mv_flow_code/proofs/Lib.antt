@@ -12,3 +12,4 @@ pub mod StatementsDo
 pub mod TargetsStand
 pub mod TreeNames
 pub mod Walk
+pub mod Zeroing

@@ -12,7 +12,7 @@ use Rattle.mv_ir.specs.declared.stm.Stm.TheFolds.{fold-roll-Stm, map-Stm}
 use Rattle.mv_ir.specs.Measures.{joined}
 use Rattle.mv_ir.proofs.Induction.{Each, StmChildren, stm_ind, stms_ind}
 use Rattle.mv_tree_code.specs.TreeCode.{tree_lines}
-use Rattle.mv_statement_code.specs.StatementCode.{first, trap_label}
+use Rattle.mv_statement_code.specs.StatementCode.{first, second, bounds_lines, clear_lines, trap_label}
 use Rattle.mv_flow_code.specs.declared.enclosing.Enclosing.{Enclosing}
 use Rattle.mv_flow_code.specs.FlowCode.{Plan, Emitted, in_turn, enclosing_at, branch_lines, loop_at, block_at, home, size as plan_size, code_layer, code_of, statement_code}
 use Rattle.mv_flow_code.specs.Labels.{named_layer, stm_functions, tree_functions, functions}
@@ -21,7 +21,7 @@ use Rattle.mv_flow_code.proofs.TreeNames.{all_front, all_back}
 use Rattle.mv_call_code.specs.CallCode.{commit_label}
 use Rattle.mv_function_code.specs.FunctionCode.{Shape, end_label, plan}
 use Rattle.mv_named_lines.proofs.CallNames.{call_names, known_names}
-use Rattle.mv_named_lines.proofs.TreeNames.{AllName, IsPlain, after, nothing, then_line, tree_names, set_names, set_global_names, divide_names, check_names, read_names, write_names, zero_names, return_names}
+use Rattle.mv_named_lines.proofs.TreeNames.{AllName, IsPlain, after, nothing, then_line, tree_names, set_names, set_global_names, divide_names, check_names, read_names, write_names, bounds_names, clear_names, return_names}
 
 named_roll : (x : Stm-F Stm) → stm_functions (roll-Stm x) ≡ named_layer (map-Stm Stm (List ℕ) stm_functions x)
 unfolding stm_functions
@@ -101,7 +101,15 @@ module _ (L P C Q S : ℕ → Type 0) (null : P (trap_label 3)) (depth : P (trap
   layer (stm.Check a i) h names around starts ends label own = check_names L P C Q S place (plan_size at a) i index names
   layer (stm.Read t a i) h names around starts ends label own = read_names L P C Q S place t (plan_size at a) (home at a) i index names
   layer (stm.Write a i v) h names around starts ends label own = write_names L P C Q S place (plan_size at a) (home at a) i v index (left i v names) (right i v names)
-  layer (stm.Zero a) h names around starts ends label own = zero_names L P C Q S place (at.array_at a) (at.array_size a)
+  layer (stm.Zero a) h names around starts ends label own =
+      let test = Label (label + 1) ∷ Branch 1 first second label ∷ [] in
+      let turn = own label (omega arith) (omega arith) in
+      let tested = own (label + 1) (omega arith) (omega arith) in
+      follow (bounds_lines (at.array_at a) (at.array_size a)) (Jump 0 (label + 1) ∷ Label label ∷ (clear_lines ++ test)) (bounds_names L P C Q S place (at.array_at a) (at.array_size a))
+      (line (Jump 0 (label + 1)) (Label label ∷ (clear_lines ++ test)) (inl (refl, tested.1))
+      (line (Label label) (clear_lines ++ test) turn.0
+      (follow clear_lines test (clear_names L P C Q S place)
+      (line (Label (label + 1)) (Branch 1 first second label ∷ []) tested.0 (line (Branch 1 first second label) [] turn.1 none)))))
   layer (stm.Return v) h names around starts ends label own = return_names L P C Q S place end_label v end names
   layer (stm.Break n) h names around starts ends label own =
       line (Jump 0 (enclosing_at around n end_label).end) [] (inl (refl, end_is around n ends)) none
