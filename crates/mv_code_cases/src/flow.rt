@@ -88,7 +88,9 @@ fn an_array_of_490_words_is_made_0(rt: HostRuntime) {
     let alloc = rt.alloc();
     let statements = one(alloc, Stm::Zero(0)).expect(&rt, "memory");
     let mut arrays = List::new(alloc);
-    arrays.push(Space { at: 40, size: 490 }).expect(&rt, "memory");
+    arrays
+        .push(Space { at: 40, size: 490 })
+        .expect(&rt, "memory");
     let layout = Layout {
         rooms: List::new(alloc),
         arrays,

@@ -2,7 +2,9 @@ use crate::lines::{Item, is_code};
 use mv_ir::body::Room;
 use mv_ir::tree::Tree;
 use mv_num::list::List;
-use mv_statement_code::elements::{Home, push_bounds, push_check, push_clear, push_read, push_write};
+use mv_statement_code::elements::{
+    Home, push_bounds, push_check, push_clear, push_read, push_write,
+};
 use mv_statement_code::values::{push_divide, push_return, push_set, push_set_global};
 
 const ROOMS: [Room; 1] = [Room {
