@@ -7,7 +7,6 @@ pub mod Equations
 pub mod FlowEncoded
 pub mod LabelsOwn
 pub mod Leaves
-pub mod Nested
 pub mod Small
 pub mod StatementsDo
 pub mod TargetsStand
