@@ -4,7 +4,7 @@
 #![tactic(auto)]
 
 use mv_io::{FileShelf, MemSink, MemSource, Shelf};
-use mv_probe::{FetchOracle, Oldest};
+use mv_probe::{FetchOracle, Oldest, Probe};
 use mv_top::multiverse;
 use std::alloc::Global;
 use std::io;
@@ -52,6 +52,7 @@ fn carry_out(rt: &HostRuntime, row: &Row) -> anyhow::Result<()> {
     let mut out = MemSink::new(alloc, ROOM, ROOM, Vec::new(alloc))?;
     let mut notes = MemSink::new(alloc, ROOM, ROOM, Vec::new(alloc))?;
     let mut oracle: Box<dyn FetchOracle> = Box::new(alloc, Oldest)?;
+    let mut probes: Vec<Box<dyn Probe>> = Vec::new(alloc);
     multiverse(
         alloc,
         list.as_slice(),
@@ -60,6 +61,7 @@ fn carry_out(rt: &HostRuntime, row: &Row) -> anyhow::Result<()> {
         &mut out,
         &mut notes,
         &mut oracle,
+        &mut probes,
     );
     print_bytes(rt, out.bytes())?;
     print_bytes(rt, notes.bytes())?;
