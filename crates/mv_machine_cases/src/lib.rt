@@ -3,3 +3,9 @@
 
 #[cfg(test)]
 mod asm;
+#[cfg(test)]
+mod machine;
+#[cfg(test)]
+mod memory;
+#[cfg(test)]
+mod probes;

@@ -1,4 +1,4 @@
-use crate::{AccessError, Memory, StoreError};
+use mv_fetch::{AccessError, Memory, StoreError};
 use mv_num::list::List;
 use std::test::Fail;
 

@@ -1,12 +1,13 @@
 //! Images that store over their own words, images that fault, and devices that fail.
 
-ghost use Rattle.std.specs.Prelude.{◌≤◌, length};
+ghost use Rattle.std.specs.Prelude.{◌≤◌, length, None};
 
-use super::*;
+use mv_ast::world::Action;
 use mv_image::Image;
 use mv_io::{MemSink, MemSource};
 use mv_num::list::List;
-use mv_probe::{FetchOracle, Fresh, Oldest, Table};
+use mv_machine::{Machine, Stopped};
+use mv_probe::{FetchOracle, Fresh, Oldest, Probe, Recorder, Table};
 use mv_rv32::Cause;
 use std::alloc::{AllocError, Global};
 use std::test::*;
@@ -43,6 +44,18 @@ const ECHO: [u32; 6] = [
     0x0000_0073,
 ];
 
+/// Jumps over its fifth word to the sixth, which its last word was stored over.
+const OVERWRITES_BEHIND_A_JUMP: [u32; 8] = [
+    0x0000_12B7,
+    0x01C2_A303,
+    0x0062_AA23,
+    0x0080_006F,
+    0x0000_0013,
+    0x0010_0513,
+    0x0000_0073,
+    0x0020_0513,
+];
+
 /// How an oracle picks.
 #[derive(Clone, Copy)]
 enum Pick {
@@ -59,10 +72,30 @@ fn oracle(alloc: Global, pick: Pick) -> Result<Box<dyn FetchOracle>, AllocError>
     })
 }
 
+/// Picks the present word as long as it was told these addresses, in order, and the oldest one from the first other address on.
+#[derive(Drop)]
+struct Expecting {
+    addresses: Vec<u32>,
+    place: usize,
+    strayed: bool,
+}
+
+impl FetchOracle for Expecting {
+    ghost way = { λ _. None };
+
+    fn pick(&mut self, address: u32, choices: u64) -> u64 {
+        if self.addresses.get(self.place) != Some(&address) {
+            self.strayed = true;
+        }
+        self.place = self.place.saturating_add(1);
+        if self.strayed { choices - 1 } else { 0 }
+    }
+}
+
 // The machine of a program that begins with its first word.
 fn machine(alloc: Global, words: &[u32]) -> Result<Machine, AllocError>
     requires some { 1 ≤ length words.now }
-    requires most { length words.now ≤ 7 }
+    requires most { length words.now ≤ 8 }
 {
     let text = List::from_vec(Vec::from_slice(alloc, words)?);
     let image = Image::without_tables(alloc, 0x1000, text, List::new(alloc));
@@ -70,16 +103,28 @@ fn machine(alloc: Global, words: &[u32]) -> Result<Machine, AllocError>
 }
 
 // A run of at most ten instructions with no input and no output.
-fn ran(alloc: Global, words: &[u32], pick: Pick) -> Result<(Stopped, Machine), AllocError>
+fn ran_under(
+    alloc: Global,
+    words: &[u32],
+    oracle: &mut Box<dyn FetchOracle>,
+) -> Result<(Stopped, Machine), AllocError>
     requires some { 1 ≤ length words.now }
-    requires most { length words.now ≤ 7 }
+    requires most { length words.now ≤ 8 }
 {
     let mut machine = machine(alloc, words)?;
     let mut source = MemSource::new(Vec::new(alloc), Vec::new(alloc));
     let mut sink = MemSink::new(alloc, 0, 1, Vec::new(alloc))?;
-    let mut oracle = oracle(alloc, pick)?;
-    let stopped = machine.run(10, &mut source, &mut sink, &mut oracle);
+    let mut probes = Vec::new(alloc);
+    let stopped = machine.run(10, &mut source, &mut sink, oracle, &mut probes, &[]);
     Ok((stopped, machine))
+}
+
+fn ran(alloc: Global, words: &[u32], pick: Pick) -> Result<(Stopped, Machine), AllocError>
+    requires some { 1 ≤ length words.now }
+    requires most { length words.now ≤ 8 }
+{
+    let mut oracle = oracle(alloc, pick)?;
+    ran_under(alloc, words, &mut oracle)
 }
 
 #[test]
@@ -96,6 +141,44 @@ fn a_stale_word_is_executed(rt: HostRuntime) -> Result<(), Fail> {
         let (stopped, _machine) = ran(rt.alloc(), &words, pick)?;
         assert_eq!(rt; stopped, Stopped::Ended(status));
     }
+    Ok(())
+}
+
+#[test]
+fn a_pick_is_told_the_address(rt: HostRuntime) -> Result<(), Fail> {
+    let rows = [
+        ([0x1000, 0x1004, 0x1008, 0x100C, 0x1014, 0x1018], 2),
+        ([0x1000, 0x1004, 0x1008, 0x100C, 0x1010, 0x1014], 1),
+    ];
+    for (addresses, status) in rows {
+        let expecting = Expecting {
+            addresses: Vec::from_slice(rt.alloc(), &addresses)?,
+            place: 0,
+            strayed: false,
+        };
+        let mut oracle: Box<dyn FetchOracle> = Box::new(rt.alloc(), expecting)?;
+        let (stopped, _machine) =
+            ran_under(rt.alloc(), &OVERWRITES_BEHIND_A_JUMP, &mut oracle)?;
+        assert_eq!(rt; stopped, Stopped::Ended(status));
+    }
+    Ok(())
+}
+
+// Nothing commits: a probe with room for one event stays and hears nothing.
+#[test]
+fn probes_are_kept(rt: HostRuntime) -> Result<(), Fail> {
+    let alloc = rt.alloc();
+    let mut machine = machine(alloc, &OVERWRITES)?;
+    let mut source = MemSource::new(Vec::new(alloc), Vec::new(alloc));
+    let mut sink = MemSink::new(alloc, 0, 1, Vec::new(alloc))?;
+    let mut oracle = oracle(alloc, Pick::Fresh)?;
+    let mut probes: Vec<Box<dyn Probe>> = Vec::new(alloc);
+    probes.push(Box::new(alloc, Recorder::new(alloc, 1)?)?)?;
+    let actions = [Action::Skip];
+    let stopped = machine.run(10, &mut source, &mut sink, &mut oracle, &mut probes, &actions);
+    assert_eq!(rt; stopped, Stopped::Ended(2));
+    assert!(rt; probes.len() == 1);
+    assert!(rt; probes[0].heard() == 0);
     Ok(())
 }
 
@@ -142,8 +225,9 @@ fn a_failed_device_stops_the_run(rt: HostRuntime) -> Result<(), Fail> {
         let mut sink = MemSink::new(rt.alloc(), 2, 1, Vec::from_slice(rt.alloc(), &[write])?)?;
         let mut machine = machine(rt.alloc(), &ECHO)?;
         let mut oracle = oracle(rt.alloc(), Pick::Oldest)?;
-        let first = machine.run(10, &mut source, &mut sink, &mut oracle);
-        let second = machine.run(10, &mut source, &mut sink, &mut oracle);
+        let mut probes = Vec::new(rt.alloc());
+        let first = machine.run(10, &mut source, &mut sink, &mut oracle, &mut probes, &[]);
+        let second = machine.run(10, &mut source, &mut sink, &mut oracle, &mut probes, &[]);
         assert_eq!(rt;
             (first, second, sink.bytes().len()),
             (stopped, stopped, written)

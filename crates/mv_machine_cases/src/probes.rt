@@ -1,9 +1,7 @@
 ghost use Rattle.std.specs.Prelude.{None};
 
-use crate::probe::{Probe, Verdict};
-use crate::recorder::Recorder;
-use crate::telling::tell_each;
 use mv_ast::world::{Binding, Event};
+use mv_probe::{Probe, Recorder, Verdict, tell_each};
 use std::test::Fail;
 
 // Tells nothing of itself, and leaves after so many events.
