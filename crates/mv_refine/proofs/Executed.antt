@@ -137,9 +137,11 @@ module _ (p : Program) (image : Fields) (behaves : BehavesAlways p image) (steps
         all p image before after bytes s.picks steps (behaves bytes s.picks are) (Trap code) (source.Trap code) (leaves s.input s.picks steps s.done) (ends (Trap code) s)
     does answer.Steps r =
         let s = r.stands in
-        let b = behaves bytes s.picks are in
-        (_, part p image before after bytes s.picks steps b steps (omega arith) (leaves s.input s.picks steps s.done),
-        keeps_up p image before after bytes s.picks steps b (stop_at s.input s.picks steps Going (input_is s.input s.done.told) s.stops))
+        let b = behaves bytes s.picks are in (
+          _,
+          part p image before after bytes s.picks steps b steps (omega arith) (leaves s.input s.picks steps s.done),
+          keeps_up p image before after bytes s.picks steps b (stop_at s.input s.picks steps Going (input_is s.input s.done.told) s.stops),
+        )
     does answer.InputFault r =
         let part = stuck_part _ r.0 in (part.0, part.1, r.1)
     does answer.OutputFault r =

@@ -125,16 +125,25 @@ module _ (image : Fields) (before after : Environment) (steps : ℕ) (stopped : 
       let at : (later : List (Option ℕ)) → (t : Tells after.input.left later) → (all later t).3.count ≡ length picks - 1 =
       (λ later t. let h = (all later t).3.picked in omega (arith, h)) in
       let always : Always image before after Told is picks (length picks - 1) Going = (λ later t.
-      let r = all later t in
-      (r.0, record { told = r.1; picked = r.2;
-      reached = subst (λ (k : ℕ). At image before after Told is picks later (runs image r.0 picks k) Going) (at later t) r.3.reached })) in
+      let r = all later t in (
+        r.0,
+        record {
+          told = r.1;
+          picked = r.2;
+          reached = subst (λ (k : ℕ). At image before after Told is picks later (runs image r.0 picks k) Going) (at later t) r.3.reached;
+        },
+      )) in
       let later = now image before after Told is picks in
       let t = now_tells image before after Told is picks in
       let r = all later t in
       let fewer = r.3.within in
-      let count = at later t in
-      (r.0, done image before after Told is picks (length picks - 1) Going always, (always later t).1.reached.stopped,
-      subst (λ (k : ℕ). Why (runs image r.0 picks k) (slice_index picks k)) count r.3.cause, omega (arith, fewer, count))
+      let count = at later t in (
+        r.0,
+        done image before after Told is picks (length picks - 1) Going always,
+        (always later t).1.reached.stopped,
+        subst (λ (k : ℕ). Why (runs image r.0 picks k) (slice_index picks k)) count r.3.cause,
+        omega (arith, fewer, count),
+      )
 
   stuck : (Next : State → ℕ → Type 0) (Why : State → ℕ → Type 0) → ((s : State) (pick : ℕ) → Why s pick → Next s pick) →
       ((later : List (Option ℕ)) → Tells after.input.left later → (input : List (Option ℕ)) × Tells before.input.left input
@@ -155,12 +164,14 @@ module _ (image : Fields) (before after : Environment) (steps : ℕ) (stopped : 
   runs_by (answer.Ended status) l = whole (Exit status) l
   runs_by (answer.Trapped code) l = whole (Trap code) l
   runs_by answer.Steps l = whole Going l
-  runs_by answer.InputFault l =
-      (stuck (λ s pick. Asks s pick Reads) (λ s pick. Asks s pick Reads × ReadFailed before after) (λ s pick w. w.0) l,
-      (l (now image before after Told is picks) (now_tells image before after Told is picks)).3.cause.1)
-  runs_by answer.OutputFault l =
-      (stuck (λ s pick. Asks s pick Writes) (λ s pick. Asks s pick Writes × WriteFailed before after) (λ s pick w. w.0) l,
-      (l (now image before after Told is picks) (now_tells image before after Told is picks)).3.cause.1)
+  runs_by answer.InputFault l = (
+    stuck (λ s pick. Asks s pick Reads) (λ s pick. Asks s pick Reads × ReadFailed before after) (λ s pick w. w.0) l,
+    (l (now image before after Told is picks) (now_tells image before after Told is picks)).3.cause.1,
+  )
+  runs_by answer.OutputFault l = (
+    stuck (λ s pick. Asks s pick Writes) (λ s pick. Asks s pick Writes × WriteFailed before after) (λ s pick w. w.0) l,
+    (l (now image before after Told is picks) (now_tells image before after Told is picks)).3.cause.1,
+  )
   runs_by (answer.Fault pc why) l =
       let always : Always image before after Told is picks steps (Fault why) = (λ later t. let r = l later t in (r.0, record { told = r.1; picked = r.2; reached = r.3.reached })) in
       let r = l (now image before after Told is picks) (now_tells image before after Told is picks) in

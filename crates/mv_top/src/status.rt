@@ -88,7 +88,11 @@ impl fmt::Display for Status {
             Status::OutputFault => write!(f, "output fault"),
             Status::ShelfFault => write!(f, "shelf fault"),
             Status::Steps => write!(f, "steps"),
-            Status::MachineFault(address, cause) => write!(f, "machine fault 0x{address:08x} {}", cause_name(*cause)),
+            Status::MachineFault(address, cause) => write!(
+                f,
+                "machine fault 0x{address:08x} {}",
+                cause_name(*cause)
+            ),
         }
     }
 }
