@@ -20,9 +20,14 @@ begun : (switches : List SwitchRow) (image : Fields) (input : List (Option ℕ))
 unfolding resumed kept first
 begun switches image input = refl
 
-pub unless_fresh : (m : Snapshot) (switches : List SwitchRow) (s : State) (ran : Type 0) → m ≡ kept switches s None → Unless m.last ran → ran
+unless_fresh : (m : Snapshot) (switches : List SwitchRow) (s : State) (ran : Type 0) → m ≡ kept switches s None → Unless m.last ran → ran
 unfolding kept
 unless_fresh m switches s ran fresh h = rw (ap (λ (k : Snapshot). k.last) fresh) at h
+
+-- a machine that was just started knows the image's switches
+pub switches_of : (m : Snapshot) (switches : List SwitchRow) (s : State) → m ≡ kept switches s None → m.switches ≡ switches
+unfolding kept
+switches_of m switches s fresh = ap (λ (k : Snapshot). k.switches) fresh
 
 -- what is kept of a state that a machine shows
 shows : (s : State) (is : Snapshot) → is.regs ≡ s.regs → is.pc ≡ s.pc → is.room ≡ s.room → is.bindings ≡ s.bindings → is ≡ kept is.switches s is.last
@@ -85,9 +90,14 @@ module _ (image : Fields) (before after : Environment) (Told : List Event → Ty
 
 -- ---- the answers of the machine
 
-module _ (image : Fields) (before after : Environment) (steps : ℕ) (stopped : Stopped) (Told : List Event → Type 0) (switches : List SwitchRow) (was is : Snapshot) (fresh : was ≡ kept switches (first image []) None)
-    (ran : Ran steps stopped was is before.input.left after.input.left before.output.written after.output.written before.way after.way
-    (ReadFailed before after) (WriteFailed before after) Told) where
+module _ (image : Fields) (before after : Environment) (steps : ℕ) (stopped : Stopped) (Told : List Event → Type 0) (switches : List SwitchRow) (was is : Snapshot)
+    (fresh : was ≡ kept switches (first image []) None)
+    (unless : Unless was.last (Ran steps stopped was is before.input.left after.input.left before.output.written after.output.written before.way after.way
+    (ReadFailed before after) (WriteFailed before after) Told)) where
+  abbrev ran : Ran steps stopped was is before.input.left after.input.left before.output.written after.output.written before.way after.way
+      (ReadFailed before after) (WriteFailed before after) Told
+  ran = unless_fresh was switches (first image []) _ fresh unless
+
   abbrev picks : List ℕ
   picks = ran.picks
 
