@@ -11,7 +11,7 @@ use Rattle.mv_program_runs.specs.Laws.{MainFollows, MainFollowsOpenly}
 use Rattle.mv_fit_worlds.specs.Laws.{FitIsTold, KnownsKeepFit, FirstIsFit, FunctionsAreFreeOrBound, FramesOfFree, FramesOfBound}
 use Rattle.mv_narrow_runs.proofs.Bindings.{bindings_are_told}
 use Rattle.mv_narrow_runs.proofs.Forms as narrow
-use Rattle.mv_narrow_runs.proofs.Inline.{inlines_done}
+use Rattle.mv_inline_bodies.proofs.Bodies.{inline_answers}
 use Rattle.mv_program_runs.proofs.AllFunctions.{Known}
 use Rattle.mv_program_runs.proofs.MainFunction.{main_follows}
 use Rattle.mv_program_runs.proofs.OpenHosts.{hosts_narrowed, main_openly}
@@ -64,7 +64,7 @@ known b = record {
   slots = narrow.slots Rest;
   jumps = narrow.jumps Rest;
   firsts = narrow.firsts Rest;
-  inlines = inlines_done Rest;
+  inlines = inline_answers Rest;
 }
 
 main_does : Below → MainFollows Rest

@@ -24,7 +24,7 @@ use Rattle.mv_tree_code.specs.TreeCode.{one, two, upper_bits, lower_bits, number
 use Rattle.mv_tree_code.proofs.Rolls.{lines_roll}
 use Rattle.mv_statement_code.specs.declared.elements.Home.{Home}
 use Rattle.mv_statement_code.specs.declared.elements.Home.TheVariants as place_at
-use Rattle.mv_statement_code.specs.StatementCode.{first, second, third, trap_label, write_temp, division, element_offset, element_lines, test_lines, zero_lines}
+use Rattle.mv_statement_code.specs.StatementCode.{first, second, third, trap_label, write_temp, division, element_offset, element_lines, test_lines}
 use Rattle.mv_flow_code.specs.declared.enclosing.Enclosing.{Enclosing}
 use Rattle.mv_flow_code.specs.FlowCode.{Plan as PlanOfCode, Emitted, in_turn, branch_lines, loop_at, block_at, home, size, code_layer, statement_code}
 use Rattle.mv_flow_code.proofs.StatementsDo.{code_roll}
@@ -132,10 +132,6 @@ element_none : (h : Home) → HasNone (element_lines h)
 element_none (place_at.Data a) = refl
 element_none (place_at.Frame a) = refl
 
-zero_none : (a n : ℕ) → HasNone (zero_lines a n)
-zero_none a zero = refl
-zero_none a (suc n) = after (zero_lines a n) (one (Sw 2 0 (pos (a + 4 * n)))) (zero_none a n) refl
-
 -- ---- calls
 
 result_none : (r : Option ℕ) → HasNone (result_lines r)
@@ -214,7 +210,7 @@ module _ (place : ℕ → ℕ) (is_attributed : ℕ → Bool) (plain : (f : ℕ)
         after (tree_lines place i first) (tree_lines place v second ++ (test_lines (size P a) ++ (element_lines (home P a) ++ store))) (trees i first)
         (after (tree_lines place v second) (test_lines (size P a) ++ (element_lines (home P a) ++ store)) (trees v second)
         (after (test_lines (size P a)) (element_lines (home P a) ++ store) (test_none (size P a)) (after (element_lines (home P a)) store (element_none (home P a)) refl)))
-    layer (stm.Zero a) h around label = zero_none (P.array_at a) (P.array_size a)
+    layer (stm.Zero a) h around label = refl
     layer (stm.If t a b) h around label =
         let one_code = in_turn (map (statement_code P) a) in
         let other = in_turn (map (statement_code P) b) in

@@ -93,8 +93,8 @@ module _ (show_free : FreeFunctionsShow) (show_bound : BoundFunctionsShow) (attr
     entry_bound =
         subst (λ a. InstrStands (W bs) (y.entry f) (Jal 0 (distance (y.entry f) a))) r.address_is ((show_bound image bs n vs r.row bound few r.led).0 (y.entry f) e.word e.is_entry e.in_text e.here there)
 
-    slot_bound : (at : ℕ) → called_at attributed image at ≡ Some f → SlotShows y (machine_text attributed image) W p numbers f g (W bs) at v.address v.inline
-    slot_bound at called = by v.inline r.shows
+    slot_bound : (at : ℕ) → called_at attributed image at ≡ Some f → SlotShows y (machine_text attributed image) W p numbers f g (W bs) at v.address (inline_of y.place v.body)
+    slot_bound at called = by (inline_of y.place v.body) r.shows
       where
         by : (o : Option (Instr × Instr)) → RowShows o r.row → SlotShows y (machine_text attributed image) W p numbers f g (W bs) at v.address o
         by None none =

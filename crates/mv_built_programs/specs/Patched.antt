@@ -25,6 +25,7 @@ use Rattle.mv_call_code.specs.Convention.{Layout}
 use Rattle.mv_call_code.specs.Laws.{IsLinked}
 use Rattle.mv_function_code.specs.FunctionCode.{bytes_of, later_lines}
 use Rattle.mv_function_code.specs.Functions.{IsFunction, shape_of}
+use Rattle.mv_inline_bodies.specs.InlineOf.{inline_of}
 use Rattle.mv_machine_runs.specs.Assembled.{HasWords}
 use Rattle.mv_machine_runs.specs.MachineRuns.{machine_text, image_word, called_at}
 use Rattle.mv_machine_runs.specs.Shown.{IsSiteOf}
@@ -75,7 +76,7 @@ module _ (attributed : List ℕ) (image : Fields) (base : ℕ) (lines : List Lin
     pub row : VariantRow
     pub led : variant_under image own_number (Some vs) ≡ Some row
     pub address_is : row.address ≡ v.address
-    pub shows : RowShows v.inline row
+    pub shows : RowShows (inline_of y.place v.body) row
 
   pub record IsInTables : Type 0 where
     pub body : Body

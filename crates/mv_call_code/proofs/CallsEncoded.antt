@@ -128,13 +128,13 @@ module _ (place : ℕ → ℕ) where
   ask_code Poll = jump link_register commit_label (omega arith)
 
   known_code : (r : Option ℕ) (k : Known) (args : List Tree) → FineParts 1 r args → fine_known is_small any_known 507 any_global k ≡ true
-      → IsCode (2 * nodes_of_all args + 16) (known_lines place r k args)
+      → IsCode (2 * nodes_of_all args + 7) (known_lines place r k args)
   known_code r k args fine h =
       let few = fine.few in
       let n = 2 * nodes_of_all args + length args in
       let request = one (Addi request_register 0 (pos (request_of k))) in
       let rest = request ++ (ask_lines k ++ result_lines r) in
-      wider (n + 6) (2 * nodes_of_all args + 16) (argument_lines place first args ++ (order_lines k ++ rest)) (omega (arith, few))
+      wider (n + 6) (2 * nodes_of_all args + 7) (argument_lines place first args ++ (order_lines k ++ rest)) (omega (arith, few))
       (both n 6 (argument_lines place first args) (order_lines k ++ rest) (arguments_code first args (omega (arith, few)) fine.trees)
       (both 3 3 (order_lines k) rest (order_code k h) (both 1 2 request (ask_lines k ++ result_lines r) (request_code k) (both 1 1 (ask_lines k) (result_lines r) (ask_code k) (result_code r fine.room)))))
 

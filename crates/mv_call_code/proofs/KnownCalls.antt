@@ -88,6 +88,7 @@ module _ {M : Type 0} (access : Access M) (y : Layout) (s : Site) (setting : ir.
       number = held request_register (omega arith) ∙ x.number;
       arguments = λ j lt. held (first + j) (omega arith) ∙ x.held j lt;
       order = subst (HoldsOrder k) (sym regs_is) order;
+      high = omega (arith, held 2 (omega arith), x.shown.left 2 (inl (omega arith)), caller.room);
     },
     held live_register (omega arith) ∙ x.shown.left live_register (inr (omega arith, omega arith)) ∙ caller.live,
   )

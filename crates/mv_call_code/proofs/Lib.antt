@@ -8,4 +8,3 @@ pub mod Equations
 pub mod CallsEncoded
 pub mod CallsName
 pub mod Small
-pub mod Tested

@@ -34,6 +34,7 @@ module _ {M : Type 0} (access : Access M) (y : Layout) (machine : Machine M) (bu
     pub number : reg (machine.run i).regs request_register ≡ request_of k
     pub arguments : (j : ℕ) → j < length args → reg (machine.run i).regs (first + j) ≡ slice_index args j
     pub order : HoldsOrder k (machine.run i).regs
+    pub high : y.bottom ≤ reg (machine.run i).regs 2
 
   -- The function is carried out, at no more than its cost and `extra`: a later time has its value in a0, and its world.
   abbrev pub Serves : (extra pc back : ℕ) → Known → List ℕ → ℕ → Type 0

@@ -7,9 +7,9 @@ use Rattle.mv_flow_code.specs.Encoded.{CallsAreEncoded}
 use Rattle.mv_flow_code.specs.Labels.{CallsName}
 use Rattle.mv_call_code.specs.CallCode.{commit_label, calls_of}
 
--- the code of calls has encodings, and at most 16 words for each call besides those of its trees
+-- the code of calls has encodings, and besides the words of the trees at most 16 for a call and 7 for one of a known function
 abbrev pub CallsHaveCode : Type 0
-CallsHaveCode = (place : ℕ → ℕ) (is_attributed : ℕ → Bool) → CallsAreEncoded 16 (calls_of place is_attributed)
+CallsHaveCode = (place : ℕ → ℕ) (is_attributed : ℕ → Bool) → CallsAreEncoded (calls_of place is_attributed)
 
 -- no label stands in it
 abbrev pub CallsHaveNoLabels : Type 0

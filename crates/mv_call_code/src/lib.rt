@@ -8,6 +8,3 @@ mod laws;
 pub use calls::{push_call, push_known};
 pub use emitter::Calls;
 pub use laws::call_code_law;
-
-#[cfg(test)]
-mod tests;

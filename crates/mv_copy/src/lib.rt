@@ -4,5 +4,3 @@
 mod expression;
 pub mod program;
 mod statement;
-#[cfg(test)]
-mod tests;

@@ -3,6 +3,4 @@
 #![tactic(auto)]
 
 pub mod expression;
-#[cfg(test)]
-mod tests;
 mod type_name;

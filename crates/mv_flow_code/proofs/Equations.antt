@@ -10,8 +10,8 @@ use Rattle.mv_ir.specs.declared.stm.Stm.TheOpen as stm
 use Rattle.mv_ir.specs.declared.stm.Stm.TheVariants.{rolls-Set, rolls-SetGlobal, rolls-Divide, rolls-Check, rolls-Read, rolls-Write, rolls-Zero, rolls-If, rolls-Loop, rolls-Block, rolls-Break, rolls-Back, rolls-Call, rolls-Known, rolls-Return}
 use Rattle.mv_ir.specs.Measures.{callee_trees}
 use Rattle.mv_ir.specs.WellFormed.{known_arguments}
-use Rattle.mv_statement_code.specs.StatementCode.{set_lines, set_global_lines, divide_lines, check_lines, read_lines, write_lines, zero_lines, return_lines}
-use Rattle.mv_flow_code.specs.FlowCode.{Plan, plain, home, size, if_code, loop_code, block_code, break_code, back_code, statement_code, code_of, all_true, fine_target, fine_known, is_fine_statement, are_fine}
+use Rattle.mv_statement_code.specs.StatementCode.{set_lines, set_global_lines, divide_lines, check_lines, read_lines, write_lines, return_lines}
+use Rattle.mv_flow_code.specs.FlowCode.{Plan, plain, home, size, zero_code, if_code, loop_code, block_code, break_code, back_code, statement_code, code_of, all_true, fine_target, fine_known, is_fine_statement, are_fine}
 use Rattle.mv_flow_code.proofs.StatementsDo.{code_roll, fine_roll}
 
 module _ (plan : Plan) where
@@ -33,7 +33,7 @@ module _ (plan : Plan) where
   pub code_write : (a : Array) (i v : Tree) → statement_code plan (at.Write a i v) ≡ plain (write_lines plan.place (home plan a) (size plan a) i v)
   code_write a i v = ap (statement_code plan) (sym (rolls-Write a i v)) ∙ code_roll plan (stm.Write a i v)
 
-  pub code_zero : (a : ℕ) → statement_code plan (at.Zero a) ≡ plain (zero_lines (plan.array_at a) (plan.array_size a))
+  pub code_zero : (a : ℕ) → statement_code plan (at.Zero a) ≡ zero_code (plan.array_at a) (plan.array_size a)
   code_zero a = ap (statement_code plan) (sym (rolls-Zero a)) ∙ code_roll plan (stm.Zero a)
 
   pub code_if : (t : Tree) (a b : List Stm) → statement_code plan (at.If t a b) ≡ if_code plan.place t (code_of plan a) (code_of plan b)

@@ -15,20 +15,20 @@ use Rattle.mv_ir.specs.declared.stm.Stm.TheFolds.{fold-roll-Stm, map-Stm}
 use Rattle.mv_ir.specs.declared.stm.Array.{Array}
 use Rattle.mv_ir.specs.declared.stm.Array.TheVariants as array
 use Rattle.mv_ir.specs.Trees.{nodes as nodes_of, nodes_of_all}
-use Rattle.mv_ir.specs.Measures.{total, joined, layer_trees, stm_trees, layer_size, stm_size}
+use Rattle.mv_ir.specs.Measures.{total, joined, layer_trees, stm_trees}
 use Rattle.mv_ir.proofs.Induction.{Each, StmChildren, stm_ind, stms_ind}
-use Rattle.mv_ir.proofs.Rolls.{trees_roll, size_roll}
+use Rattle.mv_ir.proofs.Rolls.{trees_roll}
 use Rattle.mv_tree_code.specs.TreeCode.{tree_lines}
 use Rattle.mv_tree_code.proofs.TreesRun.{and_left, and_right}
 use Rattle.mv_tree_code.proofs.TreesAreShort.{trees_are_short}
 use Rattle.mv_tree_code.proofs.TreesFit.{trees_fit}
-use Rattle.mv_statement_code.specs.StatementCode.{first, home_below}
+use Rattle.mv_statement_code.specs.StatementCode.{first, second, bounds_lines, clear_lines, home_below}
 use Rattle.mv_statement_code.specs.Encoded.{IsCode, IsSmall, AreEncoded}
 use Rattle.mv_statement_code.proofs.EncodedCode.{are_encoded}
 use Rattle.mv_flow_code.specs.declared.enclosing.Enclosing.{Enclosing}
-use Rattle.mv_flow_code.specs.FlowCode.{Plan, Emitted, in_turn, enclosing_at, branch_lines, loop_lines, block_lines, loop_at, block_at, home, size, code_layer, statement_code, all_true, fine_layer}
+use Rattle.mv_flow_code.specs.FlowCode.{Plan, Emitted, in_turn, enclosing_at, zero_lines, branch_lines, loop_lines, block_lines, loop_at, block_at, home, size, code_layer, statement_code, all_true, fine_layer}
 use Rattle.mv_flow_code.specs.Layouts.{plan_in, any_global, any_known, is_small, is_small_statement}
-use Rattle.mv_flow_code.specs.Encoded.{more_layer, stm_more, CallsAreEncoded, FlowIsEncoded}
+use Rattle.mv_flow_code.specs.Encoded.{words_layer, stm_words, CallsAreEncoded, FlowIsEncoded}
 use Rattle.mv_flow_code.proofs.ArraysWithin.{plan_within}
 use Rattle.mv_flow_code.proofs.Small.{small_tree}
 use Rattle.mv_flow_code.proofs.StatementsDo.{code_roll, fine_roll}
@@ -37,9 +37,9 @@ nodes_append : (ts us : List Tree) → nodes_of_all (ts ++ us) ≡ nodes_of_all 
 nodes_append [] us = omega arith
 nodes_append (t ∷ ts) us = omega (arith, nodes_append ts us)
 
-more_roll : (array_size : ℕ → ℕ) (most : ℕ) (x : Stm-F Stm) → stm_more array_size most (roll-Stm x) ≡ more_layer array_size most (map-Stm Stm ℕ (stm_more array_size most) x)
-unfolding stm_more
-more_roll array_size most x = fold-roll-Stm ℕ (more_layer array_size most) x
+pub words_roll : (x : Stm-F Stm) → stm_words (roll-Stm x) ≡ words_layer (map-Stm Stm ℕ stm_words x)
+unfolding stm_words
+words_roll x = fold-roll-Stm ℕ words_layer x
 
 -- ---- parts put together
 
@@ -61,6 +61,16 @@ jump l = (All-cons LineFits (Jump 0 l) [] (omega arith) (All-nil LineFits), omeg
 branch : (l : ℕ) → IsCode 2 (Branch 0 first 0 l ∷ [])
 branch l = (All-cons LineFits (Branch 0 first 0 l) [] (inl (omega arith), omega arith, omega arith) (All-nil LineFits), omega arith)
 
+zero_code : (l at n : ℕ) → IsCode 2 (bounds_lines at n) → IsCode 2 clear_lines → IsCode 7 (zero_lines l at n)
+zero_code l at n h g =
+    let go = Jump 0 (l + 1) ∷ Label l ∷ [] in
+    let next = Label (l + 1) ∷ [] in
+    let test = Branch 1 first second l ∷ [] in
+    join 2 5 (bounds_lines at n) (go ++ (clear_lines ++ (next ++ test))) h
+    (join 1 4 go (clear_lines ++ (next ++ test)) (join 1 0 (Jump 0 (l + 1) ∷ []) (Label l ∷ []) (jump (l + 1)) (label_line l))
+    (join 2 2 clear_lines (next ++ test) g
+    (join 0 2 next test (label_line (l + 1)) (All-cons LineFits (Branch 1 first second l) [] (inl (omega arith), omega arith, omega arith) (All-nil LineFits), omega arith))))
+
 block_code : (l n : ℕ) (b : List Line) → IsCode n b → IsCode (n + 0) (block_lines l b)
 block_code l n b h = join n 0 b (Label l ∷ []) h (label_line l)
 
@@ -78,7 +88,7 @@ branch_code l n k a b h g =
     (join 1 (k + 0) turn (b ++ end) (join 1 0 (Jump 0 (l + 1) ∷ []) (Label l ∷ []) (jump (l + 1)) (label_line l))
     (join k 0 b end g (label_line (l + 1)))))
 
-module _ (plan : Plan) (within : (a : ℕ) → plan.array_at a + 4 * plan.array_size a ≤ 2032) (most : ℕ) (calls : CallsAreEncoded most plan.calls) where
+module _ (plan : Plan) (within : (a : ℕ) → plan.array_at a + 4 * plan.array_size a ≤ 2032) (calls : CallsAreEncoded plan.calls) where
   parts : AreEncoded plan.place
   parts = are_encoded plan.place
 
@@ -86,47 +96,43 @@ module _ (plan : Plan) (within : (a : ℕ) → plan.array_at a + 4 * plan.array_
   home_within (array.Global g) = tt
   home_within (array.Local a) = omega (arith, within a)
 
-  abbrev More : Stm → ℕ
-  More = stm_more plan.array_size most
-
-  abbrev bound : (trees : List Tree) (count more : ℕ) → ℕ
-  bound trees count more = 2 * nodes_of_all trees + 9 * count + more
+  abbrev bound : (trees : List Tree) (own : ℕ) → ℕ
+  bound trees own = 2 * nodes_of_all trees + own
 
   -- some code is so wherever it stands, if a test says so
   abbrev Holds : Bool → ℕ → Emitted → Type 0
   Holds small n code = small ≡ true → (around : List Enclosing) (label : ℕ) → IsCode n (code.lines around label)
 
   abbrev StmHolds : Stm → Type 0
-  StmHolds s = Holds (is_small_statement s) (bound (stm_trees s) (stm_size s) (More s)) (statement_code plan s)
+  StmHolds s = Holds (is_small_statement s) (bound (stm_trees s) (stm_words s)) (statement_code plan s)
 
   abbrev LayerHolds : Stm-F Stm → Type 0
   LayerHolds x = Holds (fine_layer is_small any_known 507 any_global (map-Stm Stm Bool is_small_statement x))
-      (bound (layer_trees (map-Stm Stm (List Tree) stm_trees x)) (layer_size (map-Stm Stm ℕ stm_size x)) (more_layer plan.array_size most (map-Stm Stm ℕ More x)))
+      (bound (layer_trees (map-Stm Stm (List Tree) stm_trees x)) (words_layer (map-Stm Stm ℕ stm_words x)))
       (code_layer plan (map-Stm Stm Emitted (statement_code plan) x))
 
   from_layer : (x : Stm-F Stm) → LayerHolds x → StmHolds (roll-Stm x)
   from_layer x h small around label =
-      let n = bound (layer_trees (map-Stm Stm (List Tree) stm_trees x)) (layer_size (map-Stm Stm ℕ stm_size x)) (more_layer plan.array_size most (map-Stm Stm ℕ More x)) in
+      let n = bound (layer_trees (map-Stm Stm (List Tree) stm_trees x)) (words_layer (map-Stm Stm ℕ stm_words x)) in
       let code = code_roll plan x in
       let nodes = ap nodes_of_all (trees_roll x) in
-      let count = size_roll x in
-      let more = more_roll plan.array_size most x in
-      wider n (bound (stm_trees (roll-Stm x)) (stm_size (roll-Stm x)) (More (roll-Stm x))) ((statement_code plan (roll-Stm x)).lines around label)
+      let own = words_roll x in
+      wider n (bound (stm_trees (roll-Stm x)) (stm_words (roll-Stm x))) ((statement_code plan (roll-Stm x)).lines around label)
       (subst (λ c. IsCode n (c.lines around label)) (sym code) (h (sym (fine_roll is_small any_known 507 any_global x) ∙ small) around label))
-      (omega (arith, nodes, count, more))
+      (omega (arith, nodes, own))
 
   -- statements in order
   pub in_order_holds : (code : List Stm) → Each StmHolds code
-      → Holds (all_true (map is_small_statement code)) (bound (joined (map stm_trees code)) (total (map stm_size code)) (total (map More code))) (in_turn (map (statement_code plan) code))
+      → Holds (all_true (map is_small_statement code)) (bound (joined (map stm_trees code)) (total (map stm_words code))) (in_turn (map (statement_code plan) code))
   in_order_holds [] h small around label = none
   in_order_holds (s ∷ code) h small around label =
       let rest = in_turn (map (statement_code plan) code) in
-      let n = bound (stm_trees s) (stm_size s) (More s) in
-      let k = bound (joined (map stm_trees code)) (total (map stm_size code)) (total (map More code)) in
+      let n = bound (stm_trees s) (stm_words s) in
+      let k = bound (joined (map stm_trees code)) (total (map stm_words code)) in
       let ls = (statement_code plan s).lines around label in
       let ls' = rest.lines around (label + (statement_code plan s).labels) in
       let nodes = nodes_append (stm_trees s) (joined (map stm_trees code)) in
-      let m = bound (joined (map stm_trees (s ∷ code))) (total (map stm_size (s ∷ code))) (total (map More (s ∷ code))) in
+      let m = bound (joined (map stm_trees (s ∷ code))) (total (map stm_words (s ∷ code))) in
       wider (n + k) m (ls ++ ls')
       (join n k ls ls' (h.0 (and_left (is_small_statement s) (all_true (map is_small_statement code)) small) around label)
       (in_order_holds code h.1 (and_right (is_small_statement s) (all_true (map is_small_statement code)) small) around (label + (statement_code plan s).labels)))
@@ -148,7 +154,10 @@ module _ (plan : Plan) (within : (a : ℕ) → plan.array_at a + 4 * plan.array_
   layer (stm.Read t a i) h small around label = wider _ _ _ (parts.read t (size plan a) (home plan a) i (below t (is_small i) small) (home_within a) (tree t i small)) (omega arith)
   layer (stm.Write a i v) h small around label =
       wider _ _ _ (parts.write (size plan a) (home plan a) i v (home_within a) (small_tree i (and_left (is_small i) (is_small v) small)) (small_tree v (and_right (is_small i) (is_small v) small))) (omega arith)
-  layer (stm.Zero a) h small around label = wider _ _ _ (parts.zero (plan.array_at a) (plan.array_size a) (within a)) (omega arith)
+  layer (stm.Zero a) h small around label =
+      let at = plan.array_at a in
+      let n = plan.array_size a in
+      wider 7 _ (zero_lines label at n) (zero_code label at n (parts.bounds at n (within a)) parts.clear) (omega arith)
   layer (stm.Return v) h small around label = wider _ _ _ (parts.returns plan.end v (small_tree v small)) (omega arith)
   layer (stm.Break n) h small around label = let to = (enclosing_at around n plan.end).end in wider 1 _ (Jump 0 to ∷ []) (jump to) (omega arith)
   layer (stm.Back n) h small around label = let to = (enclosing_at around n plan.end).start in wider 1 _ (Jump 0 to ∷ []) (jump to) (omega arith)
@@ -179,7 +188,7 @@ module _ (plan : Plan) (within : (a : ℕ) → plan.array_at a + 4 * plan.array_
   statement_holds = stm_ind StmHolds (λ x h. from_layer x (layer x h))
 
 pub flow_encoded : FlowIsEncoded
-flow_encoded layout within most lines calls code small around label =
+flow_encoded layout within lines calls code small around label =
     let plan = plan_in layout lines in
     let arrays = plan_within layout lines within in
-    in_order_holds plan arrays most calls code (stms_ind (StmHolds plan arrays most calls) (statement_holds plan arrays most calls) code) small around label
+    in_order_holds plan arrays calls code (stms_ind (StmHolds plan arrays calls) (statement_holds plan arrays calls) code) small around label

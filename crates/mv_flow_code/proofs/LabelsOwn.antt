@@ -15,12 +15,12 @@ use Rattle.mv_ir.specs.Measures.{total, layer_size, stm_size}
 use Rattle.mv_ir.proofs.Rolls.{size_roll}
 use Rattle.mv_ir.proofs.Induction.{Each, StmChildren, stm_ind, stms_ind}
 use Rattle.mv_tree_code.specs.TreeCode.{tree_lines}
-use Rattle.mv_statement_code.specs.StatementCode.{first}
+use Rattle.mv_statement_code.specs.StatementCode.{first, second, bounds_lines, clear_lines}
 use Rattle.mv_flow_code.specs.declared.enclosing.Enclosing.{Enclosing}
-use Rattle.mv_flow_code.specs.FlowCode.{Plan, Emitted, in_turn, plain, enclosing_at, branch_lines, loop_lines, block_lines, loop_at, block_at, home, size, code_layer, statement_code}
+use Rattle.mv_flow_code.specs.FlowCode.{Plan, Emitted, in_turn, plain, enclosing_at, zero_lines, branch_lines, loop_lines, block_lines, loop_at, block_at, home, size, code_layer, statement_code}
 use Rattle.mv_flow_code.specs.Labels.{Names, CallsName, OwnLabels, LabelsAreOwn, LabelsAreFew, tree_functions}
 use Rattle.mv_flow_code.proofs.StatementsDo.{code_roll}
-use Rattle.mv_flow_code.proofs.TreeNames.{tree_names, set_names, set_global_names, divide_names, check_names, read_names, write_names, zero_names, return_names, jump_names}
+use Rattle.mv_flow_code.proofs.TreeNames.{tree_names, set_names, set_global_names, divide_names, check_names, read_names, write_names, bounds_names, clear_names, return_names, jump_names}
 
 pub count_append : (l : ℕ) (xs ys : List Line) → count_by (is_label l) (xs ++ ys) ≡ count_by (is_label l) xs + count_by (is_label l) ys
 count_append l xs ys = sum_by-append (λ x. cond (is_label l x) 1 0) xs ys
@@ -143,6 +143,34 @@ Any l = Unit {0}
 any : (xs : List ℕ) → All Any xs
 any xs k d lt = tt
 
+zero_own : (place : ℕ → ℕ) (label at n : ℕ) → OwnLabels label 2 (zero_lines label at n)
+zero_own place label at n = record {
+  own = λ l p q. omega (arith, parts l, marks l label p q);
+  before = λ l p. omega (arith, parts l, mark_above l label p, mark_above l (label + 1) (omega (arith, p)));
+  after = λ l p. omega (arith, parts l, mark_below l label (omega (arith, p)), mark_below l (label + 1) (omega (arith, p)));
+}
+  where
+    parts : (l : ℕ) → count_by (is_label l) (zero_lines label at n) ≡ count_by (is_label l) (Label label ∷ []) + count_by (is_label l) (Label (label + 1) ∷ [])
+    parts l =
+        let test = Branch 1 first second label ∷ [] in
+        let middle = Label (label + 1) ∷ [] in
+        let turn = Label label ∷ [] in
+        let go = Jump 0 (label + 1) ∷ [] in
+        let jump : count_by (is_label l) go ≡ 0 = refl in
+        let branch : count_by (is_label l) test ≡ 0 = refl in
+        omega (
+          arith,
+          count_append l (bounds_lines at n) (go ++ (turn ++ (clear_lines ++ (middle ++ test)))),
+          count_append l go (turn ++ (clear_lines ++ (middle ++ test))),
+          count_append l turn (clear_lines ++ (middle ++ test)),
+          count_append l clear_lines (middle ++ test),
+          count_append l middle test,
+          none Any (bounds_lines at n) (bounds_names Any place at n) l,
+          none Any clear_lines (clear_names Any place) l,
+          jump,
+          branch,
+        )
+
 module _ (plan : Plan) (calls : CallsName Any plan.calls) where
   abbrev Owns : Emitted → Type 0
   Owns code = (around : List Enclosing) (label : ℕ) → OwnLabels label code.labels (code.lines around label)
@@ -179,7 +207,7 @@ module _ (plan : Plan) (calls : CallsName Any plan.calls) where
   layer (stm.Check a i) h around label = plain_own _ (check_names Any plan.place (size plan a) i tt (any _)) around label
   layer (stm.Read t a i) h around label = plain_own _ (read_names Any plan.place t (size plan a) (home plan a) i tt (any _)) around label
   layer (stm.Write a i v) h around label = plain_own _ (write_names Any plan.place (size plan a) (home plan a) i v tt (any _) (any _)) around label
-  layer (stm.Zero a) h around label = plain_own _ (zero_names Any plan.place (plan.array_at a) (plan.array_size a)) around label
+  layer (stm.Zero a) h around label = zero_own plan.place label (plan.array_at a) (plan.array_size a)
   layer (stm.Return v) h around label = plain_own _ (return_names Any plan.place plan.end v tt (any _)) around label
   layer (stm.Break n) h around label = let to = (enclosing_at around n plan.end).end in silent_own Any label (Jump 0 to ∷ []) (jump_names Any plan.place to tt)
   layer (stm.Back n) h around label = let to = (enclosing_at around n plan.end).start in silent_own Any label (Jump 0 to ∷ []) (jump_names Any plan.place to tt)

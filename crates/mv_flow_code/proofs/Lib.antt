@@ -7,9 +7,9 @@ pub mod Equations
 pub mod FlowEncoded
 pub mod LabelsOwn
 pub mod Leaves
-pub mod Nested
 pub mod Small
 pub mod StatementsDo
 pub mod TargetsStand
 pub mod TreeNames
 pub mod Walk
+pub mod Zeroing

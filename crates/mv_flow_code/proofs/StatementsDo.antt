@@ -20,7 +20,6 @@ use Rattle.mv_tree_code.proofs.TreesRun.{and_left, and_right}
 use Rattle.mv_statement_code.specs.Frames.{Site, IsFine, IsFit}
 use Rattle.mv_statement_code.proofs.ScalarStatements.{set_done, set_global_done, divide_done, return_done}
 use Rattle.mv_statement_code.proofs.ArrayStatements.{check_done, read_done, write_done}
-use Rattle.mv_statement_code.proofs.ZeroStatement.{zero_done}
 use Rattle.mv_flow_code.specs.declared.enclosing.Enclosing.{Enclosing}
 use Rattle.mv_flow_code.specs.FlowCode.{CallLines, Plan, Emitted, in_turn, loop_at, block_at, code_layer, statement_code, all_true, fine_layer, is_fine_statement}
 use Rattle.mv_flow_code.specs.Placed.{Placed}
@@ -31,6 +30,7 @@ use Rattle.mv_flow_code.proofs.Composition.{within_within, nothing_does, then_do
 use Rattle.mv_flow_code.proofs.Control.{break_does, back_does, block_stands, loop_stands, if_stands}
 use Rattle.mv_flow_code.proofs.Leaves.{same_either, same_elements, leaf_does}
 use Rattle.mv_flow_code.proofs.Walk.{placed_split}
+use Rattle.mv_flow_code.proofs.Zeroing.{zero_stands}
 
 pub code_roll : (plan : Plan) (x : Stm-F Stm) → statement_code plan (roll-Stm x) ≡ code_layer plan (map-Stm Stm Emitted (statement_code plan) x)
 unfolding statement_code
@@ -119,7 +119,7 @@ module _ {M : Type 0} (access : Access M) (s : Site) (setting : ir.Setting) (fra
       (write_done access s setting frame fit end a i v (fine_trees i (and_left (is_fine i) (is_fine v) fine)) (fine_trees v (and_right (is_fine i) (is_fine v) fine)))
       (λ bound l. same_either l.world (ltb (V i l) (length (elements a l))) (Next (with_elements a l (slice_set (elements a l) (V i l) (V v l)))) (traps 2 l) (same_elements a l _) refl) spare around pc next bound le p
   layer (stm.Zero a) h fine spare label around pc next bound le p =
-      leaf_does access s setting frame machine ok place end budget far is_fine top _ (stm.Zero a) (zero_done access s setting frame fit end a) (λ bound l. refl) spare around pc next bound le p
+      zero_stands access s setting frame fit machine ok place end budget far label a spare (length bound) pc next around bound p
   layer (stm.Return v) h fine spare label around pc next bound le p =
       leaf_does access s setting frame machine ok place end budget far is_fine top _ (stm.Return v) (return_done access s setting frame fit end v (fine_trees v fine)) (λ bound l. refl) spare around pc next bound le p
   layer (stm.Call r f args) h fine spare label around pc next bound le p = calls_do.call r f args fine spare around pc next bound le p

@@ -13,12 +13,12 @@ use Rattle.mv_ir.specs.declared.stm.Stm.TheFolds.{fold-roll-Stm, map-Stm}
 use Rattle.mv_ir.specs.Measures.{joined}
 use Rattle.mv_ir.proofs.Induction.{Each, StmChildren, stm_ind, stms_ind}
 use Rattle.mv_tree_code.specs.TreeCode.{tree_lines}
-use Rattle.mv_statement_code.specs.StatementCode.{first, trap_label}
+use Rattle.mv_statement_code.specs.StatementCode.{first, second, bounds_lines, clear_lines, trap_label}
 use Rattle.mv_flow_code.specs.declared.enclosing.Enclosing.{Enclosing}
 use Rattle.mv_flow_code.specs.FlowCode.{Plan, Emitted, in_turn, enclosing_at, branch_lines, loop_at, block_at, home, size, code_layer, statement_code}
 use Rattle.mv_flow_code.specs.Labels.{Names, CallsName, TargetsStand, named_layer, stm_functions, tree_functions}
 use Rattle.mv_flow_code.proofs.StatementsDo.{code_roll}
-use Rattle.mv_flow_code.proofs.TreeNames.{all_front, all_back, tree_names, set_names, set_global_names, divide_names, check_names, read_names, write_names, zero_names, return_names}
+use Rattle.mv_flow_code.proofs.TreeNames.{all_front, all_back, tree_names, set_names, set_global_names, divide_names, check_names, read_names, write_names, bounds_names, clear_names, return_names}
 
 named_roll : (x : Stm-F Stm) → stm_functions (roll-Stm x) ≡ named_layer (map-Stm Stm (List ℕ) stm_functions x)
 unfolding stm_functions
@@ -105,7 +105,14 @@ module _ (whole : List Line) (plan : Plan) (calls : CallsName (StandsOnce whole)
   layer (stm.Check a i) h names around starts ends label own = named _ (check_names P plan.place (size plan a) i index names)
   layer (stm.Read t a i) h names around starts ends label own = named _ (read_names P plan.place t (size plan a) (home plan a) i index names)
   layer (stm.Write a i v) h names around starts ends label own = named _ (write_names P plan.place (size plan a) (home plan a) i v index (left i v names) (right i v names))
-  layer (stm.Zero a) h names around starts ends label own = named _ (zero_names P plan.place (plan.array_at a) (plan.array_size a))
+  layer (stm.Zero a) h names around starts ends label own =
+      let bounds = bounds_lines (plan.array_at a) (plan.array_size a) in
+      let test = Label (label + 1) ∷ Branch 1 first second label ∷ [] in
+      after bounds (Jump 0 (label + 1) ∷ Label label ∷ (clear_lines ++ test)) (named bounds (bounds_names P plan.place (plan.array_at a) (plan.array_size a)))
+      (then_line (Jump 0 (label + 1)) (Label label ∷ (clear_lines ++ test)) (own (label + 1) (omega arith) (omega arith))
+      (then_line (Label label) (clear_lines ++ test) tt
+      (after clear_lines test (named clear_lines (clear_names P plan.place))
+      (then_line (Label (label + 1)) (Branch 1 first second label ∷ []) tt (then_line (Branch 1 first second label) [] (own label (omega arith) (omega arith)) nothing)))))
   layer (stm.Return v) h names around starts ends label own = named _ (return_names P plan.place plan.end v end names)
   layer (stm.Break n) h names around starts ends label own =
       let to = (enclosing_at around n plan.end).end in

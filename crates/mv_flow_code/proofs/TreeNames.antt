@@ -17,7 +17,7 @@ use Rattle.mv_tree_code.specs.TreeCode.{one, two, upper_bits, lower_bits, number
 use Rattle.mv_tree_code.proofs.Rolls.{lines_roll}
 use Rattle.mv_statement_code.specs.declared.elements.Home.{Home}
 use Rattle.mv_statement_code.specs.declared.elements.Home.TheVariants as home
-use Rattle.mv_statement_code.specs.StatementCode.{first, second, third, trap_label, write_temp, division, element_offset, element_lines, test_lines, zero_lines, set_lines, set_global_lines, divide_lines, check_lines, read_lines, write_lines, return_lines}
+use Rattle.mv_statement_code.specs.StatementCode.{first, second, third, trap_label, write_temp, division, element_offset, element_lines, test_lines, bounds_lines, clear_lines, set_lines, set_global_lines, divide_lines, check_lines, read_lines, write_lines, return_lines}
 use Rattle.mv_flow_code.specs.Labels.{functions_layer, tree_functions, Names}
 
 pub all_front : {X : Type 0} (P : X → Type 0) (xs ys : List X) → All P (xs ++ ys) → All P xs
@@ -137,9 +137,11 @@ module _ (P : ℕ → Type 0) where
     test_names : (size : ℕ) → P (trap_label 2) → AllName (test_lines size)
     test_names size h = after (number_lines size third) (Branch 7 first third (trap_label 2) ∷ []) (number_names size third) (branch_names 7 first third (trap_label 2) h)
 
-    pub zero_names : (at n : ℕ) → AllName (zero_lines at n)
-    zero_names at zero = All-nil (Names P)
-    zero_names at (suc n) = after (zero_lines at n) (one (Sw 2 0 (pos (at + 4 * n)))) (zero_names at n) (word (Sw 2 0 (pos (at + 4 * n))))
+    pub bounds_names : (at n : ℕ) → AllName (bounds_lines at n)
+    bounds_names at n = words (Addi first 2 (pos at)) (Addi second 2 (pos (at + 4 * n)))
+
+    pub clear_names : AllName clear_lines
+    clear_names = words (Sw first 0 (pos 0)) (Addi first first (pos 4))
 
     abbrev Fs : Tree → Type 0
     Fs t = All P (tree_functions t)

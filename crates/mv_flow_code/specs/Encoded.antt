@@ -8,42 +8,55 @@ use Rattle.mv_ir.specs.declared.stm.Stm.TheOpen.{Stm-F}
 use Rattle.mv_ir.specs.declared.stm.Stm.TheOpen as stm
 use Rattle.mv_ir.specs.declared.stm.Stm.TheFolds.{fold-Stm}
 use Rattle.mv_ir.specs.Trees.{nodes_of_all}
-use Rattle.mv_ir.specs.Measures.{total, callee_trees, tree_nodes, statements}
+use Rattle.mv_ir.specs.Measures.{total, callee_trees, tree_nodes}
 use Rattle.mv_statement_code.specs.Encoded.{IsCode}
 use Rattle.mv_flow_code.specs.declared.enclosing.Enclosing.{Enclosing}
 use Rattle.mv_flow_code.specs.declared.layout.Layout.{Layout}
 use Rattle.mv_flow_code.specs.FlowCode.{CallLines, code_of}
-use Rattle.mv_flow_code.specs.Layouts.{array_size_in, IsInFrame, plan_in, small_call, small_known, are_small}
+use Rattle.mv_flow_code.specs.Layouts.{IsInFrame, plan_in, small_call, small_known, are_small}
 
--- ---- what isn't bounded by a statement's trees: the elements that are made 0, and so many words for each call
+-- ---- how many words each form of statement takes at most besides those of its trees, each branch taken for two
 
-module _ (array_size : ℕ → ℕ) (most : ℕ) where
-  abbrev pub more_layer : Stm-F ℕ → ℕ
-  more_layer (stm.Zero a) = array_size a
-  more_layer (stm.If t a b) = total a + total b
-  more_layer (stm.Loop b) = total b
-  more_layer (stm.Block b) = total b
-  more_layer (stm.Call r f args) = most
-  more_layer (stm.Known r k args) = most
-  more_layer _ = 0
+abbrev pub words_layer : Stm-F ℕ → ℕ
+words_layer (stm.Set t v) = 1
+words_layer (stm.SetGlobal g v) = 2
+words_layer (stm.Divide t o a b) = 4
+words_layer (stm.Check a i) = 4
+words_layer (stm.Read t a i) = 9
+words_layer (stm.Write a i v) = 8
+words_layer (stm.Zero a) = 7
+words_layer (stm.If t a b) = 3 + (total a + total b)
+words_layer (stm.Loop b) = 1 + total b
+words_layer (stm.Block b) = total b
+words_layer (stm.Break n) = 1
+words_layer (stm.Back n) = 1
+words_layer (stm.Call r f args) = 16
+words_layer (stm.Known r k args) = 7
+words_layer (stm.Return v) = 1
 
-  unfoldable pub stm_more : Stm → ℕ
-  stm_more = fold-Stm ℕ more_layer
+unfoldable pub stm_words : Stm → ℕ
+stm_words = fold-Stm ℕ words_layer
 
-  abbrev pub more : List Stm → ℕ
-  more code = total (map stm_more code)
+-- of statements in order
+abbrev pub own_words : List Stm → ℕ
+own_words code = total (map stm_words code)
 
--- the code of a call has encodings, and at most two words for each node of its trees and so many more
-pub record CallsAreEncoded (most : ℕ) (calls : CallLines) : Type 0 where
+-- and with those of their trees, two for each node
+abbrev pub most_words : List Stm → ℕ
+most_words code = 2 * tree_nodes code + own_words code
+
+-- ---- the code of calls and of statements
+
+-- the code of a call has encodings, and at most two words for each node of its trees and 16 more, or 7 of a known function
+pub record CallsAreEncoded (calls : CallLines) : Type 0 where
   pub call : (r : Option ℕ) (f : Callee) (args : List Tree) → small_call r f args ≡ true →
-      IsCode (2 * nodes_of_all (callee_trees f ++ args) + most) (calls.call r f args)
+      IsCode (2 * nodes_of_all (callee_trees f ++ args) + 16) (calls.call r f args)
   pub known : (r : Option ℕ) (k : Known) (args : List Tree) → small_known r k args ≡ true →
-      IsCode (2 * nodes_of_all args + most) (calls.known r k args)
+      IsCode (2 * nodes_of_all args + 7) (calls.known r k args)
 
--- If that is so, the code of statements has encodings, and at most two words for each node of a tree, nine for each statement, one for each element
--- that is made 0, and so many for each call.
+-- If that is so, the code of statements has encodings and no more words.
 abbrev pub FlowIsEncoded : Type 0
 FlowIsEncoded =
-    (layout : Layout) → All IsInFrame layout.arrays → (most : ℕ) (calls : CallLines) → CallsAreEncoded most calls →
+    (layout : Layout) → All IsInFrame layout.arrays → (calls : CallLines) → CallsAreEncoded calls →
     (code : List Stm) → are_small code ≡ true → (around : List Enclosing) (label : ℕ) →
-    IsCode (2 * tree_nodes code + 9 * statements code + more (array_size_in layout.arrays) most code) ((code_of (plan_in layout calls) code).lines around label)
+    IsCode (most_words code) ((code_of (plan_in layout calls) code).lines around label)

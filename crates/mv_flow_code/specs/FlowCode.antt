@@ -17,7 +17,7 @@ use Rattle.mv_ir.specs.WellFormed.{known_arguments}
 use Rattle.mv_tree_code.specs.TreeCode.{tree_lines}
 use Rattle.mv_statement_code.specs.declared.elements.Home.{Home}
 use Rattle.mv_statement_code.specs.declared.elements.Home.TheVariants as place_at
-use Rattle.mv_statement_code.specs.StatementCode.{first, set_lines, set_global_lines, divide_lines, check_lines, read_lines, write_lines, zero_lines, return_lines}
+use Rattle.mv_statement_code.specs.StatementCode.{first, second, set_lines, set_global_lines, divide_lines, check_lines, read_lines, write_lines, bounds_lines, clear_lines, return_lines}
 use Rattle.mv_flow_code.specs.declared.enclosing.Enclosing.{Enclosing}
 
 -- the n-th of what encloses a statement, counted from 0, the innermost; the whole function past all of them
@@ -100,6 +100,15 @@ break_code end n = record { labels = 0; lines = λ around label. Jump 0 (enclosi
 abbrev pub back_code : ℕ → ℕ → Emitted
 back_code end n = record { labels = 0; lines = λ around label. Jump 0 (enclosing_at around n end).start ∷ [] }
 
+-- Each word of an array of the frame becomes 0, the first one first. The test of the loop stands behind a turn, with a label of its own, and is come to
+-- first.
+abbrev pub zero_lines : ℕ → ℕ → ℕ → List Line
+zero_lines label at n =
+    bounds_lines at n ++ (Jump 0 (label + 1) ∷ Label label ∷ (clear_lines ++ (Label (label + 1) ∷ Branch 1 first second label ∷ [])))
+
+abbrev pub zero_code : ℕ → ℕ → Emitted
+zero_code at n = record { labels = 2; lines = λ around label. zero_lines label at n }
+
 -- ---- statements
 
 -- lines without labels
@@ -128,7 +137,7 @@ module _ (plan : Plan) where
   code_layer (stm.Check a i) = plain (check_lines plan.place (size a) i)
   code_layer (stm.Read t a i) = plain (read_lines plan.place t (home a) (size a) i)
   code_layer (stm.Write a i v) = plain (write_lines plan.place (home a) (size a) i v)
-  code_layer (stm.Zero a) = plain (zero_lines (plan.array_at a) (plan.array_size a))
+  code_layer (stm.Zero a) = zero_code (plan.array_at a) (plan.array_size a)
   code_layer (stm.If t a b) = if_code plan.place t (in_turn a) (in_turn b)
   code_layer (stm.Loop b) = loop_code (in_turn b)
   code_layer (stm.Block b) = block_code (in_turn b)

@@ -1,17 +1,17 @@
 // The code of statements on arrays, where a layout has them.
 
 ghost use Rattle.std.specs.Prelude.{◌≡◌, ◌<◌, ◌++◌, true, All, OnOk};
-ghost use Rattle.mv_statement_code.specs.StatementCode.{check_lines, read_lines, write_lines, zero_lines};
+ghost use Rattle.mv_statement_code.specs.StatementCode.{check_lines, read_lines, write_lines};
 ghost use Rattle.mv_tree_code.specs.Rooms.{place_in};
 ghost use Rattle.mv_flow_code.specs.FlowCode.{home_of, size_of};
 ghost use Rattle.mv_flow_code.specs.Layouts.{size_in, array_at_in, array_size_in, IsInFrame, is_small};
 
-use crate::layout::{Layout, home_of, size_of, space_of};
+use crate::layout::{Layout, home_of, size_of};
 use mv_ir::stm::Array;
 use mv_ir::tree::Tree;
 use mv_isa::labelled::Line;
 use mv_num::list::List;
-use mv_statement_code::elements::{push_check, push_read, push_write, push_zero};
+use mv_statement_code::elements::{push_check, push_read, push_write};
 use std::alloc::AllocError;
 
 /// Tests an index.
@@ -85,13 +85,4 @@ pub fn push_write_of(
         index,
         value,
     )
-}
-
-/// Makes all words of an array of the frame 0.
-pub fn push_zero_of(code: &mut List<Line>, layout: &Layout, array: u32) -> Result<(), AllocError>
-    requires { All IsInFrame layout.now.arrays }
-    ensures { OnOk result (code.new ≡ code.old ++ zero_lines (array_at_in layout.now.arrays array) (array_size_in layout.now.arrays array)) }
-{
-    let space = space_of(layout.arrays.as_slice(), array);
-    push_zero(code, space.at, space.size)
 }

@@ -3,20 +3,25 @@
 ghost use Rattle.std.specs.Prelude.{◌≡◌, ◌+◌, ◌^◌, ◌<◌, [], ◌∷◌, true, OnOk};
 ghost use Rattle.mv_isa.specs.declared.labelled.Line.TheVariants.{Jump};
 ghost use Rattle.mv_tree_code.specs.Rooms.{place_in};
-ghost use Rattle.mv_flow_code.specs.FlowCode.{enclosing_at};
-ghost use Rattle.mv_flow_code.specs.Emitters.{with_lines, loop_opened, loop_closed, block_opened, block_closed, branch_opened, branch_turned, branch_closed};
-ghost use Rattle.mv_flow_code.specs.Layouts.{is_small};
+ghost use Rattle.mv_flow_code.specs.FlowCode.{enclosing_at, zero_code};
+ghost use Rattle.mv_flow_code.specs.Emitters.{with_lines, emitted, loop_opened, loop_closed, block_opened, block_closed, branch_opened, branch_turned, branch_closed};
+ghost use Rattle.mv_flow_code.specs.Layouts.{IsInFrame, is_small};
 
 use crate::enclosing::{Around, Enclosing};
+use crate::layout::Space;
 use mv_ir::body::Room;
 use mv_ir::tree::Tree;
 use mv_isa::labelled::Line;
 use mv_num::list::List;
+use mv_statement_code::elements::{push_bounds, push_clear};
 use mv_tree_code::push_tree;
 use std::alloc::{AllocError, Global};
 
-// a0, which has the test of a branch.
+// a0, which has the test of a branch and the address of a word.
 const FIRST: u8 = 10;
+
+// a1, which has the address of an array's end.
+const SECOND: u8 = 11;
 
 /// Code as far as it is written. Where memory lacks, some of what was to be written may be missing.
 #[derive(Debug, Drop)]
@@ -132,6 +137,22 @@ impl Emitter {
         ensures { OnOk result (self.new ≡ branch_closed self.old label) }
     {
         self.lines.push(Line::Label(label + 1))?;
+        Ok(())
+    }
+
+    // Makes the words of an array of the frame 0, in a loop whose first label is the first free one.
+    pub(crate) fn push_zero(&mut self, array: Space) -> Result<(), AllocError>
+        requires within { IsInFrame array }
+        requires label { self.old.free + 2 < 2 ^ 32 }
+        ensures { OnOk result (self.new ≡ emitted self.old (zero_code array.at array.size)) }
+    {
+        let turn = self.free;
+        let test = turn + 1;
+        push_bounds(&mut self.lines, array.at, array.size)?;
+        self.push_two(Line::Jump(0, test), Line::Label(turn))?;
+        push_clear(&mut self.lines)?;
+        self.push_two(Line::Label(test), Line::Branch(1, FIRST, SECOND, turn))?;
+        self.free = turn + 2;
         Ok(())
     }
 

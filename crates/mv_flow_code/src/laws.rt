@@ -10,8 +10,8 @@ ghost use Rattle.mv_flow_code.specs.Laws.{FlowIsDone};
 /// or at the stub of a trap. That is so after no more instructions than the cost; and where the bound is used up, after no fewer
 /// than the bound. It takes for granted that the code of each call does what the call means.
 ///
-/// `encoded`: where the code of each call has encodings, all instructions have, with what `push_statements` asks; and their words
-/// are bounded by the nodes of the trees, the statements, the elements that are made 0 and the calls, each branch taken for two.
+/// `encoded`: where the code of each call has encodings, all instructions have, with what `push_statements` asks; and they have at
+/// most two words for each node of the trees and so many for each form of statement, each branch taken for two.
 ///
 /// `labels`: each label from the first free one up to the next free one stands once in the code, and no other label does, if
 /// none does in the code of calls. `few`: these are at most two for each statement. `targets`: each label that the code names

@@ -11,6 +11,3 @@ mod statements;
 
 pub use laws::flow_code_law;
 pub use statements::push_statements;
-
-#[cfg(test)]
-mod tests;

@@ -5,10 +5,10 @@ ghost use Rattle.mv_flow_code.specs.FlowCode.{loop_code, block_code, statement_c
 ghost use Rattle.mv_flow_code.specs.Emitters.{emitted};
 ghost use Rattle.mv_flow_code.specs.Layouts.{plan_in, IsInFrame, is_small_statement, are_small};
 
-use crate::arrays::{push_check_of, push_read_of, push_write_of, push_zero_of};
+use crate::arrays::{push_check_of, push_read_of, push_write_of};
 use crate::calls::CallCode;
 use crate::emitter::Emitter;
-use crate::layout::Layout;
+use crate::layout::{Layout, space_of};
 use mv_ir::stm::Stm;
 use mv_num::list::List;
 use mv_statement_code::values::{push_divide, push_return, push_set, push_set_global};
@@ -59,7 +59,7 @@ fn push_statement<C: CallCode>(
         Stm::Check(a, i) => push_check_of(code, layout, *a, i),
         Stm::Read(t, a, i) => push_read_of(code, layout, *t, *a, i),
         Stm::Write(a, i, v) => push_write_of(code, layout, *a, i, v),
-        Stm::Zero(a) => push_zero_of(code, layout, *a),
+        Stm::Zero(a) => emitter.push_zero(space_of(layout.arrays.as_slice(), *a)),
         Stm::If(t, a, b) => {
             emitter.open_branch(rooms, t)?;
             push_statements(emitter, layout, calls, a)?;

@@ -6,6 +6,3 @@ mod laws;
 
 pub use frames::{push_epilogue, push_prologue};
 pub use laws::function_code_law;
-
-#[cfg(test)]
-mod tests;

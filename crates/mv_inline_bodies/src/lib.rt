@@ -6,6 +6,3 @@ mod laws;
 
 pub use inline::inline_of;
 pub use laws::inline_law;
-
-#[cfg(test)]
-mod tests;

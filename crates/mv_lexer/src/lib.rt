@@ -25,8 +25,6 @@ pub mod position;
 mod quoted;
 mod scan;
 mod table;
-#[cfg(test)]
-mod tests;
 
 use crate::error::LexError;
 use crate::lexer::Lexer;

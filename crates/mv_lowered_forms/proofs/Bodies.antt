@@ -20,6 +20,7 @@ use Rattle.mv_lowering.specs.Functions.{size_in, elements_of, array_sizes, lower
 use Rattle.mv_lowering.proofs.Depths.{ShallowCode, both_parts}
 use Rattle.mv_lowering.proofs.Expressions.{no}
 use Rattle.mv_lowered_forms.proofs.Asked.{Globals, IsAsked}
+use Rattle.mv_lowered_forms.specs.Allowances.{allowance}
 use Rattle.mv_lowered_forms.specs.Calls.{each_once, attributed_once}
 use Rattle.mv_lowered_forms.specs.Law.{CallsAsOften, IsSmall}
 use Rattle.mv_lowered_forms.proofs.Expressions as limits
@@ -166,8 +167,8 @@ module _ (p : Program) (globals : Globals) (g : Function) (asked : IsAsked p glo
   few_nodes : tree_nodes b.code ≤ 9 * body_nodes g + 1
   few_nodes = let c = counting none 0 in omega (arith, c.made.nodes, c.few_nodes)
 
-  few_words : 5 * (statements b.code + 3 * calls b.code) + 2 * tree_nodes b.code ≤ 40 * body_nodes g + 7
-  few_words = let c = counting none 0 in omega (arith, c.made.units, c.made.nodes, c.few_words)
+  few_words : allowance b.code + 2 * tree_nodes b.code ≤ 40 * body_nodes g + 7
+  few_words = let c = counting none 0 in omega (arith, c.made.words, c.made.nodes, c.few_words)
 
   top_within : (lower_body g).top ≤ locals + 8 * depth g
   top_within = body_top globals locals sizes (is_void g.result) g.body params asked.within outermost

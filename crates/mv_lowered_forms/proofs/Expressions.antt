@@ -77,35 +77,37 @@ pub sum_append : (ms ns : List ℕ) → sum (ms ++ ns) ≡ sum ms + sum ns
 sum_append ms ns = sum_by-append (λ x. x) ms ns
 
 module _ (globals : Globals) (locals : ℕ) (sizes : ℕ → Option ℕ) (room : ℕ) (direct : ℕ → ℕ) (through : ℕ) (declared : ℕ → Bool)
-    (B : ℕ → ℕ → ℕ → List Tree → List Stm → List Tree → Type 0) (rules : Rules (allowed globals locals sizes room direct through declared) B) where
+    (B : ℕ → ℕ → ℕ → ℕ → List Tree → List Stm → List Tree → Type 0) (rules : Rules (allowed globals locals sizes room direct through declared) B) where
   abbrev a : Allowed
   a = allowed globals locals sizes room direct through declared
 
   abbrev scratch : (t : ℕ) → locals ≤ t → t < room → a.temps t ≡ true
   scratch = scratch_used locals sizes room
 
-  abbrev Gives : ℕ → ℕ → ℕ → Lowering → Type 0
+  abbrev Gives : ℕ → ℕ → ℕ → ℕ → Lowering → Type 0
   Gives = given.Gives a B rules locals room scratch
 
-  abbrev GivesFrom : List Tree → ℕ → ℕ → ℕ → Lowering → Type 0
+  abbrev GivesFrom : List Tree → ℕ → ℕ → ℕ → ℕ → Lowering → Type 0
   GivesFrom = given.GivesFrom a B rules locals room scratch
 
   -- A lowering that so many nodes pay for. It leaves some units and nodes, with which its value is put away and its parent pays.
   pub record Paid (n k : ℕ) (l : Lowering) : Type 0 where
     pub units : ℕ
+    pub words : ℕ
     pub nodes : ℕ
-    pub gives : Gives units nodes k l
+    pub gives : Gives units words nodes k l
     pub few_units : units + 2 ≤ 6 * n
     pub few_nodes : nodes + 3 ≤ 9 * n
-    pub few_words : 5 * units + 2 * nodes + 17 ≤ 40 * n
+    pub few_words : words + 2 * nodes + 17 ≤ 40 * n
 
   pub record AllPaid (n k : ℕ) (ls : List Lowering) : Type 0 where
     pub units : ℕ
+    pub words : ℕ
     pub nodes : ℕ
-    pub give : given.AllGive a B rules locals room scratch units nodes k ls
+    pub give : given.AllGive a B rules locals room scratch units words nodes k ls
     pub few_units : units ≤ 6 * n
     pub few_nodes : nodes ≤ 9 * n
-    pub few_words : 5 * units + 2 * nodes ≤ 40 * n
+    pub few_words : words + 2 * nodes ≤ 40 * n
 
   -- ---- places
 
@@ -141,16 +143,18 @@ module _ (globals : Globals) (locals : ℕ) (sizes : ℕ → Option ℕ) (room :
   read_paid : (x : Place) (access : Access) (n k : ℕ) → PlacePaid x access n k → access.read ≡ true → Paid (1 + n) k (lower_read x)
   read_paid (InLocal l) access n k h e = record {
     units = 0;
+    words = 0;
     nodes = 1;
-    gives = subst (λ m. Gives 0 1 m (lower_local l)) (sym h.free) (given.gives_local a B rules locals room scratch l (h.read e) (h.used e));
+    gives = subst (λ m. Gives 0 0 1 m (lower_local l)) (sym h.free) (given.gives_local a B rules locals room scratch l (h.read e) (h.used e));
     few_units = omega arith;
     few_nodes = omega arith;
     few_words = omega arith;
   }
   read_paid (InGlobal g) access n k h e = record {
     units = 0;
+    words = 0;
     nodes = 1;
-    gives = subst (λ m. Gives 0 1 m (lower_global g)) (sym h.free) (given.gives_global a B rules locals room scratch g (h.read e));
+    gives = subst (λ m. Gives 0 0 1 m (lower_global g)) (sym h.free) (given.gives_global a B rules locals room scratch g (h.read e));
     few_units = omega arith;
     few_nodes = omega arith;
     few_words = omega arith;
@@ -160,6 +164,7 @@ module _ (globals : Globals) (locals : ℕ) (sizes : ℕ → Option ℕ) (room :
       let index = el.index in
       record {
         units = index.units + 1;
+        words = index.words + 9;
         nodes = index.nodes + 1;
         gives = given.gives_read_element a B rules locals room scratch r i el.named el.read index.gives;
         few_units = omega (arith, index.few_units);
@@ -167,12 +172,13 @@ module _ (globals : Globals) (locals : ℕ) (sizes : ℕ → Option ℕ) (room :
         few_words = omega (arith, index.few_words);
       }
 
-  same_weight : {s t k k' : ℕ} (l : Lowering) → k ≡ k' → Gives s t k l → Gives s t k' l
-  same_weight {s} {t} l e h = subst (λ m. Gives s t m l) e h
+  same_weight : {s w t k k' : ℕ} (l : Lowering) → k ≡ k' → Gives s w t k l → Gives s w t k' l
+  same_weight {s} {w} {t} l e h = subst (λ m. Gives s w t m l) e h
 
   set_paid : (x : Place) (access : Access) (n k n' k' : ℕ) (v : Lowering) → PlacePaid x access n k → access.stored ≡ true → Paid n' k' v → Paid (1 + (n + n')) (k + k') (lower_set x v)
   set_paid (InLocal l) access n k n' k' v h e p = record {
     units = p.units + 1;
+    words = p.words + 1;
     nodes = p.nodes + 1;
     gives = same_weight (lower_set (InLocal l) v) (omega (arith, h.free)) (given.gives_set_local a B rules locals room scratch l v (h.stored e) p.gives);
     few_units = omega (arith, p.few_units);
@@ -181,6 +187,7 @@ module _ (globals : Globals) (locals : ℕ) (sizes : ℕ → Option ℕ) (room :
   }
   set_paid (InGlobal g) access n k n' k' v h e p = record {
     units = p.units + 2;
+    words = p.words + 3;
     nodes = p.nodes + 2;
     gives = same_weight (lower_set (InGlobal g) v) (omega (arith, h.free)) (given.gives_set_global a B rules locals room scratch g v (h.stored e) p.gives);
     few_units = omega (arith, p.few_units);
@@ -192,9 +199,10 @@ module _ (globals : Globals) (locals : ℕ) (sizes : ℕ → Option ℕ) (room :
       let index = el.index in
       record {
         units = index.units + p.units + 4;
+        words = index.words + p.words + 14;
         nodes = index.nodes + p.nodes + 5;
         gives = λ m le top. given.gives_set_element a B rules locals room scratch r i v m el.named index.gives le top
-            (rules.weaken (omega arith) (omega arith) (omega arith) (rules.chain (rules.retree (covers_none (temp (m + 1) ∷ []))) (p.gives (m + 2) (omega (arith, le)) (omega (arith, top)))));
+            (rules.weaken (omega arith) (omega arith) (omega arith) (omega arith) (rules.chain (rules.retree (covers_none (temp (m + 1) ∷ []))) (p.gives (m + 2) (omega (arith, le)) (omega (arith, top)))));
         few_units = omega (arith, index.few_units, p.few_units);
         few_nodes = omega (arith, index.few_nodes, p.few_nodes);
         few_words = omega (arith, index.few_words, p.few_words);
@@ -204,6 +212,7 @@ module _ (globals : Globals) (locals : ℕ) (sizes : ℕ → Option ℕ) (room :
       Paid (1 + (n + n')) (k + k') (lower_change op kind c x v)
   change_paid op kind c (InLocal l) access n k n' k' v h e d p = record {
     units = p.units + 0 + 2 + 1;
+    words = p.words + 0 + 5 + 1;
     nodes = p.nodes + 1 + 5 + 1;
     gives = same_weight (lower_change op kind c (InLocal l) v) (omega (arith, h.free))
         (given.gives_set_local a B rules locals room scratch l _ (h.stored d) (operators.gives_changed a B rules locals room scratch op kind c (lower_local l) v (given.second_stays a B rules locals room scratch (lower_local l) (λ m. temp_low l) (given.gives_local a B rules locals room scratch l (h.read e) (h.used e))) p.gives));
@@ -213,6 +222,7 @@ module _ (globals : Globals) (locals : ℕ) (sizes : ℕ → Option ℕ) (room :
   }
   change_paid op kind c (InGlobal g) access n k n' k' v h e d p = record {
     units = p.units + 0 + 2 + 2;
+    words = p.words + 0 + 5 + 3;
     nodes = p.nodes + 1 + 5 + 2;
     gives = same_weight (lower_change op kind c (InGlobal g) v) (omega (arith, h.free))
         (given.gives_set_global a B rules locals room scratch g _ (h.stored d) (operators.gives_changed a B rules locals room scratch op kind c (lower_global g) v (given.second_stays a B rules locals room scratch (lower_global g) (λ m. global_low g) (given.gives_global a B rules locals room scratch g (h.read e))) p.gives));
@@ -225,8 +235,9 @@ module _ (globals : Globals) (locals : ℕ) (sizes : ℕ → Option ℕ) (room :
       let index = el.index in
       record {
         units = index.units + (p.units + 1 + 2) + 4;
+        words = index.words + (p.words + 9 + 5) + 14;
         nodes = index.nodes + (p.nodes + 1 + 5) + 5;
-        gives = λ m le top. rules.weaken (omega arith) (omega arith) (omega arith)
+        gives = λ m le top. rules.weaken (omega arith) (omega arith) (omega arith) (omega arith)
             (given.gives_set_element a B rules locals room scratch r i (lower_changed op kind c (lower_element r (m + 1)) v) m el.named index.gives le top
             (operators.gives_changed a B rules locals room scratch op kind c (lower_element r (m + 1)) v (given.second_stays a B rules locals room scratch (lower_element r (m + 1)) temp_low (given.gives_element a B rules locals room scratch r (m + 1) el.named el.read)) p.gives (m + 2) (omega (arith, le)) (omega (arith, top))));
         few_units = omega (arith, index.few_units, p.few_units);
@@ -237,6 +248,7 @@ module _ (globals : Globals) (locals : ℕ) (sizes : ℕ → Option ℕ) (room :
   after_paid : (up : Bool) (c : CType) (x : Place) (access : Access) (n k : ℕ) → PlacePaid x access n k → access.read ≡ true → access.stored ≡ true → Paid (1 + n) k (lower_after up c x)
   after_paid up c (InLocal l) access n k h e d = record {
     units = 2;
+    words = 2;
     nodes = 6;
     gives = same_weight (lower_after up c (InLocal l)) (sym h.free)
         (λ m le top. given.gives_local_after a B rules locals room scratch l (λ i. next_tree up c (temp i)) (h.read e) (h.used e) (on_next up c) m le (omega (arith, top)));
@@ -246,6 +258,7 @@ module _ (globals : Globals) (locals : ℕ) (sizes : ℕ → Option ℕ) (room :
   }
   after_paid up c (InGlobal g) access n k h e d = record {
     units = 2;
+    words = 3;
     nodes = 6;
     gives = same_weight (lower_after up c (InGlobal g)) (sym h.free)
         (λ m le top. given.gives_global_after a B rules locals room scratch g (λ i. next_tree up c (temp i)) (h.read e) (h.stored d) (on_next up c) m le (omega (arith, top)));
@@ -258,6 +271,7 @@ module _ (globals : Globals) (locals : ℕ) (sizes : ℕ → Option ℕ) (room :
       let index = el.index in
       record {
         units = index.units + 3;
+        words = index.words + 18;
         nodes = index.nodes + 7;
         gives = λ m le top. given.gives_element_after a B rules locals room scratch r i (λ i. next_tree up c (temp i)) el.named el.read (on_next up c) index.gives m le top;
         few_units = omega (arith, index.few_units);
@@ -283,7 +297,7 @@ module _ (globals : Globals) (locals : ℕ) (sizes : ℕ → Option ℕ) (room :
   S e = within e ≡ true → Paid (expr_nodes e) (weight e) (lower_expr e)
 
   all_paid : (es : List Expr) → Each S es → all_of (map within es) ≡ true → AllPaid (sum (map expr_nodes es)) (sum (map weight es)) (map (λ (x : Part). x.lower) (map part_of es))
-  all_paid [] h b = record { units = 0; nodes = 0; give = given.none_give a B rules locals room scratch; few_units = omega arith; few_nodes = omega arith; few_words = omega arith }
+  all_paid [] h b = record { units = 0; words = 0; nodes = 0; give = given.none_give a B rules locals room scratch; few_units = omega arith; few_nodes = omega arith; few_words = omega arith }
   all_paid (e ∷ es) h b =
       let bs = split (within e) (all_of (map within es)) b in
       let x = h.0 bs.0 in
@@ -291,8 +305,9 @@ module _ (globals : Globals) (locals : ℕ) (sizes : ℕ → Option ℕ) (room :
       let n = sum_cons (expr_nodes e) (map expr_nodes es) in
       record {
         units = x.units + 1 + xs.units;
+        words = x.words + 1 + xs.words;
         nodes = x.nodes + 1 + xs.nodes;
-        give = subst (λ m. given.AllGive a B rules locals room scratch (x.units + 1 + xs.units) (x.nodes + 1 + xs.nodes) m (map (λ (x : Part). x.lower) (map part_of (e ∷ es)))) (sym (sum_cons (weight e) (map weight es)))
+        give = subst (λ m. given.AllGive a B rules locals room scratch (x.units + 1 + xs.units) (x.words + 1 + xs.words) (x.nodes + 1 + xs.nodes) m (map (λ (x : Part). x.lower) (map part_of (e ∷ es)))) (sym (sum_cons (weight e) (map weight es)))
             (given.more_give a B rules locals room scratch (lower_expr e) (map (λ (x : Part). x.lower) (map part_of es)) x.gives xs.give);
         few_units = omega (arith, x.few_units, xs.few_units, n);
         few_nodes = omega (arith, x.few_nodes, xs.few_nodes, n);
@@ -301,11 +316,12 @@ module _ (globals : Globals) (locals : ℕ) (sizes : ℕ → Option ℕ) (room :
 
   -- of so many nodes or more, and of so much weight
   paid_as : {n k n' k' : ℕ} (l : Lowering) → n ≤ n' → k ≡ k' → Paid n k l → Paid n' k' l
-  paid_as l le e p = record { units = p.units; nodes = p.nodes; gives = same_weight l e p.gives; few_units = omega (arith, le, p.few_units); few_nodes = omega (arith, le, p.few_nodes); few_words = omega (arith, le, p.few_words) }
+  paid_as l le e p = record { units = p.units; words = p.words; nodes = p.nodes; gives = same_weight l e p.gives; few_units = omega (arith, le, p.few_units); few_nodes = omega (arith, le, p.few_nodes); few_words = omega (arith, le, p.few_words) }
 
   one_paid : {n k : ℕ} (f : Tree → Tree) (x : Lowering) → given.OnOne f → Paid n k x → Paid (1 + n) k (lower_one f x)
   one_paid f x on p = record {
     units = p.units + 1;
+    words = p.words + 1;
     nodes = p.nodes + 1 + 2;
     gives = given.gives_one a B rules locals room scratch f x on p.gives;
     few_units = omega (arith, p.few_units);
@@ -316,6 +332,7 @@ module _ (globals : Globals) (locals : ℕ) (sizes : ℕ → Option ℕ) (room :
   binary_paid : {n k n' k' : ℕ} (op : ℕ) (c : CType) (x y : Lowering) → Paid n k x → Paid n' k' y → Paid (1 + (n + n')) (k + k') (lower_binary false op c x y)
   binary_paid op c x y p q = record {
     units = p.units + (q.units + 1) + 2;
+    words = p.words + (q.words + 1) + 5;
     nodes = p.nodes + (q.nodes + 1) + 3;
     gives = operators.gives_binary a B rules locals room scratch false op c x y p.gives (given.second_gives a B rules locals room scratch y q.gives);
     few_units = omega (arith, p.few_units, q.few_units);
@@ -326,6 +343,7 @@ module _ (globals : Globals) (locals : ℕ) (sizes : ℕ → Option ℕ) (room :
   both_paid : {n k n' k' : ℕ} (x y : Lowering) → Paid n k x → Paid n' k' y → Paid (1 + (n + n')) (k + k') (lower_both x y)
   both_paid x y p q = record {
     units = p.units + q.units + 4;
+    words = p.words + q.words + 6;
     nodes = p.nodes + q.nodes + 6;
     gives = given.gives_both a B rules locals room scratch x y p.gives q.gives;
     few_units = omega (arith, p.few_units, q.few_units);
@@ -336,6 +354,7 @@ module _ (globals : Globals) (locals : ℕ) (sizes : ℕ → Option ℕ) (room :
   either_paid : {n k n' k' : ℕ} (x y : Lowering) → Paid n k x → Paid n' k' y → Paid (1 + (n + n')) (k + k') (lower_either x y)
   either_paid x y p q = record {
     units = p.units + q.units + 4;
+    words = p.words + q.words + 6;
     nodes = p.nodes + q.nodes + 6;
     gives = given.gives_either a B rules locals room scratch x y p.gives q.gives;
     few_units = omega (arith, p.few_units, q.few_units);
@@ -346,6 +365,7 @@ module _ (globals : Globals) (locals : ℕ) (sizes : ℕ → Option ℕ) (room :
   choice_paid : {n k n1 k1 n2 k2 : ℕ} (z x y : Lowering) → Paid n k z → Paid n1 k1 x → Paid n2 k2 y → Paid (1 + (n + (n1 + n2))) (k + (k1 + k2)) (lower_choice z x y)
   choice_paid z x y r p q = record {
     units = r.units + p.units + q.units + 3;
+    words = r.words + p.words + q.words + 5;
     nodes = r.nodes + p.nodes + q.nodes + 2;
     gives = given.gives_choice a B rules locals room scratch z x y r.gives p.gives q.gives;
     few_units = omega (arith, r.few_units, p.few_units, q.few_units);
@@ -353,13 +373,14 @@ module _ (globals : Globals) (locals : ℕ) (sizes : ℕ → Option ℕ) (room :
     few_words = omega (arith, r.few_words, p.few_words, q.few_words);
   }
 
-  leaf_paid : (l : Lowering) → Gives 0 1 0 l → Paid 1 0 l
-  leaf_paid l h = record { units = 0; nodes = 1; gives = h; few_units = omega arith; few_nodes = omega arith; few_words = omega arith }
+  leaf_paid : (l : Lowering) → Gives 0 0 1 0 l → Paid 1 0 l
+  leaf_paid l h = record { units = 0; words = 0; nodes = 1; gives = h; few_units = omega arith; few_nodes = omega arith; few_words = omega arith }
 
   -- a call of what several lowerings give, with a weight of its own
-  call_paid : {n k : ℕ} (w : ℕ) (l : Lowering) (ls : List Lowering) (p : AllPaid n k ls) → Gives (p.units + 4) (p.nodes + 1) (k + w) l → Paid (1 + n) (w + k) l
+  call_paid : {n k : ℕ} (w : ℕ) (l : Lowering) (ls : List Lowering) (p : AllPaid n k ls) → Gives (p.units + 4) (p.words + 16) (p.nodes + 1) (k + w) l → Paid (1 + n) (w + k) l
   call_paid w l ls p h = record {
     units = p.units + 4;
+    words = p.words + 16;
     nodes = p.nodes + 1;
     gives = same_weight l (omega arith) h;
     few_units = omega (arith, p.few_units);
@@ -439,7 +460,7 @@ module _ (globals : Globals) (locals : ℕ) (sizes : ℕ → Option ℕ) (room :
       paid_as _ (omega (arith, ap sum (map_append expr_nodes args (e ∷ [])))) (omega (arith, ap sum (map_append weight args (e ∷ []))))
       (call_paid through (lower_through (is_void c) (lowers args) (lower_expr e)) (lowers (args ++ e ∷ [])) all
       (given.gives_through a B rules locals room scratch (is_void c) (lowers args) (lower_expr e) (lowers_length args (λ m. nat_lt m 9) bs.0)
-      (subst (λ ls. given.AllGive a B rules locals room scratch all.units all.nodes (sum (map weight (args ++ e ∷ []))) ls) (lowers_append args (e ∷ [])) all.give)))
+      (subst (λ ls. given.AllGive a B rules locals room scratch all.units all.words all.nodes (sum (map weight (args ++ e ∷ []))) ls) (lowers_append args (e ∷ [])) all.give)))
   layer (form.Known k args) h b c =
       let bs = split (nat_eq (length (map within args)) (known_arguments k)) (all_of (map within args)) b in
       let all = all_paid args h bs.1 in

@@ -22,28 +22,30 @@ room_of g = max (length g.locals) (lower_body g).top
 abbrev pub body_nodes : Function → ℕ
 body_nodes g = sum (map stmt_nodes g.body)
 
-module _ (globals : Globals) (g : Function) (direct : ℕ → ℕ) (through : ℕ) (B : ℕ → ℕ → ℕ → List Tree → List Stm → List Tree → Type 0)
+module _ (globals : Globals) (g : Function) (direct : ℕ → ℕ) (through : ℕ) (B : ℕ → ℕ → ℕ → ℕ → List Tree → List Stm → List Tree → Type 0)
     (rules : (declared : ℕ → Bool) → Rules (allowed globals (length g.locals) (size_in g.locals) (room_of g) direct through declared) B) (blocks : BlockRules B) where
   pub record FunctionPaid : Type 0 where
     pub units : ℕ
+    pub words : ℕ
     pub nodes : ℕ
-    pub made : B units nodes (function_weight direct through g) [] (lower_function_code g).code []
+    pub made : B units words nodes (function_weight direct through g) [] (lower_function_code g).code []
     pub few_units : units ≤ 6 * body_nodes g + 1
     pub few_nodes : nodes ≤ 9 * body_nodes g + 1
-    pub few_words : 5 * units + 2 * nodes ≤ 40 * body_nodes g + 7
+    pub few_words : words + 2 * nodes ≤ 40 * body_nodes g + 7
 
   abbrev none : ℕ → Bool
   none l = false
 
-  ended : {s t k : ℕ} {xs : List Stm} (void : Bool) → B s t k [] xs [] → B (s + 1) (t + 1) k [] (xs ++ ending void) []
-  ended {s} {t} {k} {xs} true h = subst (λ c. B (s + 1) (t + 1) k [] c []) (sym (append-nil xs)) ((rules none).weaken (omega arith) (omega arith) refl h)
-  ended false h = (rules none).weaken (omega arith) (omega arith) (omega arith) ((rules none).chain h ((rules none).chain ((rules none).retree (covers_number 0)) (blocks.returns (number 0))))
+  ended : {s w t k : ℕ} {xs : List Stm} (void : Bool) → B s w t k [] xs [] → B (s + 1) (w + 1) (t + 1) k [] (xs ++ ending void) []
+  ended {s} {w} {t} {k} {xs} true h = subst (λ c. B (s + 1) (w + 1) (t + 1) k [] c []) (sym (append-nil xs)) ((rules none).weaken (omega arith) (omega arith) (omega arith) refl h)
+  ended false h = (rules none).weaken (omega arith) (omega arith) (omega arith) (omega arith) ((rules none).chain h ((rules none).chain ((rules none).retree (covers_number 0)) (blocks.returns (number 0))))
 
   pub function_paid : all_within (scopes_of globals g) (λ l. nat_lt l g.params) ≡ true → FunctionPaid
   function_paid b =
       let p = statements.body_paid globals (length g.locals) (size_in g.locals) (is_void g.result) (room_of g) direct through B rules blocks g.body (λ l. nat_lt l g.params) b outermost (omega arith) in
       record {
         units = p.units + 1;
+        words = p.words + 1;
         nodes = p.nodes + 1;
         made = ended (is_void g.result) p.made;
         few_units = omega (arith, p.few_units);

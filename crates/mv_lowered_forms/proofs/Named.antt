@@ -49,7 +49,7 @@ module _ (may_read may_find : ℕ → Bool) (may_name : Array → Bool) where
   MayName = Each (λ r. may_name r ≡ true)
 
   -- code that reads only what it may where the trees before it do
-  pub record Named (s t k : ℕ) (ts : List Tree) (xs : List Stm) (us : List Tree) : Type 0 where
+  pub record Named (s w t k : ℕ) (ts : List Tree) (xs : List Stm) (us : List Tree) : Type 0 where
     pub scalars : MayRead (all_read ts) → MayRead (scalars_read xs)
     pub left : MayRead (all_read ts) → MayRead (all_read us)
     pub arrays : MayFind (arrays_read xs)
@@ -75,7 +75,7 @@ module _ (may_read may_find : ℕ → Bool) (may_name : Array → Bool) where
   last_reads : (xs ys : List Tree) → MayRead (all_read (xs ++ ys)) → MayRead (all_read ys)
   last_reads xs ys h = each_last (λ g. may_read g ≡ true) (all_read xs) (all_read ys) (subst MayRead (read_append xs ys) h)
 
-  chained : {s t k s' t' k' m n l : ℕ} {xs ys : List Stm} {ts us vs : List Tree} → Named s t k ts xs us → Named s' t' k' us ys vs → Named m n l ts (xs ++ ys) vs
+  chained : {s w t k s' w' t' k' m o n l : ℕ} {xs ys : List Stm} {ts us vs : List Tree} → Named s w t k ts xs us → Named s' w' t' k' us ys vs → Named m o n l ts (xs ++ ys) vs
   chained {xs = xs} {ys = ys} h h' = record {
     scalars = λ e. subst (λ z. MayRead (all_read z)) (sym (trees_append xs ys)) (read_all_append (trees xs) (trees ys) (h.scalars e) (h'.scalars (h.left e)));
     left = λ e. h'.left (h.left e);
@@ -84,7 +84,7 @@ module _ (may_read may_find : ℕ → Bool) (may_name : Array → Bool) where
     arguments = ap all_true (map_append stm_arguments xs ys) ∙ true_append (map stm_arguments xs) (map stm_arguments ys) h.arguments h'.arguments;
   }
 
-  chosen : {s t k s' t' k' m n l : ℕ} {ys zs : List Stm} {us : List Tree} (x : Tree) → Named s t k [] ys us → Named s' t' k' [] zs us → Named m n l (x ∷ []) (choose x ys zs ∷ []) us
+  chosen : {s w t k s' w' t' k' m o n l : ℕ} {ys zs : List Stm} {us : List Tree} (x : Tree) → Named s w t k [] ys us → Named s' w' t' k' [] zs us → Named m o n l (x ∷ []) (choose x ys zs ∷ []) us
   chosen {ys = ys} {zs = zs} x h h' = record {
     scalars = λ e. subst (λ z. MayRead (all_read z)) (sym (trees_one (stm.If x ys zs))) (read_all_append (x ∷ []) (trees ys ++ trees zs) e (read_all_append (trees ys) (trees zs) (h.scalars tt) (h'.scalars tt)));
     left = λ e. h.left tt;
@@ -93,8 +93,8 @@ module _ (may_read may_find : ℕ → Bool) (may_name : Array → Bool) where
     arguments = arguments_one (stm.If x ys zs) ∙ and_from (all_true (map stm_arguments ys)) (all_true (map stm_arguments zs)) h.arguments h'.arguments;
   }
 
-  enclosing : {s t k m n l : ℕ} {ts : List Tree} {xs : List Stm} (x : Stm-F Stm) → trees (roll-Stm x ∷ []) ≡ trees xs → arrays_read (roll-Stm x ∷ []) ≡ arrays_read xs → named (roll-Stm x ∷ []) ≡ named xs →
-      all_true (map stm_arguments (roll-Stm x ∷ [])) ≡ all_true (map stm_arguments xs) → Named s t k ts xs [] → Named m n l ts (roll-Stm x ∷ []) []
+  enclosing : {s w t k m o n l : ℕ} {ts : List Tree} {xs : List Stm} (x : Stm-F Stm) → trees (roll-Stm x ∷ []) ≡ trees xs → arrays_read (roll-Stm x ∷ []) ≡ arrays_read xs → named (roll-Stm x ∷ []) ≡ named xs →
+      all_true (map stm_arguments (roll-Stm x ∷ [])) ≡ all_true (map stm_arguments xs) → Named s w t k ts xs [] → Named m o n l ts (roll-Stm x ∷ []) []
   enclosing x same_trees same_arrays same_named same_arguments h = record {
     scalars = λ e. subst (λ z. MayRead (all_read z)) (sym same_trees) (h.scalars e);
     left = λ e. tt;
@@ -105,8 +105,8 @@ module _ (may_read may_find : ℕ → Bool) (may_name : Array → Bool) where
 
   pub named_blocks : BlockRules Named
   named_blocks = record {
-    block = λ {s} {t} {k} {ts} {xs} h. enclosing (stm.Block xs) (trees_one (stm.Block xs)) (arrays_one (stm.Block xs)) (named_one (stm.Block xs)) (arguments_one (stm.Block xs)) h;
-    turns = λ {s} {t} {k} {xs} h. enclosing (stm.Loop xs) (trees_one (stm.Loop xs)) (arrays_one (stm.Loop xs)) (named_one (stm.Loop xs)) (arguments_one (stm.Loop xs)) h;
+    block = λ {s} {w} {t} {k} {ts} {xs} h. enclosing (stm.Block xs) (trees_one (stm.Block xs)) (arrays_one (stm.Block xs)) (named_one (stm.Block xs)) (arguments_one (stm.Block xs)) h;
+    turns = λ {s} {w} {t} {k} {xs} h. enclosing (stm.Loop xs) (trees_one (stm.Loop xs)) (arrays_one (stm.Loop xs)) (named_one (stm.Loop xs)) (arguments_one (stm.Loop xs)) h;
     leaves = λ n. record {
       scalars = λ e. subst (λ z. MayRead (all_read z)) (sym (trees_one (stm.Break n))) tt;
       left = λ e. tt;
@@ -129,28 +129,28 @@ named_rules a = record {
   local = λ l h k. record { scalars = λ e. tt; left = λ e. temp_reads a.scalars a.arrays a.named l; arrays = tt; named = tt; arguments = refl };
   scalar = λ g h. record { scalars = λ e. tt; left = λ e. subst (λ l. MayRead a.scalars a.arrays a.named (l ++ [])) (sym (reads_roll (tree.Global g))) (h, tt); arrays = tt; named = tt; arguments = refl };
   retree = λ {m} {ts} {us} c. record { scalars = λ e. tt; left = c.scalars a.scalars; arrays = tt; named = tt; arguments = refl };
-  does = λ {c} {v} {x} {reads} {writes} p. record {
+  does = λ {c} {v} {w} {x} {reads} {writes} p. record {
     scalars = λ e. subst (λ z. MayRead a.scalars a.arrays a.named (all_read z)) (sym (trees_one x ∙ p.trees)) e;
     left = λ e. result_reads a.scalars a.arrays a.named writes;
     arrays = subst (MayFind a.scalars a.arrays a.named) (sym (arrays_one x)) p.arrays;
     named = subst (MayName a.scalars a.arrays a.named) (sym (named_one x)) p.named;
     arguments = arguments_one x ∙ p.arguments;
   };
-  drops = λ {c} {v} {x} {reads} {writes} p. record {
+  drops = λ {c} {v} {w} {x} {reads} {writes} p. record {
     scalars = λ e. subst (λ z. MayRead a.scalars a.arrays a.named (all_read z)) (sym (trees_one x ∙ p.trees)) e;
     left = λ e. tt;
     arrays = subst (MayFind a.scalars a.arrays a.named) (sym (arrays_one x)) p.arrays;
     named = subst (MayName a.scalars a.arrays a.named) (sym (named_one x)) p.named;
     arguments = arguments_one x ∙ p.arguments;
   };
-  choose = λ {s} {t} {k} {s'} {t'} {k'} {ys} {zs} {us} x h h'. chosen a.scalars a.arrays a.named x h h';
-  chain = λ {s} {t} {k} {s'} {t'} {k'} {xs} {ys} {ts} {us} {vs} h h'. chained a.scalars a.arrays a.named h h';
-  beside = λ {s} {t} {k} {xs} {ts} {us} rest h. record {
+  choose = λ {s} {w} {t} {k} {s'} {w'} {t'} {k'} {ys} {zs} {us} x h h'. chosen a.scalars a.arrays a.named x h h';
+  chain = λ {s} {w} {t} {k} {s'} {w'} {t'} {k'} {xs} {ys} {ts} {us} {vs} h h'. chained a.scalars a.arrays a.named h h';
+  beside = λ {s} {w} {t} {k} {xs} {ts} {us} rest h. record {
     scalars = λ e. h.scalars (first_reads a.scalars a.arrays a.named ts rest e);
     left = λ e. read_all_append a.scalars a.arrays a.named us rest (h.left (first_reads a.scalars a.arrays a.named ts rest e)) (last_reads a.scalars a.arrays a.named ts rest e);
     arrays = h.arrays;
     named = h.named;
     arguments = h.arguments;
   };
-  weaken = λ {s} {t} {k} {s'} {t'} {k'} {xs} {ts} {us} ls lt e h. record { scalars = h.scalars; left = h.left; arrays = h.arrays; named = h.named; arguments = h.arguments };
+  weaken = λ {s} {w} {t} {k} {s'} {w'} {t'} {k'} {xs} {ts} {us} ls lw lt e h. record { scalars = h.scalars; left = h.left; arrays = h.arrays; named = h.named; arguments = h.arguments };
 }

@@ -92,47 +92,47 @@ temp_low t = le-leb (depth (temp t)) 2 (omega (arith, depth_roll (tree.Temp t)))
 pub global_low : (g : ℕ) → is_low (global g) ≡ true
 global_low g = le-leb (depth (global g)) 2 (omega (arith, depth_roll (tree.Global g)))
 
-module _ (a : Allowed) (B : ℕ → ℕ → ℕ → List Tree → List Stm → List Tree → Type 0) (rules : Rules a B) (locals room : ℕ)
+module _ (a : Allowed) (B : ℕ → ℕ → ℕ → ℕ → List Tree → List Stm → List Tree → Type 0) (rules : Rules a B) (locals room : ℕ)
     (scratch : (t : ℕ) → locals ≤ t → t < room → a.temps t ≡ true) where
-  abbrev GivesFrom : List Tree → ℕ → ℕ → ℕ → Lowering → Type 0
+  abbrev GivesFrom : List Tree → ℕ → ℕ → ℕ → ℕ → Lowering → Type 0
   GivesFrom = given.GivesFrom a B rules locals room scratch
 
-  abbrev SecondGives : List Tree → ℕ → ℕ → ℕ → Lowering → Type 0
+  abbrev SecondGives : List Tree → ℕ → ℕ → ℕ → ℕ → Lowering → Type 0
   SecondGives = given.SecondGives a B rules locals room scratch
 
-  by_test : {s t k : ℕ} {ts : List Tree} (z : Bool) (x y : Lowering) → GivesFrom ts s t k x → GivesFrom ts s t k y → GivesFrom ts s t k (cond z x y)
+  by_test : {s w t k : ℕ} {ts : List Tree} (z : Bool) (x y : Lowering) → GivesFrom ts s w t k x → GivesFrom ts s w t k y → GivesFrom ts s w t k (cond z x y)
   by_test true x y h k = h
   by_test false x y h k = k
 
-  operator : {s t k s' t' k' : ℕ} {ts : List Tree} (turned : Bool) (f : Tree → Tree → Tree) (x y : Lowering) → OnTwo f → GivesFrom [] s t k x → SecondGives ts s' t' k' y → GivesFrom ts (s + s' + 1) (t + t' + 3) (k + k') (lower_operator turned f x y)
+  operator : {s w t k s' w' t' k' : ℕ} {ts : List Tree} (turned : Bool) (f : Tree → Tree → Tree) (x y : Lowering) → OnTwo f → GivesFrom [] s w t k x → SecondGives ts s' w' t' k' y → GivesFrom ts (s + s' + 1) (w + w' + 1) (t + t' + 3) (k + k') (lower_operator turned f x y)
   operator turned f x y on h h' = given.gives_two a B rules locals room scratch (λ u v. cond turned (f v u) (f u v)) x y (turned_two turned f on) h h'
 
-  pub gives_binary : {s t k s' t' k' : ℕ} {ts : List Tree} (turned : Bool) (op : ℕ) (c : CType) (x y : Lowering) → GivesFrom [] s t k x → SecondGives ts s' t' k' y → GivesFrom ts (s + s' + 2) (t + t' + 3) (k + k') (lower_binary turned op c x y)
-  gives_binary {s} {t} {k} {s'} {t'} {k'} {ts} turned op c x y h h' =
+  pub gives_binary : {s w t k s' w' t' k' : ℕ} {ts : List Tree} (turned : Bool) (op : ℕ) (c : CType) (x y : Lowering) → GivesFrom [] s w t k x → SecondGives ts s' w' t' k' y → GivesFrom ts (s + s' + 2) (w + w' + 5) (t + t' + 3) (k + k') (lower_binary turned op c x y)
+  gives_binary {s} {w} {t} {k} {s'} {w'} {t'} {k'} {ts} turned op c x y h h' =
       by_test (nat_lt op 17) (lower_product turned op c x y) (lower_operator turned (bit_tree op c) x y)
       (by_test (nat_eq op 12) _ _ (plain 0) (by_test (nat_eq op 13) _ _ (plain 1) (by_test (nat_eq op 14) _ _ (plain 2)
       (by_test (nat_eq op 15) _ _ (division (quotient_number c)) (division (remainder_number c))))))
       (looser (bit_tree op c) (on_bits op c))
     where
-      looser : (f : Tree → Tree → Tree) → OnTwo f → GivesFrom ts (s + s' + 2) (t + t' + 3) (k + k') (lower_operator turned f x y)
-      looser f on n le top = rules.weaken (omega arith) (omega arith) (omega arith) (operator turned f x y on h h' n le top)
+      looser : (f : Tree → Tree → Tree) → OnTwo f → GivesFrom ts (s + s' + 2) (w + w' + 5) (t + t' + 3) (k + k') (lower_operator turned f x y)
+      looser f on n le top = rules.weaken (omega arith) (omega arith) (omega arith) (omega arith) (operator turned f x y on h h' n le top)
 
-      plain : (o : ℕ) → GivesFrom ts (s + s' + 2) (t + t' + 3) (k + k') (lower_operator turned (binary o) x y)
+      plain : (o : ℕ) → GivesFrom ts (s + s' + 2) (w + w' + 5) (t + t' + 3) (k + k') (lower_operator turned (binary o) x y)
       plain o = looser (binary o) (on_arithmetic o)
 
-      division : (o : ℕ) → GivesFrom ts (s + s' + 2) (t + t' + 3) (k + k') (lower_division turned o x y)
-      division o n le top = rules.weaken (omega arith) (omega arith) (omega arith) (given.gives_division a B rules locals room scratch turned o x y h h' n le top)
+      division : (o : ℕ) → GivesFrom ts (s + s' + 2) (w + w' + 5) (t + t' + 3) (k + k') (lower_division turned o x y)
+      division o n le top = rules.weaken (omega arith) (omega arith) (omega arith) (omega arith) (given.gives_division a B rules locals room scratch turned o x y h h' n le top)
 
   -- the new value of a compound assignment: what is computed is put away to be converted, but for a quotient, which stands in a temporary
-  pub gives_changed : {s t k s' t' k' : ℕ} {ts : List Tree} (op : ℕ) (kind c : CType) (old x : Lowering) → SecondGives ts s' t' k' old → GivesFrom [] s t k x → GivesFrom ts (s + s' + 2) (t + t' + 5) (k + k') (lower_changed op kind c old x)
-  gives_changed {s} {t} {k} {s'} {t'} {k'} {ts} op kind c old x ho hx =
+  pub gives_changed : {s w t k s' w' t' k' : ℕ} {ts : List Tree} (op : ℕ) (kind c : CType) (old x : Lowering) → SecondGives ts s' w' t' k' old → GivesFrom [] s w t k x → GivesFrom ts (s + s' + 2) (w + w' + 5) (t + t' + 5) (k + k') (lower_changed op kind c old x)
+  gives_changed {s} {w} {t} {k} {s'} {w'} {t'} {k'} {ts} op kind c old x ho hx =
       changed (nat_lt op 17) (lower_product true op kind x old) (lower_operator true (bit_tree op kind) x old)
       (changed (nat_eq op 12) _ _ (plain 0) (changed (nat_eq op 13) _ _ (plain 1) (changed (nat_eq op 14) _ _ (plain 2)
       (changed (nat_eq op 15) _ _ (division (quotient_number kind)) (division (remainder_number kind))))))
       (looser (bit_tree op kind) (on_bits op kind))
     where
       Changed : Lowering → Type 0
-      Changed l = GivesFrom ts (s + s' + 2) (t + t' + 5) (k + k') (lower_one (converted_tree c) l)
+      Changed l = GivesFrom ts (s + s' + 2) (w + w' + 5) (t + t' + 5) (k + k') (lower_one (converted_tree c) l)
 
       changed : (z : Bool) (l m : Lowering) → Changed l → Changed m → Changed (cond z l m)
       changed true l m p q = p
@@ -140,12 +140,12 @@ module _ (a : Allowed) (B : ℕ → ℕ → ℕ → List Tree → List Stm → L
 
       looser : (f : Tree → Tree → Tree) → OnTwo f → Changed (lower_operator true f x old)
       looser f on n le top =
-          rules.weaken (omega arith) (omega arith) (omega arith) (given.gives_one a B rules locals room scratch (converted_tree c) (lower_operator true f x old) (converted_once c) (operator true f x old on hx ho) n le top)
+          rules.weaken (omega arith) (omega arith) (omega arith) (omega arith) (given.gives_one a B rules locals room scratch (converted_tree c) (lower_operator true f x old) (converted_once c) (operator true f x old on hx ho) n le top)
 
       plain : (o : ℕ) → Changed (lower_operator true (binary o) x old)
       plain o = looser (binary o) (on_arithmetic o)
 
       division : (o : ℕ) → Changed (lower_division true o x old)
       division o n le top =
-          rules.weaken (omega arith) (omega arith) (omega arith)
+          rules.weaken (omega arith) (omega arith) (omega arith) (omega arith)
           (given.gives_low a B rules locals room scratch (converted_tree c) (lower_division true o x old) temp_low (converted_once c) (given.gives_division a B rules locals room scratch true o x old hx ho) n le top)

@@ -16,11 +16,11 @@ use Rattle.mv_lowered_forms.proofs.Flowing.{live_at, live_append, live_one, temp
 
 module _ (a : Allowed) (u : ℕ) where
   -- Not live before code where it isn't behind, and in no case where a tree behind reads it.
-  pub record Passing (s t k : ℕ) (ts : List Tree) (xs : List Stm) (us : List Tree) : Type 0 where
+  pub record Passing (s w t k : ℕ) (ts : List Tree) (xs : List Stm) (us : List Tree) : Type 0 where
     pub passes : any_reads u ts ≡ false → (r : Around) → r.next ≡ false → live_at u xs r ≡ false
     pub writes : any_reads u ts ≡ false → any_reads u us ≡ true → (r : Around) → live_at u xs r ≡ false
 
-  chained : {s t k s' t' k' m n l : ℕ} {xs ys : List Stm} {ts us vs : List Tree} → Passing s t k ts xs us → Passing s' t' k' us ys vs → Passing m n l ts (xs ++ ys) vs
+  chained : {s w t k s' w' t' k' m o n l : ℕ} {xs ys : List Stm} {ts us vs : List Tree} → Passing s w t k ts xs us → Passing s' w' t' k' us ys vs → Passing m o n l ts (xs ++ ys) vs
   chained {xs = xs} {ys = ys} {ts = ts} {us = us} h h' = record {
     passes = λ e r q. by e (any_reads u us) refl r (λ mid. h'.passes mid r q);
     writes = λ e v r. by e (any_reads u us) refl r (λ mid. h'.writes mid v r);
@@ -30,7 +30,7 @@ module _ (a : Allowed) (u : ℕ) where
       by e true w r k = live_append u xs ys r ∙ h.writes e w (with_after r (live_at u ys r))
       by e false w r k = live_append u xs ys r ∙ h.passes e (with_after r (live_at u ys r)) (k w)
 
-  chosen : {s t k s' t' k' m n l : ℕ} {ys zs : List Stm} {us : List Tree} (x : Tree) → Passing s t k [] ys us → Passing s' t' k' [] zs us → Passing m n l (x ∷ []) (choose x ys zs ∷ []) us
+  chosen : {s w t k s' w' t' k' m o n l : ℕ} {ys zs : List Stm} {us : List Tree} (x : Tree) → Passing s w t k [] ys us → Passing s' w' t' k' [] zs us → Passing m o n l (x ∷ []) (choose x ys zs ∷ []) us
   chosen {ys = ys} {zs = zs} x h h' = record {
     passes = λ e r q. dead e r (h.passes refl r q) (h'.passes refl r q);
     writes = λ e v r. dead e r (h.writes refl v r) (h'.writes refl v r);
@@ -45,7 +45,7 @@ module _ (a : Allowed) (u : ℕ) where
   result_is None = refl
   result_is (Some t) = temp_reads u t
 
-  done : {m n l : ℕ} (x : Stm-F Stm) (reads : List Tree) (w : Option ℕ) → flow u (roll-Stm x) ≡ plain u reads w goes_next → Passing m n l reads (roll-Stm x ∷ []) (result w)
+  done : {m o n l : ℕ} (x : Stm-F Stm) (reads : List Tree) (w : Option ℕ) → flow u (roll-Stm x) ≡ plain u reads w goes_next → Passing m o n l reads (roll-Stm x ∷ []) (result w)
   done x reads w e = record {
     passes = λ h r q. live_one u x (plain u reads w goes_next) r e ∙ or_from (any_reads u reads) (not (is w u) && r.next) h (and_right (not (is w u)) r.next q);
     writes = λ h v r.
@@ -58,17 +58,17 @@ module _ (a : Allowed) (u : ℕ) where
     local = λ l h k. record { passes = λ e r q. q; writes = λ e v r. no (sym (temp_reads u l ∙ another a.declared l u h undeclared) ∙ v) };
     scalar = λ g h. record { passes = λ e r q. q; writes = λ e v r. no (sym (global_reads u g) ∙ v) };
     retree = λ {m} {ts} {us} c. record { passes = λ e r q. q; writes = λ e v r. no (sym e ∙ c.temps u v) };
-    does = λ {c} {v} {x} {reads} {writes} p. done x reads writes (flow_roll u x ∙ p.flows u);
-    drops = λ {c} {v} {x} {reads} {writes} p. record { passes = (done {m = 0} {n = 0} {l = 0} x reads writes (flow_roll u x ∙ p.flows u)).passes; writes = λ e w. no w };
-    choose = λ {s} {t} {k} {s'} {t'} {k'} {ys} {zs} {us} x h h'. chosen x h h';
-    chain = λ {s} {t} {k} {s'} {t'} {k'} {xs} {ys} {ts} {us} {vs} h h'. chained h h';
-    beside = λ {s} {t} {k} {xs} {ts} {us} rest h. record {
+    does = λ {c} {v} {w} {x} {reads} {writes} p. done x reads writes (flow_roll u x ∙ p.flows u);
+    drops = λ {c} {v} {w} {x} {reads} {writes} p. record { passes = (done {m = 0} {o = 0} {n = 0} {l = 0} x reads writes (flow_roll u x ∙ p.flows u)).passes; writes = λ e w. no w };
+    choose = λ {s} {w} {t} {k} {s'} {w'} {t'} {k'} {ys} {zs} {us} x h h'. chosen x h h';
+    chain = λ {s} {w} {t} {k} {s'} {w'} {t'} {k'} {xs} {ys} {ts} {us} {vs} h h'. chained h h';
+    beside = λ {s} {w} {t} {k} {xs} {ts} {us} rest h. record {
       passes = λ e. h.passes (or_parts (any_reads u ts) (any_reads u rest) (sym (reads_append u ts rest) ∙ e)).0;
       writes = λ e v.
           let es = or_parts (any_reads u ts) (any_reads u rest) (sym (reads_append u ts rest) ∙ e) in
           h.writes es.0 (left_true (any_reads u us) (any_reads u rest) es.1 (sym (reads_append u us rest) ∙ v));
     };
-    weaken = λ {s} {t} {k} {s'} {t'} {k'} {xs} {ts} {us} ls lt e h. record { passes = h.passes; writes = h.writes };
+    weaken = λ {s} {w} {t} {k} {s'} {w'} {t'} {k'} {xs} {ts} {us} ls lw lt e h. record { passes = h.passes; writes = h.writes };
   }
     where
       left_true : (x y : Bool) → y ≡ false → (x || y) ≡ true → x ≡ true

@@ -56,7 +56,7 @@ choose_targets r t xs ys h k = targets_one r (stm.If t xs ys) (and_from (all_aro
 
 -- ---- expressions jump nowhere
 
-record Jumpless (s t k : ℕ) (ts : List Tree) (xs : List Stm) (us : List Tree) : Type 0 where
+record Jumpless (s w t k : ℕ) (ts : List Tree) (xs : List Stm) (us : List Tree) : Type 0 where
   targets : (r : List Bool) → HasTargets r xs
 
 jumpless_rules : (a : Allowed) → Rules a Jumpless
@@ -64,12 +64,12 @@ jumpless_rules a = record {
   local = λ l h k. record { targets = λ r. refl };
   scalar = λ g h. record { targets = λ r. refl };
   retree = λ {m} {ts} {us} c. record { targets = λ r. refl };
-  does = λ {c} {v} {x} {reads} {writes} p. record { targets = λ r. targets_one r x (p.targets r) };
-  drops = λ {c} {v} {x} {reads} {writes} p. record { targets = λ r. targets_one r x (p.targets r) };
-  choose = λ {s} {t} {k} {s'} {t'} {k'} {ys} {zs} {us} x h h'. record { targets = λ r. choose_targets r x ys zs (h.targets r) (h'.targets r) };
-  chain = λ {s} {t} {k} {s'} {t'} {k'} {xs} {ys} {ts} {us} {vs} h h'. record { targets = λ r. targets_append r xs ys (h.targets r) (h'.targets r) };
-  beside = λ {s} {t} {k} {xs} {ts} {us} rest h. record { targets = h.targets };
-  weaken = λ {s} {t} {k} {s'} {t'} {k'} {xs} {ts} {us} ls lt e h. record { targets = h.targets };
+  does = λ {c} {v} {w} {x} {reads} {writes} p. record { targets = λ r. targets_one r x (p.targets r) };
+  drops = λ {c} {v} {w} {x} {reads} {writes} p. record { targets = λ r. targets_one r x (p.targets r) };
+  choose = λ {s} {w} {t} {k} {s'} {w'} {t'} {k'} {ys} {zs} {us} x h h'. record { targets = λ r. choose_targets r x ys zs (h.targets r) (h'.targets r) };
+  chain = λ {s} {w} {t} {k} {s'} {w'} {t'} {k'} {xs} {ys} {ts} {us} {vs} h h'. record { targets = λ r. targets_append r xs ys (h.targets r) (h'.targets r) };
+  beside = λ {s} {w} {t} {k} {xs} {ts} {us} rest h. record { targets = h.targets };
+  weaken = λ {s} {w} {t} {k} {s'} {w'} {t'} {k'} {xs} {ts} {us} ls lw lt e h. record { targets = h.targets };
 }
 
 -- ---- where control leads from statements

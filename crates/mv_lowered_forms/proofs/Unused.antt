@@ -35,7 +35,7 @@ quiet_loop r start e q = record { next = e; leaves = quiet_place r.next r.leaves
 
 module _ (u : ℕ) where
   -- neither live nor marked in code, where the trees before it don't read it; nor read by the trees behind
-  pub record Unused (s t k : ℕ) (ts : List Tree) (xs : List Stm) (us : List Tree) : Type 0 where
+  pub record Unused (s w t k : ℕ) (ts : List Tree) (xs : List Stm) (us : List Tree) : Type 0 where
     pub left : any_reads u ts ≡ false → any_reads u us ≡ false
     pub dead : any_reads u ts ≡ false → (r : Around) → IsQuiet r → live_at u xs r ≡ false
     pub bare : any_reads u ts ≡ false → (r : Around) → IsQuiet r → any (marks_at u xs r) ≡ false
@@ -46,7 +46,7 @@ module _ (u : ℕ) where
       no_both : true ≡ false → ⊥
       no_both e = cc
 
-  chained : {s t k s' t' k' m n l : ℕ} {xs ys : List Stm} {ts us vs : List Tree} → Unused s t k ts xs us → Unused s' t' k' us ys vs → Unused m n l ts (xs ++ ys) vs
+  chained : {s w t k s' w' t' k' m o n l : ℕ} {xs ys : List Stm} {ts us vs : List Tree} → Unused s w t k ts xs us → Unused s' w' t' k' us ys vs → Unused m o n l ts (xs ++ ys) vs
   chained {xs = xs} {ys = ys} h h' = record {
     left = λ e. h'.left (h.left e);
     dead = λ e r q. let d = h'.dead (h.left e) r q in live_append u xs ys r ∙ h.dead e (with_after r (live_at u ys r)) (quiet_after r (live_at u ys r) d q);
@@ -55,7 +55,7 @@ module _ (u : ℕ) where
         marked_append u xs ys r ∙ or_from (any (marks_at u xs (with_after r (live_at u ys r)))) (any (marks_at u ys r)) (h.bare e (with_after r (live_at u ys r)) (quiet_after r (live_at u ys r) d q)) (h'.bare (h.left e) r q);
   }
 
-  chosen : {s t k s' t' k' m n l : ℕ} {ys zs : List Stm} {us : List Tree} (x : Tree) → Unused s t k [] ys us → Unused s' t' k' [] zs us → Unused m n l (x ∷ []) (choose x ys zs ∷ []) us
+  chosen : {s w t k s' w' t' k' m o n l : ℕ} {ys zs : List Stm} {us : List Tree} (x : Tree) → Unused s w t k [] ys us → Unused s' w' t' k' [] zs us → Unused m o n l (x ∷ []) (choose x ys zs ∷ []) us
   chosen {ys = ys} {zs = zs} x h h' = record {
     left = λ e. h.left refl;
     dead = λ e r q. live_one u (stm.If x ys zs) _ r (flow_roll u (stm.If x ys zs)) ∙ dead_here e r q;
@@ -70,8 +70,8 @@ module _ (u : ℕ) where
           or_from (reads_temp u x) (live_at u ys r || live_at u zs r) (or_parts (reads_temp u x) false e).0 (or_from (live_at u ys r) (live_at u zs r) (h.dead refl r q) (h'.dead refl r q))
 
   -- a statement without others in it
-  alone : {m n l : ℕ} {us : List Tree} (x : Stm-F Stm) (reads : List Tree) (writes : Option ℕ) (on : Around → Bool) → flow u (roll-Stm x) ≡ plain u reads writes on → is writes u ≡ false →
-      ((r : Around) → IsQuiet r → on r ≡ false) → any_reads u us ≡ false → Unused m n l reads (roll-Stm x ∷ []) us
+  alone : {m o n l : ℕ} {us : List Tree} (x : Stm-F Stm) (reads : List Tree) (writes : Option ℕ) (on : Around → Bool) → flow u (roll-Stm x) ≡ plain u reads writes on → is writes u ≡ false →
+      ((r : Around) → IsQuiet r → on r ≡ false) → any_reads u us ≡ false → Unused m o n l reads (roll-Stm x ∷ []) us
   alone x reads writes on e w quiet left = record {
     left = λ h. left;
     dead = λ h r q. live_one u x (plain u reads writes on) r e ∙ dead_here h r q;
@@ -97,21 +97,21 @@ module _ (u : ℕ) where
       local = λ l h k. record { left = λ e. temp_reads u l ∙ another a.temps l u k unused; dead = λ e r q. q.next; bare = λ e r q. refl };
       scalar = λ g h. record { left = λ e. global_reads u g; dead = λ e r q. q.next; bare = λ e r q. refl };
       retree = λ {m} {ts} {us} c. record { left = reads_less ts us (c.temps u); dead = λ e r q. q.next; bare = λ e r q. refl };
-      does = λ {c} {v} {x} {reads} {writes} p.
+      does = λ {c} {v} {w} {x} {reads} {writes} p.
           alone x reads writes goes_next (flow_roll u x ∙ p.flows u) (writes_another writes p.written) (λ r q. q.next) (result_another writes p.written);
-      drops = λ {c} {v} {x} {reads} {writes} p.
+      drops = λ {c} {v} {w} {x} {reads} {writes} p.
           alone x reads writes goes_next (flow_roll u x ∙ p.flows u) (writes_another writes p.written) (λ r q. q.next) refl;
-      choose = λ {s} {t} {k} {s'} {t'} {k'} {ys} {zs} {us} x h h'. chosen x h h';
-      chain = λ {s} {t} {k} {s'} {t'} {k'} {xs} {ys} {ts} {us} {vs} h h'. chained h h';
-      beside = λ {s} {t} {k} {xs} {ts} {us} rest h. record {
+      choose = λ {s} {w} {t} {k} {s'} {w'} {t'} {k'} {ys} {zs} {us} x h h'. chosen x h h';
+      chain = λ {s} {w} {t} {k} {s'} {w'} {t'} {k'} {xs} {ys} {ts} {us} {vs} h h'. chained h h';
+      beside = λ {s} {w} {t} {k} {xs} {ts} {us} rest h. record {
         left = λ e. let es = or_parts (any_reads u ts) (any_reads u rest) (sym (reads_append u ts rest) ∙ e) in reads_append u us rest ∙ or_from (any_reads u us) (any_reads u rest) (h.left es.0) es.1;
         dead = λ e. h.dead (or_parts (any_reads u ts) (any_reads u rest) (sym (reads_append u ts rest) ∙ e)).0;
         bare = λ e. h.bare (or_parts (any_reads u ts) (any_reads u rest) (sym (reads_append u ts rest) ∙ e)).0;
       };
-      weaken = λ {s} {t} {k} {s'} {t'} {k'} {xs} {ts} {us} ls lt e h. record { left = h.left; dead = h.dead; bare = h.bare };
+      weaken = λ {s} {w} {t} {k} {s'} {w'} {t'} {k'} {xs} {ts} {us} ls lw lt e h. record { left = h.left; dead = h.dead; bare = h.bare };
     }
 
-  in_block : {s t k m n l : ℕ} {ts : List Tree} {xs : List Stm} → Unused s t k ts xs [] → Unused m n l ts (enclosed xs ∷ []) []
+  in_block : {s w t k m o n l : ℕ} {ts : List Tree} {xs : List Stm} → Unused s w t k ts xs [] → Unused m o n l ts (enclosed xs ∷ []) []
   in_block {xs = xs} h = record {
     left = λ e. refl;
     dead = λ e r q. live_one u (stm.Block xs) _ r (flow_roll u (stm.Block xs)) ∙ h.dead e (around_block r) (quiet_block r q);
@@ -120,7 +120,7 @@ module _ (u : ℕ) where
         or_from (live_at u xs (around_block r)) (any (marks_at u xs (around_block r))) (h.dead e (around_block r) (quiet_block r q)) (h.bare e (around_block r) (quiet_block r q));
   }
 
-  in_loop : {s t k m n l : ℕ} {xs : List Stm} → Unused s t k [] xs [] → Unused m n l [] (repeat xs ∷ []) []
+  in_loop : {s w t k m o n l : ℕ} {xs : List Stm} → Unused s w t k [] xs [] → Unused m o n l [] (repeat xs ∷ []) []
   in_loop {xs = xs} h = record {
     left = λ e. refl;
     dead = λ e r q. live_one u (stm.Loop xs) _ r (flow_roll u (stm.Loop xs)) ∙ start r q;
@@ -135,8 +135,8 @@ module _ (u : ℕ) where
 
   pub unused_blocks : BlockRules Unused
   unused_blocks = record {
-    block = λ {s} {t} {k} {ts} {xs} h. in_block h;
-    turns = λ {s} {t} {k} {xs} h. in_loop h;
+    block = λ {s} {w} {t} {k} {ts} {xs} h. in_block h;
+    turns = λ {s} {w} {t} {k} {xs} h. in_loop h;
     leaves = λ n. alone (stm.Break n) [] None (λ r. r.leaves n) (flow_roll u (stm.Break n)) refl (λ r q. q.leaves n) refl;
     returns = λ v. alone (stm.Return v) (v ∷ []) None (λ r. false) (flow_roll u (stm.Return v)) refl (λ r q. refl) refl;
   }

@@ -11,6 +11,7 @@ use Rattle.mv_ast.specs.Counts.{nodes, depth, declared_words}
 use Rattle.mv_lowering.specs.Functions.{lower_function}
 use Rattle.mv_lowered_programs.specs.WellFormed as programs
 use Rattle.mv_lowered_forms.specs.Reads.{reads_scalar, reads_array}
+use Rattle.mv_lowered_forms.specs.Allowances.{allowance}
 use Rattle.mv_lowered_forms.specs.Calls.{code_weight, function_weight, each_once, attributed_once}
 
 -- No tree in the code of any function is deeper than 4.
@@ -48,11 +49,11 @@ abbrev pub LoweredReadNoMore : Type 0
 LoweredReadNoMore = (p : Program) (f : ℕ) (g : Function) → IsFunctionOf p f g → ReadsNoMore g (lower_function p g)
 
 -- The sizes of a body are bounded by those of the source: its frame by the declared words and the depth, its code by the nodes. `words` says that a node
--- of the source takes at most forty words where a statement takes at most five, a call twenty, and a tree node two.
+-- of the source takes at most forty words, where a tree node takes at most two and each statement what its form is allowed.
 pub record IsSmall (g : Function) (b : Body) : Type 0 where
   pub temps : b.temps ≤ length g.locals + 8 * depth g
   pub frame : most_intervals b + total b.arrays ≤ declared_words g + 8 * depth g
-  pub words : 5 * (statements b.code + 3 * calls b.code) + 2 * tree_nodes b.code ≤ 40 * nodes g + 7
+  pub words : allowance b.code + 2 * tree_nodes b.code ≤ 40 * nodes g + 7
   pub statements : statements b.code ≤ 6 * nodes g + 1
   pub tree_nodes : tree_nodes b.code ≤ 9 * nodes g + 1
 

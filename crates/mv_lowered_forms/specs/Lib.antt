@@ -1,3 +1,4 @@
+pub mod Allowances
 pub mod Calls
 pub mod Reads
 pub mod Law

@@ -2,18 +2,19 @@
 use Rattle.std.proofs.Common.{ℕ, ◌≡◌, ◌<◌, ◌+◌, ◌-◌, ◌%◌, mod-eq_of_lt, inl, inr, List, [], ◌∷◌, ◌++◌, length, slice_index, slice_get, Option, Some, None, option_map, unwrap_or, IfSome, IsSomeAnd, refl, sym, ap, ap₂, ◌∙◌, subst, arith}
 use Rattle.std.proofs.lemmas.List.{length-append, get_or_at, nil_from_length}
 use Rattle.mv_ast.specs.declared.world.Binding.{Binding}
+use Rattle.mv_ast.specs.declared.world.Event.{Event}
 use Rattle.mv_isa.specs.Execution.{Faults, reg, step}
 use Rattle.mv_isa.specs.declared.instr.Cause.{Cause}
 use Rattle.mv_isa.specs.declared.instr.Cause.TheVariants as cause
 use Rattle.mv_fetch.specs.Held.{Room, IsInText, choices}
-use Rattle.mv_rv32.specs.Stepping.{access, picked_step, picked_target}
+use Rattle.mv_rv32.specs.Stepping.{access, picked_step, picked_target, IsCarriedOut}
 use Rattle.mv_probe.specs.Ways.{Way, Follows, way_after}
 use Rattle.mv_machine.specs.declared.machine.Stopped.{Stopped}
 use Rattle.mv_machine.specs.declared.machine.Stopped.TheVariants as answer
-use Rattle.mv_machine.specs.Runs.{Stop, Going, Exit, Trap, Fault, State, Request, Reads, Writes, request_of, choices_at, fetched_step, turn, runs_from, executed}
-use Rattle.mv_machine.specs.Snapshots.{Snapshot, resumed, Tells, Under, Asks, Reached, Whole, Broken, Answered, WantsMemory, Ran, Unless, last_of}
+use Rattle.mv_machine.specs.Runs.{Stop, Going, Exit, Trap, Fault, State, Request, Reads, Writes, request_of, bytes_to_come, stopped, counts_as, choices_at, fetched_step, turn, runs_from, executed}
+use Rattle.mv_machine.specs.Snapshots.{Snapshot, resumed, Tells, Under, Asks, Reached, Whole, Faulted, Broken, Answered, WantsMemory, Ran, Unless, last_of}
 use Rattle.mv_machine.specs.Moves.{Seen, shown, Meets, Moves, Called, Wanting, Turns, Goes, Walked, FaultAt}
-use Rattle.mv_machine.proofs.Turns.{turn_by, runs_more, runs_over, executed_over, runs_append, IsOver}
+use Rattle.mv_machine.proofs.Turns.{turn_by, turn_faults, runs_more, executed_more, runs_over, executed_over, runs_append, IsOver}
 use Rattle.mv_machine.proofs.Moved.{SoFar, way_more, under_more, meets_more}
 
 -- what is seen of a machine
@@ -26,14 +27,15 @@ resumed_is : (m : Snapshot) (x : Seen) (input : List (Option ℕ)) → IsSeen m 
 unfolding resumed
 resumed_is m x input i = rw (i.regs, i.pc, i.room) refl
 
-reached : (e : State) (y : Seen) (bindings : List Binding) (stop : Stop) (is : Snapshot) (later : List (Option ℕ)) (more : List ℕ) (written : Option (List ℕ)) → IsSeen is y → is.bindings ≡ bindings → y.written ≡ option_map (λ before. before ++ more) written → e ≡ shown y bindings stop later more → Reached e stop is later written y.written
-reached e y bindings stop is later more written i b w at = record {
+reached : (e : State) (y : Seen) (bindings : List Binding) (stop : Stop) (is : Snapshot) (later : List (Option ℕ)) (more : List ℕ) (written : Option (List ℕ)) (Told : List Event → Type 0) → IsSeen is y → is.bindings ≡ bindings → y.written ≡ option_map (λ before. before ++ more) written → Told [] → e ≡ shown y bindings stop later more → Reached e stop is later written y.written Told
+reached e y bindings stop is later more written Told i b w quiet at = record {
   regs = i.regs ∙ sym (ap (λ (s : State). s.regs) at);
   pc = i.pc ∙ sym (ap (λ (s : State). s.pc) at);
   memory = i.room ∙ sym (ap (λ (s : State). s.room) at);
   bindings = b ∙ sym (ap (λ (s : State). s.bindings) at);
   input = ap (λ (s : State). s.input) at;
   output = w ∙ ap (λ (out : List ℕ). option_map (λ before. before ++ out) written) (sym (ap (λ (s : State). s.output) at));
+  told = subst Told (sym (ap (λ (s : State). s.log) at)) quiet;
   stopped = ap (λ (s : State). s.stop) at;
 }
 
@@ -57,31 +59,47 @@ wants e z pick regs pc room lt w =
     ap₂ (λ (c : ℕ) (r : Room). picked_target r (pick % c) e.regs e.pc) (choices_same e z pc room) room
     ∙ ap₂ (λ (g : List ℕ) (a : ℕ). picked_target z.room (pick % length (choices z.room.held z.pc)) g a) regs pc
     ∙ ap (λ (p : ℕ). picked_target z.room p z.regs z.pc) (mod-eq_of_lt lt) in
-    (subst (λ (a : Option ℕ). IsSomeAnd a IsInText) (sym target) w.0, ap (λ (r : Room). r.spare) room ∙ w.1)
+    (subst (λ (a : Option ℕ). IsSomeAnd a IsInText) (sym target) w.0, ap (λ (r : Room). r.spare) room ∙ w.1, subst IsCarriedOut (sym (fetches e z pick regs pc room lt)) w.2)
 
 -- no word is fetched where there is no choice
 unfetched : (room : Room) (pick : ℕ) (regs : List ℕ) (pc : ℕ) → length (choices room.held pc) ≡ 0 → picked_step room pick regs pc ≡ Faults cause.Fetch
 unfolding picked_step
 unfetched room pick regs pc none = ap (λ (words : List ℕ). step access (slice_get words pick) regs pc room) (nil_from_length (choices room.held pc) none)
 
+-- some input that fits what a source tells
+some_input : (left : Option (List ℕ)) → (later : List (Option ℕ)) × Tells left later
+some_input None = ([], tt)
+some_input (Some bytes) = (bytes_to_come bytes, refl)
+
+-- an instruction that faults leaves pc and memory
+fault_stays : (x y : Seen) (pick : ℕ) (why : Cause) → Moves (λ s. turn s pick) x y (Fault why) → (y.pc ≡ x.pc) × (y.room ≡ x.room)
+fault_stays x y pick why m =
+    let later = some_input y.left in
+    let t = m.2 later.0 later.1 in
+    let s : State = shown x [] Going t.0 [] in
+    let at = (t.2 [] []).1 in
+    let same : turn s pick ≡ stopped s (Fault why) = turn_faults s pick why refl (ap (λ (e : State). e.stop) at) in
+    (ap (λ (e : State). e.pc) (sym at ∙ same), ap (λ (e : State). e.room) (sym at ∙ same))
+
 unless : (o : Option Stopped) (X : Type 0) → X → Unless o X
 unless None X h = h
 unless (Some last) X h = tt
 
-module _ (was is : Snapshot) (x y : Seen) (a : IsSeen was x) (b : IsSeen is y) (same : is.bindings ≡ was.bindings) (way way' : Option Way) (A B : Type 0) (steps : ℕ) where
+module _ (was is : Snapshot) (x y : Seen) (a : IsSeen was x) (b : IsSeen is y) (same : is.bindings ≡ was.bindings) (rows : is.switches ≡ was.switches) (way way' : Option Way) (A B : Type 0) (Told : List Event → Type 0) (quiet : Told []) (steps : ℕ) where
   abbrev At : List (Option ℕ) → State → Stop → Type 0
-  At later e stop = Reached e stop is later x.written y.written
+  At later e stop = Reached e stop is later x.written y.written Told
 
-  from_meets : (f : State → State) (P : State → Type 0) (stop : Stop) (Q : List (Option ℕ) → State → Type 0) → Meets P f x y stop → ((later : List (Option ℕ)) (s : State) → P s → Reached (f s) stop is later x.written y.written → Q later s) → (later : List (Option ℕ)) → Tells y.left later → (input : List (Option ℕ)) × Tells x.left input × Q later (resumed was input)
+  from_meets : (f : State → State) (P : State → Type 0) (stop : Stop) (Q : List (Option ℕ) → State → Type 0) → Meets P f x y stop → ((later : List (Option ℕ)) (s : State) → P s → Reached (f s) stop is later x.written y.written Told → Q later s) → (later : List (Option ℕ)) → Tells y.left later → (input : List (Option ℕ)) × Tells x.left input × Q later (resumed was input)
   from_meets f P stop Q m q later tells =
       let t = m.2 later tells in
       let s : State = shown x was.bindings Going t.0 [] in
       let here = t.2 was.bindings [] in
-      (t.0, t.1, subst (λ (e : State). Q later e) (resumed_is was x t.0 a) (q later s here.0 (reached (f s) y was.bindings stop is later m.0 x.written b same m.1 here.1)))
+      (t.0, t.1, subst (λ (e : State). Q later e) (resumed_is was x t.0 a) (q later s here.0 (reached (f s) y was.bindings stop is later m.0 x.written Told b same m.1 quiet here.1)))
 
   -- the steps were used up
-  pub all_steps : Goes steps x y way way' → Ran steps answer.Steps was is x.left y.left x.written y.written way way' A B
+  pub all_steps : Goes steps x y way way' → Ran steps answer.Steps was is x.left y.left x.written y.written way way' A B Told
   all_steps g = record {
+    switches = rows;
     picks = g.0;
     way_is = g.2 ∙ ap (λ (n : ℕ). option_map (λ w. way_after w n) way) (sym g.1);
     run = from_meets (λ s. runs_from s g.0 steps) (SoFar way g.0 steps) Going (λ later s. Under way s g.0 × Answered answer.Steps steps s g.0 (At later) A B) g.3
@@ -109,14 +127,15 @@ module _ (was is : Snapshot) (x y : Seen) (a : IsSeen was x) (b : IsSeen is y) (
         let k : steps ≡ (steps - (n + 1)) + (n + 1) = omega (arith, lt) in
         ap (λ (i : ℕ). executed s all i) k ∙ executed_over s all (n + 1) (steps - (n + 1)) (subst (λ t. IsOver t) (sym e) over)
 
-    whole : (stop : Stop) → IsOver stop → (later : List (Option ℕ)) (s : State) → SoFar way all (n + 1) s → Reached (runs_from s all (n + 1)) stop is later x.written y.written → Whole s all steps (At later) stop
+    whole : (stop : Stop) → IsOver stop → (later : List (Option ℕ)) (s : State) → SoFar way all (n + 1) s → Reached (runs_from s all (n + 1)) stop is later x.written y.written Told → Whole s all steps (At later) stop
     whole stop over later s p r = record {
       reached = subst (λ (e : State). At later e stop) (sym (to_end s stop over r.stopped)) r;
       picked = executed_to_end s stop over r.stopped ∙ p.1 ∙ sym len;
     }
 
-    ended : (stop : Stop) (r : Stopped) → IsOver stop → Moves (λ s. turn s pick) mid y stop → ((later : List (Option ℕ)) (s : State) → Whole s all steps (At later) stop → Answered r steps s all (At later) A B) → Ran steps r was is x.left y.left x.written y.written way way' A B
+    ended : (stop : Stop) (r : Stopped) → IsOver stop → Moves (λ s. turn s pick) mid y stop → ((later : List (Option ℕ)) (s : State) → Whole s all steps (At later) stop → Answered r steps s all (At later) A B) → Ran steps r was is x.left y.left x.written y.written way way' A B Told
     ended stop r over t answers = record {
+      switches = rows;
       picks = all;
       way_is = way_all;
       run = from_meets (λ s. runs_from s all (n + 1)) (SoFar way all (n + 1)) stop (λ later s. Under way s all × Answered r steps s all (At later) A B)
@@ -124,18 +143,23 @@ module _ (was is : Snapshot) (x y : Seen) (a : IsSeen was x) (b : IsSeen is y) (
           (λ later s p e. (p.0, answers later s (whole stop over later s p e)));
     }
 
-    pub ended_at : (status : ℕ) → Moves (λ s. turn s pick) mid y (Exit status) → Ran steps (answer.Ended status) was is x.left y.left x.written y.written way way' A B
+    pub ended_at : (status : ℕ) → Moves (λ s. turn s pick) mid y (Exit status) → Ran steps (answer.Ended status) was is x.left y.left x.written y.written way way' A B Told
     ended_at status t = ended (Exit status) (answer.Ended status) tt t (λ later s w. w)
 
-    pub trapped_at : (code : ℕ) → Moves (λ s. turn s pick) mid y (Trap code) → Ran steps (answer.Trapped code) was is x.left y.left x.written y.written way way' A B
+    pub trapped_at : (code : ℕ) → Moves (λ s. turn s pick) mid y (Trap code) → Ran steps (answer.Trapped code) was is x.left y.left x.written y.written way way' A B Told
     trapped_at code t = ended (Trap code) (answer.Trapped code) tt t (λ later s w. w)
 
-    pub fault_at : (pc : ℕ) (why : Cause) → pc ≡ y.pc → Moves (λ s. turn s pick) mid y (Fault why) → Ran steps (answer.Fault pc why) was is x.left y.left x.written y.written way way' A B
-    fault_at pc why e t = ended (Fault why) (answer.Fault pc why) tt t (λ later s w. (w.reached, sym w.reached.pc ∙ b.pc ∙ sym e))
+    pub fault_at : (pc : ℕ) (why : Cause) → pc ≡ y.pc → Moves (λ s. turn s pick) mid y (Fault why) → Ran steps (answer.Fault pc why) was is x.left y.left x.written y.written way way' A B Told
+    fault_at pc why e t = ended (Fault why) (answer.Fault pc why) tt t (λ later s w.
+        let end = runs_from s all steps in
+        let still = fault_stays mid y pick why t in
+        let count : choices_at end ≡ length (choices mid.room.held mid.pc) = choices_same end mid (sym w.reached.pc ∙ b.pc ∙ still.0) (sym w.reached.memory ∙ b.room ∙ still.1) in
+        record { reached = w.reached; place = sym w.reached.pc ∙ b.pc ∙ sym e; picked = omega (arith, w.picked, count, below) })
 
     -- an instruction was fetched and not carried out
-    broken : (r : Stopped) (Why : State → ℕ → Type 0) → y ≡ mid → ((e : State) → e.regs ≡ mid.regs → e.pc ≡ mid.pc → e.room ≡ mid.room → Why e pick) → ((later : List (Option ℕ)) (s : State) → Broken s all steps (At later) Why → Answered r steps s all (At later) A B) → Ran steps r was is x.left y.left x.written y.written way way' A B
+    broken : (r : Stopped) (Why : State → ℕ → Type 0) → y ≡ mid → ((e : State) → e.regs ≡ mid.regs → e.pc ≡ mid.pc → e.room ≡ mid.room → Why e pick) → ((later : List (Option ℕ)) (s : State) → Broken s all steps (At later) Why → Answered r steps s all (At later) A B) → Ran steps r was is x.left y.left x.written y.written way way' A B Told
     broken r Why still why answers = record {
+      switches = rows;
       picks = all;
       way_is = way_all;
       run = from_meets (λ s. runs_from s g.0 n) (SoFar way g.0 n) Going (λ later s. Under way s all × Answered r steps s all (At later) A B)
@@ -157,13 +181,13 @@ module _ (was is : Snapshot) (x y : Seen) (a : IsSeen was x) (b : IsSeen is y) (
           ));
     }
 
-    pub input_fault_at : y ≡ mid → Called mid pick Reads → A → Ran steps answer.InputFault was is x.left y.left x.written y.written way way' A B
+    pub input_fault_at : y ≡ mid → Called mid pick Reads → A → Ran steps answer.InputFault was is x.left y.left x.written y.written way way' A B Told
     input_fault_at still c rose = broken answer.InputFault (λ e p. Asks e p Reads × A) still (λ e regs pc room. (asks e mid pick Reads regs pc room below c, rose)) (λ later s w. w)
 
-    pub output_fault_at : y ≡ mid → Called mid pick Writes → B → Ran steps answer.OutputFault was is x.left y.left x.written y.written way way' A B
+    pub output_fault_at : y ≡ mid → Called mid pick Writes → B → Ran steps answer.OutputFault was is x.left y.left x.written y.written way way' A B Told
     output_fault_at still c rose = broken answer.OutputFault (λ e p. Asks e p Writes × B) still (λ e regs pc room. (asks e mid pick Writes regs pc room below c, rose)) (λ later s w. w)
 
-    pub memory_at : y ≡ mid → Wanting mid pick → Ran steps answer.Memory was is x.left y.left x.written y.written way way' A B
+    pub memory_at : y ≡ mid → Wanting mid pick → Ran steps answer.Memory was is x.left y.left x.written y.written way way' A B Told
     memory_at still w = broken answer.Memory WantsMemory still (λ e regs pc room. wants e mid pick regs pc room below w) (λ later s h. h)
 
   -- there was no word to fetch
@@ -175,7 +199,7 @@ module _ (was is : Snapshot) (x y : Seen) (a : IsSeen was x) (b : IsSeen is y) (
     one_more : (b : List Binding) (input : List (Option ℕ)) (output : List ℕ) (pick : ℕ) → turn (shown mid b Going input output) pick ≡ shown mid b (Fault cause.Fetch) input output
     one_more b input output pick = turn_by (shown mid b Going input output) pick (Faults cause.Fetch) refl (no_step b input output pick)
 
-    to_fault : Meets (SoFar way g.0 n) (λ s. runs_from s g.0 (n + 1)) x mid (Fault cause.Fetch)
+    to_fault : Meets (SoFar way g.0 (n + 1)) (λ s. runs_from s g.0 (n + 1)) x mid (Fault cause.Fetch)
     to_fault =
         let m = g.3 in (
           m.0,
@@ -184,30 +208,51 @@ module _ (was is : Snapshot) (x y : Seen) (a : IsSeen was x) (b : IsSeen is y) (
             t.0,
             t.1,
             λ b o.
-                ((t.2 b o).0, runs_more (shown x b Going t.0 o) g.0 n ∙ ap (λ (e : State). turn e (slice_index g.0 n)) (t.2 b o).1 ∙ one_more b later (o ++ m.0) (slice_index g.0 n)),
+                let s = shown x b Going t.0 o in
+                let here = t.2 b o in
+                let one : counts_as (runs_from s g.0 n).stop ≡ 1 = ap (λ (e : State). counts_as e.stop) here.1 in
+                ((here.0.0, omega (arith, executed_more s g.0 n, here.0.1, one)), runs_more s g.0 n ∙ ap (λ (e : State). turn e (slice_index g.0 n)) here.1 ∙ one_more b later (o ++ m.0) (slice_index g.0 n)),
           ),
         )
 
-    to_last : (s : State) → (runs_from s g.0 (n + 1)).stop ≡ Fault cause.Fetch → runs_from s g.0 steps ≡ runs_from s g.0 (n + 1)
-    to_last s e =
-        let k : steps ≡ (steps - (n + 1)) + (n + 1) = omega (arith, lt) in
-        ap (λ (i : ℕ). runs_from s g.0 i) k ∙ runs_over s g.0 (n + 1) (steps - (n + 1)) (subst (λ t. IsOver t) (sym e) tt)
+    rest : steps ≡ (steps - (n + 1)) + (n + 1)
+    rest = omega (arith, lt)
 
-    pub unfetched_at : Ran steps (answer.Fault mid.pc cause.Fetch) was is x.left y.left x.written y.written way way' A B
+    over : (s : State) → (runs_from s g.0 (n + 1)).stop ≡ Fault cause.Fetch → IsOver (runs_from s g.0 (n + 1)).stop
+    over s e = subst (λ t. IsOver t) (sym e) tt
+
+    to_last : (s : State) → (runs_from s g.0 (n + 1)).stop ≡ Fault cause.Fetch → runs_from s g.0 steps ≡ runs_from s g.0 (n + 1)
+    to_last s e = ap (λ (i : ℕ). runs_from s g.0 i) rest ∙ runs_over s g.0 (n + 1) (steps - (n + 1)) (over s e)
+
+    executed_to_last : (s : State) → (runs_from s g.0 (n + 1)).stop ≡ Fault cause.Fetch → executed s g.0 steps ≡ executed s g.0 (n + 1)
+    executed_to_last s e = ap (λ (i : ℕ). executed s g.0 i) rest ∙ executed_over s g.0 (n + 1) (steps - (n + 1)) (over s e)
+
+    pub unfetched_at : Ran steps (answer.Fault mid.pc cause.Fetch) was is x.left y.left x.written y.written way way' A B Told
     unfetched_at = record {
+      switches = rows;
       picks = g.0;
       way_is = stays ∙ g.2 ∙ ap (λ (k : ℕ). option_map (λ w. way_after w k) way) (sym g.1);
-      run = from_meets (λ s. runs_from s g.0 (n + 1)) (SoFar way g.0 n) (Fault cause.Fetch) (λ later s. Under way s g.0 × Answered (answer.Fault mid.pc cause.Fetch) steps s g.0 (At later) A B)
-          (subst (λ (z : Seen). Meets (SoFar way g.0 n) (λ s. runs_from s g.0 (n + 1)) x z (Fault cause.Fetch)) (sym still) to_fault)
+      run = from_meets (λ s. runs_from s g.0 (n + 1)) (SoFar way g.0 (n + 1)) (Fault cause.Fetch) (λ later s. Under way s g.0 × Answered (answer.Fault mid.pc cause.Fetch) steps s g.0 (At later) A B)
+          (subst (λ (z : Seen). Meets (SoFar way g.0 (n + 1)) (λ s. runs_from s g.0 (n + 1)) x z (Fault cause.Fetch)) (sym still) to_fault)
           (λ later s p e.
           let last = to_last s e.stopped in
-          (p.0, (subst (λ (t : State). At later t (Fault cause.Fetch)) (sym last) e, ap (λ (t : State). t.pc) last ∙ sym e.pc ∙ b.pc ∙ ap (λ (z : Seen). z.pc) still)));
+          let end = runs_from s g.0 steps in
+          let pc : end.pc ≡ mid.pc = ap (λ (t : State). t.pc) last ∙ sym e.pc ∙ b.pc ∙ ap (λ (z : Seen). z.pc) still in
+          let room : end.room ≡ mid.room = ap (λ (t : State). t.room) last ∙ sym e.memory ∙ b.room ∙ ap (λ (z : Seen). z.room) still in
+          let count : choices_at end ≡ length (choices mid.room.held mid.pc) = choices_same end mid pc room in (
+            p.0,
+            record {
+              reached = subst (λ (t : State). At later t (Fault cause.Fetch)) (sym last) e;
+              place = pc;
+              picked = omega (arith, executed_to_last s e.stopped, p.1, g.1, count, none);
+            },
+          ));
     }
 
-  from_turn : (n : ℕ) (mid : Seen) (v : Option Way) (r : Stopped) → n < steps → Goes n x mid way v → FaultAt r y.pc → Turns (Some r) mid y v way' A B → Ran steps r was is x.left y.left x.written y.written way way' A B
+  from_turn : (n : ℕ) (mid : Seen) (v : Option Way) (r : Stopped) → n < steps → Goes n x mid way v → FaultAt r y.pc → Turns (Some r) mid y v way' A B → Ran steps r was is x.left y.left x.written y.written way way' A B Told
   from_turn n mid v r lt g f (inl t) =
       let is_fault : r ≡ answer.Fault mid.pc cause.Fetch = ap (λ (o : Option Stopped). unwrap_or o answer.Steps) t.1 in
-      subst (λ (q : Stopped). Ran steps q was is x.left y.left x.written y.written way way' A B) (sym is_fault) (unfetched_at n mid v lt g t.0 t.2 t.3)
+      subst (λ (q : Stopped). Ran steps q was is x.left y.left x.written y.written way way' A B Told) (sym is_fault) (unfetched_at n mid v lt g t.0 t.2 t.3)
   from_turn n mid v (answer.Ended status) lt g f (inr t) = ended_at n mid v lt g t.0 t.1 t.2 status t.3
   from_turn n mid v (answer.Trapped code) lt g f (inr t) = trapped_at n mid v lt g t.0 t.1 t.2 code t.3
   from_turn n mid v answer.Steps lt g f (inr t) = absurd t.3
@@ -216,12 +261,12 @@ module _ (was is : Snapshot) (x y : Seen) (a : IsSeen was x) (b : IsSeen is y) (
   from_turn n mid v (answer.Fault pc why) lt g f (inr t) = fault_at n mid v lt g t.0 t.1 t.2 pc why f t.3
   from_turn n mid v answer.Memory lt g f (inr t) = memory_at n mid v lt g t.0 t.1 t.2 t.3.0 t.3.1
 
-  walked : (r : Option Stopped) → Walked steps r x y way way' A B → IfSome r (λ stopped. FaultAt stopped y.pc) → Ran steps (unwrap_or r answer.Steps) was is x.left y.left x.written y.written way way' A B
+  walked : (r : Option Stopped) → Walked steps r x y way way' A B → IfSome r (λ stopped. FaultAt stopped y.pc) → Ran steps (unwrap_or r answer.Steps) was is x.left y.left x.written y.written way way' A B Told
   walked None w f = all_steps w
   walked (Some r) w f = from_turn w.0 w.1 w.2 r w.3 w.4 f w.5
 
-  pub ran : (r : Option Stopped) (result : Stopped) (last : Option Stopped) → result ≡ unwrap_or r answer.Steps → Walked steps r x y way way' A B → IfSome r (λ stopped. FaultAt stopped y.pc) → Unless last (Ran steps result was is x.left y.left x.written y.written way way' A B)
-  ran r result last e w f = unless last _ (subst (λ (q : Stopped). Ran steps q was is x.left y.left x.written y.written way way' A B) (sym e) (walked r w f))
+  pub ran : (r : Option Stopped) (result : Stopped) (last : Option Stopped) → result ≡ unwrap_or r answer.Steps → Walked steps r x y way way' A B → IfSome r (λ stopped. FaultAt stopped y.pc) → Unless last (Ran steps result was is x.left y.left x.written y.written way way' A B Told)
+  ran r result last e w f = unless last _ (subst (λ (q : Stopped). Ran steps q was is x.left y.left x.written y.written way way' A B Told) (sym e) (walked r w f))
 
 abbrev is_fault : Option Stopped → Type 0
 is_fault (Some (answer.Fault pc why)) = Unit {0}

@@ -1,9 +1,10 @@
 -- How a run grows by one instruction, and that nothing follows its end.
 use Rattle.std.proofs.Common.{ℕ, zero, suc, ◌≡◌, ◌≤◌, ◌+◌, add-one, List, ◌++◌, length, slice_index, refl, sym, ap, ap₂, ◌∙◌, subst, arith}
 use Rattle.std.proofs.lemmas.List.{get_or_append_left}
-use Rattle.mv_isa.specs.Execution.{Outcome}
+use Rattle.mv_isa.specs.Execution.{Outcome, Goes, Calls, Faults, reg}
+use Rattle.mv_isa.specs.declared.instr.Cause.{Cause}
 use Rattle.mv_fetch.specs.Held.{Room}
-use Rattle.mv_machine.specs.Runs.{Stop, Going, Exit, Trap, Fault, State, where_going, after, fetched_step, turn, runs_from, executed, counts_as}
+use Rattle.mv_machine.specs.Runs.{Stop, Going, Exit, Trap, Fault, Request, Exits, Reads, Writes, Traps, Unknown, request_of, environment_call, answered, stopped, State, where_going, after, fetched_step, turn, runs_from, executed, counts_as}
 
 -- after no instruction
 pub runs_none : (s : State) (picks : List ℕ) → runs_from s picks 0 ≡ s
@@ -23,6 +24,34 @@ executed_more s picks n = ap (λ (k : ℕ). executed s picks k) (add-one n)
 pub turn_by : (s : State) (pick : ℕ) (outcome : Outcome Room) → s.stop ≡ Going → fetched_step s pick ≡ outcome → turn s pick ≡ after outcome s
 unfolding turn
 turn_by s pick outcome going e = ap₂ (λ (stop : Stop) (o : Outcome Room). where_going stop (after o s) s) going e
+
+-- an instruction that faults changes nothing but that
+abbrev IsFault : Stop → Type 0
+IsFault Going = ⊥
+IsFault (Exit status) = ⊥
+IsFault (Trap code) = ⊥
+IsFault (Fault why) = Unit {0}
+
+is_fault : (why : Cause) (stop : Stop) → stop ≡ Fault why → IsFault stop
+is_fault why stop e = subst (λ t. IsFault t) (sym e) tt
+
+call_faults : (request : Request) (s : State) (why : Cause) → s.stop ≡ Going → (environment_call request s).stop ≡ Fault why → environment_call request s ≡ stopped s (Fault why)
+unfolding answered
+call_faults Exits s why going e = absurd (is_fault why _ e)
+call_faults Reads s why going e = absurd (is_fault why Going (sym going ∙ e))
+call_faults Writes s why going e = absurd (is_fault why Going (sym going ∙ e))
+call_faults Traps s why going e = ap (λ (stop : Stop). stopped s stop) e
+call_faults Unknown s why going e = ap (λ (stop : Stop). stopped s stop) e
+
+after_faults : (outcome : Outcome Room) (s : State) (why : Cause) → s.stop ≡ Going → (after outcome s).stop ≡ Fault why → after outcome s ≡ stopped s (Fault why)
+after_faults (Goes regs pc room) s why going e = absurd (is_fault why Going (sym going ∙ e))
+after_faults Calls s why going e = call_faults (request_of (reg s.regs 17)) s why going e
+after_faults (Faults cause) s why going e = ap (λ (stop : Stop). stopped s stop) e
+
+pub turn_faults : (s : State) (pick : ℕ) (why : Cause) → s.stop ≡ Going → (turn s pick).stop ≡ Fault why → turn s pick ≡ stopped s (Fault why)
+turn_faults s pick why going e =
+    let by = turn_by s pick (fetched_step s pick) going refl in
+    by ∙ after_faults (fetched_step s pick) s why going (sym (ap (λ (t : State). t.stop) by) ∙ e)
 
 -- the run has ended
 abbrev pub IsOver : Stop → Type 0

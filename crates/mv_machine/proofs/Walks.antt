@@ -5,7 +5,7 @@ use Rattle.std.proofs.lemmas.Option.{none-some}
 use Rattle.mv_isa.specs.declared.instr.Cause.{Cause}
 use Rattle.mv_isa.specs.Execution.{Goes as GoesTo, Calls, Faults, reg, step}
 use Rattle.mv_fetch.specs.Held.{Room, IsInText, choices, only}
-use Rattle.mv_rv32.specs.Stepping.{access, picked_step, picked_target, word_target}
+use Rattle.mv_rv32.specs.Stepping.{access, picked_step, picked_target, word_target, IsCarriedOut}
 use Rattle.mv_rv32.specs.declared.hart.Hart.{Hart}
 use Rattle.mv_io.specs.Outside.{Rose}
 use Rattle.mv_probe.specs.Ways.{Way, Follows, way_after}
@@ -118,6 +118,7 @@ pub step_is : (room : Room) (pick word : ℕ) (regs : List ℕ) (pc : ℕ) → s
 unfolding picked_step
 step_is room pick word regs pc e = ap (λ (o : Option ℕ). step access o regs pc room) e
 
-pub wanting : (x : Seen) (pick word : ℕ) → slice_get (choices x.room.held x.pc) pick ≡ Some word → IsSomeAnd (word_target word x.regs) IsInText → x.room.spare ≡ 0 → Wanting x pick
+pub wanting : (x : Seen) (pick word : ℕ) → slice_get (choices x.room.held x.pc) pick ≡ Some word → IsSomeAnd (word_target word x.regs) IsInText → x.room.spare ≡ 0 → IsCarriedOut (step access (Some word) x.regs x.pc x.room) → Wanting x pick
 unfolding picked_target
-wanting x pick word e w none = (subst (λ (o : Option ℕ). IsSomeAnd (option_and_then (λ i. word_target i x.regs) o) IsInText) (sym e) w, none)
+wanting x pick word e w none done =
+    (subst (λ (o : Option ℕ). IsSomeAnd (option_and_then (λ i. word_target i x.regs) o) IsInText) (sym e) w, none, subst IsCarriedOut (sym (step_is x.room pick word x.regs x.pc e)) done)

@@ -1,3 +1,4 @@
 pub mod Runs
 pub mod Snapshots
 pub mod Moves
+pub mod Actions

@@ -5,7 +5,7 @@ use Rattle.mv_ast.specs.declared.world.Binding.{Binding}
 use Rattle.mv_isa.specs.declared.instr.Cause.TheVariants as cause
 use Rattle.mv_isa.specs.Execution.{put, reg, Calls}
 use Rattle.mv_fetch.specs.Held.{Room, IsInText, choices}
-use Rattle.mv_rv32.specs.Stepping.{picked_step, picked_target}
+use Rattle.mv_rv32.specs.Stepping.{picked_step, picked_target, IsCarriedOut}
 use Rattle.mv_rv32.specs.declared.hart.Hart.{Hart}
 use Rattle.mv_io.specs.Outside.{Takes}
 use Rattle.mv_io.specs.declared.outside.Failed.{Failed}
@@ -82,9 +82,9 @@ Fetched (Some word) words way way' =
 abbrev pub Called : Seen → (pick : ℕ) → Request → Type 0
 Called x pick request = (picked_step x.room pick x.regs x.pc ≡ Calls) × (request_of (reg x.regs 17) ≡ request)
 
--- the instruction stores into text, and nothing is spare
+-- the instruction is a store into text that the definition carries out, and nothing is spare
 abbrev pub Wanting : Seen → (pick : ℕ) → Type 0
-Wanting x pick = IsSomeAnd (picked_target x.room pick x.regs x.pc) IsInText × (x.room.spare ≡ 0)
+Wanting x pick = IsSomeAnd (picked_target x.room pick x.regs x.pc) IsInText × (x.room.spare ≡ 0) × IsCarriedOut (picked_step x.room pick x.regs x.pc)
 
 -- one instruction: no fetch there, or the one that the oracle picks
 abbrev pub Turns : Option Stopped → Seen → Seen → Option Way → Option Way → (input_rose output_rose : Type 0) → Type 0

@@ -1,25 +1,29 @@
 -- What contracts see of a machine between two calls of `run`, and what such a call has done.
-use Rattle.std.specs.Prelude.{ℕ, ◌≡◌, ◌+◌, ◌<◌, List, [], ◌++◌, length, slice_index, Option, Some, None, option_map, IfSome, IsSomeAnd, ◌%◌}
+use Rattle.std.specs.Prelude.{ℕ, ◌≡◌, ◌+◌, ◌-◌, ◌<◌, List, [], ◌++◌, length, slice_index, Option, Some, None, option_map, IfSome, IsSomeAnd, ◌%◌}
 use Rattle.mv_ast.specs.declared.world.Binding.{Binding}
+use Rattle.mv_ast.specs.declared.world.Event.{Event}
+use Rattle.mv_descriptors.specs.declared.rows.SwitchRow.{SwitchRow}
 use Rattle.mv_isa.specs.Execution.{Calls, reg}
+use Rattle.mv_isa.specs.declared.instr.Cause.{Cause}
 use Rattle.mv_fetch.specs.Held.{Room, IsInText}
-use Rattle.mv_rv32.specs.Stepping.{picked_target}
+use Rattle.mv_rv32.specs.Stepping.{picked_target, IsCarriedOut}
 use Rattle.mv_probe.specs.Ways.{Way, pick_of, way_after}
 use Rattle.mv_machine.specs.declared.machine.Stopped.{Stopped}
 use Rattle.mv_machine.specs.declared.machine.Stopped.TheVariants as answer
 use Rattle.mv_machine.specs.Runs.{State, Stop, Going, Exit, Trap, Fault, Request, Reads, Writes, request_of, bytes_to_come, choices_at, fetched_step, runs_from, executed}
 
--- registers, pc, memory, bindings, and the answer of the run where it has ended
+-- the switch rows of its image, registers, pc, memory, bindings, and the answer of the run where it has ended
 pub record Snapshot : Type 0 where
+  pub switches : List SwitchRow
   pub regs : List ℕ
   pub pc : ℕ
   pub room : Room
   pub bindings : List Binding
   pub last : Option Stopped
 
--- a state as a machine keeps it
-unfoldable pub kept : State → Option Stopped → Snapshot
-kept s last = record { regs = s.regs; pc = s.pc; room = s.room; bindings = s.bindings; last = last }
+-- a state as a machine of an image with these switches keeps it
+unfoldable pub kept : List SwitchRow → State → Option Stopped → Snapshot
+kept switches s last = record { switches = switches; regs = s.regs; pc = s.pc; room = s.room; bindings = s.bindings; last = last }
 
 -- the state from which a call of `run` goes on; the output and the log are those of this call
 unfoldable pub resumed : Snapshot → (input : List (Option ℕ)) → State
@@ -38,24 +42,33 @@ Under way s picks =
 abbrev pub Asks : State → (pick : ℕ) → Request → Type 0
 Asks s pick request = (fetched_step s pick ≡ Calls) × (request_of (reg s.regs 17) ≡ request)
 
--- the instruction that a pick fetches stores into text, and as many words as were reserved have been stored there since the last FENCE.I
+-- the instruction that a pick fetches is a store into text that the definition carries out, and as many words as were reserved have been stored
+-- there since the last FENCE.I
 abbrev pub WantsMemory : State → (pick : ℕ) → Type 0
-WantsMemory s pick = IsSomeAnd (picked_target s.room (pick % choices_at s) s.regs s.pc) IsInText × (s.room.spare ≡ 0)
+WantsMemory s pick = IsSomeAnd (picked_target s.room (pick % choices_at s) s.regs s.pc) IsInText × (s.room.spare ≡ 0) × IsCarriedOut (fetched_step s pick)
 
--- the state that a call of `run` reached, and what is left in the machine, the source and the sink
-pub record Reached (s : State) (stop : Stop) (is : Snapshot) (later : List (Option ℕ)) (written written' : Option (List ℕ)) : Type 0 where
+-- the state that a call of `run` reached, what is left in the machine, the source and the sink, and that each probe was told the log
+pub record Reached (s : State) (stop : Stop) (is : Snapshot) (later : List (Option ℕ)) (written written' : Option (List ℕ)) (Told : List Event → Type 0) : Type 0 where
   pub regs : is.regs ≡ s.regs
   pub pc : is.pc ≡ s.pc
   pub memory : is.room ≡ s.room
   pub bindings : is.bindings ≡ s.bindings
   pub input : s.input ≡ later
   pub output : written' ≡ option_map (λ before. before ++ s.output) written
+  pub told : Told s.log
   pub stopped : s.stop ≡ stop
 
 -- so many instructions were executed, the last of which ended the run or was the last one wanted, each with one pick
 pub record Whole (s : State) (picks : List ℕ) (steps : ℕ) (at : State → Stop → Type 0) (stop : Stop) : Type 0 where
   pub reached : at (runs_from s picks steps) stop
   pub picked : executed s picks steps ≡ length picks
+
+-- Some instructions were executed, the last of which faults at this pc. Each took one pick, but for one at an address where no word can be
+-- fetched, which took none.
+pub record Faulted (s : State) (picks : List ℕ) (steps : ℕ) (at : State → Stop → Type 0) (pc : ℕ) (why : Cause) : Type 0 where
+  pub reached : at (runs_from s picks steps) (Fault why)
+  pub place : (runs_from s picks steps).pc ≡ pc
+  pub picked : executed s picks steps ≡ length picks + (1 - choices_at (runs_from s picks steps))
 
 -- so many instructions were executed, and one was fetched that was not carried out
 pub record Broken (s : State) (picks : List ℕ) (steps : ℕ) (at : State → Stop → Type 0) (Why : State → ℕ → Type 0) : Type 0 where
@@ -70,8 +83,7 @@ abbrev pub Answered : Stopped → (steps : ℕ) → State → (picks : List ℕ)
 Answered (answer.Ended status) steps s picks at input_rose output_rose = Whole s picks steps at (Exit status)
 Answered (answer.Trapped code) steps s picks at input_rose output_rose = Whole s picks steps at (Trap code)
 Answered answer.Steps steps s picks at input_rose output_rose = Whole s picks steps at Going
-Answered (answer.Fault pc why) steps s picks at input_rose output_rose =
-    at (runs_from s picks steps) (Fault why) × ((runs_from s picks steps).pc ≡ pc)
+Answered (answer.Fault pc why) steps s picks at input_rose output_rose = Faulted s picks steps at pc why
 Answered answer.InputFault steps s picks at input_rose output_rose = Broken s picks steps at (λ e pick. Asks e pick Reads × input_rose)
 Answered answer.OutputFault steps s picks at input_rose output_rose = Broken s picks steps at (λ e pick. Asks e pick Writes × output_rose)
 Answered answer.Memory steps s picks at input_rose output_rose = Broken s picks steps at WantsMemory
@@ -79,11 +91,12 @@ Answered answer.Memory steps s picks at input_rose output_rose = Broken s picks 
 -- What a call of `run` does on a machine that has not ended: there are picks, those of the oracle's way where it tells one, and an input, that of
 -- the source where it tells what is left, with which the run is the defined one. Whatever a source that tells nothing gives later, the input
 -- goes on with it.
-pub record Ran (steps : ℕ) (answer : Stopped) (was is : Snapshot) (left left' written written' : Option (List ℕ)) (way way' : Option Way) (input_rose output_rose : Type 0) : Type 0 where
+pub record Ran (steps : ℕ) (answer : Stopped) (was is : Snapshot) (left left' written written' : Option (List ℕ)) (way way' : Option Way) (input_rose output_rose : Type 0) (Told : List Event → Type 0) : Type 0 where
+  pub switches : is.switches ≡ was.switches
   pub picks : List ℕ
   pub way_is : way' ≡ option_map (λ w. way_after w (length picks)) way
   pub run : (later : List (Option ℕ)) → Tells left' later → (input : List (Option ℕ)) × Tells left input
-      × (Under way (resumed was input) picks × Answered answer steps (resumed was input) picks (λ e stop. Reached e stop is later written written') input_rose output_rose)
+      × (Under way (resumed was input) picks × Answered answer steps (resumed was input) picks (λ e stop. Reached e stop is later written written' Told) input_rose output_rose)
 
 -- the call goes on only where the run has not ended before
 abbrev pub Unless : Option Stopped → Type 0 → Type 0

@@ -1,21 +1,25 @@
 //! A machine and its runs.
 
-ghost use Rattle.std.specs.Prelude.{◌≡◌, [], Some, None, replicate, IfOk};
+ghost use Rattle.std.specs.Prelude.{◌≡◌, ◌≤◌, [], Some, None, replicate, IfOk, IsTrue, All};
 ghost use Rattle.std.specs.Result.{result_ok};
 ghost use Rattle.mv_fetch.specs.Held.{load};
 ghost use Rattle.mv_ast.specs.Plans.{free};
 ghost use Rattle.mv_io.specs.Outside.{Rose};
+ghost use Rattle.mv_probe.specs.Hearing.{hearing, IsPatient, object_at, Becomes};
+ghost use Rattle.mv_probe.specs.Fates.{Fates};
+ghost use Rattle.mv_machine.specs.Actions.{fits};
 ghost use Rattle.mv_machine.specs.Runs.{first};
 ghost use Rattle.mv_machine.specs.Snapshots.{kept, Ran, Unless, last_of};
 
 use crate::turning::walk;
-use mv_ast::world::Binding;
+use mv_ast::world::{Action, Binding};
+use mv_descriptors::SwitchRow;
 use mv_fetch::Memory;
 use mv_image::Image;
 use mv_image::facts::within_limits;
 use mv_io::{Sink, Source};
 use mv_num::list::List;
-use mv_probe::FetchOracle;
+use mv_probe::{FetchOracle, Probe};
 use mv_rv32::{Cause, Hart};
 use std::alloc::{AllocError, Global};
 use std::marker::Model;
@@ -53,9 +57,10 @@ fn all_free(alloc: Global, count: usize) -> Result<List<Binding>, AllocError>
     Ok(List::from_vec(vec![in alloc; FREE; count]?))
 }
 
-/// A hart, its memory and the bindings of the attributed functions, and the last answer where a run has ended.
+/// The switches of an image, a hart, its memory and the bindings of the attributed functions, and the last answer where a run has ended.
 #[derive(Drop)]
 pub struct Machine {
+    switches: List<SwitchRow>,
     hart: Hart,
     memory: Memory,
     bindings: List<Binding>,
@@ -67,18 +72,19 @@ impl Model for Machine {
 
     ghost Value = { Snapshot };
 
-    ghost view = { λ m. record { regs = m.hart.regs; pc = m.hart.pc; room = m.memory; bindings = m.bindings; last = m.last } };
+    ghost view = { λ m. record { switches = m.switches; regs = m.hart.regs; pc = m.hart.pc; room = m.memory; bindings = m.bindings; last = m.last } };
 }
 
 impl Machine {
     /// The machine of an image before its first instruction. From here on memory can be wanting only where a program stores into its text more
     /// often between two FENCE.I than a plan of the image would.
     pub fn start(alloc: Global, image: &Image) -> Result<Machine, AllocError>
-        ensures { IfOk result (λ machine. machine ≡ kept (first image.now []) None) }
+        ensures { IfOk result (λ machine. machine ≡ kept image.now.switches (first image.now []) None) }
     {
         within_limits(image);
         let patchable = image.functions().len() + 2 * image.sites().len();
         Ok(Machine {
+            switches: image.switches().copied(alloc)?,
             hart: Hart {
                 regs: [0; 32],
                 pc: image.entry(),
@@ -90,19 +96,28 @@ impl Machine {
     }
 
     /// Runs so many instructions, or up to the one that ends the run. After `Steps` a further call goes on; after any other answer it gives
-    /// this answer again and does nothing.
+    /// this answer again and does nothing. No environment call commits yet: no probe is told anything, and no action is taken.
     pub fn run<I: Source, O: Sink>(
         &mut self,
         steps: u64,
         source: &mut I,
         sink: &mut O,
         oracle: &mut Box<dyn FetchOracle>,
+        probes: &mut Vec<Box<dyn Probe>>,
+        actions: &[Action],
     ) -> Stopped
+        requires patient { All (λ probe. IsPatient (hearing (told probe) (patience probe))) probes.old.items }
+        requires fit { All (λ action. IsTrue (fits self.old.switches action)) actions.now }
+
         ensures runs { Unless self.old.last (Ran steps result self.old self.new
             (I.left source.old) (I.left source.new) (O.written sink.old) (O.written sink.new) (way oracle.old) (way oracle.new)
-            (Rose (I.faults source.old) (I.faults source.new)) (Rose (O.faults sink.old) (O.faults sink.new))) }
+            (Rose (I.faults source.old) (I.faults source.new)) (Rose (O.faults sink.old) (O.faults sink.new))
+            (λ events. Fates (Becomes (λ probe. object_at probe.ptr probe.vtable) (λ probe. hearing (told probe) (patience probe)) events) probes.old.items probes.new.items)) }
         ensures last { self.old.last ≡ None → self.new.last ≡ last_of result }
         ensures again { (last : Stopped) → self.old.last ≡ Some last → (result ≡ last) × (self.new ≡ self.old) × (source.new ≡ source.old) × (sink.new ≡ sink.old) × (way oracle.new ≡ way oracle.old) }
+        ensures quiet { probes.new ≡ probes.old }
+        ensures input { I.faults source.old ≤ I.faults source.new }
+        ensures output { O.faults sink.old ≤ O.faults sink.new }
     {
         if let Some(last) = self.last {
             return last;

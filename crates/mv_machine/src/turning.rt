@@ -75,6 +75,8 @@ pub(crate) fn walk<I: Source, O: Sink>(
     ensures walked { Walked steps result (seen hart.old memory.old (I.left source.old) (O.written sink.old)) (seen hart.new memory.new (I.left source.new) (O.written sink.new)) (way oracle.old) (way oracle.new)
         (Rose (I.faults source.old) (I.faults source.new)) (Rose (O.faults sink.old) (O.faults sink.new)) }
     ensures place { IfSome result (λ stopped. FaultAt stopped hart.new.pc) }
+    ensures input { I.faults source.old ≤ I.faults source.new }
+    ensures output { O.faults sink.old ≤ O.faults sink.new }
 {
     for count in 0..steps {
         if let Some(stopped) = turn(hart, memory, source, sink, oracle) {

@@ -1,3 +1,6 @@
 pub mod TreeNames
 pub mod CallNames
 pub mod StatementNames
+pub mod EntryNames
+pub mod FunctionNames
+pub mod Addresses

@@ -1,12 +1,12 @@
 -- What the code of a tree, and of statements without control, names.
-use Rattle.std.proofs.Common.{◌≡◌, ℕ, zero, suc, ◌+◌, ◌*◌, Bool, true, false, eqb, cond, List, [], ◌∷◌, ◌++◌, pos, All, sym, subst}
-use Rattle.std.proofs.lemmas.List.Elements.{All-append, All-cons, All-nil, All-head, All-tail}
+use Rattle.std.proofs.Common.{◌≡◌, ℕ, zero, suc, ◌+◌, ◌*◌, Bool, true, false, eqb, cond, List, [], ◌∷◌, ◌++◌, Option, Some, None, pos, All, inl, refl, sym, subst}
+use Rattle.std.proofs.lemmas.List.Elements.{All-append, All-cons, All-nil, All-head}
 use Rattle.mv_num.specs.declared.kind.Kind.{Kind}
 use Rattle.mv_num.specs.declared.kind.Kind.TheVariants as kind
 use Rattle.mv_isa.specs.declared.instr.Instr.{Instr}
 use Rattle.mv_isa.specs.declared.instr.Instr.TheVariants.{Lui, Lw, Sw, Addi, Sltiu, Slli, Srli, Srai, Add, Sub, Sll, Slt, Sltu, Xor, Srl, Sra, Or, And, Mul}
 use Rattle.mv_isa.specs.declared.labelled.Line.{Line}
-use Rattle.mv_isa.specs.declared.labelled.Line.TheVariants.{Word, Entry, Jump, Branch}
+use Rattle.mv_isa.specs.declared.labelled.Line.TheVariants.{Word, Label, Jump, Branch, Entry, Slot}
 use Rattle.mv_ir.specs.declared.tree.Tree.{Tree}
 use Rattle.mv_ir.specs.declared.tree.Tree.TheOpen.{Tree-F}
 use Rattle.mv_ir.specs.declared.tree.Tree.TheOpen as tree
@@ -17,27 +17,63 @@ use Rattle.mv_tree_code.specs.TreeCode.{one, two, upper_bits, lower_bits, number
 use Rattle.mv_tree_code.proofs.Rolls.{lines_roll}
 use Rattle.mv_statement_code.specs.declared.elements.Home.{Home}
 use Rattle.mv_statement_code.specs.declared.elements.Home.TheVariants as home
-use Rattle.mv_statement_code.specs.StatementCode.{first, second, third, trap_label, write_temp, division, element_offset, element_lines, test_lines, zero_lines, set_lines, set_global_lines, divide_lines, check_lines, read_lines, write_lines, return_lines}
+use Rattle.mv_statement_code.specs.StatementCode.{first, second, third, trap_label, write_temp, division, element_offset, element_lines, test_lines, bounds_lines, clear_lines, set_lines, set_global_lines, divide_lines, check_lines, read_lines, write_lines, return_lines}
 use Rattle.mv_flow_code.specs.Labels.{functions_layer, tree_functions}
 use Rattle.mv_flow_code.proofs.TreeNames.{all_front, all_back}
-use Rattle.mv_named_lines.specs.Lines.{Names}
+use Rattle.mv_named_lines.specs.Lines.{Names, IsCounted}
 
 functions_roll : (x : Tree-F Tree) → tree_functions (roll-Tree x) ≡ functions_layer (map-Tree Tree (List ℕ) tree_functions x)
 unfolding tree_functions
 functions_roll x = fold-roll-Tree (List ℕ) functions_layer x
 
-module _ (L P Q : ℕ → Type 0) where
+-- what stands before lines without a slot at their start doesn't matter
+weaker : (before : Option Instr) (lines : List Line) → IsCounted None lines → IsCounted before lines
+weaker before [] h = h
+weaker before (Word i ∷ lines) h = h
+weaker before (Label l ∷ lines) h = h
+weaker before (Jump rd l ∷ lines) h = h
+weaker before (Branch funct3 rs1 rs2 l ∷ lines) h = h
+weaker before (Entry rd f ∷ lines) h = h
+weaker before (Slot f ∷ lines) h = let wrong = h.0 in absurd cc
+
+counted_append : (before : Option Instr) (a b : List Line) → IsCounted before a → IsCounted None b → IsCounted before (a ++ b)
+counted_append before [] b h k = weaker before b k
+counted_append before (Word i ∷ a) b h k = counted_append (Some i) a b h k
+counted_append before (Label l ∷ a) b h k = counted_append None a b h k
+counted_append before (Jump rd l ∷ a) b h k = counted_append None a b h k
+counted_append before (Branch funct3 rs1 rs2 l ∷ a) b h k = counted_append None a b h k
+counted_append before (Entry rd f ∷ a) b h k = counted_append None a b h k
+counted_append before (Slot f ∷ a) b h k = (h.0, counted_append None a b h.1 k)
+
+module _ (L P C Q S : ℕ → Type 0) where
+  -- lines are named, and slots stand where calls are counted
   abbrev pub AllName : List Line → Type 0
-  AllName = All (Names L P Q)
+  AllName lines = All (Names L P C Q S) lines × IsCounted None lines
 
-  after : (a b : List Line) → AllName a → AllName b → AllName (a ++ b)
-  after = All-append (Names L P Q)
+  pub after : (a b : List Line) → AllName a → AllName b → AllName (a ++ b)
+  after a b h k = (All-append (Names L P C Q S) a b h.0 k.0, counted_append None a b h.1 k.1)
 
-  word : (i : Instr) → AllName (one i)
-  word i = All-cons (Names L P Q) (Word i) [] tt (All-nil (Names L P Q))
+  pub nothing : AllName []
+  nothing = (All-nil (Names L P C Q S), tt)
+
+  -- a line that is no slot
+  abbrev pub IsPlain : Line → Type 0
+  IsPlain (Slot f) = ⊥
+  IsPlain line = Names L P C Q S line
+
+  pub then_line : (x : Line) (xs : List Line) → IsPlain x → AllName xs → AllName (x ∷ xs)
+  then_line (Word i) xs h k = (All-cons (Names L P C Q S) (Word i) xs h k.0, weaker (Some i) xs k.1)
+  then_line (Label l) xs h k = (All-cons (Names L P C Q S) (Label l) xs h k.0, k.1)
+  then_line (Jump rd l) xs h k = (All-cons (Names L P C Q S) (Jump rd l) xs h k.0, k.1)
+  then_line (Branch funct3 rs1 rs2 l) xs h k = (All-cons (Names L P C Q S) (Branch funct3 rs1 rs2 l) xs h k.0, k.1)
+  then_line (Entry rd f) xs h k = (All-cons (Names L P C Q S) (Entry rd f) xs h k.0, k.1)
+  then_line (Slot f) xs h k = absurd h
+
+  pub word : (i : Instr) → AllName (one i)
+  word i = then_line (Word i) [] tt nothing
 
   words : (i j : Instr) → AllName (two i j)
-  words i j = All-cons (Names L P Q) (Word i) (one j) tt (word j)
+  words i j = then_line (Word i) (one j) tt (word j)
 
   pub number_names : (n r : ℕ) → AllName (number_lines n r)
   unfolding number_lines
@@ -48,7 +84,7 @@ module _ (L P Q : ℕ → Type 0) where
       by_length false = words (Lui r (pos (upper_bits n))) (Addi r r (lower_bits n))
 
   entry_names : (r f : ℕ) → Q f → AllName (Entry r f ∷ [])
-  entry_names r f h = All-cons (Names L P Q) (Entry r f) [] h (All-nil (Names L P Q))
+  entry_names r f h = then_line (Entry r f) [] h nothing
 
   unary_names : (o r : ℕ) → AllName (unary_lines o r)
   unfolding unary_lines
@@ -81,8 +117,8 @@ module _ (L P Q : ℕ → Type 0) where
   narrow_names kind.UChar r = words (Slli r r (pos 24)) (Srli r r (pos 24))
   narrow_names kind.Short r = words (Slli r r (pos 16)) (Srai r r (pos 16))
   narrow_names kind.UShort r = words (Slli r r (pos 16)) (Srli r r (pos 16))
-  narrow_names kind.Int r = All-nil (Names L P Q)
-  narrow_names kind.UInt r = All-nil (Names L P Q)
+  narrow_names kind.Int r = nothing
+  narrow_names kind.UInt r = nothing
 
   -- ---- trees
 
@@ -119,10 +155,10 @@ module _ (L P Q : ℕ → Type 0) where
     -- ---- statements without control
 
     pub jump_names : (l : ℕ) → P l → AllName (Jump 0 l ∷ [])
-    jump_names l h = All-cons (Names L P Q) (Jump 0 l) [] h (All-nil (Names L P Q))
+    jump_names l h = then_line (Jump 0 l) [] (inl (refl, h)) nothing
 
     branch_names : (funct3 a b l : ℕ) → P l → AllName (Branch funct3 a b l ∷ [])
-    branch_names funct3 a b l h = All-cons (Names L P Q) (Branch funct3 a b l) [] h (All-nil (Names L P Q))
+    branch_names funct3 a b l h = then_line (Branch funct3 a b l) [] h nothing
 
     element_names : (h : Home) → AllName (element_lines h)
     element_names (home.Data at) = after (one (Slli first first (pos 2))) (two (Lui third (pos (upper_bits at))) (Add first first third)) (word (Slli first first (pos 2))) (words (Lui third (pos (upper_bits at))) (Add first first third))
@@ -131,9 +167,11 @@ module _ (L P Q : ℕ → Type 0) where
     test_names : (size : ℕ) → P (trap_label 2) → AllName (test_lines size)
     test_names size h = after (number_lines size third) (Branch 7 first third (trap_label 2) ∷ []) (number_names size third) (branch_names 7 first third (trap_label 2) h)
 
-    pub zero_names : (at n : ℕ) → AllName (zero_lines at n)
-    zero_names at zero = All-nil (Names L P Q)
-    zero_names at (suc n) = after (zero_lines at n) (one (Sw 2 0 (pos (at + 4 * n)))) (zero_names at n) (word (Sw 2 0 (pos (at + 4 * n))))
+    pub bounds_names : (at n : ℕ) → AllName (bounds_lines at n)
+    bounds_names at n = words (Addi first 2 (pos at)) (Addi second 2 (pos (at + 4 * n)))
+
+    pub clear_names : AllName clear_lines
+    clear_names = words (Sw first 0 (pos 0)) (Addi first first (pos 4))
 
     abbrev Fs : Tree → Type 0
     Fs t = All Q (tree_functions t)

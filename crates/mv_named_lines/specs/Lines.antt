@@ -1,56 +1,89 @@
 -- What the lines of code name: labels where they jump, and functions where they call one or take its address.
-use Rattle.std.specs.Prelude.{ℕ, ◌≡◌, ◌+◌, ◌<◌, ◌≤◌, ◌⊎◌, Bool, List, [], ◌++◌, All, Option}
-use Rattle.mv_ast.specs.declared.program.Known.{Known}
+use Rattle.std.specs.Prelude.{ℕ, suc, ◌≡◌, ◌+◌, ◌<◌, ◌≤◌, ◌⊎◌, Bool, true, List, [], ◌∷◌, All, length, Option, Some, None}
+use Rattle.mv_isa.specs.declared.instr.Instr.{Instr}
+use Rattle.mv_isa.specs.declared.instr.Instr.TheVariants.{Addi, Jal, Jalr}
 use Rattle.mv_isa.specs.declared.labelled.Line.{Line}
 use Rattle.mv_isa.specs.declared.labelled.Line.TheVariants.{Word, Label, Jump, Branch, Entry, Slot}
-use Rattle.mv_ir.specs.declared.tree.Tree.{Tree}
-use Rattle.mv_ir.specs.declared.stm.Callee.{Callee}
+use Rattle.mv_isa.specs.Code.{line_at, address, label_address, IsSizing}
 use Rattle.mv_ir.specs.declared.stm.Stm.{Stm}
+use Rattle.mv_tree_code.specs.TreeCode.{minus_one}
 use Rattle.mv_statement_code.specs.StatementCode.{trap_label}
-use Rattle.mv_flow_code.specs.FlowCode.{CallLines, Plan, code_of}
-use Rattle.mv_flow_code.specs.Labels.{callee_functions, functions_of_all, functions}
-use Rattle.mv_call_code.specs.CallCode.{calls_of}
-use Rattle.mv_call_code.specs.Environment.{IsDirect}
-use Rattle.mv_selected_bodies.specs.SelectedBodies.{knowns}
+use Rattle.mv_flow_code.specs.FlowCode.{code_of}
+use Rattle.mv_flow_code.specs.Labels.{functions}
+use Rattle.mv_call_code.specs.CallCode.{link_register, left_register, commit_label}
+use Rattle.mv_function_code.specs.FunctionCode.{Shape, plan, function_lines}
 
--- a label that stands is of one kind, one that is jumped to of another, and a function that is named of a third
-abbrev pub Names : (L P Q : ℕ → Type 0) → Line → Type 0
-Names L P Q (Word instr) = Unit {0}
-Names L P Q (Label l) = L l
-Names L P Q (Jump rd l) = P l
-Names L P Q (Branch funct3 rs1 rs2 l) = P l
-Names L P Q (Entry rd f) = Q f
-Names L P Q (Slot f) = Q f
+-- A label that stands is of one kind, one that is jumped to of another, and one that is called of a third; a function that is named is of a fourth, and one
+-- that stands in a slot of a fifth.
+abbrev pub Names : (L P C Q S : ℕ → Type 0) → Line → Type 0
+Names L P C Q S (Word instr) = Unit {0}
+Names L P C Q S (Label l) = L l
+Names L P C Q S (Jump rd l) = ((rd ≡ 0) × P l) ⊎ ((rd ≡ link_register) × C l)
+Names L P C Q S (Branch funct3 rs1 rs2 l) = P l
+Names L P C Q S (Entry rd f) = Q f
+Names L P C Q S (Slot f) = S f
 
--- so are what the lines of calls name, of functions and of input and output
-pub record CallsAreNamed (L P Q : ℕ → Type 0) (calls : CallLines) : Type 0 where
-  pub call : (r : Option ℕ) (f : Callee) (args : List Tree) → All Q (callee_functions f ++ functions_of_all args) → All (Names L P Q) (calls.call r f args)
-  pub known : (r : Option ℕ) (k : Known) (args : List Tree) → IsDirect k → All Q (functions_of_all args) → All (Names L P Q) (calls.known r k args)
+-- ---- slots
 
--- What code may name: its own labels, the end of the function, the stubs of the traps 1 and 2, the functions that it names, and of the known functions
--- input and output alone.
-pub record MayName (L P Q : ℕ → Type 0) (plan : Plan) (label : ℕ) (code : List Stm) : Type 0 where
-  pub own : (l : ℕ) → label ≤ l → l < label + (code_of plan code).labels → L l × P l
-  pub end : P plan.end
-  pub division : P (trap_label 1)
-  pub index : P (trap_label 2)
-  pub functions : All Q (functions code)
-  pub knowns : All IsDirect (knowns code)
+-- the word that counts a call: one less is left
+abbrev pub counts_call : Instr
+counts_call = Addi left_register left_register minus_one
 
--- ---- the code of a function with so many labels, in a program with so many functions
+-- Before each slot stands the word that counts the call, given the instruction before the lines, if there is one.
+abbrev pub IsCounted : Option Instr → List Line → Type 0
+IsCounted before [] = Unit {0}
+IsCounted before (Slot f ∷ lines) = (before ≡ Some counts_call) × IsCounted None lines
+IsCounted before (Word i ∷ lines) = IsCounted (Some i) lines
+IsCounted before (_ ∷ lines) = IsCounted None lines
+
+-- a line that puts the address behind it into a register
+abbrev pub Links : Line → Type 0
+Links (Jump rd l) = Unit {0}
+Links (Word (Jal rd imm)) = Unit {0}
+Links (Word (Jalr rd rs1 imm)) = Unit {0}
+Links (Slot f) = Unit {0}
+Links _ = ⊥
+
+-- ---- the code of a function with so many labels
 
 -- a label of the function, or of a stub of the traps 1 to 4
 abbrev pub IsGoal : (labels : ℕ) → ℕ → Type 0
 IsGoal labels l = (l < labels) ⊎ ((trap_label 1 ≤ l) × (l ≤ trap_label 4))
 
--- what a line names is there
-abbrev pub NamesThere : (labels functions : ℕ) → Line → Type 0
-NamesThere labels functions = Names (λ l. l < labels) (IsGoal labels) (λ f. f < functions)
+-- a line names these labels and functions, and in a slot stands an attributed one
+abbrev pub NamesThese : (labels : ℕ) (is_named is_attributed : ℕ → Bool) → Line → Type 0
+NamesThese labels is_named is_attributed =
+    Names (λ l. l < labels) (IsGoal labels) (λ l. l ≡ commit_label) (λ f. is_named f ≡ true) (λ f. (is_named f ≡ true) × (is_attributed f ≡ true))
 
--- Code that names functions that there are, and asks for input and output alone, jumps to its own labels, the end of its function and the stubs of the
--- traps, and names no other functions.
+module _ (place size : ℕ → ℕ) (is_attributed : ℕ → Bool) (shape : Shape) (code : List Stm) where
+  abbrev lines : List Line
+  lines = function_lines place size is_attributed shape code
+
+  -- how many labels the code of a function has: that of its end, and those of its statements
+  abbrev pub labels_of : ℕ
+  labels_of = suc (code_of (plan place size is_attributed shape) code).labels
+
+  -- It jumps to labels of the function and to the stubs of traps, calls the stub of orders and polls and no other label, and names only functions that the
+  -- statements name, those in slots attributed.
+  abbrev pub IsNamed : Type 0
+  IsNamed = (is_named : ℕ → Bool) → All (λ f. is_named f ≡ true) (functions code) → All (NamesThese labels_of is_named is_attributed) lines
+
+  -- no label stands at its first word, wherever it stands
+  abbrev pub FirstIsNoLabel : Type 0
+  FirstIsNoLabel = (base : ℕ) (sizing : List ℕ) → IsSizing lines sizing → (l : ℕ) → base + 4 ≤ label_address base lines sizing l
+
+  -- no address that one of its lines puts into a register is the first word of a slot
+  abbrev pub LinksAreNoSlots : Type 0
+  LinksAreNoSlots =
+      (base : ℕ) (sizing : List ℕ) → IsSizing lines sizing → (j k f : ℕ) → j < length lines → k < length lines → Links (line_at lines j) → line_at lines k ≡ Slot f →
+      address base sizing (j + 1) ≡ address base sizing k → ⊥
+
+-- It is so of the code of every function.
 abbrev pub LinesAreNamed : Type 0
-LinesAreNamed =
-    (labels count : ℕ) (plan : Plan) (place : ℕ → ℕ) (is_attributed : ℕ → Bool) (code : List Stm) (label : ℕ) → plan.calls ≡ calls_of place is_attributed →
-    plan.end < labels → label + (code_of plan code).labels ≤ labels → All (λ f. f < count) (functions code) → All IsDirect (knowns code) →
-    All (NamesThere labels count) ((code_of plan code).lines [] label)
+LinesAreNamed = (place size : ℕ → ℕ) (is_attributed : ℕ → Bool) (shape : Shape) (code : List Stm) → IsNamed place size is_attributed shape code
+
+abbrev pub FirstsAreNoLabels : Type 0
+FirstsAreNoLabels = (place size : ℕ → ℕ) (is_attributed : ℕ → Bool) (shape : Shape) (code : List Stm) → FirstIsNoLabel place size is_attributed shape code
+
+abbrev pub NoLinkIsSlot : Type 0
+NoLinkIsSlot = (place size : ℕ → ℕ) (is_attributed : ℕ → Bool) (shape : Shape) (code : List Stm) → LinksAreNoSlots place size is_attributed shape code

@@ -1,10 +1,15 @@
-//! What selected code names: its jumps go to its own labels and the stubs of traps, and it calls the functions that the body names.
+//! What selected code names: its jumps go to its own labels and the stubs, and it calls the functions that the body names.
 #![tactic(auto)]
 
-ghost use Rattle.mv_named_lines.specs.Lines.{LinesAreNamed};
+ghost use Rattle.mv_named_lines.specs.Lines.{FirstsAreNoLabels, LinesAreNamed, NoLinkIsSlot};
 
-/// The code of statements that name functions that there are, and ask for input and output alone, jumps to labels of its own, the
-/// end of its function and the stubs of the traps 1 to 4, and names no other functions. The call does nothing: its contract is the law.
+/// What the code of a function names. The call does nothing: its contract is the law.
+///
+/// `names`: it jumps to labels of its own and the stubs of the traps 1 to 4, calls the stub of orders and polls and no other label, and names no function
+/// that its statements don't name; those that stand in slots are attributed. `first`: wherever it stands, each label is behind its first word, so that no
+/// jump but a call leads there. `links`: and no address that one of its lines puts into a register is the first word of a slot.
 pub fn lines_are_named()
-    ensures { LinesAreNamed }
+    ensures names { LinesAreNamed }
+    ensures first { FirstsAreNoLabels }
+    ensures links { NoLinkIsSlot }
 {}

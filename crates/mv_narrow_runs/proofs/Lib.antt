@@ -2,4 +2,3 @@ pub mod Slots
 pub mod Narrow
 pub mod Bindings
 pub mod Forms
-pub mod Inline

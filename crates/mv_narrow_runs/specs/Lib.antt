@@ -1,3 +1,2 @@
 pub mod Narrowed
 pub mod Laws
-pub mod Inline

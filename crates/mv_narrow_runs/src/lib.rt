@@ -4,7 +4,6 @@
 //! the machine itself in such worlds.
 #![tactic(auto)]
 
-ghost use Rattle.mv_narrow_runs.specs.Inline.{InlinesAreDone};
 ghost use Rattle.mv_narrow_runs.specs.Laws.{BindingsAreTold, FirstsUnder, JumpsUnder, NarrowedAreAlike, NarrowedRuns, SlotsUnder};
 
 /// What words do whose text stands in some worlds only, over any memory `M`. The call does nothing: its contract is the law.
@@ -19,10 +18,4 @@ pub fn narrow_runs_law<M>()
     ensures slots { SlotsUnder M }
     ensures jumps { JumpsUnder M }
     ensures firsts { FirstsUnder M }
-{}
-
-/// The two instructions of an inline body do what the body means, over any memory `M`, wherever they stand in text: where it does nothing, returns a number, a
-/// parameter or a scalar, or stores a parameter to a scalar. The call does nothing: its contract is the law.
-pub fn inline_bodies_law<M>()
-    ensures { InlinesAreDone M }
 {}

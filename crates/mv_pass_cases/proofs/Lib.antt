@@ -1,1 +1,4 @@
 pub mod Empty
+pub mod Idle
+pub mod Leaves
+pub mod Small

@@ -1,10 +1,12 @@
-//! Small bodies, and what the passes over intermediate code make of them, worked out by hand.
+//! Small programs and bodies, and what the passes between checking and selection make of them, worked out by hand.
 #![tactic(auto)]
 
 #[cfg(test)]
 mod clone;
 #[cfg(test)]
 mod fold;
+#[cfg(test)]
+mod lower;
 #[cfg(test)]
 mod merge;
 #[cfg(test)]

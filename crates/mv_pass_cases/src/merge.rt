@@ -90,13 +90,3 @@ fn a_range_spans_no_gap(rt: HostRuntime) -> Result<(), Fail> {
     assert_eq!(rt; taken(alloc, &variants)?.as_slice(), &expected[..]);
     Ok(())
 }
-
-#[test]
-fn equal_bodies_are_one_variant_with_several_rows(rt: HostRuntime) -> Result<(), Fail> {
-    let alloc = rt.alloc();
-    let variants = merged(alloc, &[0, 4], 5)?;
-    assert_eq!(rt; variants.bodies.len(), 1);
-    let expected = [Some(0), None, None, None, Some(0), None, None];
-    assert_eq!(rt; taken(alloc, &variants)?.as_slice(), &expected[..]);
-    Ok(())
-}

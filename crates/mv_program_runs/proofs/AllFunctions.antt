@@ -12,6 +12,7 @@ use Rattle.mv_isa.specs.declared.instr.Instr.{Instr}
 use Rattle.mv_isa.specs.Standing.{InstrStands}
 use Rattle.mv_isa.specs.Execution.{Access, reg}
 use Rattle.mv_ir.specs.Combinations.{IsCombination}
+use Rattle.mv_ir.specs.Meaning.{cleared}
 use Rattle.mv_ir.specs.KnownFunctions.{seen_from}
 use Rattle.mv_ir.specs.World.{World, Setting}
 use Rattle.mv_ir.specs.Outcome.{End, Stuck, Call, Bound}
@@ -25,7 +26,8 @@ use Rattle.mv_flow_code.specs.Runs.{Machine, outside}
 use Rattle.mv_call_code.specs.CallCode.{link_register}
 use Rattle.mv_call_code.specs.Convention.{Layout, IsTarget, Stands, Enters, FollowsCall, Answers, entry_cost, slot_cost, Convention, Conventions}
 use Rattle.mv_function_code.specs.Functions.{FunctionsKeep, LaterKeeps}
-use Rattle.mv_narrow_runs.specs.Inline.{InlinesAreDone}
+use Rattle.mv_inline_bodies.specs.InlineOf.{inline_of}
+use Rattle.mv_inline_bodies.specs.Laws.{InlineAnswers}
 use Rattle.mv_narrow_runs.specs.Narrowed.{has_bindings, words_alone, under, LeavesTrue}
 use Rattle.mv_narrow_runs.specs.Laws as narrow
 use Rattle.mv_source_calls.specs.SourceCalls.{as_call, any_frame, meaningless, call_by_source, source_call, source_levels}
@@ -49,7 +51,7 @@ pub record Known (M : Type 0) : Type 0 where
   pub slots : narrow.SlotsUnder M
   pub jumps : narrow.JumpsUnder M
   pub firsts : narrow.FirstsUnder M
-  pub inlines : InlinesAreDone M
+  pub inlines : InlineAnswers M
 
 module _ {M : Type 0} (access : Access M) (y : Layout) (machine : Machine M) (words : List Binding → ℕ → Option ℕ) (budget far : ℕ) (p : Program) (numbers : List ℕ)
     (loaded : IsLoaded access y machine words budget far p numbers) (known : Known M) where
@@ -149,7 +151,7 @@ module _ {M : Type 0} (access : Access M) (y : Layout) (machine : Machine M) (wo
 
         slot_is_bound : (vs : List ℕ) → IsBoundIn bs (attributed_before p.functions f) vs → (combination : IsCombination (map (switch_domain p) g.switches) vs) → length vs ≡ length g.switches →
             FC spare i (at + 8) (Source f depth frames args w).end
-        slot_is_bound vs bound combination fitting = by v.inline refl
+        slot_is_bound vs bound combination fitting = by (inline_of y.place v.body) refl
           where
             v : IsVariant y machine.text words p numbers f g vs
             v = s.variants vs combination
@@ -162,17 +164,17 @@ module _ {M : Type 0} (access : Access M) (y : Layout) (machine : Machine M) (wo
                 (subst (λ (xs : List Binding). IsBoundIn xs (attributed_before p.functions f) vs) ((known.told bs u.bindings).0 t) bound) stands enters (omega (arith, paid)) asked
 
             -- by two instructions
-            inlined : (both : Instr × Instr) → v.inline ≡ Some both → InstrStands (words bs) at both.0 × InstrStands (words bs) (at + 4) both.1 → FC spare i (at + 8) (Source f depth frames args w).end
+            inlined : (both : Instr × Instr) → inline_of y.place v.body ≡ Some both → InstrStands (words bs) at both.0 × InstrStands (words bs) (at + 4) both.1 → FC spare i (at + 8) (Source f depth frames args w).end
             inlined both e stand =
                 let a = known.alike access y machine (has_bindings bs) (words_alone (words bs)) budget far in
                 let done =
-                known.inlines access y setting (zip (lower_function p g).switches vs) v.body both.0 both.1 stand.0.fields stand.1.fields (v.shape both e) host.laid (under machine words bs)
-                ((known.narrowed access y machine (has_bindings bs)).2 (words_alone (words bs)) host.memory) (host.runs_under bs) budget far at stand.0.word stand.1.word (host.slots at f slot).0 levels depth frames args i (count ∙ sym v.params) in
-                promised access y machine words budget far p numbers loaded known.right k below f depth frames args g here count 2 47 spare i (at + 8) _ (Source f depth frames args w) (omega arith)
-                (variant_promises access y machine words budget far p numbers loaded known.right k below f depth frames args g here count is vs combination fitting known.frames_bound done.0 w at i bound stands) paid
-                (λ enough. a.2 spare (length levels) i (at + 8) _ (done.1 spare w ((a.0 at w i holds).0 stands) ((a.1 depth frames args i).0 enters) enough asked))
+                known.inlines access y host.laid (under machine words bs) ((known.narrowed access y machine (has_bindings bs)).2 (words_alone (words bs)) host.memory) (host.runs_under bs) setting budget far levels
+                true (zip (lower_function p g).switches vs) v.is_read v.is_fine v.body v.fits both.0 both.1 e at (host.slots at f slot).0 stand.0 stand.1 depth frames args (count ∙ sym v.params) cleared (length levels) i in
+                promised access y machine words budget far p numbers loaded known.right k below f depth frames args g here count slot_cost slot_cost spare i (at + 8) _ (Source f depth frames args w) (omega arith)
+                (variant_promises access y machine words budget far p numbers loaded known.right k below f depth frames args g here count is vs combination fitting known.frames_bound cleared w at i bound stands) paid
+                (λ enough. a.2 spare (length levels) i (at + 8) _ (done spare w ((a.0 at w i holds).0 stands) ((a.1 depth frames args i).0 enters) enough asked))
 
-            by : (o : Option (Instr × Instr)) → v.inline ≡ o → FC spare i (at + 8) (Source f depth frames args w).end
+            by : (o : Option (Instr × Instr)) → inline_of y.place v.body ≡ o → FC spare i (at + 8) (Source f depth frames args w).end
             by None e =
                 known.slots access y host.laid machine (has_bindings bs) (words_alone (words bs)) (host.runs_under bs) budget far v.address at
                 (subst (SlotShows y machine.text words p numbers f g (words bs) at v.address) e (s.slot_bound bs at vs combination slot bound)) (host.slots at f slot).0 v.placed.1.here

@@ -30,7 +30,7 @@ use Rattle.mv_call_code.specs.Environment.{ServesCalls, ServesOrders, ServesKnow
 use Rattle.mv_call_code.specs.Laws.{IsLinked}
 use Rattle.mv_function_code.specs.FunctionCode.{bytes_of, later_lines, function_lines}
 use Rattle.mv_function_code.specs.Functions.{IsLaid, IsMemory, IsFunction, shape_of}
-use Rattle.mv_narrow_runs.specs.Inline.{IsInline}
+use Rattle.mv_inline_bodies.specs.InlineOf.{inline_of}
 use Rattle.mv_narrow_runs.specs.Narrowed.{narrowed, under}
 use Rattle.mv_narrow_runs.specs.Laws.{Runs}
 
@@ -83,8 +83,7 @@ module _ (y : Layout) (text : Text) (words : List Binding → ℕ → Option ℕ
     pub placed : Placed text place y.entry (function_lines y.place y.size is_attributed (shape_of false body) body.code) (y.entry f) next
 
   -- Code for an attributed function under values of its switches stands at an address. It was selected from a body that means the same there, at no greater
-  -- cost; and its calls may be replaced by two instructions that do what this body means, one of five
-  -- shapes.
+  -- cost.
   pub record IsVariant (vs : List ℕ) : Type 0 where
     pub address : ℕ
     pub body : Body
@@ -98,8 +97,6 @@ module _ (y : Layout) (text : Text) (words : List Binding → ℕ → Option ℕ
     pub is_attributed : ℕ → Bool
     pub next : ℕ
     pub placed : Placed text place y.entry (function_lines y.place y.size is_attributed (shape_of true body) body.code) address next
-    pub inline : Option (Instr × Instr)
-    pub shape : (both : Instr × Instr) → inline ≡ Some both → IsInline y (zip (lower_function p g).switches vs) body both.0 both.1
 
   -- the words of a slot of a function that is bound to a variant: a call of it, or its inline body
   abbrev pub SlotShows : (ℕ → Option ℕ) → ℕ → ℕ → Option (Instr × Instr) → Type 0
@@ -128,7 +125,7 @@ module _ (y : Layout) (text : Text) (words : List Binding → ℕ → Option ℕ
         InstrStands (words bs) (y.entry f) (Jal 0 (distance (y.entry f) (variants vs is).address))
     pub slot_free : (bs : List Binding) (at : ℕ) → text.slot at ≡ Some f → IsFreeIn bs (attributed_before p.functions f) → SlotStands (words bs) at (at + 8) (y.entry f)
     pub slot_bound : (bs : List Binding) (at : ℕ) (vs : List ℕ) (is : IsCombination (map (switch_domain p) g.switches) vs) → text.slot at ≡ Some f →
-        IsBoundIn bs (attributed_before p.functions f) vs → SlotShows (words bs) at (variants vs is).address (variants vs is).inline
+        IsBoundIn bs (attributed_before p.functions f) vs → SlotShows (words bs) at (variants vs is).address (inline_of y.place (variants vs is).body)
 
   -- the code of a function
   pub record IsSelected : Type 0 where

@@ -8,7 +8,8 @@ ghost use Rattle.mv_program_runs.specs.Laws.{FunctionsKeepConvention, HostsAreNa
 
 use mv_fit_worlds::{fit_frames_law, fit_worlds_law};
 use mv_function_code::function_code_law;
-use mv_narrow_runs::{inline_bodies_law, narrow_runs_law};
+use mv_inline_bodies::inline_law;
+use mv_narrow_runs::narrow_runs_law;
 use mv_source_calls::{bodies_are_right, calls_keep_bindings, main_ends_alike, main_is_right};
 
 /// The code of a well-formed program does what the program means, over any memory `M`, where the code of each function stands on a machine for the program.
@@ -25,7 +26,7 @@ pub fn programs_keep<M>()
 {
     function_code_law::<M>();
     narrow_runs_law::<M>();
-    inline_bodies_law::<M>();
+    inline_law::<M>();
     fit_frames_law();
     bodies_are_right();
     calls_keep_bindings();

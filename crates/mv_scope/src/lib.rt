@@ -9,5 +9,3 @@ pub mod meaning;
 pub mod scope;
 pub mod signatures;
 pub mod space;
-#[cfg(test)]
-mod tests;

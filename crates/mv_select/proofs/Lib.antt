@@ -5,4 +5,3 @@ pub mod Selecting
 pub mod SelectedLines
 pub mod Totals
 pub mod Within
-pub mod Worked

@@ -11,8 +11,8 @@ use Rattle.mv_ir.specs.WellFormed.{layer_named, stm_named}
 use Rattle.mv_ir.proofs.Induction.{Each, StmChildren, stm_ind, stms_ind}
 use Rattle.mv_ir.proofs.Rolls.{named_roll}
 use Rattle.mv_statement_code.specs.declared.elements.Home.TheVariants as place_at
-use Rattle.mv_statement_code.specs.StatementCode.{read_lines, write_lines, zero_lines}
-use Rattle.mv_flow_code.specs.FlowCode.{Plan, Emitted, in_turn, plain, if_code, loop_code, block_code, home, size, code_layer, statement_code, code_of}
+use Rattle.mv_statement_code.specs.StatementCode.{read_lines, write_lines}
+use Rattle.mv_flow_code.specs.FlowCode.{Plan, Emitted, in_turn, plain, zero_code, if_code, loop_code, block_code, home, size, code_layer, statement_code, code_of}
 use Rattle.mv_flow_code.proofs.StatementsDo.{code_roll}
 use Rattle.mv_selected_bodies.proofs.Lists.{each_front, each_back}
 
@@ -49,7 +49,7 @@ module _ (plan : Plan) (places : ℕ → ℕ) (There : Array → Type 0) (same :
   layer (stm.Check a i) h all = refl
   layer (stm.Read t a i) h all = ap (λ home. plain (read_lines plan.place t home (size plan a) i)) (home_same a all.0)
   layer (stm.Write a i v) h all = ap (λ home. plain (write_lines plan.place home (size plan a) i v)) (home_same a all.0)
-  layer (stm.Zero a) h all = ap (λ at. plain (zero_lines at (plan.array_size a))) (same a all.0)
+  layer (stm.Zero a) h all = ap (λ at. zero_code at (plan.array_size a)) (same a all.0)
   layer (stm.If t a b) h all =
       let in_a = joined (map stm_named a) in
       let in_b = joined (map stm_named b) in

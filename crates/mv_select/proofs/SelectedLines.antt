@@ -1,22 +1,18 @@
 -- The lines of a whole body: its labels, what it names, and its encodings.
 use Rattle.std.proofs.Common.{◌≡◌, ⊎_elim, ℕ, suc, ◌+◌, ◌*◌, ◌<◌, Bool, cond, List, [], ◌∷◌, ◌++◌, All, count_by, refl, ap, subst, arith, eq-eqb}
-use Rattle.std.specs.Prelude.{slice_index}
 use Rattle.std.proofs.lemmas.Bool.{cases_lt, ne_eqb}
 use Rattle.std.proofs.lemmas.List.Elements.{All-append, All-cons, All-nil}
 use Rattle.mv_isa.specs.declared.labelled.Line.{Line}
 use Rattle.mv_isa.specs.declared.labelled.Line.TheVariants.{Label}
 use Rattle.mv_isa.specs.Code.{LineFits, StandsOnce, TargetStands, is_label}
 use Rattle.mv_ir.specs.declared.body.Body.{Body}
-use Rattle.mv_ir.specs.Measures.{tree_nodes, statements}
-use Rattle.mv_ir.proofs.Rolls.{same_functions}
 use Rattle.mv_tree_code.specs.Rooms.{place_in}
 use Rattle.mv_statement_code.specs.Encoded.{IsCode}
 use Rattle.mv_statement_code.proofs.EncodedCode.{both, wider}
 use Rattle.mv_flow_code.specs.declared.enclosing.Enclosing.{Enclosing}
 use Rattle.mv_flow_code.specs.FlowCode.{Emitted, code_of}
-use Rattle.mv_flow_code.specs.Encoded.{more}
+use Rattle.mv_flow_code.specs.Encoded.{most_words}
 use Rattle.mv_flow_code.specs.Labels.{Names, CallsName, OwnLabels}
-use Rattle.mv_flow_code.specs.Layouts.{array_size_in}
 use Rattle.mv_flow_code.proofs.FlowEncoded.{flow_encoded}
 use Rattle.mv_flow_code.proofs.LabelsOwn.{count_append, none, silent_own, both_own, labels_own}
 use Rattle.mv_flow_code.proofs.TargetsStand.{targets_stand}
@@ -24,12 +20,12 @@ use Rattle.mv_call_code.specs.CallCode.{is_marked}
 use Rattle.mv_call_code.specs.Lines.{StubsStand}
 use Rattle.mv_call_code.proofs.CallsEncoded.{calls_encoded}
 use Rattle.mv_call_code.proofs.CallsName.{calls_have_no_labels, call_targets_stand}
-use Rattle.mv_function_code.specs.FunctionCode.{frame_bytes, arrays_start, prologue_lines, epilogue_lines}
+use Rattle.mv_function_code.specs.FunctionCode.{frame_bytes, prologue_lines, epilogue_lines}
 use Rattle.mv_function_code.proofs.EncodedFrames.{frames_encoded}
-use Rattle.mv_select.specs.Selected.{spaces_behind, layout_in, plan_of, selected_lines}
+use Rattle.mv_select.specs.Selected.{layout_in, plan_of, selected_lines}
 use Rattle.mv_select.specs.Laws.{greatest_length, SelectedIsEncoded, SelectedLabelsAreOwn, SelectedTargetsStand, SelectedBegins}
 use Rattle.mv_select.proofs.EntryLines.{prologue_words, epilogue_words, words_name, words_stand}
-use Rattle.mv_select.proofs.Layouts.{calls_in, sizes_are, arrays_within, layout_code}
+use Rattle.mv_select.proofs.Layouts.{calls_in, arrays_within, layout_code}
 use Rattle.mv_select.proofs.Within.{has_small_code}
 
 module _ (attributed : Bool) (body : Body) where
@@ -111,15 +107,13 @@ selected_encoded attributed body suitable fits =
     let start = entry attributed body in
     let stop = return attributed body in
     let lines = (inner attributed body).lines [] 1 in
-    let spaces = spaces_behind (arrays_start body.temps) body.arrays in
-    let n = 2 * tree_nodes body.code + 9 * statements body.code + more (array_size_in spaces) 16 body.code in
-    let sizes = ap (λ s. more s 16 body.code) (same_functions (array_size_in spaces) (slice_index body.arrays) (sizes_are (arrays_start body.temps) body.arrays)) in
+    let n = most_words body.code in
     let frames = frames_encoded attributed body.params body.temps (frame_bytes body.temps body.arrays) suitable.formed.params fits in
-    let over = flow_encoded (layout_in body) (arrays_within body fits) 16 (calls_in body) (calls_encoded (place_in body.rooms) (is_marked body.marked)) body.code
+    let over = flow_encoded (layout_in body) (arrays_within body fits) (calls_in body) (calls_encoded (place_in body.rooms) (is_marked body.marked)) body.code
     (has_small_code attributed body suitable fits).1 [] 1 in
     let within : IsCode n lines = subst (λ (c : Emitted). IsCode n (c.lines [] 1)) (layout_code attributed body suitable.formed) over in
     let end : IsCode 0 (Label 0 ∷ []) = (All-cons LineFits (Label 0) [] tt (All-nil LineFits), omega arith) in
-    wider (20 + (n + (0 + 13))) (greatest_length body) (selected_lines attributed body) (omega (arith, sizes))
+    wider (20 + (n + (0 + 13))) (greatest_length body) (selected_lines attributed body) (omega arith)
     (both 20 (n + (0 + 13)) start (lines ++ (Label 0 ∷ stop)) frames.0 (both n (0 + 13) lines (Label 0 ∷ stop) within (both 0 13 (Label 0 ∷ []) stop end frames.1)))
 
 -- ---- the first line

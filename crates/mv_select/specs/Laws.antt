@@ -1,23 +1,21 @@
 -- What is known of the code of a body.
-use Rattle.std.specs.Prelude.{ℕ, ◌≡◌, ◌+◌, ◌*◌, ◌<◌, ◌≤◌, Bool, List, ◌∷◌, All, slice_index, pos, ◌-ℤ◌}
+use Rattle.std.specs.Prelude.{ℕ, ◌≡◌, ◌+◌, ◌<◌, ◌≤◌, Bool, List, ◌∷◌, All, pos, ◌-ℤ◌}
 use Rattle.mv_isa.specs.declared.instr.Instr.TheVariants.{Addi}
 use Rattle.mv_isa.specs.declared.labelled.Line.{Line}
 use Rattle.mv_isa.specs.declared.labelled.Line.TheVariants.{Word}
 use Rattle.mv_isa.specs.Code.{StandsOnce, TargetStands}
 use Rattle.mv_ir.specs.declared.body.Body.{Body}
-use Rattle.mv_ir.specs.Measures.{tree_nodes, statements}
 use Rattle.mv_statement_code.specs.StatementCode.{trap_label}
 use Rattle.mv_statement_code.specs.Encoded.{IsCode}
-use Rattle.mv_flow_code.specs.Encoded.{more}
+use Rattle.mv_flow_code.specs.Encoded.{most_words}
 use Rattle.mv_flow_code.specs.Labels.{OwnLabels, functions}
 use Rattle.mv_call_code.specs.CallCode.{commit_label}
 use Rattle.mv_function_code.specs.FunctionCode.{frame_bytes}
 use Rattle.mv_select.specs.Selected.{selected_lines, selected_labels, IsSuitable, FitsFrame}
 
--- how many words the code of a body has at most: two for each node of a tree, nine for each statement, one for each element that is made 0, 16 for each
--- call, and 33 for entry and return
+-- how many words the code of a body has at most: those of its statements, and 33 for entry and return
 abbrev pub greatest_length : Body → ℕ
-greatest_length body = 33 + (2 * tree_nodes body.code + 9 * statements body.code + more (slice_index body.arrays) 16 body.code)
+greatest_length body = 33 + most_words body.code
 
 -- the code of a body has encodings, and few words
 abbrev pub SelectedIsEncoded : Type 0

@@ -9,6 +9,3 @@ mod selection;
 pub use laws::selection_law;
 pub use mv_inline_bodies::inline_of;
 pub use selection::select;
-
-#[cfg(test)]
-mod tests;

@@ -16,7 +16,7 @@ use Rattle.mv_tree_code.proofs.TreesAreShort.{number_size, trees_are_short}
 use Rattle.mv_tree_code.proofs.TreesFit.{one_fits, small_fits, lower_fits, upper_fits, count_fits, number_fits, register_below, trees_fit}
 use Rattle.mv_statement_code.specs.declared.elements.Home.{Home}
 use Rattle.mv_statement_code.specs.declared.elements.Home.TheVariants as home
-use Rattle.mv_statement_code.specs.StatementCode.{first, second, third, trap_label, write_temp, division, element_offset, element_lines, home_below, test_lines, zero_lines}
+use Rattle.mv_statement_code.specs.StatementCode.{first, second, third, trap_label, write_temp, division, element_offset, element_lines, home_below, test_lines, bounds_lines, clear_lines}
 use Rattle.mv_statement_code.specs.Encoded.{IsCode, IsSmall, AreEncoded, StatementsAreEncoded}
 
 -- ---- parts put together
@@ -77,12 +77,12 @@ test_code size =
     both 2 2 (number_lines size third) (Branch 7 first third (trap_label 2) ∷ []) (number_fits size third (omega arith), number_size size third)
     (branch 7 first third (trap_label 2) (inr (omega arith, omega arith)) (omega arith) (omega arith))
 
-zero_code : (at n : ℕ) → at + 4 * n ≤ 2032 → IsCode n (zero_lines at n)
-zero_code at zero h = (All-nil LineFits, omega arith)
-zero_code at (suc n) h =
-    let i = Sw 2 0 (pos (at + 4 * n)) in
-    wider (n + 1) (suc n) (zero_lines at n ++ one i) (omega arith)
-    (both n 1 (zero_lines at n) (one i) (zero_code at n (omega arith)) (single i (omega arith, omega arith, small_fits (at + 4 * n) (omega arith))))
+bounds_code : (at n : ℕ) → at + 4 * n ≤ 2032 → IsCode 2 (bounds_lines at n)
+bounds_code at n h =
+    pair (Addi first 2 (pos at)) (Addi second 2 (pos (at + 4 * n))) (omega arith, omega arith, small_fits at (omega (arith, h))) (omega arith, omega arith, small_fits (at + 4 * n) (omega (arith, h)))
+
+clear_code : IsCode 2 clear_lines
+clear_code = pair (Sw first 0 (pos 0)) (Addi first first (pos 4)) (omega arith, omega arith, small_fits 0 (omega arith)) (omega arith, omega arith, small_fits 4 (omega arith))
 
 -- ---- statements
 
@@ -106,7 +106,8 @@ module _ (place : ℕ → ℕ) where
         (both (2 * nodes v) 8 (tree_lines place v second) (test_lines size ++ (element_lines h ++ store h)) (tree_code v second (omega arith) k)
         (both 4 4 (test_lines size) (element_lines h ++ store h) (test_code size)
         (both 3 1 (element_lines h) (store h) (element_code h) (single (Sw first second (element_offset h)) (omega arith, omega arith, offset_fits h b)))));
-    zero = zero_code;
+    bounds = bounds_code;
+    clear = clear_code;
     returns = λ end v h. both (2 * nodes v) 1 (tree_lines place v first) (Jump 0 end ∷ []) (tree_code v first (omega arith) h) (jump end);
   }
     where

@@ -1,8 +1,7 @@
 -- What the code of statements is, one part at a time.
-use Rattle.std.proofs.Common.{◌≡◌, ◌≢◌, ℕ, zero, suc, ◌+◌, ◌*◌, [], ◌∷◌, ◌++◌, pos, refl, ap, arith, append_assoc}
-use Rattle.mv_isa.specs.declared.instr.Instr.TheVariants.{Sw, Addi, Div, Divu, Rem, Remu}
-use Rattle.mv_statement_code.specs.StatementCode.{first, second, division, zero_lines}
-use Rattle.mv_tree_code.specs.TreeCode.{one}
+use Rattle.std.proofs.Common.{◌≡◌, ◌≢◌, ℕ, zero, suc, pos, refl}
+use Rattle.mv_isa.specs.declared.instr.Instr.TheVariants.{Addi, Div, Divu, Rem, Remu}
+use Rattle.mv_statement_code.specs.StatementCode.{first, second, division}
 
 pub division_0 : division 0 ≡ Div first first second
 unfolding division
@@ -29,11 +28,3 @@ division_other (suc (suc (suc zero))) p q r s = absurd (s refl)
 division_other (suc (suc (suc (suc o)))) p q r s = refl
 
 pub ruleset divisions = (division_0, division_1, division_2, division_3, division_other)
-
-pub zero_none : (at : ℕ) → zero_lines at 0 ≡ []
-zero_none at = refl
-
-pub zero_next : (at n : ℕ) → zero_lines at (n + 1) ≡ zero_lines at n ++ one (Sw 2 0 (pos (at + 4 * n)))
-zero_next at n = let e : n + 1 ≡ suc n = omega arith in ap (zero_lines at) e
-
-pub ruleset zeros = (zero_none, zero_next, append_assoc)

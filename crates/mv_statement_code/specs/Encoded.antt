@@ -6,7 +6,7 @@ use Rattle.mv_ir.specs.declared.tree.Tree.{Tree}
 use Rattle.mv_ir.specs.Trees.{depth, nodes}
 use Rattle.mv_tree_code.specs.TreeCode.{temps_of}
 use Rattle.mv_statement_code.specs.declared.elements.Home.{Home}
-use Rattle.mv_statement_code.specs.StatementCode.{home_below, set_lines, set_global_lines, divide_lines, check_lines, read_lines, write_lines, zero_lines, return_lines}
+use Rattle.mv_statement_code.specs.StatementCode.{home_below, set_lines, set_global_lines, divide_lines, check_lines, read_lines, write_lines, bounds_lines, clear_lines, return_lines}
 
 -- the fields of lines fit, and they have at most n words
 abbrev pub IsCode : ℕ → List Line → Type 0
@@ -23,7 +23,8 @@ pub record AreEncoded (place : ℕ → ℕ) : Type 0 where
   pub check : (size : ℕ) (i : Tree) → IsSmall i → IsCode (2 * nodes i + 4) (check_lines place size i)
   pub read : (t size : ℕ) (h : Home) (i : Tree) → t < 507 → home_below h 2032 → IsSmall i → IsCode (2 * nodes i + 9) (read_lines place t h size i)
   pub write : (size : ℕ) (h : Home) (i v : Tree) → home_below h 2032 → IsSmall i → IsSmall v → IsCode (2 * nodes i + (2 * nodes v + 8)) (write_lines place h size i v)
-  pub zero : (at n : ℕ) → at + 4 * n ≤ 2032 → IsCode n (zero_lines at n)
+  pub bounds : (at n : ℕ) → at + 4 * n ≤ 2032 → IsCode 2 (bounds_lines at n)
+  pub clear : IsCode 2 clear_lines
   pub returns : (end : ℕ) (v : Tree) → IsSmall v → IsCode (2 * nodes v + 1) (return_lines place end v)
 
 -- wherever the globals stand, the code of statements without control is so

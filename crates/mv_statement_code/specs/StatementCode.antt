@@ -1,5 +1,5 @@
 -- The code of statements without control. Each tree of a statement is computed first, in written order.
-use Rattle.std.specs.Prelude.{ℕ, suc, zero, ◌+◌, ◌*◌, ◌≤◌, cond, ltb, List, [], ◌∷◌, ◌++◌, ℤ, pos, slice_index_or}
+use Rattle.std.specs.Prelude.{ℕ, ◌+◌, ◌*◌, ◌≤◌, cond, ltb, List, [], ◌∷◌, ◌++◌, ℤ, pos, slice_index_or}
 use Rattle.mv_isa.specs.declared.instr.Instr.{Instr}
 use Rattle.mv_isa.specs.declared.instr.Instr.TheVariants.{Lui, Lw, Sw, Addi, Slli, Add, Div, Divu, Rem, Remu}
 use Rattle.mv_isa.specs.declared.labelled.Line.{Line}
@@ -52,10 +52,13 @@ home_below (home.Frame at) bytes = at ≤ bytes
 abbrev pub test_lines : ℕ → List Line
 test_lines size = number_lines size third ++ (Branch 7 first third (trap_label 2) ∷ [])
 
--- so many words of the frame are made 0, from a place on
-abbrev pub zero_lines : ℕ → ℕ → List Line
-zero_lines at zero = []
-zero_lines at (suc n) = zero_lines at n ++ one (Sw 2 0 (pos (at + 4 * n)))
+-- the addresses of the first of so many words of the frame, from a place on, and of their end into the first two registers
+abbrev pub bounds_lines : ℕ → ℕ → List Line
+bounds_lines at n = two (Addi first 2 (pos at)) (Addi second 2 (pos (at + 4 * n)))
+
+-- the word at the address in the first register becomes 0, and the register goes on to the next word
+abbrev pub clear_lines : List Line
+clear_lines = two (Sw first 0 (pos 0)) (Addi first first (pos 4))
 
 -- ---- statements, given the address of each global
 

@@ -4,7 +4,7 @@ ghost use Rattle.std.specs.Prelude.{◌≡◌, ◌+◌, ◌*◌, ◌<◌, ◌≤
 ghost use Rattle.mv_ir.specs.Trees.{depth};
 ghost use Rattle.mv_tree_code.specs.TreeCode.{temps_of};
 ghost use Rattle.mv_tree_code.specs.Rooms.{place_in};
-ghost use Rattle.mv_statement_code.specs.StatementCode.{home_below, element_offset, element_lines, test_lines, check_lines, read_lines, write_lines, zero_lines};
+ghost use Rattle.mv_statement_code.specs.StatementCode.{home_below, element_offset, element_lines, test_lines, check_lines, read_lines, write_lines, bounds_lines, clear_lines};
 
 use crate::instructions::{FIRST, SECOND, THIRD, write_temp};
 use mv_ir::body::Room;
@@ -139,21 +139,41 @@ pub fn push_write(
     )
 }
 
-/// Makes so many words of the frame 0, from a place on.
-#[tactic(auto, using(crate::proofs::Equations::zeros))]
-pub fn push_zero(code: &mut List<Line>, at: u32, count: u32) -> Result<(), AllocError>
+/// Puts the addresses of the first of so many words of the frame, from a place on, and of their end into the first two registers.
+pub fn push_bounds(code: &mut List<Line>, at: u32, count: u32) -> Result<(), AllocError>
     requires { at + 4 * count ≤ 2032 }
-    ensures { OnOk result (code.new ≡ code.old ++ zero_lines at count) }
+    ensures { OnOk result (code.new ≡ code.old ++ bounds_lines at count) }
 {
-    for index in 0..count {
-        push_one(
-            code,
-            Instr::Sw {
-                rs1: 2,
-                rs2: 0,
-                imm: (at + 4 * index) as i32,
-            },
-        )?;
-    }
-    Ok(())
+    push_two(
+        code,
+        Instr::Addi {
+            rd: FIRST,
+            rs1: 2,
+            imm: at as i32,
+        },
+        Instr::Addi {
+            rd: SECOND,
+            rs1: 2,
+            imm: (at + 4 * count) as i32,
+        },
+    )
+}
+
+/// Makes the word at the address in the first register 0, and goes on to the next word.
+pub fn push_clear(code: &mut List<Line>) -> Result<(), AllocError>
+    ensures { OnOk result (code.new ≡ code.old ++ clear_lines) }
+{
+    push_two(
+        code,
+        Instr::Sw {
+            rs1: FIRST,
+            rs2: 0,
+            imm: 0,
+        },
+        Instr::Addi {
+            rd: FIRST,
+            rs1: FIRST,
+            imm: 4,
+        },
+    )
 }

@@ -8,6 +8,3 @@ pub mod values;
 
 pub use instructions::write_temp;
 pub use laws::statement_code_law;
-
-#[cfg(test)]
-mod tests;

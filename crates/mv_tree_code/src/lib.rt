@@ -11,6 +11,3 @@ pub use laws::tree_code_law;
 pub use leaves::{lower_bits, place_of, push_number, temp_offset, temp_register, upper_bits};
 pub use lines::{push_one, push_two};
 pub use trees::push_tree;
-
-#[cfg(test)]
-mod tests;

@@ -3,6 +3,4 @@
 
 mod flags;
 mod marks;
-#[cfg(test)]
-mod tests;
 pub mod uses;

@@ -19,7 +19,7 @@ returns-clause-functions g c access y machine words budget far p numbers loaded 
       slots = c.narrow_runs_law.ensures.slots;
       jumps = c.narrow_runs_law.ensures.jumps;
       firsts = c.narrow_runs_law.ensures.firsts;
-      inlines = c.inline_bodies_law.ensures;
+      inlines = c.inline_law.ensures.answers;
     }) bound
 
 pub returns-clause-main : goal.returns-clause-main
@@ -39,6 +39,6 @@ returns-clause-main g c access y machine words budget far p numbers loaded numbe
       slots = c.narrow_runs_law.ensures.slots;
       jumps = c.narrow_runs_law.ensures.jumps;
       firsts = c.narrow_runs_law.ensures.firsts;
-      inlines = c.inline_bodies_law.ensures;
+      inlines = c.inline_law.ensures.answers;
     }) c.function_code_law.ensures.main c.main_is_right.ensures c.main_ends_alike.ensures
     numbering input actions fit back i target ra begins stands bound

@@ -4,9 +4,11 @@ use Rattle.mv_ir.specs.declared.stm.Stm as at
 use Rattle.mv_isa.specs.declared.labelled.Line.TheVariants.{Jump}
 use Rattle.mv_tree_code.proofs.TreesRun.{and_left}
 use Rattle.mv_tree_code.specs.Rooms.{place_in}
-use Rattle.mv_statement_code.specs.StatementCode.{set_lines, set_global_lines, divide_lines, check_lines, read_lines, write_lines, zero_lines, return_lines}
-use Rattle.mv_flow_code.specs.FlowCode.{home, size, enclosing_at, if_code, loop_code, block_code, break_code, back_code, code_of}
-use Rattle.mv_flow_code.specs.Layouts.{plan_in, is_small_statement, are_small}
+use Rattle.mv_statement_code.specs.StatementCode.{set_lines, set_global_lines, divide_lines, check_lines, read_lines, write_lines, return_lines}
+use Rattle.mv_flow_code.specs.declared.layout.Space.{Space}
+use Rattle.mv_flow_code.specs.FlowCode.{home, size, enclosing_at, zero_code, if_code, loop_code, block_code, break_code, back_code, code_of}
+use Rattle.mv_flow_code.specs.Emitters.{emitted}
+use Rattle.mv_flow_code.specs.Layouts.{space_in, plan_in, is_small_statement, are_small}
 use Rattle.mv_flow_code.proofs.Emitting.{as_kind, as_plain, labels_of, labels_next, free_emitted, free_same, free_opened, free_turned, plain_emitted, opened_over, if_written}
 use Rattle.mv_flow_code.proofs.Equations.{code_set, code_setglobal, code_divide, code_check, code_read, code_write, code_zero, code_if, code_loop, code_block, code_break, code_back, code_call, code_known, code_return}
 use Rattle.mv_flow_code.proofs.Small.{small_set, small_set_global, small_divide, small_check, small_read, small_write, small_if, small_loop, small_block, small_calls, small_knowns, small_return, size_loop, size_block, size_if, size_at}
@@ -152,12 +154,23 @@ push_statement-returns-in-Write g t c =
     let s = c.args.statement.now in
     on_ok_weaker c.push_write_of.result (as_plain plan e s (at.Write c.in-Write.a c.in-Write.i c.in-Write.v) c.in-Write.is (write_lines plan.place (home plan c.in-Write.a) (size plan c.in-Write.a) c.in-Write.i c.in-Write.v) c.push_write_of.new.code (code_write plan c.in-Write.a c.in-Write.i c.in-Write.v)) c.push_write_of.ensures
 
+pub push_statement-push_zero-requires : goal.push_statement-push_zero-requires
+push_statement-push_zero-requires g t c =
+    let plan = plan_in c.args.layout.now (g.C.CallCode.lines c.args.calls.now) in
+    let e = c.args.emitter.now in
+    let a = c.in-Zero.a in
+    let code = zero_code (plan.array_at a) (plan.array_size a) in
+    let labels : e.free + code.labels < 2 ^ 32 = labels_of plan e c.args.statement.now (at.Zero a) c.in-Zero.is code (code_zero plan a) c.requires.labels in
+    record { within = c.space_of.ensures.within; label = omega (arith, labels) }
+
 pub push_statement-returns-in-Zero : goal.push_statement-returns-in-Zero
 push_statement-returns-in-Zero g t c =
     let plan = plan_in c.args.layout.now (g.C.CallCode.lines c.args.calls.now) in
     let e = c.args.emitter.now in
-    let s = c.args.statement.now in
-    on_ok_weaker c.push_zero_of.result (as_plain plan e s (at.Zero c.in-Zero.a) c.in-Zero.is (zero_lines (plan.array_at c.in-Zero.a) (plan.array_size c.in-Zero.a)) c.push_zero_of.new.code (code_zero plan c.in-Zero.a)) c.push_zero_of.ensures
+    let a = c.in-Zero.a in
+    let code = zero_code (plan.array_at a) (plan.array_size a) in
+    let space = c.space_of.ensures.value ∙ ap (λ l. space_in l a) c.as_slice.ensures in
+    on_ok_weaker c.push_zero.result (λ h. as_kind plan e c.args.statement.now (at.Zero a) c.in-Zero.is code c.push_zero.new.self (code_zero plan a) (h ∙ ap (λ (x : Space). emitted e (zero_code x.at x.size)) space)) c.push_zero.ensures
 
 pub push_statement-returns-in-Call : goal.push_statement-returns-in-Call
 push_statement-returns-in-Call g t c =

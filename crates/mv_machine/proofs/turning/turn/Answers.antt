@@ -33,4 +33,4 @@ returns-in-Memory-clause-moves g c =
     let x = seen c.args.hart.now c.args.memory.now (g.I.Source.left c.args.source.now) (g.O.Sink.written c.args.sink.now) in
     let f = c.in-Some.ensures in
     let still = same_seen c.args.hart.now c.step_word.new.hart c.args.memory.now c.step_word.new.memory (g.I.Source.left c.args.source.now) (g.O.Sink.written c.args.sink.now) c.in-Memory.ensures.stays.0 c.in-Memory.ensures.stays.1 in
-    inr (f.0, f.1, f.2, (still, wanting x f.0 c.in-Some.word f.3 c.in-Memory.ensures.wants.0 c.in-Memory.ensures.wants.1))
+    inr (f.0, f.1, f.2, (still, wanting x f.0 c.in-Some.word f.3 c.in-Memory.ensures.wants.0 c.in-Memory.ensures.wants.1 c.in-Memory.ensures.gives))

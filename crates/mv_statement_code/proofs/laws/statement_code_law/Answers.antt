@@ -1,7 +1,7 @@
 use Rattle.mv_statement_code.proofs.ScalarStatements.{set_done, set_global_done, divide_done, return_done}
 use Rattle.mv_statement_code.proofs.ArrayStatements.{check_done, read_done, write_done}
 use Rattle.mv_statement_code.proofs.EncodedCode.{statements_are_encoded}
-use Rattle.mv_statement_code.proofs.ZeroStatement.{zero_done}
+use Rattle.mv_statement_code.proofs.ZeroStatement.{bounds_done, clear_done}
 use Rattle.mv_statement_code.proofs.laws.statement_code_law.Goals as goal
 
 pub returns-clause-encoded : goal.returns-clause-encoded
@@ -15,6 +15,7 @@ returns-clause-done g c access s setting frame fit = record {
   check = check_done access s setting frame fit;
   read = read_done access s setting frame fit;
   write = write_done access s setting frame fit;
-  zero = zero_done access s setting frame fit;
+  bounds = bounds_done access s setting frame fit;
+  clear = λ a n l. clear_done access s setting frame fit a l n;
   returns = return_done access s setting frame fit;
 }

@@ -1,0 +1,3 @@
+pub mod OwnWords
+pub mod Sizes
+pub mod Texts

@@ -1,0 +1,51 @@
+-- How many words the text of a program has, and how many sites.
+use Rattle.std.specs.Prelude.{ℕ, ◌+◌, ◌*◌, ◌<◌, ◌≤◌, ◌≡◌, List, length, map, sum, Some, slice_get}
+use Rattle.mv_ast.specs.declared.program.Program.{Program}
+use Rattle.mv_ast.specs.declared.program.Function.{Function}
+use Rattle.mv_ast.specs.Counts.{nodes, calls, assignments}
+use Rattle.mv_ast.specs.Plans.{attributed_functions}
+use Rattle.mv_isa.specs.declared.labelled.Labelled.{Labelled}
+use Rattle.mv_ir.specs.declared.body.Body.{Body}
+use Rattle.mv_lowered_programs.specs.WellFormed.{IsWellFormed}
+use Rattle.mv_bound_bodies.specs.Slots.{AtMost}
+use Rattle.mv_select.specs.Selected.{IsSuitable, IsSelected}
+use Rattle.mv_linker.specs.declared.parts.Parts.{Parts}
+use Rattle.mv_linker.specs.declared.error.LinkError.TheVariants.{TextLimit}
+use Rattle.mv_linker.specs.Outcome.{IsRefusal}
+use Rattle.mv_code_sizes.specs.Sizes.{IsBodyOf}
+
+-- ---- text
+
+-- the code of a function, which is that of one of its bodies
+pub record IsCodeOf (p : Program) (g : Function) (code : Labelled) : Type 0 where
+  pub body : Body
+  pub of : IsBodyOf p g body
+  pub suitable : IsSuitable body
+  pub selected : IsSelected g.attributed body code
+
+-- one for each function, in order
+pub record HaveCode (p : Program) (codes : List Labelled) : Type 0 where
+  pub one_each : length codes ≡ length p.functions
+  pub each : (f : ℕ) (g : Function) (code : Labelled) → slice_get p.functions f ≡ Some g → slice_get codes f ≡ Some code → IsCodeOf p g code
+
+-- 400 words for the stubs, and forty for each node of a function and for its entry and return, once and once more for each assignment of its switches
+abbrev pub text_count : Program → ℕ
+text_count p = 400 + 40 * sum (map (λ g. (1 + nodes g) * (1 + assignments p g)) p.functions)
+
+-- Where the linked code of a program's functions passes the limit of text, the count does.
+abbrev pub TextsPass : Type 0
+TextsPass =
+    (p : Program) → IsWellFormed p → (parts : Parts) → HaveCode p parts.functions → (words : ℕ) → IsRefusal parts (TextLimit words) → 131072 < text_count p
+
+-- ---- sites
+
+-- the direct calls of attributed functions, once and once more for each assignment
+abbrev pub site_count : Program → ℕ
+site_count p = sum (map (λ g. calls p g * (1 + assignments p g)) p.functions)
+
+-- Where each function's own code has no more slots than calls, and the variants of each attributed one no more than that for each assignment, all have no
+-- more than the count.
+abbrev pub SitesAreFew : Type 0
+SitesAreFew =
+    (p : Program) (own variants : List ℕ) → AtMost (calls p) p.functions own → AtMost (λ g. calls p g * assignments p g) (attributed_functions p) variants →
+    sum own + sum variants ≤ site_count p

@@ -1,0 +1,33 @@
+//! How large the code of a program's functions and their frames are, by counts over the source.
+#![tactic(auto)]
+
+ghost use Rattle.mv_code_sizes.specs.Sizes.{CodeIsShort, FramesFit, FramesPass, LinesAreShort, VariantsAreShort};
+ghost use Rattle.mv_code_sizes.specs.Texts.{SitesAreFew, TextsPass};
+
+use mv_bound_bodies::{made_bodies_are_variants, rows_lead_to_variants, slots_are_counted};
+use mv_lowered_forms::lowered_forms_are_right;
+use mv_select::selection_law;
+
+/// The code of the functions of a well-formed program is bounded by counts over the source, so a refusal of a frame, of text or of sites never comes
+/// below these counts. The call does nothing: its contract is the law.
+///
+/// `code`: of each body of a function, its own or a variant, the statements and trees take, with entry and return, at most forty words for each node and
+/// forty more. `lines`: so do the lines of its code, each branch taken for two. `variants`: a function's own body and its variants take together no more
+/// than that once, and once more for each assignment. `frames`: the frame of each body is small enough where the declared words and eight for each level
+/// of the depth are at most 480; `passes`: so where a frame passes the limit these are more. `text`: where the text of a program passes its limit, so
+/// does its count over the source. `sites`: all slots are no more than the calls, once and once more for each assignment.
+pub fn code_is_short()
+    ensures code { CodeIsShort }
+    ensures lines { LinesAreShort }
+    ensures variants { VariantsAreShort }
+    ensures frames { FramesFit }
+    ensures passes { FramesPass }
+    ensures text { TextsPass }
+    ensures sites { SitesAreFew }
+{
+    lowered_forms_are_right();
+    made_bodies_are_variants();
+    rows_lead_to_variants();
+    slots_are_counted();
+    selection_law();
+}

@@ -1,0 +1,123 @@
+use mv_io::{Failed, FileShelf, Shelf, ShelfError, Sink, Source, StdSink, StdSource};
+use std::io::{ErrorKind, Read, Write};
+use std::test::Fail;
+use std::{fs, io};
+
+/// A terminal: `ab`, an error, `c`, an end of input, and then more.
+#[derive(Drop)]
+struct Terminal {
+    reads: u8,
+}
+
+impl Read for Terminal {
+    fn read(&mut self, buffer: &mut [u8]) -> io::Result<usize> {
+        self.reads = self.reads.saturating_add(1);
+        let mut piece = match self.reads {
+            1 => b"ab".as_slice(),
+            2 => return Err(ErrorKind::TimedOut.into()),
+            3 => b"c".as_slice(),
+            4 => b"".as_slice(),
+            _ => b"d".as_slice(),
+        };
+        piece.read(buffer)
+    }
+}
+
+/// A writer that takes at most two bytes at once, and fails at its third write and its second flush.
+#[derive(Drop)]
+struct Pipe {
+    bytes: Vec<u8>,
+    writes: u8,
+    flushes: u8,
+}
+
+impl Write for Pipe {
+    fn write(&mut self, bytes: &[u8]) -> io::Result<usize> {
+        self.writes = self.writes.saturating_add(1);
+        if self.writes == 3 {
+            return Err(ErrorKind::BrokenPipe.into());
+        }
+        let count = bytes.len().min(2);
+        self.bytes.extend_from_slice(&bytes[..count])?;
+        Ok(count)
+    }
+
+    fn flush(&mut self) -> io::Result<()> {
+        self.flushes = self.flushes.saturating_add(1);
+        if self.flushes == 2 {
+            return Err(ErrorKind::TimedOut.into());
+        }
+        Ok(())
+    }
+}
+
+#[test]
+fn standard_input_fails_in_mid_stream_and_stays_at_its_end(rt: HostRuntime) {
+    let mut source = StdSource::new(Terminal { reads: 0 });
+    let wanted = [
+        Ok(Some(b'a')),
+        Ok(Some(b'b')),
+        Err(Failed),
+        Ok(Some(b'c')),
+        Ok(None),
+        Ok(None),
+    ];
+    for want in wanted {
+        assert!(rt; source.read_byte() == want);
+    }
+}
+
+#[test]
+fn standard_input_goes_on_after_its_block(rt: HostRuntime) -> Result<(), Fail> {
+    let bytes = vec![in rt.alloc(); 7u8; 5_000]?;
+    let mut source = StdSource::new(bytes.as_slice());
+    let mut count = 0u32;
+    for _ in 0..6_000 {
+        if source.read_byte() == Ok(Some(7)) {
+            count = count.saturating_add(1);
+        }
+    }
+    assert_eq!(rt; count, 5_000);
+    Ok(())
+}
+
+#[test]
+fn standard_output_takes_pieces_and_fails(rt: HostRuntime) -> Result<(), Fail> {
+    let mut pipe = Pipe {
+        bytes: Vec::new(rt.alloc()),
+        writes: 0,
+        flushes: 0,
+    };
+    let mut sink = StdSink::new(&mut pipe);
+    let wanted = [Ok(2), Err(Failed), Err(Failed), Ok(2)];
+    for want in wanted {
+        assert!(rt; sink.write(b"xyz") == want);
+    }
+    assert!(rt; sink.write(b"") == Ok(0));
+    drop(sink);
+    assert_eq!(rt; pipe.bytes.as_slice(), b"xyxyxy".as_slice());
+    Ok(())
+}
+
+#[test]
+fn files_are_saved_and_loaded(rt: HostRuntime) -> Result<(), Fail> {
+    let alloc = rt.alloc();
+    let _ = fs::remove_dir_all(&rt, "mv_io_shelf");
+    fs::create_dir(&rt, "mv_io_shelf")?;
+    let mut shelf = FileShelf::new(&rt);
+    shelf.save(alloc, "mv_io_shelf/a", b"long text")?;
+    shelf.save(alloc, "mv_io_shelf/a", b"text")?;
+    let rows = [
+        ("mv_io_shelf/a", Some(b"text".as_slice())),
+        ("mv_io_shelf/b", None),
+        ("mv_io_shelf", None),
+    ];
+    for (name, want) in rows {
+        let loaded = shelf.load(alloc, name).ok();
+        assert!(rt; loaded.as_ref().map(|bytes| bytes.as_slice()) == want);
+    }
+    let refused = shelf.save(alloc, "mv_io_shelf", b"a folder");
+    assert!(rt; matches!(refused, Err(ShelfError::Failed)));
+    fs::remove_dir_all(&rt, "mv_io_shelf")?;
+    Ok(())
+}

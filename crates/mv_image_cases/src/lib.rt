@@ -1,0 +1,5 @@
+//! Images from outside: what they are refused for, and where.
+#![tactic(auto)]
+
+#[cfg(test)]
+mod images;

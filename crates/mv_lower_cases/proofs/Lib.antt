@@ -1,3 +1,0 @@
-pub mod Idle
-pub mod Leaves
-pub mod Small
