@@ -1,7 +1,7 @@
 -- A function whose lowering is renamed and selected has code.
-use Rattle.std.proofs.Common.{◌≡◌, ⊎_elim, ℕ, ◌+◌, ◌*◌, ◌<◌, ◌≤◌, false, List, [], ◌∷◌, ◌++◌, Some, length, slice_get, min, All, inl, inr, sym, ap, ◌∙◌, subst, refl, arith}
-use Rattle.std.proofs.lemmas.List.Elements.{All-append, All-cons, All-weaker}
-use Rattle.std.proofs.lemmas.Bool.{cases_lt}
+use Rattle.std.proofs.Common.{◌≡◌, ⊎_elim, ℕ, ◌+◌, ◌*◌, ◌<◌, ◌≤◌, Bool, true, false, nat_lt, List, Some, length, slice_get, min, All, inl, inr, sym, ap, ◌∙◌, subst, refl, arith}
+use Rattle.std.proofs.lemmas.List.Elements.{All-weaker}
+use Rattle.std.proofs.lemmas.Bool.{cases_lt, ltb-true, lt-ltb}
 use Rattle.mv_ast.specs.declared.program.Program.{Program}
 use Rattle.mv_ast.specs.declared.program.Function.{Function}
 use Rattle.mv_ast.specs.Counts.{nodes}
@@ -19,18 +19,18 @@ use Rattle.mv_lowered_forms.specs.Law.{IsFunctionOf, LoweredAreShallow, LoweredA
 use Rattle.mv_lowered_names.specs.Laws.{FunctionsAreThere, OnlyInputAndOutput, NamesTheSame, RenamingKeepsNames}
 use Rattle.mv_regalloc.specs.Intervals.{IsRenamed}
 use Rattle.mv_tree_code.specs.Rooms.{place_in}
-use Rattle.mv_flow_code.specs.FlowCode.{code_of}
+use Rattle.mv_flow_code.specs.Layouts.{size_in}
 use Rattle.mv_flow_code.specs.Labels.{functions}
 use Rattle.mv_call_code.specs.CallCode.{is_marked}
 use Rattle.mv_call_code.specs.Convention.{frame_limit}
 use Rattle.mv_call_code.specs.Environment.{IsDirect}
-use Rattle.mv_function_code.specs.FunctionCode.{frame_bytes, prologue_lines, epilogue_lines}
+use Rattle.mv_function_code.specs.FunctionCode.{frame_bytes}
+use Rattle.mv_function_code.specs.Functions.{shape_of}
 use Rattle.mv_selected_bodies.specs.SelectedBodies.{knowns, HasWords}
-use Rattle.mv_named_lines.specs.Lines.{NamesThere, IsGoal, LinesAreNamed}
+use Rattle.mv_named_lines.specs.Lines.{NamesThese, IsGoal, LinesAreNamed}
 use Rattle.mv_select.specs.Laws.{SelectedIsEncoded, SelectedLabelsAreOwn}
 use Rattle.mv_select.specs.Selected as selecting
-use Rattle.mv_select.specs.Selected.{IsSuitable, IsSelected, plan_of, selected_lines, selected_labels}
-use Rattle.mv_select.proofs.EntryLines.{IsWord, prologue_words, epilogue_words}
+use Rattle.mv_select.specs.Selected.{IsSuitable, IsSelected, selected_lines, selected_labels}
 use Rattle.mv_linker.specs.Linked.{IsFunction, IsTarget, NamesAreThere}
 use Rattle.mv_built_programs.specs.Built.{IsCompiledTo}
 use Rattle.mv_build.specs.Compiled.{IsSound, HasCode, PassesFrame}
@@ -40,32 +40,34 @@ use Rattle.mv_build.specs.Verdicts.{greatest_count}
 
 -- ---- what lines name
 
-words_named : (labels count : ℕ) (xs : List Line) → All IsWord xs → All (NamesThere labels count) xs
-words_named labels count = All-weaker IsWord (NamesThere labels count) one
-  where
-    one : (line : Line) → IsWord line → NamesThere labels count line
-    one (Word i) h = tt
-    one (Label l) h = absurd h
-    one (Jump rd l) h = absurd h
-    one (Branch f a b l) h = absurd h
-    one (Entry rd f) h = absurd h
-    one (Slot f) h = absurd h
+-- a function of the program
+abbrev is_function : Program → ℕ → Bool
+is_function p f = nat_lt f (length p.functions)
 
--- own labels stand once
-all_there : (n : ℕ) (code : Labelled) → ((l : ℕ) → l < code.labels → StandsOnce code.items l) → (xs : List Line) → All (NamesThere code.labels n) xs → All (NamesAreThere n code) xs
-all_there n code once = All-weaker (NamesThere code.labels n) (NamesAreThere n code) one
+all_functions : (p : Program) (fs : List ℕ) → All (λ f. f < length p.functions) fs → All (λ f. is_function p f ≡ true) fs
+all_functions p = All-weaker (λ f. f < length p.functions) (λ f. is_function p f ≡ true) (λ f h. lt-ltb f (length p.functions) h)
+
+-- Where own labels are below those of the code, and stand once, what is named is there.
+named_there : (p : Program) (is_attributed : ℕ → Bool) (labels : ℕ) (code : Labelled) → ((l : ℕ) → l < labels → l < code.labels) →
+    ((l : ℕ) → l < code.labels → StandsOnce code.items l) → (xs : List Line) → All (NamesThese labels (is_function p) is_attributed) xs →
+    All (NamesAreThere (length p.functions) code) xs
+named_there p is_attributed labels code below once = All-weaker (NamesThese labels (is_function p) is_attributed) (NamesAreThere (length p.functions) code) one
   where
-    goal : (l : ℕ) → IsGoal code.labels l → IsTarget code l
-    goal l (inl below) = inl (below, once l below)
+    goal : (l : ℕ) → IsGoal labels l → IsTarget code l
+    goal l (inl own) = inl (below l own, once l (below l own))
     goal l (inr trap) = inr (inl trap)
 
-    one : (line : Line) → NamesThere code.labels n line → NamesAreThere n code line
+    function : (f : ℕ) → is_function p f ≡ true → f < length p.functions
+    function f h = ltb-true f (length p.functions) h
+
+    one : (line : Line) → NamesThese labels (is_function p) is_attributed line → NamesAreThere (length p.functions) code line
     one (Word i) h = tt
-    one (Label l) h = h
-    one (Jump rd l) h = goal l h
+    one (Label l) h = below l h
+    one (Jump rd l) (inl jump) = goal l jump.1
+    one (Jump rd l) (inr call) = inr (inr call.1)
     one (Branch f a b l) h = goal l h
-    one (Entry rd f) h = h
-    one (Slot f) h = h
+    one (Entry rd f) h = function f h
+    one (Slot f) h = function f h.0
 
 -- ---- what a function is compiled to
 
@@ -124,35 +126,22 @@ module _ (shallow : LoweredAreShallow) (formed : LoweredAreWellFormed) (small : 
   -- ---- where it has code
 
   module _ (encoded : SelectedIsEncoded) (labels_own : SelectedLabelsAreOwn) (named : LinesAreNamed) (code : Labelled) (selected : IsSelected false body code) where
-    abbrev There : Line → Type 0
-    There = NamesThere code.labels (length p.functions)
-
     -- each label that selection takes is one of the code
     below : (l : ℕ) → l < selected_labels false body → l < code.labels
     below l h =
         let once = subst (λ ls. StandsOnce ls l) (sym selected.items) ((labels_own false body).own l (omega arith) (omega (arith, h))) in
         ⊎_elim (λ lt. lt) (λ le. absurd (omega (arith, once, selected.labels.after l (omega (arith, le))))) (cases_lt l code.labels)
 
-    lines_there : All There (selected_lines false body)
+    lines_there : All (NamesAreThere (length p.functions) code) (selected_lines false body)
     lines_there =
-        let bytes = frame_bytes body.temps body.arrays in
-        let start = prologue_lines false body.params body.temps bytes in
-        let stop = epilogue_lines false body.temps bytes in
-        let inner = code_of (plan_of false body) body.code in
-        let lines = inner.lines [] 1 in
-        let end = below 0 (omega arith) in
-        let last = below inner.labels (omega arith) in
-        let of_lines =
-        named code.labels (length p.functions) (plan_of false body) (place_in body.rooms) (is_marked body.marked) body.code 1 refl end (omega (arith, last)) functions_there
-        knowns_direct in
-        All-append There start (lines ++ (Label 0 ∷ stop)) (words_named code.labels (length p.functions) start (prologue_words false body.params body.temps bytes))
-        (All-append There lines (Label 0 ∷ stop) of_lines
-        (All-cons There (Label 0) stop end (words_named code.labels (length p.functions) stop (epilogue_words false body.temps bytes))))
+        named_there p (is_marked body.marked) (selected_labels false body) code below (λ l h. selected.labels.own l (omega arith) (omega (arith, h))) (selected_lines false body)
+        (named (place_in body.rooms) (size_in body.rooms) (is_marked body.marked) (shape_of false body) body.code (is_function p)
+        (all_functions p (functions body.code) functions_there))
 
     linkable : IsFunction (length p.functions) code
     linkable = record {
       fields = subst (All LineFits) (sym selected.items) (encoded false body suitable selected.frame).0;
-      names = subst (All (NamesAreThere (length p.functions) code)) (sym selected.items) (all_there (length p.functions) code (λ l h. selected.labels.own l (omega arith) (omega (arith, h))) (selected_lines false body) lines_there);
+      names = subst (All (NamesAreThere (length p.functions) code)) (sym selected.items) lines_there;
     }
 
     pub has_code : HasCode p f body code

@@ -16,4 +16,4 @@ returns-clause-ok c =
     let generic = c.requires.generic in
     has_code forms.shallow forms.well_formed forms.small names.functions names.direct c.renaming_keeps_names.ensures c.args.program.now c.requires.sound c.args.number
     generic.function generic.there c.args.body.now generic.renamed c.code_has_words.ensures c.selection_law.ensures.encoded c.selection_law.ensures.labels
-    c.lines_are_named.ensures c.in_ok-select.field-0 c.in_ok-select.ensures
+    c.lines_are_named.ensures.names c.in_ok-select.field-0 c.in_ok-select.ensures
