@@ -108,6 +108,13 @@ back ends log k end linked some within last =
       last = way.last;
     }
 
+-- an empty log has no ends
+pub no_end : (ends : List ℕ) (log : List Older) (k : ℕ) → IsLinked ends log → length log ≡ 0 → slice_index ends k ≡ 0
+no_end ends log k linked none = ⊎_elim
+    (λ (lt : k < length ends). let h = linked.newest k lt in let within = h.within in omega (arith, within, none))
+    (λ (past : length ends ≤ k). get_or_past ends k 0 past)
+    (cases_lt k (length ends))
+
 -- where a walk begins
 pub begin : (ends : List ℕ) (log : List Older) (k : ℕ) → IsLinked ends log → k < length ends → olds k (take (slice_index ends k) log) ≡ olds k log
 begin ends log k linked lt = (linked.newest k lt).all ∙ ap (λ l. olds k l) (take_all (length log) log (omega arith))

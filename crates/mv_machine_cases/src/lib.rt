@@ -4,6 +4,8 @@
 #[cfg(test)]
 mod asm;
 #[cfg(test)]
+mod linker;
+#[cfg(test)]
 mod machine;
 #[cfg(test)]
 mod memory;

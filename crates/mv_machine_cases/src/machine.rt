@@ -5,8 +5,8 @@ ghost use Rattle.std.specs.Prelude.{◌≤◌, length, None};
 use mv_ast::world::Action;
 use mv_image::Image;
 use mv_io::{MemSink, MemSource};
-use mv_num::list::List;
 use mv_machine::{Machine, Stopped};
+use mv_num::list::List;
 use mv_probe::{FetchOracle, Fresh, Oldest, Probe, Recorder, Table};
 use mv_rv32::Cause;
 use std::alloc::{AllocError, Global};
@@ -157,8 +157,7 @@ fn a_pick_is_told_the_address(rt: HostRuntime) -> Result<(), Fail> {
             strayed: false,
         };
         let mut oracle: Box<dyn FetchOracle> = Box::new(rt.alloc(), expecting)?;
-        let (stopped, _machine) =
-            ran_under(rt.alloc(), &OVERWRITES_BEHIND_A_JUMP, &mut oracle)?;
+        let (stopped, _machine) = ran_under(rt.alloc(), &OVERWRITES_BEHIND_A_JUMP, &mut oracle)?;
         assert_eq!(rt; stopped, Stopped::Ended(status));
     }
     Ok(())
@@ -175,7 +174,14 @@ fn probes_are_kept(rt: HostRuntime) -> Result<(), Fail> {
     let mut probes: Vec<Box<dyn Probe>> = Vec::new(alloc);
     probes.push(Box::new(alloc, Recorder::new(alloc, 1)?)?)?;
     let actions = [Action::Skip];
-    let stopped = machine.run(10, &mut source, &mut sink, &mut oracle, &mut probes, &actions);
+    let stopped = machine.run(
+        10,
+        &mut source,
+        &mut sink,
+        &mut oracle,
+        &mut probes,
+        &actions,
+    );
     assert_eq!(rt; stopped, Stopped::Ended(2));
     assert!(rt; probes.len() == 1);
     assert!(rt; probes[0].heard() == 0);
