@@ -15,8 +15,6 @@ mod built;
 mod error;
 mod function;
 mod image;
-#[cfg(test)]
-mod tests;
 
 use crate::function::generics_of;
 use crate::image::image_of;
