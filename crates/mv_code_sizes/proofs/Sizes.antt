@@ -44,24 +44,24 @@ folded_words_fewer body b h =
 
 module _ (made : MadeAreVariants) where
   no_longer : (p : Program) (g : Function) (b : Body) → IsBodyOf p g b → IsNoLonger (lower_function p g) b
-  no_longer p g b (renamed c r) = record {
-    words = renamed_words_fewer (lower_function p g) c r;
+  no_longer p g b (renamed r) = record {
+    words = renamed_words_fewer (lower_function p g) b r;
     temps = omega (arith, r.temps);
     sizes = ap (λ (x : Body). x.arrays) r.changes;
   }
-  no_longer p g b (folded body c h r) = record {
-    words = omega (arith, folded_words_fewer (lower_function p g) body h, renamed_words_fewer body c r);
+  no_longer p g b (folded body h r) = record {
+    words = omega (arith, folded_words_fewer (lower_function p g) body h, renamed_words_fewer body b r);
     temps = omega (arith, r.temps, h.intervals);
     sizes = ap (λ (x : Body). x.arrays) r.changes ∙ h.sizes;
   }
-  no_longer p g b (bound ps c m) =
-      let variant = made ps (lower_function p g) c m in
+  no_longer p g b (bound ps m) =
+      let variant = made ps (lower_function p g) b m in
       let own : own_words m.bound.code ≤ own_words (lower_function p g).code =
       subst (λ x. own_words x ≤ own_words (lower_function p g).code) (sym m.is_bound.code) (bound_words ps (lower_function p g).code)
       in
       let trees = m.is_bound.tree_nodes in
       record {
-        words = omega (arith, own, trees, folded_words_fewer m.bound m.folded m.is_folded, renamed_words_fewer m.folded c m.is_renamed);
+        words = omega (arith, own, trees, folded_words_fewer m.bound m.folded m.is_folded, renamed_words_fewer m.folded b m.is_renamed);
         temps = variant.temps;
         sizes = variant.sizes;
       }
@@ -100,7 +100,7 @@ module _ (made : MadeAreVariants) where
         each : (i : ℕ) → i < length variants.bodies → greatest_length (get_or variants.bodies i own) ≤ words_of g
         each i lt =
             let from = are_made domains rows variants merged (lower_function p g) made_rows i (get_or variants.bodies i own) (slice_get-get_or variants.bodies i own lt) in
-            code_short p f g h (get_or variants.bodies i own) (bound _ (get_or variants.bodies i own) from.2)
+            code_short p f g h (get_or variants.bodies i own) (bound _ from.2)
 
     -- ---- frames
 

@@ -1,5 +1,5 @@
 -- The words of linked code, and the slots in it.
-use Rattle.std.proofs.Common.{arith, ◌≡◌, ℕ, suc, ◌+◌, ◌*◌, ◌<◌, ◌≤◌, List, [], ◌∷◌, ◌++◌, length, map, Some, refl, sym, ap, ◌∙◌, subst}
+use Rattle.std.proofs.Common.{arith, lit≤, ◌≡◌, ℕ, suc, ◌+◌, ◌*◌, ◌<◌, ◌≤◌, List, [], ◌∷◌, ◌++◌, length, map, Some, refl, sym, ap, ◌∙◌, subst}
 use Rattle.std.specs.Prelude.{sum, sum_by, slice_get, slice_index}
 use Rattle.std.proofs.lemmas.List.Sums.{sum_by-append, sum_by-cons}
 use Rattle.std.proofs.Math.Nat.{mul_comm, suc-mul}
@@ -68,7 +68,7 @@ parts_words f first (code ∷ rest) =
     )
 
 stub_words : (main : ℕ) → words (stub_lines main) ≤ 400
-stub_words main = omega arith
+stub_words main = lit≤ tt
 
 -- ---- the code of each function
 

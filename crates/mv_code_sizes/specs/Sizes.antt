@@ -20,10 +20,10 @@ use Rattle.mv_select.specs.Laws.{greatest_length}
 
 -- What a function's code is selected for: what it is lowered to, with its temporaries renamed, with constants folded before or not, and with its switches
 -- bound before that or not.
-pub data IsBodyOf (p : Program) (g : Function) : Body → Type 0 where
-  renamed : (b : Body) → IsRenamed (lower_function p g) b → IsBodyOf p g b
-  folded : (body b : Body) → IsFolded (lower_function p g) body → IsRenamed body b → IsBodyOf p g b
-  bound : (ps : List (ℕ × ℕ)) (b : Body) → IsMadeUnder ps (lower_function p g) b → IsBodyOf p g b
+pub data IsBodyOf (p : Program) (g : Function) (b : Body) : Type 0 where
+  renamed : IsRenamed (lower_function p g) b → IsBodyOf p g b
+  folded : (body : Body) → IsFolded (lower_function p g) body → IsRenamed body b → IsBodyOf p g b
+  bound : (ps : List (ℕ × ℕ)) → IsMadeUnder ps (lower_function p g) b → IsBodyOf p g b
 
 -- forty words for each node of a function, and forty for its entry and return
 abbrev pub words_of : Function → ℕ
