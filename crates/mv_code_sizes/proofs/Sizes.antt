@@ -20,7 +20,7 @@ use Rattle.mv_bound_bodies.specs.Meant.{MadeAreVariants}
 use Rattle.mv_bound_bodies.specs.Led.{BodiesAreMade}
 use Rattle.mv_bound_bodies.specs.Tables.{GroupsFit}
 use Rattle.mv_select.specs.Laws.{greatest_length, SelectedIsEncoded}
-use Rattle.mv_code_sizes.specs.Sizes.{IsBodyOf, renamed, folded, bound, words_of, frame_count, CodeIsShort, LinesAreShort, VariantsAreShort, FramesFit, FramesPass}
+use Rattle.mv_code_sizes.specs.Sizes.{IsBodyOf, renamed, folded, bound, words_of, frame_count, CodeIsShort, LinesAreShort, VariantsAreShort, FramesFit, FramesPass, LoweredFramesPass}
 use Rattle.mv_code_sizes.proofs.OwnWords.{words_allowed, bound_words, renamed_words, folded_words}
 
 -- ---- no longer than another body
@@ -107,6 +107,9 @@ module _ (made : MadeAreVariants) where
     small_frame : (temps words : ℕ) → temps + words ≤ 480 → 16 * ((arrays_start temps + words + 3) / 4) ≤ 2032
     small_frame temps words le = omega arith
 
+    large_frame : (temps words : ℕ) → 2032 < 16 * ((arrays_start temps + words + 3) / 4) → 480 < temps + words
+    large_frame temps words lt = omega arith
+
     in_frame : (p : Program) (f : ℕ) (g : Function) → IsFunctionOf p f g → (b : Body) → IsBodyOf p g b → b.temps + total b.arrays ≤ frame_count g
     in_frame p f g h b of =
         let less = no_longer p g b of in
@@ -120,3 +123,10 @@ module _ (made : MadeAreVariants) where
 
     pub frames_pass : FramesPass
     frames_pass p f g h b of named bytes past = let many = past.many in omega (arith, many, in_frame p f g h b of)
+
+    pub lowered_frames_pass : LoweredFramesPass
+    lowered_frames_pass p f g h past =
+        let b = lower_function p g in
+        let large = large_frame (most_intervals b) (total b.arrays) past in
+        let frame = (small p f g h).frame in
+        omega (arith, large, frame)

@@ -93,8 +93,7 @@ functions_short p (g ∷ gs) (code ∷ codes) e h =
     omega (arith, rest, here, times (1 + nodes g) (assignments p g), sum_by-cons code_words code codes, sum_by-cons (λ x. x) (allowed p g) (map (allowed p) gs))
 
 pub texts_pass : LinesAreShort → TextsPass
-texts_pass short p formed parts codes count refused =
-    let text = refused.1 in
+texts_pass short p formed parts codes count text =
     let sizes = text.least.fits.sizes in
     let past = text.under.past in
     let is = text.under.count_is in
@@ -114,8 +113,8 @@ texts_pass short p formed parts codes count refused =
     each : (f : ℕ) (g : Function) (code : Labelled) → slice_get p.functions f ≡ Some g → slice_get parts.functions f ≡ Some code → code_words code ≤ words_of g
     each f g code there is =
         let c : IsCodeOf p g code = codes.each f g code there is in
-        subst (λ lines. words lines ≤ words_of g) (sym c.selected.items)
-        (short p f g (record { formed = formed; there = there }) c.body c.of c.suitable c.selected.frame g.attributed)
+        subst (λ lines. words lines ≤ words_of g) (sym c.items)
+        (short p f g (record { formed = formed; there = there }) c.body c.of c.suitable c.fits c.attributed)
 
 -- ---- sites
 
