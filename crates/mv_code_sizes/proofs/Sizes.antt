@@ -20,7 +20,7 @@ use Rattle.mv_bound_bodies.specs.Meant.{MadeAreVariants}
 use Rattle.mv_bound_bodies.specs.Led.{BodiesAreMade}
 use Rattle.mv_bound_bodies.specs.Tables.{GroupsFit}
 use Rattle.mv_select.specs.Laws.{greatest_length, SelectedIsEncoded}
-use Rattle.mv_code_sizes.specs.Sizes.{IsBodyOf, renamed, folded, bound, words_of, frame_count, CodeIsShort, LinesAreShort, VariantsAreShort, FramesFit, FramesPass}
+use Rattle.mv_code_sizes.specs.Sizes.{IsBodyOf, renamed, folded, bound, words_of, frame_count, CodeIsShort, LinesAreShort, VariantsAreShort, FramesFit, FramesPass, LoweredFramesPass}
 use Rattle.mv_code_sizes.proofs.OwnWords.{words_allowed, bound_words, renamed_words, folded_words}
 
 -- ---- no longer than another body
@@ -44,24 +44,24 @@ folded_words_fewer body b h =
 
 module _ (made : MadeAreVariants) where
   no_longer : (p : Program) (g : Function) (b : Body) → IsBodyOf p g b → IsNoLonger (lower_function p g) b
-  no_longer p g b (renamed c r) = record {
-    words = renamed_words_fewer (lower_function p g) c r;
+  no_longer p g b (renamed r) = record {
+    words = renamed_words_fewer (lower_function p g) b r;
     temps = omega (arith, r.temps);
     sizes = ap (λ (x : Body). x.arrays) r.changes;
   }
-  no_longer p g b (folded body c h r) = record {
-    words = omega (arith, folded_words_fewer (lower_function p g) body h, renamed_words_fewer body c r);
+  no_longer p g b (folded body h r) = record {
+    words = omega (arith, folded_words_fewer (lower_function p g) body h, renamed_words_fewer body b r);
     temps = omega (arith, r.temps, h.intervals);
     sizes = ap (λ (x : Body). x.arrays) r.changes ∙ h.sizes;
   }
-  no_longer p g b (bound ps c m) =
-      let variant = made ps (lower_function p g) c m in
+  no_longer p g b (bound ps m) =
+      let variant = made ps (lower_function p g) b m in
       let own : own_words m.bound.code ≤ own_words (lower_function p g).code =
       subst (λ x. own_words x ≤ own_words (lower_function p g).code) (sym m.is_bound.code) (bound_words ps (lower_function p g).code)
       in
       let trees = m.is_bound.tree_nodes in
       record {
-        words = omega (arith, own, trees, folded_words_fewer m.bound m.folded m.is_folded, renamed_words_fewer m.folded c m.is_renamed);
+        words = omega (arith, own, trees, folded_words_fewer m.bound m.folded m.is_folded, renamed_words_fewer m.folded b m.is_renamed);
         temps = variant.temps;
         sizes = variant.sizes;
       }
@@ -100,12 +100,15 @@ module _ (made : MadeAreVariants) where
         each : (i : ℕ) → i < length variants.bodies → greatest_length (get_or variants.bodies i own) ≤ words_of g
         each i lt =
             let from = are_made domains rows variants merged (lower_function p g) made_rows i (get_or variants.bodies i own) (slice_get-get_or variants.bodies i own lt) in
-            code_short p f g h (get_or variants.bodies i own) (bound _ (get_or variants.bodies i own) from.2)
+            code_short p f g h (get_or variants.bodies i own) (bound _ from.2)
 
     -- ---- frames
 
     small_frame : (temps words : ℕ) → temps + words ≤ 480 → 16 * ((arrays_start temps + words + 3) / 4) ≤ 2032
     small_frame temps words le = omega arith
+
+    large_frame : (temps words : ℕ) → 2032 < 16 * ((arrays_start temps + words + 3) / 4) → 480 < temps + words
+    large_frame temps words lt = omega arith
 
     in_frame : (p : Program) (f : ℕ) (g : Function) → IsFunctionOf p f g → (b : Body) → IsBodyOf p g b → b.temps + total b.arrays ≤ frame_count g
     in_frame p f g h b of =
@@ -120,3 +123,10 @@ module _ (made : MadeAreVariants) where
 
     pub frames_pass : FramesPass
     frames_pass p f g h b of named bytes past = let many = past.many in omega (arith, many, in_frame p f g h b of)
+
+    pub lowered_frames_pass : LoweredFramesPass
+    lowered_frames_pass p f g h past =
+        let b = lower_function p g in
+        let large = large_frame (most_intervals b) (total b.arrays) past in
+        let frame = (small p f g h).frame in
+        omega (arith, large, frame)

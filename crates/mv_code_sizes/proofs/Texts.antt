@@ -1,5 +1,5 @@
 -- The words of linked code, and the slots in it.
-use Rattle.std.proofs.Common.{arith, ◌≡◌, ℕ, suc, ◌+◌, ◌*◌, ◌<◌, ◌≤◌, List, [], ◌∷◌, ◌++◌, length, map, Some, refl, sym, ap, ◌∙◌, subst}
+use Rattle.std.proofs.Common.{arith, lit≤, ◌≡◌, ℕ, suc, ◌+◌, ◌*◌, ◌<◌, ◌≤◌, List, [], ◌∷◌, ◌++◌, length, map, Some, refl, sym, ap, ◌∙◌, subst}
 use Rattle.std.specs.Prelude.{sum, sum_by, slice_get, slice_index}
 use Rattle.std.proofs.lemmas.List.Sums.{sum_by-append, sum_by-cons}
 use Rattle.std.proofs.Math.Nat.{mul_comm, suc-mul}
@@ -68,7 +68,7 @@ parts_words f first (code ∷ rest) =
     )
 
 stub_words : (main : ℕ) → words (stub_lines main) ≤ 400
-stub_words main = omega arith
+stub_words main = lit≤ tt
 
 -- ---- the code of each function
 
@@ -93,8 +93,7 @@ functions_short p (g ∷ gs) (code ∷ codes) e h =
     omega (arith, rest, here, times (1 + nodes g) (assignments p g), sum_by-cons code_words code codes, sum_by-cons (λ x. x) (allowed p g) (map (allowed p) gs))
 
 pub texts_pass : LinesAreShort → TextsPass
-texts_pass short p formed parts codes count refused =
-    let text = refused.1 in
+texts_pass short p formed parts codes count text =
     let sizes = text.least.fits.sizes in
     let past = text.under.past in
     let is = text.under.count_is in
@@ -114,8 +113,8 @@ texts_pass short p formed parts codes count refused =
     each : (f : ℕ) (g : Function) (code : Labelled) → slice_get p.functions f ≡ Some g → slice_get parts.functions f ≡ Some code → code_words code ≤ words_of g
     each f g code there is =
         let c : IsCodeOf p g code = codes.each f g code there is in
-        subst (λ lines. words lines ≤ words_of g) (sym c.selected.items)
-        (short p f g (record { formed = formed; there = there }) c.body c.of c.suitable c.selected.frame g.attributed)
+        subst (λ lines. words lines ≤ words_of g) (sym c.items)
+        (short p f g (record { formed = formed; there = there }) c.body c.of c.suitable c.fits c.attributed)
 
 -- ---- sites
 

@@ -5,6 +5,9 @@ use Rattle.mv_ast.specs.declared.program.Function.{Function}
 use Rattle.mv_ast.specs.Counts.{nodes, depth, declared_words}
 use Rattle.mv_isa.specs.Code.{greatest_words}
 use Rattle.mv_ir.specs.declared.body.Body.{Body}
+use Rattle.mv_ir.specs.Live.{most_intervals}
+use Rattle.mv_call_code.specs.Convention.{frame_limit}
+use Rattle.mv_function_code.specs.FunctionCode.{frame_bytes}
 use Rattle.mv_lowering.specs.Functions.{lower_function}
 use Rattle.mv_lowered_forms.specs.Law.{IsFunctionOf}
 use Rattle.mv_fold.specs.Folded.{IsFolded}
@@ -20,10 +23,10 @@ use Rattle.mv_select.specs.Laws.{greatest_length}
 
 -- What a function's code is selected for: what it is lowered to, with its temporaries renamed, with constants folded before or not, and with its switches
 -- bound before that or not.
-pub data IsBodyOf (p : Program) (g : Function) : Body → Type 0 where
-  renamed : (b : Body) → IsRenamed (lower_function p g) b → IsBodyOf p g b
-  folded : (body b : Body) → IsFolded (lower_function p g) body → IsRenamed body b → IsBodyOf p g b
-  bound : (ps : List (ℕ × ℕ)) (b : Body) → IsMadeUnder ps (lower_function p g) b → IsBodyOf p g b
+pub data IsBodyOf (p : Program) (g : Function) (b : Body) : Type 0 where
+  renamed : IsRenamed (lower_function p g) b → IsBodyOf p g b
+  folded : (body : Body) → IsFolded (lower_function p g) body → IsRenamed body b → IsBodyOf p g b
+  bound : (ps : List (ℕ × ℕ)) → IsMadeUnder ps (lower_function p g) b → IsBodyOf p g b
 
 -- forty words for each node of a function, and forty for its entry and return
 abbrev pub words_of : Function → ℕ
@@ -52,7 +55,13 @@ frame_count g = declared_words g + 8 * depth g
 abbrev pub FramesFit : Type 0
 FramesFit = (p : Program) (f : ℕ) (g : Function) → IsFunctionOf p f g → (b : Body) → IsBodyOf p g b → frame_count g ≤ 480 → FitsFrame b
 
--- Where the frame of a body passes the limit, the count does.
+-- Where the frame of a body passes the limit, the count does;
 abbrev pub FramesPass : Type 0
 FramesPass =
     (p : Program) (f : ℕ) (g : Function) → IsFunctionOf p f g → (b : Body) → IsBodyOf p g b → (named bytes : ℕ) → PassesFrame f b named bytes → 480 < frame_count g
+
+-- and where a frame for all that the lowered code has in use at one place would.
+abbrev pub LoweredFramesPass : Type 0
+LoweredFramesPass =
+    (p : Program) (f : ℕ) (g : Function) → IsFunctionOf p f g →
+    frame_limit < frame_bytes (most_intervals (lower_function p g)) (lower_function p g).arrays → 480 < frame_count g

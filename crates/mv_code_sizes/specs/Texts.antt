@@ -1,27 +1,30 @@
 -- How many words the text of a program has, and how many sites.
-use Rattle.std.specs.Prelude.{ℕ, ◌+◌, ◌*◌, ◌<◌, ◌≤◌, ◌≡◌, List, length, map, sum, Some, slice_get}
+use Rattle.std.specs.Prelude.{ℕ, ◌+◌, ◌*◌, ◌<◌, ◌≤◌, ◌≡◌, Bool, List, length, map, sum, Some, slice_get}
 use Rattle.mv_ast.specs.declared.program.Program.{Program}
 use Rattle.mv_ast.specs.declared.program.Function.{Function}
 use Rattle.mv_ast.specs.Counts.{nodes, calls, assignments}
 use Rattle.mv_ast.specs.Plans.{attributed_functions}
 use Rattle.mv_isa.specs.declared.labelled.Labelled.{Labelled}
+use Rattle.mv_isa.specs.Code.{text_start}
+use Rattle.mv_asm.specs.Outcome.{PassesText}
 use Rattle.mv_ir.specs.declared.body.Body.{Body}
 use Rattle.mv_lowered_programs.specs.WellFormed.{IsWellFormed}
 use Rattle.mv_bound_bodies.specs.Slots.{AtMost}
-use Rattle.mv_select.specs.Selected.{IsSuitable, IsSelected}
+use Rattle.mv_select.specs.Selected.{IsSuitable, FitsFrame, selected_lines}
 use Rattle.mv_linker.specs.declared.parts.Parts.{Parts}
-use Rattle.mv_linker.specs.declared.error.LinkError.TheVariants.{TextLimit}
-use Rattle.mv_linker.specs.Outcome.{IsRefusal}
+use Rattle.mv_linker.specs.Linked.{linked_lines}
 use Rattle.mv_code_sizes.specs.Sizes.{IsBodyOf}
 
 -- ---- text
 
--- the code of a function, which is that of one of its bodies
+-- the code of a function, whose lines are those of one of its bodies
 pub record IsCodeOf (p : Program) (g : Function) (code : Labelled) : Type 0 where
   pub body : Body
   pub of : IsBodyOf p g body
   pub suitable : IsSuitable body
-  pub selected : IsSelected g.attributed body code
+  pub fits : FitsFrame body
+  pub attributed : Bool
+  pub items : code.items ≡ selected_lines attributed body
 
 -- one for each function, in order
 pub record HaveCode (p : Program) (codes : List Labelled) : Type 0 where
@@ -35,7 +38,7 @@ text_count p = 400 + 40 * sum (map (λ g. (1 + nodes g) * (1 + assignments p g))
 -- Where the linked code of a program's functions passes the limit of text, the count does.
 abbrev pub TextsPass : Type 0
 TextsPass =
-    (p : Program) → IsWellFormed p → (parts : Parts) → HaveCode p parts.functions → (words : ℕ) → IsRefusal parts (TextLimit words) → 131072 < text_count p
+    (p : Program) → IsWellFormed p → (parts : Parts) → HaveCode p parts.functions → (words : ℕ) → PassesText text_start (linked_lines parts) words → 131072 < text_count p
 
 -- ---- sites
 

@@ -1,7 +1,7 @@
 //! How large the code of a program's functions and their frames are, by counts over the source.
 #![tactic(auto)]
 
-ghost use Rattle.mv_code_sizes.specs.Sizes.{CodeIsShort, FramesFit, FramesPass, LinesAreShort, VariantsAreShort};
+ghost use Rattle.mv_code_sizes.specs.Sizes.{CodeIsShort, FramesFit, FramesPass, LinesAreShort, LoweredFramesPass, VariantsAreShort};
 ghost use Rattle.mv_code_sizes.specs.Texts.{SitesAreFew, TextsPass};
 
 use mv_bound_bodies::{made_bodies_are_variants, rows_lead_to_variants, slots_are_counted};
@@ -14,14 +14,16 @@ use mv_select::selection_law;
 /// `code`: of each body of a function, its own or a variant, the statements and trees take, with entry and return, at most forty words for each node and
 /// forty more. `lines`: so do the lines of its code, each branch taken for two. `variants`: a function's own body and its variants take together no more
 /// than that once, and once more for each assignment. `frames`: the frame of each body is small enough where the declared words and eight for each level
-/// of the depth are at most 480; `passes`: so where a frame passes the limit these are more. `text`: where the text of a program passes its limit, so
-/// does its count over the source. `sites`: all slots are no more than the calls, once and once more for each assignment.
+/// of the depth are at most 480; `passes`: so where a frame passes the limit these are more, and also where one for all that the lowered code has in use
+/// at one place would (`lowered`). `text`: where the text of a program passes its limit, so does its count over the source. `sites`: all slots are no
+/// more than the calls, once and once more for each assignment.
 pub fn code_is_short()
     ensures code { CodeIsShort }
     ensures lines { LinesAreShort }
     ensures variants { VariantsAreShort }
     ensures frames { FramesFit }
     ensures passes { FramesPass }
+    ensures lowered { LoweredFramesPass }
     ensures text { TextsPass }
     ensures sites { SitesAreFew }
 {

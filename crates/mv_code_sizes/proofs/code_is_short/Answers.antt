@@ -1,4 +1,4 @@
-use Rattle.mv_code_sizes.proofs.Sizes.{code_short, lines_short, variants_short, frames_fit, frames_pass}
+use Rattle.mv_code_sizes.proofs.Sizes.{code_short, lines_short, variants_short, frames_fit, frames_pass, lowered_frames_pass}
 use Rattle.mv_code_sizes.proofs.Texts.{texts_pass, sites_few}
 use Rattle.mv_code_sizes.proofs.code_is_short.Goals as goal
 
@@ -17,6 +17,9 @@ returns-clause-frames c = frames_fit c.made_bodies_are_variants.ensures.all c.lo
 
 pub returns-clause-passes : goal.returns-clause-passes
 returns-clause-passes c = frames_pass c.made_bodies_are_variants.ensures.all c.lowered_forms_are_right.ensures.small
+
+pub returns-clause-lowered : goal.returns-clause-lowered
+returns-clause-lowered c = lowered_frames_pass c.made_bodies_are_variants.ensures.all c.lowered_forms_are_right.ensures.small
 
 pub returns-clause-text : goal.returns-clause-text
 returns-clause-text c =

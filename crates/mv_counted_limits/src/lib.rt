@@ -1,0 +1,21 @@
+//! Programs that are small by counts over the source pass no limit on what they are compiled to.
+#![tactic(auto)]
+
+ghost use Rattle.mv_counted_limits.specs.Counted.{CountedPassNone, FramesAreCounted, TextsAreCounted};
+
+use mv_checked_programs::programs_of_texts_are_well_formed;
+use mv_code_sizes::code_is_short;
+
+/// A source that `build` takes is refused for no frame and no text below the counts over it. The call does nothing: its contract is the law.
+///
+/// `frames`: of a function whose frame passes the limit, the declared words and eight for each level of its depth are more than 480. `texts`: of a program
+/// whose text passes the limit, so does the count over the source. `none`: a program that is within these counts, and whose globals have few enough words,
+/// passes no limit, so `build` answers it with an image, unless memory is wanting.
+pub fn counted_programs_pass_no_limit()
+    ensures frames { FramesAreCounted }
+    ensures texts { TextsAreCounted }
+    ensures none { CountedPassNone }
+{
+    programs_of_texts_are_well_formed();
+    code_is_short();
+}
