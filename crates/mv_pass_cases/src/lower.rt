@@ -7,7 +7,7 @@ ghost use Rattle.mv_lower_expressions.specs.Expressions.{expr_size};
 ghost use Rattle.mv_lower.specs.Programs.{HasRoom, IsSmall};
 ghost use Rattle.mv_lower.specs.Statements.{stmts_size, arm_size, arms_size};
 
-use mv_ast::program::{Arm, CType, Expr, Form, Function, Program, Stmt};
+use mv_ast::program::{Arm, CType, Expr, Form, Function, Local, Program, Stmt};
 use mv_ir::stm::Stm;
 use mv_ir::tree::Tree;
 use mv_lower::{lower, lower_each};
@@ -37,6 +37,14 @@ fn single<T: Drop>(rt: &impl Abort, alloc: Global, item: T) -> List<T>
     list
 }
 
+fn pair<T: Drop>(rt: &impl Abort, alloc: Global, first: T, second: T) -> List<T>
+    ensures { result ≡ first ∷ second ∷ [] }
+{
+    let mut list = single(rt, alloc, first);
+    list.push(second).expect(rt, "memory");
+    list
+}
+
 // How many statements some code has, those within others counted too.
 #[cycle(counting)]
 fn count(code: &List<Stm>) -> u64 {
@@ -57,17 +65,18 @@ fn count_inside(stm: &Stm) -> u64 {
     }
 }
 
-// A function of type `int` without parameters and locals.
-fn function(rt: &impl Abort, alloc: Global, name: &[u8], body: List<Stmt>) -> Function
-    requires { stmts_size body ≤ 999999 }
+// A function of type `int` without parameters.
+fn function(rt: &impl Abort, alloc: Global, locals: List<Local>, body: List<Stmt>) -> Function
+    requires few { length locals ≤ 9 }
+    requires small { stmts_size body ≤ 999999 }
     ensures room { HasRoom result }
 {
     Function {
-        name: Text::new(alloc, name).expect(rt, "memory"),
+        name: Text::new(alloc, b"f").expect(rt, "memory"),
         attributed: false,
         result: INT,
         params: 0,
-        locals: List::new(alloc),
+        locals,
         switches: List::new(alloc),
         body,
     }
@@ -91,10 +100,8 @@ fn arm(rt: &impl Abort, alloc: Global, body: List<Stmt>) -> Arm
     requires { stmts_size body ≤ 10 }
     ensures { arm_size result ≤ 13 }
 {
-    let mut labels = single(rt, alloc, 1);
-    labels.push(2).expect(rt, "memory");
     Arm {
-        labels,
+        labels: pair(rt, alloc, 1, 2),
         other: false,
         body,
     }
@@ -106,7 +113,7 @@ fn switching(rt: &impl Abort, alloc: Global, arms: List<Arm>) -> Program
     ensures { IsSmall result }
 {
     let body = single(rt, alloc, Stmt::Switch(five(), arms));
-    let f = function(rt, alloc, b"f", body);
+    let f = function(rt, alloc, List::new(alloc), body);
     let functions = single(rt, alloc, f);
     program(alloc, functions)
 }

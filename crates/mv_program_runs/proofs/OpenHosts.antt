@@ -27,7 +27,7 @@ module _ {M : Type 0} (told : FitIsTold) (keep : KnownsKeepFit) (alike : narrow.
       let a = alike access y machine (is_fit p) machine.text budget far in
       let is : is_fit p w ≡ true = (and_parts (is_fit p (outside w)) (machine.is_calm (outside w) (machine.run i).memory) stands.calm).0 in
       let after : IsFit p _ = keep p k args _ w ((told p w).0 is) in
-      let s = serves k args pc i may direct count word spare bound w ((a.0 pc w i is).1 stands) (record { number = asks.number; arguments = asks.arguments; order = asks.order }) paid asked in
+      let s = serves k args pc i may direct count word spare bound w ((a.0 pc w i is).1 stands) (record { number = asks.number; arguments = asks.arguments; order = asks.order; high = asks.high }) paid asked in
       (s.0, returns spare bound i (pc + 4) _ s.0 ((told p _).1 after) s.1, s.2)
     where
       returns : (spare k i back : ℕ) (w : World) (j : ℕ) → is_fit p w ≡ true → Returns access y machine budget far spare k i back w j → Returns access y fit budget far spare k i back w j

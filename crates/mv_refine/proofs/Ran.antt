@@ -8,10 +8,10 @@ use Rattle.mv_image.specs.Spelling.{Fields}
 use Rattle.mv_image_runs.specs.Behaves.{taken_of}
 use Rattle.mv_machine.specs.declared.machine.Stopped.{Stopped}
 use Rattle.mv_machine.specs.declared.machine.Stopped.TheVariants as answer
-use Rattle.mv_machine.specs.Runs.{State, Stop, Going, Exit, Trap, Fault, Reads, Writes, bytes_to_come, first, runs, executed}
+use Rattle.mv_machine.specs.Runs.{State, Stop, Going, Exit, Trap, Fault, Reads, Writes, bytes_to_come, first, runs}
 use Rattle.mv_machine.specs.Snapshots.{Snapshot, kept, resumed, Tells, Under, Asks, WantsMemory, Reached, Whole, Broken, Answered, Ran, Unless}
-use Rattle.mv_probe.specs.Ways.{Way, way_after}
-use Rattle.mv_refine.specs.Environment.{Environment, Took, ReadFailed, WriteFailed}
+use Rattle.mv_probe.specs.Ways.{way_after}
+use Rattle.mv_refine.specs.Environment.{Environment, ReadFailed, WriteFailed}
 use Rattle.mv_refine.specs.Run.{IsDone, Stands, RanTo, StandsBefore, Runs}
 use Rattle.mv_refine.proofs.Inputs.{runs_leave, some_later, lost}
 

@@ -30,7 +30,7 @@ use Rattle.mv_top.specs.Outcomes.{Holds, Does, Outside, ShelfFailed, Comes, Give
 use Rattle.mv_top.specs.declared.command.Task.{Task}
 use Rattle.mv_top.specs.declared.command.Task.TheVariants.{Run, Eval}
 use Rattle.mv_top.specs.declared.status.Status.{Status}
-use Rattle.mv_top.specs.declared.status.Status.TheVariants.{Ended, Trapped, Usage, Refused, Memory, InputFault, OutputFault, ShelfFault, Steps, MachineFault}
+use Rattle.mv_top.specs.declared.status.Status.TheVariants.{Usage, Refused, Memory, OutputFault, ShelfFault}
 
 -- ---- one text
 
