@@ -1,10 +1,9 @@
 -- A function whose lowering is renamed and selected has code.
-use Rattle.std.proofs.Common.{◌≡◌, ⊎_elim, ℕ, ◌+◌, ◌*◌, ◌<◌, ◌≤◌, Bool, true, false, nat_lt, List, Some, length, slice_get, min, All, inl, inr, sym, ap, ◌∙◌, subst, refl, arith}
+use Rattle.std.proofs.Common.{◌≡◌, ⊎_elim, ℕ, ◌<◌, ◌≤◌, Bool, true, false, nat_lt, List, Some, length, slice_get, min, All, inl, inr, sym, ap, ◌∙◌, subst, arith}
 use Rattle.std.proofs.lemmas.List.Elements.{All-weaker}
 use Rattle.std.proofs.lemmas.Bool.{cases_lt, ltb-true, lt-ltb}
 use Rattle.mv_ast.specs.declared.program.Program.{Program}
 use Rattle.mv_ast.specs.declared.program.Function.{Function}
-use Rattle.mv_ast.specs.Counts.{nodes}
 use Rattle.mv_front.specs.Refusals.{counted}
 use Rattle.mv_isa.specs.declared.labelled.Labelled.{Labelled}
 use Rattle.mv_isa.specs.declared.labelled.Line.{Line}
@@ -34,7 +33,6 @@ use Rattle.mv_select.specs.Selected.{IsSuitable, IsSelected, selected_lines, sel
 use Rattle.mv_linker.specs.Linked.{IsFunction, IsTarget, NamesAreThere}
 use Rattle.mv_built_programs.specs.Built.{IsCompiledTo}
 use Rattle.mv_build.specs.Compiled.{IsSound, HasCode, PassesFrame}
-use Rattle.mv_build.specs.Made.{IsCodeOf}
 use Rattle.mv_build.specs.Frames.{frame_size}
 use Rattle.mv_build.specs.Verdicts.{greatest_count}
 

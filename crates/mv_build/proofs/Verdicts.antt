@@ -1,5 +1,5 @@
 -- What is compiled of a source's program is what the source is built to.
-use Rattle.std.proofs.Common.{◌≡◌, List, ℕ, sym, subst}
+use Rattle.std.proofs.Common.{List, ℕ, sym, subst}
 use Rattle.std.specs.Prelude.{Result, Ok, Err, IfOk, IfErr}
 use Rattle.mv_ast.specs.declared.program.Program.{Program}
 use Rattle.mv_formed_globals.specs.Globals.{GlobalsAreFormed}

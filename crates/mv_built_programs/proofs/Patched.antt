@@ -21,6 +21,7 @@ use Rattle.mv_lowered_programs.specs.WellFormed.{IsWellFormed}
 use Rattle.mv_call_code.specs.Convention.{Layout}
 use Rattle.mv_function_code.specs.FunctionCode.{bytes_of}
 use Rattle.mv_function_code.specs.Functions.{shape_of}
+use Rattle.mv_inline_bodies.specs.InlineOf.{inline_of}
 use Rattle.mv_machine_runs.specs.Assembled.{HasWords}
 use Rattle.mv_machine_runs.specs.MachineRuns.{machine_text, called_at}
 use Rattle.mv_machine_runs.specs.Shown.{FreeFunctionsShow, BoundFunctionsShow}

@@ -4,8 +4,6 @@
 #[cfg(test)]
 mod asm;
 #[cfg(test)]
-mod linker;
-#[cfg(test)]
 mod machine;
 #[cfg(test)]
 mod memory;

@@ -3,9 +3,9 @@
 ghost use Rattle.std.specs.Prelude.{IfOk};
 ghost use Rattle.mv_linker.specs.Linked.{AreParts};
 
+use crate::{Datum, Parts, link};
 use mv_isa::Instr;
 use mv_isa::labelled::{Labelled, Line};
-use mv_linker::{Datum, Parts, link};
 use mv_num::list::List;
 use std::alloc::{AllocError, Global};
 use std::test::Fail;
