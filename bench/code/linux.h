@@ -22,3 +22,10 @@ void _start(void) {
     call(93, main(), 0, 0);
     for (;;) ;
 }
+
+/* gcc calls it where an array is made 0. */
+void *memset(void *to, int byte, unsigned count) {
+    unsigned char *at = to;
+    while (count--) *at++ = byte;
+    return to;
+}
