@@ -3,7 +3,7 @@ use Rattle.std.proofs.Common.{◌≡◌, ℕ, ◌+◌, ◌<◌, ◌||◌, eqb, l
 use Rattle.std.specs.List.{prefix_len}
 use Rattle.std.proofs.lemmas.Bool.Decides.{nat_tests}
 use Rattle.std.proofs.lemmas.List.{at_drop_more}
-use Rattle.mv_asmtext.specs.Lexemes.{Lexeme, word, mark, is_word_byte, is_name_byte, is_blank, begins_word, lengthened, lexemes}
+use Rattle.mv_asmtext.specs.Lexemes.{Lexeme, word, mark, is_word_byte, is_name_byte, is_blank, lengthened, lexemes}
 
 one_more : (n : ℕ) → 1 + n ≡ suc n
 one_more n = omega arith

@@ -1,5 +1,5 @@
 -- The line in front of a text, and the reading of one more.
-use Rattle.std.proofs.Common.{◌≡◌, ℕ, ◌+◌, ◌<◌, ◌≤◌, refl, sym, ap, ◌∙◌, List, [], ◌∷◌, length, take, drop, Bool, true, false, not, cond, eqb, Option, Some, None, Result, Ok, Err, arith, zero, suc}
+use Rattle.std.proofs.Common.{◌≡◌, ℕ, ◌+◌, ◌<◌, refl, sym, ap, ◌∙◌, List, [], ◌∷◌, length, take, drop, Bool, true, false, not, cond, eqb, Some, None, Ok, Err, arith, zero, suc}
 use Rattle.std.specs.List.{prefix_len, onto_first}
 use Rattle.std.proofs.lemmas.List.{length-drop, drop-drop}
 use Rattle.std.proofs.lemmas.List.Splits.{slice_split_first}

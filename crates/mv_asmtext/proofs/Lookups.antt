@@ -6,7 +6,7 @@ use Rattle.std.specs.Map.{lookup}
 use Rattle.std.specs.declared.vec.Vec.{Vec}
 use Rattle.std.specs.declared.alloc.Global.{Global}
 use Rattle.mv_asmtext.specs.declared.labels.Site.{Site}
-use Rattle.mv_asmtext.specs.Sites.{Sites, sites_of}
+use Rattle.mv_asmtext.specs.Sites.{sites_of}
 use Rattle.mv_asmtext.specs.Labels.{named}
 
 pub looked_up : (name : List ℕ) (es : List (Vec ℕ Global × Site)) →

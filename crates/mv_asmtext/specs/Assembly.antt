@@ -1,5 +1,5 @@
 -- The words of lines: what each operand stands for, and where a number or a label is at fault.
-use Rattle.std.specs.Prelude.{ℕ, Bool, true, false, not, ◌+◌, ◌*◌, ◌%◌, ◌^◌, ◌==◌, ◌&&◌, ◌||◌, nat_lt, nat_le, List, [], ◌∷◌, ◌++◌, if◌then◌else◌, Option, Some, None, Result, Ok, Err}
+use Rattle.std.specs.Prelude.{ℕ, Bool, true, false, not, ◌+◌, ◌*◌, ◌%◌, ◌^◌, ◌==◌, ◌&&◌, nat_lt, nat_le, List, [], ◌∷◌, ◌++◌, if◌then◌else◌, Option, Some, None, Result, Ok, Err}
 use Rattle.mv_isa.specs.Encoding.{encode}
 use Rattle.mv_asmtext.specs.declared.assembly.Fault.{Fault}
 use Rattle.mv_asmtext.specs.declared.assembly.Fault.TheVariants as faults

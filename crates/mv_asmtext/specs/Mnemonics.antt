@@ -1,6 +1,6 @@
 -- The instructions by name: how each is spelled, the operands behind the name, the field of the number among them, and the
 -- instruction (RISC-V Assembly Programmer's Manual; RISC-V unprivileged ISA 20191213, chapter 24).
-use Rattle.std.specs.Prelude.{ℕ, ℤ, pos, List, [], ◌∷◌, codes, Option, Some, None}
+use Rattle.std.specs.Prelude.{ℕ, ℤ, pos, List, [], ◌∷◌, codes, Option}
 use Rattle.std.specs.List.{find}
 use Rattle.std.specs.Str.{bytes_eq}
 use Rattle.mv_isa.specs.declared.instr.Instr.{Instr}

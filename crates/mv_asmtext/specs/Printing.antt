@@ -1,5 +1,5 @@
 -- The text that code is printed as.
-use Rattle.std.specs.Prelude.{ℕ, Bool, true, false, zero, suc, ◌+◌, ◌*◌, ◌/◌, ◌%◌, ◌-◌, ◌<◌, ◌≤◌, ◌≡◌, ◌==◌, nat_lt, List, [], ◌∷◌, ◌++◌, length, map, codes, if◌then◌else◌, Option, Some, None}
+use Rattle.std.specs.Prelude.{ℕ, zero, suc, ◌+◌, ◌/◌, ◌%◌, ◌-◌, ◌==◌, nat_lt, List, [], ◌∷◌, ◌++◌, map, codes, if◌then◌else◌, Option, Some, None}
 use Rattle.std.specs.Int.Digits.{digits_of}
 use Rattle.mv_isa.specs.Encoding.{decode, encode}
 use Rattle.mv_isa.specs.declared.instr.Instr.{Instr}
@@ -11,7 +11,6 @@ use Rattle.mv_asmtext.specs.declared.parts.Parts.{Parts}
 use Rattle.mv_asmtext.specs.Mnemonics.{name_of, operands_of, parts_of}
 use Rattle.mv_asmtext.specs.Numbers.{number_from}
 use Rattle.mv_asmtext.specs.Registers.{register_name}
-use Rattle.mv_asmtext.specs.Sources.{text_start}
 
 -- ---- numbers
 
@@ -86,13 +85,3 @@ data_text (w ∷ ws) = codes ".data\n" ++ raw_lines (w ∷ ws)
 
 unfoldable pub printed : Code → List ℕ
 printed code = (codes ".entry 0x" ++ hex 8 code.entry) ++ 10 ∷ (word_lines code.text ++ data_text code.globals)
-
--- ---- what an image holds
-
--- the code fits an image: up to 131,072 words of text with the entry among them, and up to 262,144 words of data
-pub record FitsImage (code : Code) : Type 0 where
-  pub aligned : code.entry % 4 ≡ 0
-  pub above : text_start ≤ code.entry
-  pub below : code.entry < text_start + 4 * length code.text
-  pub text : length code.text ≤ 131072
-  pub globals : length code.globals ≤ 262144

@@ -1,5 +1,5 @@
 -- The lines of a text, each with its place: which lines may stand where, and at which address.
-use Rattle.std.specs.Prelude.{ℕ, Bool, true, false, ◌+◌, ◌*◌, ◌==◌, ◌||◌, List, [], ◌∷◌, ◌++◌, if◌then◌else◌, Option, Some, None, is_some, Result, Ok, Err}
+use Rattle.std.specs.Prelude.{ℕ, ◌+◌, ◌*◌, ◌==◌, ◌||◌, List, [], ◌∷◌, ◌++◌, if◌then◌else◌, Option, Some, None, is_some, Result, Ok, Err}
 use Rattle.std.specs.List.{slice_split}
 use Rattle.mv_asmtext.specs.declared.source.Section.{Section}
 use Rattle.mv_asmtext.specs.declared.source.Section.TheVariants as sections

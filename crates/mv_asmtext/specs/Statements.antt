@@ -1,8 +1,6 @@
 -- What a line has before its comment: at most one label, and then at most one statement.
-use Rattle.std.specs.Prelude.{ℕ, Bool, true, false, ◌≡◌, ◌==◌, ◌&&◌, List, [], ◌∷◌, codes, if◌then◌else◌, Option, Some, None, option_map, option_and_then}
+use Rattle.std.specs.Prelude.{ℕ, Bool, false, ◌==◌, ◌&&◌, List, [], ◌∷◌, codes, if◌then◌else◌, Option, Some, None, option_map, option_and_then}
 use Rattle.std.specs.Str.{bytes_eq}
-use Rattle.mv_asmtext.specs.declared.mnemonic.Mnemonic.{Mnemonic}
-use Rattle.mv_asmtext.specs.declared.number.Number.{Number}
 use Rattle.mv_asmtext.specs.declared.operand.Element.{Element}
 use Rattle.mv_asmtext.specs.declared.operand.Element.TheVariants as elements
 use Rattle.mv_asmtext.specs.declared.operand.Registers.{Registers}
