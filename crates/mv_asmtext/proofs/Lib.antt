@@ -1,0 +1,5 @@
+pub mod InstructionFits
+pub mod Lexing
+pub mod LineEnds
+pub mod Lookups
+pub mod Turns

@@ -1,0 +1,12 @@
+pub mod Assembly
+pub mod Fields
+pub mod Labels
+pub mod Lexemes
+pub mod Mnemonics
+pub mod Numbers
+pub mod Printing
+pub mod Registers
+pub mod Scans
+pub mod Sites
+pub mod Sources
+pub mod Statements

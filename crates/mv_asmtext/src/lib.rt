@@ -1,0 +1,60 @@
+//! Assembler text: code as lines of instructions, labels and directives, printed and read.
+#![tactic(auto)]
+
+ghost use Rattle.std.specs.Prelude.{◌≡◌, MatchResult, Ok, IfOk};
+ghost use Rattle.mv_asmtext.specs.Printing.{printed};
+ghost use Rattle.mv_asmtext.specs.Scans.{IsCause, scanned};
+
+mod assembly;
+mod code;
+mod error;
+mod field;
+mod labels;
+mod lexeme;
+mod mnemonic;
+mod number;
+mod operand;
+mod parts;
+mod printing;
+mod register;
+mod scanning;
+mod source;
+mod statement;
+
+pub use crate::code::Code;
+pub use crate::error::ScanError;
+use crate::printing::push_code;
+use crate::scanning::scan_text;
+use std::alloc::{AllocError, Global};
+
+/// The greatest length of a text, in bytes.
+const LENGTH_LIMIT: usize = 16_777_216;
+
+/// The code that a text reads as.
+///
+/// `TooLong` comes for more than 16,777,216 bytes, with their number. Else `Line` with 17 names the first line that is no line
+/// or may not stand there, or line 1 where no line gives a word of text; else with 18 or 19 the first line with a number outside
+/// its range or a label at fault, 18 first; else `TextLimit` comes for more than 131,072 words of text, and else `DataLimit` for
+/// more than 262,144 words of data.
+#[tactic(auto, unfolding(crate::specs::Scans::scanned))]
+pub fn scan(alloc: Global, text: &[u8]) -> Result<Code, ScanError>
+    ensures { MatchResult result (λ code. scanned text.now ≡ Ok code) (λ e. IsCause e (scanned text.now)) }
+{
+    if text.len() > LENGTH_LIMIT {
+        return Err(ScanError::TooLong(text.len() as u64));
+    }
+    match scan_text(alloc, text) {
+        Ok(code) => code,
+        Err(e) => Err(ScanError::Memory(e)),
+    }
+}
+
+/// The text of code: its entry, a line for each word, and its data. Each word that is the word of an instruction is that
+/// instruction, and every other one a number.
+pub fn print(alloc: Global, code: &Code) -> Result<Vec<u8>, AllocError>
+    ensures { IfOk result (λ text. text.items ≡ printed code.now) }
+{
+    let mut out = Vec::new(alloc);
+    push_code(&mut out, code)?;
+    Ok(out)
+}
