@@ -2,7 +2,7 @@
 #![tactic(auto)]
 
 use mv_io::{FileShelf, StdSink, StdSource};
-use mv_probe::{FetchOracle, Oldest};
+use mv_probe::{FetchOracle, Oldest, Probe};
 use mv_top::{Status, multiverse};
 use std::process::ExitCode;
 use std::{env, io};
@@ -23,6 +23,7 @@ fn run(rt: &HostRuntime) -> io::Result<Status> {
     let mut out = StdSink::new(rt.stdout());
     let mut notes = StdSink::new(rt.stderr());
     let mut oracle: Box<dyn FetchOracle> = Box::new(rt.alloc(), Oldest)?;
+    let mut probes: Vec<Box<dyn Probe>> = Vec::new(rt.alloc());
     Ok(multiverse(
         rt.alloc(),
         words.as_slice(),
@@ -31,6 +32,7 @@ fn run(rt: &HostRuntime) -> io::Result<Status> {
         &mut out,
         &mut notes,
         &mut oracle,
+        &mut probes,
     ))
 }
 

@@ -1,30 +1,24 @@
 -- The bodies of a function are no longer than the one that it is lowered to, and that one is bounded by the source.
-use Rattle.std.proofs.Common.{arith, ◌≡◌, ℕ, suc, ◌+◌, ◌*◌, ◌/◌, ◌<◌, ◌≤◌, Bool, List, length, get_or, max, sym, ap, ◌∙◌, subst}
-use Rattle.std.specs.Prelude.{slice_get, sum_by}
+use Rattle.std.proofs.Common.{arith, ◌≡◌, ℕ, suc, ◌+◌, ◌*◌, ◌/◌, ◌<◌, ◌≤◌, length, get_or, sym, ap, ◌∙◌, subst}
+use Rattle.std.specs.Prelude.{sum_by}
 use Rattle.std.proofs.lemmas.List.Elements.{All-from_get_or}
 use Rattle.std.proofs.lemmas.List.Sums.{sum_by-le}
 use Rattle.std.proofs.lemmas.Option.{slice_get-get_or}
 use Rattle.std.proofs.Math.Nat.{mul-le-mul_right, mul_comm, suc-mul}
 use Rattle.mv_ast.specs.declared.program.Program.{Program}
 use Rattle.mv_ast.specs.declared.program.Function.{Function}
-use Rattle.mv_ast.specs.Counts.{nodes}
 use Rattle.mv_ir.specs.declared.body.Body.{Body}
 use Rattle.mv_ir.specs.Measures.{total, tree_nodes}
 use Rattle.mv_ir.specs.Live.{most_intervals}
 use Rattle.mv_flow_code.specs.Encoded.{own_words, most_words}
-use Rattle.mv_function_code.specs.FunctionCode.{arrays_start, frame_bytes}
+use Rattle.mv_function_code.specs.FunctionCode.{arrays_start}
 use Rattle.mv_lowering.specs.Functions.{lower_function}
 use Rattle.mv_lowered_forms.specs.Law.{IsFunctionOf, LoweredAreSmall}
 use Rattle.mv_fold.specs.Folded.{IsFolded}
 use Rattle.mv_regalloc.specs.Intervals.{IsRenamed}
-use Rattle.mv_merge.specs.declared.rows.Domain.{Domain}
-use Rattle.mv_merge.specs.declared.rows.Bound.{Bound}
-use Rattle.mv_merge.specs.declared.rows.Variants.{Variants}
-use Rattle.mv_merge.specs.Guards.{IsMerged}
-use Rattle.mv_bound_bodies.specs.Meant.{IsMadeUnder, MadeAreVariants}
-use Rattle.mv_bound_bodies.specs.Led.{AreMade, BodiesAreMade}
+use Rattle.mv_bound_bodies.specs.Meant.{MadeAreVariants}
+use Rattle.mv_bound_bodies.specs.Led.{BodiesAreMade}
 use Rattle.mv_bound_bodies.specs.Tables.{GroupsFit}
-use Rattle.mv_select.specs.Selected.{FitsFrame}
 use Rattle.mv_select.specs.Laws.{greatest_length, SelectedIsEncoded}
 use Rattle.mv_code_sizes.specs.Sizes.{IsBodyOf, renamed, folded, bound, words_of, frame_count, CodeIsShort, LinesAreShort, VariantsAreShort, FramesFit, FramesPass}
 use Rattle.mv_code_sizes.proofs.OwnWords.{words_allowed, bound_words, renamed_words, folded_words}

@@ -1,22 +1,19 @@
 -- The words of linked code, and the slots in it.
-use Rattle.std.proofs.Common.{arith, ◌≡◌, ℕ, zero, suc, ◌+◌, ◌*◌, ◌<◌, ◌≤◌, List, [], ◌∷◌, ◌++◌, length, map, Some, refl, sym, ap, ◌∙◌, subst}
+use Rattle.std.proofs.Common.{arith, ◌≡◌, ℕ, suc, ◌+◌, ◌*◌, ◌<◌, ◌≤◌, List, [], ◌∷◌, ◌++◌, length, map, Some, refl, sym, ap, ◌∙◌, subst}
 use Rattle.std.specs.Prelude.{sum, sum_by, slice_get, slice_index}
 use Rattle.std.proofs.lemmas.List.Sums.{sum_by-append, sum_by-cons}
 use Rattle.std.proofs.Math.Nat.{mul_comm, suc-mul}
 use Rattle.mv_ast.specs.declared.program.Program.{Program}
 use Rattle.mv_ast.specs.declared.program.Function.{Function}
-use Rattle.mv_ast.specs.Counts.{nodes, calls, assignments, patchable}
-use Rattle.mv_ast.specs.Plans.{attributed_functions}
+use Rattle.mv_ast.specs.Counts.{nodes, assignments}
 use Rattle.mv_isa.specs.declared.labelled.Labelled.{Labelled}
 use Rattle.mv_isa.specs.declared.labelled.Line.{Line}
 use Rattle.mv_isa.specs.declared.labelled.Line.TheVariants.{Word, Label, Jump, Branch, Entry, Slot}
-use Rattle.mv_isa.specs.Code.{line_at, greatest_words, IsSizing}
-use Rattle.mv_lowered_programs.specs.WellFormed.{IsWellFormed}
+use Rattle.mv_isa.specs.Code.{line_at, greatest_words}
 use Rattle.mv_bound_bodies.specs.Slots.{SlotsArePatchable}
-use Rattle.mv_linker.specs.declared.parts.Parts.{Parts}
 use Rattle.mv_linker.specs.Linked.{relabelled, stub_lines, function_part, function_parts, linked_lines}
 use Rattle.mv_code_sizes.specs.Sizes.{LinesAreShort, words_of}
-use Rattle.mv_code_sizes.specs.Texts.{IsCodeOf, HaveCode, text_count, TextsPass, site_count, SitesAreFew}
+use Rattle.mv_code_sizes.specs.Texts.{IsCodeOf, TextsPass, SitesAreFew}
 
 abbrev words : List Line → ℕ
 words = sum_by greatest_words

@@ -1,5 +1,5 @@
 -- The loop that makes an array of the frame 0, on a run.
-use Rattle.std.proofs.Common.{◌≡◌, ℕ, zero, suc, ◌+◌, ◌*◌, ◌<◌, ◌≤◌, ◌^◌, true, false, eqb, List, [], ◌∷◌, ◌++◌, length, map, pos, refl, sym, ap, ◌∙◌, subst, arith, eq-eqb}
+use Rattle.std.proofs.Common.{◌≡◌, ℕ, zero, suc, ◌+◌, ◌*◌, ◌<◌, ◌^◌, true, false, List, [], ◌∷◌, ◌++◌, length, map, refl, sym, ap, ◌∙◌, subst, arith, eq-eqb}
 use Rattle.std.specs.Prelude.{not}
 use Rattle.std.proofs.lemmas.Bool.{ne_eqb}
 use Rattle.std.proofs.lemmas.Int.{ints}
@@ -11,12 +11,12 @@ use Rattle.mv_isa.specs.LineSteps.{branch_holds, BranchRuns}
 use Rattle.mv_ir.specs.declared.stm.Array.TheVariants as array
 use Rattle.mv_ir.specs.declared.stm.Stm.TheOpen as stm
 use Rattle.mv_ir.specs.World as ir
-use Rattle.mv_ir.specs.Outcome.{State, Run, Bound}
+use Rattle.mv_ir.specs.Outcome.{State, Bound}
 use Rattle.mv_ir.specs.Meaning.{elements, with_elements, statement}
 use Rattle.mv_statement_code.specs.StatementCode.{first, second, bounds_lines, clear_lines}
 use Rattle.mv_statement_code.specs.Leads.{Past}
 use Rattle.mv_statement_code.specs.Frames.{Site, Element, IsFit, Shows}
-use Rattle.mv_statement_code.specs.Laws.{cleared, IsCleared}
+use Rattle.mv_statement_code.specs.Laws.{IsCleared}
 use Rattle.mv_statement_code.proofs.ZeroStatement.{cleared_all, bounds_done, clear_done}
 use Rattle.mv_flow_code.specs.declared.enclosing.Enclosing.{Enclosing}
 use Rattle.mv_flow_code.specs.FlowCode.{zero_lines}
@@ -108,6 +108,6 @@ module _ {M : Type 0} (access : Access M) (s : Site) (setting : ir.Setting) (fra
       let paid = h.paid in let asked = h.asked in let soon = w.soon in let late = w.late in let sooner = z.reaches.soon in let later = z.reaches.late in (
         z.reaches.time,
         to_here access s machine ok place end budget far 0 spare k next (with_elements (array.Local a) l (map (λ x. 0) (elements (array.Local a) l))) l.world z.regs z.memory z.reaches.time refl shown
-        (omega (arith, paid, soon, sooner, count)) (omega (arith, asked, late, later))
-        (stands_at access s machine ok place end budget far l.world branch.0 next z.regs z.memory z.reaches.time (sym branch.2) z.reaches.stands),
+            (omega (arith, paid, soon, sooner, count)) (omega (arith, asked, late, later))
+            (stands_at access s machine ok place end budget far l.world branch.0 next z.regs z.memory z.reaches.time (sym branch.2) z.reaches.stands),
       )

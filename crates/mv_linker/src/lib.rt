@@ -11,6 +11,3 @@ pub use error::LinkError;
 pub use laws::linking_law;
 pub use linking::link;
 pub use parts::{Datum, Parts};
-
-#[cfg(test)]
-mod tests;

@@ -64,7 +64,7 @@ module _ (direct : ℕ → ℕ) (through : ℕ) where
           let n = ap nodes_of_all (trees_one x ∙ p.trees) in
           record {
             units = omega (arith, size_roll x, calls_roll x, p.units);
-            words = omega (arith, allowance_roll x, p.words);
+            words = omega (arith, allowance_roll x, p.allowed);
             nodes = omega (arith, n, counted_result writes);
             weight = omega (arith, plain_weight x reads writes c v w p);
           };
@@ -72,7 +72,7 @@ module _ (direct : ℕ → ℕ) (through : ℕ) where
           let n = ap nodes_of_all (trees_one x ∙ p.trees) in
           record {
             units = omega (arith, size_roll x, calls_roll x, p.units);
-            words = omega (arith, allowance_roll x, p.words);
+            words = omega (arith, allowance_roll x, p.allowed);
             nodes = omega (arith, n);
             weight = omega (arith, plain_weight x reads writes c v w p);
           };

@@ -59,7 +59,7 @@ pub record IsPlain (a : Allowed) (x : Stm-F Stm) (reads : List Tree) (writes : O
   pub flows : (t : ℕ) → layer_flow t (map-Stm Stm Flow (flow t) x) ≡ plain t reads writes goes_next
   pub trees : layer_trees (map-Stm Stm (List Tree) stm_trees x) ≡ reads
   pub units : layer_size (map-Stm Stm ℕ stm_size x) + 3 * layer_calls (map-Stm Stm ℕ stm_calls x) ≤ measure
-  pub words : layer_allowance (map-Stm Stm ℕ stm_allowance x) ≤ words
+  pub allowed : layer_allowance (map-Stm Stm ℕ stm_allowance x) ≤ words
   pub calls : layer_weight a.direct a.through (map-Stm Stm ℕ (stm_weight a.direct a.through) x) ≡ weight
   pub arguments : layer_arguments (map-Stm Stm Bool stm_arguments x) ≡ true
   pub targets : (around : List Bool) → layer_targets (map-Stm Stm (List Bool → Bool) stm_targets x) around ≡ true

@@ -48,7 +48,7 @@ module _ (globals : Globals) (locals : ℕ) (sizes : ℕ → Option ℕ) (void :
   abbrev a : (ℕ → Bool) → Allowed
   a declared = allowed globals locals sizes room none 0 declared
 
-  abbrev P : (ℕ → Bool) → ℕ → ℕ → ℕ → List Tree → List Stm → List Tree → Type 0
+  abbrev P : (ℕ → Bool) → ℕ → ℕ → ℕ → ℕ → List Tree → List Stm → List Tree → Type 0
   P declared = passing.Passing (a declared) u
 
   -- ---- values

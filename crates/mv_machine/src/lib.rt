@@ -6,6 +6,3 @@ mod machine;
 mod turning;
 
 pub use machine::{Machine, Stopped};
-
-#[cfg(test)]
-mod tests;

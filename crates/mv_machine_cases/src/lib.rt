@@ -3,3 +3,11 @@
 
 #[cfg(test)]
 mod asm;
+#[cfg(test)]
+mod linker;
+#[cfg(test)]
+mod machine;
+#[cfg(test)]
+mod memory;
+#[cfg(test)]
+mod probes;

@@ -7,6 +7,7 @@ use Rattle.mv_isa.specs.Encoding.{encode, IsOffset}
 use Rattle.mv_isa.specs.Code.{IsPlace, distance, nop}
 use Rattle.mv_isa.specs.Standing.{InstrStands}
 use Rattle.mv_image.specs.Jumps as image
+use Rattle.mv_machine_runs.specs.Laws.{IsWordOf, BoundWordsAreInstructions}
 
 low_distance : (from to : ℕ) → IsPlace from → IsPlace to → low_in (2 ^ 21) (distance from to) ≡ image.distance from to
 unfolding low_in
@@ -34,6 +35,12 @@ offset_fits from to p q =
 pub jump_stands : (text : ℕ → Option ℕ) (rd from to : ℕ) → rd < 32 → IsPlace from → IsPlace to → text from ≡ Some (image.jump rd from to) → InstrStands text from (Jal rd (distance from to))
 jump_stands text rd from to r p q e = record { fields = (r, offset_fits from to p q); word = e ∙ ap Some (jump_is rd from to p q) }
 
-pub nop_stands : (text : ℕ → Option ℕ) (a : ℕ) → text a ≡ Some image.nop → InstrStands text a nop
+nop_is : IsWordOf image.nop nop
 unfolding encode i_word low_in
-nop_stands text a e = record { fields = (omega arith, omega arith, (omega (arith, ints), omega (arith, ints))); word = e }
+nop_is = ((omega arith, omega arith, (omega (arith, ints), omega (arith, ints))), refl)
+
+pub nop_stands : (text : ℕ → Option ℕ) (a : ℕ) → text a ≡ Some image.nop → InstrStands text a nop
+nop_stands text a e = record { fields = nop_is.0; word = e ∙ ap Some nop_is.1 }
+
+pub bound_words : BoundWordsAreInstructions
+bound_words = record { jumps = λ rd from to r p q. ((r, offset_fits from to p q), jump_is rd from to p q); fills = nop_is }

@@ -5,9 +5,13 @@ use Rattle.mv_ast.specs.declared.program.Program.{Program}
 use Rattle.mv_ast.specs.declared.world.Binding.{Binding}
 use Rattle.mv_ast.specs.Plans.{free}
 use Rattle.mv_isa.specs.declared.labelled.Line.{Line}
-use Rattle.mv_isa.specs.Code.{CodeFits, line_at, address, label_address}
+use Rattle.mv_isa.specs.declared.instr.Instr.{Instr}
+use Rattle.mv_isa.specs.declared.instr.Instr.TheVariants.{Jal}
+use Rattle.mv_isa.specs.Encoding.{encode, Fits}
+use Rattle.mv_isa.specs.Code.{CodeFits, IsPlace, distance, nop, line_at, address, label_address}
 use Rattle.mv_isa.specs.Standing.{LineStands}
 use Rattle.mv_asm.specs.Outcome.{AreWordsUnder}
+use Rattle.mv_image.specs.Jumps as image
 use Rattle.mv_image.specs.Spelling.{Fields}
 use Rattle.mv_ir.specs.World.{World}
 use Rattle.mv_ir.specs.Programs.{setting_of}
@@ -76,6 +80,16 @@ FreeLinesStand =
     ((a : ℕ) → address base sizing k ≤ a → a < address base sizing (k + 1) → a % 4 ≡ 0 → IsFreeAt image w a) →
     let place = label_address base lines sizing in
     LineStands (bound_word image w) place place (address base sizing k) (address base sizing (k + 1)) (line_at lines k)
+
+-- the word is that of an instruction whose fields fit
+abbrev pub IsWordOf : ℕ → Instr → Type 0
+IsWordOf word instr = Fits instr × (word ≡ encode instr)
+
+-- The words that bindings put into text are instructions: a jump is a JAL over the distance of its two places of text, and the word that fills a
+-- site is NOP.
+pub record BoundWordsAreInstructions : Type 0 where
+  pub jumps : (rd from to : ℕ) → rd < 32 → IsPlace from → IsPlace to → IsWordOf (image.jump rd from to) (Jal rd (distance from to))
+  pub fills : IsWordOf image.nop nop
 
 -- Where the binding of a function shows, its variant stands.
 abbrev pub BindingsAreShown : Type 0

@@ -1,4 +1,4 @@
-ghost use Rattle.mv_machine_runs.specs.Laws.{CalmIsTested, RunsAreRuns, RunsAreRunsUnder, BoundStepsAreTaken, TextsAreFound, CodeIsPlaced, FreeLinesStand, BindingsAreShown, RunsBeginInCalm, KnownCallsAreServed, PackedIsLaidOut, EnvironmentCalls};
+ghost use Rattle.mv_machine_runs.specs.Laws.{CalmIsTested, RunsAreRuns, RunsAreRunsUnder, BoundStepsAreTaken, TextsAreFound, CodeIsPlaced, FreeLinesStand, BindingsAreShown, RunsBeginInCalm, KnownCallsAreServed, PackedIsLaidOut, EnvironmentCalls, BoundWordsAreInstructions};
 ghost use Rattle.mv_machine_runs.specs.Shown.{BindingsHaveValues, BoundFunctionsShow, FreeFunctionsShow};
 
 /// The test of calm is true exactly where the machine is calm. The call does nothing: its contract is the law.
@@ -34,6 +34,11 @@ pub fn code_is_placed()
 /// Each line of assembled code stands under bindings where those that show there are free.
 pub fn free_lines_stand()
     ensures { FreeLinesStand }
+{}
+
+/// The words that bindings put into text are those of instructions, jumps and NOP.
+pub fn bound_words_are_instructions()
+    ensures { BoundWordsAreInstructions }
 {}
 
 /// Where the binding of a function shows, a jump to its variant stands, a call of it, or its inline body.

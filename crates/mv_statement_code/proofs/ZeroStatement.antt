@@ -13,7 +13,7 @@ use Rattle.mv_tree_code.proofs.Instructions.{addi_sets}
 use Rattle.mv_tree_code.proofs.Registers.{reg_zero, put_same, put_other, changes_put}
 use Rattle.mv_tree_code.proofs.Words.{add_below, add_word, word_of_pos, zero_add}
 use Rattle.mv_statement_code.specs.StatementCode.{first, second, bounds_lines, clear_lines}
-use Rattle.mv_statement_code.specs.Leads.{Past, Leads}
+use Rattle.mv_statement_code.specs.Leads.{Past}
 use Rattle.mv_statement_code.specs.Frames.{Site, Element, address, content, IsFit, Shows}
 use Rattle.mv_statement_code.specs.Laws.{cleared, IsCleared, Clears}
 use Rattle.mv_statement_code.proofs.FrameChanges.{elements_same, updates_element, frame_scratch, frame_stored}
@@ -87,8 +87,8 @@ module _ {M : Type 0} (access : Access M) (s : Site) (setting : ir.Setting) (fra
           after,
           m,
           leads_next access s i (one j) 1 regs m mid m Past after m
-          (addi_sets access m first 2 (pos at) regs (reg regs 2) (word_of (pos at)) x refl refl (add_word (reg regs 2) at ∙ low), inl refl)
-          (leads_one access s j mid m after m (addi_sets access m second 2 (pos stop) mid (reg mid 2) (word_of (pos stop)) y refl refl (add_word (reg mid 2) stop ∙ high), inl refl)),
+              (addi_sets access m first 2 (pos at) regs (reg regs 2) (word_of (pos at)) x refl refl (add_word (reg regs 2) at ∙ low), inl refl)
+              (leads_one access s j mid m after m (addi_sets access m second 2 (pos stop) mid (reg mid 2) (word_of (pos stop)) y refl refl (add_word (reg mid 2) stop ∙ high), inl refl)),
           record {
             size = f.sizes (array.Local a);
             shown = subst (λ (z : State). Shows s access z after m) (sym none_yet) shown';
@@ -123,14 +123,14 @@ module _ {M : Type 0} (access : Access M) (s : Site) (setting : ir.Setting) (fra
           after,
           st.after,
           leads_next access s (Sw first 0 (pos 0)) (one (Addi first first (pos 4))) 1 regs m regs st.after Past after st.after (stores, inr (x, 0, tt, there, omega arith, st.stored))
-          (leads_one access s (Addi first first (pos 4)) regs st.after after st.after (moves, inl refl)),
+              (leads_one access s (Addi first first (pos 4)) regs st.after after st.after (moves, inl refl)),
           subst (λ k. IsCleared access s setting frame a k l after st.after) suc_is
-          (record {
-            size = size;
-            shown = subst (λ (z : State). Shows s access z after st.after) (one_more n (omega (arith, size))) shown;
-            next = put_same regs first v (omega arith) (omega (arith, f.shown.are.count)) ∙ add_next (s.register 2) (s.array_at a) n small;
-            stop = put_other regs first second v (omega arith) (λ e. omega (arith, e)) ∙ f.stop;
-          }),
+              (record {
+                size = size;
+                shown = subst (λ (z : State). Shows s access z after st.after) (one_more n (omega (arith, size))) shown;
+                next = put_same regs first v (omega arith) (omega (arith, f.shown.are.count)) ∙ add_next (s.register 2) (s.array_at a) n small;
+                stop = put_other regs first second v (omega arith) (λ e. omega (arith, e)) ∙ f.stop;
+              }),
         )
       where
         moved : (n : ℕ) → s.register 2 + (s.array_at a + 4 * n) ≡ address s (Element (array.Local a) n)

@@ -1,6 +1,6 @@
 //! The statements on elements of arrays.
 
-ghost use Rattle.std.specs.Prelude.{◌≡◌, ◌+◌, ◌*◌, ◌<◌, ◌≤◌, ◌++◌, pos, OnOk};
+ghost use Rattle.std.specs.Prelude.{◌≡◌, ◌+◌, ◌*◌, ◌<◌, ◌≤◌, ◌++◌, OnOk};
 ghost use Rattle.mv_ir.specs.Trees.{depth};
 ghost use Rattle.mv_tree_code.specs.TreeCode.{temps_of};
 ghost use Rattle.mv_tree_code.specs.Rooms.{place_in};

@@ -1,9 +1,24 @@
 -- The last line of the notes.
-use Rattle.std.specs.Prelude.{ℕ, Bool, true, false, List, [], ◌∷◌, ◌++◌, codes}
-use Rattle.std.specs.Fmt.{decimal}
+use Rattle.std.specs.Prelude.{ℕ, ◌^◌, ◌-◌, Bool, true, false, List, [], ◌∷◌, ◌++◌, codes}
+use Rattle.std.specs.Fmt.{decimal, digits, format_spec, padded_integral}
+use Rattle.mv_isa.specs.declared.instr.Cause.{Cause}
+use Rattle.mv_isa.specs.declared.instr.Cause.TheVariants as cause
 use Rattle.mv_front.specs.Refusals.{refusal_text}
 use Rattle.mv_top.specs.declared.status.Status.{Status}
-use Rattle.mv_top.specs.declared.status.Status.TheVariants.{Ended, Trapped, Usage, Refused, Memory, InputFault, OutputFault, ShelfFault, Steps}
+use Rattle.mv_top.specs.declared.status.Status.TheVariants.{Ended, Trapped, Usage, Refused, Memory, InputFault, OutputFault, ShelfFault, Steps, MachineFault}
+
+-- eight hexadecimal digits
+abbrev pub word_text : ℕ → List ℕ
+word_text word = padded_integral (format_spec 32 0 4 8 (2 ^ 64 - 1)) false [] (digits 16 false word)
+
+abbrev pub cause_name : Cause → List ℕ
+cause_name cause.Fetch = codes "fetch"
+cause_name cause.Undefined = codes "undefined"
+cause_name cause.Jump = codes "jump"
+cause_name cause.Load = codes "load"
+cause_name cause.Store = codes "store"
+cause_name cause.Break = codes "break"
+cause_name cause.Call = codes "call"
 
 -- the text of a status, which is the last line of the notes without its line feed
 abbrev pub status_text : Status → List ℕ
@@ -16,6 +31,7 @@ status_text InputFault = codes "input fault"
 status_text OutputFault = codes "output fault"
 status_text ShelfFault = codes "shelf fault"
 status_text Steps = codes "steps"
+status_text (MachineFault address cause) = codes "machine fault 0x" ++ (word_text address ++ (codes " " ++ cause_name cause))
 
 abbrev pub last_line : Status → List ℕ
 last_line status = status_text status ++ 10 ∷ []
@@ -31,6 +47,7 @@ is_silent InputFault = false
 is_silent OutputFault = true
 is_silent ShelfFault = false
 is_silent Steps = false
+is_silent (MachineFault address cause) = false
 
 -- the process status
 abbrev pub number_of : Status → ℕ
@@ -43,3 +60,4 @@ number_of InputFault = 5
 number_of OutputFault = 6
 number_of ShelfFault = 7
 number_of Steps = 8
+number_of (MachineFault address cause) = 10

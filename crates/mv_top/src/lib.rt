@@ -2,13 +2,8 @@
 #![tactic(auto)]
 
 mod command;
-mod execution;
 mod number;
-mod reader;
 mod status;
-#[cfg(test)]
-mod tests;
-mod tokens;
 mod top;
 
 pub use mv_front::Refusal;

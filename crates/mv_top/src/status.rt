@@ -1,9 +1,10 @@
 //! How a command ended.
 
 ghost use Rattle.std.specs.Prelude.{◌≡◌, Some};
-ghost use Rattle.mv_top.specs.Lines.{is_silent, number_of, status_text};
+ghost use Rattle.mv_top.specs.Lines.{cause_name, is_silent, number_of, status_text};
 
 use mv_front::Refusal;
+use mv_isa::Cause;
 use std::fmt;
 
 /// How a command ended.
@@ -27,6 +28,23 @@ pub enum Status {
     ShelfFault,
     /// The step limit was reached, or the bound of an evaluation, and the program goes on.
     Steps,
+    /// The instruction at this address faults. What `run` builds never does where the input tells its bytes.
+    MachineFault(u32, Cause),
+}
+
+// The word for a cause in the last line.
+fn cause_name(cause: Cause) -> &'static str
+    ensures { result.now ≡ cause_name cause }
+{
+    match cause {
+        Cause::Fetch => "fetch",
+        Cause::Undefined => "undefined",
+        Cause::Jump => "jump",
+        Cause::Load => "load",
+        Cause::Store => "store",
+        Cause::Break => "break",
+        Cause::Call => "call",
+    }
 }
 
 impl Status {
@@ -44,6 +62,7 @@ impl Status {
             Status::OutputFault => 6,
             Status::ShelfFault => 7,
             Status::Steps => 8,
+            Status::MachineFault(_, _) => 10,
         }
     }
 
@@ -69,6 +88,11 @@ impl fmt::Display for Status {
             Status::OutputFault => write!(f, "output fault"),
             Status::ShelfFault => write!(f, "shelf fault"),
             Status::Steps => write!(f, "steps"),
+            Status::MachineFault(address, cause) => write!(
+                f,
+                "machine fault 0x{address:08x} {}",
+                cause_name(*cause)
+            ),
         }
     }
 }

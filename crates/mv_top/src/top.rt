@@ -1,64 +1,49 @@
 //! The top call.
 
-ghost use Rattle.std.specs.Prelude.{ℕ, ◌≡◌, ◌⊎◌, List, map};
+ghost use Rattle.std.specs.Prelude.{◌≡◌, ◌⊎◌, All, Option, map};
 ghost use Rattle.std.specs.String.{string_bytes};
-ghost use Rattle.mv_eval.specs.Grown.{Grew, Lost};
 ghost use Rattle.mv_io.specs.Outside.{Rose};
-ghost use Rattle.mv_top.specs.Grown.{Keeps};
-ghost use Rattle.mv_front.specs.Verdicts.{IsProgram};
-ghost use Rattle.mv_top.specs.Outcomes.{Comes, Decides, Does, Gives, Notes, Quiet, RunsText, status_of_error, status_of_evaluation};
+ghost use Rattle.mv_probe.specs.Hearing.{hearing, IsPatient};
+ghost use Rattle.mv_probe.specs.Ways.{Way};
+ghost use Rattle.mv_refine.specs.Environment.{environment, reading, writing};
+ghost use Rattle.mv_top.specs.Outcomes.{Comes, Does, IsCarriedOut, Notes, outside, shelved, status_of_build, status_of_error, status_of_evaluation, status_of_stop};
 
 use crate::command::{Command, Task, command_of};
-use crate::execution::execute;
-use crate::reader::read;
 use crate::status::Status;
-use mv_ast::place::Place;
-use mv_ast::program::Program;
+use mv_build::{BuildError, build};
 use mv_eval::error::EvalError;
 use mv_eval::eval;
 use mv_eval::writing::write_all;
-use mv_front::{FrontError, Refusal, front};
+use mv_front::{FrontError, front};
 use mv_io::{Shelf, ShelfError, Sink, Source};
 use mv_machine::Stopped;
 use mv_meaning::meant::End;
-use mv_probe::FetchOracle;
+use mv_probe::{FetchOracle, Probe};
+use mv_refine::execute;
 use std::alloc::Global;
 
-/// A program that is not compiled yet.
-const NOT_BUILT: Refusal = Refusal {
-    code: 16,
-    place: Place { line: 1, column: 1 },
-    detail: 0,
-    count: 0,
-};
-
-// Runs an accepted text for at most so many instructions.
-fn run_text<I: Source, O: Sink>(
-    alloc: Global,
-    text: &[u8],
-    steps: u64,
-    input: &mut I,
-    out: &mut O,
-    oracle: &mut Box<dyn FetchOracle>,
-) -> Status
-    ensures runs { RunsText text.now steps (Rose (I.faults input.old) (I.faults input.new)) (Rose (O.faults out.old) (O.faults out.new))
-        (λ bytes. Grew (O.written out.old) (O.written out.new) bytes) result }
-    ensures input { Keeps (I.left input.old) (I.left input.new) }
+// The status of a run that has stopped.
+fn status_of_stop(stopped: Stopped) -> Status
+    ensures { result ≡ status_of_stop stopped }
 {
-    let program = match read(alloc, text) {
-        Ok(Some(program)) => program,
-        Ok(None) => return Status::Refused(NOT_BUILT),
-        Err(_) => return Status::Memory,
-    };
-    match execute(alloc, &program, steps, input, out, oracle) {
-        Ok(Stopped::Ended(status)) => Status::Ended(status),
-        Ok(Stopped::Trapped(code)) => Status::Trapped(code),
-        Ok(Stopped::Steps) => Status::Steps,
-        Ok(Stopped::InputFault) => Status::InputFault,
-        Ok(Stopped::OutputFault) => Status::OutputFault,
-        Ok(Stopped::Fault(_, _)) => unreachable!(),
-        Ok(Stopped::Memory) => Status::Memory,
-        Err(_) => Status::Memory,
+    match stopped {
+        Stopped::Ended(status) => Status::Ended(status),
+        Stopped::Trapped(code) => Status::Trapped(code),
+        Stopped::Steps => Status::Steps,
+        Stopped::InputFault => Status::InputFault,
+        Stopped::OutputFault => Status::OutputFault,
+        Stopped::Fault(address, cause) => Status::MachineFault(address, cause),
+        Stopped::Memory => Status::Memory,
+    }
+}
+
+// The status of a text that has no image.
+fn status_of_build(error: BuildError) -> Status
+    ensures { result ≡ status_of_build error }
+{
+    match error {
+        BuildError::Refused(refusal) => Status::Refused(refusal),
+        BuildError::Memory(_) => Status::Memory,
     }
 }
 
@@ -86,40 +71,44 @@ fn status_of_refusal(error: FrontError) -> Status
     }
 }
 
-// Does with a program what a command does with it.
-fn act<I: Source, O: Sink>(
+// Compiles a text and runs it for at most so many instructions.
+fn run_text<I: Source, O: Sink>(
     alloc: Global,
     text: &[u8],
-    program: &Program,
-    task: Task,
+    steps: u64,
     input: &mut I,
     out: &mut O,
     oracle: &mut Box<dyn FetchOracle>,
+    probes: &mut Vec<Box<dyn Probe>>,
 ) -> Status
-    requires { IsProgram text.now program.now }
-    ensures { Does (I.left input.old) (λ bytes. Lost (I.left input.old) (I.left input.new) bytes) (λ bytes. Grew (O.written out.old) (O.written out.new) bytes)
-        (Rose (I.faults input.old) (I.faults input.new)) (Rose (O.faults out.old) (O.faults out.new)) text.now task result }
+    requires { All (λ probe. IsPatient (hearing (told probe) (patience probe))) probes.old.items }
+    ensures does { Does (environment (reading (I.left input.old) (I.faults input.old)) (writing (O.written out.old) (O.faults out.old)) (way oracle.old))
+        (environment (reading (I.left input.new) (I.faults input.new)) (writing (O.written out.new) (O.faults out.new)) (way oracle.new)) text.now (Task.Run steps) result }
+    ensures quiet { probes.new ≡ probes.old }
 {
-    match task {
-        Task::Run(steps) => run_text(alloc, text, steps, input, out, oracle),
-        Task::Eval(bound) => status_of(eval(alloc, program, bound, input, out)),
+    let built = match build(alloc, text) {
+        Ok(built) => built,
+        Err(error) => return status_of_build(error),
+    };
+    match execute(alloc, &built, steps, input, out, oracle, probes, &[]) {
+        Ok(execution) => status_of_stop(execution.stopped),
+        Err(_) => Status::Memory,
     }
 }
 
-// Does with a text what a command does with it.
-fn carry_out<I: Source, O: Sink>(
+// Evaluates a text at a bound.
+fn eval_text<I: Source, O: Sink>(
     alloc: Global,
     text: &[u8],
-    task: Task,
+    bound: u32,
     input: &mut I,
     out: &mut O,
-    oracle: &mut Box<dyn FetchOracle>,
 ) -> Status
-    ensures { Does (I.left input.old) (λ bytes. Lost (I.left input.old) (I.left input.new) bytes) (λ bytes. Grew (O.written out.old) (O.written out.new) bytes)
-        (Rose (I.faults input.old) (I.faults input.new)) (Rose (O.faults out.old) (O.faults out.new)) text.now task result }
+    ensures { (way : Option Way) → Does (environment (reading (I.left input.old) (I.faults input.old)) (writing (O.written out.old) (O.faults out.old)) way)
+        (environment (reading (I.left input.new) (I.faults input.new)) (writing (O.written out.new) (O.faults out.new)) way) text.now (Task.Eval bound) result }
 {
     match front(alloc, text) {
-        Ok(program) => act(alloc, text, &program, task, input, out, oracle),
+        Ok(program) => status_of(eval(alloc, &program, bound, input, out)),
         Err(error) => status_of_refusal(error),
     }
 }
@@ -132,25 +121,32 @@ fn perform<H: Shelf, I: Source, O: Sink>(
     input: &mut I,
     out: &mut O,
     oracle: &mut Box<dyn FetchOracle>,
+    probes: &mut Vec<Box<dyn Probe>>,
 ) -> Status
-    ensures comes { Comes (map string_bytes words.now) (H.files shelf.old) (I.left input.old)
-        (λ bytes. Lost (I.left input.old) (I.left input.new) bytes) (λ bytes. Grew (O.written out.old) (O.written out.new) bytes)
-        (Rose (H.faults shelf.old) (H.faults shelf.new)) (Rose (I.faults input.old) (I.faults input.new)) (Rose (O.faults out.old) (O.faults out.new)) result }
+    requires { All (λ probe. IsPatient (hearing (told probe) (patience probe))) probes.old.items }
+    ensures comes { Comes (map string_bytes words.now)
+        (outside (shelved (H.files shelf.old) (H.faults shelf.old)) (environment (reading (I.left input.old) (I.faults input.old)) (writing (O.written out.old) (O.faults out.old)) (way oracle.old)))
+        (outside (shelved (H.files shelf.new) (H.faults shelf.new)) (environment (reading (I.left input.new) (I.faults input.new)) (writing (O.written out.new) (O.faults out.new)) (way oracle.new))) result }
     ensures files { H.files shelf.new ≡ H.files shelf.old }
+    ensures quiet { probes.new ≡ probes.old }
 {
     let Some(Command { file, task }) = command_of(words) else {
         return Status::Usage;
     };
-    match shelf.load(alloc, file) {
-        Ok(text) => carry_out(alloc, text.as_slice(), task, input, out, oracle),
-        Err(ShelfError::Failed) => Status::ShelfFault,
-        Err(ShelfError::Memory(_)) => Status::Memory,
+    let text = match shelf.load(alloc, file) {
+        Ok(text) => text,
+        Err(ShelfError::Failed) => return Status::ShelfFault,
+        Err(ShelfError::Memory(_)) => return Status::Memory,
+    };
+    match task {
+        Task::Run(steps) => run_text(alloc, text.as_slice(), steps, input, out, oracle, probes),
+        Task::Eval(bound) => eval_text(alloc, text.as_slice(), bound, input, out),
     }
 }
 
 // Writes the last line of the notes, and gives the status that then stands.
 fn report<N: Sink>(alloc: Global, status: Status, notes: &mut N) -> Status
-    ensures notes { Notes (λ due. due ≡ status) result (N.written notes.old) (N.written notes.new) }
+    ensures notes { Notes (λ due. due ≡ status) (N.written notes.old) (N.written notes.new) result }
     ensures status { (result ≡ status) ⊎ ((result ≡ Status.Memory) ⊎ ((result ≡ Status.OutputFault) × Rose (N.faults notes.old) (N.faults notes.new))) }
 {
     if status.is_silent() {
@@ -167,7 +163,7 @@ fn report<N: Sink>(alloc: Global, status: Status, notes: &mut N) -> Status
 
 /// Carries out the command that the words are: the words after the program's name. The output goes to `out`, and the last line to `notes`.
 /// Where memory was refused or a write failed, there is no last line: `notes` is as it was, or has a part of the last line of a status whose
-/// cause stands. `run` fetches by the oracle.
+/// cause stands. `run` fetches by the oracle. The programs that it runs don't commit, so no probe is told anything.
 pub fn multiverse<H: Shelf, I: Source, O: Sink, N: Sink>(
     alloc: Global,
     words: &[String],
@@ -176,20 +172,15 @@ pub fn multiverse<H: Shelf, I: Source, O: Sink, N: Sink>(
     out: &mut O,
     notes: &mut N,
     oracle: &mut Box<dyn FetchOracle>,
+    probes: &mut Vec<Box<dyn Probe>>,
 ) -> Status
-    ensures gives { Gives (map string_bytes words.now) (H.files shelf.old) (I.left input.old)
-        (λ bytes. Lost (I.left input.old) (I.left input.new) bytes) (λ bytes. Grew (O.written out.old) (O.written out.new) bytes)
-        (Rose (H.faults shelf.old) (H.faults shelf.new)) (Rose (I.faults input.old) (I.faults input.new)) (Rose (O.faults out.old) (O.faults out.new))
-        (Rose (N.faults notes.old) (N.faults notes.new)) result }
-    ensures decides { Quiet (Rose (H.faults shelf.old) (H.faults shelf.new)) (Rose (I.faults input.old) (I.faults input.new))
-        (Rose (O.faults out.old) (O.faults out.new)) (Rose (N.faults notes.old) (N.faults notes.new)) →
-        Decides (map string_bytes words.now) (H.files shelf.old) (I.left input.old) result }
-    ensures notes { Notes (λ due. Comes (map string_bytes words.now) (H.files shelf.old) (I.left input.old)
-        (λ bytes. Lost (I.left input.old) (I.left input.new) bytes) (λ bytes. Grew (O.written out.old) (O.written out.new) bytes)
-        (Rose (H.faults shelf.old) (H.faults shelf.new)) (Rose (I.faults input.old) (I.faults input.new)) (Rose (O.faults out.old) (O.faults out.new)) due)
-        result (N.written notes.old) (N.written notes.new) }
-    ensures files { H.files shelf.new ≡ H.files shelf.old }
+    requires { All (λ probe. IsPatient (hearing (told probe) (patience probe))) probes.old.items }
+    ensures carried_out { IsCarriedOut (map string_bytes words.now)
+        (outside (shelved (H.files shelf.old) (H.faults shelf.old)) (environment (reading (I.left input.old) (I.faults input.old)) (writing (O.written out.old) (O.faults out.old)) (way oracle.old)))
+        (outside (shelved (H.files shelf.new) (H.faults shelf.new)) (environment (reading (I.left input.new) (I.faults input.new)) (writing (O.written out.new) (O.faults out.new)) (way oracle.new)))
+        (writing (N.written notes.old) (N.faults notes.old)) (writing (N.written notes.new) (N.faults notes.new)) result }
+    ensures quiet { probes.new ≡ probes.old }
 {
-    let status = perform(alloc, words, shelf, input, out, oracle);
+    let status = perform(alloc, words, shelf, input, out, oracle, probes);
     report(alloc, status, notes)
 }

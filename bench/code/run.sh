@@ -1,0 +1,93 @@
+#!/bin/sh
+# How many instructions a guest executes, as `multiverse` compiles it and as gcc does (-O0 and -O1, -march=rv32im); and what compiling costs the host as
+# a source grows: run.sh [code|compile]..
+# The guests are five programs of examples/ with their inputs. Ours are counted by the step limit, gcc's by QEMU, one line an instruction; gcc's input
+# and output are functions of a few instructions each, ours one. Compiling is counted by callgrind, up to the first instruction of the guest.
+# Needs the program that .ci/run leaves (or PROGRAM), gcc-riscv64-unknown-elf, qemu-user and valgrind.
+set -e
+here=$(cd "$(dirname "$0")" && pwd)
+examples=$here/../../examples
+program=${PROGRAM:-$here/../../crates/mv_cli/out/mv_cli}
+scratch=$(mktemp -d)
+trap 'rm -rf "$scratch"' EXIT
+
+# ours SOURCE INPUT: the least step limit that is enough
+ours() {
+    low=0
+    high=1
+    while [ "$("$program" run "$1" --steps $high < "$2" 2>&1 > /dev/null)" = steps ]; do
+        low=$high
+        high=$((2 * high))
+    done
+    while [ $((high - low)) -gt 1 ]; do
+        middle=$(((low + high) / 2))
+        if [ "$("$program" run "$1" --steps $middle < "$2" 2>&1 > /dev/null)" = steps ]; then low=$middle; else high=$middle; fi
+    done
+    echo "$high"
+}
+
+# gccs SOURCE INPUT LEVEL: the instructions that QEMU traces
+gccs() {
+    sed '/#include/d' "$1" > "$scratch/guest.c"
+    riscv64-unknown-elf-gcc "$3" -w -fwrapv -funsigned-char -fno-builtin -march=rv32im -mabi=ilp32 -nostdlib -static -Wl,--no-relax \
+        -include "$here/linux.h" -o "$scratch/guest" "$scratch/guest.c" -lgcc 2> "$scratch/gcc.log" || { cat "$scratch/gcc.log" >&2; exit 1; }
+    qemu-riscv32 -singlestep -d exec,nochain -D /dev/stderr "$scratch/guest" < "$2" 2>&1 > "$scratch/guest.out" | grep -c '^Trace'
+}
+
+code() {
+    for name in order programs/sha256 programs/queens programs/life programs/interpreter; do
+        source=$examples/$name.c
+        input=$examples/$name.in
+        [ -f "$input" ] || input=/dev/null
+        awk -v name="$name" -v ours="$(ours "$source" "$input")" -v zero="$(gccs "$source" "$input" -O0)" -v one="$(gccs "$source" "$input" -O1)" \
+            'BEGIN { printf "%s: guest instructions %d, gcc -O0 %d, gcc -O1 %d; ratios %.2f, %.2f\n", name, ours, zero, one, ours / zero, ours / one }'
+    done
+}
+
+# dense PATTERN PARTS: a source of so many parts of 1,100 bytes, a function each or one function of all
+dense() {
+    awk -v pattern="$1" -v parts="$2" 'BEGIN {
+        for (line = 0; line < 8; line++)
+            part = part sprintf("    while (a > %3d) { t[a & 7] += a * %3d; if (t[b & 7] ^ 5) a -= b | 1; else b += f0(a - 1, 2); }\n    a = (b << 3) - a / (t[2] | 1);\n", line * 11, line + 9)
+        print "int t[8]; int f0(int a, int b) { return a ^ b; }"
+        if (pattern == "one") print "int g(int a, int b) {"
+        for (i = 0; i < parts; i++) {
+            if (pattern == "many") printf "int g%d(int a, int b) {\n", i
+            printf "%s", part
+            if (pattern == "many") print "    return a; }"
+        }
+        if (pattern == "one") print "    return a; }"
+        print "int main(void) { return t[1]; }"
+    }'
+}
+
+# host SOURCE: the host instructions of compiling it, and how that ended
+host() {
+    valgrind --tool=callgrind --callgrind-out-file=/dev/null "$program" run "$1" --steps 1 < /dev/null 2> "$scratch/notes" > /dev/null || true
+    grep -E '^(steps|refused)' "$scratch/notes" | head -n 1 > "$scratch/end"
+    sed -n 's/.*Collected : \([0-9]*\).*/\1/p' "$scratch/notes"
+}
+
+compile() {
+    for pattern in many one; do
+        before=
+        dense $pattern 940 > "$scratch/whole.c"
+        words=$("$program" run "$scratch/whole.c" --steps 1 2>&1 < /dev/null | sed -n 's/^refused 9 count //p')
+        for parts in 9 18 46 92 $((940 * 131000 / words)) 940; do
+            dense $pattern $parts > "$scratch/source.c"
+            bytes=$(wc -c < "$scratch/source.c")
+            count=$(host "$scratch/source.c")
+            awk -v pattern="$pattern" -v bytes="$bytes" -v count="$count" -v before="$before" -v end="$(cat "$scratch/end")" 'BEGIN {
+                each = count / bytes
+                printf "%s: %d bytes, %s: million host instructions %.1f, a byte %.0f%s\n", pattern, bytes, end, count / 1e6, each, before == "" ? "" : sprintf(", growth %.2f", each / before)
+            }'
+            before=$(awk -v count="$count" -v bytes="$bytes" 'BEGIN { print count / bytes }')
+        done
+    done
+}
+
+[ -x "$program" ] || { echo "no $program: .ci/run makes it" >&2; exit 1; }
+[ $# -gt 0 ] || set -- code compile
+for measure; do
+    "$measure"
+done

@@ -1,0 +1,17 @@
+-- The answer of each error of a stage.
+use Rattle.mv_front.specs.Refusals.{counted}
+use Rattle.mv_select.specs.declared.error.SelectError.{SelectError}
+use Rattle.mv_select.specs.declared.error.SelectError.TheVariants as selecting
+use Rattle.mv_linker.specs.declared.error.LinkError.{LinkError}
+use Rattle.mv_linker.specs.declared.error.LinkError.TheVariants as linking
+use Rattle.mv_build.specs.declared.error.BuildError.{BuildError}
+use Rattle.mv_build.specs.declared.error.BuildError.TheVariants.{Refused, Memory}
+
+abbrev pub of_selecting : SelectError → BuildError
+of_selecting (selecting.Frame function bytes) = Refused (counted 8 function bytes)
+of_selecting (selecting.Memory e) = Memory e
+
+abbrev pub of_linking : LinkError → BuildError
+of_linking (linking.DataLimit count) = Refused (counted 13 0 count)
+of_linking (linking.TextLimit count) = Refused (counted 9 0 count)
+of_linking (linking.Memory e) = Memory e

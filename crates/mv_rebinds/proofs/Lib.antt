@@ -1,0 +1,4 @@
+pub mod Flags
+pub mod Forms
+pub mod Statements
+pub mod Programs

@@ -1,0 +1,165 @@
+-- What the run of an image does that behaves as a program means.
+use Rattle.std.proofs.Common.{◌≡◌, inl, inr, ⊎_elim, ℕ, ◌^◌, ◌<◌, ◌≤◌, List, [], take, Option, Some, None, refl, sym, ap, ◌∙◌, subst, arith}
+use Rattle.std.specs.Prelude.{All, IfSome}
+use Rattle.std.proofs.lemmas.Bool.{cases_lt}
+use Rattle.mv_ast.specs.declared.program.Program.{Program}
+use Rattle.mv_eval.specs.Evaluations.{meaning}
+use Rattle.mv_image.specs.Spelling.{Fields}
+use Rattle.mv_image_runs.specs.Behaves.{IsWhole, EndsRight, Behaves, BehavesAlways, taken_of}
+use Rattle.mv_machine.specs.declared.machine.Stopped.{Stopped}
+use Rattle.mv_machine.specs.declared.machine.Stopped.TheVariants as answer
+use Rattle.mv_machine.specs.Runs.{State, Stop, Going, Exit, Trap, Fault, bytes_to_come, runs}
+use Rattle.mv_machine.specs.Snapshots.{Snapshot, Tells}
+use Rattle.mv_meaning.specs.declared.meant.End.{End}
+use Rattle.mv_meaning.specs.declared.meant.End.TheVariants as source
+use Rattle.mv_meaning.specs.declared.meant.Meant.{Meant}
+use Rattle.mv_meaning.proofs.Bounds.{bound_extends}
+use Rattle.mv_meaning.proofs.Growing.{Begins-trans}
+use Rattle.mv_refine.specs.Environment.{Environment, Took, Wrote}
+use Rattle.mv_refine.specs.Run.{IsDone, Stands, StandsBefore, Runs}
+use Rattle.mv_refine.specs.Meant.{DoesAll, DoesPart, KeepsUp, DoesOn, DoesFrom, Does, IsAnswer, DecidesOn, DecidesFrom, Decides}
+
+-- ---- ends
+
+is_more : (e : End) → ((e ≡ source.More → ⊥) → ⊥) → e ≡ source.More
+is_more (source.Exit status) h = absurd (h (λ e. cc))
+is_more (source.Trap code) h = absurd (h (λ e. cc))
+is_more source.More h = refl
+
+module _ (p : Program) (bytes : List ℕ) where
+  abbrev end_at : ℕ → End
+  end_at k = (meaning p k bytes).«end»
+
+  later_end : (j k : ℕ) → j ≤ k → (end_at j ≡ source.More → ⊥) → end_at j ≡ end_at k
+  later_end j k le ended = ap (λ (m : Meant). m.«end») ((bound_extends p bytes [] j k le).ended ended)
+
+  -- a meaning has one end
+  one_end : (j k : ℕ) → (end_at j ≡ source.More → ⊥) → (end_at k ≡ source.More → ⊥) → end_at j ≡ end_at k
+  one_end j k ended ended' = ⊎_elim
+      (λ (lt : j < k). later_end j k (omega (arith, lt)) ended)
+      (λ (le : k ≤ j). sym (later_end k j le ended'))
+      (cases_lt j k)
+
+module _ (p : Program) (image : Fields) (before after : Environment) (bytes picks : List ℕ) (steps : ℕ) (behaves : Behaves p image bytes picks) where
+  abbrev state : ℕ → State
+  state n = runs image (bytes_to_come bytes) picks n
+
+  abbrev meant : Meant
+  meant = meaning p steps bytes
+
+  -- what the run wrote and took in its first n instructions is what was written and taken
+  record Leaves (n : ℕ) : Type 0 where
+    output : Wrote before after (state n).output
+    taken : Took before after (take (taken_of bytes (state n)) bytes)
+
+  part : (n : ℕ) → n ≤ steps → Leaves n → DoesPart before after bytes meant (state n).output
+  part n le leaves =
+      let within = behaves.within n in
+      let extends = bound_extends p bytes [] n steps le in
+      let fewer = within.taken in
+      let more = extends.taken in record {
+        begins = Begins-trans (state n).output (meaning p n bytes).output meant.output within.output extends.output;
+        output = leaves.output;
+        count = taken_of bytes (state n);
+        few = omega (arith, fewer, more);
+        input = leaves.taken;
+      }
+
+  all : (stop : Stop) (e : End) → Leaves steps → IsWhole bytes (state steps) meant e → DoesAll before after bytes meant e
+  all stop e leaves whole = record {
+    ending = whole.ending;
+    output = subst (Wrote before after) (sym whole.output) leaves.output;
+    input = subst (λ (k : ℕ). Took before after (take k bytes)) (sym whole.taken) leaves.taken;
+  }
+
+  right : (stop : Stop) → (state steps).stop ≡ stop → EndsRight bytes (state steps) meant stop
+  right stop stops = subst (EndsRight bytes (state steps) meant) stops (behaves.ends steps)
+
+  keeps_up : (state steps).stop ≡ Going → KeepsUp p bytes steps (state steps).output
+  keeps_up going k enough =
+      let done = behaves.does steps k enough in
+      (is_more (meaning p k bytes).«end» (λ over. done.ended over going), done.output)
+
+-- ---- which answer comes
+
+module _ (p : Program) (steps : ℕ) (before after : Environment) (bytes : List ℕ) where
+  same_end : (k : ℕ) (e : End) (stopped : Stopped) → (e ≡ source.More → ⊥) → IsAnswer e stopped → (meaning p steps bytes).«end» ≡ e → ((meaning p k bytes).«end» ≡ source.More → ⊥) →
+      IsAnswer (meaning p k bytes).«end» stopped
+  same_end k e stopped finished is ending over =
+      let same : (meaning p steps bytes).«end» ≡ (meaning p k bytes).«end» = one_end p bytes steps k (λ more. finished (sym ending ∙ more)) over in
+      subst (λ (x : End). IsAnswer x stopped) (sym ending ∙ same) is
+
+  decides : (stopped : Stopped) → DoesOn p steps before after bytes stopped → DecidesOn p steps before after bytes stopped
+  decides (answer.Ended status) d calm_in calm_out k enough over = inl (same_end k (source.Exit status) (answer.Ended status) (λ e. cc) refl d.ending over)
+  decides (answer.Trapped code) d calm_in calm_out k enough over = inl (same_end k (source.Trap code) (answer.Trapped code) (λ e. cc) refl d.ending over)
+  decides answer.Steps d calm_in calm_out k enough over = absurd (over (d.2 k enough).0)
+  decides answer.InputFault d calm_in calm_out k enough over = absurd (calm_in d.2)
+  decides answer.OutputFault d calm_in calm_out k enough over = absurd (calm_out d.2)
+  decides (answer.Fault pc why) d calm_in calm_out k enough over = absurd d
+  decides answer.Memory d calm_in calm_out k enough over = inr refl
+
+-- ---- what a run of an image does that behaves as a program means
+
+module _ (p : Program) (image : Fields) (behaves : BehavesAlways p image) (steps : ℕ) (before after : Environment) (machine : Snapshot) where
+  module _ (bytes : List ℕ) (told : before.input.left ≡ Some bytes) (are : All (λ b. b < 2 ^ 8) bytes) where
+    input_is : (input : List (Option ℕ)) → Tells before.input.left input → input ≡ bytes_to_come bytes
+    input_is input tells = subst (λ (l : Option (List ℕ)). Tells l input) told tells
+
+    leaves : (input : List (Option ℕ)) (picks : List ℕ) (n : ℕ) → IsDone image before after machine input picks n → Leaves p image before after bytes picks steps (behaves bytes picks are) n
+    leaves input picks n done =
+        let same = input_is input done.told in
+        let taken : Took before after (take (taken_of bytes (runs image input picks n)) bytes) =
+        subst (λ (l : Option (List ℕ)). IfSome l (λ (b : List ℕ). Took before after (take (taken_of b (runs image input picks n)) b))) told done.taken in
+        record {
+          output = subst (λ (i : List (Option ℕ)). Wrote before after (runs image i picks n).output) same done.output;
+          taken = subst (λ (i : List (Option ℕ)). Took before after (take (taken_of bytes (runs image i picks n)) bytes)) same taken;
+        }
+
+    stop_at : (input : List (Option ℕ)) (picks : List ℕ) (n : ℕ) (stop : Stop) → input ≡ bytes_to_come bytes → (runs image input picks n).stop ≡ stop →
+        (runs image (bytes_to_come bytes) picks n).stop ≡ stop
+    stop_at input picks n stop same stops = subst (λ (i : List (Option ℕ)). (runs image i picks n).stop ≡ stop) same stops
+
+    ends : (stop : Stop) → (s : Stands image before after machine stop steps) → EndsRight bytes (runs image (bytes_to_come bytes) s.picks steps) (meaning p steps bytes) stop
+    ends stop s = right p image before after bytes s.picks steps (behaves bytes s.picks are) stop (stop_at s.input s.picks steps stop (input_is s.input s.done.told) s.stops)
+
+    stuck_part : (Next : State → ℕ → Type 0) → StandsBefore image before after machine Next steps → (piece : List ℕ) × DoesPart before after bytes (meaning p steps bytes) piece
+    stuck_part Next s =
+        let fewer = s.fewer in
+        let b = behaves bytes s.picks are in
+        (_, part p image before after bytes s.picks steps b s.count (omega (arith, fewer)) (leaves s.input s.picks s.count s.done))
+
+    does : (stopped : Stopped) → Runs image before after machine steps stopped → DoesOn p steps before after bytes stopped
+    does (answer.Ended status) r =
+        let s = r.stands in
+        all p image before after bytes s.picks steps (behaves bytes s.picks are) (Exit status) (source.Exit status) (leaves s.input s.picks steps s.done) (ends (Exit status) s)
+    does (answer.Trapped code) r =
+        let s = r.stands in
+        all p image before after bytes s.picks steps (behaves bytes s.picks are) (Trap code) (source.Trap code) (leaves s.input s.picks steps s.done) (ends (Trap code) s)
+    does answer.Steps r =
+        let s = r.stands in
+        let b = behaves bytes s.picks are in (
+          _,
+          part p image before after bytes s.picks steps b steps (omega arith) (leaves s.input s.picks steps s.done),
+          keeps_up p image before after bytes s.picks steps b (stop_at s.input s.picks steps Going (input_is s.input s.done.told) s.stops),
+        )
+    does answer.InputFault r =
+        let part = stuck_part _ r.0 in (part.0, part.1, r.1)
+    does answer.OutputFault r =
+        let part = stuck_part _ r.0 in (part.0, part.1, r.1)
+    does (answer.Fault pc why) r = ends (Fault why) r.0
+    does answer.Memory r = stuck_part _ r
+
+  module _ (stopped : Stopped) (runs : Runs image before after machine steps stopped) where
+    does_from : (l : Option (List ℕ)) → before.input.left ≡ l → DoesFrom p steps before after l stopped
+    does_from None told = tt
+    does_from (Some bytes) told = λ are. does bytes told are stopped runs
+
+    decides_from : (l : Option (List ℕ)) → before.input.left ≡ l → DecidesFrom p steps before after l stopped
+    decides_from None told = tt
+    decides_from (Some bytes) told = λ are. decides p steps before after bytes stopped (does bytes told are stopped runs)
+
+    pub run_does : Does p steps before after stopped
+    run_does = does_from before.input.left refl
+
+    pub run_decides : Decides p steps before after stopped
+    run_decides = decides_from before.input.left refl

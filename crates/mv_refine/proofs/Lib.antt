@@ -1,0 +1,3 @@
+pub mod Inputs
+pub mod Ran
+pub mod Executed

@@ -1,0 +1,4 @@
+pub mod Environment
+pub mod Run
+pub mod Meant
+pub mod Execution

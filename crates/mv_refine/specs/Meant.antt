@@ -1,0 +1,80 @@
+-- What a run of an image does in its environment, by what its program means.
+use Rattle.std.specs.Prelude.{ℕ, ◌≡◌, ◌+◌, ◌*◌, ◌^◌, ◌<◌, ◌≤◌, ◌⊎◌, List, take, All, Option, Some, None}
+use Rattle.mv_ast.specs.declared.program.Program.{Program}
+use Rattle.mv_eval.specs.Evaluations.{meaning}
+use Rattle.mv_machine.specs.declared.machine.Stopped.{Stopped}
+use Rattle.mv_machine.specs.declared.machine.Stopped.TheVariants.{Ended, Trapped, Steps, InputFault, OutputFault, Fault, Memory}
+use Rattle.mv_meaning.specs.declared.meant.End.{End}
+use Rattle.mv_meaning.specs.declared.meant.End.TheVariants.{Exit, Trap, More}
+use Rattle.mv_meaning.specs.declared.meant.Meant.{Meant}
+use Rattle.mv_meaning.specs.Growth.{Begins}
+use Rattle.mv_refine.specs.Environment.{Environment, Took, Wrote, ReadFailed, WriteFailed}
+
+module _ (before after : Environment) (bytes : List ℕ) (m : Meant) where
+  -- a meaning has this end, all its output was written, and the bytes that it takes of these were taken
+  pub record DoesAll (e : End) : Type 0 where
+    pub ending : m.«end» ≡ e
+    pub output : Wrote before after m.output
+    pub input : Took before after (take m.taken bytes)
+
+  -- a piece was written with which a meaning's output begins, and of the bytes no more were taken than the meaning takes
+  pub record DoesPart (piece : List ℕ) : Type 0 where
+    pub begins : Begins piece m.output
+    pub output : Wrote before after piece
+    pub count : ℕ
+    pub few : count ≤ m.taken
+    pub input : Took before after (take count bytes)
+
+-- so many instructions are time enough for all that is meant at a bound: a hundred for each unit of its work, and a hundred more
+abbrev pub IsEnough : Program → (bytes : List ℕ) → (steps bound : ℕ) → Type 0
+IsEnough p bytes steps bound = 100 * (1 + (meaning p bound bytes).work) ≤ steps
+
+-- at each bound for which there was time, the meaning has not ended and its output was written
+abbrev pub KeepsUp : Program → (bytes : List ℕ) → (steps : ℕ) → (piece : List ℕ) → Type 0
+KeepsUp p bytes steps piece =
+    (bound : ℕ) → IsEnough p bytes steps bound → ((meaning p bound bytes).«end» ≡ More) × Begins (meaning p bound bytes).output piece
+
+module _ (p : Program) (steps : ℕ) (before after : Environment) where
+  -- part of what is meant at the bound `steps`
+  abbrev pub Part : (bytes piece : List ℕ) → Type 0
+  Part bytes piece = DoesPart before after bytes (meaning p steps bytes) piece
+
+  -- What was written and taken, by the answer, on a source that has these bytes to come.
+  abbrev pub DoesOn : (bytes : List ℕ) → Stopped → Type 0
+  DoesOn bytes (Ended status) = DoesAll before after bytes (meaning p steps bytes) (Exit status)
+  DoesOn bytes (Trapped code) = DoesAll before after bytes (meaning p steps bytes) (Trap code)
+  DoesOn bytes Steps = (piece : List ℕ) × Part bytes piece × KeepsUp p bytes steps piece
+  DoesOn bytes InputFault = (piece : List ℕ) × Part bytes piece × ReadFailed before after
+  DoesOn bytes OutputFault = (piece : List ℕ) × Part bytes piece × WriteFailed before after
+  DoesOn bytes (Fault pc why) = ⊥
+  DoesOn bytes Memory = (piece : List ℕ) × Part bytes piece
+
+  -- It stands where the source tells what is to come, and that is bytes. Of a source that tells nothing, nothing is said.
+  abbrev pub DoesFrom : (left : Option (List ℕ)) → Stopped → Type 0
+  DoesFrom None stopped = Unit {0}
+  DoesFrom (Some bytes) stopped = All (λ b. b < 2 ^ 8) bytes → DoesOn bytes stopped
+
+  abbrev pub Does : Stopped → Type 0
+  Does stopped = DoesFrom before.input.left stopped
+
+-- the answer is this end
+abbrev pub IsAnswer : End → Stopped → Type 0
+IsAnswer (Exit status) stopped = stopped ≡ Ended status
+IsAnswer (Trap code) stopped = stopped ≡ Trapped code
+IsAnswer More stopped = ⊥
+
+module _ (p : Program) (steps : ℕ) (before after : Environment) where
+  -- Where no count of faults rose, and there was time for all that is meant at a bound at which the meaning has ended, the answer is that end, or
+  -- want of memory.
+  abbrev pub DecidesOn : (bytes : List ℕ) → Stopped → Type 0
+  DecidesOn bytes stopped =
+      (ReadFailed before after → ⊥) → (WriteFailed before after → ⊥) → (bound : ℕ) → IsEnough p bytes steps bound →
+      ((meaning p bound bytes).«end» ≡ More → ⊥) → IsAnswer (meaning p bound bytes).«end» stopped ⊎ (stopped ≡ Memory)
+
+  -- it too stands where the source tells what is to come
+  abbrev pub DecidesFrom : (left : Option (List ℕ)) → Stopped → Type 0
+  DecidesFrom None stopped = Unit {0}
+  DecidesFrom (Some bytes) stopped = All (λ b. b < 2 ^ 8) bytes → DecidesOn bytes stopped
+
+  abbrev pub Decides : Stopped → Type 0
+  Decides stopped = DecidesFrom before.input.left stopped
