@@ -19,20 +19,26 @@ fn chain(alloc: Global, count: u32, forward: bool) -> Result<List<Stm>, AllocErr
     Ok(code)
 }
 
+/// The code that a body of this code folds to.
+fn folded(alloc: Global, code: List<Stm>) -> Result<List<Stm>, AllocError> {
+    let body = Body {
+        params: 1,
+        temps: 100_001,
+        arrays: List::new(alloc),
+        code,
+        rooms: List::new(alloc),
+        marked: List::new(alloc),
+        switches: List::new(alloc),
+    };
+    Ok(fold(alloc, &body)?.code)
+}
+
 #[test]
 fn long_chains_are_left_out_at_once(rt: HostRuntime) -> Result<(), Fail> {
     let alloc = rt.alloc();
     for forward in [true, false] {
-        let body = Body {
-            params: 1,
-            temps: 100_001,
-            arrays: List::new(alloc),
-            code: chain(alloc, 100_000, forward)?,
-            rooms: List::new(alloc),
-            marked: List::new(alloc),
-            switches: List::new(alloc),
-        };
-        assert_eq!(rt; fold(alloc, &body)?.code.len(), 1);
+        let code = folded(alloc, chain(alloc, 100_000, forward)?)?;
+        assert_eq!(rt; code.len(), 1);
     }
     Ok(())
 }
