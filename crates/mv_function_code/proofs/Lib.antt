@@ -10,5 +10,4 @@ pub mod Epilogue
 pub mod FunctionKeeps
 pub mod Equations
 pub mod EncodedFrames
-pub mod Programs
 pub mod WholeFunction

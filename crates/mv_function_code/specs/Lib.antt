@@ -1,4 +1,3 @@
 pub mod Encoded
 pub mod FunctionCode
 pub mod Functions
-pub mod Programs

@@ -1,19 +1,16 @@
 ghost use Rattle.mv_function_code.specs.Encoded.{FramesAreEncoded};
 ghost use Rattle.mv_function_code.specs.Functions.{FunctionsKeep, LaterKeeps, MainKeeps};
-ghost use Rattle.mv_function_code.specs.Programs.{ProgramsKeep};
 
 /// The code of a function keeps the calling convention, over any memory `M`, any machine that runs it and any functions that
 /// keep it at each lower bound. The call does nothing: its contract is the law.
 ///
 /// `each`: a function called with as many arguments as it has parameters does what its body means, given what its frame
 /// holds at first. `later`: so does one whose first instruction stands in text that may be patched. `main`: so does the
-/// main function, which no other calls. `all`: where no function of a program is attributed, and each means the same
-/// whatever its frame holds at first, all of them keep the convention at every bound. `encoded`: the instructions of entry
-/// and return have encodings, and are at most 20 and 13 words.
+/// main function, which no other calls. `encoded`: the instructions of entry and return have encodings, and are at most 20
+/// and 13 words.
 pub fn function_code_law<M>()
     ensures each { FunctionsKeep M }
     ensures later { LaterKeeps M }
     ensures main { MainKeeps M }
-    ensures all { ProgramsKeep M }
     ensures encoded { FramesAreEncoded }
 {}

@@ -7,7 +7,6 @@ mod Starts
 pub mod OnRuns
 pub mod Under
 pub mod Shown
-mod Fitness
 mod Packing
 mod Answering
 mod Placing

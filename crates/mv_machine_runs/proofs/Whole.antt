@@ -1,30 +1,18 @@
--- All functions of a program on the machine.
+-- The globals and the stack of a program in the machine's memory.
 use Rattle.std.proofs.Common.{◌≡◌, ⊎_elim, inl, inr, ℕ, ◌+◌, ◌*◌, ◌^◌, ◌<◌, ◌≤◌, true, List, [], slice_get, Option, Some, None, option_and_then, sym, ap, arith}
-use Rattle.std.specs.List.{All}
 use Rattle.std.proofs.lemmas.Bool.{cases_lt, cases_order}
-use Rattle.mv_ast.specs.declared.program.Program.{Program}
 use Rattle.mv_image.specs.Spelling.{Fields}
 use Rattle.mv_image.specs.Patched.{site_at}
 use Rattle.mv_descriptors.specs.declared.rows.SiteRow.{SiteRow}
-use Rattle.mv_ir.specs.World as ir
 use Rattle.mv_ir.specs.World.{World}
-use Rattle.mv_ir.specs.Levels.{Code}
-use Rattle.mv_ir.specs.Programs.{setting_of}
 use Rattle.mv_statement_code.specs.Frames.{Site, address}
-use Rattle.mv_flow_code.specs.Runs.{Machine}
-use Rattle.mv_call_code.specs.Convention.{Layout, Conventions}
-use Rattle.mv_call_code.specs.Environment.{ServesOrders}
+use Rattle.mv_call_code.specs.Convention.{Layout}
 use Rattle.mv_function_code.specs.Functions.{IsStack, IsWord, IsLaid, Kept, IsMemory, StandsInWords}
-use Rattle.mv_function_code.specs.Programs.{fitted_levels, Stands}
-use Rattle.mv_function_code.proofs.Programs.{programs_keep}
 use Rattle.mv_machine_runs.specs.Calm.{Rest, is_calm}
 use Rattle.mv_machine_runs.specs.MachineRuns.{access, called_at, machine_of}
-use Rattle.mv_machine_runs.specs.Layout.{IsOutsideText, OwnOutsideText, IsSetOut, AreEntries}
-use Rattle.mv_machine_runs.specs.Laws.{IsByteOrEnd}
+use Rattle.mv_machine_runs.specs.Layout.{IsOutsideText, OwnOutsideText, IsSetOut}
 use Rattle.mv_machine_runs.proofs.Calming.{calm_told}
 use Rattle.mv_machine_runs.proofs.Memory.{stored_at, load_word, stack_loads}
-use Rattle.mv_machine_runs.proofs.OnRuns.{runs_are}
-use Rattle.mv_machine_runs.proofs.Serving.{serves_calls}
 
 module _ (y : Layout) (h : IsSetOut y) where
   -- ---- where words lie
@@ -104,16 +92,3 @@ no_slot image a f e = none_called (site_at image a) e
     none_called : (o : Option SiteRow) → option_and_then (λ (site : SiteRow). slice_get [] site.function) o ≡ Some f → ⊥
     none_called None e = absurd (cc)
     none_called (Some site) e = absurd (cc)
-
-module _ (image : Fields) (input : List (Option ℕ)) (picks : List ℕ) (y : Layout) (out : IsSetOut y) (numbers : List ℕ) (entries : AreEntries y numbers) (p : Program) (budget far : ℕ) where
-  abbrev machine : Machine Rest
-  machine = machine_of [] image input picks
-
-  abbrev setting : ir.Setting
-  setting = setting_of numbers p
-
-  pub functions_run : All IsByteOrEnd input → ServesOrders access y machine budget far setting → (program : List Code)
-      → ((f : ℕ) (c : Code) → slice_get program f ≡ Some c → Stands y setting machine (y.entry f) c) → (k : ℕ) → Conventions access y machine budget far (fitted_levels setting program k)
-  functions_run bytes orders program stand k =
-      programs_keep access y (laid y out) machine (memory y out [] image input picks) (λ s stands. runs_are image input picks s (own y out s stands) []) setting entries budget far
-      (record { calls = serves_calls [] image input picks bytes y budget far numbers p; stub = orders }) program stand (no_slot image) k

@@ -1,5 +1,5 @@
 -- The machine is one on which code of frames runs, its memory is fit for frames that are laid out, and assembled code stands in its text.
-use Rattle.std.specs.Prelude.{ℕ, ◌≡◌, ◌↔◌, ◌+◌, ◌*◌, ◌%◌, ◌^◌, ◌<◌, ◌≤◌, Bool, true, false, List, [], length, replicate, slice_get, Option, Some, None}
+use Rattle.std.specs.Prelude.{ℕ, ◌≡◌, ◌↔◌, ◌+◌, ◌*◌, ◌%◌, ◌^◌, ◌<◌, ◌≤◌, true, false, List, [], length, replicate, slice_get, Option, Some, None}
 use Rattle.std.specs.List.{All}
 use Rattle.mv_ast.specs.declared.program.Program.{Program}
 use Rattle.mv_ast.specs.declared.world.Binding.{Binding}
@@ -13,24 +13,14 @@ use Rattle.mv_isa.specs.Standing.{LineStands}
 use Rattle.mv_asm.specs.Outcome.{AreWordsUnder}
 use Rattle.mv_image.specs.Jumps as image
 use Rattle.mv_image.specs.Spelling.{Fields}
-use Rattle.mv_ir.specs.declared.stm.Stm.{Stm}
-use Rattle.mv_ir.specs.declared.tree.Tree.{Tree}
-use Rattle.mv_ir.specs.World as ir
 use Rattle.mv_ir.specs.World.{World}
-use Rattle.mv_ir.specs.Outcome.{Bound}
-use Rattle.mv_ir.specs.Levels.{Code}
 use Rattle.mv_ir.specs.Programs.{setting_of}
 use Rattle.mv_machine.specs.Runs.{bytes_to_come}
-use Rattle.mv_statement_code.specs.Frames.{Site, IsFine, IsFit}
-use Rattle.mv_flow_code.specs.FlowCode.{CallLines, are_fine}
-use Rattle.mv_flow_code.specs.Laws.{has_word, CallsDo, CodeDoes}
+use Rattle.mv_statement_code.specs.Frames.{Site}
 use Rattle.mv_flow_code.specs.Placed.{Placed}
 use Rattle.mv_flow_code.specs.Runs.{IsRun, Calm}
-use Rattle.mv_call_code.specs.CallCode.{calls_of}
-use Rattle.mv_call_code.specs.Convention.{Layout, Conventions}
-use Rattle.mv_call_code.specs.Environment.{ServesCalls, ServesOrders}
-use Rattle.mv_call_code.specs.Laws.{IsCaller, IsLinked}
-use Rattle.mv_function_code.specs.Programs.{fitted_levels, Stands}
+use Rattle.mv_call_code.specs.Convention.{Layout}
+use Rattle.mv_call_code.specs.Environment.{ServesCalls}
 use Rattle.mv_narrow_runs.specs.Narrowed.{under}
 use Rattle.mv_machine_runs.specs.Under.{words_under}
 use Rattle.mv_machine_runs.specs.Calm.{Rest, IsCalm, is_calm}
@@ -39,7 +29,7 @@ use Rattle.mv_machine_runs.specs.Steps.{StepsAreTaken}
 use Rattle.mv_machine_runs.specs.MachineRuns.{access, machine_of, machine_text, may_be_patched, image_word, unpatched_word, bound_word}
 use Rattle.mv_machine_runs.specs.Assembled.{HasWords, IsFreeAt, IsPart}
 use Rattle.mv_machine_runs.specs.Bound.{BindingsShow}
-use Rattle.mv_machine_runs.specs.Layout.{OwnOutsideText, IsLaidOut, IsPacked, AreNamed, IsSetOut, AreEntries}
+use Rattle.mv_machine_runs.specs.Layout.{OwnOutsideText, IsLaidOut, IsPacked}
 
 -- the test of calm tells what it stands for
 abbrev pub CalmIsTested : Type 0
@@ -134,53 +124,6 @@ KnownCallsAreServed =
     (y : Layout) (budget far : ℕ) (numbers : List ℕ) (p : Program) →
     ServesCalls access y (machine_of attributed image input picks) budget far (setting_of numbers p)
 
--- memory is fit for a frame that is laid out
-abbrev pub MemoryIsFit : Type 0
-MemoryIsFit =
-    (bytes : ℕ) (s : Site) (setting : ir.Setting) (frame : ir.Frame) → IsLaidOut bytes s → AreNamed s setting frame → IsFit s access setting frame
-
--- and its own cells lie outside text
-abbrev pub FramesAreOutsideText : Type 0
-FramesAreOutsideText = (bytes : ℕ) (s : Site) → IsLaidOut bytes s → OwnOutsideText s
-
 -- globals and arrays that stand one behind the other are laid out
 abbrev pub PackedIsLaidOut : Type 0
 PackedIsLaidOut = (globals arrays : List ℕ) (bytes : ℕ) (s : Site) → IsPacked globals arrays bytes s → IsLaidOut bytes s
-
--- So on the machine, in a frame that is laid out, the code of fine statements does what they mean, if that of calls does.
-abbrev pub CodeRunsOnTheMachine : Type 0
-CodeRunsOnTheMachine =
-    (attributed : List ℕ) (image : Fields) (input : List (Option ℕ)) (picks : List ℕ) →
-    (bytes : ℕ) (s : Site) (setting : ir.Setting) (frame : ir.Frame) →
-    IsLaidOut bytes s → AreNamed s setting frame →
-    (is_fine : Tree → Bool) → ((t : Tree) → is_fine t ≡ true → IsFine s setting frame t) →
-    (place : ℕ → ℕ) (end budget far : ℕ) (top : Bound) (calls : CallLines) →
-    CallsDo access s setting frame (machine_of attributed image input picks) place end budget far is_fine top calls →
-    (code : List Stm) → are_fine is_fine s.may_ask s.temps (has_word s) code ≡ true →
-    CodeDoes access s setting frame (machine_of attributed image input picks) place end budget far is_fine top calls code
-
--- And so does code with calls, if the functions keep the calling convention at each lower bound and the stub serves orders and polls.
-abbrev pub CallsRunOnTheMachine : Type 0
-CallsRunOnTheMachine =
-    (attributed : List ℕ) (image : Fields) (input : List (Option ℕ)) (picks : List ℕ) → All IsByteOrEnd input →
-    (bytes : ℕ) (y : Layout) (s : Site) (numbers : List ℕ) (p : Program) (frame : ir.Frame) →
-    let setting = setting_of numbers p in
-    let machine = machine_of attributed image input picks in
-    IsLaidOut bytes s → AreNamed s setting frame → IsCaller y s setting frame →
-    (budget far : ℕ) → ServesOrders access y machine budget far setting → (top : Bound) → Conventions access y machine budget far top →
-    (is_fine : Tree → Bool) → ((t : Tree) → is_fine t ≡ true → IsFine s setting frame t) →
-    (place : ℕ → ℕ) (end : ℕ) → IsLinked y place → (is_attributed : ℕ → Bool) →
-    (code : List Stm) → are_fine is_fine s.may_ask s.temps (has_word s) code ≡ true →
-    CodeDoes access s setting frame machine place end budget far is_fine top (calls_of s.place is_attributed) code
-
--- So where no function of a program is attributed, all of them keep the calling convention at every bound, if each stands at its entry, the globals and
--- the stack are laid out, and the stub serves orders and polls.
-abbrev pub FunctionsRunOnTheMachine : Type 0
-FunctionsRunOnTheMachine =
-    (image : Fields) (input : List (Option ℕ)) (picks : List ℕ) → All IsByteOrEnd input →
-    (y : Layout) → IsSetOut y → (numbers : List ℕ) → AreEntries y numbers → (p : Program) →
-    let setting = setting_of numbers p in
-    let machine = machine_of [] image input picks in
-    (budget far : ℕ) → ServesOrders access y machine budget far setting →
-    (program : List Code) → ((f : ℕ) (c : Code) → slice_get program f ≡ Some c → Stands y setting machine (y.entry f) c) →
-    (k : ℕ) → Conventions access y machine budget far (fitted_levels setting program k)

@@ -1,9 +1,6 @@
 -- Where the data of a program and the frame of a function lie in memory.
-use Rattle.std.specs.Prelude.{ℕ, ◌≡◌, ◌+◌, ◌*◌, ◌%◌, ◌^◌, ◌<◌, ◌≤◌, ◌⊎◌, max, true, List, length, take, slice_index, None, sum}
-use Rattle.mv_ir.specs.Trees.{found}
-use Rattle.mv_ir.specs.World as ir
+use Rattle.std.specs.Prelude.{ℕ, ◌≡◌, ◌+◌, ◌*◌, ◌%◌, ◌<◌, ◌≤◌, ◌⊎◌, max, true, List, length, take, slice_index, sum}
 use Rattle.mv_statement_code.specs.Frames.{Site, Cell, IsOwn, IsThere, address}
-use Rattle.mv_isa.specs.Code.{IsPlace}
 use Rattle.mv_call_code.specs.Convention as convention
 
 -- an address of the data or of the stack
@@ -57,13 +54,6 @@ pub record IsPacked (globals arrays : List ℕ) (bytes : ℕ) (s : Site) : Type 
   pub stack_ends : frame_at s + bytes ≤ 0x0040_0000
   pub kept : IsKeptApart bytes s
 
--- Globals that the code reads have a word and aren't read as bound values, and a function's number is its address.
-pub record AreNamed (s : Site) (setting : ir.Setting) (frame : ir.Frame) : Type 0 where
-  pub has_word : (g : ℕ) → s.is_read g ≡ true → 0 < s.size g
-  pub free : (g : ℕ) → s.is_read g ≡ true → found frame.bound g ≡ None
-  pub entries : (f : ℕ) → f < length setting.numbers → slice_index setting.numbers f ≡ s.entry f
-  pub entry_words : (f : ℕ) → f < length setting.numbers → s.entry f < 2 ^ 32
-
 -- The globals of a program lie in order in the data, and its stack lies in that of the machine. A global of no words lies nowhere.
 pub record IsSetOut (y : convention.Layout) : Type 0 where
   pub data_begins : (g : ℕ) → 0 < y.size g → 0x0010_0000 ≤ y.place g
@@ -72,7 +62,3 @@ pub record IsSetOut (y : convention.Layout) : Type 0 where
   pub stack_begins : 0x0020_0000 ≤ y.bottom
   pub stack_ends : y.top ≤ 0x0040_0000
   pub even : y.bottom % 4 ≡ 0
-
--- a function's number is its address, where an instruction can stand
-abbrev pub AreEntries : convention.Layout → List ℕ → Type 0
-AreEntries y numbers = (f : ℕ) → f < length numbers → (slice_index numbers f ≡ y.entry f) × IsPlace (y.entry f)

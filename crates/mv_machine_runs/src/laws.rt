@@ -1,4 +1,4 @@
-ghost use Rattle.mv_machine_runs.specs.Laws.{CalmIsTested, RunsAreRuns, RunsAreRunsUnder, BoundStepsAreTaken, TextsAreFound, CodeIsPlaced, FreeLinesStand, BindingsAreShown, RunsBeginInCalm, KnownCallsAreServed, MemoryIsFit, FramesAreOutsideText, PackedIsLaidOut, EnvironmentCalls, CodeRunsOnTheMachine, CallsRunOnTheMachine, FunctionsRunOnTheMachine, BoundWordsAreInstructions};
+ghost use Rattle.mv_machine_runs.specs.Laws.{CalmIsTested, RunsAreRuns, RunsAreRunsUnder, BoundStepsAreTaken, TextsAreFound, CodeIsPlaced, FreeLinesStand, BindingsAreShown, RunsBeginInCalm, KnownCallsAreServed, PackedIsLaidOut, EnvironmentCalls, BoundWordsAreInstructions};
 ghost use Rattle.mv_machine_runs.specs.Shown.{BindingsHaveValues, BoundFunctionsShow, FreeFunctionsShow};
 
 /// The test of calm is true exactly where the machine is calm. The call does nothing: its contract is the law.
@@ -69,34 +69,7 @@ pub fn known_calls_are_served()
     ensures { KnownCallsAreServed }
 {}
 
-/// Memory is fit for every frame that is laid out.
-pub fn memory_is_fit()
-    ensures { MemoryIsFit }
-{}
-
-/// The own cells of a frame that is laid out lie in the data and in the stack.
-pub fn frames_are_outside_text()
-    ensures { FramesAreOutsideText }
-{}
-
 /// Globals and arrays that stand one behind the other are laid out.
 pub fn packed_is_laid_out()
     ensures { PackedIsLaidOut }
-{}
-
-/// On the machine, the code of fine statements does what they mean in a frame that is laid out, if that of calls does.
-pub fn code_runs_on_the_machine()
-    ensures { CodeRunsOnTheMachine }
-{}
-
-/// On the machine, the code of fine statements and their calls does what they mean, if the functions keep the calling
-/// convention and the stub serves orders and polls.
-pub fn calls_run_on_the_machine()
-    ensures { CallsRunOnTheMachine }
-{}
-
-/// On the machine, all functions of a program without attributed ones keep the calling convention, where the code of each is
-/// placed at its entry and the stub serves orders and polls.
-pub fn functions_run_on_the_machine()
-    ensures { FunctionsRunOnTheMachine }
 {}

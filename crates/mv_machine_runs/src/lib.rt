@@ -4,9 +4,7 @@
 mod laws;
 
 pub use laws::{
-    bindings_are_shown, bound_steps_are_taken, bound_words_are_instructions,
-    calls_run_on_the_machine, calm_is_tested, code_is_placed, code_runs_on_the_machine,
-    environment_calls, frames_are_outside_text, free_lines_stand, functions_run_on_the_machine,
-    functions_show, known_calls_are_served, memory_is_fit, packed_is_laid_out, runs_are_runs,
-    runs_are_runs_under, runs_begin_in_calm, texts_are_found,
+    bindings_are_shown, bound_steps_are_taken, bound_words_are_instructions, calm_is_tested,
+    code_is_placed, environment_calls, free_lines_stand, functions_show, known_calls_are_served,
+    packed_is_laid_out, runs_are_runs, runs_are_runs_under, runs_begin_in_calm, texts_are_found,
 };

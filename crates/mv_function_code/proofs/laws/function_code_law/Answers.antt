@@ -3,7 +3,6 @@ use Rattle.mv_function_code.proofs.Begun.{begun_called, begun_main}
 use Rattle.mv_function_code.proofs.Contents.{contents_at}
 use Rattle.mv_function_code.proofs.EncodedFrames.{frames_encoded}
 use Rattle.mv_function_code.proofs.FunctionKeeps.{later_keeps}
-use Rattle.mv_function_code.proofs.Programs.{programs_keep}
 use Rattle.mv_function_code.proofs.WholeFunction.{function_keeps, called_keeps}
 use Rattle.mv_function_code.proofs.laws.function_code_law.Goals as goal
 
@@ -26,10 +25,6 @@ returns-clause-main g c access y laid machine memory runs setting entries budget
       function_keeps access y laid machine memory runs setting entries budget far serves levels keep false bound is_read is_fine body fn place linked is_attributed pc next placed back i target ra
       0 0 [] (sym none) spare w stands (begun_main access y machine i begins) paid asked,
 )
-
-pub returns-clause-all : goal.returns-clause-all
-returns-clause-all g c access y laid machine memory runs setting entries budget far serves program stand none k =
-    programs_keep access y laid machine memory runs setting entries budget far serves program stand none k
 
 pub returns-clause-encoded : goal.returns-clause-encoded
 returns-clause-encoded g c = frames_encoded
