@@ -19,6 +19,7 @@ use Rattle.mv_machine_runs.proofs.Registers.{run_registers}
 use Rattle.mv_machine_runs.proofs.Memory.{store_keeps}
 use Rattle.mv_machine_runs.proofs.Calming.{calm_told, calm_tested, calm_kept}
 use Rattle.mv_machine_runs.proofs.Fetches.{unpatched_stands, calm_choice, fetches_one}
+use Rattle.mv_flow_code.proofs.Reading.{step_over}
 
 -- a step that goes on has a word
 has_word : (word : Option ℕ) (regs : List ℕ) (pc : ℕ) (m : Rest) (next : Spot Rest) → step access word regs pc m ≡ Goes next.regs next.pc next.memory → (w : ℕ) × (word ≡ Some w)
@@ -65,10 +66,11 @@ module _ (image : Fields) (input : List (Option ℕ)) (picks : List ℕ) (s : Si
   -- a word that is never patched stands there under the bindings
   under : (attributed : List ℕ) (i : ℕ) (w : World) (next : Spot Rest) → LeadsUnpatched attributed i w next → Leads i (outside w) next
   under attributed i w next h =
-      let found = has_word (unpatched_word image (at i).pc) (at i).regs (at i).pc (rest_of (at i)) next h.steps in
+      let whole = step_over access s.reach.may_load (at i).regs (at i).pc (rest_of (at i)) next.regs next.pc next.memory (unpatched_word image (at i).pc) h.steps in
+      let found = has_word (unpatched_word image (at i).pc) (at i).regs (at i).pc (rest_of (at i)) next whole in
       let same = unpatched_stands image (outside w) (at i).pc found.0 found.1 ∙ sym found.1 in record {
         calm = calm_told image (outside w) (rest_of (at i)) h.calm;
-        steps = ap (λ x. step access x (at i).regs (at i).pc (rest_of (at i))) same ∙ h.steps;
+        steps = ap (λ x. step access x (at i).regs (at i).pc (rest_of (at i))) same ∙ whole;
         writes = h.writes;
       }
 

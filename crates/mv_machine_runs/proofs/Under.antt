@@ -18,6 +18,7 @@ use Rattle.mv_machine_runs.specs.Steps.{LeadsUnder, StepsAreTaken}
 use Rattle.mv_machine_runs.specs.Under.{words_under}
 use Rattle.mv_machine_runs.proofs.Calming.{calm_told, calm_tested}
 use Rattle.mv_machine_runs.proofs.OnRuns.{runs_are, steps_are_taken}
+use Rattle.mv_flow_code.proofs.Reading.{step_over}
 
 -- nothing of a world but its bindings shows in text
 same_words : (image : Fields) (w : World) (a : ℕ) → bound_word image w a ≡ words_under image w.bindings a
@@ -40,7 +41,8 @@ module _ (attributed : List ℕ) (image : Fields) (input : List (Option ℕ)) (p
       let words = same_words image (outside w) (machine.run i).pc in
       let same = subst (λ (xs : List Binding). bound_word image (outside w) (machine.run i).pc ≡ words_under image xs (machine.run i).pc) (sym ((bindings_are_told bs w.bindings).0 c.0)) words in record {
         calm = calm_told image (outside w) (machine.run i).memory c.1;
-        steps = ap (λ x. step access x (machine.run i).regs (machine.run i).pc (machine.run i).memory) same ∙ h.steps;
+        steps = ap (λ x. step access x (machine.run i).regs (machine.run i).pc (machine.run i).memory) same
+            ∙ step_over access s.reach.may_load (machine.run i).regs (machine.run i).pc (machine.run i).memory next.regs next.pc next.memory (words_under image bs (machine.run i).pc) h.steps;
         writes = h.writes;
       }
 
