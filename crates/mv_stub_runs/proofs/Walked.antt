@@ -33,7 +33,7 @@ abbrev pub no_frame : (ℕ → ℕ) → Site
 no_frame entry = record {
   place = λ g. 0;
   size = λ g. 0;
-  is_read = λ g. false;
+  reach = record { is_read = λ g. false; is_written = λ g. false; may_load = λ a. true };
   entry = entry;
   may_ask = λ k. false;
   temps = 0;
