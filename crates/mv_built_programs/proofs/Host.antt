@@ -19,7 +19,7 @@ use Rattle.mv_isa.specs.Code.{address, text_start}
 use Rattle.mv_image.specs.Spelling.{Fields}
 use Rattle.mv_ir.specs.declared.body.Body.{Body}
 use Rattle.mv_ir.specs.declared.body.Room.{Room}
-use Rattle.mv_ir.specs.Measures.{scalars_read}
+use Rattle.mv_ir.specs.Measures.{scalars_read, arrays_read}
 use Rattle.mv_ir.specs.Programs.{setting_of}
 use Rattle.mv_ir.specs.Trees.{found}
 use Rattle.mv_ir.specs.WellFormed.{has_room}
@@ -37,8 +37,10 @@ use Rattle.mv_call_code.specs.Convention.{Layout}
 use Rattle.mv_call_code.specs.Environment.{IsDirect}
 use Rattle.mv_function_code.specs.FunctionCode.{bytes_of, later_lines, function_lines}
 use Rattle.mv_function_code.specs.Functions.{shape_of}
+use Rattle.mv_function_code.proofs.Alone.{runs_alone}
+use Rattle.mv_narrow_runs.specs.Narrowed.{under}
 use Rattle.mv_source_calls.specs.Bindings.{keeps_bindings}
-use Rattle.mv_selected_bodies.specs.SelectedBodies.{knowns, AreRooms, IsInProgram}
+use Rattle.mv_selected_bodies.specs.SelectedBodies.{knowns, reach_of, AreRooms, IsInProgram}
 use Rattle.mv_machine_runs.specs.Calm.{Rest}
 use Rattle.mv_machine_runs.specs.Layout.{IsPacked, IsSetOut}
 use Rattle.mv_machine_runs.specs.Laws.{IsByteOrEnd}
@@ -86,6 +88,10 @@ none_marked is_called f (g ∷ gs) plain =
     let here = plain 0 g refl in
     let rest = none_marked is_called (suc f) gs (λ k h e. plain (suc k) h e) in
     rw (here) rest
+
+-- code may load from all addresses
+abbrev pub nothing_closed : (pc address : ℕ) → Bool
+nothing_closed pc a = false
 
 module _ (laws : Laws) (p : Program) (image : Fields) (formed : IsWellFormed p) (plain : IsUnattributed p) (have_words : HasWordsOfGlobals p)
     (built : IsBuilt p image) where
@@ -182,7 +188,7 @@ module _ (laws : Laws) (p : Program) (image : Fields) (formed : IsWellFormed p) 
   any_site = record {
     place = y.place;
     size = y.size;
-    is_read = λ g. false;
+    reach = record { is_read = λ g. false; is_written = λ g. false; may_load = λ a. false };
     entry = y.entry;
     may_ask = y.may_ask;
     temps = 0;
@@ -228,13 +234,14 @@ module _ (laws : Laws) (p : Program) (image : Fields) (formed : IsWellFormed p) 
     bytes_or_end : All IsByteOrEnd (bytes_to_come bytes)
     bytes_or_end = All-map IsByteOrEnd Some bytes are_bytes
 
-    host : IsOpenHost access y machine words budget far p numbers
+    host : IsOpenHost access y machine words nothing_closed budget far p numbers
     host = record {
       laid = laid y set_out;
       memory = memory y set_out [] image (bytes_to_come bytes) picks;
       sizes = λ x. refl;
-      runs = λ s stands. runs_are image (bytes_to_come bytes) picks s (own y set_out s stands) [];
-      runs_under = λ bs s stands. runs_are_under [] image (bytes_to_come bytes) picks bs s (own y set_out s stands);
+      runs = λ from to reach free s stands less. runs_alone access y machine from to s (runs_are image (bytes_to_come bytes) picks s (own y set_out s stands) []);
+      runs_under = λ bs from to reach free s stands less.
+          runs_alone access y (under machine words bs) from to s (runs_are_under [] image (bytes_to_come bytes) picks bs s (own y set_out s stands));
       entries = entries parts built.are laws.functions_stand sizing built.linked.text built.linked.least.fits.sizes built.linked.text_is each_begins;
       calls = serves_calls [] image (bytes_to_come bytes) picks bytes_or_end y budget far numbers p;
       stub = λ k args back i asked orders count target ra. absurd (orders (may_ask_direct k asked));
@@ -265,6 +272,7 @@ module _ (laws : Laws) (p : Program) (image : Fields) (formed : IsWellFormed p) 
         knowns = All-weaker IsDirect (λ k. keeps_bindings k ≡ true) direct_may_ask (knowns the_body.code) the_compiled.compiled.knowns;
         functions = subst (λ n. All (λ k. k < n) (functions the_body.code)) (sym is_numbering.count) the_compiled.compiled.functions;
         free = All-from_get_or (λ x. found [] x ≡ None) (scalars_read the_body.code) 0 (λ i lt. refl);
+        arrays = All-from_get_or (λ x. found [] x ≡ None) (arrays_read the_body.code) 0 (λ i lt. refl);
       }
 
       lines_are : code.items ≡ function_lines y.place y.size (is_marked the_body.marked) (shape_of false the_body) the_body.code
@@ -276,25 +284,27 @@ module _ (laws : Laws) (p : Program) (image : Fields) (formed : IsWellFormed p) 
       abbrev end_at : ℕ
       end_at = address text_start sizing (part_index parts.functions f + length (function_part f (first_label parts.functions f) code))
 
-      plain_code : IsPlain y machine.text words p numbers f g
+      plain_code : IsPlain y machine.text words nothing_closed p numbers f g
       plain_code =
           let fits = laws.bodies_are_functions y (setting_of numbers p) false [] the_body in_program in
           let placed = code_placed laws p image built f code found_code.1 g here (no_slots f g code here found_code.1) in record {
             body = the_body;
             keeps = the_compiled.compiled.keeps;
             params = the_compiled.compiled.params;
-            is_read = fits.0;
-            is_fine = fits.1;
+            reach = reach_of y the_body;
+            ample = fits.1;
+            is_fine = fits.0;
             fits = fits.2;
             place = own_at;
             linked = is_linked laws p image built f code found_code.1;
             is_attributed = is_marked the_body.marked;
             next = end_at;
+            open_there = λ pc a le lt may. refl;
             placed = subst (λ (items : List Line). Placed (machine_text [] image) own_at y.entry items (y.entry f) end_at) lines_are placed;
           }
 
-      selected : IsSelected y machine.text words p numbers f g
+      selected : IsSelected y machine.text words nothing_closed p numbers f g
       selected = record { plain = λ e. plain_code; patched = λ e. let not : g.attributed ≡ false = plain f g here in absurd (cc) }
 
-    pub loaded : IsOpenlyLoaded access y machine words budget far p numbers
+    pub loaded : IsOpenlyLoaded access y machine words nothing_closed budget far p numbers
     loaded = record { formed = formed; host = host; functions = selected }

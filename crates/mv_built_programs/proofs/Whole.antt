@@ -40,7 +40,7 @@ use Rattle.mv_built_programs.proofs.Facts.{Laws}
 use Rattle.mv_built_programs.proofs.Rooms.{size_is}
 use Rattle.mv_built_programs.proofs.Linked.{start_ends, start_placed, has_stubs}
 use Rattle.mv_machine_runs.specs.Under.{words_under}
-use Rattle.mv_built_programs.proofs.Host.{is_numbering, addresses, global_count, loaded}
+use Rattle.mv_built_programs.proofs.Host.{nothing_closed, is_numbering, addresses, global_count, loaded}
 
 -- the run of a lowered program ends so, also where it has no main
 run_reached : EndsAreReached → (p : Program) (numbers : List ℕ) (codes : List Code) (main : Option Code) (bound : ℕ) (w : World) → IsReached w (call_of_main (setting_of numbers p) codes main bound w).end
@@ -141,7 +141,7 @@ module _ (laws : Laws) (p : Program) (image : Fields) (formed : IsWellFormed p) 
 
     calls_main : (k : ℕ) → CallsMain [] p image bytes picks y first budget far k
     calls_main k =
-        let m = laws.main_follows access y the_machine (words_under image) budget far p numbers
+        let m = laws.main_follows access y the_machine (words_under image) nothing_closed budget far p numbers
         (loaded laws p image formed plain have_words built bytes picks are_bytes budget far)
         numbered bytes [] (All-nil (λ (a : Action). IsTrue (fits p a))) return_address 3 (omega arith, refl) enters.link begins stands k in record {
           call = m.0;
