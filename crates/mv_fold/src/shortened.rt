@@ -59,12 +59,7 @@ fn is_temp(temp: u32, tree: &Tree) -> bool
 
 // A statement with a value in place of the temporary that it stores or returns.
 #[tactic(auto, using(crate::proofs::Ends::takings))]
-fn taking(
-    alloc: Global,
-    temp: u32,
-    value: &Tree,
-    stm: &Stm,
-) -> Result<Option<Stm>, AllocError>
+fn taking(alloc: Global, temp: u32, value: &Tree, stm: &Stm) -> Result<Option<Stm>, AllocError>
     ensures { IfOk result (λ s. s ≡ taking temp value.now stm.now) }
 {
     match stm {
@@ -100,12 +95,7 @@ fn taking(
 
 // The last two statements of a body with so many temporaries as one.
 #[tactic(auto, using(crate::proofs::Ends::ones))]
-fn as_one(
-    alloc: Global,
-    temps: u32,
-    first: &Stm,
-    second: &Stm,
-) -> Result<Option<Stm>, AllocError>
+fn as_one(alloc: Global, temps: u32, first: &Stm, second: &Stm) -> Result<Option<Stm>, AllocError>
     ensures { IfOk result (λ s. s ≡ as_one temps first.now second.now) }
 {
     match first {

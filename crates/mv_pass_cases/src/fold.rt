@@ -103,11 +103,7 @@ fn trace(alloc: Global) -> Result<Body, AllocError>
     let test = Tree::Unary(2, Boxed::new(alloc, Tree::Global(0))?);
     let early = single(alloc, Stm::Break(0))?;
     let mut code = single(alloc, Stm::If(test, early, List::new(alloc)))?;
-    code.push(Stm::Known(
-        Some(1),
-        Known::Putchar,
-        single(alloc, Tree::Temp(0))?,
-    ))?;
+    code.push(Stm::Known(Some(1), Known::Putchar, single(alloc, Tree::Temp(0))?))?;
     attributed(alloc, code)
 }
 
