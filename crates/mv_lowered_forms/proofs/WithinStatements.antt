@@ -1,6 +1,6 @@
 -- The statements of a well-formed function are within the limits.
 use Rattle.std.proofs.Common.{◌≡◌, ℕ, suc, ◌<◌, Bool, true, false, not, cond, List, [], ◌∷◌, ◌++◌, map, length, refl, sym, ◌∙◌, ap, subst, arith, Option, Some, None}
-use Rattle.std.specs.Prelude.{◌&&◌, ◌||◌, nat_lt, nat_eq, nat_le, All, option_to_list}
+use Rattle.std.specs.Prelude.{◌&&◌, ◌||◌, nat_lt, nat_eq, nat_le, All, option_to_list, slice_get}
 use Rattle.std.proofs.lemmas.Bool.{and_from}
 use Rattle.mv_ast.specs.declared.program.Program.{Program}
 use Rattle.mv_ast.specs.declared.program.Function.{Function}
@@ -14,7 +14,7 @@ use Rattle.mv_ir.proofs.Induction.{Each}
 use Rattle.mv_ir.proofs.Keeping.{map_append}
 use Rattle.mv_numbering.specs.Typing.{HasTypedParts, IsTypedAt, IsTypedExpr, IsTypedOption}
 use Rattle.mv_numbering.proofs.Typed.{TypedStmt, TypedArm, AllStmts, AllArms, StmtParts, stmt_parts, stmt_node, arm_parts}
-use Rattle.mv_lowering.specs.Lower.{all_of, is_well_named}
+use Rattle.mv_lowering.specs.Lower.{all_of, is_well_named, is_own_switch}
 use Rattle.mv_lowering.specs.LowerStatements.{but_for, named_option, stmt_named_layer, arm_named_layer, stmt_is_well_formed, arm_is_well_formed}
 use Rattle.mv_lowering.proofs.Expressions.{split, no}
 use Rattle.mv_lowered_programs.specs.Scopes.{Scope, Scoped, with_local, with_declared, all_scoped, scope_behind, names_declared, option_declared, scoped_layer, arm_scoped_layer, stmt_scoped, arm_scoped}
