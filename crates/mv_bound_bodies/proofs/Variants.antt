@@ -13,7 +13,7 @@ use Rattle.mv_fold.specs.Folded.{IsFolded}
 use Rattle.mv_regalloc.specs.Intervals.{IsRenamed}
 use Rattle.mv_lowered_forms.specs.Calls.{code_weight}
 use Rattle.mv_bound_bodies.specs.Names.{NamesNoMore}
-use Rattle.mv_bound_bodies.specs.Variants.{MadeNameNoMore, MadeCallNoMore, MadeAreInProgram}
+use Rattle.mv_bound_bodies.specs.Variants.{MadeNameNoMore, MadeCallNoMore, MadeAreInProgram, MadeFramesAreNoLarger}
 use Rattle.mv_bound_bodies.proofs.Meant.{made}
 use Rattle.mv_bound_bodies.proofs.NamesKept.{binding_names, folding_names, renaming_names}
 use Rattle.mv_bound_bodies.proofs.Weights.{bound_weight, folded_weight, renamed_weight}
@@ -30,7 +30,7 @@ names_after a b c h k = record {
 pub made_names : MadeNameNoMore
 made_names ps body result words m =
     let first : NamesNoMore body.code m.bound.code = subst (NamesNoMore body.code) (sym m.is_bound.code) (binding_names ps words body.code) in
-    let second = folding_names m.bound.code m.folded.code m.is_folded.code in
+    let second = folding_names m.bound.temps m.bound.code m.folded.code m.is_folded.code in
     let third : NamesNoMore m.folded.code result.code = subst (NamesNoMore m.folded.code) (sym (ap (λ (b : Body). b.code) m.is_renamed.changes)) (renaming_names m.is_renamed.numbers m.folded.code) in
     names_after body.code m.folded.code result.code (names_after body.code m.bound.code m.folded.code first second) third
 
@@ -39,7 +39,7 @@ made_names ps body result words m =
 pub worked_calls : (direct : ℕ → ℕ) (through : ℕ) (bound folded result : Body) → IsFolded bound folded → IsRenamed folded result → code_weight direct through result.code ≤ code_weight direct through bound.code
 worked_calls direct through bound folded result is_folded is_renamed =
     let first : code_weight direct through folded.code ≤ code_weight direct through bound.code =
-    subst (λ c. code_weight direct through c ≤ code_weight direct through bound.code) (sym is_folded.code.2) (folded_weight direct through is_folded.code.0 bound.code)
+    subst (λ c. code_weight direct through c ≤ code_weight direct through bound.code) (sym is_folded.code.2) (folded_weight direct through is_folded.code.0 bound.temps bound.code)
     in
     let second : code_weight direct through result.code ≤ code_weight direct through folded.code =
     subst (λ c. code_weight direct through c ≤ code_weight direct through folded.code) (sym (ap (λ (b : Body). b.code) is_renamed.changes)) (renamed_weight direct through is_renamed.numbers folded.code)
@@ -57,6 +57,15 @@ made_calls direct through ps body result m =
 
 frame_less : (n m size : ℕ) → n ≤ m → 16 * ((arrays_start n + size + 3) / 4) ≤ 16 * ((arrays_start m + size + 3) / 4)
 frame_less n m size le = omega arith
+
+pub made_frames : MadeFramesAreNoLarger
+made_frames ps body own result is_own m =
+    let variant = made ps body result m in
+    let own_sizes : own.arrays ≡ body.arrays = ap (λ (b : Body). b.arrays) is_own.changes in
+    let less = frame_less result.temps own.temps (total body.arrays) (omega (arith, variant.temps, is_own.temps)) in
+    let first = ap (frame_bytes result.temps) variant.sizes in
+    let second = ap (frame_bytes own.temps) own_sizes in
+    omega (arith, less, first, second)
 
 -- ---- in a program
 

@@ -10,6 +10,7 @@ use Rattle.mv_call_code.specs.Convention.{Layout, frame_limit}
 use Rattle.mv_function_code.specs.FunctionCode.{frame_bytes}
 use Rattle.mv_selected_bodies.specs.SelectedBodies.{HasWords, AreRooms, IsInProgram, knowns}
 use Rattle.mv_lowered_forms.specs.Calls.{code_weight}
+use Rattle.mv_regalloc.specs.Intervals.{IsRenamed}
 use Rattle.mv_bound_bodies.specs.Meant.{IsMadeUnder}
 use Rattle.mv_bound_bodies.specs.Names.{NamesNoMore, ReadAsWords}
 
@@ -35,3 +36,8 @@ pub record IsOfProgram (y : Layout) (setting : ir.Setting) (body : Body) : Type 
 abbrev pub MadeAreInProgram : Type 0
 MadeAreInProgram =
     (y : Layout) (setting : ir.Setting) (ps : List (ℕ × ℕ)) (body result : Body) → IsOfProgram y setting body → ReadAsWords ps → IsMadeUnder ps body result → IsInProgram y setting true ps result
+
+-- Its frame is no larger than that of the first body with its temporaries renamed alone.
+abbrev pub MadeFramesAreNoLarger : Type 0
+MadeFramesAreNoLarger =
+    (ps : List (ℕ × ℕ)) (body own result : Body) → IsRenamed body own → IsMadeUnder ps body result → frame_bytes result.temps result.arrays ≤ frame_bytes own.temps own.arrays

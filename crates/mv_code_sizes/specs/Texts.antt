@@ -2,14 +2,15 @@
 use Rattle.std.specs.Prelude.{ℕ, ◌+◌, ◌*◌, ◌<◌, ◌≤◌, ◌≡◌, Bool, List, length, map, sum, Some, slice_get}
 use Rattle.mv_ast.specs.declared.program.Program.{Program}
 use Rattle.mv_ast.specs.declared.program.Function.{Function}
-use Rattle.mv_ast.specs.Counts.{nodes, calls, assignments}
+use Rattle.mv_ast.specs.Counts.{nodes, calls, assignments, patchable}
 use Rattle.mv_ast.specs.Plans.{attributed_functions}
 use Rattle.mv_isa.specs.declared.labelled.Labelled.{Labelled}
 use Rattle.mv_isa.specs.Code.{text_start}
 use Rattle.mv_asm.specs.Outcome.{PassesText}
 use Rattle.mv_ir.specs.declared.body.Body.{Body}
 use Rattle.mv_lowered_programs.specs.WellFormed.{IsWellFormed}
-use Rattle.mv_bound_bodies.specs.Slots.{AtMost}
+use Rattle.mv_lowered_forms.specs.Law.{IsFunctionOf}
+use Rattle.mv_bound_bodies.specs.Slots.{slots, AtMost}
 use Rattle.mv_select.specs.Selected.{IsSuitable, FitsFrame, selected_lines}
 use Rattle.mv_linker.specs.declared.parts.Parts.{Parts}
 use Rattle.mv_linker.specs.Linked.{linked_lines}
@@ -52,3 +53,26 @@ abbrev pub SitesAreFew : Type 0
 SitesAreFew =
     (p : Program) (own variants : List ℕ) → AtMost (calls p) p.functions own → AtMost (λ g. calls p g * assignments p g) (attributed_functions p) variants →
     sum own + sum variants ≤ site_count p
+
+-- The code of each body of a function has no more slots than the function has calls of attributed functions.
+abbrev pub SlotsAreFewInCode : Type 0
+SlotsAreFewInCode = (p : Program) (f : ℕ) (g : Function) → IsFunctionOf p f g → (code : Labelled) → IsCodeOf p g code → slots code.items ≤ calls p g
+
+-- codes of an attributed function's bodies, no more than it has assignments
+pub record AreVariantCodes (p : Program) (g : Function) (codes : List Labelled) : Type 0 where
+  pub few : length codes ≤ assignments p g
+  pub each : (i : ℕ) (code : Labelled) → slice_get codes i ≡ Some code → IsCodeOf p g code
+
+-- of each attributed function, in order
+pub record HaveVariantCodes (p : Program) (codes : List (List Labelled)) : Type 0 where
+  pub one_each : length codes ≡ length (attributed_functions p)
+  pub each : (n : ℕ) (g : Function) (cs : List Labelled) → slice_get (attributed_functions p) n ≡ Some g → slice_get codes n ≡ Some cs → AreVariantCodes p g cs
+
+abbrev pub slots_in : List Labelled → ℕ
+slots_in codes = sum (map (λ code. slots code.items) codes)
+
+-- The slots in the code of all functions and of all variants are no more than the count, and with the entries no more than a plan can patch.
+abbrev pub SlotsAreCounted : Type 0
+SlotsAreCounted =
+    (p : Program) → IsWellFormed p → (own : List Labelled) (variants : List (List Labelled)) → HaveCode p own → HaveVariantCodes p variants →
+    (slots_in own + sum (map slots_in variants) ≤ site_count p) × (length (attributed_functions p) + 2 * (slots_in own + sum (map slots_in variants)) ≤ patchable p)

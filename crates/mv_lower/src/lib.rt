@@ -29,9 +29,13 @@ use std::alloc::{AllocError, Global};
 ///
 /// Under each numbering of functions, at each bound, on each input and with all actions that fit, the code means what the program means.
 /// The cost is at most 20 and 100 for one of the program's work; the same holds of each function, callees included.
+///
+/// `exact`: it is the lowering that is defined, so each body has rooms for the globals that its code names, where the
+/// program's data has them, and marks the attributed functions that its code calls.
 pub fn lower(alloc: Global, program: &Program) -> Result<IrProgram, AllocError>
     requires { IsWellFormed program.now }
-    ensures { IfOk result (λ ir. IsLowering program.now ir) }
+    ensures lowering { IfOk result (λ ir. IsLowering program.now ir) }
+    ensures exact { IfOk result (λ ir. ir ≡ lower_program program.now) }
 {
     lowering_is_right();
     lower_each(alloc, program)
