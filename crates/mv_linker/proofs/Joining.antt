@@ -1,13 +1,15 @@
 -- Codes joined one behind the other are the parts of functions, and each begins where its part does.
-use Rattle.std.proofs.Common.{◌≡◌, ℕ, zero, suc, ◌+◌, ◌<◌, ◌++◌, List, [], ◌∷◌, length, take, slice_index, refl, ap, sym, ◌∙◌, subst, arith}
-use Rattle.std.proofs.lemmas.List.{append_assoc, length-append, length-map, get_or-append-add, get_or_append_left}
-use Rattle.std.proofs.lemmas.List.Sums.{sum_by-cons}
-use Rattle.std.proofs.lemmas.Bool.{cases_lt}
+use Rattle.std.proofs.Common.{◌≡◌, ℕ, zero, suc, ◌+◌, ◌<◌, ◌++◌, List, [], ◌∷◌, length, take, drop, get_or, slice_index, refl, ap, sym, ◌∙◌, subst, arith}
+use Rattle.std.proofs.Math.Seq.{drop-cons}
+use Rattle.std.proofs.lemmas.List.{append_assoc, length-append, length-map, map-append, get_or-append-add, get_or_append_left}
+use Rattle.std.proofs.lemmas.List.Sums.{sum_by-append, sum_by-cons}
 use Rattle.mv_isa.specs.declared.labelled.Labelled.{Labelled}
 use Rattle.mv_isa.specs.declared.labelled.Line.{Line}
 use Rattle.mv_linker.specs.declared.joined.Joined.{Joined}
 use Rattle.mv_linker.specs.declared.parts.Parts.{Parts}
-use Rattle.mv_linker.specs.Linked.{codes, relabelled, stub_lines, stub_count, function_part, function_parts, linked_lines, label_count, line_count, part_index, IsJoined}
+use Rattle.mv_linker.specs.declared.parts.PartFunction.{PartFunction}
+use Rattle.mv_linker.specs.declared.parts.PartVariant.{PartVariant}
+use Rattle.mv_linker.specs.Linked.{codes, function_variants, variant_codes, relabelled, stub_lines, stub_count, function_part, function_parts, linked_lines, label_count, line_count, part_index, trap_label, IsJoined}
 use Rattle.mv_linker.specs.Joining.{with_code, with_codes}
 use Rattle.mv_linker.proofs.Counting.{label_count_more}
 
@@ -22,6 +24,43 @@ labels_of j (x ∷ xs) = omega (arith, labels_of (with_code j x) xs, label_count
 pub entries_of : (j : Joined) (xs : List Labelled) → length (with_codes j xs).entries ≡ length j.entries + length xs
 entries_of j [] = omega arith
 entries_of j (x ∷ xs) = omega (arith, entries_of (with_code j x) xs, length-append j.entries (length j.code.items ∷ []))
+
+-- what joins to the same has as many labels and entries
+
+pub same_labels : (j k : Joined) (xs ys : List Labelled) → with_codes j xs ≡ with_codes k ys → j.code.labels + label_count xs ≡ k.code.labels + label_count ys
+same_labels j k xs ys e = sym (labels_of j xs) ∙ ap (λ (r : Joined). r.code.labels) e ∙ labels_of k ys
+
+pub same_entries : (j k : Joined) (xs ys : List Labelled) → with_codes j xs ≡ with_codes k ys → length j.entries + length xs ≡ length k.entries + length ys
+same_entries j k xs ys e = sym (entries_of j xs) ∙ ap (λ (r : Joined). length r.entries) e ∙ entries_of k ys
+
+-- some more codes are joined, of all that are left
+pub more_codes : (j next whole : Joined) (some rest all : List Labelled) → next ≡ with_codes j some → all ≡ some ++ rest → with_codes j all ≡ whole → with_codes next rest ≡ whole
+more_codes j next whole some rest all next_is all_is is =
+    ap (λ (n : Joined). with_codes n rest) next_is ∙ sym (with_codes-append j some rest) ∙ ap (with_codes j) (sym all_is) ∙ is
+
+-- ---- what is left from an index on
+
+pub codes_at : (xs : List Labelled) (i : ℕ) (x : Labelled) → i < length xs → x ≡ get_or xs i x → drop i xs ≡ (x ∷ []) ++ drop (i + 1) xs
+codes_at xs i x below is =
+    let next : suc i ≡ i + 1 = omega arith in
+    drop-cons xs i x below ∙ ap (λ (y : Labelled). y ∷ drop (suc i) xs) (sym is) ∙ ap (λ j. x ∷ drop j xs) next
+
+pub variants_at : (xs : List PartVariant) (i : ℕ) (x : PartVariant) → i < length xs → x ≡ get_or xs i x → variant_codes (drop i xs) ≡ (x.code ∷ []) ++ variant_codes (drop (i + 1) xs)
+variants_at xs i x below is =
+    let next : suc i ≡ i + 1 = omega arith in
+    ap variant_codes (drop-cons xs i x below ∙ ap (λ (y : PartVariant). y ∷ drop (suc i) xs) (sym is) ∙ ap (λ j. x ∷ drop j xs) next)
+
+pub functions_at : (xs : List PartFunction) (i : ℕ) (x : PartFunction) → i < length xs → x ≡ get_or xs i x → function_variants (drop i xs) ≡ x.variants ++ function_variants (drop (i + 1) xs)
+functions_at xs i x below is =
+    let next : suc i ≡ i + 1 = omega arith in
+    ap function_variants (drop-cons xs i x below)
+    ∙ ap (λ (y : PartFunction). y.variants ++ function_variants (drop (suc i) xs)) (sym is)
+    ∙ ap (λ j. x.variants ++ function_variants (drop j xs)) next
+
+pub function_codes_at : (xs : List PartFunction) (i : ℕ) (x : PartFunction) → i < length xs → x ≡ get_or xs i x →
+    variant_codes (function_variants (drop i xs)) ≡ variant_codes x.variants ++ variant_codes (function_variants (drop (i + 1) xs))
+function_codes_at xs i x below is =
+    ap variant_codes (functions_at xs i x below is) ∙ map-append (λ (v : PartVariant). v.code) x.variants (function_variants (drop (i + 1) xs))
 
 items_of : (j : Joined) (xs : List Labelled) → (with_codes j xs).code.items ≡ j.code.items ++ function_parts (length j.entries) j.code.labels xs
 items_of j [] = sym (append_nil j.code.items)
@@ -78,3 +117,31 @@ joined_are parts joined is =
       each = λ f below. let at : 0 + f ≡ f = omega arith in
           ap (slice_index (with_codes (begun parts) (codes parts)).entries) (sym at) ∙ entry_of (begun parts) (codes parts) f below;
     })
+
+-- the functions first, and then the variants
+pub joined_in_order : (parts : Parts) (start functions all : Joined) → start ≡ begun parts → functions ≡ with_codes start parts.functions →
+    all ≡ with_codes functions (variant_codes (function_variants parts.attributed)) → IsJoined parts all
+joined_in_order parts start functions all start_is functions_are all_is =
+    let variants = variant_codes (function_variants parts.attributed) in
+    joined_are parts all
+    (all_is ∙ ap (λ (j : Joined). with_codes j variants) (functions_are ∙ ap (λ (j : Joined). with_codes j parts.functions) start_is) ∙
+    sym (with_codes-append (begun parts) parts.functions variants))
+
+-- there are numbers for the variants behind the functions
+pub record HasNumbers (parts : Parts) (functions : Joined) : Type 0 where
+  pub entries : length functions.entries + length (variant_codes (function_variants parts.attributed)) < trap_label 1
+  pub labels : functions.code.labels + label_count (variant_codes (function_variants parts.attributed)) < trap_label 1
+
+pub numbers_left : (parts : Parts) → length (codes parts) + label_count (codes parts) < trap_label 1 → (start functions : Joined) → start ≡ begun parts →
+    functions ≡ with_codes start parts.functions → HasNumbers parts functions
+numbers_left parts few start functions start_is functions_are =
+    let variants = variant_codes (function_variants parts.attributed) in
+    let count = length-append parts.functions variants in
+    let labels = sum_by-append (λ (c : Labelled). c.labels) parts.functions variants in
+    let joined = functions_are ∙ ap (λ (j : Joined). with_codes j parts.functions) start_is in
+    let some_entries = ap (λ (j : Joined). length j.entries) joined in
+    let some_labels = ap (λ (j : Joined). j.code.labels) joined in
+    record {
+      entries = omega (arith, some_entries, entries_of (begun parts) parts.functions, count, few);
+      labels = omega (arith, some_labels, labels_of (begun parts) parts.functions, labels, few);
+    }

@@ -1,6 +1,7 @@
 //! Parts that are linked, with the words of LLVM's assembler, and parts that are refused.
 
-ghost use Rattle.std.specs.Prelude.{IfOk};
+ghost use Rattle.std.specs.Prelude.{◌≡◌, IfOk};
+ghost use Rattle.mv_num.specs.declared.kind.Kind.{Kind};
 ghost use Rattle.mv_linker.specs.Linked.{AreParts};
 ghost use Rattle.mv_linker.specs.Tables.{FitTables};
 

@@ -1,11 +1,11 @@
 use Rattle.std.proofs.Common.{◌≡◌, ℕ, suc, ◌+◌, ◌<◌, ◌++◌, List, [], ◌∷◌, length, drop, get_or, slice_index, All, refl, ap, sym, subst, ◌∙◌, arith}
-use Rattle.std.proofs.Math.Seq.{drop-cons}
 use Rattle.std.proofs.lemmas.List.{append_assoc, length-append, get_or-append-add}
 use Rattle.mv_descriptors.specs.declared.rows.VariantRow.{VariantRow}
 use Rattle.mv_linker.specs.declared.parts.PartFunction.{PartFunction}
 use Rattle.mv_linker.specs.declared.parts.PartVariant.{PartVariant}
 use Rattle.mv_linker.specs.Linked.{function_variants}
 use Rattle.mv_linker.specs.Tables.{variant_row, variant_rows, HasFewGuards}
+use Rattle.mv_linker.proofs.Joining.{functions_at}
 use Rattle.mv_linker.proofs.rows.variant_rows.Goals as goal
 
 rows-append : (address : ℕ → ℕ) (n : ℕ) (xs ys : List PartVariant) → variant_rows address n (xs ++ ys) ≡ variant_rows address n xs ++ variant_rows address (n + length xs) ys
@@ -14,14 +14,6 @@ rows-append address n (x ∷ xs) ys =
     let same : suc n + length xs ≡ n + length (x ∷ xs) = omega arith in
     ap (λ rows. variant_row (address n) x ∷ rows)
     (rows-append address (suc n) xs ys ∙ ap (λ m. variant_rows address (suc n) xs ++ variant_rows address m ys) same)
-
--- the variants of the functions from an index on are the function's there and the others
-split_at : (xs : List PartFunction) (i : ℕ) (a : PartFunction) → i < length xs → a ≡ get_or xs i a → function_variants (drop i xs) ≡ a.variants ++ function_variants (drop (i + 1) xs)
-split_at xs i a below is =
-    let next : suc i ≡ i + 1 = omega arith in
-    ap function_variants (drop-cons xs i a below)
-    ∙ ap (λ (b : PartFunction). b.variants ++ function_variants (drop (suc i) xs)) (sym is)
-    ∙ ap (λ j. a.variants ++ function_variants (drop j xs)) next
 
 -- what holds of each of two lists holds of the second's
 All-behind : {X : Type 0} (P : X → Type 0) (xs ys : List X) → All P (xs ++ ys) → All P ys
@@ -43,7 +35,7 @@ loop-function-preserved c =
     let xs = c.args.attributed.now in
     let i = c.loop-function.function-index in
     let rest = function_variants (drop (i + 1) xs) in
-    let split = split_at xs i a c.loop-function-test.true c.function-item.is in
+    let split = functions_at xs i a c.loop-function-test.true c.function-item.is in
     let inv = c.loop-function.invariant in
     let pushed : c.push_variant_rows.new.rows ≡ c.loop-function.rows ++ variant_rows (slice_index c.args.starts.now) c.loop-function.next a.variants = rw c.as_slice.ensures at c.in_ok-push_variant_rows.ensures in
     record {
