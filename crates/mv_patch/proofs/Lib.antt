@@ -6,3 +6,8 @@ pub mod TablePlaces
 pub mod TablePairs
 pub mod Next
 pub mod GroupRows
+pub mod Padded
+pub mod Rebinding
+pub mod Words
+pub mod Switches
+pub mod Fits

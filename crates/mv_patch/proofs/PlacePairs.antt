@@ -3,7 +3,7 @@ use Rattle.std.proofs.Common.{◌≡◌, ◌≢◌, ◌⊎◌, inl, inr, ℕ, su
 use Rattle.std.specs.List.{Contains}
 use Rattle.std.proofs.lemmas.Bool.{cond_both, eqb-true, eqb-false}
 use Rattle.std.proofs.lemmas.Option.{slice_get_within, slice_get-get_or}
-use Rattle.mv_patch.specs.declared.plan.Pair.{Pair}
+use Rattle.mv_patch.specs.declared.prepared.Pair.{Pair}
 use Rattle.mv_patch.specs.Pairs.{text_start, place, pair_of, pairs_between}
 use Rattle.mv_patch.specs.Tables.{word_of, change, pairs_at}
 use Rattle.mv_patch.proofs.Pairs.{Marches, pairs_march, earlier, behind_one}

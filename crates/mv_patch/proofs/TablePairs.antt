@@ -3,10 +3,10 @@ use Rattle.std.proofs.Common.{◌≡◌, ◌≢◌, ℕ, ◌+◌, ◌-◌, ◌*�
 use Rattle.std.proofs.lemmas.Option.{slice_get_within}
 use Rattle.mv_image.specs.Spelling.{Fields}
 use Rattle.mv_image.specs.Faults.{Rules}
-use Rattle.mv_image.specs.Patched.{Bindings, word_under, text_of, ShowsAt, patchable}
+use Rattle.mv_image.specs.Patched.{Bindings, word_under, text_of, ShowsAt}
 use Rattle.mv_image.proofs.PatchLaws.{text_size, text_at, only_there}
 use Rattle.mv_patch.specs.Pairs.{text_start, place, pairs_between}
-use Rattle.mv_patch.specs.Tables.{patched_places, word_of, pairs_at}
+use Rattle.mv_patch.specs.Tables.{patchable, patched_places, word_of, pairs_at}
 use Rattle.mv_patch.proofs.Merged.{Climbs}
 use Rattle.mv_patch.proofs.PlacePairs.{word_there, at_places, few_at}
 use Rattle.mv_patch.proofs.TablePlaces.{shown_listed, places_climb, places_count}

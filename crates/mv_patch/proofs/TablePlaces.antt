@@ -10,11 +10,11 @@ use Rattle.mv_descriptors.specs.declared.rows.SiteRow.{SiteRow}
 use Rattle.mv_image.specs.Spelling.{Fields}
 use Rattle.mv_image.specs.Faults.{Rules}
 use Rattle.mv_image.specs.WellFormed.{IsInText}
-use Rattle.mv_image.specs.Patched.{entry_at, site_at, site_before, ShowsAt, patchable}
+use Rattle.mv_image.specs.Patched.{entry_at, site_at, site_before, ShowsAt}
 use Rattle.mv_image.proofs.Apart.{entries_ascend, sites_apart, entry_outside}
 use Rattle.mv_image.proofs.RowsFit.{functions_fit, sites_fit}
 use Rattle.mv_patch.specs.Pairs.{place}
-use Rattle.mv_patch.specs.Tables.{entries, site_words, merged_behind, merged, patched_places}
+use Rattle.mv_patch.specs.Tables.{patchable, entries, site_words, merged_behind, merged, patched_places}
 use Rattle.mv_patch.proofs.Merged.{Has, Climbs, Apart, merged_left, merged_right, merged_climbs}
 
 -- ---- a row is found
@@ -98,7 +98,7 @@ index_in image a h =
     let below = h.within in
     ((a - 4096) / 4, omega (arith, aligned, from, below), omega (arith, aligned, from))
 
-climbing : (n m : ℕ) (xs : List ℕ) → ((i : ℕ) → i < length xs → (k : ℕ) × (k < n) × (get_or xs i 0 ≡ place k)) → ((i j : ℕ) → i < j → j < length xs → get_or xs i 0 < get_or xs j 0) → (0 < length xs → place m ≤ get_or xs 0 0) → Climbs n m xs
+pub climbing : (n m : ℕ) (xs : List ℕ) → ((i : ℕ) → i < length xs → (k : ℕ) × (k < n) × (get_or xs i 0 ≡ place k)) → ((i j : ℕ) → i < j → j < length xs → get_or xs i 0 < get_or xs j 0) → (0 < length xs → place m ≤ get_or xs 0 0) → Climbs n m xs
 climbing n m [] at up low = tt
 climbing n m (x ∷ xs) at up low =
     let h = at 0 (omega arith) in
@@ -116,10 +116,10 @@ climbing n m (x ∷ xs) at up low =
           omega (arith, next, here, is))),
     )
 
-pub no_function : FunctionRow
+abbrev pub no_function : FunctionRow
 no_function = record { length = 0; entry = 0; count = 0; switches = []; variants = 0 }
 
-pub no_site : SiteRow
+abbrev pub no_site : SiteRow
 no_site = record { address = 0; function = 0 }
 
 pub entry_is : (image : Fields) (i : ℕ) → i < length image.functions → get_or (entries image) i 0 ≡ (get_or image.functions i no_function).entry
@@ -234,7 +234,21 @@ contains_has a [] h = absurd h
 contains_has a (x ∷ xs) (inl e) = (0, omega arith, e)
 contains_has a (x ∷ xs) (inr h) = let r = contains_has a xs h in (suc r.0, (let lt = r.1 in omega (arith, lt)), r.2)
 
+pub has_contained : (a : ℕ) (xs : List ℕ) → Contains xs a → Has a xs
+has_contained a xs c = has_at a c.0 xs c.1 c.2
+  where
+    has_at : (a i : ℕ) (xs : List ℕ) → i < length xs → get_or xs i a ≡ a → Has a xs
+    has_at a i [] lt e = absurd (omega (arith, lt))
+    has_at a zero (x ∷ xs) lt e = inl e
+    has_at a (suc i) (x ∷ xs) lt e = inr (has_at a i xs (omega (arith, lt)) e)
+
 -- ---- in order
+
+pub climb_place : (n m i : ℕ) (places : List ℕ) → Climbs n m places → i < length places → (k : ℕ) × (k < n) × (get_or places i 0 ≡ place k)
+climb_place n m i [] h lt = absurd (omega (arith, lt))
+climb_place n m zero (a ∷ places) h lt = (h.0, h.2, h.3)
+climb_place n m (suc i) (a ∷ places) h lt = climb_place n (suc h.0) i places h.4 (omega (arith, lt))
+
 
 at_least : (n m j : ℕ) (places : List ℕ) → Climbs n m places → j < length places → place m ≤ get_or places j 0
 at_least n m j [] h lt = absurd (omega (arith, lt))

@@ -4,3 +4,4 @@ pub mod Views
 pub mod Groups
 pub mod Shown
 pub mod Tables
+pub mod Laws

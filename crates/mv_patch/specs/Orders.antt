@@ -10,7 +10,7 @@ use Rattle.mv_image.specs.Spelling.{Fields}
 use Rattle.mv_image.specs.Patched.{Bindings, fitting_variant, text_of}
 use Rattle.mv_patch.specs.declared.order.Order.{Order}
 use Rattle.mv_patch.specs.declared.order.Order.TheVariants.{CommitAll, RevertAll, CommitFunction, RevertFunction, CommitRefs, RevertRefs}
-use Rattle.mv_patch.specs.declared.plan.Pair.{Pair}
+use Rattle.mv_patch.specs.declared.prepared.Pair.{Pair}
 use Rattle.mv_patch.specs.Pairs.{pairs_between}
 
 -- ---- orders, by their codes: 0 and 1 address all functions, 2 and 3 one, 4 and 5 those that have a switch; an even one commits, an odd one reverts

@@ -1,6 +1,6 @@
 -- Where two texts differ.
 use Rattle.std.specs.Prelude.{ℕ, ◌≡◌, ◌≢◌, ◌+◌, ◌*◌, ◌==◌, if◌then◌else◌, List, [], ◌∷◌, slice_get, Some}
-use Rattle.mv_patch.specs.declared.plan.Pair.{Pair}
+use Rattle.mv_patch.specs.declared.prepared.Pair.{Pair}
 
 -- the first address of text, and the address of a word of text by its index
 abbrev pub text_start : ℕ

@@ -5,7 +5,7 @@ use Rattle.mv_descriptors.specs.declared.rows.FunctionRow.{FunctionRow}
 use Rattle.mv_descriptors.specs.declared.rows.SiteRow.{SiteRow}
 use Rattle.mv_image.specs.Spelling.{Fields}
 use Rattle.mv_image.specs.Patched.{Bindings, text_of}
-use Rattle.mv_patch.specs.declared.plan.Pair.{Pair}
+use Rattle.mv_patch.specs.declared.prepared.Pair.{Pair}
 use Rattle.mv_patch.specs.Pairs.{text_start, pair_of}
 
 -- the entries of the functions, and the two words of each site
@@ -26,7 +26,11 @@ unfoldable pub merged : List ℕ → List ℕ → List ℕ
 merged [] ys = ys
 merged (x ∷ xs) ys = merged_behind x (merged xs) ys
 
--- the addresses of the words that may be patched, in order
+-- how many words of text bindings can change: the entry of each function and the two words of each site
+unfoldable pub patchable : Fields → ℕ
+patchable image = length image.functions + 2 * length image.sites
+
+-- the addresses of these words, in order
 abbrev pub patched_places : Fields → List ℕ
 patched_places image = merged (entries image) (site_words image.sites)
 

@@ -1,6 +1,6 @@
 -- What the fields of a `Plan` stand for.
 use Rattle.std.specs.Prelude.{◌≡◌, ◌≤◌, length, vec_capacity}
-use Rattle.mv_patch.specs.declared.plan.Plan.TheInside.{Inside}
+use Rattle.mv_patch.specs.declared.prepared.Plan.TheInside.{Inside}
 use Rattle.mv_patch.specs.Orders.{Prepared}
 
 abbrev pub view : Inside → Prepared

@@ -10,7 +10,7 @@ ghost use Rattle.mv_patch.specs.Shown.{AreShown};
 use crate::groups::{Group, first_group, fitting_variant, next_group, row_at};
 use crate::order::Order;
 use mv_ast::world::Binding;
-use mv_descriptors::{FunctionRow, VariantRow};
+use mv_descriptors::{FunctionRow, Row, VariantRow};
 use mv_fetch::Memory;
 use mv_image::Image;
 use mv_image::facts::within_limits;
@@ -51,11 +51,12 @@ fn switch_words(image: &Image, memory: &Memory, row: &FunctionRow) -> [u32; 6]
     requires { row.now.count ≤ 6 }
     ensures { result ≡ take 6 (words_now image.now memory.now.held row.now ++ replicate 6 0) }
 {
+    row.has_width();
     let mut words = [0; 6];
     for i in 0..row.count as usize {
         words[i] = switch_word(image, memory, row.switches[i]);
     }
-    words
+    padded(&words[..row.count as usize])
 }
 
 /// What a commit binds a function to.
@@ -64,6 +65,7 @@ fn bound_now(image: &Image, memory: &Memory, group: Group, row: &FunctionRow) ->
     requires row { IsRow image.now group.function row.now }
     ensures { result ≡ bound_now image.now memory.now.held group.function row.now }
 {
+    row.has_width();
     let values = switch_words(image, memory, row);
     match fitting_variant(image, group, row, &values) {
         None => Binding::free(),
@@ -138,6 +140,11 @@ pub(crate) fn answer_to(image: &Image, order: Order, bound: &[Binding]) -> u32
     }
 }
 
+/// A binding has room for six values.
+fn has_six(binding: &Binding)
+    ensures { length binding.now.values ≡ 6 }
+{}
+
 /// The variant that a function is bound to.
 #[tactic(auto, unfolding(mv_image::specs::Patched::variant_under))]
 fn bound_variant(image: &Image, group: Group, row: &FunctionRow, binding: &Binding) -> Option<VariantRow>
@@ -148,6 +155,7 @@ fn bound_variant(image: &Image, group: Group, row: &FunctionRow, binding: &Bindi
     if !binding.bound {
         return None;
     }
+    has_six(binding);
     let count = binding.count.min(6) as usize;
     let values = padded(&binding.values[..count]);
     match fitting_variant(image, group, row, &values) {

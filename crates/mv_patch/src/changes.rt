@@ -1,16 +1,17 @@
 //! The words of text that change between two bindings.
 
 ghost use Rattle.std.specs.Prelude.{◌≡◌, ◌++◌, ◌+◌, ◌*◌, ◌≤◌, ◌<◌, ◌^◌, length, slice_get, slice_index, Some, vec_capacity};
+ghost use Rattle.mv_image.specs.Faults.{Rules};
 ghost use Rattle.mv_image.specs.Jumps.{jump};
-ghost use Rattle.mv_image.specs.Patched.{Bindings, at_entry, at_site, after_site, text_of, patchable};
+ghost use Rattle.mv_image.specs.Patched.{Bindings, at_entry, at_site, after_site, text_of};
 ghost use Rattle.mv_patch.specs.Shown.{AreShown};
 ghost use Rattle.mv_patch.specs.Pairs.{pairs_between};
-ghost use Rattle.mv_patch.specs.Tables.{entries, site_words, word_of, change, change_at, is_entry_next};
+ghost use Rattle.mv_patch.specs.Tables.{patchable, entries, site_words, word_of, change, change_at, is_entry_next};
 
-use crate::plan::Pair;
+use crate::prepared::Pair;
 use mv_descriptors::{SiteRow, VariantRow};
-use mv_image::facts::rows_fit;
-use mv_image::{Image, jump};
+use mv_image::facts::{rows_fit, within_limits};
+use mv_image::Image;
 
 const TEXT_START: u32 = 0x1000;
 
@@ -26,11 +27,19 @@ fn text_word(image: &Image, address: u32) -> u32
 }
 
 /// The word of `jal` with a register from one address to another.
-fn jal(register: u64, from: u32, to: u32) -> u32
+#[tactic(auto, unfolding(mv_image::specs::Jumps::jump))]
+fn jal(register: u32, from: u32, to: u32) -> u32
     requires { register < 2 }
     ensures { result ≡ jump register from to }
 {
-    jump(register, u64::from(from), u64::from(to)) as u32
+    let distance = (u64::from(to) + 0x20_0000).saturating_sub(u64::from(from)) % 0x20_0000;
+    let d = distance as u32;
+    d / 0x10_0000 % 2 * 0x8000_0000
+        + d / 2 % 1024 * 0x20_0000
+        + d / 2048 % 2 * 0x10_0000
+        + d / 4096 % 256 * 4096
+        + register * 128
+        + 111
 }
 
 /// What stands at an entry.
@@ -73,7 +82,7 @@ fn after_site(address: u32, word: u32, variant: Option<VariantRow>) -> u32
 fn push_change(pairs: &mut Vec<Pair>, address: u32, old: u32, new: u32)
     requires { length pairs.old.items < vec_capacity pairs.old }
     ensures items { pairs.new.items ≡ pairs.old.items ++ change address old new }
-    ensures room { vec_capacity pairs.new ≡ vec_capacity pairs.old }
+    ensures room { vec_capacity pairs.old ≤ vec_capacity pairs.new }
 {
     if old != new {
         let pair = Pair { address, word: new };
@@ -88,6 +97,7 @@ fn site_at(image: &Image, site: usize) -> SiteRow
     ensures function { result.function < length image.now.functions }
     ensures address { result.address + 4 < 2 ^ 32 }
 {
+    within_limits(image);
     rows_fit(image);
     image.sites().as_slice()[site]
 }
@@ -109,6 +119,7 @@ fn site_word(image: &Image, word: usize) -> u32
 fn is_entry_next(image: &Image, function: usize, word: usize) -> bool
     ensures { result ≡ is_entry_next image.now function word }
 {
+    within_limits(image);
     if function >= image.functions().len() {
         return false;
     }
@@ -130,8 +141,8 @@ fn push_entry(
     requires before { length before.now ≡ length image.now.functions }
     requires after { length after.now ≡ length image.now.functions }
     requires room { length pairs.old.items < vec_capacity pairs.old }
-    ensures items { (some other : Bindings) → AreShown image.now some before.now → AreShown image.now other after.now → pairs.new.items ≡ pairs.old.items ++ change_at image.now some other (slice_index (entries image.now) function) }
-    ensures room { vec_capacity pairs.new ≡ vec_capacity pairs.old }
+    ensures items { (some other : Bindings) → Rules image.now → AreShown image.now some before.now → AreShown image.now other after.now → pairs.new.items ≡ pairs.old.items ++ change_at image.now some other (slice_index (entries image.now) function) }
+    ensures room { vec_capacity pairs.old ≤ vec_capacity pairs.new }
 {
     let address = image.functions().as_slice()[function].entry;
     let word = text_word(image, address);
@@ -152,8 +163,8 @@ fn push_site_word(
     requires before { length before.now ≡ length image.now.functions }
     requires after { length after.now ≡ length image.now.functions }
     requires room { length pairs.old.items < vec_capacity pairs.old }
-    ensures items { (some other : Bindings) → AreShown image.now some before.now → AreShown image.now other after.now → pairs.new.items ≡ pairs.old.items ++ change_at image.now some other (slice_index (site_words image.now.sites) word) }
-    ensures room { vec_capacity pairs.new ≡ vec_capacity pairs.old }
+    ensures items { (some other : Bindings) → Rules image.now → AreShown image.now some before.now → AreShown image.now other after.now → pairs.new.items ≡ pairs.old.items ++ change_at image.now some other (slice_index (site_words image.now.sites) word) }
+    ensures room { vec_capacity pairs.old ≤ vec_capacity pairs.new }
 {
     let site = site_at(image, word / 2);
     let function = site.function as usize;
@@ -181,13 +192,14 @@ pub(crate) fn find_changes(
     requires before { length before.now ≡ length image.now.functions }
     requires after { length after.now ≡ length image.now.functions }
     requires room { patchable image.now ≤ vec_capacity pairs.old }
-    ensures items { (some other : Bindings) → AreShown image.now some before.now → AreShown image.now other after.now → pairs.new.items ≡ pairs_between (text_of image.now some) (text_of image.now other) }
-    ensures room { vec_capacity pairs.new ≡ vec_capacity pairs.old }
+    ensures items { (some other : Bindings) → Rules image.now → AreShown image.now some before.now → AreShown image.now other after.now → pairs.new.items ≡ pairs_between (text_of image.now some) (text_of image.now other) }
+    ensures room { vec_capacity pairs.old ≤ vec_capacity pairs.new }
 {
+    within_limits(image);
     pairs.clear();
     let mut function = 0;
     let mut word = 0;
-    for _ in 0..image.functions().len() + 2 * image.sites().len() {
+    for passed in 0..image.functions().len() + 2 * image.sites().len() {
         if is_entry_next(image, function, word) {
             push_entry(image, before, after, function, pairs);
             function += 1;

@@ -5,7 +5,7 @@ ghost use Rattle.mv_descriptors.specs.declared.rows.VariantRow.{VariantRow};
 ghost use Rattle.mv_image.specs.Patched.{kind_of, kinds_of, fitting_variant};
 ghost use Rattle.mv_patch.specs.Groups.{IsGroup, IsRow};
 
-use mv_descriptors::{FunctionRow, VariantRow, fitting};
+use mv_descriptors::{FunctionRow, Row, VariantRow, fitting};
 use mv_image::Image;
 use mv_image::facts::{rows_belong, rows_fit, within_limits};
 
@@ -36,6 +36,8 @@ pub(crate) fn next_group(image: &Image, group: Group, row: &FunctionRow) -> Grou
     ensures group { IsGroup image.now result }
     ensures function { result.function ≡ group.function + 1 }
 {
+    within_limits(image);
+    rows_belong(image);
     let variants = own_variants(image, group, row);
     Group {
         function: group.function + 1,
@@ -73,6 +75,7 @@ fn own_variants<'a>(image: &'a Image, group: Group, row: &FunctionRow) -> &'a [V
     ensures count { length result.now ≡ row.now.variants }
     ensures within { group.variant + row.now.variants ≤ length image.now.variants }
 {
+    within_limits(image);
     rows_belong(image);
     let end = group.variant + row.variants as usize;
     &image.variants().as_slice()[group.variant..end]
@@ -93,6 +96,7 @@ fn kinds_of(image: &Image, row: &FunctionRow) -> [u32; 6]
     requires { row.now.count ≤ 6 }
     ensures { take row.now.count result ≡ kinds_of image.now row.now }
 {
+    row.has_width();
     let mut kinds = [0; 6];
     for i in 0..row.count as usize {
         kinds[i] = kind_of(image, row.switches[i]);

@@ -8,10 +8,11 @@
 mod bindings;
 mod changes;
 mod groups;
+pub mod laws;
 mod order;
-mod plan;
 mod planning;
+mod prepared;
 
 pub use order::Order;
-pub use plan::{Pair, Plan};
 pub use planning::{PlanError, plan};
+pub use prepared::{Pair, Plan};

@@ -1,9 +1,9 @@
 ghost use Rattle.std.specs.Prelude.{◌≡◌, ◌≤◌, ◌<◌, ◌↔◌, length, OnOk, OnErr, Err};
-ghost use Rattle.mv_image.specs.Patched.{patchable};
+ghost use Rattle.mv_patch.specs.Tables.{patchable};
 ghost use Rattle.mv_patch.specs.Orders.{code_of, index_of, plan_of};
 
 use crate::order::Order;
-use crate::plan::Plan;
+use crate::prepared::Plan;
 use mv_ast::world::Binding;
 use mv_fetch::Memory;
 use mv_image::Image;
@@ -36,6 +36,8 @@ pub fn plan(
     ensures none_live { OnOk result (live ≡ 0) }
     ensures live { (result ≡ Err (PlanError.Live live)) ↔ (0 < live) }
     ensures refused { OnErr result (into.new ≡ into.old) }
+    ensures count { length into.new.planned.bound ≡ length image.now.functions }
+    ensures few { OnOk result (length into.new.planned.pairs ≤ patchable image.now) }
     ensures room { into.new.room ≡ into.old.room }
 {
     if live > 0 {

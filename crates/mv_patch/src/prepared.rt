@@ -1,7 +1,8 @@
 //! What a plan holds.
 
-ghost use Rattle.std.specs.Prelude.{◌≡◌, ◌≤◌, [], length, IfOk};
-ghost use Rattle.mv_image.specs.Patched.{patchable};
+ghost use Rattle.std.specs.Prelude.{◌≡◌, ◌≤◌, [], length, replicate, IfOk};
+ghost use Rattle.mv_ast.specs.Plans.{free};
+ghost use Rattle.mv_patch.specs.Tables.{patchable};
 ghost use Rattle.mv_patch.specs.Orders.{code_of, index_of, first_bindings, plan_of};
 
 use crate::bindings::{answer_to, rebind, show};
@@ -37,6 +38,12 @@ pub struct Plan {
     after: Vec<Option<VariantRow>>,
 }
 
+const FREE: Binding = Binding {
+    bound: false,
+    count: 0,
+    values: [0; 6],
+};
+
 impl Model for Plan {
     ghost use Rattle.mv_patch.specs.Orders.{Prepared};
 
@@ -47,6 +54,20 @@ impl Model for Plan {
     ghost view = { stands_for };
 
     ghost invariant = { IsKept };
+}
+
+// So many functions that are free.
+fn all_free(alloc: Global, count: usize) -> Result<Vec<Binding>, AllocError>
+    ensures { IfOk result (λ bindings. bindings.items ≡ replicate count free) }
+{
+    vec![in alloc; FREE; count]
+}
+
+// No variant for each of so many functions.
+fn none_shown(alloc: Global, count: usize) -> Result<Vec<Option<VariantRow>>, AllocError>
+    ensures { IfOk result (λ shown. length shown.items ≡ count) }
+{
+    vec![in alloc; None; count]
 }
 
 impl Plan {
@@ -60,11 +81,11 @@ impl Plan {
         let room = functions + 2 * image.sites().len();
         Ok(Plan {
             pairs: Vec::with_capacity(alloc, room)?,
-            bound: vec![in alloc; Binding::free(); functions]?,
+            bound: all_free(alloc, functions)?,
             answer: 0,
             room: room as u32,
-            before: vec![in alloc; None; functions]?,
-            after: vec![in alloc; None; functions]?,
+            before: none_shown(alloc, functions)?,
+            after: none_shown(alloc, functions)?,
         })
     }
 
@@ -94,8 +115,11 @@ impl Plan {
         requires into { length self.old.planned.bound ≡ length image.now.functions }
         requires bound { length bound.now ≡ length image.now.functions }
         ensures planned { self.new.planned ≡ plan_of image.now memory.now.held bound.now (code_of order) (index_of order) }
+        ensures count { length self.new.planned.bound ≡ length image.now.functions }
+        ensures few { length self.new.planned.pairs ≤ patchable image.now }
         ensures room { self.new.room ≡ self.old.room }
     {
+        let _entry = image.entry();
         rebind(image, memory, order, bound, self.bound.as_mut_slice());
         self.answer = answer_to(image, order, self.bound.as_slice());
         show(image, bound, self.before.as_mut_slice());
