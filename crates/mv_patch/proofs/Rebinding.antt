@@ -1,11 +1,11 @@
 -- The bindings behind an order, one after the other.
-use Rattle.std.proofs.Common.{◌≡◌, ℕ, zero, suc, ◌+◌, ◌<◌, ◌≤◌, Bool, cond, List, [], ◌∷◌, ◌++◌, length, take, drop, get_or, set, slice_get, Some, refl, sym, ap, ap₂, ◌∙◌, arith, append_assoc, append-nil, drop-cons}
+use Rattle.std.proofs.Common.{◌≡◌, ℕ, zero, suc, ◌+◌, ◌<◌, ◌≤◌, Bool, true, false, cond, ◌&&◌, List, [], ◌∷◌, ◌++◌, length, take, drop, get_or, set, slice_get, Some, refl, sym, ap, ap₂, ◌∙◌, arith, append_assoc, append-nil, drop-cons}
 use Rattle.std.proofs.Math.Seq.{take-suc-set}
 use Rattle.std.proofs.lemmas.List.{drop_all, take_all}
 use Rattle.std.proofs.lemmas.Option.{slice_get_within, get_or_from_slice_get}
 use Rattle.mv_ast.specs.declared.world.Binding.{Binding}
 use Rattle.mv_descriptors.specs.declared.rows.FunctionRow.{FunctionRow}
-use Rattle.mv_patch.specs.Orders.{ordered_rows}
+use Rattle.mv_patch.specs.Orders.{ordered_rows, bound_rows}
 
 -- a list from an item on
 from_item : {X : Type 0} (xs : List X) (i : ℕ) (x : X) → slice_get xs i ≡ Some x → drop i xs ≡ x ∷ drop (i + 1) xs
@@ -33,3 +33,17 @@ pub ordered_count : (addressed : ℕ → FunctionRow → Bool) (next : ℕ → F
 ordered_count addressed next i [] old e = refl
 ordered_count addressed next i (row ∷ rows) [] e = absurd (omega (arith, e))
 ordered_count addressed next i (row ∷ rows) (b ∷ old) e = ap suc (ordered_count addressed next (suc i) rows old (omega (arith, e)))
+
+-- ---- how many are bound
+
+pub one_or_none : (t : Bool) → cond t 1 0 ≤ 1
+one_or_none true = omega arith
+one_or_none false = omega arith
+
+pub one_counted : (addressed : ℕ → FunctionRow → Bool) (rows : List FunctionRow) (bs : List Binding) (i count n : ℕ) (row : FunctionRow) (b : Binding) → slice_get rows i ≡ Some row → slice_get bs i ≡ Some b
+    → n ≡ cond (addressed i row && b.bound) 1 0 → (count + n) + bound_rows addressed (i + 1) (drop (i + 1) rows) (drop (i + 1) bs) ≡ count + bound_rows addressed i (drop i rows) (drop i bs)
+one_counted addressed rows bs i count n row b e f is =
+    let more : i + 1 ≡ suc i = omega arith in
+    let here = ap₂ (λ (rs : List FunctionRow) (xs : List Binding). bound_rows addressed i rs xs) (from_item rows i row e) (from_item bs i b f) in
+    let next = ap (λ (k : ℕ). bound_rows addressed k (drop (i + 1) rows) (drop (i + 1) bs)) more in
+    omega (arith, here, next, is)

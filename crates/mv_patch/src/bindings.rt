@@ -140,9 +140,9 @@ pub(crate) fn answer_to(image: &Image, order: Order, bound: &[Binding]) -> u32
     }
 }
 
-/// A binding has room for six values.
-fn has_six(binding: &Binding)
-    ensures { length binding.now.values ≡ 6 }
+/// An array of six values has six.
+fn has_six(values: &[u32; 6])
+    ensures { length values.now ≡ 6 }
 {}
 
 /// The variant that a function is bound to.
@@ -155,7 +155,7 @@ fn bound_variant(image: &Image, group: Group, row: &FunctionRow, binding: &Bindi
     if !binding.bound {
         return None;
     }
-    has_six(binding);
+    has_six(&binding.values);
     let count = binding.count.min(6) as usize;
     let values = padded(&binding.values[..count]);
     match fitting_variant(image, group, row, &values) {

@@ -82,6 +82,7 @@ fn after_site(address: u32, word: u32, variant: Option<VariantRow>) -> u32
 fn push_change(pairs: &mut Vec<Pair>, address: u32, old: u32, new: u32)
     requires { length pairs.old.items < vec_capacity pairs.old }
     ensures items { pairs.new.items ≡ pairs.old.items ++ change address old new }
+    ensures few { length pairs.new.items ≤ length pairs.old.items + 1 }
     ensures room { vec_capacity pairs.old ≤ vec_capacity pairs.new }
 {
     if old != new {
@@ -142,6 +143,7 @@ fn push_entry(
     requires after { length after.now ≡ length image.now.functions }
     requires room { length pairs.old.items < vec_capacity pairs.old }
     ensures items { (some other : Bindings) → Rules image.now → AreShown image.now some before.now → AreShown image.now other after.now → pairs.new.items ≡ pairs.old.items ++ change_at image.now some other (slice_index (entries image.now) function) }
+    ensures few { length pairs.new.items ≤ length pairs.old.items + 1 }
     ensures room { vec_capacity pairs.old ≤ vec_capacity pairs.new }
 {
     let address = image.functions().as_slice()[function].entry;
@@ -164,6 +166,7 @@ fn push_site_word(
     requires after { length after.now ≡ length image.now.functions }
     requires room { length pairs.old.items < vec_capacity pairs.old }
     ensures items { (some other : Bindings) → Rules image.now → AreShown image.now some before.now → AreShown image.now other after.now → pairs.new.items ≡ pairs.old.items ++ change_at image.now some other (slice_index (site_words image.now.sites) word) }
+    ensures few { length pairs.new.items ≤ length pairs.old.items + 1 }
     ensures room { vec_capacity pairs.old ≤ vec_capacity pairs.new }
 {
     let site = site_at(image, word / 2);
