@@ -11,3 +11,4 @@ pub mod Rebinding
 pub mod Words
 pub mod Switches
 pub mod Fits
+pub mod Filled
