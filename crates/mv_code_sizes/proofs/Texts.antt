@@ -206,7 +206,7 @@ texts_pass short p formed parts own variants count text =
         let h = variants.each n g a there is in
         let at = attributed_there p.functions n g there in
         let most = each_short (words_of g) a.variants
-            (All-weaker (λ (v : PartVariant). IsCodeOf p g v.code) (λ (v : PartVariant). code_words v.code ≤ words_of g) (λ v c. short_code at.0 g at.1 v.code c) a.variants h.each) in
+        (All-weaker (λ (v : PartVariant). IsCodeOf p g v.code) (λ (v : PartVariant). code_words v.code ≤ words_of g) (λ v c. short_code at.0 g at.1 v.code c) a.variants h.each) in
         let less = mul-le-mul_right (words_of g) h.few in
         omega (arith, most, less)
 

@@ -28,14 +28,14 @@ module _ (old new : List ℕ) (size : length new ≡ length old) where
       cond_both (eqb (word_of old a) (word_of new a)) [] (pair_of a (word_of new a) ∷ []) (λ (ps : List Pair). Marches old new m (ps ++ pairs_at old new places))
       (λ same. earlier old new m (suc k) (pairs_at old new places) (omega (arith, from)) rest)
       (λ differ. (
-      k,
-      h.1,
-      word_of old a,
-      h.3,
-      word_there old a k h.3 lt,
-      word_there new a k h.3 (omega (arith, lt, size)),
-      eqb-false (word_of old a) (word_of new a) differ,
-      rest,
+        k,
+        h.1,
+        word_of old a,
+        h.3,
+        word_there old a k h.3 lt,
+        word_there new a k h.3 (omega (arith, lt, size)),
+        eqb-false (word_of old a) (word_of new a) differ,
+        rest,
       ))
 
   at_has : (places : List ℕ) (k o n : ℕ) → Has (place k) places → slice_get old k ≡ Some o → slice_get new k ≡ Some n → o ≢ n → Contains (pairs_at old new places) (pair_of (place k) n)
