@@ -186,7 +186,7 @@ word_accepted : (w : ℕ) → w < 2 ^ 32 → (words : ℕ) → accepts words Wor
 unfolding accepts
 word_accepted w h words = grind (arith, nat_tests)
 
-raw_length : (w : ℕ) → length (raw_text w) < 17
+pub raw_length : (w : ℕ) → length (raw_text w) < 17
 unfolding raw_text
 raw_length w = omega (arith, hex_length 8 w)
 
@@ -198,7 +198,7 @@ raw_bytes : (w : ℕ) → list_all is_line_byte (raw_text w) ≡ true
 unfolding raw_text
 raw_bytes w = directive_bytes (codes ".word") w word_name
 
-pub raw_line : (w : ℕ) → w < 2 ^ 32 → IsLine sections.Text (raw_text w) w
+raw_line : (w : ℕ) → w < 2 ^ 32 → IsLine sections.Text (raw_text w) w
 raw_line w h = record {
   statement = with_operands Word (operands_with w);
   number = number false w;
@@ -221,9 +221,6 @@ data_line w h = record {
   gives = λ code. refl;
   bytes = raw_bytes w;
 }
-
-pub data_length : (w : ℕ) → length (raw_text w) < 17
-data_length w = raw_length w
 
 -- ---- a word of text
 

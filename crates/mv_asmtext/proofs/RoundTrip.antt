@@ -27,7 +27,7 @@ use Rattle.mv_asmtext.specs.Statements.{no_operands, with_operands, unlabelled, 
 use Rattle.mv_asmtext.proofs.InstructionFits.{and_left, and_right}
 use Rattle.mv_asmtext.proofs.NumberTexts.{hex_length}
 use Rattle.mv_asmtext.proofs.Pieces.{is_line_byte}
-use Rattle.mv_asmtext.proofs.PrintedLines.{IsLine, directive_text, operands_with, word_line, word_length, data_line, data_length, entry_reads, entry_bytes, data_reads}
+use Rattle.mv_asmtext.proofs.PrintedLines.{IsLine, directive_text, operands_with, word_line, word_length, data_line, raw_length, entry_reads, entry_bytes, data_reads}
 
 -- ---- lines
 
@@ -248,7 +248,7 @@ data_text_length : (ws : List ℕ) → AreWords ws → length (data_text ws) ≤
 unfolding data_text
 data_text_length [] are = omega arith
 data_text_length (w ∷ ws) are =
-    let lines : length (raw_lines (w ∷ ws)) ≤ 17 * length (w ∷ ws) = rw (raw_lines_are (w ∷ ws)) (lines_length raw_text 17 (λ v _. data_length v) (w ∷ ws) are) in
+    let lines : length (raw_lines (w ∷ ws)) ≤ 17 * length (w ∷ ws) = rw (raw_lines_are (w ∷ ws)) (lines_length raw_text 17 (λ v _. raw_length v) (w ∷ ws) are) in
     omega (arith, lines)
 
 printed_length : (code : Code) → FitsImage code → AreWords code.text → AreWords code.globals → length (printed code) ≤ 2 ^ 24
