@@ -9,7 +9,7 @@ pub mod RenamedNames
 pub mod NamesKept
 pub mod Weights
 pub mod Variants
-pub mod Reads
+pub mod OwnReads
 pub mod Led
 pub mod Groups
 pub mod Slots

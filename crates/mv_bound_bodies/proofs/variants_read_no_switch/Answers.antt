@@ -1,4 +1,4 @@
-use Rattle.mv_bound_bodies.proofs.Reads.{read_no_switch}
+use Rattle.mv_bound_bodies.proofs.OwnReads.{read_no_switch}
 use Rattle.mv_bound_bodies.proofs.variants_read_no_switch.Goals as goal
 
 pub returns : goal.returns

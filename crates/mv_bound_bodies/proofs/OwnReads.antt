@@ -18,12 +18,12 @@ use Rattle.mv_bound_bodies.proofs.Meant.{made}
 not_among : (ss vs : List ℕ) (k : ℕ) → length vs ≡ length ss → found (zip ss vs) k ≡ None → is_among k ss ≡ false
 not_among [] vs k e h = refl
 not_among (s ∷ ss) [] k e h = absurd (omega (arith, e))
-not_among (s ∷ ss) (v ∷ vs) k e h = by (eqb s k) (nat_eq k s) refl refl h
+not_among (s ∷ ss) (v ∷ vs) k e h = by (eqb s k) (nat_eq k s) refl refl (λ f. not_among ss vs k (omega (arith, e)) f) h
   where
-    by : (a b : Bool) → eqb s k ≡ a → nat_eq k s ≡ b → cond a (Some v) (found (zip ss vs) k) ≡ None → (b || is_among k ss) ≡ false
-    by true b ea eb f = let none : Some v ≡ None = f in absurd (cc)
-    by false true ea eb f = let one : false ≡ true = sym ea ∙ eq-eqb s k (sym (eqb-true k s eb)) in absurd (cc)
-    by false false ea eb f = not_among ss vs k (omega (arith, e)) f
+    by : (a b : Bool) → eqb s k ≡ a → nat_eq k s ≡ b → (found (zip ss vs) k ≡ None → is_among k ss ≡ false) → cond a (Some v) (found (zip ss vs) k) ≡ None → (b || is_among k ss) ≡ false
+    by true b ea eb rest f = let none : Some v ≡ None = f in absurd (cc)
+    by false true ea eb rest f = let one : false ≡ true = sym ea ∙ eq-eqb s k (sym (eqb-true k s eb)) in absurd (cc)
+    by false false ea eb rest f = rest f
 
 pub read_no_switch : VariantsReadNoSwitch
 read_no_switch p g reads vs many result m =
