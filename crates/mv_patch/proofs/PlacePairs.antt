@@ -1,11 +1,11 @@
 -- The pairs of two texts at addresses that ascend and hold each address at which the texts differ.
-use Rattle.std.proofs.Common.{◌≡◌, ◌≢◌, ◌⊎◌, inl, inr, ℕ, suc, ◌+◌, ◌-◌, ◌*◌, ◌/◌, ◌<◌, ◌≤◌, eqb, List, [], ◌∷◌, ◌++◌, length, slice_get, slice_index, Some, sym, ap, ap₂, ◌∙◌, arith}
+use Rattle.std.proofs.Common.{◌≡◌, ◌≢◌, inl, inr, ℕ, suc, ◌-◌, ◌/◌, ◌<◌, ◌≤◌, eqb, List, [], ◌∷◌, ◌++◌, length, slice_get, slice_index, Some, sym, ap, ap₂, ◌∙◌, arith}
 use Rattle.std.specs.List.{Contains}
 use Rattle.std.proofs.lemmas.Bool.{cond_both, eqb-true, eqb-false}
 use Rattle.std.proofs.lemmas.Option.{slice_get_within, slice_get-get_or}
 use Rattle.mv_patch.specs.declared.prepared.Pair.{Pair}
 use Rattle.mv_patch.specs.Pairs.{text_start, place, pair_of, pairs_between}
-use Rattle.mv_patch.specs.Tables.{word_of, change, pairs_at}
+use Rattle.mv_patch.specs.Tables.{word_of, pairs_at}
 use Rattle.mv_patch.proofs.Pairs.{Marches, pairs_march, earlier, behind_one}
 use Rattle.mv_patch.proofs.Only.{unique, pairs_complete}
 use Rattle.mv_patch.proofs.Merged.{Has, Climbs}
@@ -28,14 +28,14 @@ module _ (old new : List ℕ) (size : length new ≡ length old) where
       cond_both (eqb (word_of old a) (word_of new a)) [] (pair_of a (word_of new a) ∷ []) (λ (ps : List Pair). Marches old new m (ps ++ pairs_at old new places))
       (λ same. earlier old new m (suc k) (pairs_at old new places) (omega (arith, from)) rest)
       (λ differ. (
-      k,
-      h.1,
-      word_of old a,
-      h.3,
-      word_there old a k h.3 lt,
-      word_there new a k h.3 (omega (arith, lt, size)),
-      eqb-false (word_of old a) (word_of new a) differ,
-      rest,
+        k,
+        h.1,
+        word_of old a,
+        h.3,
+        word_there old a k h.3 lt,
+        word_there new a k h.3 (omega (arith, lt, size)),
+        eqb-false (word_of old a) (word_of new a) differ,
+        rest,
       ))
 
   at_has : (places : List ℕ) (k o n : ℕ) → Has (place k) places → slice_get old k ≡ Some o → slice_get new k ≡ Some n → o ≢ n → Contains (pairs_at old new places) (pair_of (place k) n)

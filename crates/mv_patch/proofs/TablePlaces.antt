@@ -249,7 +249,6 @@ climb_place n m i [] h lt = absurd (omega (arith, lt))
 climb_place n m zero (a ∷ places) h lt = (h.0, h.2, h.3)
 climb_place n m (suc i) (a ∷ places) h lt = climb_place n (suc h.0) i places h.4 (omega (arith, lt))
 
-
 at_least : (n m j : ℕ) (places : List ℕ) → Climbs n m places → j < length places → place m ≤ get_or places j 0
 at_least n m j [] h lt = absurd (omega (arith, lt))
 at_least n m zero (a ∷ places) h lt = let from = h.1 in let at = h.3 in omega (arith, from, at)

@@ -78,7 +78,14 @@ fn bound_now(image: &Image, memory: &Memory, group: Group, row: &FunctionRow) ->
 }
 
 /// What an order leaves of a function's binding.
-fn next_binding(image: &Image, memory: &Memory, order: Order, group: Group, row: &FunctionRow, old: Binding) -> Binding
+fn next_binding(
+    image: &Image,
+    memory: &Memory,
+    order: Order,
+    group: Group,
+    row: &FunctionRow,
+    old: Binding,
+) -> Binding
     requires group { IsGroup image.now group }
     requires row { IsRow image.now group.function row.now }
     ensures { result ≡ (if is_ordered (code_of order) (index_of order) group.function row.now then next_binding image.now memory.now.held (code_of order) group.function row.now else old) }
@@ -93,7 +100,13 @@ fn next_binding(image: &Image, memory: &Memory, order: Order, group: Group, row:
 }
 
 /// Puts the bindings behind an order in place of others.
-pub(crate) fn rebind(image: &Image, memory: &Memory, order: Order, old: &[Binding], new: &mut [Binding])
+pub(crate) fn rebind(
+    image: &Image,
+    memory: &Memory,
+    order: Order,
+    old: &[Binding],
+    new: &mut [Binding],
+)
     requires old { length old.now ≡ length image.now.functions }
     requires new { length new.old ≡ length image.now.functions }
     ensures { new.new ≡ bindings_after image.now memory.now.held (code_of order) (index_of order) old.now }
@@ -111,7 +124,11 @@ fn one_if_bound(order: Order, number: usize, row: &FunctionRow, binding: Binding
     requires { row.now.count ≤ 6 }
     ensures { result ≡ (if is_ordered (code_of order) (index_of order) number row.now && binding.bound then 1 else 0) }
 {
-    if order.addresses(number, row) && binding.bound { 1 } else { 0 }
+    if order.addresses(number, row) && binding.bound {
+        1
+    } else {
+        0
+    }
 }
 
 /// How many functions are bound of those that an order addresses.
@@ -147,7 +164,12 @@ fn has_six(values: &[u32; 6])
 
 /// The variant that a function is bound to.
 #[tactic(auto, unfolding(mv_image::specs::Patched::variant_under))]
-fn bound_variant(image: &Image, group: Group, row: &FunctionRow, binding: &Binding) -> Option<VariantRow>
+fn bound_variant(
+    image: &Image,
+    group: Group,
+    row: &FunctionRow,
+    binding: &Binding,
+) -> Option<VariantRow>
     requires group { IsGroup image.now group }
     requires row { IsRow image.now group.function row.now }
     ensures { result ≡ variant_under image.now group.function (bound_values binding.now) }

@@ -10,8 +10,8 @@ ghost use Rattle.mv_patch.specs.Tables.{patchable, entries, site_words, word_of,
 
 use crate::prepared::Pair;
 use mv_descriptors::{SiteRow, VariantRow};
-use mv_image::facts::{rows_fit, within_limits};
 use mv_image::Image;
+use mv_image::facts::{rows_fit, within_limits};
 
 const TEXT_START: u32 = 0x1000;
 
@@ -74,7 +74,11 @@ fn after_site(address: u32, word: u32, variant: Option<VariantRow>) -> u32
 {
     match variant {
         None => word,
-        Some(variant) => if variant.inlined == 1 { variant.words[1] } else { NOP },
+        Some(variant) => if variant.inlined == 1 {
+            variant.words[1]
+        } else {
+            NOP
+        },
     }
 }
 
@@ -176,11 +180,21 @@ fn push_site_word(
     if word % 2 == 0 {
         let address = site.address;
         let word = text_word(image, address);
-        push_change(pairs, address, at_site(address, word, old), at_site(address, word, new));
+        push_change(
+            pairs,
+            address,
+            at_site(address, word, old),
+            at_site(address, word, new),
+        );
     } else {
         let address = site.address + 4;
         let word = text_word(image, address);
-        push_change(pairs, address, after_site(address, word, old), after_site(address, word, new));
+        push_change(
+            pairs,
+            address,
+            after_site(address, word, old),
+            after_site(address, word, new),
+        );
     }
 }
 

@@ -105,7 +105,12 @@ fn kinds_of(image: &Image, row: &FunctionRow) -> [u32; 6]
 }
 
 /// The number of the variant of a function that fits values of its switches.
-pub(crate) fn fitting_variant(image: &Image, group: Group, row: &FunctionRow, values: &[u32; 6]) -> Option<usize>
+pub(crate) fn fitting_variant(
+    image: &Image,
+    group: Group,
+    row: &FunctionRow,
+    values: &[u32; 6],
+) -> Option<usize>
     requires group { IsGroup image.now group }
     requires row { IsRow image.now group.function row.now }
     ensures { result ≡ fitting_variant image.now group.function values.now }
@@ -115,5 +120,11 @@ pub(crate) fn fitting_variant(image: &Image, group: Group, row: &FunctionRow, va
     let kinds = kinds_of(image, row);
     let variants = own_variants(image, group, row);
     let guards = &image.guards().as_slice()[group.guard..];
-    fitting(&kinds[..row.count as usize], values, group.variant, variants, guards)
+    fitting(
+        &kinds[..row.count as usize],
+        values,
+        group.variant,
+        variants,
+        guards,
+    )
 }

@@ -1,4 +1,4 @@
-use Rattle.std.proofs.Common.{◌≡◌, ◌⊎◌, ℕ, ◌+◌, ◌*◌, ◌<◌, ◌≤◌, List, [], ◌++◌, length, get_or, Vec, Global, vec_capacity, append-nil, sym, ap, ◌∙◌, arith}
+use Rattle.std.proofs.Common.{◌+◌, ◌*◌, ◌<◌, List, ◌++◌, length, get_or, Vec, Global, vec_capacity, append-nil, sym, ap, ◌∙◌, arith}
 use Rattle.mv_patch.specs.declared.prepared.Pair.{Pair}
 use Rattle.mv_patch.specs.Tables.{patchable, entries, site_words}
 use Rattle.mv_patch.proofs.Next.{entry_told, site_told, entry_found, site_found, none_left}
@@ -48,39 +48,39 @@ loop-passed-preserved c =
     let b = get_or (site_words image.sites) l.word 0 in
     elim c.if-is_entry_next.branch [
       | then-is_entry_next w ↦
-        let next = sym c.is_entry_next.ensures ∙ w.if-is_entry_next.true in
-        let told = entry_told l.function l.word (length image.functions) (2 * length image.sites) a b next in
-        let within = told.0 in
-        let items = ap (λ (v : Vec Pair Global). length v.items) w.pairs-is in
-        let held = ap (λ (v : Vec Pair Global). vec_capacity v) w.pairs-is in
-        record {
-          functions = omega (arith, within, w.function-is);
-          words = omega (arith, words, w.word-is);
-          passed = omega (arith, passed, w.function-is, w.word-is);
-          few = omega (arith, few, items, w.push_entry.ensures.few);
-          room = omega (arith, room, held, w.push_entry.ensures.room);
-          found = λ some other r before after.
-              entry_found image some other l.pairs.items c.if-is_entry_next.pairs.items l.function l.word c.if-is_entry_next.function c.if-is_entry_next.word next
-              (ap (λ (v : Vec Pair Global). v.items) w.pairs-is ∙ w.push_entry.ensures.items some other r before after) w.function-is w.word-is
-              ∙ l.invariant.found some other r before after;
-        }
+          let next = sym c.is_entry_next.ensures ∙ w.if-is_entry_next.true in
+          let told = entry_told l.function l.word (length image.functions) (2 * length image.sites) a b next in
+          let within = told.0 in
+          let items = ap (λ (v : Vec Pair Global). length v.items) w.pairs-is in
+          let held = ap (λ (v : Vec Pair Global). vec_capacity v) w.pairs-is in
+          record {
+            functions = omega (arith, within, w.function-is);
+            words = omega (arith, words, w.word-is);
+            passed = omega (arith, passed, w.function-is, w.word-is);
+            few = omega (arith, few, items, w.push_entry.ensures.few);
+            room = omega (arith, room, held, w.push_entry.ensures.room);
+            found = λ some other r before after.
+                entry_found image some other l.pairs.items c.if-is_entry_next.pairs.items l.function l.word c.if-is_entry_next.function c.if-is_entry_next.word next
+                (ap (λ (v : Vec Pair Global). v.items) w.pairs-is ∙ w.push_entry.ensures.items some other r before after) w.function-is w.word-is
+                ∙ l.invariant.found some other r before after;
+          }
       | else-is_entry_next w ↦
-        let next = sym c.is_entry_next.ensures ∙ w.if-is_entry_next.false in
-        let told = site_told l.function l.word (length image.functions) (2 * length image.sites) a b functions left next in
-        let within = told.0 in
-        let items = ap (λ (v : Vec Pair Global). length v.items) w.pairs-is in
-        let held = ap (λ (v : Vec Pair Global). vec_capacity v) w.pairs-is in
-        record {
-          functions = omega (arith, functions, w.function-is);
-          words = omega (arith, within, w.word-is);
-          passed = omega (arith, passed, w.function-is, w.word-is);
-          few = omega (arith, few, items, w.push_site_word.ensures.few);
-          room = omega (arith, room, held, w.push_site_word.ensures.room);
-          found = λ some other r before after.
-              site_found image some other l.pairs.items c.if-is_entry_next.pairs.items l.function l.word c.if-is_entry_next.function c.if-is_entry_next.word functions left next
-              (ap (λ (v : Vec Pair Global). v.items) w.pairs-is ∙ w.push_site_word.ensures.items some other r before after) w.function-is w.word-is
-              ∙ l.invariant.found some other r before after;
-        }
+          let next = sym c.is_entry_next.ensures ∙ w.if-is_entry_next.false in
+          let told = site_told l.function l.word (length image.functions) (2 * length image.sites) a b functions left next in
+          let within = told.0 in
+          let items = ap (λ (v : Vec Pair Global). length v.items) w.pairs-is in
+          let held = ap (λ (v : Vec Pair Global). vec_capacity v) w.pairs-is in
+          record {
+            functions = omega (arith, functions, w.function-is);
+            words = omega (arith, within, w.word-is);
+            passed = omega (arith, passed, w.function-is, w.word-is);
+            few = omega (arith, few, items, w.push_site_word.ensures.few);
+            room = omega (arith, room, held, w.push_site_word.ensures.room);
+            found = λ some other r before after.
+                site_found image some other l.pairs.items c.if-is_entry_next.pairs.items l.function l.word c.if-is_entry_next.function c.if-is_entry_next.word functions left next
+                (ap (λ (v : Vec Pair Global). v.items) w.pairs-is ∙ w.push_site_word.ensures.items some other r before after) w.function-is w.word-is
+                ∙ l.invariant.found some other r before after;
+          }
     ]
 
 pub returns-clause-items : goal.returns-clause-items
