@@ -1,3 +1,6 @@
+ghost use Rattle.std.specs.Prelude.{◌≡◌, ◌≤◌, length, IfOk};
+ghost use Rattle.mv_patch.specs.Tables.{patchable};
+
 use mv_ast::world::Binding;
 use mv_fetch::Memory;
 use mv_image::facts::within_limits;
@@ -12,29 +15,134 @@ use std::test::*;
 /// with an inline body for 3 and one without for -1, and a site. `g2` depends on no switch and has one variant.
 const WORDS: [u32; 118] = [
     // header
-    0x3149_564D, 1, 0x1000, 12, 1, 1, 2, 3, 3, 1, 5, 0,
+    0x3149_564D,
+    1,
+    0x1000,
+    12,
+    1,
+    1,
+    2,
+    3,
+    3,
+    1,
+    5,
+    0,
     // text
-    19, 19, 19, 19, 0xFF9F_F0EF, 19, 19, 19, 19, 19, 19, 19,
+    19,
+    19,
+    19,
+    19,
+    0xFF9F_F0EF,
+    19,
+    19,
+    19,
+    19,
+    19,
+    19,
+    19,
     // data
     7,
     // switch
-    1, 0x10_0000, 5, 2, 0xFFFF_FFFF, 3, 0, 0, 0, 0, 0, 0, 0, 0, 0, 0, 0, 0, 0, 0,
+    1,
+    0x10_0000,
+    5,
+    2,
+    0xFFFF_FFFF,
+    3,
+    0,
+    0,
+    0,
+    0,
+    0,
+    0,
+    0,
+    0,
+    0,
+    0,
+    0,
+    0,
+    0,
+    0,
     // function dp
-    2, 0x1008, 1, 0, 0, 0, 0, 0, 0, 2,
+    2,
+    0x1008,
+    1,
+    0,
+    0,
+    0,
+    0,
+    0,
+    0,
+    2,
     // function g2
-    2, 0x1018, 0, 0, 0, 0, 0, 0, 0, 1,
+    2,
+    0x1018,
+    0,
+    0,
+    0,
+    0,
+    0,
+    0,
+    0,
+    1,
     // variants of dp
-    0x1020, 1, 0x0010_0513, 0x0020_0593, 1,
-    0x1024, 0, 0, 0, 1,
+    0x1020,
+    1,
+    0x0010_0513,
+    0x0020_0593,
+    1,
+    0x1024,
+    0,
+    0,
+    0,
+    1,
     // variant of g2
-    0x1028, 0, 0, 0, 1,
+    0x1028,
+    0,
+    0,
+    0,
+    1,
     // guards of dp
-    3, 0, 0, 0, 0, 0, 3, 0, 0, 0, 0, 0,
-    0xFFFF_FFFF, 0, 0, 0, 0, 0, 0xFFFF_FFFF, 0, 0, 0, 0, 0,
+    3,
+    0,
+    0,
+    0,
+    0,
+    0,
+    3,
+    0,
+    0,
+    0,
+    0,
+    0,
+    0xFFFF_FFFF,
+    0,
+    0,
+    0,
+    0,
+    0,
+    0xFFFF_FFFF,
+    0,
+    0,
+    0,
+    0,
+    0,
     // guard of g2
-    0, 0, 0, 0, 0, 0, 0, 0, 0, 0, 0, 0,
+    0,
+    0,
+    0,
+    0,
+    0,
+    0,
+    0,
+    0,
+    0,
+    0,
+    0,
+    0,
     // site
-    0x1010, 0,
+    0x1010,
+    0,
 ];
 
 /// The names, and the bytes that fill them up.
@@ -43,7 +151,11 @@ const NAMES: &[u8] = b"sdpg2\0\0\0";
 const MINUS_ONE: u32 = 0xFFFF_FFFF;
 
 /// The words of `dp` where it is bound to 3, and where it is free.
-const INLINED: [(u32, u32); 3] = [(0x1008, 0x0180_006F), (0x1010, 0x0010_0513), (0x1014, 0x0020_0593)];
+const INLINED: [(u32, u32); 3] = [
+    (0x1008, 0x0180_006F),
+    (0x1010, 0x0010_0513),
+    (0x1014, 0x0020_0593),
+];
 
 const FREED: [(u32, u32); 3] = [(0x1008, 19), (0x1010, 0xFF9F_F0EF), (0x1014, 19)];
 
@@ -75,11 +187,10 @@ fn bound(alloc: Global, plan: &Plan) -> Result<List<Binding>, AllocError>
 }
 
 /// The plan of the last of some orders, each with the word that the switch has at it.
-fn carried_out(
-    alloc: Global,
-    image: &Image,
-    orders: &[(u32, Order)],
-) -> Result<Plan, AllocError> {
+fn carried_out(alloc: Global, image: &Image, orders: &[(u32, Order)]) -> Result<Plan, AllocError>
+    ensures room { IfOk result (λ plan. patchable image.now ≤ plan.room) }
+    ensures count { IfOk result (λ plan. length plan.planned.bound ≡ length image.now.functions) }
+{
     let mut into = Plan::new(alloc, image)?;
     for (word, order) in orders {
         let memory = memory(alloc, image, *word)?;
@@ -129,8 +240,22 @@ fn reverts_restore_entries_and_sites(rt: HostRuntime) -> Result<(), Fail> {
     let commit = (3, Order::CommitAll);
     let all = [FREED[0], FREED[1], FREED[2], STAYS];
     assert!(rt; does(rt.alloc(), &[commit, (3, Order::RevertAll)], &all, 0)?);
-    assert!(rt; does(rt.alloc(), &[commit, (3, Order::RevertFunction(0))], &FREED, 0)?);
-    assert!(rt; does(rt.alloc(), &[commit, (3, Order::RevertFunction(1))], &[STAYS], 0)?);
+    assert!(rt;
+        does(
+            rt.alloc(),
+            &[commit, (3, Order::RevertFunction(0))],
+            &FREED,
+            0
+        )?
+    );
+    assert!(rt;
+        does(
+            rt.alloc(),
+            &[commit, (3, Order::RevertFunction(1))],
+            &[STAYS],
+            0
+        )?
+    );
     assert!(rt; does(rt.alloc(), &[commit, (3, Order::RevertRefs(0))], &FREED, 0)?);
     Ok(())
 }
@@ -140,7 +265,14 @@ fn only_what_differs_changes(rt: HostRuntime) -> Result<(), Fail> {
     let commit = (3, Order::CommitAll);
     let other = [(0x1008, 0x01C0_006F), (0x1010, 0x0140_00EF), (0x1014, 19)];
     assert!(rt; does(rt.alloc(), &[commit, commit], &[], 2)?);
-    assert!(rt; does(rt.alloc(), &[commit, (MINUS_ONE, Order::CommitAll)], &other, 2)?);
+    assert!(rt;
+        does(
+            rt.alloc(),
+            &[commit, (MINUS_ONE, Order::CommitAll)],
+            &other,
+            2
+        )?
+    );
     assert!(rt; does(rt.alloc(), &[(3, Order::RevertAll)], &[], 0)?);
     Ok(())
 }
