@@ -1,5 +1,5 @@
 -- What a plan is filled with.
-use Rattle.std.proofs.Common.{◌≡◌, ℕ, List, ◌++◌, length, take, drop, refl, ap, ◌∙◌}
+use Rattle.std.proofs.Common.{◌≡◌, ℕ, List, ◌++◌, length, take, drop, ap, ◌∙◌}
 use Rattle.std.proofs.Math.Seq.{take-append_seam}
 use Rattle.mv_ast.specs.declared.world.Binding.{Binding}
 use Rattle.mv_fetch.specs.Held.{Held}

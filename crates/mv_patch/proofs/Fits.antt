@@ -1,5 +1,5 @@
 -- The variant that fits, by where the rows of its function stand.
-use Rattle.std.proofs.Common.{◌≡◌, ℕ, List, take, drop, Option, refl, ◌∙◌}
+use Rattle.std.proofs.Common.{◌≡◌, ℕ, List, take, drop, refl}
 use Rattle.mv_descriptors.specs.declared.rows.FunctionRow.{FunctionRow}
 use Rattle.mv_descriptors.specs.declared.rows.VariantRow.{VariantRow}
 use Rattle.mv_descriptors.specs.declared.rows.GuardRow.{GuardRow}

@@ -1,17 +1,13 @@
 -- Where the rows of a function stand.
-use Rattle.std.proofs.Common.{◌≡◌, ◌⊎◌, ⊎_elim, ℕ, zero, suc, ◌+◌, ◌-◌, ◌<◌, ◌≤◌, ◌&&◌, List, [], ◌∷◌, ◌++◌, length, take, drop, get_or, slice_get, slice_index, replicate, Some, refl, sym, ap, ◌∙◌, arith}
+use Rattle.std.proofs.Common.{◌≡◌, ℕ, suc, ◌+◌, ◌≤◌, List, [], ◌∷◌, length, take, drop, get_or, slice_get, Some, ap, ◌∙◌, arith}
 use Rattle.std.specs.List.{sum_by}
 use Rattle.std.proofs.Math.Seq.{take-add, take-suc}
-use Rattle.std.proofs.lemmas.Bool.{cases_lt}
-use Rattle.std.proofs.lemmas.List.{get_or_past}
 use Rattle.std.proofs.lemmas.List.Sums.{sum_by-append, sum_by-take-le}
 use Rattle.std.proofs.lemmas.Option.{slice_get_within, get_or_from_slice_get}
 use Rattle.mv_descriptors.specs.declared.rows.FunctionRow.{FunctionRow}
 use Rattle.mv_descriptors.specs.declared.rows.VariantRow.{VariantRow}
-use Rattle.mv_descriptors.specs.declared.rows.GuardRow.{GuardRow}
-use Rattle.mv_descriptors.specs.Guards.{each_below, value_fits, holds, fitting}
 use Rattle.mv_image.specs.Spelling.{Fields}
-use Rattle.mv_image.specs.Patched.{variants_before, guards_before, kinds_of, fitting_in, fitting_variant}
+use Rattle.mv_image.specs.Patched.{variants_before, guards_before}
 
 sum_next : {R : Type 0} (f : R → ℕ) (rows : List R) (k : ℕ) (r : R) → slice_get rows k ≡ Some r → sum_by f (take (k + 1) rows) ≡ sum_by f (take k rows) + f r
 sum_next {R = R} f rows k r e =

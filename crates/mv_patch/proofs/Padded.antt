@@ -1,5 +1,5 @@
 -- Values with zeros behind them.
-use Rattle.std.proofs.Common.{◌≡◌, ◌⊎◌, ⊎_elim, ℕ, ◌+◌, ◌-◌, ◌<◌, ◌≤◌, List, [], ◌∷◌, ◌++◌, Bool, true, cond, is_some, Some, None, min, length, map, take, drop, get_or, ap₂, subst, slice_index, slice_get, replicate, Option, refl, sym, ap, ◌∙◌, arith}
+use Rattle.std.proofs.Common.{◌≡◌, ⊎_elim, ℕ, ◌-◌, ◌<◌, ◌≤◌, List, ◌++◌, Bool, true, cond, is_some, Some, None, min, length, take, drop, get_or, ap₂, slice_index, slice_get, replicate, Option, sym, ap, ◌∙◌, arith}
 use Rattle.std.specs.Option.{option_and_then}
 use Rattle.std.proofs.Math.Path.{fun_ext}
 use Rattle.std.proofs.lemmas.Bool.{cases_lt}

@@ -1,11 +1,11 @@
 -- The pairs of two texts at addresses that ascend and hold each address at which the texts differ.
-use Rattle.std.proofs.Common.{◌≡◌, ◌≢◌, ◌⊎◌, inl, inr, ℕ, suc, ◌+◌, ◌-◌, ◌*◌, ◌/◌, ◌<◌, ◌≤◌, eqb, List, [], ◌∷◌, ◌++◌, length, slice_get, slice_index, Some, sym, ap, ap₂, ◌∙◌, arith}
+use Rattle.std.proofs.Common.{◌≡◌, ◌≢◌, inl, inr, ℕ, suc, ◌-◌, ◌/◌, ◌<◌, ◌≤◌, eqb, List, [], ◌∷◌, ◌++◌, length, slice_get, slice_index, Some, sym, ap, ap₂, ◌∙◌, arith}
 use Rattle.std.specs.List.{Contains}
 use Rattle.std.proofs.lemmas.Bool.{cond_both, eqb-true, eqb-false}
 use Rattle.std.proofs.lemmas.Option.{slice_get_within, slice_get-get_or}
 use Rattle.mv_patch.specs.declared.prepared.Pair.{Pair}
 use Rattle.mv_patch.specs.Pairs.{text_start, place, pair_of, pairs_between}
-use Rattle.mv_patch.specs.Tables.{word_of, change, pairs_at}
+use Rattle.mv_patch.specs.Tables.{word_of, pairs_at}
 use Rattle.mv_patch.proofs.Pairs.{Marches, pairs_march, earlier, behind_one}
 use Rattle.mv_patch.proofs.Only.{unique, pairs_complete}
 use Rattle.mv_patch.proofs.Merged.{Has, Climbs}

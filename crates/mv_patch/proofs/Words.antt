@@ -1,5 +1,5 @@
 -- The words under bindings at the addresses of the tables, by the variants that functions are bound to.
-use Rattle.std.proofs.Common.{◌≡◌, ℕ, ◌+◌, ◌*◌, ◌<◌, ◌≤◌, List, length, get_or, slice_get, Option, Some, None, sym, ap, ap₂, ◌∙◌, subst, arith}
+use Rattle.std.proofs.Common.{◌≡◌, ℕ, ◌+◌, ◌<◌, List, length, get_or, slice_get, Option, Some, None, sym, ap, ap₂, ◌∙◌, subst, arith}
 use Rattle.std.proofs.lemmas.Option.{get_or_from_slice_get, slice_get_within, slice_get-get_or}
 use Rattle.mv_descriptors.specs.declared.rows.FunctionRow.{FunctionRow}
 use Rattle.mv_descriptors.specs.declared.rows.SiteRow.{SiteRow}
@@ -12,7 +12,7 @@ use Rattle.mv_image.proofs.PatchLaws.{entry_word, site_word_is, next_word_is}
 use Rattle.mv_image.proofs.RowsFit.{functions_fit, sites_fit}
 use Rattle.mv_patch.specs.Shown.{AreShown}
 use Rattle.mv_patch.specs.Tables.{entries, word_of, change, change_at}
-use Rattle.mv_patch.proofs.TablePlaces.{index_in, no_function, no_site, entry_is}
+use Rattle.mv_patch.proofs.TablePlaces.{index_in, no_function, entry_is}
 use Rattle.mv_patch.proofs.TablePairs.{word_under_at}
 
 module _ (image : Fields) (r : Rules image) (bound : Bindings) (shown : List (Option VariantRow)) (are : AreShown image bound shown) where

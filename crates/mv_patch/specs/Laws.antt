@@ -1,5 +1,5 @@
 -- What plans are made of: the pairs of two texts, and the addresses that the tables of an image tell.
-use Rattle.std.specs.Prelude.{ℕ, ◌≡◌, ◌≢◌, ◌+◌, ◌<◌, ◌≤◌, List, [], length, slice_get, slice_index, slice_index_or, Some}
+use Rattle.std.specs.Prelude.{ℕ, ◌≡◌, ◌≢◌, ◌<◌, ◌≤◌, List, [], length, slice_get, slice_index, slice_index_or, Some}
 use Rattle.std.specs.List.{All, Contains}
 use Rattle.mv_ast.specs.declared.world.Binding.{Binding}
 use Rattle.mv_fetch.specs.Held.{Held}

@@ -1,4 +1,4 @@
-use Rattle.std.proofs.Common.{◌≡◌, ◌+◌, ◌<◌, ◌≤◌, Bool, ◌&&◌, List, [], false, length, cond, get_or, slice_get, ap, ◌∙◌, arith}
+use Rattle.std.proofs.Common.{◌<◌, ◌&&◌, [], false, length, get_or, ap, ◌∙◌, arith}
 use Rattle.std.proofs.lemmas.Option.{slice_get-get_or}
 use Rattle.mv_ast.specs.declared.world.Binding.{Binding}
 use Rattle.mv_patch.specs.Orders.{code_of, index_of, is_ordered}

@@ -1,5 +1,4 @@
-use Rattle.std.proofs.Common.{ℕ, ◌≡◌, ◌++◌, take, drop}
-use Rattle.mv_descriptors.specs.declared.rows.FunctionRow.{FunctionRow}
+use Rattle.std.proofs.Common.{◌≡◌, ◌++◌, take, drop}
 use Rattle.mv_patch.specs.Groups.{IsGroup}
 use Rattle.mv_patch.specs.Orders.{code_of, index_of, is_ordered, next_binding, ordered_rows}
 use Rattle.mv_patch.proofs.bindings.rebind.Given as goal

@@ -1,4 +1,4 @@
-use Rattle.std.proofs.Common.{◌≡◌, ◌⊎◌, ℕ, ◌+◌, ◌*◌, ◌<◌, ◌≤◌, List, [], ◌++◌, length, get_or, Vec, Global, vec_capacity, append-nil, sym, ap, ◌∙◌, arith}
+use Rattle.std.proofs.Common.{◌+◌, ◌*◌, ◌<◌, List, ◌++◌, length, get_or, Vec, Global, vec_capacity, append-nil, sym, ap, ◌∙◌, arith}
 use Rattle.mv_patch.specs.declared.prepared.Pair.{Pair}
 use Rattle.mv_patch.specs.Tables.{patchable, entries, site_words}
 use Rattle.mv_patch.proofs.Next.{entry_told, site_told, entry_found, site_found, none_left}

@@ -1,4 +1,4 @@
-use Rattle.std.proofs.Common.{◌≡◌, List, get_or, sym, ap, ◌++◌, ◌∙◌}
+use Rattle.std.proofs.Common.{List, get_or, sym, ap, ◌++◌, ◌∙◌}
 use Rattle.mv_descriptors.specs.declared.rows.FunctionRow.{FunctionRow}
 use Rattle.mv_patch.specs.declared.prepared.Pair.{Pair}
 use Rattle.mv_patch.proofs.TablePlaces.{no_function, entry_is}

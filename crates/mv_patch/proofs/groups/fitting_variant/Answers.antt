@@ -1,4 +1,4 @@
-use Rattle.std.proofs.Common.{List, length, take, drop, ap, ◌∙◌, arith}
+use Rattle.std.proofs.Common.{List, drop, ap, ◌∙◌}
 use Rattle.std.proofs.lemmas.List.{take_rest}
 use Rattle.mv_descriptors.specs.declared.rows.GuardRow.{GuardRow}
 use Rattle.mv_patch.proofs.Fits.{fits}

@@ -1,4 +1,4 @@
-use Rattle.std.proofs.Common.{◌+◌, ◌≤◌, ◌∙◌, ap, arith, length}
+use Rattle.std.proofs.Common.{◌∙◌, ap, arith, length}
 use Rattle.mv_patch.proofs.GroupRows.{variants_within}
 use Rattle.mv_patch.proofs.groups.own_variants.Goals as goal
 

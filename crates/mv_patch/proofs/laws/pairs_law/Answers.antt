@@ -1,11 +1,10 @@
-use Rattle.std.proofs.Common.{◌≡◌, ℕ, ◌+◌, ◌*◌, ◌<◌, ◌≤◌, List, length, get_or, refl, arith}
-use Rattle.mv_patch.specs.declared.prepared.Pair.{Pair}
+use Rattle.std.proofs.Common.{ℕ, List, length, refl, arith}
 use Rattle.mv_patch.specs.Laws.{PairsAre, PairsAt}
 use Rattle.mv_patch.specs.Pairs.{text_start, place, pairs_between}
 use Rattle.mv_patch.proofs.Pairs.{pairs_march, difference_has_pair, all_differ, ascending, none_differ}
 use Rattle.mv_patch.proofs.Only.{the_only}
 use Rattle.mv_patch.proofs.PlacePairs.{at_places, few_at}
-use Rattle.mv_patch.proofs.TablePlaces.{climbing, contains_has, has_contained}
+use Rattle.mv_patch.proofs.TablePlaces.{climbing, has_contained}
 use Rattle.mv_patch.proofs.laws.pairs_law.Goals as goal
 
 pairs_are : (old new : List ℕ) → PairsAre old new

@@ -1,4 +1,4 @@
-use Rattle.std.proofs.Common.{◌≡◌, List, Option, length, sym, ap, subst, ◌∙◌, arith}
+use Rattle.std.proofs.Common.{List, Option, length, sym, ap, subst, ◌∙◌, arith}
 use Rattle.mv_ast.specs.declared.world.Binding.{Binding}
 use Rattle.mv_descriptors.specs.declared.rows.VariantRow.{VariantRow}
 use Rattle.mv_patch.specs.Orders.{Prepared, code_of, index_of, values_of, answer_after, plan_between}
