@@ -144,7 +144,6 @@ module _ (plan : Plan) (within : (a : ℕ) → plan.array_at a + 4 * plan.array_
   tree : (t : ℕ) (v : Tree) → (ltb t 507 && is_small v) ≡ true → IsSmall v
   tree t v e = small_tree v (and_right (ltb t 507) (is_small v) e)
 
-
   layer : (x : Stm-F Stm) → StmChildren StmHolds x → LayerHolds x
   layer (stm.Set t v) h small around label = wider _ _ _ (parts.set t v (below t (is_small v) small) (tree t v small)) (omega arith)
   layer (stm.SetGlobal g v) h small around label = wider _ _ _ (parts.set_global g v (small_tree v small)) (omega arith)
