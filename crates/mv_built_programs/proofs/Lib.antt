@@ -10,3 +10,4 @@ pub mod Host
 pub mod Patched
 pub mod Main
 pub mod Whole
+mod Closed

@@ -19,7 +19,7 @@ use Rattle.mv_call_code.specs.CallCode.{is_marked}
 use Rattle.mv_call_code.specs.Environment.{IsDirect}
 use Rattle.mv_function_code.specs.FunctionCode.{function_lines}
 use Rattle.mv_function_code.specs.Functions.{shape_of}
-use Rattle.mv_selected_bodies.specs.SelectedBodies.{knowns, HasWords, IsWithin}
+use Rattle.mv_selected_bodies.specs.SelectedBodies.{globals_read, knowns, HasWords, IsWithin}
 use Rattle.mv_linker.specs.declared.parts.Parts.{Parts}
 use Rattle.mv_linker.specs.Linked.{AreParts}
 use Rattle.mv_linker.specs.Tables.{FitTables}
@@ -34,14 +34,15 @@ IsUnattributed p = (f : ℕ) (g : Function) → slice_get p.functions f ≡ Some
 abbrev pub HasWordsOfGlobals : Program → Type 0
 HasWordsOfGlobals p = All (λ (x : Global). 0 < words_of_size x.size) p.globals
 
--- A function is compiled to a body that means what it is lowered to, at no greater cost. The body is within the limits of selection, and has the rooms and
--- marks of the lowered one; its numbers fit; and it names functions of the program, and of the known ones input and output alone.
+-- A function is compiled to a body that means what it is lowered to, at no greater cost. The body is within the limits of selection, reads the globals of
+-- the lowered one, and has its rooms and marks; its numbers fit; and it names functions of the program, and of the known ones input and output alone.
 pub record IsCompiledTo (p : Program) (g : Function) (body : Body) : Type 0 where
   pub keeps : KeepsBody (lower_function p g) body
   pub params : body.params ≡ g.params
   pub rooms : body.rooms ≡ (lower_function p g).rooms
   pub marked : body.marked ≡ (lower_function p g).marked
   pub within : IsWithin false body
+  pub reads : globals_read body.code ≡ globals_read (lower_function p g).code
   pub words : HasWords body.code
   pub knowns : All IsDirect (knowns body.code)
   pub functions : All (λ f. f < length p.functions) (functions body.code)
