@@ -70,8 +70,7 @@ image_linked groups parts are tables sites few joined is words addresses placed 
     let l = linked parts are joined is words addresses placed in
     let sizing = l.sizing in
     let is_with : image ≡ image_with (label_address text_start (linked_lines parts) sizing) (address text_start sizing) words parts =
-    made ∙ image_is parts are joined is words addresses placed starts starts_are tables in
-    (
+    made ∙ image_is parts are joined is words addresses placed starts starts_are tables in (
       subst FitsFormat (sym is_with) (tables_fit parts are tables sizing words l.least.fits.sizes l.under.words_are groups sites few),
       record {
         sites_fit = sites;

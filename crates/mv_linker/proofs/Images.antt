@@ -141,13 +141,20 @@ module _ (parts : Parts) (are : AreParts parts) where
             let image = image_with other (address text_start linked.sizing) words parts in
             let words_same = same_words n one other start_is parts.globals (All-weaker (IsDatum (length parts.functions)) (IsDatum n) (datum_within parts) parts.globals are.globals) in
             let rows = same_functions n one other start_is parts.attributed
-                (All-weaker (FitsPartFunction parts) (λ (a : PartFunction). a.function < n) (λ a h. functions a.function h.there) parts.attributed tables.functions) in
+            (All-weaker (FitsPartFunction parts) (λ (a : PartFunction). a.function < n) (λ a h. functions a.function h.there) parts.attributed tables.functions) in
             let variants = same_variants n one other start_is (length parts.functions) (function_variants parts.attributed) (omega (arith, code_count)) in
             let sites = same_sites (length (linked_lines parts)) (slice_index addresses) (address text_start linked.sizing) address_is (attributed_numbers parts.attributed) 0 (linked_lines parts) (omega arith) in
-            ap (λ x. record image { globals = x; functions = map (function_row one) parts.attributed; variants = variant_rows one (length parts.functions) (function_variants parts.attributed);
-                sites = sites_from (slice_index addresses) (attributed_numbers parts.attributed) 0 (linked_lines parts) }) words_same
-            ∙ ap (λ x. record image { functions = x; variants = variant_rows one (length parts.functions) (function_variants parts.attributed);
-                sites = sites_from (slice_index addresses) (attributed_numbers parts.attributed) 0 (linked_lines parts) }) rows
+            ap (λ x. record image {
+              globals = x;
+              functions = map (function_row one) parts.attributed;
+              variants = variant_rows one (length parts.functions) (function_variants parts.attributed);
+              sites = sites_from (slice_index addresses) (attributed_numbers parts.attributed) 0 (linked_lines parts);
+            }) words_same
+            ∙ ap (λ x. record image {
+              functions = x;
+              variants = variant_rows one (length parts.functions) (function_variants parts.attributed);
+              sites = sites_from (slice_index addresses) (attributed_numbers parts.attributed) 0 (linked_lines parts);
+            }) rows
             ∙ ap (λ x. record image { variants = x; sites = sites_from (slice_index addresses) (attributed_numbers parts.attributed) 0 (linked_lines parts) }) variants
             ∙ ap (λ x. record image { sites = x }) sites
           where

@@ -225,7 +225,7 @@ module _ (parts : Parts) (are : AreParts parts) (tables : FitTables parts) (sizi
       let h = own_fits k this in
       let g = own_fits (k + 1) next in
       let before = entry_before parts are sizing words fits under (own k).function (generic (own k)) (generic_code (own k) h) (generic_begins (own k) h)
-          (own (k + 1)).function (generic (own (k + 1))) (generic_code (own (k + 1)) g) (omega (arith, less, here, there)) in
+      (own (k + 1)).function (generic (own (k + 1))) (generic_code (own (k + 1)) g) (omega (arith, less, here, there)) in
       let first : (get_or image.functions k d).entry ≡ entry (own k).function = ap (λ (row : FunctionRow). row.entry) (row_is k d this) in
       let second : (get_or image.functions (k + 1) d).entry ≡ entry (own (k + 1)).function = ap (λ (row : FunctionRow). row.entry) (row_is (k + 1) d next) in
       omega (arith, before, first, second)

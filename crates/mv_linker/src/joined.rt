@@ -172,16 +172,48 @@ fn push_commit(items: &mut List<Line>) -> Result<(), AllocError>
 const COMMIT_STUB: [Instr; 12] = [
     Instr::Ecall,
     Instr::Lui { rd: AT, imm: 0x400 },
-    Instr::Lw { rd: PAIRS, rs1: AT, imm: 0 },
-    Instr::Beq { rs1: PAIRS, rs2: 0, imm: 28 },
-    Instr::Lw { rd: ADDRESS, rs1: AT, imm: 4 },
-    Instr::Lw { rd: WORD, rs1: AT, imm: 8 },
-    Instr::Sw { rs1: ADDRESS, rs2: WORD, imm: 0 },
-    Instr::Addi { rd: AT, rs1: AT, imm: 8 },
-    Instr::Addi { rd: PAIRS, rs1: PAIRS, imm: -1 },
+    Instr::Lw {
+        rd: PAIRS,
+        rs1: AT,
+        imm: 0,
+    },
+    Instr::Beq {
+        rs1: PAIRS,
+        rs2: 0,
+        imm: 28,
+    },
+    Instr::Lw {
+        rd: ADDRESS,
+        rs1: AT,
+        imm: 4,
+    },
+    Instr::Lw {
+        rd: WORD,
+        rs1: AT,
+        imm: 8,
+    },
+    Instr::Sw {
+        rs1: ADDRESS,
+        rs2: WORD,
+        imm: 0,
+    },
+    Instr::Addi {
+        rd: AT,
+        rs1: AT,
+        imm: 8,
+    },
+    Instr::Addi {
+        rd: PAIRS,
+        rs1: PAIRS,
+        imm: -1,
+    },
     Instr::Jal { rd: 0, imm: -24 },
     Instr::FenceI,
-    Instr::Jalr { rd: 0, rs1: RA, imm: 0 },
+    Instr::Jalr {
+        rd: 0,
+        rs1: RA,
+        imm: 0,
+    },
 ];
 
 fn push_instrs(items: &mut List<Line>, instrs: &[Instr]) -> Result<(), AllocError>

@@ -12,8 +12,8 @@ mod sites;
 pub use error::LinkError;
 pub use laws::linking_law;
 pub use linking::link;
-pub use sites::slot_count;
 pub use parts::{Datum, PartFunction, PartSwitch, PartVariant, Parts};
+pub use sites::slot_count;
 
 #[cfg(test)]
 mod tests;

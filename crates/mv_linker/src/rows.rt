@@ -144,10 +144,7 @@ fn variant_row(address: u32, variant: &PartVariant) -> VariantRow
 }
 
 /// The guard rows of all variants.
-pub fn guard_rows(
-    alloc: Global,
-    attributed: &[PartFunction],
-) -> Result<List<GuardRow>, AllocError>
+pub fn guard_rows(alloc: Global, attributed: &[PartFunction]) -> Result<List<GuardRow>, AllocError>
     ensures { IfOk result (λ rows. rows ≡ guards_of (function_variants attributed.now)) }
 {
     let mut rows = List::new(alloc);

@@ -197,7 +197,10 @@ fn tables_say_what_is_patched(rt: HostRuntime) -> Result<(), Fail> {
     let parts = two_functions(rt.alloc())?;
     let image = link(rt.alloc(), &parts)?;
     let bytes = mv_image::write(rt.alloc(), &image)?;
-    assert_eq!(rt; bytes.len(), 4 * (12 + 41 + 3 + 20 + 10 + 5 + 12 + 2 * 2 + 1));
+    assert_eq!(rt;
+        bytes.len(),
+        4 * (12 + 41 + 3 + 20 + 10 + 5 + 12 + 2 * 2 + 1)
+    );
     let sites = image.sites().as_slice();
     assert_eq!(rt; sites.len(), 2);
     assert_eq!(rt; [sites[0].address, sites[0].function], [0x1080, 0]);

@@ -13,7 +13,7 @@ loop-function-preserved c =
     let rest = variant_codes (function_variants (drop (i + 1) xs)) in
     let pushed : c.push_variants.new.joined ≡ with_codes c.loop-function.joined (variant_codes x.variants) = rw c.as_slice.ensures at c.in_ok-push_variants.ensures in
     let joined = more_codes c.loop-function.joined c.push_variants.new.joined (with_codes c.args.joined.now all) (variant_codes x.variants) rest (variant_codes (function_variants (drop i xs))) pushed
-        (function_codes_at xs i x c.loop-function-test.true c.function-item.is) c.loop-function.invariant.joined in
+    (function_codes_at xs i x c.loop-function-test.true c.function-item.is) c.loop-function.invariant.joined in
     record {
       joined = joined;
       labels = same_labels c.push_variants.new.joined c.args.joined.now rest all joined;

@@ -10,7 +10,7 @@ loop-code-preserved c =
     let i = c.loop-code.code-index in
     let rest = drop (i + 1) xs in
     let joined = more_codes c.loop-code.joined c.push_code.new.joined (with_codes c.args.joined.now xs) (x ∷ []) rest (drop i xs) c.in_ok-push_code.ensures
-        (codes_at xs i x c.loop-code-test.true c.code-item.is) c.loop-code.invariant.joined in
+    (codes_at xs i x c.loop-code-test.true c.code-item.is) c.loop-code.invariant.joined in
     record {
       joined = joined;
       labels = same_labels c.push_code.new.joined c.args.joined.now rest xs joined;

@@ -11,7 +11,7 @@ loop-variant-preserved c =
     let i = c.loop-variant.variant-index in
     let rest = variant_codes (drop (i + 1) xs) in
     let joined = more_codes c.loop-variant.joined c.push_code.new.joined (with_codes c.args.joined.now (variant_codes xs)) (x.code ∷ []) rest (variant_codes (drop i xs)) c.in_ok-push_code.ensures
-        (variants_at xs i x c.loop-variant-test.true c.variant-item.is) c.loop-variant.invariant.joined in
+    (variants_at xs i x c.loop-variant-test.true c.variant-item.is) c.loop-variant.invariant.joined in
     record {
       joined = joined;
       labels = same_labels c.push_code.new.joined c.args.joined.now rest (variant_codes xs) joined;

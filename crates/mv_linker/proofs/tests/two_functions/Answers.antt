@@ -135,20 +135,25 @@ function_fits = record {
 fit_tables : FitTables both
 fit_tables = record {
   few_switches = omega arith;
-  switches = All-from_recursion (FitsPartSwitch 3) (switch ∷ []) (record {
-    name = letter 115 refl no_keywords.0;
-    word = omega arith;
-    some = omega arith;
-    few = omega arith;
-    values = All-from_recursion (λ (v : ℕ). is_value 5 v ≡ true) (0 ∷ 1 ∷ []) (refl, (refl, tt));
-  }, tt);
+  switches = All-from_recursion (FitsPartSwitch 3) (switch ∷ []) (
+    record {
+      name = letter 115 refl no_keywords.0;
+      word = omega arith;
+      some = omega arith;
+      few = omega arith;
+      values = All-from_recursion (λ (v : ℕ). is_value 5 v ≡ true) (0 ∷ 1 ∷ []) (refl, (refl, tt));
+    },
+    tt,
+  );
   few_functions = omega arith;
   functions = All-from_recursion (FitsPartFunction both) (function ∷ []) (function_fits, tt);
   ascend = λ i below. absurd (omega (arith, below));
   slots = All-from_recursion (λ (code : Labelled). All (CallsAmong (0 ∷ [])) code.items) (called ∷ caller ∷ bound ∷ []) (
     All-from_recursion (CallsAmong (0 ∷ [])) called.items (tt, (tt, (tt, (tt, tt)))),
-    (All-from_recursion (CallsAmong (0 ∷ [])) caller.items ((0, refl), (tt, (tt, (tt, tt)))),
-    (All-from_recursion (CallsAmong (0 ∷ [])) bound.items (tt, ((0, refl), (tt, tt))), tt)),
+    (
+      All-from_recursion (CallsAmong (0 ∷ [])) caller.items ((0, refl), (tt, (tt, (tt, tt)))),
+      (All-from_recursion (CallsAmong (0 ∷ [])) bound.items (tt, ((0, refl), (tt, tt))), tt),
+    ),
   );
 }
 
