@@ -56,6 +56,7 @@ use Rattle.mv_first_data.specs.Laws.{AreAddresses}
 use Rattle.mv_built_programs.specs.Built.{IsUnattributed, HasWordsOfGlobals, IsCompiled, IsBuilt}
 use Rattle.mv_built_programs.specs.Layouts.{address_of, numbers_of, layout_of}
 use Rattle.mv_built_programs.proofs.Facts.{Laws}
+use Rattle.mv_built_programs.proofs.Plain.{none_marked, stands as plain_stands}
 use Rattle.mv_built_programs.proofs.NoSlots.{HasNone, IsNoSlot, function_none, each_none}
 use Rattle.mv_built_programs.proofs.Numbers.{BeginsWithWord, entries, numbering}
 use Rattle.mv_built_programs.proofs.Linked.{is_linked, code_placed, few_words}
@@ -78,14 +79,6 @@ direct_may_ask (Plan code index) h = absurd h
 
 not_kept : false ≡ true → ⊥
 not_kept e = cc
-
--- no function is marked where none is attributed
-none_marked : (is_called : ℕ → Bool) (f : ℕ) (gs : List Function) → ((k : ℕ) (g : Function) → slice_get gs k ≡ Some g → g.attributed ≡ false) → marked_from is_called f gs ≡ []
-none_marked is_called f [] plain = refl
-none_marked is_called f (g ∷ gs) plain =
-    let here = plain 0 g refl in
-    let rest = none_marked is_called (suc f) gs (λ k h e. plain (suc k) h e) in
-    rw (here) rest
 
 module _ (laws : Laws) (p : Program) (image : Fields) (formed : IsWellFormed p) (plain : IsUnattributed p) (have_words : HasWordsOfGlobals p)
     (built : IsBuilt p image) where
@@ -144,14 +137,14 @@ module _ (laws : Laws) (p : Program) (image : Fields) (formed : IsWellFormed p) 
       let g = function_there p.functions f (omega (arith, lt, same)) in begins f g.0 code g.1 here
 
   pub is_numbering : IsNumbering p numbers
-  is_numbering = numbering parts built.are laws.functions_stand sizing built.linked.text built.linked.least.fits.sizes built.linked.text_is each_begins p built.one_each
+  is_numbering = numbering parts (plain_stands laws p image plain built) sizing built.linked.text built.linked.least.fits.sizes built.linked.text_is each_begins p built.one_each
 
   pub addresses : AreAddresses (length p.functions) (address_of parts sizing) numbers
   addresses f lt =
       let count = is_numbering.count in
       let within : f < length numbers = omega (arith, lt, count) in
       slice_get-get_or numbers f 0 within ∙
-      ap Some (entries parts built.are laws.functions_stand sizing built.linked.text built.linked.least.fits.sizes built.linked.text_is each_begins f within).0
+      ap Some (entries parts (plain_stands laws p image plain built) sizing built.linked.text built.linked.least.fits.sizes built.linked.text_is each_begins f within).0
 
   -- ---- globals
 
@@ -159,7 +152,7 @@ module _ (laws : Laws) (p : Program) (image : Fields) (formed : IsWellFormed p) 
   global_count = laws.sizes_are_counts p numbers (All-weaker IsWellFormedGlobal (λ (x : Global). length x.first ≤ words_of_size x.size) (λ x h. h.given) p.globals formed.globals)
 
   pub few : sum (global_sizes p) ≤ 262144
-  few = few_words laws p image built global_count addresses
+  few = few_words laws p image plain built global_count addresses
 
   module _ (rooms : List Room) (is_named : ℕ → Bool) (same : rooms ≡ rooms_from is_named 0 0 p.globals) (x : ℕ) (h : has_room rooms x ≡ true) where
     there : has_room (rooms_from is_named 0 0 p.globals) x ≡ true
@@ -235,7 +228,7 @@ module _ (laws : Laws) (p : Program) (image : Fields) (formed : IsWellFormed p) 
       sizes = λ x. refl;
       runs = λ s stands. runs_are image (bytes_to_come bytes) picks s (own y set_out s stands) [];
       runs_under = λ bs s stands. runs_are_under [] image (bytes_to_come bytes) picks bs s (own y set_out s stands);
-      entries = entries parts built.are laws.functions_stand sizing built.linked.text built.linked.least.fits.sizes built.linked.text_is each_begins;
+      entries = entries parts (plain_stands laws p image plain built) sizing built.linked.text built.linked.least.fits.sizes built.linked.text_is each_begins;
       calls = serves_calls [] image (bytes_to_come bytes) picks bytes_or_end y budget far numbers p;
       stub = λ k args back i asked orders count target ra. absurd (orders (may_ask_direct k asked));
       slots = λ at f e. absurd (no_slot image at f e);
@@ -279,7 +272,7 @@ module _ (laws : Laws) (p : Program) (image : Fields) (formed : IsWellFormed p) 
       plain_code : IsPlain y machine.text words p numbers f g
       plain_code =
           let fits = laws.bodies_are_functions y (setting_of numbers p) false [] the_body in_program in
-          let placed = code_placed laws p image built f code found_code.1 g here (no_slots f g code here found_code.1) in record {
+          let placed = code_placed laws p image plain built f code found_code.1 g here (no_slots f g code here found_code.1) in record {
             body = the_body;
             keeps = the_compiled.compiled.keeps;
             params = the_compiled.compiled.params;
@@ -287,7 +280,7 @@ module _ (laws : Laws) (p : Program) (image : Fields) (formed : IsWellFormed p) 
             is_fine = fits.1;
             fits = fits.2;
             place = own_at;
-            linked = is_linked laws p image built f code found_code.1;
+            linked = is_linked laws p image plain built f code found_code.1;
             is_attributed = is_marked the_body.marked;
             next = end_at;
             placed = subst (λ (items : List Line). Placed (machine_text [] image) own_at y.entry items (y.entry f) end_at) lines_are placed;

@@ -4,6 +4,7 @@ pub mod Numbers
 pub mod NoSlots
 pub mod Places
 pub mod Facts
+pub mod Plain
 pub mod Linked
 pub mod Host
 pub mod Patched

@@ -14,8 +14,8 @@ use Rattle.mv_isa.specs.declared.labelled.Line.TheVariants.{Word}
 use Rattle.mv_isa.specs.Code.{IsSizing, IsPlace, line_at, least_words, offset, address, text_start}
 use Rattle.mv_asm.specs.Outcome.{AreWordsUnder}
 use Rattle.mv_linker.specs.declared.parts.Parts.{Parts}
-use Rattle.mv_linker.specs.Linked.{AreParts, relabelled, line_count, linked_lines, first_label, part_index}
-use Rattle.mv_linker.specs.Laws.{FunctionStands, FunctionsStand}
+use Rattle.mv_linker.specs.Linked.{relabelled, line_count, linked_lines, first_label, part_index}
+use Rattle.mv_linker.specs.Laws.{FunctionStands}
 use Rattle.mv_built_programs.specs.Layouts.{address_of, numbers_of}
 
 -- ---- sums of the first of some numbers
@@ -35,7 +35,7 @@ pub record BeginsWithWord (code : Labelled) : Type 0 where
   pub rest : List Line
   pub items : code.items ≡ Word instr ∷ rest
 
-module _ (parts : Parts) (are : AreParts parts) (stand : FunctionsStand) (sizing text : List ℕ) (fits : IsSizing (linked_lines parts) sizing)
+module _ (parts : Parts) (stand : (f : ℕ) (code : Labelled) → slice_get parts.functions f ≡ Some code → FunctionStands (linked_lines parts) parts.functions f code) (sizing text : List ℕ) (fits : IsSizing (linked_lines parts) sizing)
     (words : AreWordsUnder text_start (linked_lines parts) sizing text) where
   abbrev lines : List Line
   lines = linked_lines parts
@@ -51,7 +51,7 @@ module _ (parts : Parts) (are : AreParts parts) (stand : FunctionsStand) (sizing
 
   module _ (f : ℕ) (code : Labelled) (found : slice_get functions f ≡ Some code) where
     abbrev stands : FunctionStands lines functions f code
-    stands = stand parts are f code found
+    stands = stand f code found
 
     -- a function begins where its part does
     pub entry_is : address_of parts sizing f ≡ at (index f)

@@ -12,6 +12,7 @@ use Rattle.mv_ast.specs.Actions.{fits}
 use Rattle.mv_ast.specs.Plans.{free}
 use Rattle.mv_ast.specs.Starts.{first_words_under}
 use Rattle.mv_numbering.specs.Numberings.{IsNumbering}
+use Rattle.mv_descriptors.specs.declared.rows.FunctionRow.{FunctionRow}
 use Rattle.mv_image.specs.Spelling.{Fields}
 use Rattle.mv_ir.specs.World.{World}
 use Rattle.mv_ir.specs.Levels.{Code}
@@ -37,6 +38,7 @@ use Rattle.mv_first_data.specs.FirstData.{global_sizes}
 use Rattle.mv_built_programs.specs.Built.{IsUnattributed, HasWordsOfGlobals, IsBuilt}
 use Rattle.mv_built_programs.specs.Layouts.{address_of, numbers_of, layout_of}
 use Rattle.mv_built_programs.proofs.Facts.{Laws}
+use Rattle.mv_built_programs.proofs.Plain.{none_attributed, is_plain}
 use Rattle.mv_built_programs.proofs.Rooms.{size_is}
 use Rattle.mv_built_programs.proofs.Linked.{start_ends, start_placed, has_stubs}
 use Rattle.mv_machine_runs.specs.Under.{words_under}
@@ -46,13 +48,6 @@ use Rattle.mv_built_programs.proofs.Host.{is_numbering, addresses, global_count,
 run_reached : EndsAreReached → (p : Program) (numbers : List ℕ) (codes : List Code) (main : Option Code) (bound : ℕ) (w : World) → IsReached w (call_of_main (setting_of numbers p) codes main bound w).end
 run_reached reached p numbers codes None bound w = tt
 run_reached reached p numbers codes (Some main) bound w = reached p numbers codes main bound w
-
--- no function is attributed
-none_attributed : (gs : List Function) → ((k : ℕ) (g : Function) → slice_get gs k ≡ Some g → g.attributed ≡ false) → filter (λ (g : Function). g.attributed) gs ≡ []
-none_attributed [] plain = refl
-none_attributed (g ∷ gs) plain =
-    let here = plain 0 g refl in
-    let rest = none_attributed gs (λ k h e. plain (suc k) h e) in rw (here) rest
 
 module _ (laws : Laws) (p : Program) (image : Fields) (formed : IsWellFormed p) (plain : IsUnattributed p) (have_words : HasWordsOfGlobals p)
     (built : IsBuilt p image) (bytes picks : List ℕ) (are_bytes : All (λ b. b < 2 ^ 8) bytes) where
@@ -78,7 +73,7 @@ module _ (laws : Laws) (p : Program) (image : Fields) (formed : IsWellFormed p) 
   numbered = is_numbering laws p image formed plain have_words built
 
   stubs : HasStubs [] image y
-  stubs = has_stubs laws p image built
+  stubs = has_stubs laws p image plain built
 
   -- ---- the first world
 
@@ -89,7 +84,7 @@ module _ (laws : Laws) (p : Program) (image : Fields) (formed : IsWellFormed p) 
   is_first = record {
     input = refl;
     output = refl;
-    bindings = no_bindings ∙ sym (ap (λ (i : Fields). replicate (length i.functions) free) built.linked.image_is);
+    bindings = no_bindings ∙ sym (ap (λ (rows : List FunctionRow). replicate (length rows) free) ((is_plain laws p image plain built).no_functions image built.linked));
     log = refl;
   }
 
@@ -124,7 +119,7 @@ module _ (laws : Laws) (p : Program) (image : Fields) (formed : IsWellFormed p) 
     enters : EntersMain y the_machine budget far (address_of parts sizing parts.main) first 3
     enters =
         laws.start_is_right [] image bytes picks y budget far first is_first holds (ap (λ (i : Fields). i.entry) built.linked.image_is) (address_of parts sizing) (address_of parts sizing) parts.main
-        (start_ends laws p image built) (start_placed laws p image built)
+        (start_ends laws p image plain built) (start_placed laws p image plain built)
 
     begins : Begins access y the_machine 3
     begins =

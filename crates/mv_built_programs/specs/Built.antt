@@ -5,6 +5,7 @@ use Rattle.mv_ast.specs.declared.program.Program.{Program}
 use Rattle.mv_ast.specs.declared.program.Function.{Function}
 use Rattle.mv_ast.specs.declared.program.Global.{Global}
 use Rattle.mv_ast.specs.Counts.{words_of_size}
+use Rattle.mv_ast.specs.Plans.{attributed_functions}
 use Rattle.mv_ast.specs.Starts.{first_words_under}
 use Rattle.mv_isa.specs.declared.labelled.Labelled.{Labelled}
 use Rattle.mv_image.specs.Spelling.{Fields}
@@ -21,6 +22,7 @@ use Rattle.mv_function_code.specs.Functions.{shape_of}
 use Rattle.mv_selected_bodies.specs.SelectedBodies.{knowns, HasWords, IsWithin}
 use Rattle.mv_linker.specs.declared.parts.Parts.{Parts}
 use Rattle.mv_linker.specs.Linked.{AreParts}
+use Rattle.mv_linker.specs.Tables.{FitTables}
 use Rattle.mv_linker.specs.Outcome.{datum_word, IsLinked}
 use Rattle.mv_first_data.specs.Laws.{AreAddresses}
 
@@ -61,7 +63,9 @@ AreFirstWords p parts =
 pub record IsBuilt (p : Program) (image : Fields) : Type 0 where
   pub parts : Parts
   pub are : AreParts parts
+  pub tables : FitTables parts
   pub one_each : length parts.functions ≡ length p.functions
+  pub one_attributed_each : length parts.attributed ≡ length (attributed_functions p)
   pub functions : (f : ℕ) (g : Function) (code : Labelled) → slice_get p.functions f ≡ Some g → slice_get parts.functions f ≡ Some code → IsCompiled p g code
   pub main : parts.main ≡ p.main
   pub globals : AreFirstWords p parts
