@@ -18,7 +18,7 @@ use Rattle.mv_ir.proofs.Induction.{Each, TreeChildren, tree_ind, StmChildren, st
 use Rattle.mv_ir.proofs.Keeping.{map_append}
 use Rattle.mv_ir.proofs.Rolls.{trees_roll, reads_temp_roll}
 use Rattle.mv_fold.specs.Simple.{constant}
-use Rattle.mv_fold.specs.Form.{layer_foldable, foldable, all_foldable, is_division, is_constant, layer_decided, decided, behind, layer_unreached, unreached, layer_unread, unread, IsFoldedForm}
+use Rattle.mv_fold.specs.Form.{layer_foldable, foldable, all_foldable, is_division, is_constant, layer_decided, decided, behind, layer_unreached, unreached, layer_unread, unread}
 use Rattle.mv_fold.proofs.SimpleKept.{constant_roll}
 use Rattle.mv_fold.proofs.FormKept.{decided_roll, unreached_roll}
 use Rattle.mv_regalloc.specs.Rename.{renamed_node, renamed_tree, renamed_layer, renamed_stm, renamed_code}
