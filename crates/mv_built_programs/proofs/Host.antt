@@ -82,7 +82,6 @@ direct_may_ask (Plan code index) h = absurd h
 not_kept : false ≡ true → ⊥
 not_kept e = cc
 
-
 module _ (laws : Laws) (p : Program) (image : Fields) (formed : IsWellFormed p) (plain : IsUnattributed p) (have_words : HasWordsOfGlobals p)
     (built : IsBuilt p image) where
   abbrev parts : Parts
