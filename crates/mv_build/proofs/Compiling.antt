@@ -1,5 +1,5 @@
 -- A function whose lowering is renamed and selected has code.
-use Rattle.std.proofs.Common.{◌≡◌, ⊎_elim, ℕ, ◌<◌, ◌≤◌, Bool, true, false, nat_lt, List, [], Some, length, slice_get, min, All, inl, inr, sym, ap, ◌∙◌, subst, arith}
+use Rattle.std.proofs.Common.{◌≡◌, ⊎_elim, ℕ, ◌<◌, ◌≤◌, Bool, true, false, nat_lt, List, [], Some, length, slice_get, min, All, inl, inr, sym, ap, ◌∙◌, subst, arith, ◌++◌, ap₂}
 use Rattle.std.proofs.lemmas.List.Elements.{All-weaker}
 use Rattle.std.proofs.lemmas.Bool.{cases_lt, ltb-true, lt-ltb}
 use Rattle.mv_ast.specs.declared.program.Program.{Program}
@@ -106,6 +106,7 @@ module _ (shallow : LoweredAreShallow) (formed : LoweredAreWellFormed) (small : 
     rooms = names.rooms;
     marked = names.marked;
     within = record { formed = formed_body; shallow = shallow_body; frame = fits; orders = words.orders };
+    reads = ap₂ ◌++◌ renamed.scalars renamed.arrays;
     words = words;
     knowns = knowns_direct;
     functions = functions_there;
