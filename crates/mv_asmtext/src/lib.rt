@@ -3,7 +3,7 @@
 
 ghost use Rattle.std.specs.Prelude.{◌≡◌, MatchResult, Ok, IfOk};
 ghost use Rattle.mv_asmtext.specs.Printing.{printed};
-ghost use Rattle.mv_asmtext.specs.Scans.{IsCause, scanned};
+ghost use Rattle.mv_asmtext.specs.Scans.{FitsImage, IsCause, scanned};
 
 mod assembly;
 mod code;
@@ -50,11 +50,13 @@ pub fn scan(alloc: Global, text: &[u8]) -> Result<Code, ScanError>
 }
 
 /// The text of code: its entry, a line for each word, and its data. Each word that is the word of an instruction is that
-/// instruction, and every other one a number.
+/// instruction, and every other one a number. `scan` reads the text as the code again, where an image has room for it.
 pub fn print(alloc: Global, code: &Code) -> Result<Vec<u8>, AllocError>
-    ensures { IfOk result (λ text. text.items ≡ printed code.now) }
+    ensures text { IfOk result (λ text. text.items ≡ printed code.now) }
+    ensures read_back { FitsImage code.now → IfOk result (λ text. scanned text.items ≡ Ok code.now) }
 {
     let mut out = Vec::new(alloc);
     push_code(&mut out, code)?;
+    code.has_words();
     Ok(out)
 }

@@ -81,13 +81,13 @@ bool_cases : (b : Bool) → (b ≡ true) ⊎ (b ≡ false)
 bool_cases true = inl refl
 bool_cases false = inr refl
 
-abbrev Among : ℕ → ℕ → List Function → Type 0
+abbrev pub Among : ℕ → ℕ → List Function → Type 0
 Among f k gs = (i : ℕ) × (f ≡ k + i) × (is_attributed (slice_get gs i) ≡ true)
 
 later : (f k : ℕ) (g : Function) (gs : List Function) → Among f (suc k) gs → Among f k (g ∷ gs)
 later f k g gs (i, e, a) = (suc i, omega (arith, e), a)
 
-marked_among : (is_called : ℕ → Bool) (f k : ℕ) (gs : List Function) → is_marked (marked_from is_called k gs) f ≡ true → Among f k gs
+pub marked_among : (is_called : ℕ → Bool) (f k : ℕ) (gs : List Function) → is_marked (marked_from is_called k gs) f ≡ true → Among f k gs
 marked_among is_called f k [] e = absurd cc
 marked_among is_called f k (g ∷ gs) e = by (bool_cases (g.attributed && is_called k)) (marked_among is_called f (suc k) gs)
   where

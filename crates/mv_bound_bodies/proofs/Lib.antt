@@ -16,3 +16,4 @@ pub mod Slots
 pub mod FewSlots
 pub mod Switches
 pub mod Patchable
+pub mod RenamedForm

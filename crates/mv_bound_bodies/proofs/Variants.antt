@@ -1,10 +1,11 @@
 -- A body that is bound, folded and renamed is one that code can be selected for.
-use Rattle.std.proofs.Common.{arith, ◌≡◌, ℕ, ◌+◌, ◌*◌, ◌/◌, ◌<◌, ◌≤◌, true, List, length, sym, ap, subst, Contains}
+use Rattle.std.proofs.Common.{arith, ◌≡◌, ℕ, ◌+◌, ◌*◌, ◌/◌, ◌<◌, ◌≤◌, true, None, List, length, sym, ap, subst, Contains}
 use Rattle.std.specs.Prelude.{All}
 use Rattle.std.proofs.lemmas.List.Elements.{All-contains, All-contains_itself, All-weaker}
 use Rattle.mv_ir.specs.declared.stm.Stm.{Stm}
 use Rattle.mv_ir.specs.declared.body.Body.{Body}
-use Rattle.mv_ir.specs.Measures.{total}
+use Rattle.mv_ir.specs.Measures.{total, arrays_read}
+use Rattle.mv_ir.specs.Trees.{found}
 use Rattle.mv_ir.specs.Live.{most_intervals}
 use Rattle.mv_flow_code.specs.Labels.{functions}
 use Rattle.mv_function_code.specs.FunctionCode.{arrays_start, frame_bytes}
@@ -12,6 +13,7 @@ use Rattle.mv_selected_bodies.specs.SelectedBodies.{AreRooms, knowns}
 use Rattle.mv_fold.specs.Folded.{IsFolded}
 use Rattle.mv_regalloc.specs.Intervals.{IsRenamed}
 use Rattle.mv_lowered_forms.specs.Calls.{code_weight}
+use Rattle.mv_bound_bodies.specs.Meant.{IsMadeUnder}
 use Rattle.mv_bound_bodies.specs.Names.{NamesNoMore}
 use Rattle.mv_bound_bodies.specs.Variants.{MadeNameNoMore, MadeCallNoMore, MadeAreInProgram, MadeFramesAreNoLarger}
 use Rattle.mv_bound_bodies.proofs.Meant.{made}
@@ -72,8 +74,14 @@ made_frames ps body own result is_own m =
 contains_all : {A : Type 0} (P : A → Type 0) (xs ys : List A) → ((x : A) → Contains ys x → Contains xs x) → All P xs → All P ys
 contains_all P xs ys h all = All-weaker (Contains ys) P (λ x c. All-contains P xs x all (h x c)) ys (All-contains_itself ys)
 
+-- the passes leave the arrays that are read, or fewer
+arrays_less : (ps : List (ℕ × ℕ)) (body result : Body) (m : IsMadeUnder ps body result) (g : ℕ) → Contains (arrays_read result.code) g → Contains (arrays_read body.code) g
+arrays_less ps body result m g c =
+    let in_folded = subst (λ l. Contains l g) m.is_renamed.arrays c in
+    subst (λ l. Contains l g) m.is_bound.arrays (m.is_folded.smaller.arrays g in_folded)
+
 pub made_in_program : MadeAreInProgram
-made_in_program y setting ps body result of words m =
+made_in_program y setting ps body result of no_elements words m =
     let variant = made ps body result m in
     let names = made_names ps body result words m in
     let has = names.words of.words in
@@ -93,4 +101,5 @@ made_in_program y setting ps body result of words m =
       knowns = contains_all (λ k. y.may_ask k ≡ true) (knowns body.code) (knowns result.code) names.knowns of.knowns;
       functions = contains_all (λ f. f < length setting.numbers) (functions body.code) (functions result.code) names.functions of.functions;
       free = variant.free;
+      arrays = contains_all (λ g. found ps g ≡ None) (arrays_read body.code) (arrays_read result.code) (arrays_less ps body result m) no_elements;
     }

@@ -2,7 +2,7 @@
 #![tactic(auto)]
 
 ghost use Rattle.mv_bound_bodies.specs.Led.{BodiesAreMade, CombinationsAreLed};
-ghost use Rattle.mv_bound_bodies.specs.Meant.{LoweredAreVariants, MadeAreVariants};
+ghost use Rattle.mv_bound_bodies.specs.Meant.{LoweredAreVariants, MadeAreVariants, RenamingKeepsForm};
 ghost use Rattle.mv_bound_bodies.specs.Names.{BindingNamesNoMore, FoldingNamesNoMore};
 ghost use Rattle.mv_bound_bodies.specs.Reads.{VariantsReadNoSwitch};
 ghost use Rattle.mv_bound_bodies.specs.Rows.{FittingIsLed, GroupedIsLed};
@@ -28,9 +28,10 @@ pub fn rows_lead_to_variants()
     ensures bodies { BodiesAreMade }
 {}
 
-/// A body that is bound to values of its switches, folded and renamed means under these values what the first means, reads none of the switches, and is no
-/// greater. The call does nothing: its contract is the law.
+/// A body that is bound to values of its switches, folded and renamed means under these values what the first means, reads none of the switches, has the
+/// folded form, and is no greater. The call does nothing: its contract is the law.
 pub fn made_bodies_are_variants()
+    ensures form { RenamingKeepsForm }
     ensures all { MadeAreVariants }
     ensures lowered { LoweredAreVariants }
 {}

@@ -1,0 +1,14 @@
+pub mod Pairs
+pub mod Only
+pub mod Merged
+pub mod PlacePairs
+pub mod TablePlaces
+pub mod TablePairs
+pub mod Next
+pub mod GroupRows
+pub mod Padded
+pub mod Rebinding
+pub mod Words
+pub mod Switches
+pub mod Fits
+pub mod Filled

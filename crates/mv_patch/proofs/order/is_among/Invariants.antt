@@ -1,0 +1,6 @@
+use Rattle.std.proofs.Common.{◌≡◌, drop}
+use Rattle.mv_ast.specs.Plans.{is_among}
+use Rattle.mv_patch.proofs.order.is_among.Given as goal
+
+abbrev pub invariant-loop-other : goal.invariant-loop-other
+invariant-loop-other l = is_among l.number (drop l.other-index l.all) ≡ is_among l.number l.all

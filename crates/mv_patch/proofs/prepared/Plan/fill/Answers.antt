@@ -1,0 +1,56 @@
+use Rattle.std.proofs.Common.{List, Option, length, sym, ap, subst, ◌∙◌, arith}
+use Rattle.mv_ast.specs.declared.world.Binding.{Binding}
+use Rattle.mv_descriptors.specs.declared.rows.VariantRow.{VariantRow}
+use Rattle.mv_patch.specs.Orders.{Prepared, code_of, index_of, values_of, answer_after, plan_between}
+use Rattle.mv_patch.specs.Shown.{AreShown}
+use Rattle.mv_patch.proofs.Filled.{written_back, bindings_count, planned_is}
+use Rattle.mv_patch.proofs.TablePairs.{few_pairs}
+use Rattle.mv_patch.proofs.prepared.Plan.fill.Goals as goal
+
+pub returns-clause-planned : goal.returns-clause-planned
+returns-clause-planned c =
+    let image = c.args.image.now in
+    let old = c.args.bound.now in
+    let new = c.rebind.new.new in
+    let size = ap length c.rebind.ensures ∙ bindings_count image c.args.memory.now.held (code_of c.args.order) (index_of c.args.order) old c.requires.bound in
+    let view = ap (λ (p : Prepared). length p.planned.bound) c.self.view_is in
+    let bound_len = c.self.inside.bound.ok.0 in
+    let before_len = c.self.inside.before.ok.0 in
+    let after_len = c.self.inside.after.ok.0 in
+    let before_size = c.self.invariant.before in
+    let after_size = c.self.invariant.after in
+    let shown_size = c.show.ensures.count in
+    let then_size = c.show-2.ensures.count in
+    let bound = written_back c.self.inside.bound.len new c.self.inside.bound.items (omega (arith, size, view, bound_len, c.requires.into)) in
+    let first = written_back c.self.inside.before.len c.show.new.shown c.self.inside.before.items (omega (arith, shown_size, view, before_len, before_size, c.requires.into)) in
+    let second = written_back c.self.inside.after.len c.show-2.new.shown c.self.inside.after.items (omega (arith, then_size, view, after_len, after_size, c.requires.into)) in
+    let before = subst (λ (l : List (Option VariantRow)). AreShown image (values_of old) l) (sym (c.as_slice-before.ensures.value ∙ first)) c.show.ensures in
+    let after = subst (λ (l : List (Option VariantRow)). AreShown image (values_of c.as_slice-2.result.now) l) (sym (c.as_slice-after.ensures.value ∙ second)) c.show-2.ensures in
+    let behind = c.as_slice-2.ensures.value in
+    planned_is image c.args.memory.now.held old (code_of c.args.order) (index_of c.args.order) c.find_changes.new.pairs.items _ c.answer_to-self-inside.result (bound ∙ c.rebind.ensures)
+    (c.find_changes.ensures.items (values_of old) (values_of c.as_slice-2.result.now) c.entry-entry.ensures.rules before after ∙ ap (λ (bs : List Binding). plan_between image old bs) behind)
+    (c.answer_to-self-inside.ensures ∙ ap (λ (bs : List Binding). answer_after image (code_of c.args.order) (index_of c.args.order) bs) c.as_slice.ensures.value)
+
+pub returns-clause-few : goal.returns-clause-few
+returns-clause-few c =
+    let image = c.args.image.now in
+    let old = c.args.bound.now in
+    let new = c.rebind.new.new in
+    let size = ap length c.rebind.ensures ∙ bindings_count image c.args.memory.now.held (code_of c.args.order) (index_of c.args.order) old c.requires.bound in
+    let view = ap (λ (p : Prepared). length p.planned.bound) c.self.view_is in
+    let bound_len = c.self.inside.bound.ok.0 in
+    let before_len = c.self.inside.before.ok.0 in
+    let after_len = c.self.inside.after.ok.0 in
+    let before_size = c.self.invariant.before in
+    let after_size = c.self.invariant.after in
+    let shown_size = c.show.ensures.count in
+    let then_size = c.show-2.ensures.count in
+    let bound = written_back c.self.inside.bound.len new c.self.inside.bound.items (omega (arith, size, view, bound_len, c.requires.into)) in
+    let first = written_back c.self.inside.before.len c.show.new.shown c.self.inside.before.items (omega (arith, shown_size, view, before_len, before_size, c.requires.into)) in
+    let second = written_back c.self.inside.after.len c.show-2.new.shown c.self.inside.after.items (omega (arith, then_size, view, after_len, after_size, c.requires.into)) in
+    let before = subst (λ (l : List (Option VariantRow)). AreShown image (values_of old) l) (sym (c.as_slice-before.ensures.value ∙ first)) c.show.ensures in
+    let after = subst (λ (l : List (Option VariantRow)). AreShown image (values_of c.as_slice-2.result.now) l) (sym (c.as_slice-after.ensures.value ∙ second)) c.show-2.ensures in
+    let behind = c.as_slice-2.ensures.value in
+    let pairs = ap length (c.find_changes.ensures.items (values_of old) (values_of c.as_slice-2.result.now) c.entry-entry.ensures.rules before after) in
+    let few = few_pairs image c.entry-entry.ensures.rules (values_of old) (values_of c.as_slice-2.result.now) in
+    omega (arith, pairs, few)

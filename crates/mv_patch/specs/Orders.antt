@@ -1,0 +1,115 @@
+-- What a commit or a revert does, by the tables of an image and the words of its switches in memory.
+use Rattle.std.specs.Prelude.{ℕ, suc, ◌+◌, Bool, ◌&&◌, ◌||◌, List, [], ◌∷◌, map, take, length, replicate, is_some, Option, Some, None, if◌then◌else◌, nat_eq, nat_lt, slice_get, unwrap_or, option_and_then}
+use Rattle.std.specs.Result.{result_ok}
+use Rattle.mv_ast.specs.declared.world.Binding.{Binding}
+use Rattle.mv_ast.specs.Plans.{is_among, is_commit, free, bound_to}
+use Rattle.mv_descriptors.specs.declared.rows.SwitchRow.{SwitchRow}
+use Rattle.mv_descriptors.specs.declared.rows.FunctionRow.{FunctionRow}
+use Rattle.mv_fetch.specs.Held.{Held, load}
+use Rattle.mv_image.specs.Spelling.{Fields}
+use Rattle.mv_image.specs.Patched.{Bindings, fitting_variant, text_of}
+use Rattle.mv_patch.specs.declared.order.Order.{Order}
+use Rattle.mv_patch.specs.declared.order.Order.TheVariants.{CommitAll, RevertAll, CommitFunction, RevertFunction, CommitRefs, RevertRefs}
+use Rattle.mv_patch.specs.declared.prepared.Pair.{Pair}
+use Rattle.mv_patch.specs.Pairs.{pairs_between}
+
+-- ---- orders, by their codes: 0 and 1 address all functions, 2 and 3 one, 4 and 5 those that have a switch; an even one commits, an odd one reverts
+
+abbrev pub code_of : Order → ℕ
+code_of CommitAll = 0
+code_of RevertAll = 1
+code_of (CommitFunction f) = 2
+code_of (RevertFunction f) = 3
+code_of (CommitRefs s) = 4
+code_of (RevertRefs s) = 5
+
+-- the number of its function or switch, and 0 where it addresses all functions
+abbrev pub index_of : Order → ℕ
+index_of CommitAll = 0
+index_of RevertAll = 0
+index_of (CommitFunction f) = f
+index_of (RevertFunction f) = f
+index_of (CommitRefs s) = s
+index_of (RevertRefs s) = s
+
+-- whether there is an order with a code, and the image has the function or the switch
+unfoldable pub is_known_order : Fields → (code index : ℕ) → Bool
+is_known_order image code index =
+    nat_lt code 2 || (if nat_lt code 4 then nat_lt index (length image.functions) else nat_lt code 6 && nat_lt index (length image.switches))
+
+-- whether an order addresses a function, given with its number
+abbrev pub is_ordered : (code index : ℕ) → ℕ → FunctionRow → Bool
+is_ordered code index i row =
+    nat_lt code 2 || (if nat_lt code 4 then nat_eq i index else is_among index (take row.count row.switches))
+
+-- ---- bindings
+
+-- the values that a function's switches are bound to, none where it is free
+abbrev pub bound_values : Binding → Option (List ℕ)
+bound_values b = if b.bound then Some (take b.count b.values) else None
+
+abbrev pub values_of : List Binding → Bindings
+values_of bindings function = option_and_then bound_values (slice_get bindings function)
+
+-- at the start all functions are free
+abbrev pub first_bindings : Fields → List Binding
+first_bindings image = replicate (length image.functions) free
+
+-- the word of a switch in memory
+abbrev pub word_in : Held → Option SwitchRow → ℕ
+word_in held None = 0
+word_in held (Some row) = unwrap_or (result_ok (load held row.address 4)) 0
+
+-- the words of a function's switches
+abbrev pub words_now : Fields → Held → FunctionRow → List ℕ
+words_now image held row = map (λ (s : ℕ). word_in held (slice_get image.switches s)) (take row.count row.switches)
+
+-- what a commit binds a function to: its switches' words where a variant fits them, and else nothing
+abbrev pub bound_now : Fields → Held → (function : ℕ) → FunctionRow → Binding
+bound_now image held function row =
+    let words = words_now image held row in if is_some (fitting_variant image function words) then bound_to words else free
+
+-- what an order binds an addressed function to
+abbrev pub next_binding : Fields → Held → (code function : ℕ) → FunctionRow → Binding
+next_binding image held code function row = if is_commit code then bound_now image held function row else free
+
+-- the bindings after an order, from a function on
+abbrev pub ordered_rows : (addressed : ℕ → FunctionRow → Bool) → (next : ℕ → FunctionRow → Binding) → ℕ → List FunctionRow → List Binding → List Binding
+ordered_rows addressed next i [] bs = []
+ordered_rows addressed next i (row ∷ rows) [] = []
+ordered_rows addressed next i (row ∷ rows) (b ∷ bs) = (if addressed i row then next i row else b) ∷ ordered_rows addressed next (suc i) rows bs
+
+unfoldable pub bindings_after : Fields → Held → (code index : ℕ) → List Binding → List Binding
+bindings_after image held code index bs = ordered_rows (is_ordered code index) (next_binding image held code) 0 image.functions bs
+
+-- how many addressed functions are bound, from a function on
+abbrev pub bound_rows : (addressed : ℕ → FunctionRow → Bool) → ℕ → List FunctionRow → List Binding → ℕ
+bound_rows addressed i [] bs = 0
+bound_rows addressed i (row ∷ rows) [] = 0
+bound_rows addressed i (row ∷ rows) (b ∷ bs) = (if addressed i row && b.bound then 1 else 0) + bound_rows addressed (suc i) rows bs
+
+-- the answer to an order, by the bindings behind it
+unfoldable pub answer_after : Fields → (code index : ℕ) → List Binding → ℕ
+answer_after image code index bs = if is_commit code then bound_rows (is_ordered code index) 0 image.functions bs else 0
+
+-- ---- plans
+
+-- what makes the text of some bindings that of others
+abbrev pub plan_between : Fields → (old new : List Binding) → List Pair
+plan_between image old new = pairs_between (text_of image (values_of old)) (text_of image (values_of new))
+
+-- the words that an order changes, the bindings behind it, and its answer
+pub record Planned : Type 0 where
+  pub pairs : List Pair
+  pub bound : List Binding
+  pub answer : ℕ
+
+unfoldable pub plan_of : Fields → Held → List Binding → (code index : ℕ) → Planned
+plan_of image held old code index =
+    let new = bindings_after image held code index old in
+    record { pairs = plan_between image old new; bound = new; answer = answer_after image code index new }
+
+-- a plan, and the number of pairs for which it has memory
+pub record Prepared : Type 0 where
+  pub planned : Planned
+  pub room : ℕ
