@@ -1,5 +1,5 @@
 -- The slots in the code of a program's functions and variants.
-use Rattle.std.proofs.Common.{arith, ◌≡◌, ℕ, zero, suc, ◌+◌, ◌*◌, ◌≤◌, Bool, true, false, cond, List, [], ◌∷◌, length, map, Some, sym, ap, subst}
+use Rattle.std.proofs.Common.{arith, ◌≡◌, ℕ, zero, suc, ◌+◌, ◌*◌, ◌≤◌, Bool, true, false, cond, List, [], ◌∷◌, length, map, Some, refl, sym, ap, subst}
 use Rattle.std.specs.Prelude.{sum, slice_get}
 use Rattle.std.specs.List.{filter}
 use Rattle.std.proofs.lemmas.List.Sums.{sum_by-cons}
@@ -12,7 +12,8 @@ use Rattle.mv_isa.specs.declared.labelled.Labelled.{Labelled}
 use Rattle.mv_ir.specs.declared.body.Body.{Body}
 use Rattle.mv_call_code.specs.CallCode.{is_marked}
 use Rattle.mv_function_code.specs.Functions.{shape_of}
-use Rattle.mv_tree_code.specs.Rooms.{place_in, size_in}
+use Rattle.mv_flow_code.specs.Layouts.{size_in}
+use Rattle.mv_tree_code.specs.Rooms.{place_in}
 use Rattle.mv_lowered_programs.specs.WellFormed.{IsWellFormed}
 use Rattle.mv_lowered_forms.specs.Law.{IsFunctionOf, LoweredCallAsOften}
 use Rattle.mv_bound_bodies.specs.Slots.{slots, AtMost, SlotsAreFew, OwnSlotsAreFew, RenamedSlotsAreFew, SlotsArePatchable}
@@ -49,20 +50,21 @@ sum_most n most (x ∷ xs) h =
     omega (arith, rest, h 0 x refl, all, sum_cons (n x) (map n xs))
 
 -- an attributed function is one of the functions
-one_of : (gs : List Function) (n : ℕ) (g : Function) → slice_get (filter (λ g. g.attributed) gs) n ≡ Some g → (f : ℕ) × (slice_get gs f ≡ Some g)
+abbrev IsOne : Function → List Function → Type 0
+IsOne g gs = (f : ℕ) × (slice_get gs f ≡ Some g)
+
+next : (x g : Function) (gs : List Function) → IsOne g gs → IsOne g (x ∷ gs)
+next x g gs (f, there) = (suc f, there)
+
+one_of : (gs : List Function) (n : ℕ) (g : Function) → slice_get (filter (λ g. g.attributed) gs) n ≡ Some g → IsOne g gs
 one_of [] n g e = absurd (cc)
-one_of (x ∷ gs) n g e = by x.attributed e
+one_of (x ∷ gs) n g e = by x.attributed n (λ m d. next x g gs (one_of gs m g d)) e
   where
-    next : (f : ℕ) × (slice_get gs f ≡ Some g) → (f : ℕ) × (slice_get (x ∷ gs) f ≡ Some g)
-    next (f, there) = (suc f, there)
-
-    taken : (n : ℕ) → slice_get (x ∷ filter (λ g. g.attributed) gs) n ≡ Some g → (f : ℕ) × (slice_get (x ∷ gs) f ≡ Some g)
-    taken zero e = (0, e)
-    taken (suc n) e = next (one_of gs n g e)
-
-    by : (b : Bool) → slice_get (cond b (x ∷ filter (λ g. g.attributed) gs) (filter (λ g. g.attributed) gs)) n ≡ Some g → (f : ℕ) × (slice_get (x ∷ gs) f ≡ Some g)
-    by true e = taken n e
-    by false e = next (one_of gs n g e)
+    by : (b : Bool) (n : ℕ) → ((m : ℕ) → slice_get (filter (λ g. g.attributed) gs) m ≡ Some g → IsOne g (x ∷ gs)) →
+        slice_get (cond b (x ∷ filter (λ g. g.attributed) gs) (filter (λ g. g.attributed) gs)) n ≡ Some g → IsOne g (x ∷ gs)
+    by true zero rest e = (0, e)
+    by true (suc n) rest e = rest n e
+    by false n rest e = rest n e
 
 pub slots_counted : SlotsAreFewInCode → SlotsArePatchable → SitesAreFew → SlotsAreCounted
 slots_counted few within sites p formed own variants codes variant_codes =
