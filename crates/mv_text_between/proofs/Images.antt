@@ -1,26 +1,24 @@
 -- The texts of an image under bindings.
-use Rattle.std.proofs.Common.{◌≡◌, ◌≢◌, ⊎_elim, ℕ, ◌+◌, ◌*◌, ◌^◌, ◌<◌, ◌≤◌, eqb, List, [], ◌∷◌, ◌++◌, length, slice_get, slice_index, get_or, Option, Some, None, refl, sym, ap, ◌∙◌, subst, arith, append-nil, append_assoc}
-use Rattle.std.specs.List.{All, flat_map}
+use Rattle.std.proofs.Common.{◌≡◌, ◌≢◌, ⊎_elim, ℕ, ◌+◌, ◌*◌, ◌^◌, ◌<◌, ◌≤◌, eqb, List, [], ◌∷◌, ◌++◌, length, slice_get, slice_index, Option, Some, None, refl, sym, ap, ◌∙◌, subst, arith}
+use Rattle.std.specs.List.{All}
 use Rattle.std.specs.Option.{option_and_then}
 use Rattle.std.proofs.lemmas.Bool.{cases_lt, cond_both}
 use Rattle.std.proofs.lemmas.List.{get_or_past}
 use Rattle.std.proofs.lemmas.List.Elements.{All-weaker}
 use Rattle.std.proofs.lemmas.Option.{slice_get_within, get_or_from_slice_get, slice_get-get_or}
 use Rattle.mv_num.specs.Bytes.{AreWords}
-use Rattle.mv_descriptors.specs.Widths.{switch_words, function_words, variant_words, guard_words, site_words}
 use Rattle.mv_descriptors.specs.declared.rows.VariantRow.{VariantRow}
 use Rattle.mv_descriptors.specs.declared.rows.SiteRow.{SiteRow}
-use Rattle.mv_image.specs.Spelling.{Fields, header_of, words_in}
+use Rattle.mv_image.specs.Spelling.{Fields}
 use Rattle.mv_image.specs.Faults.{Rules}
-use Rattle.mv_image.specs.Places.{variants_at, variant_field}
 use Rattle.mv_image.specs.Jumps.{distance, jal_word, jump}
 use Rattle.mv_image.specs.Patched.{Bindings, variant_under, at_entry, at_site, after_site, entry_at, site_at, site_before, word_by, word_under, text_of, ShowsAt}
-use Rattle.mv_image.proofs.PatchLaws.{text_size, text_at, only_there}
+use Rattle.mv_image.proofs.PatchLaws.{text_size, text_at}
 use Rattle.mv_image.proofs.RulesAreTables.{rules_are_tables}
 use Rattle.mv_image.proofs.Limits.{is_within}
 use Rattle.mv_fetch.specs.Held.{Room, choices}
 use Rattle.mv_patch.specs.declared.prepared.Pair.{Pair}
-use Rattle.mv_patch.specs.Pairs.{pair_of, place, pairs_between, IsDifference}
+use Rattle.mv_patch.specs.Pairs.{place, pairs_between, IsDifference}
 use Rattle.mv_text_between.specs.Stores.{stored_all, AreTexts}
 use Rattle.mv_text_between.specs.Between.{IsSettled}
 use Rattle.mv_text_between.specs.Laws.{IsNeverPatched}

@@ -5,7 +5,7 @@ use Rattle.std.proofs.lemmas.Option.{slice_get_within, get_or_from_slice_get}
 use Rattle.std.specs.List.{All}
 use Rattle.mv_fetch.specs.Held.{IsInText}
 use Rattle.mv_patch.specs.declared.prepared.Pair.{Pair}
-use Rattle.mv_patch.specs.Pairs.{pair_of, pairs_between, IsDifference}
+use Rattle.mv_patch.specs.Pairs.{pairs_between, IsDifference}
 use Rattle.mv_text_between.specs.Stores.{AreTexts, IsInRange}
 use Rattle.mv_text_between.proofs.Places.{in_text}
 use Rattle.mv_patch.proofs.Pairs.{pairs_march, all_differ}

@@ -6,3 +6,4 @@ pub mod InRange
 pub mod Tested
 pub mod Settled
 pub mod Images
+pub mod Left

@@ -1,15 +1,16 @@
 -- Text between two bindings.
 use Rattle.std.specs.Prelude.{ℕ, ◌≡◌, ◌≢◌, ◌+◌, ◌*◌, ◌≤◌, ◌↔◌, true, List, [], ◌∷◌, ◌++◌, length, replicate, slice_get, Some, None}
 use Rattle.std.specs.List.{All}
-use Rattle.mv_fetch.specs.Held.{Held, Room, choices, older_at}
+use Rattle.mv_fetch.specs.Held.{Held, Room, IsInText, choices, older_at}
 use Rattle.mv_rv32.specs.Stepping.{access}
 use Rattle.mv_image.specs.Spelling.{Fields}
 use Rattle.mv_image.specs.Faults.{Rules}
 use Rattle.mv_image.specs.Patched.{Bindings, entry_at, site_at, site_before, text_of, ShowsAt}
 use Rattle.mv_patch.specs.declared.prepared.Pair.{Pair}
 use Rattle.mv_patch.specs.Pairs.{place, pairs_between}
+use Rattle.mv_patch.specs.Tables.{patchable}
 use Rattle.mv_text_between.specs.Stores.{stored_all, AreTexts, IsInRange}
-use Rattle.mv_text_between.specs.Between.{IsWhole, IsSettled, IsBetween, is_between, IsStored}
+use Rattle.mv_text_between.specs.Between.{count_older, IsWhole, IsSettled, IsBetween, is_between, IsStored}
 
 abbrev pub PairsAreInRange : Type 0
 PairsAreInRange = (old new : List ℕ) → AreTexts old new → All IsInRange (pairs_between old new)
@@ -34,6 +35,18 @@ pub record RoomsAreWhole : Type 0 where
   pub one : (text : List ℕ) (room : Room) → IsSettled text room → place (length text) ≤ 0x0010_0000 → (k w : ℕ) → slice_get text k ≡ Some w → choices room.held (place k) ≡ w ∷ []
   -- between a text and itself is that text alone
   pub same : (text : List ℕ) (h : Held) → IsBetween text text h ↔ ((h.text ≡ text) × (h.older ≡ replicate (length text) []))
+
+-- Where text is between two texts of an image, all of the reserve is spare that the older words don't take.
+abbrev pub RoomIsLeft : Type 0
+RoomIsLeft =
+    (image : Fields) → Rules image → (some other : Bindings) (room : Room) → IsWhole room → room.reserve ≡ patchable image →
+    IsBetween (text_of image some) (text_of image other) room.held → room.spare + count_older room.held.older ≡ patchable image
+
+-- So a store into text, behind which text is between two texts of an image, doesn't want memory.
+abbrev pub StoresFindRoom : Type 0
+StoresFindRoom =
+    (image : Fields) → Rules image → (some other : Bindings) (room room' : Room) (a n v : ℕ) → IsInText a → access.store room a n v ≡ Some room' →
+    IsWhole room → room.reserve ≡ patchable image → IsBetween (text_of image some) (text_of image other) room'.held → 1 ≤ room.spare
 
 -- No binding shows at an address.
 pub record IsNeverPatched (image : Fields) (a : ℕ) : Type 0 where
