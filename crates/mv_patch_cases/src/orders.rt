@@ -1,7 +1,6 @@
-ghost use Rattle.std.specs.Prelude.{◌≡◌, ◌≤◌, length, IfOk};
+ghost use Rattle.std.specs.Prelude.{◌≡◌, ◌≤◌, length};
 ghost use Rattle.mv_patch.specs.Tables.{patchable};
 
-use mv_ast::world::Binding;
 use mv_fetch::Memory;
 use mv_image::facts::within_limits;
 use mv_image::{Image, ImageError, read};
@@ -150,19 +149,118 @@ const NAMES: &[u8] = b"sdpg2\0\0\0";
 
 const MINUS_ONE: u32 = 0xFFFF_FFFF;
 
-/// The words of `dp` where it is bound to 3, and where it is free.
-const INLINED: [(u32, u32); 3] = [
-    (0x1008, 0x0180_006F),
-    (0x1010, 0x0010_0513),
-    (0x1014, 0x0020_0593),
-];
+/// `dp` bound to 3, with its inline body at the site: the entry and both words of the site; and `dp` free.
+const INLINED_ENTRY: (u32, u32) = (0x1008, 0x0180_006F);
 
-const FREED: [(u32, u32); 3] = [(0x1008, 19), (0x1010, 0xFF9F_F0EF), (0x1014, 19)];
+const INLINED_FIRST: (u32, u32) = (0x1010, 0x0010_0513);
 
-/// The word of `g2` where it is bound, and where it is free.
+const INLINED_SECOND: (u32, u32) = (0x1014, 0x0020_0593);
+
+const FREE_ENTRY: (u32, u32) = (0x1008, 19);
+
+const FREE_FIRST: (u32, u32) = (0x1010, 0xFF9F_F0EF);
+
+const FREE_SECOND: (u32, u32) = (0x1014, 19);
+
+/// `g2` bound, and free.
 const JUMPS: (u32, u32) = (0x1018, 0x0100_006F);
 
 const STAYS: (u32, u32) = (0x1018, 19);
+
+const NONE: (u32, u32) = (0, 0);
+
+/// Whether all functions were committed before with the switch at 3, and then the switch's word, an order, the words that
+/// it changes, and its answer.
+const ROWS: [(bool, u32, Order, [(u32, u32); 4], u32); 14] = [
+    (
+        false,
+        3,
+        Order::CommitAll,
+        [INLINED_ENTRY, INLINED_FIRST, INLINED_SECOND, JUMPS],
+        2,
+    ),
+    (
+        false,
+        3,
+        Order::CommitFunction(0),
+        [INLINED_ENTRY, INLINED_FIRST, INLINED_SECOND, NONE],
+        1,
+    ),
+    (
+        false,
+        3,
+        Order::CommitFunction(1),
+        [JUMPS, NONE, NONE, NONE],
+        1,
+    ),
+    (
+        false,
+        3,
+        Order::CommitRefs(0),
+        [INLINED_ENTRY, INLINED_FIRST, INLINED_SECOND, NONE],
+        1,
+    ),
+    (
+        true,
+        3,
+        Order::RevertAll,
+        [FREE_ENTRY, FREE_FIRST, FREE_SECOND, STAYS],
+        0,
+    ),
+    (
+        true,
+        3,
+        Order::RevertFunction(0),
+        [FREE_ENTRY, FREE_FIRST, FREE_SECOND, NONE],
+        0,
+    ),
+    (
+        true,
+        3,
+        Order::RevertFunction(1),
+        [STAYS, NONE, NONE, NONE],
+        0,
+    ),
+    (
+        true,
+        3,
+        Order::RevertRefs(0),
+        [FREE_ENTRY, FREE_FIRST, FREE_SECOND, NONE],
+        0,
+    ),
+    // what is as it was doesn't change
+    (true, 3, Order::CommitAll, [NONE; 4], 2),
+    (false, 3, Order::RevertAll, [NONE; 4], 0),
+    // another variant, without an inline body
+    (
+        true,
+        MINUS_ONE,
+        Order::CommitAll,
+        [
+            (0x1008, 0x01C0_006F),
+            (0x1010, 0x0140_00EF),
+            (0x1014, 19),
+            NONE,
+        ],
+        2,
+    ),
+    // a value that no guard row holds of
+    (false, 7, Order::CommitAll, [JUMPS, NONE, NONE, NONE], 1),
+    (
+        true,
+        7,
+        Order::CommitAll,
+        [FREE_ENTRY, FREE_FIRST, FREE_SECOND, NONE],
+        1,
+    ),
+    (
+        true,
+        7,
+        Order::CommitRefs(0),
+        [FREE_ENTRY, FREE_FIRST, FREE_SECOND, NONE],
+        0,
+    ),
+];
 
 fn image(alloc: Global) -> Result<Image, ImageError> {
     let words = List::from_vec(Vec::from_slice(alloc, &WORDS)?);
@@ -179,120 +277,59 @@ fn memory(alloc: Global, image: &Image, word: u32) -> Result<Memory, AllocError>
     Memory::new(alloc, image.text(), &globals, 0)
 }
 
-/// The bindings that a plan leaves.
-fn bound(alloc: Global, plan: &Plan) -> Result<List<Binding>, AllocError>
-    ensures { IfOk result (λ bound. bound ≡ plan.now.planned.bound) }
+/// Fills a plan with what an order does behind it.
+fn carry_out(
+    alloc: Global,
+    image: &Image,
+    word: u32,
+    order: Order,
+    into: &mut Plan,
+) -> Result<(), AllocError>
+    requires room { patchable image.now ≤ into.old.room }
+    requires count { length into.old.planned.bound ≡ length image.now.functions }
+    ensures room { into.new.room ≡ into.old.room }
+    ensures count { length into.new.planned.bound ≡ length image.now.functions }
 {
-    Ok(List::from_vec(Vec::from_slice(alloc, plan.bound())?))
+    let memory = memory(alloc, image, word)?;
+    let bound = List::from_vec(Vec::from_slice(alloc, into.bound())?);
+    let _answer = plan(image, &memory, &bound, 0, order, into);
+    Ok(())
 }
 
-/// The plan of the last of some orders, each with the word that the switch has at it.
-fn carried_out(alloc: Global, image: &Image, orders: &[(u32, Order)]) -> Result<Plan, AllocError>
-    ensures room { IfOk result (λ plan. patchable image.now ≤ plan.room) }
-    ensures count { IfOk result (λ plan. length plan.planned.bound ≡ length image.now.functions) }
-{
-    let mut into = Plan::new(alloc, image)?;
-    for (word, order) in orders {
-        let memory = memory(alloc, image, *word)?;
-        let bound = bound(alloc, &into)?;
-        let _answer = plan(image, &memory, &bound, 0, *order, &mut into);
-    }
-    Ok(into)
-}
-
-/// Whether pairs have these addresses and words.
-fn are(pairs: &[Pair], words: &[(u32, u32)]) -> bool {
-    if pairs.len() != words.len() {
-        return false;
-    }
-    for (i, pair) in pairs.iter().enumerate() {
-        if (pair.address, pair.word) != words[i] {
+/// Whether pairs are these addresses and words, up to the first address 0.
+fn are(pairs: &[Pair], words: &[(u32, u32); 4]) -> bool {
+    for (i, (address, word)) in words.iter().enumerate() {
+        if *address == 0 {
+            return pairs.len() == i;
+        }
+        if i >= pairs.len() || pairs[i].address != *address || pairs[i].word != *word {
             return false;
         }
     }
-    true
-}
-
-/// Whether the last of some orders changes these words and has this answer.
-fn does(
-    alloc: Global,
-    orders: &[(u32, Order)],
-    words: &[(u32, u32)],
-    answer: u32,
-) -> Result<bool, ImageError> {
-    let image = image(alloc)?;
-    let plan = carried_out(alloc, &image, orders)?;
-    Ok(are(plan.pairs(), words) && plan.answer() == answer)
+    pairs.len() == 4
 }
 
 #[test]
-fn commits_change_entries_and_sites(rt: HostRuntime) -> Result<(), Fail> {
-    let all = [INLINED[0], INLINED[1], INLINED[2], JUMPS];
-    assert!(rt; does(rt.alloc(), &[(3, Order::CommitAll)], &all, 2)?);
-    assert!(rt; does(rt.alloc(), &[(3, Order::CommitFunction(0))], &INLINED, 1)?);
-    assert!(rt; does(rt.alloc(), &[(3, Order::CommitFunction(1))], &[JUMPS], 1)?);
-    assert!(rt; does(rt.alloc(), &[(3, Order::CommitRefs(0))], &INLINED, 1)?);
-    Ok(())
-}
-
-#[test]
-fn reverts_restore_entries_and_sites(rt: HostRuntime) -> Result<(), Fail> {
-    let commit = (3, Order::CommitAll);
-    let all = [FREED[0], FREED[1], FREED[2], STAYS];
-    assert!(rt; does(rt.alloc(), &[commit, (3, Order::RevertAll)], &all, 0)?);
-    assert!(rt;
-        does(
-            rt.alloc(),
-            &[commit, (3, Order::RevertFunction(0))],
-            &FREED,
-            0
-        )?
-    );
-    assert!(rt;
-        does(
-            rt.alloc(),
-            &[commit, (3, Order::RevertFunction(1))],
-            &[STAYS],
-            0
-        )?
-    );
-    assert!(rt; does(rt.alloc(), &[commit, (3, Order::RevertRefs(0))], &FREED, 0)?);
-    Ok(())
-}
-
-#[test]
-fn only_what_differs_changes(rt: HostRuntime) -> Result<(), Fail> {
-    let commit = (3, Order::CommitAll);
-    let other = [(0x1008, 0x01C0_006F), (0x1010, 0x0140_00EF), (0x1014, 19)];
-    assert!(rt; does(rt.alloc(), &[commit, commit], &[], 2)?);
-    assert!(rt;
-        does(
-            rt.alloc(),
-            &[commit, (MINUS_ONE, Order::CommitAll)],
-            &other,
-            2
-        )?
-    );
-    assert!(rt; does(rt.alloc(), &[(3, Order::RevertAll)], &[], 0)?);
-    Ok(())
-}
-
-#[test]
-fn a_value_that_no_guard_holds_of_frees(rt: HostRuntime) -> Result<(), Fail> {
-    assert!(rt; does(rt.alloc(), &[(7, Order::CommitAll)], &[JUMPS], 1)?);
-    let orders = [(3, Order::CommitAll), (7, Order::CommitFunction(0))];
-    assert!(rt; does(rt.alloc(), &orders, &FREED, 0)?);
+fn orders_change_entries_and_sites(rt: HostRuntime) -> Result<(), Fail> {
+    let image = image(rt.alloc())?;
+    for (committed, word, order, words, answer) in ROWS {
+        let mut into = Plan::new(rt.alloc(), &image)?;
+        if committed {
+            carry_out(rt.alloc(), &image, 3, Order::CommitAll, &mut into)?;
+        }
+        carry_out(rt.alloc(), &image, word, order, &mut into)?;
+        assert!(rt; are(into.pairs(), &words) && into.answer() == answer);
+    }
     Ok(())
 }
 
 #[test]
 fn a_live_frame_refuses(rt: HostRuntime) -> Result<(), Fail> {
     let image = image(rt.alloc())?;
-    let mut into = carried_out(rt.alloc(), &image, &[(3, Order::CommitFunction(1))])?;
+    let mut into = Plan::new(rt.alloc(), &image)?;
     let memory = memory(rt.alloc(), &image, 3)?;
-    let bound = bound(rt.alloc(), &into)?;
+    let bound = List::from_vec(Vec::from_slice(rt.alloc(), into.bound())?);
     let refused = plan(&image, &memory, &bound, 2, Order::CommitAll, &mut into);
-    assert!(rt; refused == Err(PlanError::Live(2)));
-    assert!(rt; are(into.pairs(), &[JUMPS]) && into.answer() == 1);
+    assert!(rt; refused == Err(PlanError::Live(2)) && into.pairs().is_empty());
     Ok(())
 }
