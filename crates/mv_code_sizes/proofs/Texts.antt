@@ -99,18 +99,21 @@ variant_words p g = assignments p g * words_of g
 -- an attributed function is one of all
 attributed_there : (gs : List Function) (n : ℕ) (g : Function) → slice_get (filter (λ (h : Function). h.attributed) gs) n ≡ Some g → (f : ℕ) × (slice_get gs f ≡ Some g)
 attributed_there [] n g is = absurd (let bad : ⊥ = cc in bad)
-attributed_there (x ∷ gs) n g is = by x.attributed refl n is
+attributed_there (x ∷ gs) n g is = by (λ k e. attributed_there gs k g e) x.attributed refl n is
   where
     rest : List Function
     rest = filter (λ (h : Function). h.attributed) gs
 
-    later : (n : ℕ) → slice_get rest n ≡ Some g → (f : ℕ) × (slice_get (x ∷ gs) f ≡ Some g)
-    later n e = let h = attributed_there gs n g e in (suc h.0, h.1)
+    Finds : Type 0
+    Finds = (k : ℕ) → slice_get rest k ≡ Some g → (f : ℕ) × (slice_get gs f ≡ Some g)
 
-    by : (b : Bool) → x.attributed ≡ b → (n : ℕ) → slice_get (cond b (x ∷ rest) rest) n ≡ Some g → (f : ℕ) × (slice_get (x ∷ gs) f ≡ Some g)
-    by true e zero is = (0, is)
-    by true e (suc n) is = later n is
-    by false e n is = later n is
+    later : Finds → (k : ℕ) → slice_get rest k ≡ Some g → (f : ℕ) × (slice_get (x ∷ gs) f ≡ Some g)
+    later found k e = let h = found k e in (suc h.0, h.1)
+
+    by : Finds → (b : Bool) → x.attributed ≡ b → (k : ℕ) → slice_get (cond b (x ∷ rest) rest) k ≡ Some g → (f : ℕ) × (slice_get (x ∷ gs) f ≡ Some g)
+    by found true e zero is = (0, is)
+    by found true e (suc k) is = later found k is
+    by found false e k is = later found k is
 
 each_short : (limit : ℕ) (vs : List PartVariant) → All (λ (v : PartVariant). code_words v.code ≤ limit) vs → sum_by code_words (variant_codes vs) ≤ length vs * limit
 each_short limit [] all = omega arith
@@ -126,19 +129,22 @@ variants_short : (p : Program) (gs : List Function) (attributed : List PartFunct
     sum_by code_words (variant_codes (function_variants attributed)) ≤ sum (map (variant_words p) gs)
 variants_short p gs [] few each = omega arith
 variants_short p [] (a ∷ attributed) few each = absurd (omega (arith, few))
-variants_short p (g ∷ gs) (a ∷ attributed) few each = by g.attributed refl few each
+variants_short p (g ∷ gs) (a ∷ attributed) few each = by (λ others less those. variants_short p gs others less those) g.attributed refl few each
   where
     rest : List Function
     rest = filter (λ (h : Function). h.attributed) gs
 
-    Each : List Function → Type 0
-    Each hs = (n : ℕ) (h : Function) (b : PartFunction) → slice_get hs n ≡ Some h → slice_get (a ∷ attributed) n ≡ Some b → sum_by code_words (variant_codes b.variants) ≤ variant_words p h
+    Each : List Function → List PartFunction → Type 0
+    Each hs others = (n : ℕ) (h : Function) (b : PartFunction) → slice_get hs n ≡ Some h → slice_get others n ≡ Some b → sum_by code_words (variant_codes b.variants) ≤ variant_words p h
 
-    by : (b : Bool) → g.attributed ≡ b → length (a ∷ attributed) ≤ length (cond b (g ∷ rest) rest) → Each (cond b (g ∷ rest) rest) →
+    Rest : Type 0
+    Rest = (others : List PartFunction) → length others ≤ length rest → Each rest others → sum_by code_words (variant_codes (function_variants others)) ≤ sum (map (variant_words p) gs)
+
+    by : Rest → (b : Bool) → g.attributed ≡ b → length (a ∷ attributed) ≤ length (cond b (g ∷ rest) rest) → Each (cond b (g ∷ rest) rest) (a ∷ attributed) →
         sum_by code_words (variant_codes (function_variants (a ∷ attributed))) ≤ sum (map (variant_words p) (g ∷ gs))
-    by true e few each =
+    by shorter true e few each =
         let here = each 0 g a refl refl in
-        let more = variants_short p gs attributed (omega (arith, few)) (λ n h b x y. each (suc n) h b x y) in
+        let more = shorter attributed (omega (arith, few)) (λ n h b x y. each (suc n) h b x y) in
         omega (
           arith,
           here,
@@ -147,8 +153,8 @@ variants_short p (g ∷ gs) (a ∷ attributed) few each = by g.attributed refl f
           sum_by-append code_words (variant_codes a.variants) (variant_codes (function_variants attributed)),
           sum_by-cons (λ x. x) (variant_words p g) (map (variant_words p) gs),
         )
-    by false e few each =
-        let more = variants_short p gs (a ∷ attributed) few each in
+    by shorter false e few each =
+        let more = shorter (a ∷ attributed) few each in
         omega (arith, more, sum_by-cons (λ x. x) (variant_words p g) (map (variant_words p) gs))
 
 -- a function's own code, and its variants'
