@@ -1,4 +1,17 @@
 //! What holds of the bodies of attributed functions under values of their switches: which of them a table's rows lead to, and what they mean.
+//!
+//! Laws on bodies of attributed functions that are bound to values of their switches, folded, renamed and merged.
+//! Nothing calls these passes one after the other yet.
+//!
+//! - `rows_lead_to_variants`: the guard rows of an image, grouped by variant, lead from a combination of the domains to
+//!   the body that came with it, and from other values to none.
+//! - `made_bodies_are_variants`: a body that is bound, folded and renamed means under these values what the function
+//!   means, reads none of the switches, and is no greater.
+//! - `passes_name_no_more`, `variants_can_be_selected`: it names no function and no known function that the first
+//!   doesn't, calls none more often, and code can be selected for it where it can for the first, but for the number of
+//!   temporaries.
+//! - `slots_are_counted`: the code of a function has one slot for each direct call of an attributed function, and all
+//!   code together has no more slots than a plan can patch.
 #![tactic(auto)]
 
 ghost use Rattle.mv_bound_bodies.specs.Led.{BodiesAreMade, CombinationsAreLed};

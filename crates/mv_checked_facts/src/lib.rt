@@ -1,4 +1,7 @@
 //! Programs that the front end accepts have what the tables of an image need to know of them.
+//!
+//! - `programs_of_texts_have_table_facts`: the program of each text that the front end accepts has these facts.
+//!   `names_are_identifiers`: such names are identifiers as the image format has them.
 #![tactic(auto)]
 
 ghost use Rattle.mv_checked_facts.specs.Laws.{NamesAreIdentifiers, ProgramsHaveTableFacts};

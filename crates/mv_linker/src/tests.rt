@@ -68,7 +68,7 @@ const GUARDS: [GuardRow; 1] = [GuardRow {
     high: [1, 0, 0, 0, 0, 0],
 }];
 
-/// The words of `llvm-mc` for these.
+/// The words for these: of LLVM's assembler, those of the variant and of the stub of commits of GNU as.
 const WORDS: [u32; 41] = [
     // the start: lui sp, addi s11, jal main, addi a7, ecall
     0x00400137, 0x20000d93, 0x078000ef, 0x00000893, 0x00000073,

@@ -1,4 +1,14 @@
 //! The lowering of programs to intermediate code.
+//!
+//! - `lower`: of a well-formed program (`IsWellFormed`) an `ir` with `IsLowering program ir`. So `ir.program` is the
+//!   program, `ir.bodies` has a body for each of its functions, under each numbering and at each bound the code means
+//!   what the program means, at a cost of at most 20 + 100 × work, and each body has the form that the passes ask for
+//!   (`mv_lowered`). It is exactly the `lower_program` of `mv_lowering` (clause `exact`).
+//! - `lower_each`: of a program whose numbers of temporaries and blocks fit 32 bits (`IsSmall`) exactly the
+//!   `lower_program` of `mv_lowering`. That the numbers of a well-formed program fit follows from the limits on programs.
+//! - Only tested: that `int main(void) { }` ends with 0, and that a `switch` of 30,000 arms is lowered and let go. By its
+//!   form its time is the size of the code times the depth of an expression, which the parser bounds by 255. `eval` and
+//!   `run` don't lower.
 #![tactic(auto)]
 
 ghost use Rattle.std.specs.Prelude.{◌≡◌, IfOk};

@@ -1,4 +1,7 @@
 //! The names of a unit are identifiers, and its domains and enumerations have members.
+//!
+//! - `units_of_texts_are_written`: in the unit that a source reads as each declared name is such an identifier, and each
+//!   written domain and enumeration has a member.
 #![tactic(auto)]
 
 ghost use Rattle.mv_unit_names.specs.Written.{UnitsOfTextsAreWritten};

@@ -2,6 +2,11 @@
 //!
 //! What they are is said by `AreVariants` (`specs/Variants.antt`) in the words of `mv_bound_bodies`, whose laws say what follows: that each means what the
 //! function means under its values and reads none of its switches, and which rows lead to it.
+//!
+//! - `variants_of`: of a function and what it is lowered to, the body under each assignment of its switches, bound,
+//!   folded and with its temporaries renamed, and equal bodies as one, each with the guard rows that lead to it
+//!   (`AreVariantsOf`). By `mv_bound_bodies` each means what the function means under its values, and reads none of its
+//!   switches.
 #![tactic(auto)]
 
 ghost use Rattle.std.specs.Prelude.{◌≡◌, true, slice_get, IfOk};
