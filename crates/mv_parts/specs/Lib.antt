@@ -1,0 +1,5 @@
+pub mod Numbers
+pub mod Codes
+pub mod Switches
+pub mod Parts
+pub mod Counts
