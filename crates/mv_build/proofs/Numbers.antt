@@ -1,5 +1,5 @@
 -- The numbers of attributed functions.
-use Rattle.std.proofs.Common.{◌≡◌, ℕ, zero, suc, ◌+◌, Bool, true, false, cond, List, [], ◌∷◌, Some, length, filter, slice_get, refl, ap, arith}
+use Rattle.std.proofs.Common.{◌≡◌, ℕ, zero, suc, ◌+◌, Bool, true, false, cond, List, [], ◌∷◌, Some, length, filter, slice_get, refl, sym, ap, subst, arith}
 use Rattle.mv_ast.specs.declared.program.Program.{Program}
 use Rattle.mv_ast.specs.declared.program.Function.{Function}
 use Rattle.mv_parts.specs.Numbers.{attributed_from, attributed_numbers}
@@ -39,7 +39,7 @@ pub is_attributed : (p : Program) (n f : ℕ) → slice_get (attributed_numbers 
 is_attributed p n f e =
     let h = numbered 0 p.functions n f e in
     let is = h.is in
-    let same : f ≡ h.place = omega (arith, is) in record { function = h.function; there = rw same h.there; attributed = h.attributed }
+    let same : f ≡ h.place = omega (arith, is) in record { function = h.function; there = subst (λ i. slice_get p.functions i ≡ Some h.function) (sym same) h.there; attributed = h.attributed }
 
 -- there is one for each attributed function
 pub count_is : (k : ℕ) (fs : List Function) → length (attributed_from k fs) ≡ length (filter (λ (g : Function). g.attributed) fs)

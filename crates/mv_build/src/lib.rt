@@ -40,7 +40,6 @@ use mv_checked_facts::programs_of_texts_have_table_facts;
 use mv_checked_programs::programs_of_texts_are_well_formed;
 use mv_first_data::data_law;
 use mv_front::{front, one_verdict};
-use mv_lowered_forms::lowered_forms_are_right;
 use mv_lowered_names::{lowered_names_are_there, renaming_keeps_names};
 use mv_parts::parts_law;
 use std::alloc::Global;
@@ -82,7 +81,6 @@ pub fn compiled(alloc: Global, program: Program) -> Result<Built, BuildError>
     parts_law();
     rows_lead_to_variants();
     made_bodies_are_variants();
-    lowered_forms_are_right();
     lowered_names_are_there();
     renaming_keeps_names();
     data_law();
