@@ -2,6 +2,6 @@ pub mod Lists
 pub mod Functions
 pub mod Compiling
 pub mod Numbers
-pub mod Switches
+pub mod PartSwitches
 pub mod Fitting
 pub mod Tables
