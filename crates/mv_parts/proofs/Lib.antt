@@ -1,0 +1,10 @@
+pub mod LinkedLists
+pub mod LinkedNumbers
+pub mod LinkedNames
+pub mod LinkedSwitches
+pub mod LinkedCode
+pub mod LinkedVariants
+pub mod LinkedParts
+pub mod LinkedTables
+pub mod LinkedCounts
+pub mod CountsOfParts
