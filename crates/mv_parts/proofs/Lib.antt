@@ -1,3 +1,10 @@
+pub mod Lists
+pub mod Functions
+pub mod Compiling
+pub mod Numbers
+pub mod Switches
+pub mod Fitting
+pub mod Tables
 pub mod LinkedLists
 pub mod LinkedNumbers
 pub mod LinkedNames
