@@ -41,12 +41,14 @@ functions_counted what (a ∷ attributed) =
     )
 
 -- the functions' own code, and that of all variants
-pub parts_counted : (what : Counted) (parts : Parts) (own all : ℕ) → own ≡ up_to_greatest (0 + sum_by (count_in what) parts.functions) →
-    all ≡ up_to_greatest (own + sum_by (count_in_function what) parts.attributed) → all ≡ up_to_greatest (count_in_parts what parts)
-parts_counted what parts own all first second =
+pub parts_counted : (what : Counted) (parts : Parts) (functions : List Labelled) (attributed : List PartFunction) (own all : ℕ) → functions ≡ parts.functions → attributed ≡ parts.attributed →
+    own ≡ up_to_greatest (0 + sum_by (count_in what) functions) → all ≡ up_to_greatest (own + sum_by (count_in_function what) attributed) → all ≡ up_to_greatest (count_in_parts what parts)
+parts_counted what parts functions attributed own all functions_are attributed_are first second =
+    let own_codes = ap (sum_by (count_in what)) functions_are in
+    let others = ap (sum_by (count_in_function what)) attributed_are in
     let variants = functions_counted what parts.attributed in
     let sum = sum_by-append (count_in what) parts.functions (variant_codes (function_variants parts.attributed)) in
-    omega (arith, first, second, variants, sum)
+    omega (arith, first, second, own_codes, others, variants, sum)
 
 -- ---- labels
 

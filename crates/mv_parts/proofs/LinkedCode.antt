@@ -31,7 +31,7 @@ use Rattle.mv_linker.specs.Linked.{IsFunction, IsTarget, NamesAreThere}
 use Rattle.mv_linker.specs.Tables.{is_slot, BeginsWithWords, CallsAmong}
 use Rattle.mv_parts.specs.Codes.{IsCodeOf}
 use Rattle.mv_parts.specs.Numbers.{attributed_numbers}
-use Rattle.mv_parts.proofs.LinkedNumbers.{attributed_there}
+use Rattle.mv_parts.proofs.LinkedNumbers.{number_of}
 
 -- what is known of lowered bodies, of the variants that are made of them, and of selected code
 pub record Laws : Type 0 where
@@ -133,7 +133,7 @@ module _ (laws : Laws) (p : Program) (attributed : Bool) (b : Body) (code : Labe
   slot (Jump rd l) h = tt
   slot (Branch funct3 rs1 rs2 l) h = tt
   slot (Entry rd f) h = tt
-  slot (Slot f) h = attributed_there p f (names.marked f h.1)
+  slot (Slot f) h = number_of p f (names.marked f h.1)
 
   first_is : (rest : List Line) (line : Line) → code.items ≡ line ∷ rest → least_words line ≡ 1 → is_slot line ≡ false → BeginsWithWords code
   first_is rest line e words slotless = record {

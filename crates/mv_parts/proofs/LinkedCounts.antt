@@ -25,7 +25,7 @@ use Rattle.mv_linker.specs.Tables.{is_slot, slot_count, site_count}
 use Rattle.mv_variants.specs.declared.variant.Variant.{Variant}
 use Rattle.mv_parts.specs.Laws.{PartsAreCounted}
 use Rattle.mv_parts.specs.Parts.{AreCodesOf}
-use Rattle.mv_parts.proofs.LinkedLists.{some_at, some_same, all_by_index, map_at}
+use Rattle.mv_parts.proofs.Lists.{some_at, some_same, all_by_index, map_at}
 use Rattle.mv_parts.proofs.LinkedParts.{IsOwnCode, IsAttributedPart, variant_part, own_code, as_many_parts, attributed_part}
 use Rattle.mv_parts.proofs.LinkedVariants.{made_variant, few_variants}
 

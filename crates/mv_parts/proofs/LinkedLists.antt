@@ -1,4 +1,4 @@
--- Elements of lists by their index.
+-- Elements of lists, and lists joined.
 use Rattle.std.proofs.Common.{◌≡◌, ℕ, zero, suc, ◌+◌, ◌<◌, List, [], ◌∷◌, ◌++◌, Some, length, map, slice_get, All, refl, sym, ap, ◌∙◌, subst, arith}
 use Rattle.std.specs.List.{flat_map}
 use Rattle.std.proofs.lemmas.List.{map-append}
@@ -10,35 +10,14 @@ use Rattle.mv_ir.specs.Measures.{joined}
 use Rattle.mv_linker.specs.declared.parts.PartFunction.{PartFunction}
 use Rattle.mv_linker.specs.declared.parts.PartVariant.{PartVariant}
 use Rattle.mv_linker.specs.Linked.{function_variants, variant_codes}
+use Rattle.mv_parts.proofs.Lists.{all_by_index, map_at}
 
--- below its length a list has an element
-pub some_at : {X : Type 0} (xs : List X) (i : ℕ) → i < length xs → (x : X) × (slice_get xs i ≡ Some x)
-some_at [] i h = absurd (omega (arith, h))
-some_at (x ∷ xs) zero h = (x, refl)
-some_at (x ∷ xs) (suc i) h = some_at xs i (omega (arith, h))
-
-pub some_same : {X : Type 0} (x y : X) → Some x ≡ Some y → x ≡ y
-some_same x y e = cc
-
--- what holds of each element by its index holds of all
-pub all_by_index : {X : Type 0} (P : X → Type 0) (xs : List X) → ((i : ℕ) (x : X) → slice_get xs i ≡ Some x → P x) → All P xs
-all_by_index P [] h = All-nil P
-all_by_index P (x ∷ xs) h = All-cons P x xs (h 0 x refl) (all_by_index P xs (λ i y is. h (suc i) y is))
-
--- and the other way round
-pub one_at : {X : Type 0} (P : X → Type 0) (xs : List X) → All P xs → (i : ℕ) (x : X) → slice_get xs i ≡ Some x → P x
-one_at P xs all i x is = subst P (get_or_from_slice_get xs i x x is) (All-get_or P xs i x (slice_get_within xs i x is) all)
-
+-- what stands in a list
 pub one_in : {X : Type 0} (P : X → Type 0) (xs : List X) → All P xs → (x : X) → In x xs → P x
 one_in P xs all x (i, below, is) = subst P (is x) (All-get_or P xs i x below all)
 
 pub in_at : {X : Type 0} (xs : List X) (i : ℕ) (x : X) → slice_get xs i ≡ Some x → In x xs
 in_at xs i x e = (i, slice_get_within xs i x e, λ d. get_or_from_slice_get xs i x d e)
-
-pub map_at : {X Y : Type 0} (f : X → Y) (xs : List X) (i : ℕ) (x : X) → slice_get xs i ≡ Some x → slice_get (map f xs) i ≡ Some (f x)
-map_at f [] i x e = absurd (cc e)
-map_at f (y ∷ xs) zero x e = ap (λ z. Some (f z)) (some_same y x e)
-map_at f (y ∷ xs) (suc i) x e = map_at f xs i x e
 
 pub in_map : {X Y : Type 0} (f : X → Y) (xs : List X) (x : X) → In x xs → In (f x) (map f xs)
 in_map f xs x (i, below, is) = in_at (map f xs) i (f x) (map_at f xs i x (slice_get-get_or xs i x below ∙ ap (λ y. Some y) (is x)))

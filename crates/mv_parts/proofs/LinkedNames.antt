@@ -13,7 +13,7 @@ use Rattle.mv_lexer.specs.declared.table.Table.{Table}
 use Rattle.mv_lexer.specs.declared.table.Table.TheVariants.{Keywords, UnsupportedKeywords}
 use Rattle.mv_source_facts.specs.Facts.{IsName}
 use Rattle.mv_linker.specs.Tables as linker
-use Rattle.mv_parts.proofs.LinkedLists.{all_by_index}
+use Rattle.mv_parts.proofs.Lists.{all_by_index}
 
 -- ---- bytes
 

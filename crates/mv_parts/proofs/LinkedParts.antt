@@ -16,8 +16,10 @@ use Rattle.mv_variants.specs.Variants.{AreVariants}
 use Rattle.mv_parts.specs.Codes.{IsCodeOf}
 use Rattle.mv_parts.specs.Numbers.{attributed_numbers}
 use Rattle.mv_parts.specs.Parts.{IsPartVariant, ArePartVariants, IsPartFunction, AreCodesOf}
-use Rattle.mv_parts.proofs.LinkedLists.{some_at, some_same}
-use Rattle.mv_parts.proofs.LinkedNumbers.{attributed_at, as_many}
+use Rattle.mv_parts.proofs.Lists.{some_at}
+use Rattle.mv_fit_worlds.proofs.Functions.{attributed_at as nth_attributed}
+use Rattle.mv_parts.proofs.LinkedNumbers.{as_many}
+use Rattle.mv_parts.proofs.Numbers.{attributed_at, place_of}
 
 -- the code of the function with a number, and the body that it is selected for
 pub record IsOwnCode (p : Program) (f : ℕ) (code : Labelled) : Type 0 where
@@ -76,17 +78,14 @@ module _ (p : Program) (bodies : List Body) (tables : List (List Variant)) (func
       let tables_count = are.are_tables.one_each in
       let (f, among) = some_at (attributed_numbers p) n (omega (arith, within, count)) in
       let (variants, table) = some_at tables n (omega (arith, within, count, tables_count)) in
-      let at = attributed_at 0 p.functions n f among in
-      let number = at.is in
-      let same : at.index ≡ f = omega (arith, number) in
-      let there : slice_get p.functions f ≡ Some at.function = subst (λ i. slice_get p.functions i ≡ Some at.function) same at.there in
+      let at = attributed_at p n f among in
       record {
         number = f;
         function = at.function;
-        there = there;
+        there = at.there;
         attributed = at.attributed;
-        nth = at.nth;
+        nth = subst (λ m. slice_get (attributed_functions p) m ≡ Some at.function) (place_of p n f among) (nth_attributed p.functions f at.function at.there at.attributed);
         variants = variants;
-        variants_are = are.are_tables.each n f variants among table at.function there;
-        part = are.variants.each n f at.function variants a among there table is;
+        variants_are = are.are_tables.each n f variants among table at.function at.there;
+        part = are.variants.each n f at.function variants a among at.there table is;
       }

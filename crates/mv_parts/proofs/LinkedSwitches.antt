@@ -23,7 +23,8 @@ use Rattle.mv_first_data.specs.Laws.{HasRoom, CountIsSum}
 use Rattle.mv_variants.specs.Domains.{integer_kind, kind_or_int, switch_kind, domain}
 use Rattle.mv_parts.specs.Switches.{HasSwitches, name_or_none, word_of, part_switch, part_switches}
 use Rattle.mv_parts.specs.Laws.{SwitchesAreThere, DataIsCounted}
-use Rattle.mv_parts.proofs.LinkedLists.{some_at, some_same, map_at, one_at, one_in}
+use Rattle.mv_parts.proofs.LinkedLists.{one_in}
+use Rattle.mv_parts.proofs.Lists.{some_at, some_same, map_at, one_of_all}
 use Rattle.mv_parts.proofs.LinkedNames.{name_fits}
 
 -- ---- data
@@ -90,7 +91,7 @@ pub record IsSwitchOf (p : Program) (n : ℕ) : Type 0 where
 
 pub switch_of : (p : Program) → HasTableFacts p → (n : ℕ) → n < length p.switches → IsSwitchOf p n
 switch_of p facts n below =
-    let (s, is) = some_at p.switches n below in record { switch = s; there = is; table = one_at (IsTableSwitch p) p.switches facts.switches n s is }
+    let (s, is) = some_at p.switches n below in record { switch = s; there = is; table = one_of_all (IsTableSwitch p) p.switches facts.switches n s is }
 
 -- its kind in the table is that of its domain
 same_kind : (p : Program) (n : ℕ) → IsSwitchOf p n → kind_in (slice_get (part_switches p) n) ≡ kind_number (switch_kind p n)

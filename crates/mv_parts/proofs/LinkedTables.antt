@@ -37,7 +37,8 @@ use Rattle.mv_parts.specs.Numbers.{attributed_numbers}
 use Rattle.mv_parts.specs.Parts.{ArePartVariants, AreCodesOf}
 use Rattle.mv_parts.specs.Switches.{part_switch, part_switches}
 use Rattle.mv_parts.proofs.LinkedCode.{Laws, FitsCode, fits_code, renamed_names, made_names}
-use Rattle.mv_parts.proofs.LinkedLists.{all_by_index, one_at, all_variants, flat_is_joined}
+use Rattle.mv_parts.proofs.LinkedLists.{all_variants, flat_is_joined}
+use Rattle.mv_parts.proofs.Lists.{all_by_index, one_of_all}
 use Rattle.mv_parts.proofs.LinkedNames.{name_fits}
 use Rattle.mv_parts.proofs.LinkedNumbers.{ascending}
 use Rattle.mv_parts.proofs.LinkedParts.{IsOwnCode, IsAttributedPart, variant_part, own_code, as_many_parts, attributed_part}
@@ -96,7 +97,7 @@ same_guards variants parts h = by variants parts h.one_each (λ j v part there i
 
 -- an attributed function of the program
 table_function : (p : Program) → HasTableFacts p → (n : ℕ) (g : Function) → slice_get (attributed_functions p) n ≡ Some g → IsTableFunction p g
-table_function p facts n g is = one_at (IsTableFunction p) (attributed_functions p) facts.functions n g is
+table_function p facts n g is = one_of_all (IsTableFunction p) (attributed_functions p) facts.functions n g is
 
 module _ (p : Program) (facts : HasTableFacts p) (fit : GroupsFit) (grouped : GroupedIsLed) (parts : Parts) (count : length parts.functions ≡ length p.functions)
     (switches : parts.switches ≡ part_switches p) (own : (f : ℕ) (code : Labelled) → slice_get parts.functions f ≡ Some code → FitsCode p code) (n : ℕ) (a : PartFunction)

@@ -27,7 +27,8 @@ use Rattle.mv_variants.specs.declared.variant.Variant.{Variant}
 use Rattle.mv_variants.specs.Domains.{switch_kind, domain}
 use Rattle.mv_variants.specs.Variants.{guards_of, AreVariants}
 use Rattle.mv_variants.proofs.Rows.{combination_length}
-use Rattle.mv_parts.proofs.LinkedLists.{some_at, map_at, in_at, in_map}
+use Rattle.mv_parts.proofs.LinkedLists.{in_at, in_map}
+use Rattle.mv_parts.proofs.Lists.{some_at, map_at}
 
 -- ---- combinations of words
 
