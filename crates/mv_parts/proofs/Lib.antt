@@ -2,7 +2,7 @@ pub mod Lists
 pub mod Functions
 pub mod Compiling
 pub mod Numbers
-pub mod Switches
+pub mod PartSwitches
 pub mod Fitting
 pub mod Tables
 pub mod LinkedLists

@@ -1,8 +1,7 @@
 -- Tables of variants, and what is linked of them, one more at a time.
 use Rattle.std.proofs.Common.{arith, ◌≡◌, ℕ, ◌+◌, ◌<◌, List, [], ◌∷◌, ◌++◌, Some, length, map, take, get_or, slice_get, refl, sym, ap, ◌∙◌, subst}
-use Rattle.std.proofs.lemmas.List.{take_more, length-map, length-take-le}
-use Rattle.std.proofs.lemmas.Option.{slice_get_read}
-use Rattle.mv_ir.proofs.Keeping.{map_append}
+use Rattle.std.proofs.lemmas.List.{take_more, length-map, length-take-le, map-append}
+use Rattle.std.proofs.lemmas.Option.{slice_get_within, slice_get_read}
 use Rattle.mv_ast.specs.declared.program.Program.{Program}
 use Rattle.mv_ast.specs.declared.program.Function.{Function}
 use Rattle.mv_ir.specs.declared.body.Body.{Body}
@@ -12,8 +11,9 @@ use Rattle.mv_lowering.specs.Functions.{lower_function}
 use Rattle.mv_variants.specs.declared.variant.Variant.{Variant}
 use Rattle.mv_variants.specs.Variants.{AreVariantsOf, IsLoweredFrom}
 use Rattle.mv_parts.specs.Numbers.{attributed_numbers}
-use Rattle.mv_parts.specs.Parts.{IsPartVariant, IsPartFunction}
+use Rattle.mv_parts.specs.Parts.{AreTables, IsPartVariant, IsPartFunction}
 use Rattle.mv_parts.proofs.Lists.{some_same, each_push, map_at}
+use Rattle.mv_parts.proofs.Numbers.{attributed_at}
 
 -- ---- tables
 
@@ -95,11 +95,23 @@ module _ (p : Program) (tables : List (List Variant)) where
           subst (λ i. IsPartFunction x i zs part) same_number
           (subst (λ (ys : List Variant). IsPartFunction x f ys part) same_variants (subst (λ (y : Function). IsPartFunction y f variants part) same_function is))
 
+-- the function of an attributed number
+pub function_at : (p : Program) (n f : ℕ) → slice_get (attributed_numbers p) n ≡ Some f → (functions : List Function) → functions ≡ p.functions → (g : Function) → g ≡ get_or functions f g →
+    slice_get p.functions f ≡ Some g
+function_at p n f at functions e g is =
+    let a = attributed_at p n f at in
+    slice_get_read p.functions (length p.functions) f g refl (slice_get_within p.functions f a.function a.there) (is ∙ ap (λ xs. get_or xs f g) e)
+
+-- the table of its place
+pub table_at : (p : Program) (tables : List (List Variant)) → AreTables p tables → (numbers : List ℕ) → numbers ≡ attributed_numbers p → (n : ℕ) → n < length numbers →
+    (variants : List Variant) → variants ≡ get_or tables n variants → slice_get tables n ≡ Some variants
+table_at p tables are numbers e n below variants is = slice_get_read tables (length tables) n variants refl (omega (arith, are.one_each, ap length e, below)) is
+
 -- the numbers of one part more
 pub numbers_push : (numbers : List ℕ) (n d : ℕ) (parts : List PartFunction) (part : PartFunction) → n < length numbers → map (λ (a : PartFunction). a.function) parts ≡ take n numbers →
     part.function ≡ get_or numbers n d → map (λ (a : PartFunction). a.function) (parts ++ part ∷ []) ≡ take (n + 1) numbers
 numbers_push numbers n d parts part below is e =
-    map_append (λ (a : PartFunction). a.function) parts (part ∷ []) ∙ ap (λ xs. xs ++ part.function ∷ []) is ∙ ap (λ k. take n numbers ++ k ∷ []) e ∙ sym (take_more numbers n d below)
+    map-append (λ (a : PartFunction). a.function) parts (part ∷ []) ∙ ap (λ xs. xs ++ part.function ∷ []) is ∙ ap (λ k. take n numbers ++ k ∷ []) e ∙ sym (take_more numbers n d below)
 
 -- there are as many parts as numbers
 pub parts_count : (numbers : List ℕ) (n : ℕ) (parts : List PartFunction) → n < length numbers → map (λ (a : PartFunction). a.function) parts ≡ take n numbers → length parts ≡ n

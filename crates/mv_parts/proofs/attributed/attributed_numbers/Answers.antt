@@ -1,6 +1,9 @@
-use Rattle.std.proofs.Common.{arith}
+use Rattle.std.proofs.Common.{arith, ap, length}
 use Rattle.mv_parts.proofs.Numbers.{numbers_step}
 use Rattle.mv_parts.proofs.attributed.attributed_numbers.Goals as goal
+
+pub overflow_add-number : goal.overflow_add-number
+overflow_add-number c = omega (arith, ap length c.as_slice-function-items.ensures, c.loop-function.invariant.place, c.requires)
 
 pub loop-function-preserved : goal.loop-function-preserved
 loop-function-preserved c = record {

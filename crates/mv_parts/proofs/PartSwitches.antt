@@ -1,8 +1,7 @@
 -- Switches, and the words of the globals before one, one more at a time.
 use Rattle.std.proofs.Common.{arith, ◌≡◌, ℕ, ◌+◌, ◌<◌, ◌≤◌, ◌^◌, List, [], ◌∷◌, ◌++◌, Some, length, map, sum, take, get_or, slice_get, refl, sym, ap, ◌∙◌}
-use Rattle.std.specs.List.{sum_by}
 use Rattle.std.proofs.lemmas.List.{take-map, map_more}
-use Rattle.std.proofs.lemmas.List.Sums.{sum_by-take-le, sum_by_more_le, sum-map}
+use Rattle.std.proofs.lemmas.List.Sums.{sum_by-take-le, sum_by_more, sum_by_more_le, sum-map}
 use Rattle.mv_num.specs.declared.kind.Kind.{Kind}
 use Rattle.mv_ast.specs.declared.program.Program.{Program}
 use Rattle.mv_ast.specs.declared.program.Global.{Global}
@@ -12,7 +11,7 @@ use Rattle.mv_ast.specs.Plans.{global_or_none}
 use Rattle.mv_linker.specs.declared.parts.PartSwitch.{PartSwitch}
 use Rattle.mv_first_data.specs.FirstData.{global_sizes, data_words}
 use Rattle.mv_variants.specs.Domains.{kind_or_int, switch_kind}
-use Rattle.mv_parts.specs.Switches.{name_or_none, word_of, part_switch, HasSwitches}
+use Rattle.mv_parts.specs.Switches.{name_or_none, words_of, word_of, part_switch, HasSwitches}
 use Rattle.mv_parts.proofs.Lists.{one_of_all}
 
 -- ---- switches
@@ -37,20 +36,29 @@ switches_step p n s old new part below here is part_is e =
 
 -- ---- words
 
-abbrev pub size_of : Global → ℕ
+abbrev size_of : Global → ℕ
 size_of g = words_of_size g.size
 
--- the words of the first globals, and of the next, are among all
-pub words_fit : (p : Program) → HasSwitches p → (global k : ℕ) (gs : List Global) (g : Global) (word size : ℕ) → gs ≡ take global p.globals → k < length gs → g ≡ get_or gs k g →
-    word ≡ sum (map size_of (take k gs)) → size ≡ size_of g → word + size < 2 ^ 32
-words_fit p has global k gs g word size are below here sum_is size_is =
-    let so_far = sum_by_more_le size_of gs k g below in
-    let first = sum_by-take-le size_of p.globals global in
-    let same = ap (sum_by size_of) are in
-    let next = ap size_of here in
-    let few = has.words in
-    omega (arith, so_far, first, same, next, few, sum_is, size_is, sum-map size_of (take k gs), sum-map size_of p.globals)
+-- the words of the first globals, and of the next, are among those of all
+pub next_fits : (gs : List Global) (k : ℕ) (g : Global) → k < length gs → g ≡ get_or gs k g → words_of (take k gs) + words_of_size g.size ≤ words_of gs
+next_fits gs k g below here =
+    let next = sum_by_more_le size_of gs k g below in
+    let same = ap size_of here in
+    omega (arith, next, same, sum-map size_of (take k gs), sum-map size_of gs)
 
--- the words of the first globals are those of the first sizes
-pub words_are : (p : Program) (global : ℕ) → sum (map size_of (take global p.globals)) ≡ word_of p global
+pub next_counts : (gs : List Global) (k : ℕ) (g : Global) → k < length gs → g ≡ get_or gs k g → words_of (take (k + 1) gs) ≡ words_of (take k gs) + words_of_size g.size
+next_counts gs k g below here =
+    let next = sum_by_more size_of gs k g below in
+    let same = ap size_of here in
+    omega (arith, next, same, sum-map size_of (take k gs), sum-map size_of (take (k + 1) gs))
+
+-- the words of the first globals are few
+pub first_fit : (p : Program) → HasSwitches p → (global : ℕ) → words_of (take global p.globals) < 2 ^ 32
+first_fit p has global =
+    let first = sum_by-take-le size_of p.globals global in
+    let few = has.words in
+    omega (arith, first, few, sum-map size_of (take global p.globals), sum-map size_of p.globals)
+
+-- they are those of the first sizes
+pub words_are : (p : Program) (global : ℕ) → words_of (take global p.globals) ≡ word_of p global
 words_are p global = ap sum (sym (take-map size_of global p.globals))
