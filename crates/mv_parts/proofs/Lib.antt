@@ -5,3 +5,13 @@ pub mod Numbers
 pub mod PartSwitches
 pub mod Fitting
 pub mod Tables
+pub mod LinkedLists
+pub mod LinkedNumbers
+pub mod LinkedNames
+pub mod LinkedSwitches
+pub mod LinkedCode
+pub mod LinkedVariants
+pub mod LinkedParts
+pub mod LinkedTables
+pub mod LinkedCounts
+pub mod CountsOfParts

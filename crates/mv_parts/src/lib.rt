@@ -4,9 +4,11 @@
 mod attributed;
 mod counts;
 mod generics;
+mod laws;
 mod switches;
 
 pub use attributed::{attributed_numbers, part_functions, tables_of};
 pub use counts::{Counted, labels_fit, site_count};
 pub use generics::{codes_of, generics_of};
+pub use laws::parts_law;
 pub use switches::part_switches;
