@@ -1,5 +1,5 @@
 -- What is linked of a program, and what goes into tables.
-use Rattle.std.proofs.Common.{◌≡◌, ⊎_elim, ℕ, zero, suc, ◌+◌, ◌<◌, ◌≤◌, true, List, [], ◌∷◌, ◌++◌, Some, length, map, slice_get, slice_index, All, refl, sym, ap, ◌∙◌, subst, arith}
+use Rattle.std.proofs.Common.{◌≡◌, ⊎_elim, ℕ, suc, ◌<◌, ◌≤◌, true, List, [], ◌∷◌, ◌++◌, Some, length, map, slice_get, All, refl, sym, ap, ◌∙◌, subst, arith}
 use Rattle.std.specs.List.Sorted.{IsStrictlyIncreasing}
 use Rattle.std.proofs.lemmas.List.{length-map}
 use Rattle.std.proofs.lemmas.List.Elements.{All-append, All-weaker}
@@ -120,7 +120,7 @@ module _ (p : Program) (facts : HasTableFacts p) (fit : GroupsFit) (grouped : Gr
       let group = group_of p g h.variants h.variants_are fit j v.variant v.there in
       let valued = all_valued p facts g.switches table.there in
       let ranges : All (IsRange (kinds domains)) v.variant.guards =
-          all_by_index (IsRange (kinds domains)) v.variant.guards (λ i row at. range_fits domains valued row (group.ranges i row at) (group.clean i row at)) in
+      all_by_index (IsRange (kinds domains)) v.variant.guards (λ i row at. range_fits domains valued row (group.ranges i row at) (group.clean i row at)) in
       let same = v.is.guards in record {
         begins = (codes_fit j part is).begins;
         some = let some = group.some in let long = ap length same in omega (arith, some, long);
