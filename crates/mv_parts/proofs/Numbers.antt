@@ -60,7 +60,7 @@ record IsNumbered (first : ℕ) (gs : List Function) (n k : ℕ) : Type 0 where
 later : (b : Bool) (f : ℕ) (x : Function) (gs : List Function) (n k : ℕ) → x.attributed ≡ b → IsNumbered (suc f) gs n k → IsNumbered f (x ∷ gs) (cond b 1 0 + n) k
 later b f x gs n k e h =
     let counted = sum_by-cons (λ (g : Function). cond g.attributed 1 0) x (take h.index gs) in
-    let here = ap {B = ℕ} (λ t. cond t 1 0) e in
+    let here : cond x.attributed 1 0 ≡ cond b 1 0 = ap (λ (t : Bool). cond t 1 0) e in
     record {
       index = suc h.index;
       function = h.function;

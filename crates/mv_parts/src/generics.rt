@@ -50,7 +50,11 @@ pub fn codes_of(
 {
     let mut codes = List::new(alloc);
     for (number, body) in generics.as_slice().iter().enumerate() {
-        codes.push(code_of(alloc, program, number as u32, body)?)?;
+        let code = code_of(alloc, program, number as u32, body)?;
+        match codes.push(code) {
+            Ok(()) => {}
+            Err(_) => return Err(SelectError::Memory(AllocError)),
+        }
     }
     Ok(codes)
 }
