@@ -1,5 +1,5 @@
 -- What is counted of the code of parts, function by function, and in how many labels it comes to.
-use Rattle.std.proofs.Common.{◌≡◌, ℕ, ◌+◌, ◌<◌, ◌≤◌, List, [], ◌∷◌, length, map, min, sum_by, refl, ap, arith, ltb}
+use Rattle.std.proofs.Common.{◌≡◌, ℕ, ◌+◌, List, [], ◌∷◌, length, sum_by, refl, ap, arith, ltb}
 use Rattle.std.specs.Prelude.{◌↔◌, IsTrue}
 use Rattle.std.proofs.lemmas.Bool.{ltb-true, lt-ltb}
 use Rattle.std.proofs.lemmas.List.{map-append}
@@ -11,7 +11,6 @@ use Rattle.mv_linker.specs.declared.parts.PartVariant.{PartVariant}
 use Rattle.mv_linker.specs.Linked.{codes, function_variants, variant_codes, label_count}
 use Rattle.mv_parts.specs.declared.counts.Counted.{Counted}
 use Rattle.mv_parts.specs.declared.counts.Counted.TheVariants.{Labels}
-use Rattle.mv_parts.specs.Codes.{greatest_count}
 use Rattle.mv_parts.specs.Counts.{up_to_greatest, count_in, count_in_variant, count_in_function, count_in_parts, HaveFewLabels}
 
 -- one count behind another, both as far as they go

@@ -1,5 +1,5 @@
 -- Counts over the source bound what is linked of a program.
-use Rattle.std.proofs.Common.{◌≡◌, ℕ, suc, ◌+◌, ◌*◌, ◌<◌, ◌≤◌, true, cond, List, [], ◌∷◌, ◌++◌, Some, length, map, slice_get, sum, sum_by, refl, sym, ap, ◌∙◌, subst, arith}
+use Rattle.std.proofs.Common.{◌≡◌, ℕ, ◌≤◌, true, cond, List, [], ◌∷◌, Some, length, map, slice_get, sum, sum_by, refl, sym, ap, ◌∙◌, subst, arith}
 use Rattle.std.proofs.lemmas.List.{length-map, map-append}
 use Rattle.std.proofs.lemmas.List.Sums.{sum_by-cons, sum_by-append}
 use Rattle.std.proofs.lemmas.Option.{slice_get_within}
@@ -11,17 +11,15 @@ use Rattle.mv_isa.specs.declared.labelled.Labelled.{Labelled}
 use Rattle.mv_isa.specs.declared.labelled.Line.{Line}
 use Rattle.mv_isa.specs.declared.labelled.Line.TheVariants.{Word, Label, Jump, Branch, Entry, Slot}
 use Rattle.mv_ir.specs.declared.body.Body.{Body}
-use Rattle.mv_lowered_programs.specs.WellFormed.{IsWellFormed}
 use Rattle.mv_bound_bodies.specs.Led.{BodiesAreMade}
 use Rattle.mv_bound_bodies.specs.Slots.{slots}
 use Rattle.mv_bound_bodies.specs.Tables.{GroupsFit}
 use Rattle.mv_code_sizes.specs.Sizes.{renamed, bound}
 use Rattle.mv_code_sizes.specs.Texts as source
-use Rattle.mv_linker.specs.declared.parts.Parts.{Parts}
 use Rattle.mv_linker.specs.declared.parts.PartFunction.{PartFunction}
 use Rattle.mv_linker.specs.declared.parts.PartVariant.{PartVariant}
 use Rattle.mv_linker.specs.Linked.{function_variants, variant_codes}
-use Rattle.mv_linker.specs.Tables.{is_slot, slot_count, site_count}
+use Rattle.mv_linker.specs.Tables.{is_slot, slot_count}
 use Rattle.mv_variants.specs.declared.variant.Variant.{Variant}
 use Rattle.mv_parts.specs.Laws.{PartsAreCounted}
 use Rattle.mv_parts.specs.Parts.{AreCodesOf}

@@ -1,5 +1,5 @@
 -- A name in a source is an identifier of the format of images.
-use Rattle.std.proofs.Common.{◌≡◌, ℕ, ◌<◌, refl, sym, ◌∙◌, ap, Bool, true, false, ◌||◌, ◌&&◌, ◌==◌, nat_le, List, [], ◌∷◌, ◌++◌, length, get_or, Some, slice_get, slice_index, All}
+use Rattle.std.proofs.Common.{◌≡◌, ℕ, refl, sym, ◌∙◌, ap, Bool, true, false, ◌||◌, ◌&&◌, ◌==◌, nat_le, List, [], ◌∷◌, ◌++◌, slice_index, All}
 use Rattle.std.specs.Str.{bytes_eq}
 use Rattle.std.proofs.lemmas.Bool.{or_from}
 use Rattle.std.proofs.lemmas.List.Elements.{All-nil, All-cons, All-head, All-tail, All-append}
@@ -7,7 +7,7 @@ use Rattle.std.proofs.lemmas.Option.{slice_get_within, get_or_from_slice_get}
 use Rattle.std.proofs.lemmas.Slice.Eq.{bytes_eq-Decides}
 use Rattle.mv_image.specs.Format.{IsIdentifier}
 use Rattle.mv_image.specs.Names.{is_letter, is_digit, is_one_of, first_words, second_words, third_words, fourth_words, fifth_words, is_keyword}
-use Rattle.mv_lexer.specs.Bytes.{is_nondigit, is_identifier_byte}
+use Rattle.mv_lexer.specs.Bytes.{is_nondigit}
 use Rattle.mv_lexer.specs.Tables.{keywords, unsupported_keywords, entries, IsEntry}
 use Rattle.mv_lexer.specs.declared.table.Table.{Table}
 use Rattle.mv_lexer.specs.declared.table.Table.TheVariants.{Keywords, UnsupportedKeywords}

@@ -1,5 +1,5 @@
 -- The switches of a well-formed program: their places in data, and their kinds.
-use Rattle.std.proofs.Common.{◌≡◌, ℕ, zero, suc, ◌+◌, ◌*◌, ◌<◌, ◌≤◌, ◌^◌, true, List, [], ◌∷◌, Some, Option, length, map, take, get_or, slice_get, slice_index, sum, sum_by, All, refl, sym, ap, ◌∙◌, subst, arith}
+use Rattle.std.proofs.Common.{◌≡◌, ℕ, zero, suc, ◌<◌, ◌≤◌, true, List, [], ◌∷◌, Some, Option, length, map, get_or, slice_get, slice_index, sum_by, All, refl, sym, ap, ◌∙◌, subst, arith}
 use Rattle.std.proofs.lemmas.List.{length-map}
 use Rattle.std.proofs.lemmas.List.Elements.{All-head, All-tail, All-map, All-weaker}
 use Rattle.std.proofs.lemmas.List.Sums.{sum-map, sum_by-le, sum_by_more_le}
@@ -18,10 +18,10 @@ use Rattle.mv_descriptors.specs.declared.rows.GuardRow.{GuardRow}
 use Rattle.mv_descriptors.specs.Rows.{ZerosFrom}
 use Rattle.mv_ir.specs.Combinations.{In}
 use Rattle.mv_linker.specs.Tables.{FitsPartSwitch, IsName, IsRange, kind_in, kinds_of}
-use Rattle.mv_first_data.specs.FirstData.{first_data, global_sizes, data_words}
+use Rattle.mv_first_data.specs.FirstData.{global_sizes, data_words}
 use Rattle.mv_first_data.specs.Laws.{HasRoom, CountIsSum}
 use Rattle.mv_variants.specs.Domains.{integer_kind, kind_or_int, switch_kind, domain}
-use Rattle.mv_parts.specs.Switches.{HasSwitches, name_or_none, word_of, part_switch, part_switches}
+use Rattle.mv_parts.specs.Switches.{name_or_none, word_of, part_switch, part_switches}
 use Rattle.mv_parts.specs.Laws.{SwitchesAreThere, DataIsCounted}
 use Rattle.mv_parts.proofs.LinkedLists.{one_in}
 use Rattle.mv_parts.proofs.Lists.{some_at, some_same, map_at, one_of_all}

@@ -1,5 +1,5 @@
 -- The variants of an attributed function: their bodies, and the rows that lead to them.
-use Rattle.std.proofs.Common.{◌≡◌, ℕ, zero, suc, ◌+◌, ◌<◌, ◌≤◌, ◌^◌, Bool, true, false, cond, eqb, List, [], ◌∷◌, Some, Option, length, map, slice_get, slice_index, All, refl, sym, ap, ◌∙◌, subst, arith}
+use Rattle.std.proofs.Common.{◌≡◌, ℕ, zero, suc, ◌<◌, ◌≤◌, ◌^◌, Bool, true, false, cond, eqb, List, [], ◌∷◌, Some, length, map, slice_get, refl, sym, ap, ◌∙◌, subst, arith}
 use Rattle.std.specs.List.{zip}
 use Rattle.std.proofs.lemmas.List.{length-map}
 use Rattle.std.proofs.lemmas.List.Elements.{All-get_or}
@@ -10,7 +10,7 @@ use Rattle.mv_ast.specs.Counts.{assignments}
 use Rattle.mv_ast.specs.Plans.{switch_domain}
 use Rattle.mv_descriptors.specs.declared.rows.GuardRow.{GuardRow}
 use Rattle.mv_ir.specs.declared.body.Body.{Body}
-use Rattle.mv_ir.specs.Combinations.{In, IsCombination, AreAllCombinations}
+use Rattle.mv_ir.specs.Combinations.{IsCombination, AreAllCombinations}
 use Rattle.mv_ir.specs.Measures.{joined}
 use Rattle.mv_ir.specs.Trees.{found}
 use Rattle.mv_lowering.specs.Functions.{lower_function}
