@@ -1,5 +1,5 @@
 -- Switches, and the words of the globals before one, one more at a time.
-use Rattle.std.proofs.Common.{arith, ◌≡◌, ℕ, ◌+◌, ◌<◌, ◌≤◌, ◌^◌, List, [], ◌∷◌, ◌++◌, Some, length, map, sum, take, get_or, slice_get, refl, sym, ap, ◌∙◌}
+use Rattle.std.proofs.Common.{arith, ◌≡◌, ℕ, ◌+◌, ◌<◌, ◌≤◌, ◌^◌, List, [], ◌∷◌, ◌++◌, Some, length, map, sum, take, get_or, slice_get, sym, ap, ◌∙◌}
 use Rattle.std.proofs.lemmas.List.{take-map, map_more}
 use Rattle.std.proofs.lemmas.List.Sums.{sum_by-take-le, sum_by_more, sum_by_more_le, sum-map}
 use Rattle.mv_num.specs.declared.kind.Kind.{Kind}
@@ -9,7 +9,6 @@ use Rattle.mv_ast.specs.declared.program.Switch.{Switch}
 use Rattle.mv_ast.specs.Counts.{words_of_size}
 use Rattle.mv_ast.specs.Plans.{global_or_none}
 use Rattle.mv_linker.specs.declared.parts.PartSwitch.{PartSwitch}
-use Rattle.mv_first_data.specs.FirstData.{global_sizes, data_words}
 use Rattle.mv_variants.specs.Domains.{kind_or_int, switch_kind}
 use Rattle.mv_parts.specs.Switches.{name_or_none, words_of, word_of, part_switch, HasSwitches}
 use Rattle.mv_parts.proofs.Lists.{one_of_all}

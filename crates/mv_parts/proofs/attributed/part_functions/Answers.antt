@@ -1,5 +1,5 @@
-use Rattle.std.proofs.Common.{◌≡◌, ◌<◌, ◌∙◌, ap, length, map, take, get_or, refl, sym, subst, arith, All, List, ◌+◌, ◌++◌, ◌∷◌, []}
-use Rattle.std.proofs.lemmas.Option.{slice_get_within, slice_get_read}
+use Rattle.std.proofs.Common.{◌≡◌, ap, length, map, take, get_or, sym, subst, arith, All, List, ◌+◌, ◌++◌, ◌∷◌, []}
+use Rattle.std.proofs.lemmas.Option.{slice_get_within}
 use Rattle.mv_linker.specs.declared.parts.PartFunction.{PartFunction}
 use Rattle.mv_variants.specs.declared.variant.Variant.{Variant}
 use Rattle.mv_parts.specs.Parts.{FitsVariant, IsPartFunction}

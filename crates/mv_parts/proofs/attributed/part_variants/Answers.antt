@@ -2,7 +2,6 @@ use Rattle.std.proofs.Common.{◌≡◌, ap, length, length-append, sym, refl, s
 use Rattle.std.proofs.lemmas.Option.{slice_get_read}
 use Rattle.mv_linker.specs.declared.parts.PartVariant.{PartVariant}
 use Rattle.mv_parts.specs.Parts.{FitsVariant}
-use Rattle.mv_variants.specs.declared.variant.Variant.{Variant}
 use Rattle.mv_parts.proofs.Tables.{EachVariant, variant_push}
 use Rattle.mv_parts.proofs.attributed.part_variants.Goals as goal
 

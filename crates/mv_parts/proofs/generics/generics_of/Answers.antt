@@ -1,6 +1,5 @@
-use Rattle.std.proofs.Common.{◌≡◌, ◌∙◌, ap, length, length-append, map, sym, subst, arith, List, ◌++◌, ◌∷◌, []}
+use Rattle.std.proofs.Common.{◌≡◌, ◌∙◌, ap, length, length-append, sym, subst, arith, List, ◌++◌, ◌∷◌, []}
 use Rattle.mv_ir.specs.declared.body.Body.{Body}
-use Rattle.mv_lowering.specs.Functions.{lower_function}
 use Rattle.mv_parts.proofs.Functions.{EachRenamed, lowered_at, whole_at, temps_at, renamed_push}
 use Rattle.mv_parts.proofs.generics.generics_of.Goals as goal
 

@@ -1,4 +1,4 @@
-use Rattle.std.proofs.Common.{◌≡◌, ◌<◌, ◌∙◌, ap, length, get_or, refl, sym, arith}
+use Rattle.std.proofs.Common.{◌<◌, ◌∙◌, ap, length, get_or, refl, arith}
 use Rattle.std.proofs.lemmas.Option.{slice_get_read}
 use Rattle.mv_parts.proofs.PartSwitches.{switches_step}
 use Rattle.mv_parts.proofs.switches.part_switches.Goals as goal
