@@ -1,5 +1,5 @@
 -- What is counted of the code of parts.
-use Rattle.std.specs.Prelude.{ℕ, ◌+◌, ◌<◌, min, List, length, sum_by}
+use Rattle.std.specs.Prelude.{ℕ, ◌+◌, ◌<◌, min, length, sum_by}
 use Rattle.mv_isa.specs.declared.labelled.Labelled.{Labelled}
 use Rattle.mv_linker.specs.declared.parts.Parts.{Parts}
 use Rattle.mv_linker.specs.declared.parts.PartFunction.{PartFunction}

@@ -3,3 +3,4 @@ pub mod Codes
 pub mod Switches
 pub mod Parts
 pub mod Counts
+pub mod Laws

@@ -3,6 +3,7 @@ use Rattle.std.specs.Prelude.{ℕ, ◌<◌, ◌^◌, List, [], map, sum, take, l
 use Rattle.mv_ast.specs.declared.program.Program.{Program}
 use Rattle.mv_ast.specs.declared.program.Global.{Global}
 use Rattle.mv_ast.specs.declared.program.Switch.{Switch}
+use Rattle.mv_ast.specs.Counts.{words_of_size}
 use Rattle.mv_linker.specs.declared.parts.PartSwitch.{PartSwitch}
 use Rattle.mv_first_data.specs.FirstData.{global_sizes, data_words}
 use Rattle.mv_variants.specs.Domains.{kind_or_int}
@@ -10,6 +11,10 @@ use Rattle.mv_variants.specs.Domains.{kind_or_int}
 abbrev pub name_or_none : Option Global → List ℕ
 name_or_none None = []
 name_or_none (Some g) = g.name
+
+-- how many words some globals have together
+abbrev pub words_of : List Global → ℕ
+words_of gs = sum (map (λ (g : Global). words_of_size g.size) gs)
 
 -- the index of a global's word in data, behind those of the globals before it
 abbrev pub word_of : Program → ℕ → ℕ

@@ -1,6 +1,6 @@
 //! Attributed functions, with their variants.
 
-ghost use Rattle.std.specs.Prelude.{◌≡◌, ◌<◌, ◌≤◌, ◌^◌, [], ◌∷◌, ◌++◌, All, cond, length, map, IfOk, OnOk};
+ghost use Rattle.std.specs.Prelude.{◌≡◌, ◌<◌, ◌≤◌, ◌^◌, [], ◌∷◌, ◌++◌, All, cond, length, map, true, IfOk, OnOk};
 ghost use Rattle.mv_lowering.specs.Functions.{lower_function};
 ghost use Rattle.mv_lowered_programs.specs.WellFormed.{IsWellFormed};
 ghost use Rattle.mv_ir.specs.Measures.{deepest};

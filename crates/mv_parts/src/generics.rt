@@ -1,6 +1,6 @@
 //! The bodies of functions, and their code.
 
-ghost use Rattle.std.specs.Prelude.{◌≡◌, [], ◌∷◌, ◌++◌, map, slice_get, IfErr, IfOk, OnOk};
+ghost use Rattle.std.specs.Prelude.{◌≡◌, map, slice_get, IfErr, IfOk};
 ghost use Rattle.mv_ast.specs.Counts.{is_attributed};
 ghost use Rattle.mv_lowering.specs.Functions.{lower_function};
 ghost use Rattle.mv_lowered_programs.specs.WellFormed.{IsWellFormed};
@@ -51,16 +51,12 @@ pub fn codes_of(
     let mut codes = List::new(alloc);
     for (number, body) in generics.as_slice().iter().enumerate() {
         let code = code_of(alloc, program, number as u32, body)?;
-        push_code(&mut codes, code).map_err(SelectError::Memory)?;
+        match codes.push(code) {
+            Ok(()) => {}
+            Err(_) => return Err(SelectError::Memory(AllocError)),
+        }
     }
     Ok(codes)
-}
-
-fn push_code(codes: &mut List<Labelled>, code: Labelled) -> Result<(), AllocError>
-    ensures { OnOk result (codes.new ≡ codes.old ++ code ∷ []) }
-{
-    codes.push(code)?;
-    Ok(())
 }
 
 // The code of the function with a number, given its body.

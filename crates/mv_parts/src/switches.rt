@@ -1,10 +1,10 @@
 //! The switches of a program.
 
-ghost use Rattle.std.specs.Prelude.{◌≡◌, ◌<◌, ◌≤◌, length, slice_get, Some, IfOk};
+ghost use Rattle.std.specs.Prelude.{◌≡◌, ◌<◌, ◌^◌, length, slice_get, Some, IfOk};
 ghost use Rattle.mv_ast.specs.Counts.{words_of_size};
 ghost use Rattle.mv_parts.specs.Switches as spec;
 
-use mv_ast::program::{Program, Switch};
+use mv_ast::program::{Global as Object, Program, Switch};
 use mv_linker::PartSwitch;
 use mv_num::list::List;
 use mv_num::text::Text;
@@ -49,11 +49,19 @@ fn word_of(program: &Program, global: usize) -> u32
     requires there { global < length program.now.globals }
     ensures { result ≡ spec.word_of program.now global }
 {
-    let mut word = 0;
-    for before in &program.globals.as_slice()[..global] {
-        word += words_of_size(before.size);
+    words_of(&program.globals.as_slice()[..global])
+}
+
+// How many words some globals have together.
+fn words_of(globals: &[Object]) -> u32
+    requires { spec.words_of globals.now < 2 ^ 32 }
+    ensures { result ≡ spec.words_of globals.now }
+{
+    let mut words = 0;
+    for global in globals {
+        words += words_of_size(global.size);
     }
-    word
+    words
 }
 
 // How many words an object of this size has: one where it is no array.
