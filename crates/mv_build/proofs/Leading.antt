@@ -23,8 +23,8 @@ use Rattle.mv_variants.specs.Domains.{switch_kind}
 use Rattle.mv_variants.specs.Variants.{AreVariants, bodies_of, guards_of}
 use Rattle.mv_parts.specs.Parts.{ArePartsOf}
 use Rattle.mv_build.specs.Images.{IsLedTo, LeadsToVariants}
-use Rattle.mv_build.proofs.Lists.{all_at, map_at, some_at, some_same}
-use Rattle.mv_build.proofs.Numbers.{is_attributed}
+use Rattle.mv_parts.proofs.Lists.{map_at, one_of_all, some_at, some_same}
+use Rattle.mv_parts.proofs.Numbers as numbers
 use Rattle.mv_build.proofs.Tabled.{IsNth, groups, has_tables, own_row}
 
 -- one body of a function's variants is that of one of them
@@ -50,7 +50,7 @@ module _ (functions_led : FunctionsAreLed) (made : MadeAreVariants) (p : Program
   -- an attributed function's switches are there
   switches_there : (f : ℕ) (g : Function) → slice_get p.functions f ≡ Some g → g.attributed ≡ true → All (λ s. s < length p.switches) g.switches
   switches_there f g there is =
-      (all_at (IsTableFunction p) (attributed_functions p) facts.functions (attributed_before p.functions f) g (attributed_at p.functions f g there is)).there
+      (one_of_all (IsTableFunction p) (attributed_functions p) facts.functions (attributed_before p.functions f) g (attributed_at p.functions f g there is)).there
 
   leads_with : (n f : ℕ) (g : Function) (variants : List Variant) → IsNth p bodies tables parts are n f g variants → g.attributed ≡ true → AreVariants p g variants →
       LeadsToVariants p g image variants n
@@ -68,6 +68,6 @@ module _ (functions_led : FunctionsAreLed) (made : MadeAreVariants) (p : Program
 
   pub leads : (n f : ℕ) (g : Function) (variants : List Variant) → IsNth p bodies tables parts are n f g variants → LeadsToVariants p g image variants n
   leads n f g variants nth =
-      let h = is_attributed p n f nth.number in
+      let h = numbers.attributed_at p n f nth.number in
       let same = some_same h.function g (sym h.there ∙ nth.there) in
       leads_with n f g variants nth (ap (λ (x : Function). x.attributed) (sym same) ∙ h.attributed) (are.codes.are_tables.each n f variants nth.number nth.table g nth.there)

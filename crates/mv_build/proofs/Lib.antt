@@ -1,5 +1,4 @@
 pub mod Lists
-pub mod Numbers
 pub mod Tabled
 pub mod Leading
 pub mod Running

@@ -28,7 +28,7 @@ use Rattle.mv_build.specs.declared.error.BuildError.TheVariants.{Refused, Memory
 use Rattle.mv_build.specs.Compiled.{IsLinkedOf, IsLinkedTo, IsLinkRefusal, IsSound, IsWithinLimits, OnRefusal, parts_of, without_data}
 use Rattle.mv_build.specs.Errors.{of_linking, of_selecting}
 use Rattle.mv_build.specs.Verdicts.{IsCoded, PassesLimit, large_frame, many_sites, much_data, long_text}
-use Rattle.mv_build.proofs.Lists.{some_at, some_same}
+use Rattle.mv_parts.proofs.Lists.{some_at, some_same}
 
 -- ---- frames
 

@@ -36,8 +36,8 @@ use Rattle.mv_variants.specs.declared.variant.Variant.{Variant}
 use Rattle.mv_parts.specs.Codes.{HasCode, IsCodeOf}
 use Rattle.mv_parts.specs.Parts.{ArePartsOf}
 use Rattle.mv_build.specs.Compiled.{IsLinkedOf, IsSound}
-use Rattle.mv_build.proofs.Lists.{all_at, some_at, some_same}
-use Rattle.mv_build.proofs.Numbers.{count_is}
+use Rattle.mv_parts.proofs.LinkedNumbers.{as_many}
+use Rattle.mv_parts.proofs.Lists.{one_of_all, some_at, some_same}
 
 -- ---- the functions that are first values
 
@@ -79,7 +79,7 @@ module _ (functions_there : FunctionsAreThere) (only_direct : OnlyInputAndOutput
       let plain = ap (λ (x : Function). x.attributed) same ∙ unattributed f g there in
       let is = subst (λ a. IsCodeOf a body code) plain h.is_code in record {
         body = body;
-        compiled = compiled_to f g there body (are.codes.generics.each f g body there at) (all_at (λ (b : Body). HasWords b.code) bodies words f body at) code is;
+        compiled = compiled_to f g there body (are.codes.generics.each f g body there at) (one_of_all (λ (b : Body). HasWords b.code) bodies words f body at) code is;
         items = is.selected.items;
         labels = is.selected.labels;
       }
@@ -92,7 +92,7 @@ module _ (functions_there : FunctionsAreThere) (only_direct : OnlyInputAndOutput
       code_with f g body.0 code there body.1 (are.codes.code.each f body.0 code body.1 is)
 
   attributed_count : length parts.attributed ≡ length (attributed_functions p)
-  attributed_count = sym (length-map parts.attributed (λ (a : PartFunction). a.function)) ∙ ap length are.codes.variants.numbers ∙ count_is 0 p.functions
+  attributed_count = sym (length-map parts.attributed (λ (a : PartFunction). a.function)) ∙ ap length are.codes.variants.numbers ∙ as_many 0 p.functions
 
   globals_first : AreFirstWords p parts
   globals_first address numbers at = ap (map (datum_word address)) are.globals ∙ words_first p address numbers (first_values p sound.formed.typed.globals) at

@@ -32,8 +32,9 @@ use Rattle.mv_variants.specs.Variants.{guards_of}
 use Rattle.mv_parts.specs.Numbers.{attributed_numbers}
 use Rattle.mv_parts.specs.Parts.{ArePartsOf, ArePartVariants, IsPartFunction}
 use Rattle.mv_parts.specs.Switches.{part_switch, part_switches}
-use Rattle.mv_build.proofs.Lists.{map_at, map_same, some_at}
-use Rattle.mv_build.proofs.Numbers.{is_attributed}
+use Rattle.mv_parts.proofs.Lists.{map_at, some_at}
+use Rattle.mv_parts.proofs.Numbers.{attributed_at}
+use Rattle.mv_build.proofs.Lists.{map_same}
 
 -- ---- the guard rows of variants that are linked
 
@@ -113,7 +114,7 @@ module _ (p : Program) (bodies : List Body) (tables : List (List Variant)) (part
       variant_guards a.variants ≡ guards_of variants
   one_group n a variants is table =
       let number = number_at n a is in
-      let g = is_attributed p n a.function number in
+      let g = attributed_at p n a.function number in
       same_guards variants a.variants (part_at n a.function g.function variants (record { number = number; there = g.there; table = table }) a is).variants_are
 
   abbrev pub groups : List (List (List GuardRow))
