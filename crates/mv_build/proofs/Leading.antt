@@ -42,7 +42,7 @@ module _ (p : Program) (g : Function) (image : Fields) (variants : List Variant)
         there = found.1;
         fits = led.fits;
         is_variant = subst (IsVariantOf (zip (lower_function p g).switches vs) (lower_function p g)) same
-        (made (zip (lower_function p g).switches vs) (lower_function p g) led.result led.made);
+            (made (zip (lower_function p g).switches vs) (lower_function p g) led.result led.made);
       }
 
 module _ (functions_led : FunctionsAreLed) (made : MadeAreVariants) (p : Program) (facts : HasTableFacts p) (bodies : List Body) (tables : List (List Variant)) (parts : Parts)

@@ -79,9 +79,9 @@ module _ (p : Program) (parts : Parts) (frames : FramesFit p (length p.functions
 -- ---- parts with their data
 
 module _ (p : Program) (functions : List Labelled) (attributed : List PartFunction) where
-  pub with_data : (parts : Parts) (data : List Datum) → parts ≡ without_data (parts_of p functions attributed) → data ≡ first_data p →
-      record parts { globals = data } ≡ parts_of p functions attributed
-  with_data parts data is all = ap₂ (λ (x : Parts) (ds : List Datum). record x { globals = ds }) is all
+  pub with_data : (parts : Parts) (words : List Datum) → parts ≡ without_data (parts_of p functions attributed) → words ≡ first_data p →
+      record parts { globals = words } ≡ parts_of p functions attributed
+  with_data parts words is all = ap₂ (λ (x : Parts) (ds : List Datum). record x { globals = ds }) is all
 
   pub coded_without : (parts : Parts) → parts ≡ without_data (parts_of p functions attributed) → IsCoded p (parts_of p functions attributed) → IsCoded p parts
   coded_without parts is h = subst (IsCoded p) (sym is) (record { bodies = h.bodies; tables = h.tables; codes = h.codes })

@@ -65,7 +65,7 @@ tables_with : (entry at : ℕ → ℕ) (text : List ℕ) (parts : Parts) → Has
 tables_with entry at text parts = record {
   functions = have_variants entry parts.attributed;
   variants = subst (λ (gs : List (List GuardRow)). AreCounted gs (variant_rows entry (length parts.functions) (function_variants parts.attributed)))
-  (sym (groups_joined parts.attributed)) (counted entry (length parts.functions) (function_variants parts.attributed));
+      (sym (groups_joined parts.attributed)) (counted entry (length parts.functions) (function_variants parts.attributed));
   guards = guards_joined (function_variants parts.attributed) ∙ ap joined (sym (groups_joined parts.attributed));
 }
 
@@ -84,7 +84,7 @@ kinds_there p image rows (s ∷ switches) below = (one, kinds_there p image rows
     one = (
       switch_row (part_switch p found.0),
       subst (λ (all : List SwitchRow). slice_get all s ≡ Some (switch_row (part_switch p found.0))) (sym rows)
-      (map_at switch_row (part_switches p) s (part_switch p found.0) (map_at (part_switch p) p.switches s found.0 found.1)),
+          (map_at switch_row (part_switches p) s (part_switch p found.0) (map_at (part_switch p) p.switches s found.0 found.1)),
       ap (λ o. kind_or_int (slice_get p.globals (global_or_none o))) (sym found.1),
     )
 

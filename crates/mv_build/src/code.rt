@@ -38,7 +38,7 @@ struct Varied {
 }
 
 /// The code of a program's functions and variants. The first whose frame is too large is refused.
-pub(crate) fn coded(alloc: Global, program: &Program) -> Result<Coded, BuildError>
+pub(crate) fn code_of(alloc: Global, program: &Program) -> Result<Coded, BuildError>
     requires { IsSound program.now }
     ensures ok { IfOk result (λ c. IsCode program.now c) }
     ensures err { IfErr result (λ e. OnRefusal e (PassesLimit program.now)) }
@@ -49,7 +49,7 @@ pub(crate) fn coded(alloc: Global, program: &Program) -> Result<Coded, BuildErro
     let Varied {
         variants,
         attributed,
-    } = varied(alloc, program, lowered.bodies.as_slice())?;
+    } = attributed_code(alloc, program, lowered.bodies.as_slice())?;
     have_words(generics.as_slice());
     Ok(Coded {
         generics,
@@ -60,7 +60,7 @@ pub(crate) fn coded(alloc: Global, program: &Program) -> Result<Coded, BuildErro
 }
 
 /// The variants of a program's attributed functions and their code, given what each function is lowered to.
-fn varied(alloc: Global, program: &Program, lowered: &[Body]) -> Result<Varied, AllocError>
+fn attributed_code(alloc: Global, program: &Program, lowered: &[Body]) -> Result<Varied, AllocError>
     requires sound { IsSound program.now }
     requires lowered { lowered.now ≡ map (lower_function program.now) program.now.functions }
     requires frames { FramesFit program.now (length program.now.functions) }

@@ -68,6 +68,7 @@ fn parts_without_data(
 
 /// Whether a program's code has few enough sites, and its data few enough words. There are numbers for all labels, or memory is wanting.
 fn test_limits(program: &Program, parts: &Parts) -> Result<(), BuildError>
+    requires sound { IsSound program.now }
     requires frames { FramesFit program.now (length program.now.functions) }
     requires coded { IsCoded program.now parts.now }
     ensures ok { OnOk result (IsWithinLimits program.now parts.now) }

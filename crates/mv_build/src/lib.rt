@@ -29,7 +29,7 @@ mod code;
 mod error;
 mod image;
 
-use crate::code::{Coded, coded};
+use crate::code::{Coded, code_of};
 use crate::image::image_of;
 pub use built::Built;
 pub use error::BuildError;
@@ -90,7 +90,7 @@ pub fn compiled(alloc: Global, program: Program) -> Result<Built, BuildError>
         variants,
         functions,
         attributed,
-    } = coded(alloc, &program)?;
+    } = code_of(alloc, &program)?;
     let image = image_of(alloc, &program, functions, attributed)?;
     Ok(Built {
         program,

@@ -15,7 +15,7 @@ returns-then-words-gt-DATA_LIMIT-clause-err c =
     let few : c.site_count-sites.result ≤ site_limit = omega arith in
     let past : data_limit < data_words c.args.program.now = omega (arith, words) in
     let fits = few_sites c.args.program.now c.args.parts.now c.requires.frames c.requires.coded c.site_count-sites.result c.site_count-sites.ensures few in
-    rw (c.too_many-2.ensures, words) (data_past c.args.program.now c.args.parts.now c.requires.frames c.requires.coded fits past)
+    rw (c.too_many-then-words-gt-DATA_LIMIT.ensures, words) (data_past c.args.program.now c.args.parts.now c.requires.frames c.requires.coded fits past)
 
 pub returns-clause-ok : goal.returns-clause-ok
 returns-clause-ok c =

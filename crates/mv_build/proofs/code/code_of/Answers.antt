@@ -1,0 +1,27 @@
+use Rattle.std.proofs.Common.{All, subst}
+use Rattle.std.specs.Prelude.{List}
+use Rattle.std.proofs.lemmas.Result.{err_from_is_err_and}
+use Rattle.mv_ir.specs.declared.body.Body.{Body}
+use Rattle.mv_lower.proofs.Small.{small_enough}
+use Rattle.mv_selected_bodies.specs.SelectedBodies.{HasWords}
+use Rattle.mv_build.proofs.Limits.{frame_refused, frames_fit}
+use Rattle.mv_build.proofs.code.code_of.Goals as goal
+
+pub lower_each-requires : goal.lower_each-requires
+lower_each-requires c = small_enough c.args.program.now c.requires.formed
+
+pub returns-in_err-functions-clause-err : goal.returns-in_err-functions-clause-err
+returns-in_err-functions-clause-err c =
+    let p = err_from_is_err_and c.from_residual-in_err-functions.result c.from_residual-in_err-functions.ensures.1 in
+    rw (p.1, p.2) (frame_refused c.args.program.now c.in_err-functions.field-0.0 c.in_err-functions.ensures.err)
+
+pub attributed_code-requires-clause-frames : goal.attributed_code-requires-clause-frames
+attributed_code-requires-clause-frames c =
+    frames_fit c.args.program.now c.in_ok-generics.generics c.in_ok-functions.functions c.in_ok-generics.ensures c.in_ok-functions.ensures.ok
+
+pub returns-clause-ok : goal.returns-clause-ok
+returns-clause-ok c = record {
+  codes = record { generics = c.in_ok-generics.ensures; are_tables = c.in_ok-variants.ensures.tables; code = c.in_ok-functions.ensures.ok; variants = c.in_ok-variants.ensures.parts };
+  words = subst (λ (bodies : List Body). All (λ (b : Body). HasWords b.code) bodies) c.as_slice-2.ensures c.have_words.ensures;
+  frames = frames_fit c.args.program.now c.in_ok-generics.generics c.in_ok-functions.functions c.in_ok-generics.ensures c.in_ok-functions.ensures.ok;
+}
