@@ -2,6 +2,7 @@
 use Rattle.std.proofs.Common.{◌≡◌, ℕ, ◌+◌, ◌<◌, ◌≤◌, ◌^◌, zero, suc, pos, ◌-ℤ◌, Bool, true, false, List, [], ◌∷◌, Option, Some, None, map, sum, length, slice_get, All, refl, sym, ap, ◌∙◌, subst, arith}
 use Rattle.std.proofs.lemmas.List.Elements.{All-from_get_or, All-map, All-weaker}
 use Rattle.std.proofs.lemmas.Option.{slice_get-get_or, slice_get_within}
+use Rattle.mv_ast.specs.declared.world.Action.{Action}
 use Rattle.mv_ast.specs.declared.program.Program.{Program}
 use Rattle.mv_ast.specs.declared.program.Function.{Function}
 use Rattle.mv_ast.specs.declared.program.Global.{Global}
@@ -218,9 +219,9 @@ module _ (laws : Laws) (p : Program) (image : Fields) (formed : IsWellFormed p) 
 
   -- ---- the machine
 
-  module _ (bytes picks : List ℕ) (are_bytes : All (λ b. b < 2 ^ 8) bytes) (budget far : ℕ) where
+  module _ (bytes : List ℕ) (actions : List Action) (picks : List ℕ) (are_bytes : All (λ b. b < 2 ^ 8) bytes) (budget far : ℕ) where
     abbrev machine : Machine Rest
-    machine = machine_of [] image (bytes_to_come bytes) picks
+    machine = machine_of [] image (bytes_to_come bytes) actions picks
 
     abbrev words : List Binding → ℕ → Option ℕ
     words = words_under image
@@ -231,12 +232,12 @@ module _ (laws : Laws) (p : Program) (image : Fields) (formed : IsWellFormed p) 
     host : IsOpenHost access y machine words budget far p numbers
     host = record {
       laid = laid y set_out;
-      memory = memory y set_out [] image (bytes_to_come bytes) picks;
+      memory = memory y set_out [] image (bytes_to_come bytes) actions picks;
       sizes = λ x. refl;
-      runs = λ s stands. runs_are image (bytes_to_come bytes) picks s (own y set_out s stands) [];
-      runs_under = λ bs s stands. runs_are_under [] image (bytes_to_come bytes) picks bs s (own y set_out s stands);
+      runs = λ s stands. runs_are image (bytes_to_come bytes) actions picks s (own y set_out s stands) [];
+      runs_under = λ bs s stands. runs_are_under [] image (bytes_to_come bytes) actions picks bs s (own y set_out s stands);
       entries = entries parts built.are laws.functions_stand sizing built.linked.text built.linked.least.fits.sizes built.linked.text_is each_begins;
-      calls = serves_calls [] image (bytes_to_come bytes) picks bytes_or_end y budget far numbers p;
+      calls = serves_calls [] image (bytes_to_come bytes) actions picks bytes_or_end y budget far numbers p;
       stub = λ k args back i asked orders count target ra. absurd (orders (may_ask_direct k asked));
       slots = λ at f e. absurd (no_slot image at f e);
     }

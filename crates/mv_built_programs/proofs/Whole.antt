@@ -55,7 +55,7 @@ none_attributed (g ∷ gs) plain =
     let rest = none_attributed gs (λ k h e. plain (suc k) h e) in rw (here) rest
 
 module _ (laws : Laws) (p : Program) (image : Fields) (formed : IsWellFormed p) (plain : IsUnattributed p) (have_words : HasWordsOfGlobals p)
-    (built : IsBuilt p image) (bytes picks : List ℕ) (are_bytes : All (λ b. b < 2 ^ 8) bytes) where
+    (built : IsBuilt p image) (bytes : List ℕ) (actions : List Action) (picks : List ℕ) (are_bytes : All (λ b. b < 2 ^ 8) bytes) where
   abbrev parts : Parts
   parts = built.parts
 
@@ -72,7 +72,7 @@ module _ (laws : Laws) (p : Program) (image : Fields) (formed : IsWellFormed p) 
   first = first_seen p numbers bytes []
 
   abbrev the_machine : Machine Rest
-  the_machine = machine_of [] image (bytes_to_come bytes) picks
+  the_machine = machine_of [] image (bytes_to_come bytes) actions picks
 
   numbered : IsNumbering p numbers
   numbered = is_numbering laws p image formed plain have_words built
@@ -123,7 +123,7 @@ module _ (laws : Laws) (p : Program) (image : Fields) (formed : IsWellFormed p) 
   module _ (budget far : ℕ) where
     enters : EntersMain y the_machine budget far (address_of parts sizing parts.main) first 3
     enters =
-        laws.start_is_right [] image bytes picks y budget far first is_first holds (ap (λ (i : Fields). i.entry) built.linked.image_is) (address_of parts sizing) (address_of parts sizing) parts.main
+        laws.start_is_right [] image bytes actions picks y budget far first is_first holds (ap (λ (i : Fields). i.entry) built.linked.image_is) (address_of parts sizing) (address_of parts sizing) parts.main
         (start_ends laws p image built) (start_placed laws p image built)
 
     begins : Begins access y the_machine 3
@@ -139,10 +139,10 @@ module _ (laws : Laws) (p : Program) (image : Fields) (formed : IsWellFormed p) 
     stands : Stands access y the_machine budget far (y.entry p.main) first 3
     stands = subst (λ f. Stands access y the_machine budget far (address_of parts sizing f) first 3) built.main enters.stands
 
-    calls_main : (k : ℕ) → CallsMain [] p image bytes picks y first budget far k
+    calls_main : (k : ℕ) → CallsMain [] p image bytes actions picks y first budget far k
     calls_main k =
         let m = laws.main_follows access y the_machine (words_under image) budget far p numbers
-        (loaded laws p image formed plain have_words built bytes picks are_bytes budget far)
+        (loaded laws p image formed plain have_words built bytes actions picks are_bytes budget far)
         numbered bytes [] (All-nil (λ (a : Action). IsTrue (fits p a))) return_address 3 (omega arith, refl) enters.link begins stands k in record {
           call = m.0;
           means = m.1;
@@ -151,5 +151,5 @@ module _ (laws : Laws) (p : Program) (image : Fields) (formed : IsWellFormed p) 
           follows = m.4;
         }
 
-  pub built_behaves : Behaves p image bytes picks
-  built_behaves = laws.images_behave [] p image bytes picks y stubs record { first = first; input = omega arith; calls = calls_main }
+  pub built_behaves : Behaves p image bytes actions picks
+  built_behaves = laws.images_behave [] p image bytes actions picks y stubs record { first = first; input = omega arith; calls = calls_main }

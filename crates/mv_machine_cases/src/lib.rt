@@ -8,4 +8,6 @@ mod machine;
 #[cfg(test)]
 mod memory;
 #[cfg(test)]
+mod patching;
+#[cfg(test)]
 mod probes;

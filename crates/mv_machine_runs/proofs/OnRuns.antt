@@ -1,5 +1,6 @@
 -- The machine's run is one on which code runs.
 use Rattle.std.proofs.Common.{◌≡◌, inl, inr, ℕ, ◌+◌, true, eqb, List, [], ◌∷◌, length, slice_index, Option, Some, None, refl, sym, ap, subst, ◌∙◌}
+use Rattle.mv_ast.specs.declared.world.Action.{Action}
 use Rattle.mv_fetch.specs.Held.{Room, choices}
 use Rattle.mv_image.specs.Spelling.{Fields}
 use Rattle.mv_ir.specs.World.{World}
@@ -25,15 +26,15 @@ has_word : (word : Option ℕ) (regs : List ℕ) (pc : ℕ) (m : Rest) (next : S
 has_word None regs pc m next e = absurd (cc)
 has_word (Some w) regs pc m next e = (w, refl)
 
-module _ (image : Fields) (input : List (Option ℕ)) (picks : List ℕ) (s : Site) where
+module _ (image : Fields) (input : List (Option ℕ)) (actions : List Action) (picks : List ℕ) (s : Site) where
   abbrev Leads : ℕ → World → Spot Rest → Type 0
-  Leads = LeadsUnder image input picks s
+  Leads = LeadsUnder image input actions picks s
 
   abbrev LeadsUnpatched : List ℕ → ℕ → World → Spot Rest → Type 0
-  LeadsUnpatched attributed = LeadsOn access s (machine_of attributed image input picks)
+  LeadsUnpatched attributed = LeadsOn access s (machine_of attributed image input actions picks)
 
   abbrev at : ℕ → State
-  at i = runs image input picks i
+  at i = runs image input actions picks i
 
   -- the one word that is fetched, and where its step leads
   record Led (i : ℕ) (next : Spot Rest) : Type 0 where
@@ -56,7 +57,7 @@ module _ (image : Fields) (input : List (Option ℕ)) (picks : List ℕ) (s : Si
       let l = led i w next h in
       let outcome : Outcome Room = Goes next.regs next.pc l.went.room in
       let fetched : fetched_step (at i) (slice_index picks i) ≡ outcome = fetches_one (at i) (slice_index picks i) l.word l.one ∙ l.went.goes in
-      ap spot_of (runs_more (first image input) picks i ∙ turn_by (at i) (slice_index picks i) outcome h.calm.goes_on fetched)
+      ap spot_of (runs_more (first image input actions) picks i ∙ turn_by (at i) (slice_index picks i) outcome h.calm.goes_on fetched)
       ∙ ap (λ (m : Rest). record next { memory = m }) (sym l.went.rest)
 
   sound : (i : ℕ) (w : World) (next : Spot Rest) → Leads i w next → has_one_choice (spot_of (at i)) ≡ true
@@ -77,12 +78,12 @@ module _ (image : Fields) (input : List (Option ℕ)) (picks : List ℕ) (s : Si
     written w m m' (inl same) calm = subst (λ x. IsCalm image w x) (sym same) calm
     written w m m' (inr x) calm = calm_kept image w m m' (store_keeps m m' (address s x.0) x.1 (out x.0 x.2 x.3) x.5) calm
 
-    pub steps_are_taken : StepsAreTaken image input picks s
+    pub steps_are_taken : StepsAreTaken image input actions picks s
     steps_are_taken = record { goes = goes; sound = sound; stays = λ i w next h. written w (rest_of (at i)) next.memory h.writes h.calm }
 
-    pub runs_are : (attributed : List ℕ) → IsRun access s (machine_of attributed image input picks)
+    pub runs_are : (attributed : List ℕ) → IsRun access s (machine_of attributed image input actions picks)
     runs_are attributed = record {
-      registers = run_registers image input picks;
+      registers = run_registers image input actions picks;
       goes = λ i w next h. goes i (outside w) next (under attributed i w next h);
       sound = λ i w next h. sound i (outside w) next (under attributed i w next h);
       stays = λ i w next h. let h' = under attributed i w next h in calm_tested image (outside w) next.memory (written (outside w) (rest_of (at i)) next.memory h'.writes h'.calm);

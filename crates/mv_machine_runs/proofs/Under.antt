@@ -1,6 +1,7 @@
 -- The machine under some bindings runs code.
 use Rattle.std.proofs.Common.{◌≡◌, ℕ, List, Option, refl, sym, ap, subst, ◌∙◌}
 use Rattle.std.proofs.lemmas.Bool.{and_parts, and_from}
+use Rattle.mv_ast.specs.declared.world.Action.{Action}
 use Rattle.mv_ast.specs.declared.world.Binding.{Binding}
 use Rattle.mv_image.specs.Spelling.{Fields}
 use Rattle.mv_isa.specs.Execution.{step}
@@ -24,17 +25,17 @@ same_words : (image : Fields) (w : World) (a : ℕ) → bound_word image w a ≡
 unfolding bound_word
 same_words image w a = refl
 
-module _ (attributed : List ℕ) (image : Fields) (input : List (Option ℕ)) (picks : List ℕ) (bs : List Binding) (s : Site) (out : OwnOutsideText s) where
+module _ (attributed : List ℕ) (image : Fields) (input : List (Option ℕ)) (actions : List Action) (picks : List ℕ) (bs : List Binding) (s : Site) (out : OwnOutsideText s) where
   abbrev machine : Machine Rest
-  machine = machine_of attributed image input picks
+  machine = machine_of attributed image input actions picks
 
   abbrev under : Machine Rest
   under = narrow.under machine (words_under image) bs
 
-  taken : StepsAreTaken image input picks s
-  taken = steps_are_taken image input picks s out
+  taken : StepsAreTaken image input actions picks s
+  taken = steps_are_taken image input actions picks s out
 
-  leads : (i : ℕ) (w : World) (next : Spot Rest) → LeadsOn access s under i w next → LeadsUnder image input picks s i (outside w) next
+  leads : (i : ℕ) (w : World) (next : Spot Rest) → LeadsOn access s under i w next → LeadsUnder image input actions picks s i (outside w) next
   leads i w next h =
       let c = and_parts (has_bindings bs (outside w)) (is_calm image (outside w) (machine.run i).memory) h.calm in
       let words = same_words image (outside w) (machine.run i).pc in
@@ -46,7 +47,7 @@ module _ (attributed : List ℕ) (image : Fields) (input : List (Option ℕ)) (p
 
   runs_under : IsRun access s under
   runs_under = record {
-    registers = (runs_are image input picks s out attributed).registers;
+    registers = (runs_are image input actions picks s out attributed).registers;
     goes = λ i w next h. taken.goes i (outside w) next (leads i w next h);
     sound = λ i w next h. taken.sound i (outside w) next (leads i w next h);
     stays = λ i w next h.
@@ -55,4 +56,4 @@ module _ (attributed : List ℕ) (image : Fields) (input : List (Option ℕ)) (p
   }
 
 pub runs_are_under : RunsAreRunsUnder
-runs_are_under attributed image input picks bs s out = runs_under attributed image input picks bs s out
+runs_are_under attributed image input actions picks bs s out = runs_under attributed image input actions picks bs s out

@@ -1,6 +1,7 @@
 -- The machine is one on which code of frames runs, its memory is fit for frames that are laid out, and assembled code stands in its text.
 use Rattle.std.specs.Prelude.{ℕ, ◌≡◌, ◌↔◌, ◌+◌, ◌*◌, ◌%◌, ◌^◌, ◌<◌, ◌≤◌, true, false, List, [], length, replicate, slice_get, Option, Some, None}
 use Rattle.std.specs.List.{All}
+use Rattle.mv_ast.specs.declared.world.Action.{Action}
 use Rattle.mv_ast.specs.declared.program.Program.{Program}
 use Rattle.mv_ast.specs.declared.world.Binding.{Binding}
 use Rattle.mv_ast.specs.Plans.{free}
@@ -38,18 +39,18 @@ CalmIsTested = (image : Fields) (w : World) (m : Rest) → (is_calm image w m �
 -- For every image, input and picks, the machine's run is one of a machine on which code runs, at each site whose own cells lie outside text.
 abbrev pub RunsAreRuns : Type 0
 RunsAreRuns =
-    (attributed : List ℕ) (image : Fields) (input : List (Option ℕ)) (picks : List ℕ) (s : Site) → OwnOutsideText s →
-    IsRun access s (machine_of attributed image input picks)
+    (attributed : List ℕ) (image : Fields) (input : List (Option ℕ)) (actions : List Action) (picks : List ℕ) (s : Site) → OwnOutsideText s →
+    IsRun access s (machine_of attributed image input actions picks)
 
 -- and it takes the steps of the words that stand under the bindings
 abbrev pub BoundStepsAreTaken : Type 0
-BoundStepsAreTaken = (image : Fields) (input : List (Option ℕ)) (picks : List ℕ) (s : Site) → OwnOutsideText s → StepsAreTaken image input picks s
+BoundStepsAreTaken = (image : Fields) (input : List (Option ℕ)) (actions : List Action) (picks : List ℕ) (s : Site) → OwnOutsideText s → StepsAreTaken image input actions picks s
 
 -- So the machine under some bindings, over the words that stand under these, is one on which code runs.
 abbrev pub RunsAreRunsUnder : Type 0
 RunsAreRunsUnder =
-    (attributed : List ℕ) (image : Fields) (input : List (Option ℕ)) (picks : List ℕ) (bs : List Binding) (s : Site) → OwnOutsideText s →
-    IsRun access s (under (machine_of attributed image input picks) (words_under image) bs)
+    (attributed : List ℕ) (image : Fields) (input : List (Option ℕ)) (actions : List Action) (picks : List ℕ) (bs : List Binding) (s : Site) → OwnOutsideText s →
+    IsRun access s (under (machine_of attributed image input actions picks) (words_under image) bs)
 
 -- The words of an image's text are found at their addresses. Where bindings don't show, they stand there under all bindings; and bindings show
 -- nowhere in an image without functions and sites.
@@ -105,12 +106,12 @@ pub record IsFirst (image : Fields) (bytes : List ℕ) (w : World) : Type 0 wher
 -- a run begins in calm
 abbrev pub RunsBeginInCalm : Type 0
 RunsBeginInCalm =
-    (attributed : List ℕ) (image : Fields) (bytes picks : List ℕ) (s : Site) (w : World) → IsFirst image bytes w →
-    let machine = machine_of attributed image (bytes_to_come bytes) picks in Calm access s machine w (machine.run 0).memory
+    (attributed : List ℕ) (image : Fields) (bytes : List ℕ) (actions : List Action) (picks : List ℕ) (s : Site) (w : World) → IsFirst image bytes w →
+    let machine = machine_of attributed image (bytes_to_come bytes) actions picks in Calm access s machine w (machine.run 0).memory
 
 -- environment calls are answered, for every image, input and picks
 abbrev pub EnvironmentCalls : Type 0
-EnvironmentCalls = (image : Fields) (input : List (Option ℕ)) (picks : List ℕ) → CallsAreAnswered image input picks
+EnvironmentCalls = (image : Fields) (input : List (Option ℕ)) (actions : List Action) (picks : List ℕ) → CallsAreAnswered image input actions picks
 
 -- an answer to a read is a byte, or the end of the input
 abbrev pub IsByteOrEnd : Option ℕ → Type 0
@@ -120,9 +121,9 @@ IsByteOrEnd (Some byte) = byte < 2 ^ 8
 -- So where its input is bytes, the machine serves those known functions that are environment calls, for every program and layout.
 abbrev pub KnownCallsAreServed : Type 0
 KnownCallsAreServed =
-    (attributed : List ℕ) (image : Fields) (input : List (Option ℕ)) (picks : List ℕ) → All IsByteOrEnd input →
+    (attributed : List ℕ) (image : Fields) (input : List (Option ℕ)) (actions : List Action) (picks : List ℕ) → All IsByteOrEnd input →
     (y : Layout) (budget far : ℕ) (numbers : List ℕ) (p : Program) →
-    ServesCalls access y (machine_of attributed image input picks) budget far (setting_of numbers p)
+    ServesCalls access y (machine_of attributed image input actions picks) budget far (setting_of numbers p)
 
 -- globals and arrays that stand one behind the other are laid out
 abbrev pub PackedIsLaidOut : Type 0

@@ -1,5 +1,6 @@
 -- The machine as a run on which code stands. Its text has what is never patched, and the sites as slots; what stands under bindings is told apart.
 use Rattle.std.specs.Prelude.{ℕ, ◌-◌, ◌/◌, ◌%◌, Bool, ◌||◌, cond, eqb, ltb, List, length, slice_get, is_some, Option, None, option_map, option_and_then}
+use Rattle.mv_ast.specs.declared.world.Action.{Action}
 use Rattle.mv_isa.specs.Execution.{Access}
 use Rattle.mv_fetch.specs.Held.{Room, choices}
 use Rattle.mv_rv32.specs.Stepping as memory
@@ -10,7 +11,8 @@ use Rattle.mv_ir.specs.World.{World}
 use Rattle.mv_machine.specs.Runs.{State, runs}
 use Rattle.mv_flow_code.specs.Placed.{Text}
 use Rattle.mv_flow_code.specs.Runs.{Spot, Machine}
-use Rattle.mv_machine_runs.specs.Calm.{Rest, values_of, is_calm}
+use Rattle.mv_machine_runs.specs.Calm.{Rest, is_calm}
+use Rattle.mv_patch.specs.Orders.{values_of}
 
 abbrev pub with_room : Rest → Room → Rest
 with_room m room = record m { room = room }
@@ -62,13 +64,13 @@ abbrev pub has_one_choice : Spot Rest → Bool
 has_one_choice spot = eqb (length (choices spot.memory.room.held spot.pc)) 1
 
 -- the run of an image on an input, by any picks of the fetches
-abbrev pub run_of : Fields → (input : List (Option ℕ)) → (picks : List ℕ) → ℕ → Spot Rest
-run_of image input picks n = spot_of (runs image input picks n)
+abbrev pub run_of : Fields → (input : List (Option ℕ)) → List Action → (picks : List ℕ) → ℕ → Spot Rest
+run_of image input actions picks n = spot_of (runs image input actions picks n)
 
-abbrev pub machine_of : (attributed : List ℕ) → Fields → (input : List (Option ℕ)) → (picks : List ℕ) → Machine Rest
-machine_of attributed image input picks = record {
+abbrev pub machine_of : (attributed : List ℕ) → Fields → (input : List (Option ℕ)) → List Action → (picks : List ℕ) → Machine Rest
+machine_of attributed image input actions picks = record {
   text = machine_text attributed image;
   is_calm = is_calm image;
   is_sound = has_one_choice;
-  run = run_of image input picks;
+  run = run_of image input actions picks;
 }
