@@ -1,5 +1,11 @@
+pub mod FieldHolds
 pub mod InstructionFits
 pub mod Lexing
 pub mod LineEnds
 pub mod Lookups
+pub mod NumberTexts
+pub mod Pieces
+pub mod PrintedLines
+pub mod RoundTrip
 pub mod Turns
+pub mod Words

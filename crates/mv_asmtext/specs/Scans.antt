@@ -1,5 +1,5 @@
 -- What the scanner answers: the code of a text within the limits, or the first refusal in their order.
-use Rattle.std.specs.Prelude.{ℕ, ◌≡◌, ◌^◌, ◌==◌, nat_lt, List, length, if◌then◌else◌, Result, Ok, Err}
+use Rattle.std.specs.Prelude.{ℕ, ◌≡◌, ◌+◌, ◌*◌, ◌%◌, ◌^◌, ◌<◌, ◌≤◌, ◌==◌, nat_lt, List, length, if◌then◌else◌, Result, Ok, Err}
 use Rattle.mv_asmtext.specs.declared.assembly.Fault.{Fault}
 use Rattle.mv_asmtext.specs.declared.assembly.Fault.TheVariants as faults
 use Rattle.mv_asmtext.specs.declared.code.Code.{Code}
@@ -7,13 +7,21 @@ use Rattle.mv_asmtext.specs.declared.error.ScanError.{ScanError}
 use Rattle.mv_asmtext.specs.declared.error.ScanError.TheVariants.{TooLong, Line, TextLimit, DataLimit, Memory}
 use Rattle.mv_asmtext.specs.declared.source.Reading.{Reading}
 use Rattle.mv_asmtext.specs.Assembly.{FaultAt, assembled}
-use Rattle.mv_asmtext.specs.Sources.{read}
+use Rattle.mv_asmtext.specs.Sources.{text_start, read}
 
 abbrev pub text_limit : ℕ
 text_limit = 131072
 
 abbrev pub data_limit : ℕ
 data_limit = 262144
+
+-- an image has room for the code, which begins at one of its words of text
+pub record FitsImage (code : Code) : Type 0 where
+  pub text : length code.text ≤ text_limit
+  pub globals : length code.globals ≤ data_limit
+  pub entry_from : text_start ≤ code.entry
+  pub entry_before : code.entry < text_start + 4 * length code.text
+  pub entry_aligned : code.entry % 4 ≡ 0
 
 abbrev pub code_within_limits : Code → Result Code ScanError
 code_within_limits code =

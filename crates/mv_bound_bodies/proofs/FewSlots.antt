@@ -29,11 +29,11 @@ use Rattle.mv_merge.specs.declared.rows.Bound.{Bound}
 use Rattle.mv_merge.specs.declared.rows.Variants.{Variants}
 use Rattle.mv_merge.specs.Guards.{IsMerged}
 use Rattle.mv_bound_bodies.specs.Led.{AreMade}
-use Rattle.mv_bound_bodies.specs.Slots.{slots, one_each, SlotsAreFew, OwnSlotsAreFew, variant_slots, AllSlotsAreFew, VariantSlotsAreFew}
+use Rattle.mv_bound_bodies.specs.Slots.{slots, one_each, SlotsAreFew, OwnSlotsAreFew, RenamedSlotsAreFew, variant_slots, AllSlotsAreFew, VariantSlotsAreFew}
 use Rattle.mv_bound_bodies.proofs.Meant.{made}
 use Rattle.mv_bound_bodies.proofs.Led.{bodies_made}
 use Rattle.mv_bound_bodies.proofs.Groups.{groups_fit}
-use Rattle.mv_bound_bodies.proofs.Weights.{w_roll}
+use Rattle.mv_bound_bodies.proofs.Weights.{w_roll, renamed_weight}
 use Rattle.mv_bound_bodies.proofs.Variants.{made_calls, worked_calls}
 use Rattle.mv_bound_bodies.proofs.Slots.{slots_are_calls}
 
@@ -81,13 +81,13 @@ bool_cases : (b : Bool) → (b ≡ true) ⊎ (b ≡ false)
 bool_cases true = inl refl
 bool_cases false = inr refl
 
-abbrev Among : ℕ → ℕ → List Function → Type 0
+abbrev pub Among : ℕ → ℕ → List Function → Type 0
 Among f k gs = (i : ℕ) × (f ≡ k + i) × (is_attributed (slice_get gs i) ≡ true)
 
 later : (f k : ℕ) (g : Function) (gs : List Function) → Among f (suc k) gs → Among f k (g ∷ gs)
 later f k g gs (i, e, a) = (suc i, omega (arith, e), a)
 
-marked_among : (is_called : ℕ → Bool) (f k : ℕ) (gs : List Function) → is_marked (marked_from is_called k gs) f ≡ true → Among f k gs
+pub marked_among : (is_called : ℕ → Bool) (f k : ℕ) (gs : List Function) → is_marked (marked_from is_called k gs) f ≡ true → Among f k gs
 marked_among is_called f k [] e = absurd cc
 marked_among is_called f k (g ∷ gs) e = by (bool_cases (g.attributed && is_called k)) (marked_among is_called f (suc k) gs)
   where
@@ -131,6 +131,11 @@ few_slots p g often ps result m = few p g often result (made ps (lower_function 
 pub own_few_slots : OwnSlotsAreFew
 own_few_slots p g often folded result is_folded is_renamed =
     few p g often result (ap (λ (b : Body). b.marked) is_renamed.changes ∙ is_folded.marked) (λ direct. worked_calls direct 0 (lower_function p g) folded result is_folded is_renamed)
+
+pub renamed_few_slots : RenamedSlotsAreFew
+renamed_few_slots p g often result is_renamed =
+    let body = lower_function p g in
+    few p g often result (ap (λ (b : Body). b.marked) is_renamed.changes) (λ direct. subst (λ c. code_weight direct 0 c ≤ code_weight direct 0 body.code) (sym (ap (λ (b : Body). b.code) is_renamed.changes)) (renamed_weight direct 0 is_renamed.numbers body.code))
 
 product : (n m k : ℕ) → m ≤ k → n + m * n ≤ n * (1 + k)
 product n m k le =

@@ -13,14 +13,18 @@ use Rattle.mv_ir.specs.declared.stm.Callee.TheVariants as callee
 use Rattle.mv_ir.specs.declared.stm.Stm.{Stm}
 use Rattle.mv_ir.specs.declared.stm.Stm.TheOpen.{Stm-F}
 use Rattle.mv_ir.specs.declared.stm.Stm.TheOpen as stm
+use Rattle.mv_ir.specs.declared.stm.Stm.TheViews.{roll-Stm}
 use Rattle.mv_ir.specs.declared.stm.Stm.TheFolds.{map-Stm}
 use Rattle.mv_ir.specs.Measures.{joined}
 use Rattle.mv_ir.specs.Trees.{unary, binary, divide}
 use Rattle.mv_ir.proofs.Induction.{Each, each_append, TreeChildren, tree_ind, StmChildren, stm_ind, stms_ind}
 use Rattle.mv_fold.specs.Simple.{layer_constant, constant, number, one_or, two_or, simple_node, simple_tree, jumps, ended, simple_callee, alone, division, choice, simple_layer, simple_stm, simple_code}
+use Rattle.mv_fold.specs.Shortened.{shortened}
 use Rattle.mv_fold.specs.Needed.{needed_layer, needed_stm, needed_code}
+use Rattle.mv_fold.specs.Folded.{simple_body}
 use Rattle.mv_fold.proofs.SimpleKept.{constant_roll, simple_tree_roll, simple_stm_roll}
 use Rattle.mv_fold.proofs.NeededEquations.{needed_stm_roll}
+use Rattle.mv_fold.proofs.Shortening.{temp, shortened_is}
 use Rattle.mv_bound_bodies.proofs.Naming.{TreeNames, StmNames, CodeNames, TreeParts, tree_in, tree_out, CalleeNames, StmParts, stm_in, stm_out}
 
 -- what operators compute of such constants is such a constant
@@ -155,6 +159,25 @@ module _ (F : ℕ → Type 0) (K : Known → Type 0) (C : ℕ → Type 0) (close
   simple_names : (code : List Stm) → Cn code → Cn (simple_code code)
   simple_names code n = simple code (stms_ind StmKept stm_kept code) n
 
+  -- ---- its end shortened
+
+  abbrev KeepsNames : List Stm → List Stm → Type 0
+  KeepsNames xs ys = Cn xs → Cn ys
+
+  -- a value in place of a temporary
+  in_place : (x y z : Stm-F Stm) → (StmParts F K C x → StmParts F K C z) → KeepsNames (roll-Stm x ∷ roll-Stm y ∷ []) (roll-Stm z ∷ [])
+  in_place x y z f n = one z (f (stm_out F K C x n.0))
+
+  short_names : (temps : ℕ) (code : List Stm) → Cn code → Cn (shortened temps code)
+  short_names temps = shortened_is temps KeepsNames (record {
+    same = λ xs n. n;
+    both = λ xs ys zs h k n. k (h n);
+    behind = λ s xs ys h n. (n.0, h n.1);
+    leave = λ n names. tt;
+    stored = λ t g v lt. in_place (stm.Set t v) (stm.SetGlobal g (temp t)) (stm.SetGlobal g v) (λ p. p);
+    returned = λ t v lt. in_place (stm.Set t v) (stm.Return (temp t)) (stm.Return v) (λ p. p);
+  })
+
   -- ---- without the sets that aren't needed
 
   module _ (needed : ℕ → Bool) where
@@ -189,5 +212,6 @@ module _ (F : ℕ → Type 0) (K : Known → Type 0) (C : ℕ → Type 0) (close
     stm_left : (s : Stm) → StmLeft s
     stm_left = stm_ind StmLeft (λ x h n. subst Cn (sym (needed_stm_roll needed x)) (layer_left x h (stm_out F K C x n)))
 
-    pub folded_names : (code : List Stm) → Cn code → Cn (needed_code needed (simple_code code))
-    folded_names code n = inner_left (simple_code code) (stms_ind StmLeft stm_left (simple_code code)) (simple_names code n)
+    pub folded_names : (temps : ℕ) (code : List Stm) → Cn code → Cn (needed_code needed (simple_body temps code))
+    folded_names temps code n =
+        inner_left (simple_body temps code) (stms_ind StmLeft stm_left (simple_body temps code)) (short_names temps (simple_code code) (simple_names code n))

@@ -8,7 +8,7 @@ use Rattle.mv_merge.specs.declared.rows.Domain.{Domain}
 use Rattle.mv_merge.specs.declared.rows.Bound.{Bound}
 use Rattle.mv_merge.specs.declared.rows.Guarded.{Guarded}
 use Rattle.mv_merge.specs.declared.rows.Variants.{Variants}
-use Rattle.mv_merge.specs.Guards.{bodies_led_to, IsClean, AreClean, IsMerged}
+use Rattle.mv_merge.specs.Guards.{bodies_led_to, IsClean, HasRanges, EachRow, IsMerged}
 use Rattle.mv_bound_bodies.specs.Rows.{rows_of, groups_from, groups}
 use Rattle.mv_bound_bodies.specs.Tables.{IsGroup, GroupsFit}
 use Rattle.mv_bound_bodies.proofs.Tables.{groups_many}
@@ -37,12 +37,12 @@ some_row (g ∷ guards) i (suc k) lt e =
     by true h = let more : 0 < suc (length (rows_of guards i)) = omega arith in more
     by false h = h
 
-clean_rows : (domains : List Domain) (guards : List Guarded) (i : ℕ) → AreClean domains guards → (k : ℕ) (row : GuardRow) → slice_get (rows_of guards i) k ≡ Some row → IsClean domains row
-clean_rows domains [] i c k row e = absurd cc
-clean_rows domains (g ∷ guards) i c k row e = by (eqb g.body i) (clean_rows domains guards i c.1) k e
+each_row : (P : GuardRow → Type 0) (guards : List Guarded) (i : ℕ) → EachRow P guards → (k : ℕ) (row : GuardRow) → slice_get (rows_of guards i) k ≡ Some row → P row
+each_row P [] i h k row e = absurd cc
+each_row P (g ∷ guards) i h k row e = by (eqb g.body i) (each_row P guards i h.1) k e
   where
-    by : (b : Bool) → ((k : ℕ) (row : GuardRow) → slice_get (rows_of guards i) k ≡ Some row → IsClean domains row) → (k : ℕ) → slice_get (cond b (g.row ∷ rows_of guards i) (rows_of guards i)) k ≡ Some row → IsClean domains row
-    by true rest zero e = let same : g.row ≡ row = cc in subst (IsClean domains) same c.0
+    by : (b : Bool) → ((k : ℕ) (row : GuardRow) → slice_get (rows_of guards i) k ≡ Some row → P row) → (k : ℕ) → slice_get (cond b (g.row ∷ rows_of guards i) (rows_of guards i)) k ≡ Some row → P row
+    by true rest zero e = let same : g.row ≡ row = cc in subst P same h.0
     by true rest (suc k) e = rest k row e
     by false rest k e = rest k row e
 
@@ -104,7 +104,8 @@ each_fits domains rows variants merged j group e =
     subst (IsGroup domains (length rows)) (sym same) (record {
       some = some_row variants.guards j used.0 used.1 used.2;
       few = omega (arith, few_rows variants.guards j, count);
-      clean = clean_rows domains variants.guards j merged.clean;
+      ranges = each_row (HasRanges domains) variants.guards j merged.ranges;
+      clean = each_row (IsClean domains) variants.guards j merged.clean;
     })
 
 pub groups_fit : GroupsFit

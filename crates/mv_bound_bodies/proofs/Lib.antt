@@ -9,9 +9,11 @@ pub mod RenamedNames
 pub mod NamesKept
 pub mod Weights
 pub mod Variants
+pub mod OwnReads
 pub mod Led
 pub mod Groups
 pub mod Slots
 pub mod FewSlots
 pub mod Switches
 pub mod Patchable
+pub mod RenamedForm

@@ -1,5 +1,5 @@
 -- A body that is bound, folded and renamed.
-use Rattle.std.proofs.Common.{arith, ◌≡◌, ℕ, true, not, List, Option, None, Some, is_some, refl, ◌∙◌, ap, subst, Contains}
+use Rattle.std.proofs.Common.{arith, ◌≡◌, ℕ, true, not, List, Option, None, Some, is_some, refl, sym, ◌∙◌, ap, subst, Contains}
 use Rattle.std.specs.List.{filter, zip}
 use Rattle.std.proofs.lemmas.List.Elements.{All-contains, All-contains_itself, filter_passes, All-weaker}
 use Rattle.mv_ir.specs.declared.body.Body.{Body}
@@ -7,7 +7,9 @@ use Rattle.mv_ir.specs.Trees.{found}
 use Rattle.mv_ir.specs.Measures.{scalars_read}
 use Rattle.mv_clone.specs.Bind.{is_free}
 use Rattle.mv_lowering.specs.Functions.{lower_function}
+use Rattle.mv_fold.specs.Form.{IsFoldedForm}
 use Rattle.mv_bound_bodies.specs.Meant.{KeepsUnder, IsMadeUnder, IsVariantOf, MadeAreVariants, LoweredAreVariants}
+use Rattle.mv_bound_bodies.proofs.RenamedForm.{renaming_keeps_form}
 
 is_none : (o : Option ℕ) → not (is_some o) ≡ true → o ≡ None
 is_none None h = refl
@@ -31,6 +33,7 @@ module _ (ps : List (ℕ × ℕ)) (body result : Body) (m : IsMadeUnder ps body 
   is_variant = record {
     keeps = keeps;
     free = All-weaker (Contains (scalars_read result.code)) (λ g. found ps g ≡ None) reads_free (scalars_read result.code) (All-contains_itself (scalars_read result.code));
+    form = subst (λ (b : Body). IsFoldedForm b.code) (sym m.is_renamed.changes) (renaming_keeps_form m.is_renamed.numbers m.folded.code m.is_folded.form);
     deepest = omega (arith, m.is_bound.deepest, m.is_folded.smaller.deepest, m.is_renamed.deepest);
     statements = omega (arith, m.is_bound.statements, m.is_folded.smaller.statements, m.is_renamed.statements);
     tree_nodes = omega (arith, m.is_bound.tree_nodes, m.is_folded.smaller.tree_nodes, m.is_renamed.tree_nodes);

@@ -7,8 +7,8 @@ use Rattle.mv_flow_code.specs.Labels.{functions}
 use Rattle.mv_selected_bodies.specs.SelectedBodies.{HasWords, IsOrder, constants, knowns}
 use Rattle.mv_clone.specs.Bind.{bound_code}
 use Rattle.mv_regalloc.specs.Rename.{renamed_code}
-use Rattle.mv_fold.specs.Simple.{simple_code}
 use Rattle.mv_fold.specs.Needed.{needed_code}
+use Rattle.mv_fold.specs.Folded.{simple_body}
 use Rattle.mv_bound_bodies.specs.Names.{NamesNoMore, BindingNamesNoMore, FoldingNamesNoMore}
 use Rattle.mv_bound_bodies.proofs.Words.{unary_word, binary_word, narrow_word, divide_word}
 use Rattle.mv_bound_bodies.proofs.Naming.{CodeNames, code_functions, code_knowns, code_constants, code_of, each_all, all_each}
@@ -62,9 +62,9 @@ binding_names ps words code =
     no_more code (bound_code ps code) (bound_names (Contains (functions code)) (Contains (knowns code)) Anything ps (λ g v e. tt) code) (bound_names Anything IsOrder IsWord ps words code)
 
 pub folding_names : FoldingNamesNoMore
-folding_names code folded (needed, is, e) =
+folding_names temps code folded (needed, is, e) =
     subst (NamesNoMore code) (sym e)
-    (no_more code (needed_code needed (simple_code code)) (folded_names (Contains (functions code)) (Contains (knowns code)) Anything anything_closed needed code) (folded_names Anything IsOrder IsWord words_closed needed code))
+    (no_more code (needed_code needed (simple_body temps code)) (folded_names (Contains (functions code)) (Contains (knowns code)) Anything anything_closed needed temps code) (folded_names Anything IsOrder IsWord words_closed needed temps code))
 
 pub renaming_names : (c : ℕ → ℕ) (code : List Stm) → NamesNoMore code (renamed_code c code)
 renaming_names c code = no_more code (renamed_code c code) (renamed_names (Contains (functions code)) (Contains (knowns code)) Anything c code) (renamed_names Anything IsOrder IsWord c code)

@@ -14,9 +14,12 @@ use Rattle.mv_ir.proofs.Keeping.{map_append}
 use Rattle.mv_clone.specs.Bind.{bound_callee, bound_layer, bound_stm, bound_code}
 use Rattle.mv_clone.proofs.Bound.{bound_stm_roll}
 use Rattle.mv_fold.specs.Simple.{constant, number, simple_tree, jumps, ended, simple_callee, alone, division, choice, simple_layer, simple_stm, simple_code}
+use Rattle.mv_fold.specs.Shortened.{shortened}
 use Rattle.mv_fold.specs.Needed.{needed_layer, needed_stm, needed_code}
+use Rattle.mv_fold.specs.Folded.{simple_body}
 use Rattle.mv_fold.proofs.SimpleKept.{simple_stm_roll}
 use Rattle.mv_fold.proofs.NeededEquations.{needed_stm_roll}
+use Rattle.mv_fold.proofs.Shortening.{shortened_is}
 use Rattle.mv_regalloc.specs.Rename.{renamed_callee, renamed_layer, renamed_stm, renamed_code}
 use Rattle.mv_regalloc.proofs.RenamedTrees.{renamed_stm_roll}
 use Rattle.mv_lowered_forms.specs.Calls.{callee_weight, layer_weight, stm_weight, code_weight}
@@ -173,6 +176,19 @@ module _ (direct : ℕ → ℕ) (through : ℕ) where
   simple_weight : (code : List Stm) → ww (simple_code code) ≤ ww code
   simple_weight code = code_simple code (stms_ind (Many simple_stm) (stm_ind (Many simple_stm) (λ x h. to_many simple_stm x _ (simple_stm_roll x) (layer_simple x h))) code)
 
+  abbrev NoHeavier : List Stm → List Stm → Type 0
+  NoHeavier xs ys = ww ys ≤ ww xs
+
+  short_weight : (temps : ℕ) (code : List Stm) → ww (shortened temps code) ≤ ww code
+  short_weight temps = shortened_is temps NoHeavier (record {
+    same = λ xs. omega arith;
+    both = λ xs ys zs h k. omega (arith, h, k);
+    behind = λ s xs ys h. omega (arith, h);
+    leave = λ n. omega arith;
+    stored = λ t g v lt. none_of (stm.SetGlobal g v) _ refl;
+    returned = λ t v lt. none_of (stm.Return v) _ refl;
+  })
+
   module _ (needed : ℕ → Bool) where
     set_weight : (b : Bool) (t : ℕ) (v : Tree) (n : ℕ) → ww (cond b (alone (stm.Set t v)) []) ≤ n
     set_weight true t v n = none_of (stm.Set t v) n refl
@@ -198,5 +214,5 @@ module _ (direct : ℕ → ℕ) (through : ℕ) where
     needed_weight : (code : List Stm) → ww (needed_code needed code) ≤ ww code
     needed_weight code = many (needed_stm needed) code (stms_ind (Many (needed_stm needed)) (stm_ind (Many (needed_stm needed)) (λ x h. to_many (needed_stm needed) x _ (needed_stm_roll needed x) (layer_needed x h))) code)
 
-    pub folded_weight : (code : List Stm) → ww (needed_code needed (simple_code code)) ≤ ww code
-    folded_weight code = omega (arith, needed_weight (simple_code code), simple_weight code)
+    pub folded_weight : (temps : ℕ) (code : List Stm) → ww (needed_code needed (simple_body temps code)) ≤ ww code
+    folded_weight temps code = omega (arith, needed_weight (simple_body temps code), short_weight temps (simple_code code), simple_weight code)

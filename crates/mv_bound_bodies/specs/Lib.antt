@@ -3,6 +3,7 @@ pub mod Tables
 pub mod Meant
 pub mod Names
 pub mod Variants
+pub mod Reads
 pub mod Led
 pub mod Slots
 pub mod Switches

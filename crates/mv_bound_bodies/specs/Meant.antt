@@ -3,6 +3,7 @@ use Rattle.std.specs.Prelude.{ℕ, ◌≡◌, ◌≤◌, List, All, None}
 use Rattle.std.specs.List.{zip}
 use Rattle.mv_ast.specs.declared.program.Program.{Program}
 use Rattle.mv_ast.specs.declared.program.Function.{Function}
+use Rattle.mv_ir.specs.declared.stm.Stm.{Stm}
 use Rattle.mv_ir.specs.declared.body.Body.{Body}
 use Rattle.mv_ir.specs.World.{World, Setting}
 use Rattle.mv_ir.specs.Trees.{found}
@@ -13,7 +14,9 @@ use Rattle.mv_ir.specs.Measures.{scalars_read, statements, tree_nodes, calls, de
 use Rattle.mv_ir.specs.Live.{IsWhole, HasTemps, most_intervals}
 use Rattle.mv_ir.specs.WellFormed.{IsWellFormed}
 use Rattle.mv_clone.specs.Bind.{IsBound}
+use Rattle.mv_fold.specs.Form.{IsFoldedForm}
 use Rattle.mv_fold.specs.Folded.{IsFolded}
+use Rattle.mv_regalloc.specs.Rename.{renamed_code}
 use Rattle.mv_regalloc.specs.Intervals.{IsRenamed}
 use Rattle.mv_lowering.specs.Functions.{lower_function}
 
@@ -31,11 +34,16 @@ pub record IsMadeUnder (ps : List (ℕ × ℕ)) (body result : Body) : Type 0 wh
   pub is_folded : IsFolded bound folded
   pub is_renamed : IsRenamed folded result
 
--- Such a body keeps the meaning under these values and reads none of the switches. No count of it is greater, its temporaries are as many as there are intervals
+-- Whatever numbers temporaries get, code that has the folded form has it with them.
+abbrev pub RenamingKeepsForm : Type 0
+RenamingKeepsForm = (numbers : ℕ → ℕ) (code : List Stm) → IsFoldedForm code → IsFoldedForm (renamed_code numbers code)
+
+-- Such a body keeps the meaning under these values, reads none of the switches and has the folded form. No count of it is greater, its temporaries are as many as there are intervals
 -- over one position of the first body at most, and what else there is of it is the same.
 pub record IsVariantOf (ps : List (ℕ × ℕ)) (body result : Body) : Type 0 where
   pub keeps : KeepsUnder ps body result
   pub free : All (λ g. found ps g ≡ None) (scalars_read result.code)
+  pub form : IsFoldedForm result.code
   pub deepest : deepest result.code ≤ deepest body.code
   pub statements : statements result.code ≤ statements body.code
   pub tree_nodes : tree_nodes result.code ≤ tree_nodes body.code

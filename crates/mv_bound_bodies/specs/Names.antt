@@ -22,4 +22,4 @@ abbrev pub BindingNamesNoMore : Type 0
 BindingNamesNoMore = (ps : List (ℕ × ℕ)) → ReadAsWords ps → (code : List Stm) → NamesNoMore code (bound_code ps code)
 
 abbrev pub FoldingNamesNoMore : Type 0
-FoldingNamesNoMore = (code folded : List Stm) → IsFoldedCode code folded → NamesNoMore code folded
+FoldingNamesNoMore = (temps : ℕ) (code folded : List Stm) → IsFoldedCode temps code folded → NamesNoMore code folded

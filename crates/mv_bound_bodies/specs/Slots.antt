@@ -50,6 +50,12 @@ OwnSlotsAreFew =
     (p : Program) (g : Function) → CallsAsOften p g (lower_function p g) → (folded result : Body) → IsFolded (lower_function p g) folded → IsRenamed folded result →
     (place sizes : ℕ → ℕ) (shape : Shape) → slots (function_lines place sizes (is_marked result.marked) shape result.code) ≤ counts.calls p g
 
+-- The same of its code that is renamed alone.
+abbrev pub RenamedSlotsAreFew : Type 0
+RenamedSlotsAreFew =
+    (p : Program) (g : Function) → CallsAsOften p g (lower_function p g) → (result : Body) → IsRenamed (lower_function p g) result →
+    (place sizes : ℕ → ℕ) (shape : Shape) → slots (function_lines place sizes (is_marked result.marked) shape result.code) ≤ counts.calls p g
+
 -- the slots in a variant's code
 abbrev pub variant_slots : (place sizes : ℕ → ℕ) → Body → ℕ
 variant_slots place sizes b = slots (function_lines place sizes (is_marked b.marked) (shape_of true b) b.code)

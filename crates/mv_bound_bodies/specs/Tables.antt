@@ -9,7 +9,7 @@ use Rattle.mv_image.specs.Patched.{variants_before, kinds_of, fitting_variant}
 use Rattle.mv_merge.specs.declared.rows.Domain.{Domain}
 use Rattle.mv_merge.specs.declared.rows.Bound.{Bound}
 use Rattle.mv_merge.specs.declared.rows.Variants.{Variants}
-use Rattle.mv_merge.specs.Guards.{kinds, domain_values, AreValues, all_values, IsMerged}
+use Rattle.mv_merge.specs.Guards.{kinds, domain_values, AreValues, all_values, HasRanges, IsMerged}
 use Rattle.mv_descriptors.specs.Rows.{ZerosFrom}
 use Rattle.mv_bound_bodies.specs.Rows.{groups, AreCounted, Leads}
 
@@ -44,10 +44,11 @@ VariantsAreLed =
 
 -- ---- counts
 
--- a group has 1 to so many rows, whose unused words are 0
+-- a group has 1 to so many rows, which give ranges of the domains, and whose unused words are 0
 pub record IsGroup (domains : List Domain) (most : ℕ) (group : List GuardRow) : Type 0 where
   pub some : 0 < length group
   pub few : length group ≤ most
+  pub ranges : (i : ℕ) (g : GuardRow) → slice_get group i ≡ Some g → HasRanges domains g
   pub clean : (i : ℕ) (g : GuardRow) → slice_get group i ≡ Some g → ZerosFrom (length domains) g.low × ZerosFrom (length domains) g.high
 
 -- Each variant has a row, none has more rows than there are assignments, and all together have no more; so there are no more variants.

@@ -1,8 +1,9 @@
 -- What selection asks of a body that is bound, folded and renamed, and how many calls it has.
-use Rattle.std.specs.Prelude.{ℕ, ◌≡◌, ◌<◌, ◌≤◌, true, List, All, length}
+use Rattle.std.specs.Prelude.{ℕ, ◌≡◌, ◌<◌, ◌≤◌, true, List, All, length, None}
 use Rattle.mv_ir.specs.declared.body.Body.{Body}
 use Rattle.mv_ir.specs.World as ir
-use Rattle.mv_ir.specs.Measures.{deepest}
+use Rattle.mv_ir.specs.Measures.{arrays_read, deepest}
+use Rattle.mv_ir.specs.Trees.{found}
 use Rattle.mv_ir.specs.Live.{most_intervals}
 use Rattle.mv_ir.specs.WellFormed.{IsWellFormed}
 use Rattle.mv_flow_code.specs.Labels.{functions}
@@ -10,6 +11,7 @@ use Rattle.mv_call_code.specs.Convention.{Layout, frame_limit}
 use Rattle.mv_function_code.specs.FunctionCode.{frame_bytes}
 use Rattle.mv_selected_bodies.specs.SelectedBodies.{HasWords, AreRooms, IsInProgram, knowns}
 use Rattle.mv_lowered_forms.specs.Calls.{code_weight}
+use Rattle.mv_regalloc.specs.Intervals.{IsRenamed}
 use Rattle.mv_bound_bodies.specs.Meant.{IsMadeUnder}
 use Rattle.mv_bound_bodies.specs.Names.{NamesNoMore, ReadAsWords}
 
@@ -31,7 +33,13 @@ pub record IsOfProgram (y : Layout) (setting : ir.Setting) (body : Body) : Type 
   pub knowns : All (λ k. y.may_ask k ≡ true) (knowns body.code)
   pub functions : All (λ f. f < length setting.numbers) (functions body.code)
 
--- Each body made of it under words is one of the program, whose trees read no switch.
+-- Where it reads no element of a switch, each body made of it under words is one of the program, which reads none of its switches.
 abbrev pub MadeAreInProgram : Type 0
 MadeAreInProgram =
-    (y : Layout) (setting : ir.Setting) (ps : List (ℕ × ℕ)) (body result : Body) → IsOfProgram y setting body → ReadAsWords ps → IsMadeUnder ps body result → IsInProgram y setting true ps result
+    (y : Layout) (setting : ir.Setting) (ps : List (ℕ × ℕ)) (body result : Body) → IsOfProgram y setting body → All (λ g. found ps g ≡ None) (arrays_read body.code) →
+    ReadAsWords ps → IsMadeUnder ps body result → IsInProgram y setting true ps result
+
+-- Its frame is no larger than that of the first body with its temporaries renamed alone.
+abbrev pub MadeFramesAreNoLarger : Type 0
+MadeFramesAreNoLarger =
+    (ps : List (ℕ × ℕ)) (body own result : Body) → IsRenamed body own → IsMadeUnder ps body result → frame_bytes result.temps result.arrays ≤ frame_bytes own.temps own.arrays

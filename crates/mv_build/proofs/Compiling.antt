@@ -1,9 +1,10 @@
 -- A function whose lowering is renamed and selected has code.
-use Rattle.std.proofs.Common.{◌≡◌, ⊎_elim, ℕ, ◌<◌, ◌≤◌, Bool, true, false, nat_lt, List, Some, length, slice_get, min, All, inl, inr, sym, ap, ◌∙◌, subst, arith}
+use Rattle.std.proofs.Common.{◌≡◌, ⊎_elim, ℕ, ◌<◌, ◌≤◌, Bool, true, false, nat_lt, List, [], Some, length, slice_get, min, All, inl, inr, sym, ap, ◌∙◌, subst, arith, ◌++◌, ap₂}
 use Rattle.std.proofs.lemmas.List.Elements.{All-weaker}
 use Rattle.std.proofs.lemmas.Bool.{cases_lt, ltb-true, lt-ltb}
 use Rattle.mv_ast.specs.declared.program.Program.{Program}
 use Rattle.mv_ast.specs.declared.program.Function.{Function}
+use Rattle.mv_ast.specs.Plans.{is_among}
 use Rattle.mv_front.specs.Refusals.{counted}
 use Rattle.mv_isa.specs.declared.labelled.Labelled.{Labelled}
 use Rattle.mv_isa.specs.declared.labelled.Line.{Line}
@@ -13,7 +14,7 @@ use Rattle.mv_ir.specs.declared.body.Body.{Body}
 use Rattle.mv_ir.specs.Live.{most_intervals}
 use Rattle.mv_ir.specs.Measures.{deepest}
 use Rattle.mv_ir.specs.WellFormed.{IsWellFormed}
-use Rattle.mv_lowering.specs.Functions.{lower_function}
+use Rattle.mv_lowering.specs.Functions.{functions_called, lower_function, lower_function_code}
 use Rattle.mv_lowered_forms.specs.Law.{IsFunctionOf, LoweredAreShallow, LoweredAreWellFormed, LoweredAreSmall}
 use Rattle.mv_lowered_names.specs.Laws.{FunctionsAreThere, OnlyInputAndOutput, NamesTheSame, RenamingKeepsNames}
 use Rattle.mv_regalloc.specs.Intervals.{IsRenamed}
@@ -31,7 +32,9 @@ use Rattle.mv_select.specs.Laws.{SelectedIsEncoded, SelectedLabelsAreOwn}
 use Rattle.mv_select.specs.Selected as selecting
 use Rattle.mv_select.specs.Selected.{IsSuitable, IsSelected, selected_lines, selected_labels}
 use Rattle.mv_linker.specs.Linked.{IsFunction, IsTarget, NamesAreThere}
+use Rattle.mv_linker.specs.Tables.{CallsAmong}
 use Rattle.mv_built_programs.specs.Built.{IsCompiledTo}
+use Rattle.mv_built_programs.proofs.Plain.{none_marked}
 use Rattle.mv_build.specs.Compiled.{IsSound, HasCode, PassesFrame}
 use Rattle.mv_build.specs.Frames.{frame_size}
 use Rattle.mv_build.specs.Verdicts.{greatest_count}
@@ -103,6 +106,7 @@ module _ (shallow : LoweredAreShallow) (formed : LoweredAreWellFormed) (small : 
     rooms = names.rooms;
     marked = names.marked;
     within = record { formed = formed_body; shallow = shallow_body; frame = fits; orders = words.orders };
+    reads = ap₂ ◌++◌ renamed.scalars renamed.arrays;
     words = words;
     knowns = knowns_direct;
     functions = functions_there;
@@ -142,6 +146,26 @@ module _ (shallow : LoweredAreShallow) (formed : LoweredAreWellFormed) (small : 
       names = subst (All (NamesAreThere (length p.functions) code)) (sym selected.items) lines_there;
     }
 
+    unmarked : (n : ℕ) → is_marked body.marked n ≡ false
+    unmarked n =
+        let none = none_marked (λ k. is_among k (functions_called (lower_function_code g).code)) 0 p.functions sound.compilable.unattributed in
+        ap (λ (marked : List ℕ). is_marked marked n) (names.marked ∙ none)
+
+    no_slot : (line : Line) → NamesThese (selected_labels false body) (is_function p) (is_marked body.marked) line → CallsAmong [] line
+    no_slot (Word i) h = tt
+    no_slot (Label l) h = tt
+    no_slot (Jump rd l) h = tt
+    no_slot (Branch f3 a b l) h = tt
+    no_slot (Entry rd k) h = tt
+    no_slot (Slot k) h = let marked = h.1 in let bad : true ≡ false = sym marked ∙ unmarked k in absurd (cc)
+
+    no_slots : All (CallsAmong []) code.items
+    no_slots =
+        subst (All (CallsAmong [])) (sym selected.items)
+        (All-weaker (NamesThese (selected_labels false body) (is_function p) (is_marked body.marked)) (CallsAmong []) no_slot (selected_lines false body)
+        (named (place_in body.rooms) (size_in body.rooms) (is_marked body.marked) (shape_of false body) body.code (is_function p)
+        (all_functions p (functions body.code) functions_there)))
+
     pub has_code : HasCode p f body code
     has_code = record {
       function = g;
@@ -149,5 +173,6 @@ module _ (shallow : LoweredAreShallow) (formed : LoweredAreWellFormed) (small : 
       is_code = record { compiled = compiled_to selected.frame; items = selected.items; labels = selected.labels };
       frame = subst (λ n. n ≤ frame_limit) frame_is selected.frame;
       linkable = linkable;
+      no_slots = no_slots;
       few = let few = (small p f g of_program).statements in omega (arith, selected.few, renamed.statements, few);
     }

@@ -14,6 +14,7 @@ use Rattle.mv_linker.specs.declared.parts.Parts.{Parts}
 use Rattle.mv_linker.specs.declared.error.LinkError.{LinkError}
 use Rattle.mv_linker.specs.declared.error.LinkError.TheVariants as linking
 use Rattle.mv_linker.specs.Outcome.{IsRefusal}
+use Rattle.mv_linker.specs.Laws.{UnattributedPartsArePlain}
 use Rattle.mv_first_data.specs.FirstData.{data_words}
 use Rattle.mv_first_data.specs.Laws.{HasRoom, WordsAreFirst, FunctionsAreThere, CountIsSum}
 use Rattle.mv_built_programs.specs.Laws.{BuiltProgramsBehave}
@@ -23,13 +24,14 @@ use Rattle.mv_build.specs.Compiled.{IsSound, HaveCode, IsImageOf, IsLinkedTo, Is
 use Rattle.mv_build.specs.Errors.{of_linking}
 use Rattle.mv_build.specs.Made.{AreGenerics}
 use Rattle.mv_build.specs.Verdicts.{PassesLimit, long_text, data_limit}
-use Rattle.mv_build.proofs.Linking.{are_parts_of, frames_fit, built}
+use Rattle.mv_build.proofs.Linking.{are_parts_of, tables, frames_fit, built}
 
 has_room : (p : Program) → All IsWellFormedGlobal p.globals → HasRoom p
 has_room p = All-weaker IsWellFormedGlobal (λ (g : Global). length g.first ≤ words_of_size g.size) (λ g h. h.given) p.globals
 
 -- why parts aren't linked
 pub cause_told : (parts : Parts) (cause : LinkError) → IsRefusal parts cause → OnRefusal (of_linking cause) (IsLinkRefusal parts)
+cause_told parts (linking.Sites n) h = record { cause = linking.Sites n; is = refl; why = h }
 cause_told parts (linking.DataLimit n) h = record { cause = linking.DataLimit n; is = refl; why = h }
 cause_told parts (linking.TextLimit n) h = record { cause = linking.TextLimit n; is = refl; why = h }
 cause_told parts (linking.Memory e) h = tt
@@ -41,12 +43,15 @@ module _ (data_there : FunctionsAreThere) (p : Program) (sound : IsSound p) (bod
     frames = frames_fit p bodies generics codes have;
     data_fits = fits;
     made = record { generics = generics; parts = parts_of p codes; are_parts = are_parts_of p bodies generics codes have data_there sound; linked = to.linked };
-    behaves = behave p image sound.formed sound.compilable.unattributed sound.words (built p bodies generics codes have data_there sound words_first image to);
+    behaves = λ bytes actions picks are. (behave p image sound.formed sound.compilable.unattributed sound.words (built p bodies generics codes have data_there sound words_first image to) bytes actions picks are).0;
   }
 
-  link_refused : (count : CountIsSum) (r : Refusal) (cause : LinkError) → Refused r ≡ of_linking cause → IsRefusal (parts_of p codes) cause → PassesLimit p r
-  link_refused count r (linking.DataLimit n) e h = let words = count p (has_room p sound.formed.globals) in absurd (omega (arith, h.0, h.1, words, fits))
-  link_refused count r (linking.TextLimit n) e h =
+  link_refused : (plain : UnattributedPartsArePlain) (count : CountIsSum) (r : Refusal) (cause : LinkError) → Refused r ≡ of_linking cause → IsRefusal (parts_of p codes) cause → PassesLimit p r
+  link_refused plain count r (linking.Sites n) e h =
+      let none = (plain (parts_of p codes) (tables p bodies generics codes have data_there sound) refl).no_slots in
+      absurd (omega (arith, h.0, h.1, none))
+  link_refused plain count r (linking.DataLimit n) e h = let words = count p (has_room p sound.formed.globals) in absurd (omega (arith, h.1, h.2, words, fits))
+  link_refused plain count r (linking.TextLimit n) e h =
       let same : counted 9 0 n ≡ r = cc e in
       subst (PassesLimit p) same
       (long_text n (frames_fit p bodies generics codes have) fits (record {
@@ -54,10 +59,10 @@ module _ (data_there : FunctionsAreThere) (p : Program) (sound : IsSound p) (bod
         generics = generics;
         parts = parts_of p codes;
         are_parts = are_parts_of p bodies generics codes have data_there sound;
-        past = h.1;
+        past = h.2;
       }))
-  link_refused count r (linking.Memory m) e h = absurd (cc e)
+  link_refused plain count r (linking.Memory m) e h = absurd (cc e)
 
-  pub refusal_is : (count : CountIsSum) (e : BuildError) → OnRefusal e (IsLinkRefusal (parts_of p codes)) → OnRefusal e (PassesLimit p)
-  refusal_is count (Refused r) h = link_refused count r h.cause h.is h.why
-  refusal_is count (Memory e) h = tt
+  pub refusal_is : (plain : UnattributedPartsArePlain) (count : CountIsSum) (e : BuildError) → OnRefusal e (IsLinkRefusal (parts_of p codes)) → OnRefusal e (PassesLimit p)
+  refusal_is plain count (Refused r) h = link_refused plain count r h.cause h.is h.why
+  refusal_is plain count (Memory e) h = tt

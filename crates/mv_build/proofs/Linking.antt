@@ -1,7 +1,8 @@
 -- What is linked of a program whose functions have code, and that its image is built.
-use Rattle.std.proofs.Common.{◌≡◌, ⊎_elim, ℕ, suc, ◌+◌, ◌*◌, ◌<◌, ◌≤◌, List, [], ◌∷◌, Some, length, map, slice_get, sum, All, refl, sym, ◌∙◌, subst, arith}
-use Rattle.std.proofs.lemmas.List.Elements.{All-weaker}
-use Rattle.std.proofs.lemmas.List.Sums.{sum_by-cons}
+use Rattle.std.proofs.Common.{◌≡◌, ⊎_elim, ℕ, suc, ◌+◌, ◌*◌, ◌<◌, ◌≤◌, List, [], ◌∷◌, ◌++◌, Some, length, map, slice_get, sum, All, refl, sym, ap, ◌∙◌, subst, arith}
+use Rattle.std.proofs.lemmas.List.{length-append}
+use Rattle.std.proofs.lemmas.List.Elements.{All-nil, All-append, All-weaker}
+use Rattle.std.proofs.lemmas.List.Sums.{sum_by-append, sum_by-cons}
 use Rattle.std.proofs.lemmas.Option.{slice_get_within}
 use Rattle.mv_ast.specs.declared.program.Program.{Program}
 use Rattle.mv_ast.specs.declared.program.Function.{Function}
@@ -14,9 +15,11 @@ use Rattle.mv_isa.specs.declared.labelled.Labelled.{Labelled}
 use Rattle.mv_ir.specs.declared.body.Body.{Body}
 use Rattle.mv_numbering.specs.Typing.{IsFirstValue}
 use Rattle.mv_linker.specs.Linked.{AreParts, IsFunction, IsDatum, label_count}
+use Rattle.mv_linker.specs.Tables.{CallsAmong, FitsPartSwitch, FitsPartFunction, FitTables}
 use Rattle.mv_first_data.specs.FirstData.{first_data}
 use Rattle.mv_first_data.specs.Laws.{IsFirstValueAmong, HasFirstValues, WordsAreFirst, FunctionsAreThere}
 use Rattle.mv_built_programs.specs.Built.{IsCompiled, IsBuilt}
+use Rattle.mv_built_programs.proofs.Plain.{none_attributed}
 use Rattle.mv_build.specs.Compiled.{IsSound, HasCode, HaveCode, IsLinkedTo, parts_of}
 use Rattle.mv_build.specs.Frames.{FramesFit}
 use Rattle.mv_build.specs.Made.{AreGenerics, IsCodeOf, ArePartsOf}
@@ -51,6 +54,10 @@ labels_few (g ∷ gs) (code ∷ codes) e h =
 
 -- ---- parts
 
+-- what holds of each holds with none behind
+no_more : (P : Labelled → Type 0) (codes : List Labelled) → All P codes → All P (codes ++ [])
+no_more P codes all = All-append P codes [] all (All-nil P)
+
 module _ (p : Program) (bodies : List Body) (generics : AreGenerics p bodies) (codes : List Labelled) (have : HaveCode p bodies codes) where
   -- the function of some code is the program's
   module _ (f : ℕ) (g : Function) (body : Body) (code : Labelled) (there : slice_get p.functions f ≡ Some g) (of_body : slice_get bodies f ≡ Some body)
@@ -80,6 +87,9 @@ module _ (p : Program) (bodies : List Body) (generics : AreGenerics p bodies) (c
   each_linkable : (f : ℕ) (code : Labelled) → slice_get codes f ≡ Some code → IsFunction (length p.functions) code
   each_linkable f code is = let body = body_of f code is in (have.each f body.0 code body.1 is).linkable
 
+  each_slotless : (f : ℕ) (code : Labelled) → slice_get codes f ≡ Some code → All (CallsAmong []) code.items
+  each_slotless f code is = let body = body_of f code is in (have.each f body.0 code body.1 is).no_slots
+
   pub each_compiled : (f : ℕ) (g : Function) (code : Labelled) → slice_get p.functions f ≡ Some g → slice_get codes f ≡ Some code → IsCompiled p g code
   each_compiled f g code there is =
       let body = body_of f code is in
@@ -98,19 +108,32 @@ module _ (p : Program) (bodies : List Body) (generics : AreGenerics p bodies) (c
         let limits = sound.formed.limits in
         let few = labels_few p.functions codes count each_few in record {
           main = omega (arith, count, within);
-          functions = subst (λ n. All (IsFunction n) codes) (sym count) (all_by_index (IsFunction (length p.functions)) codes each_linkable);
+          functions = subst (λ n. All (IsFunction n) (codes ++ [])) (sym count) (no_more (IsFunction (length p.functions)) codes (all_by_index (IsFunction (length p.functions)) codes each_linkable));
           globals = subst (λ n. All (IsDatum n) (first_data p)) (sym count) (data_there p (first_values p sound.formed.typed.globals));
-          labels = omega (arith, count, few, limits.functions, limits.nodes);
+          labels = omega (arith, count, few, limits.functions, limits.nodes, length-append codes [], sum_by-append (λ (c : Labelled). c.labels) codes []);
         }
 
+    -- nothing goes into tables
+    pub tables : FitTables (parts_of p codes)
+    tables = record {
+      few_switches = omega arith;
+      switches = All-nil (FitsPartSwitch (length (first_data p)));
+      few_functions = omega arith;
+      functions = All-nil (FitsPartFunction (parts_of p codes));
+      ascend = λ i below. absurd (omega (arith, below));
+      slots = no_more (λ (code : Labelled). All (CallsAmong []) code.items) codes (all_by_index (λ (code : Labelled). All (CallsAmong []) code.items) codes each_slotless);
+    }
+
     pub are_parts_of : ArePartsOf p bodies (parts_of p codes)
-    are_parts_of = record { are = are_parts; one_each = have.one_each; functions = code_is; main = refl; globals = refl }
+    are_parts_of = record { are = are_parts; tables = tables; one_each = have.one_each; no_attributed = refl; functions = code_is; main = refl; globals = refl }
 
     pub built : (words_first : WordsAreFirst) (image : Fields) → IsLinkedTo (parts_of p codes) image → IsBuilt p image
     built words_first image to = record {
       parts = parts_of p codes;
       are = are_parts;
+      tables = tables;
       one_each = have.one_each;
+      one_attributed_each = sym (ap length (none_attributed p.functions sound.compilable.unattributed));
       functions = each_compiled;
       main = refl;
       globals = λ address numbers are. words_first p address numbers (first_values p sound.formed.typed.globals) are;

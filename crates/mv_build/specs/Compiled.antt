@@ -15,6 +15,7 @@ use Rattle.mv_call_code.specs.Convention.{frame_limit}
 use Rattle.mv_linker.specs.declared.parts.Parts.{Parts}
 use Rattle.mv_linker.specs.declared.error.LinkError.{LinkError}
 use Rattle.mv_linker.specs.Linked.{IsFunction}
+use Rattle.mv_linker.specs.Tables.{CallsAmong}
 use Rattle.mv_linker.specs.Outcome.{IsLinked, IsRefusal}
 use Rattle.mv_first_data.specs.FirstData.{data_words, first_data}
 use Rattle.mv_image_runs.specs.Behaves.{BehavesAlways}
@@ -39,13 +40,14 @@ pub record IsGeneric (p : Program) (f : ℕ) (body : Body) : Type 0 where
   pub there : slice_get p.functions f ≡ Some function
   pub renamed : IsRenamed (lower_function p function) body
 
--- The code of a function, which is that of its body: its frame is small enough, what it names is there, and its labels are few.
+-- The code of a function, which is that of its body: its frame is small enough, what it names is there, it has no slot, and its labels are few.
 pub record HasCode (p : Program) (f : ℕ) (body : Body) (code : Labelled) : Type 0 where
   pub function : Function
   pub there : slice_get p.functions f ≡ Some function
   pub is_code : IsCodeOf p function body code
   pub frame : frame_size p function ≤ frame_limit
   pub linkable : IsFunction (length p.functions) code
+  pub no_slots : All (CallsAmong []) code.items
   pub few : code.labels ≤ 12 * nodes function + 3
 
 -- the code of each function, in order
@@ -62,7 +64,7 @@ pub record PassesFrame (p : Program) (f : ℕ) (r : Refusal) : Type 0 where
 
 -- the code of a program's functions with the first words of its globals
 abbrev pub parts_of : Program → List Labelled → Parts
-parts_of p codes = record { functions = codes; main = p.main; globals = first_data p }
+parts_of p codes = record { functions = codes; main = p.main; globals = first_data p; switches = []; attributed = [] }
 
 -- the image that is linked of some parts, whose data are words
 pub record IsLinkedTo (parts : Parts) (image : Fields) : Type 0 where

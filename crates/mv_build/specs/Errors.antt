@@ -12,6 +12,7 @@ of_selecting (selecting.Frame function bytes) = Refused (counted 8 function byte
 of_selecting (selecting.Memory e) = Memory e
 
 abbrev pub of_linking : LinkError → BuildError
+of_linking (linking.Sites count) = Refused (counted 14 0 count)
 of_linking (linking.DataLimit count) = Refused (counted 13 0 count)
 of_linking (linking.TextLimit count) = Refused (counted 9 0 count)
 of_linking (linking.Memory e) = Memory e

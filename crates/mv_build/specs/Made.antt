@@ -1,5 +1,5 @@
 -- What the image of a program is made from: a body for each function, and the code of these.
-use Rattle.std.specs.Prelude.{ℕ, ◌≡◌, false, List, length, Some, slice_get}
+use Rattle.std.specs.Prelude.{ℕ, ◌≡◌, false, List, [], length, Some, slice_get}
 use Rattle.mv_ast.specs.declared.program.Program.{Program}
 use Rattle.mv_ast.specs.declared.program.Function.{Function}
 use Rattle.mv_isa.specs.declared.labelled.Labelled.{Labelled}
@@ -11,6 +11,7 @@ use Rattle.mv_select.specs.Selected.{selected_lines}
 use Rattle.mv_image.specs.Spelling.{Fields}
 use Rattle.mv_linker.specs.declared.parts.Parts.{Parts}
 use Rattle.mv_linker.specs.Linked.{AreParts}
+use Rattle.mv_linker.specs.Tables.{FitTables}
 use Rattle.mv_linker.specs.Outcome.{IsLinked}
 use Rattle.mv_first_data.specs.FirstData.{first_data}
 use Rattle.mv_built_programs.specs.Built.{IsCompiledTo}
@@ -29,7 +30,9 @@ pub record IsCodeOf (p : Program) (g : Function) (body : Body) (code : Labelled)
 -- What is linked of a program whose functions have these bodies: the code of each, and the first words of the globals.
 pub record ArePartsOf (p : Program) (bodies : List Body) (parts : Parts) : Type 0 where
   pub are : AreParts parts
+  pub tables : FitTables parts
   pub one_each : length parts.functions ≡ length p.functions
+  pub no_attributed : parts.attributed ≡ []
   pub functions : (f : ℕ) (g : Function) (body : Body) (code : Labelled) → slice_get p.functions f ≡ Some g → slice_get bodies f ≡ Some body →
       slice_get parts.functions f ≡ Some code → IsCodeOf p g body code
   pub main : parts.main ≡ p.main

@@ -65,6 +65,7 @@ impl From<LinkError> for BuildError {
 
     fn from(e: LinkError) -> BuildError {
         match e {
+            LinkError::Sites(count) => BuildError::Refused(Refusal::counted(14, 0, count)),
             LinkError::DataLimit(count) => BuildError::Refused(Refusal::counted(13, 0, count)),
             LinkError::TextLimit(count) => BuildError::Refused(Refusal::counted(9, 0, count)),
             LinkError::Memory(e) => BuildError::Memory(e),

@@ -3,6 +3,7 @@
 ghost use Rattle.std.specs.Prelude.{◌<◌, ◌^◌, ◌≤◌, All, IfErr, IfOk};
 ghost use Rattle.mv_first_data.specs.FirstData.{data_words};
 ghost use Rattle.mv_linker.specs.Linked.{AreParts};
+ghost use Rattle.mv_linker.specs.Tables.{FitTables};
 ghost use Rattle.mv_build.specs.Compiled.{IsImageOf, IsLinkedTo, IsLinkRefusal, IsSound, OnRefusal, parts_of};
 ghost use Rattle.mv_build.specs.Made.{AreGenerics};
 ghost use Rattle.mv_build.specs.Verdicts.{PassesLimit, data_limit};
@@ -16,7 +17,7 @@ use mv_front::Refusal;
 use mv_image::Image;
 use mv_ir::body::Body;
 use mv_isa::labelled::Labelled;
-use mv_linker::{Parts, link};
+use mv_linker::{Parts, link, linking_law};
 use mv_num::list::List;
 use std::alloc::Global;
 
@@ -35,6 +36,7 @@ pub(crate) fn image_of(
     ensures err { IfErr result (λ e. OnRefusal e (PassesLimit program.now)) }
 {
     data_law();
+    linking_law();
     built_programs_behave();
     let functions = codes_of(alloc, program, generics)?;
     let words = data_words(program);
@@ -47,6 +49,7 @@ pub(crate) fn image_of(
 /// The image of a program whose functions have this code.
 fn linked(alloc: Global, program: &Program, functions: List<Labelled>) -> Result<Image, BuildError>
     requires parts { AreParts (parts_of program.now functions) }
+    requires tables { FitTables (parts_of program.now functions) }
     requires fits { data_words program.now ≤ data_limit }
     ensures ok { IfOk result (λ image. IsLinkedTo (parts_of program.now functions) image) }
     ensures err { IfErr result (λ e. OnRefusal e (IsLinkRefusal (parts_of program.now functions))) }
@@ -55,6 +58,8 @@ fn linked(alloc: Global, program: &Program, functions: List<Labelled>) -> Result
         functions,
         main: program.main,
         globals: first_data(alloc, program)?,
+        switches: List::new(alloc),
+        attributed: List::new(alloc),
     };
     let image = link(alloc, &parts)?;
     are_words(image.globals().as_slice());

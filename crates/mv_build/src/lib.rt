@@ -1,4 +1,15 @@
 //! The compiler: from a source to the image of its program.
+//!
+//! - `build(alloc, text)`: a source that is a program by `mv_front`'s definition, without attributed functions, commits,
+//!   reverts and polls, is answered with that program and an image. Each function's body in `generics` is what it is
+//!   lowered to with its temporaries renamed, and means what the function means at no greater cost; the image is linked
+//!   of the code of these bodies and of the first words of the globals, and its run does what the program means
+//!   (`Behaves`), on each input of bytes, whatever the fetches pick. `variants` is empty.
+//! - Each other answer has its cause, and each cause its answer unless memory is wanting: refusals 1 to 7 are those of
+//!   `mv_front`; 16 comes exactly of programs with attributed functions, commits, reverts or polls; of the others 8 names
+//!   the first function whose frame is above 2,032 bytes and its bytes, then 13 the words of data above 262,144, then 9
+//!   the words of text above 131,072. A program that is compiled and passes none of these limits has an image.
+//! - The codes and counts of small sources are rows of `mv_top_rows`.
 #![tactic(auto)]
 
 ghost use Rattle.std.specs.Prelude.{◌↔◌, IfErr, IfOk, IsTrue};

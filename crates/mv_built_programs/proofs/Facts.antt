@@ -6,13 +6,14 @@ use Rattle.mv_machine_runs.specs.Laws.{CodeIsPlaced, TextsAreFound, PackedIsLaid
 use Rattle.mv_stub_runs.specs.Laws.{StartIsRight}
 use Rattle.mv_image_runs.specs.Laws.{ImagesBehave}
 use Rattle.mv_program_runs.specs.Laws.{MainFollowsOpenly}
-use Rattle.mv_linker.specs.Laws.{LinesFit, StubsStand, FunctionsStand}
+use Rattle.mv_linker.specs.Laws.{LinesFit, StubsStand, FunctionsStand, UnattributedPartsArePlain}
 use Rattle.mv_first_data.specs.Laws.{SizesAreCounts}
 
 pub record Laws : Type 0 where
   pub lines_fit : LinesFit
   pub stubs_stand : StubsStand
   pub functions_stand : FunctionsStand
+  pub plain : UnattributedPartsArePlain
   pub code_is_placed : CodeIsPlaced
   pub texts_are_found : TextsAreFound
   pub packed_is_laid_out : PackedIsLaidOut

@@ -20,7 +20,7 @@ use Rattle.mv_isa.specs.Code.{address, text_start}
 use Rattle.mv_image.specs.Spelling.{Fields}
 use Rattle.mv_ir.specs.declared.body.Body.{Body}
 use Rattle.mv_ir.specs.declared.body.Room.{Room}
-use Rattle.mv_ir.specs.Measures.{scalars_read}
+use Rattle.mv_ir.specs.Measures.{scalars_read, arrays_read}
 use Rattle.mv_ir.specs.Programs.{setting_of}
 use Rattle.mv_ir.specs.Trees.{found}
 use Rattle.mv_ir.specs.WellFormed.{has_room}
@@ -39,13 +39,13 @@ use Rattle.mv_call_code.specs.Environment.{IsDirect}
 use Rattle.mv_function_code.specs.FunctionCode.{bytes_of, later_lines, function_lines}
 use Rattle.mv_function_code.specs.Functions.{shape_of}
 use Rattle.mv_source_calls.specs.Bindings.{keeps_bindings}
-use Rattle.mv_selected_bodies.specs.SelectedBodies.{knowns, AreRooms, IsInProgram}
+use Rattle.mv_selected_bodies.specs.SelectedBodies.{knowns, reach_of, AreRooms, IsInProgram}
 use Rattle.mv_machine_runs.specs.Calm.{Rest}
 use Rattle.mv_machine_runs.specs.Layout.{IsPacked, IsSetOut}
 use Rattle.mv_machine_runs.specs.Laws.{IsByteOrEnd}
 use Rattle.mv_machine_runs.specs.MachineRuns.{access, machine_of, machine_text}
 use Rattle.mv_machine_runs.specs.Under.{words_under}
-use Rattle.mv_machine_runs.proofs.OnRuns.{runs_are}
+use Rattle.mv_machine_runs.proofs.OnRuns.{runs_are_alone}
 use Rattle.mv_machine_runs.proofs.Under.{runs_are_under}
 use Rattle.mv_machine_runs.proofs.Serving.{serves_calls}
 use Rattle.mv_machine_runs.proofs.Whole.{laid, memory, own, no_slot}
@@ -56,9 +56,12 @@ use Rattle.mv_first_data.specs.FirstData.{global_sizes}
 use Rattle.mv_first_data.specs.Laws.{AreAddresses}
 use Rattle.mv_built_programs.specs.Built.{IsUnattributed, HasWordsOfGlobals, IsCompiled, IsBuilt}
 use Rattle.mv_built_programs.specs.Layouts.{address_of, numbers_of, layout_of}
+use Rattle.mv_built_programs.specs.Closed.{closed}
+use Rattle.mv_built_programs.proofs.Closed.{is_open}
 use Rattle.mv_built_programs.proofs.Facts.{Laws}
+use Rattle.mv_built_programs.proofs.Plain.{none_marked, stands as plain_stands}
 use Rattle.mv_built_programs.proofs.NoSlots.{HasNone, IsNoSlot, function_none, each_none}
-use Rattle.mv_built_programs.proofs.Numbers.{BeginsWithWord, entries, numbering}
+use Rattle.mv_built_programs.proofs.Numbers.{BeginsWithWord, entries, entries_ascend, ends_before, numbering}
 use Rattle.mv_built_programs.proofs.Linked.{is_linked, code_placed, few_words}
 use Rattle.mv_built_programs.proofs.Renamed.{own_place}
 use Rattle.mv_built_programs.proofs.Rooms.{room_there, room_place, room_size, size_is, has_word}
@@ -80,14 +83,6 @@ direct_may_ask (Plan code index) h = absurd h
 not_kept : false ≡ true → ⊥
 not_kept e = cc
 
--- no function is marked where none is attributed
-none_marked : (is_called : ℕ → Bool) (f : ℕ) (gs : List Function) → ((k : ℕ) (g : Function) → slice_get gs k ≡ Some g → g.attributed ≡ false) → marked_from is_called f gs ≡ []
-none_marked is_called f [] plain = refl
-none_marked is_called f (g ∷ gs) plain =
-    let here = plain 0 g refl in
-    let rest = none_marked is_called (suc f) gs (λ k h e. plain (suc k) h e) in
-    rw (here) rest
-
 module _ (laws : Laws) (p : Program) (image : Fields) (formed : IsWellFormed p) (plain : IsUnattributed p) (have_words : HasWordsOfGlobals p)
     (built : IsBuilt p image) where
   abbrev parts : Parts
@@ -101,6 +96,9 @@ module _ (laws : Laws) (p : Program) (image : Fields) (formed : IsWellFormed p) 
 
   abbrev numbers : List ℕ
   numbers = numbers_of parts sizing
+
+  abbrev shut : (pc address : ℕ) → Bool
+  shut = closed parts sizing p
 
   -- ---- the body of a function
 
@@ -145,14 +143,14 @@ module _ (laws : Laws) (p : Program) (image : Fields) (formed : IsWellFormed p) 
       let g = function_there p.functions f (omega (arith, lt, same)) in begins f g.0 code g.1 here
 
   pub is_numbering : IsNumbering p numbers
-  is_numbering = numbering parts built.are laws.functions_stand sizing built.linked.text built.linked.least.fits.sizes built.linked.text_is each_begins p built.one_each
+  is_numbering = numbering parts (plain_stands laws p image plain built) sizing built.linked.text built.linked.least.fits.sizes built.linked.text_is each_begins p built.one_each
 
   pub addresses : AreAddresses (length p.functions) (address_of parts sizing) numbers
   addresses f lt =
       let count = is_numbering.count in
       let within : f < length numbers = omega (arith, lt, count) in
       slice_get-get_or numbers f 0 within ∙
-      ap Some (entries parts built.are laws.functions_stand sizing built.linked.text built.linked.least.fits.sizes built.linked.text_is each_begins f within).0
+      ap Some (entries parts (plain_stands laws p image plain built) sizing built.linked.text built.linked.least.fits.sizes built.linked.text_is each_begins f within).0
 
   -- ---- globals
 
@@ -160,7 +158,7 @@ module _ (laws : Laws) (p : Program) (image : Fields) (formed : IsWellFormed p) 
   global_count = laws.sizes_are_counts p numbers (All-weaker IsWellFormedGlobal (λ (x : Global). length x.first ≤ words_of_size x.size) (λ x h. h.given) p.globals formed.globals)
 
   pub few : sum (global_sizes p) ≤ 262144
-  few = few_words laws p image built global_count addresses
+  few = few_words laws p image plain built global_count addresses
 
   module _ (rooms : List Room) (is_named : ℕ → Bool) (same : rooms ≡ rooms_from is_named 0 0 p.globals) (x : ℕ) (h : has_room rooms x ≡ true) where
     there : has_room (rooms_from is_named 0 0 p.globals) x ≡ true
@@ -183,7 +181,7 @@ module _ (laws : Laws) (p : Program) (image : Fields) (formed : IsWellFormed p) 
   any_site = record {
     place = y.place;
     size = y.size;
-    is_read = λ g. false;
+    reach = record { is_read = λ g. false; is_written = λ g. false; may_load = λ a. false };
     entry = y.entry;
     may_ask = y.may_ask;
     temps = 0;
@@ -221,7 +219,7 @@ module _ (laws : Laws) (p : Program) (image : Fields) (formed : IsWellFormed p) 
 
   module _ (bytes : List ℕ) (actions : List Action) (picks : List ℕ) (are_bytes : All (λ b. b < 2 ^ 8) bytes) (budget far : ℕ) where
     abbrev machine : Machine Rest
-    machine = machine_of [] image (bytes_to_come bytes) actions picks
+    machine = machine_of [] shut image (bytes_to_come bytes) actions picks
 
     abbrev words : List Binding → ℕ → Option ℕ
     words = words_under image
@@ -229,15 +227,16 @@ module _ (laws : Laws) (p : Program) (image : Fields) (formed : IsWellFormed p) 
     bytes_or_end : All IsByteOrEnd (bytes_to_come bytes)
     bytes_or_end = All-map IsByteOrEnd Some bytes are_bytes
 
-    host : IsOpenHost access y machine words budget far p numbers
+    host : IsOpenHost access y machine words shut budget far p numbers
     host = record {
       laid = laid y set_out;
-      memory = memory y set_out [] image (bytes_to_come bytes) actions picks;
+      memory = memory y set_out [] shut image (bytes_to_come bytes) actions picks;
       sizes = λ x. refl;
-      runs = λ s stands. runs_are image (bytes_to_come bytes) actions picks s (own y set_out s stands) [];
-      runs_under = λ bs s stands. runs_are_under [] image (bytes_to_come bytes) actions picks bs s (own y set_out s stands);
-      entries = entries parts built.are laws.functions_stand sizing built.linked.text built.linked.least.fits.sizes built.linked.text_is each_begins;
-      calls = serves_calls [] image (bytes_to_come bytes) actions picks bytes_or_end y budget far numbers p;
+      runs = λ from to reach free s stands less. runs_are_alone [] shut image (bytes_to_come bytes) actions picks from to s (own y set_out s stands) (λ pc a le lt may. free pc a le lt (less a may));
+      runs_under = λ bs from to reach free s stands less.
+          runs_are_under [] shut image (bytes_to_come bytes) actions picks bs from to s (own y set_out s stands) (λ pc a le lt may. free pc a le lt (less a may));
+      entries = entries parts (plain_stands laws p image plain built) sizing built.linked.text built.linked.least.fits.sizes built.linked.text_is each_begins;
+      calls = serves_calls [] shut image (bytes_to_come bytes) actions picks bytes_or_end y budget far numbers p;
       stub = λ k args back i asked orders count target ra. absurd (orders (may_ask_direct k asked));
       slots = λ at f e. absurd (no_slot image at f e);
     }
@@ -266,6 +265,7 @@ module _ (laws : Laws) (p : Program) (image : Fields) (formed : IsWellFormed p) 
         knowns = All-weaker IsDirect (λ k. keeps_bindings k ≡ true) direct_may_ask (knowns the_body.code) the_compiled.compiled.knowns;
         functions = subst (λ n. All (λ k. k < n) (functions the_body.code)) (sym is_numbering.count) the_compiled.compiled.functions;
         free = All-from_get_or (λ x. found [] x ≡ None) (scalars_read the_body.code) 0 (λ i lt. refl);
+        arrays = All-from_get_or (λ x. found [] x ≡ None) (arrays_read the_body.code) 0 (λ i lt. refl);
       }
 
       lines_are : code.items ≡ function_lines y.place y.size (is_marked the_body.marked) (shape_of false the_body) the_body.code
@@ -277,25 +277,39 @@ module _ (laws : Laws) (p : Program) (image : Fields) (formed : IsWellFormed p) 
       abbrev end_at : ℕ
       end_at = address text_start sizing (part_index parts.functions f + length (function_part f (first_label parts.functions f) code))
 
-      plain_code : IsPlain y machine.text words p numbers f g
+      -- functions stand one behind the other
+      ascend : (h k : ℕ) → h < k → k < length p.functions → address_of parts sizing h < address_of parts sizing k
+      ascend h k lt within =
+          let same = built.one_each in
+          entries_ascend parts (plain_stands laws p image plain built) sizing built.linked.text built.linked.least.fits.sizes built.linked.text_is each_begins h k lt (omega (arith, within, same))
+
+      ends : (k : ℕ) → f < k → k < length p.functions → end_at ≤ address_of parts sizing k
+      ends k lt within =
+          let same = built.one_each in
+          ends_before parts (plain_stands laws p image plain built) sizing built.linked.text built.linked.least.fits.sizes built.linked.text_is each_begins f k code found_code.1 lt (omega (arith, within, same))
+
+      plain_code : IsPlain y machine.text words shut p numbers f g
       plain_code =
           let fits = laws.bodies_are_functions y (setting_of numbers p) false [] the_body in_program in
-          let placed = code_placed laws p image built f code found_code.1 g here (no_slots f g code here found_code.1) in record {
+          let placed = code_placed laws p image plain built f code found_code.1 g here (no_slots f g code here found_code.1) in record {
             body = the_body;
             keeps = the_compiled.compiled.keeps;
             params = the_compiled.compiled.params;
-            is_read = fits.0;
-            is_fine = fits.1;
+            reach = reach_of y the_body;
+            ample = fits.1;
+            is_fine = fits.0;
             fits = fits.2;
             place = own_at;
-            linked = is_linked laws p image built f code found_code.1;
+            linked = is_linked laws p image plain built f code found_code.1;
             is_attributed = is_marked the_body.marked;
             next = end_at;
+            open_there = λ pc a le lt may.
+                is_open parts sizing p set_out f g here (slice_get_within p.functions f g here) end_at ascend (λ k later within. ends k later within) the_body the_compiled.compiled.reads pc a le lt may;
             placed = subst (λ (items : List Line). Placed (machine_text [] image) own_at y.entry items (y.entry f) end_at) lines_are placed;
           }
 
-      selected : IsSelected y machine.text words p numbers f g
+      selected : IsSelected y machine.text words shut p numbers f g
       selected = record { plain = λ e. plain_code; patched = λ e. let not : g.attributed ≡ false = plain f g here in absurd (cc) }
 
-    pub loaded : IsOpenlyLoaded access y machine words budget far p numbers
+    pub loaded : IsOpenlyLoaded access y machine words shut budget far p numbers
     loaded = record { formed = formed; host = host; functions = selected }

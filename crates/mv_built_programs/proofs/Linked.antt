@@ -1,5 +1,5 @@
 -- What stands in the text and the data of a built image.
-use Rattle.std.proofs.Common.{◌≡◌, ℕ, ◌+◌, ◌-◌, ◌*◌, ◌/◌, ◌<◌, ◌≤◌, false, List, [], Some, map, sum, length, slice_get, All, sym, ap, ◌∙◌, subst, arith}
+use Rattle.std.proofs.Common.{◌≡◌, ℕ, ◌+◌, ◌-◌, ◌/◌, ◌<◌, ◌≤◌, false, List, [], Some, map, sum, length, slice_get, All, sym, ap, ◌∙◌, subst, arith}
 use Rattle.std.proofs.lemmas.List.{length-map}
 use Rattle.std.proofs.lemmas.List.Concat.{length-flat_map}
 use Rattle.std.proofs.lemmas.List.Elements.{All-cons, All-get_or}
@@ -23,19 +23,20 @@ use Rattle.mv_machine_runs.specs.MachineRuns.{may_be_patched, machine_text}
 use Rattle.mv_stub_runs.specs.Stubs.{start_lines, trap_lines}
 use Rattle.mv_image_runs.specs.Main.{HasStubs}
 use Rattle.mv_linker.specs.declared.parts.Parts.{Parts}
-use Rattle.mv_linker.specs.Linked.{IsFunction, relabelled, function_part, linked_lines, first_label, part_index}
+use Rattle.mv_linker.specs.Linked.{IsFunction, relabelled, function_part, linked_lines, first_label, trap_index, part_index}
 use Rattle.mv_linker.specs.Laws.{FunctionStands}
 use Rattle.mv_linker.specs.Outcome.{datum_word}
 use Rattle.mv_first_data.specs.FirstData.{global_sizes}
 use Rattle.mv_first_data.specs.Laws.{AreAddresses}
-use Rattle.mv_built_programs.specs.Built.{IsCompiled, IsBuilt}
+use Rattle.mv_built_programs.specs.Built.{IsUnattributed, IsCompiled, IsBuilt}
 use Rattle.mv_built_programs.specs.Layouts.{address_of, numbers_of, layout_of}
 use Rattle.mv_built_programs.proofs.Facts.{Laws}
+use Rattle.mv_built_programs.proofs.Plain.{is_plain, each_function, stands as plain_stands, few_labels as all_labels}
 use Rattle.mv_built_programs.proofs.NoSlots.{IsNoSlot}
 use Rattle.mv_built_programs.proofs.Renamed.{own_place, lines_placed, own_stays}
 use Rattle.mv_built_programs.proofs.Places.{IsKeptLine, each_kept, part_placed, kept_lines}
 
-module _ (laws : Laws) (p : Program) (image : Fields) (built : IsBuilt p image) where
+module _ (laws : Laws) (p : Program) (image : Fields) (plain : IsUnattributed p) (built : IsBuilt p image) where
   abbrev parts : Parts
   parts = built.parts
 
@@ -53,7 +54,7 @@ module _ (laws : Laws) (p : Program) (image : Fields) (built : IsBuilt p image) 
 
   -- nothing of the text is ever patched
   never : (a : ℕ) → may_be_patched image a ≡ false
-  never = (laws.texts_are_found image).unpatched (ap (λ (i : Fields). i.functions) built.linked.image_is) (ap (λ (i : Fields). i.sites) built.linked.image_is)
+  never = (laws.texts_are_found image).unpatched ((is_plain laws p image plain built).no_functions image built.linked) ((is_plain laws p image plain built).no_sites image built.linked)
 
   text_is : image.text ≡ built.linked.text
   text_is = ap (λ (i : Fields). i.text) built.linked.image_is
@@ -81,15 +82,15 @@ module _ (laws : Laws) (p : Program) (image : Fields) (built : IsBuilt p image) 
 
   module _ (c : ℕ) (from : 1 ≤ c) (to : c ≤ 4) where
     abbrev trap_at : ℕ
-    trap_at = address text_start sizing (4 * c + 1)
+    trap_at = address text_start sizing (trap_index c)
 
     abbrev trap_end : ℕ
-    trap_end = address text_start sizing (4 * c + 1 + length (trap_lines c))
+    trap_end = address text_start sizing (trap_index c + length (trap_lines c))
 
     trap_placed : IsPlacedPart (trap_lines c) trap_at trap_end
     trap_placed =
         let stands = (laws.stubs_stand parts built.are).1 c from to in
-        part_placed image never lines fits sizing built.linked.text built.linked.text_is has laws.code_is_placed (4 * c + 1) (trap_lines c) stands.stub
+        part_placed image never lines fits sizing built.linked.text built.linked.text_is has laws.code_is_placed (trap_index c) (trap_lines c) stands.stub
         (each_kept lines (trap_lines c) ((tt, stands.label), ((tt, tt), ((tt, tt), ((tt, tt), tt)))))
 
     -- it stands where its label is
@@ -103,7 +104,7 @@ module _ (laws : Laws) (p : Program) (image : Fields) (built : IsBuilt p image) 
     main_label = parts.main;
     start_ends = start_ends;
     start = start_placed;
-    trap_ends = λ c. address text_start sizing (4 * c + 1 + length (trap_lines c));
+    trap_ends = λ c. address text_start sizing (trap_index c + length (trap_lines c));
     traps = trap_here;
   }
 
@@ -114,7 +115,7 @@ module _ (laws : Laws) (p : Program) (image : Fields) (built : IsBuilt p image) 
     first = first_label parts.functions f
 
     abbrev stands : FunctionStands lines parts.functions f code
-    stands = laws.functions_stand parts built.are f code found
+    stands = plain_stands laws p image plain built f code found
 
     within : f < length parts.functions
     within = slice_get_within parts.functions f code found
@@ -122,14 +123,14 @@ module _ (laws : Laws) (p : Program) (image : Fields) (built : IsBuilt p image) 
     is_function : IsFunction (length parts.functions) code
     is_function =
         subst (IsFunction (length parts.functions)) (get_or_from_slice_get parts.functions f code code found)
-        (All-get_or (IsFunction (length parts.functions)) parts.functions f code within built.are.functions)
+        (All-get_or (IsFunction (length parts.functions)) parts.functions f code within (each_function laws p image plain built))
 
     few_labels : code.labels < 4294967289
     few_labels =
         let size = λ (c : Labelled). c.labels in
         let all = sum_by_more_le size parts.functions f code within in
         let same = ap size (get_or_from_slice_get parts.functions f code code found) in
-        let limit = built.are.labels in omega (arith, all, same, limit, within)
+        let limit = all_labels laws p image plain built in omega (arith, all, same, limit, within)
 
     -- where the stubs stand isn't changed by the names of a function's own labels
     pub is_linked : IsLinked y (own_place (machine_text [] image) place place first code.labels)

@@ -14,8 +14,8 @@ use Rattle.mv_isa.specs.declared.labelled.Line.TheVariants.{Word}
 use Rattle.mv_isa.specs.Code.{IsSizing, IsPlace, line_at, least_words, offset, address, text_start}
 use Rattle.mv_asm.specs.Outcome.{AreWordsUnder}
 use Rattle.mv_linker.specs.declared.parts.Parts.{Parts}
-use Rattle.mv_linker.specs.Linked.{AreParts, relabelled, line_count, linked_lines, first_label, part_index}
-use Rattle.mv_linker.specs.Laws.{FunctionStands, FunctionsStand}
+use Rattle.mv_linker.specs.Linked.{relabelled, function_part, line_count, linked_lines, first_label, part_index}
+use Rattle.mv_linker.specs.Laws.{FunctionStands}
 use Rattle.mv_built_programs.specs.Layouts.{address_of, numbers_of}
 
 -- ---- sums of the first of some numbers
@@ -35,7 +35,7 @@ pub record BeginsWithWord (code : Labelled) : Type 0 where
   pub rest : List Line
   pub items : code.items ≡ Word instr ∷ rest
 
-module _ (parts : Parts) (are : AreParts parts) (stand : FunctionsStand) (sizing text : List ℕ) (fits : IsSizing (linked_lines parts) sizing)
+module _ (parts : Parts) (stand : (f : ℕ) (code : Labelled) → slice_get parts.functions f ≡ Some code → FunctionStands (linked_lines parts) parts.functions f code) (sizing text : List ℕ) (fits : IsSizing (linked_lines parts) sizing)
     (words : AreWordsUnder text_start (linked_lines parts) sizing text) where
   abbrev lines : List Line
   lines = linked_lines parts
@@ -51,7 +51,7 @@ module _ (parts : Parts) (are : AreParts parts) (stand : FunctionsStand) (sizing
 
   module _ (f : ℕ) (code : Labelled) (found : slice_get functions f ≡ Some code) where
     abbrev stands : FunctionStands lines functions f code
-    stands = stand parts are f code found
+    stands = stand f code found
 
     -- a function begins where its part does
     pub entry_is : address_of parts sizing f ≡ at (index f)
@@ -59,6 +59,17 @@ module _ (parts : Parts) (are : AreParts parts) (stand : FunctionsStand) (sizing
         let within = stands.part.within in
         let here : index f + 0 ≡ index f = omega arith in
         words.stands.labels (index f) f (omega (arith, within)) (ap (line_at lines) (sym here) ∙ stands.part.each 0 (omega arith)) stands.entry
+
+    -- a later function begins behind its part
+    whole : (g : ℕ) → f < g → g ≤ length functions → index f + (1 + length code.items) ≤ index g
+    whole g lt le =
+        let size = λ (c : Labelled). 1 + length c.items in
+        let count : length (take g functions) ≡ g = length-take-le g functions le in
+        let all = sum_by_more_le size (take g functions) f code (omega (arith, count, lt)) in
+        let front : line_count (take f (take g functions)) ≡ line_count (take f functions) = ap line_count (take-take f g functions (omega (arith, lt))) in
+        let here : get_or (take g functions) f code ≡ code = get_or-take g functions f code lt ∙ get_or_from_slice_get functions f code code found in
+        let size_here : size (get_or (take g functions) f code) ≡ size code = ap size here in
+        omega (arith, all, front, size_here)
 
     -- behind its label stands a word at least
     module _ (begins : BeginsWithWord code) where
@@ -92,14 +103,7 @@ module _ (parts : Parts) (are : AreParts parts) (stand : FunctionsStand) (sizing
 
       -- a later function has a greater index
       behind : (g : ℕ) → f < g → g ≤ length functions → index f + 2 ≤ index g
-      behind g lt le =
-          let size = λ (c : Labelled). 1 + length c.items in
-          let count : length (take g functions) ≡ g = length-take-le g functions le in
-          let all = sum_by_more_le size (take g functions) f code (omega (arith, count, lt)) in
-          let front : line_count (take f (take g functions)) ≡ line_count (take f functions) = ap line_count (take-take f g functions (omega (arith, lt))) in
-          let here : get_or (take g functions) f code ≡ code = get_or-take g functions f code lt ∙ get_or_from_slice_get functions f code code found in
-          let size_here : size (get_or (take g functions) f code) ≡ size code = ap size here in
-          omega (arith, all, front, size_here, some)
+      behind g lt le = let all = whole g lt le in omega (arith, all, some)
 
   -- ---- the numbering
 
@@ -113,7 +117,17 @@ module _ (parts : Parts) (are : AreParts parts) (stand : FunctionsStand) (sizing
   there f lt = slice_get-get_or functions f none lt
 
   module _ (begin : (f : ℕ) (code : Labelled) → slice_get functions f ≡ Some code → BeginsWithWord code) where
-    entries_ascend : (f g : ℕ) → f < g → g < length functions → address_of parts sizing f < address_of parts sizing g
+    -- a function ends before a later one begins
+    pub ends_before : (f g : ℕ) (code : Labelled) → slice_get functions f ≡ Some code → f < g → g < length functions →
+        at (index f + length (function_part f (first_label functions f) code)) ≤ address_of parts sizing g
+    ends_before f g code found lt within =
+        let later = entry_is g (code_at g) (there g within) in
+        let behind = whole f code found g lt (omega (arith, within)) in
+        let count = length-map code.items (relabelled (first_label functions f) code.labels) in
+        let less = fewer sizing (index f + length (function_part f (first_label functions f) code)) (index g) (omega (arith, behind, count)) in
+        omega (arith, later, less)
+
+    pub entries_ascend : (f g : ℕ) → f < g → g < length functions → address_of parts sizing f < address_of parts sizing g
     entries_ascend f g lt within =
         let here = there f (omega (arith, lt, within)) in
         let later = there g within in

@@ -1,5 +1,5 @@
 -- An attributed function stands on the machine with an image that has it in its tables.
-use Rattle.std.proofs.Common.{◌≡◌, ℕ, suc, ◌+◌, ◌≤◌, true, All, List, [], ◌∷◌, map, length, Option, Some, None, refl, sym, ap, subst, ◌∙◌, arith, pos, ◌-ℤ◌}
+use Rattle.std.proofs.Common.{◌≡◌, ℕ, suc, ◌+◌, ◌≤◌, Bool, true, All, List, [], ◌∷◌, map, length, Option, Some, None, refl, sym, ap, subst, ◌∙◌, arith, pos, ◌-ℤ◌}
 use Rattle.std.specs.Prelude.{slice_get}
 use Rattle.std.proofs.lemmas.List.{length-map}
 use Rattle.std.proofs.lemmas.Option.{slice_get_within, get_or_from_slice_get}
@@ -44,11 +44,11 @@ few_values p f g vs formed here is combination =
     few : (gs : List Function) (n : ℕ) → slice_get gs n ≡ Some g → All (λ (x : Function). length x.switches ≤ 6) gs → length g.switches ≤ 6
     few gs n e h = subst (λ (z : Function). length z.switches ≤ 6) (get_or_from_slice_get gs n g g e) (h n g (slice_get_within gs n g e))
 
-module _ (show_free : FreeFunctionsShow) (show_bound : BoundFunctionsShow) (attributed : List ℕ) (image : Fields) (base : ℕ) (lines : List Line) (sizing words : List ℕ) (are : AreWordsUnder base lines sizing words)
+module _ (show_free : FreeFunctionsShow) (show_bound : BoundFunctionsShow) (attributed : List ℕ) (image : Fields) (closed : (pc address : ℕ) → Bool) (base : ℕ) (lines : List Line) (sizing words : List ℕ) (are : AreWordsUnder base lines sizing words)
     (has : HasWords image base words) (y : Layout) (p : Program) (numbers : List ℕ) (f : ℕ) (g : Function) (formed : IsWellFormed p) (here : slice_get p.functions f ≡ Some g) (is : g.attributed ≡ true)
-    (t : IsInTables attributed image base lines sizing y p numbers f g) where
+    (t : IsInTables attributed image closed base lines sizing y p numbers f g) where
   abbrev n : ℕ
-  n = own_number attributed image base lines sizing y p numbers f g
+  n = own_number attributed image closed base lines sizing y p numbers f g
 
   abbrev place : ℕ → ℕ
   place = label_address base lines sizing
@@ -56,7 +56,7 @@ module _ (show_free : FreeFunctionsShow) (show_bound : BoundFunctionsShow) (attr
   abbrev W : List Binding → ℕ → Option ℕ
   W = words_under image
 
-  abbrev e : HasEntry attributed image base lines sizing y p numbers f g (bytes_of (shape_of true t.body))
+  abbrev e : HasEntry attributed image closed base lines sizing y p numbers f g (bytes_of (shape_of true t.body))
   e = t.entry
 
   abbrev instr : Instr
@@ -78,10 +78,10 @@ module _ (show_free : FreeFunctionsShow) (show_bound : BoundFunctionsShow) (attr
       (show_free image base lines sizing words are has bs n s.index s.within s.alone free))))
 
   module _ (bs : List Binding) (vs : List ℕ) (combination : IsCombination (map (switch_domain p) g.switches) vs) (bound : IsBoundIn bs n vs) where
-    abbrev v : IsVariant y (machine_text attributed image) W p numbers f g vs
+    abbrev v : IsVariant y (machine_text attributed image) W closed p numbers f g vs
     v = t.variants vs combination
 
-    abbrev r : HasRow attributed image base lines sizing y p numbers f g vs v
+    abbrev r : HasRow attributed image closed base lines sizing y p numbers f g vs v
     r = t.rows vs combination
 
     few : length vs ≤ 6
@@ -94,10 +94,10 @@ module _ (show_free : FreeFunctionsShow) (show_bound : BoundFunctionsShow) (attr
     entry_bound =
         subst (λ a. InstrStands (W bs) (y.entry f) (Jal 0 (distance (y.entry f) a))) r.address_is ((show_bound image bs n vs r.row bound few r.led).0 (y.entry f) e.word e.is_entry e.in_text e.here there)
 
-    slot_bound : (at : ℕ) → called_at attributed image at ≡ Some f → SlotShows y (machine_text attributed image) W p numbers f g (W bs) at v.address (inline_of y.place v.body)
+    slot_bound : (at : ℕ) → called_at attributed image at ≡ Some f → SlotShows y (machine_text attributed image) W closed p numbers f g (W bs) at v.address (inline_of y.place v.body)
     slot_bound at called = by (inline_of y.place v.body) r.shows
       where
-        by : (o : Option (Instr × Instr)) → RowShows o r.row → SlotShows y (machine_text attributed image) W p numbers f g (W bs) at v.address o
+        by : (o : Option (Instr × Instr)) → RowShows o r.row → SlotShows y (machine_text attributed image) W closed p numbers f g (W bs) at v.address o
         by None none =
             let s = t.slots at called in
             subst (λ a. SlotStands (W bs) at (at + 8) a) r.address_is ((show_bound image bs n vs r.row bound few r.led).1 at s.site none s.here there)
@@ -105,18 +105,20 @@ module _ (show_free : FreeFunctionsShow) (show_bound : BoundFunctionsShow) (attr
             let two = (show_bound image bs n vs r.row bound few r.led).2 at (t.slots at called).site h.0 in
             (record { fields = h.1; word = two.0 ∙ ap Some h.3 }, record { fields = h.2; word = two.1 ∙ ap Some h.4 })
 
-  patched : IsPatched y (machine_text attributed image) W p numbers f g
+  patched : IsPatched y (machine_text attributed image) W closed p numbers f g
   patched = record {
     body = t.body;
     keeps = t.keeps;
     params = t.params;
-    is_read = t.is_read;
+    reach = t.reach;
+    ample = t.ample;
     is_fine = t.is_fine;
     fits = t.fits;
     place = t.place;
     linked = t.linked;
     is_attributed = t.is_attributed;
     next = t.next;
+    open_there = t.open_there;
     later = t.later;
     here = e.here;
     variants = t.variants;
@@ -124,8 +126,9 @@ module _ (show_free : FreeFunctionsShow) (show_bound : BoundFunctionsShow) (attr
     entry_bound = λ bs vs c bound. entry_bound bs vs c bound;
     slot_free = slot_free;
     slot_bound = λ bs at vs c called bound. slot_bound bs vs c bound at called;
+    slot_open = t.slot_open;
   }
 
 pub patched_functions_stand : FreeFunctionsShow → BoundFunctionsShow → PatchedFunctionsStand
-patched_functions_stand show_free show_bound attributed image base lines sizing words are has y p numbers f g formed here is t =
-    patched show_free show_bound attributed image base lines sizing words are has y p numbers f g formed here is t
+patched_functions_stand show_free show_bound attributed image closed base lines sizing words are has y p numbers f g formed here is t =
+    patched show_free show_bound attributed image closed base lines sizing words are has y p numbers f g formed here is t

@@ -1,5 +1,5 @@
 -- The run of a built image does what its program means.
-use Rattle.std.proofs.Common.{◌≡◌, ℕ, suc, ◌+◌, ◌*◌, ◌<◌, ◌^◌, ◌%◌, false, List, [], ◌∷◌, Option, Some, None, map, take, sum, length, get_or, filter, replicate, slice_get, All, refl, sym, ap, ◌∙◌, subst, arith}
+use Rattle.std.proofs.Common.{◌≡◌, ℕ, suc, ◌+◌, ◌*◌, ◌<◌, ◌^◌, ◌%◌, Bool, false, List, [], ◌∷◌, Option, Some, None, map, take, sum, length, get_or, filter, replicate, slice_get, All, refl, sym, ap, ◌∙◌, subst, arith}
 use Rattle.std.specs.Prelude.{IsTrue}
 use Rattle.std.specs.List.{flat_map}
 use Rattle.std.proofs.Math.ListN as lists
@@ -12,6 +12,7 @@ use Rattle.mv_ast.specs.Actions.{fits}
 use Rattle.mv_ast.specs.Plans.{free}
 use Rattle.mv_ast.specs.Starts.{first_words_under}
 use Rattle.mv_numbering.specs.Numberings.{IsNumbering}
+use Rattle.mv_descriptors.specs.declared.rows.FunctionRow.{FunctionRow}
 use Rattle.mv_image.specs.Spelling.{Fields}
 use Rattle.mv_ir.specs.World.{World}
 use Rattle.mv_ir.specs.Levels.{Code}
@@ -28,7 +29,7 @@ use Rattle.mv_machine_runs.specs.Laws.{IsFirst}
 use Rattle.mv_machine_runs.specs.MachineRuns.{access, machine_of}
 use Rattle.mv_stub_runs.specs.Laws.{HoldsData, EntersMain}
 use Rattle.mv_stub_runs.specs.Stubs.{return_address}
-use Rattle.mv_image_runs.specs.Behaves.{Behaves}
+use Rattle.mv_image_runs.specs.Behaves.{Behaves, LoadsWhatIsOpen}
 use Rattle.mv_image_runs.specs.Main.{HasStubs, CallsMain}
 use Rattle.mv_program_runs.specs.Laws.{first_seen}
 use Rattle.mv_linker.specs.declared.parts.Parts.{Parts}
@@ -36,7 +37,9 @@ use Rattle.mv_linker.specs.Outcome as linker
 use Rattle.mv_first_data.specs.FirstData.{global_sizes}
 use Rattle.mv_built_programs.specs.Built.{IsUnattributed, HasWordsOfGlobals, IsBuilt}
 use Rattle.mv_built_programs.specs.Layouts.{address_of, numbers_of, layout_of}
+use Rattle.mv_built_programs.specs.Closed.{closed}
 use Rattle.mv_built_programs.proofs.Facts.{Laws}
+use Rattle.mv_built_programs.proofs.Plain.{none_attributed, is_plain}
 use Rattle.mv_built_programs.proofs.Rooms.{size_is}
 use Rattle.mv_built_programs.proofs.Linked.{start_ends, start_placed, has_stubs}
 use Rattle.mv_machine_runs.specs.Under.{words_under}
@@ -46,13 +49,6 @@ use Rattle.mv_built_programs.proofs.Host.{is_numbering, addresses, global_count,
 run_reached : EndsAreReached → (p : Program) (numbers : List ℕ) (codes : List Code) (main : Option Code) (bound : ℕ) (w : World) → IsReached w (call_of_main (setting_of numbers p) codes main bound w).end
 run_reached reached p numbers codes None bound w = tt
 run_reached reached p numbers codes (Some main) bound w = reached p numbers codes main bound w
-
--- no function is attributed
-none_attributed : (gs : List Function) → ((k : ℕ) (g : Function) → slice_get gs k ≡ Some g → g.attributed ≡ false) → filter (λ (g : Function). g.attributed) gs ≡ []
-none_attributed [] plain = refl
-none_attributed (g ∷ gs) plain =
-    let here = plain 0 g refl in
-    let rest = none_attributed gs (λ k h e. plain (suc k) h e) in rw (here) rest
 
 module _ (laws : Laws) (p : Program) (image : Fields) (formed : IsWellFormed p) (plain : IsUnattributed p) (have_words : HasWordsOfGlobals p)
     (built : IsBuilt p image) (bytes : List ℕ) (actions : List Action) (picks : List ℕ) (are_bytes : All (λ b. b < 2 ^ 8) bytes) where
@@ -71,14 +67,17 @@ module _ (laws : Laws) (p : Program) (image : Fields) (formed : IsWellFormed p) 
   abbrev first : World
   first = first_seen p numbers bytes []
 
+  abbrev shut : (pc address : ℕ) → Bool
+  shut = closed parts sizing p
+
   abbrev the_machine : Machine Rest
-  the_machine = machine_of [] image (bytes_to_come bytes) actions picks
+  the_machine = machine_of [] shut image (bytes_to_come bytes) actions picks
 
   numbered : IsNumbering p numbers
   numbered = is_numbering laws p image formed plain have_words built
 
   stubs : HasStubs [] image y
-  stubs = has_stubs laws p image built
+  stubs = has_stubs laws p image plain built
 
   -- ---- the first world
 
@@ -89,7 +88,7 @@ module _ (laws : Laws) (p : Program) (image : Fields) (formed : IsWellFormed p) 
   is_first = record {
     input = refl;
     output = refl;
-    bindings = no_bindings ∙ sym (ap (λ (i : Fields). replicate (length i.functions) free) built.linked.image_is);
+    bindings = no_bindings ∙ sym (ap (λ (rows : List FunctionRow). replicate (length rows) free) ((is_plain laws p image plain built).no_functions image built.linked));
     log = refl;
   }
 
@@ -123,8 +122,8 @@ module _ (laws : Laws) (p : Program) (image : Fields) (formed : IsWellFormed p) 
   module _ (budget far : ℕ) where
     enters : EntersMain y the_machine budget far (address_of parts sizing parts.main) first 3
     enters =
-        laws.start_is_right [] image bytes actions picks y budget far first is_first holds (ap (λ (i : Fields). i.entry) built.linked.image_is) (address_of parts sizing) (address_of parts sizing) parts.main
-        (start_ends laws p image built) (start_placed laws p image built)
+        laws.start_is_right [] shut image bytes actions picks y budget far first is_first holds (ap (λ (i : Fields). i.entry) built.linked.image_is) (address_of parts sizing) (address_of parts sizing) parts.main
+        (start_ends laws p image plain built) (start_placed laws p image plain built)
 
     begins : Begins access y the_machine 3
     begins =
@@ -139,9 +138,9 @@ module _ (laws : Laws) (p : Program) (image : Fields) (formed : IsWellFormed p) 
     stands : Stands access y the_machine budget far (y.entry p.main) first 3
     stands = subst (λ f. Stands access y the_machine budget far (address_of parts sizing f) first 3) built.main enters.stands
 
-    calls_main : (k : ℕ) → CallsMain [] p image bytes actions picks y first budget far k
+    calls_main : (k : ℕ) → CallsMain [] shut p image bytes actions picks y first budget far k
     calls_main k =
-        let m = laws.main_follows access y the_machine (words_under image) budget far p numbers
+        let m = laws.main_follows access y the_machine (words_under image) shut budget far p numbers
         (loaded laws p image formed plain have_words built bytes actions picks are_bytes budget far)
         numbered bytes [] (All-nil (λ (a : Action). IsTrue (fits p a))) return_address 3 (omega arith, refl) enters.link begins stands k in record {
           call = m.0;
@@ -151,5 +150,5 @@ module _ (laws : Laws) (p : Program) (image : Fields) (formed : IsWellFormed p) 
           follows = m.4;
         }
 
-  pub built_behaves : Behaves p image bytes actions picks
-  built_behaves = laws.images_behave [] p image bytes actions picks y stubs record { first = first; input = omega arith; calls = calls_main }
+  pub built_behaves : Behaves p image bytes actions picks × LoadsWhatIsOpen image (closed built.parts built.linked.sizing p) bytes actions picks
+  built_behaves = laws.images_behave [] shut p image bytes actions picks y stubs record { first = first; input = omega arith; calls = calls_main }

@@ -5,6 +5,7 @@ use Rattle.mv_ast.specs.declared.program.Program.{Program}
 use Rattle.mv_ast.specs.declared.program.Function.{Function}
 use Rattle.mv_ast.specs.declared.program.Global.{Global}
 use Rattle.mv_ast.specs.Counts.{words_of_size}
+use Rattle.mv_ast.specs.Plans.{attributed_functions}
 use Rattle.mv_ast.specs.Starts.{first_words_under}
 use Rattle.mv_isa.specs.declared.labelled.Labelled.{Labelled}
 use Rattle.mv_image.specs.Spelling.{Fields}
@@ -18,9 +19,10 @@ use Rattle.mv_call_code.specs.CallCode.{is_marked}
 use Rattle.mv_call_code.specs.Environment.{IsDirect}
 use Rattle.mv_function_code.specs.FunctionCode.{function_lines}
 use Rattle.mv_function_code.specs.Functions.{shape_of}
-use Rattle.mv_selected_bodies.specs.SelectedBodies.{knowns, HasWords, IsWithin}
+use Rattle.mv_selected_bodies.specs.SelectedBodies.{globals_read, knowns, HasWords, IsWithin}
 use Rattle.mv_linker.specs.declared.parts.Parts.{Parts}
 use Rattle.mv_linker.specs.Linked.{AreParts}
+use Rattle.mv_linker.specs.Tables.{FitTables}
 use Rattle.mv_linker.specs.Outcome.{datum_word, IsLinked}
 use Rattle.mv_first_data.specs.Laws.{AreAddresses}
 
@@ -32,14 +34,15 @@ IsUnattributed p = (f : ℕ) (g : Function) → slice_get p.functions f ≡ Some
 abbrev pub HasWordsOfGlobals : Program → Type 0
 HasWordsOfGlobals p = All (λ (x : Global). 0 < words_of_size x.size) p.globals
 
--- A function is compiled to a body that means what it is lowered to, at no greater cost. The body is within the limits of selection, and has the rooms and
--- marks of the lowered one; its numbers fit; and it names functions of the program, and of the known ones input and output alone.
+-- A function is compiled to a body that means what it is lowered to, at no greater cost. The body is within the limits of selection, reads the globals of
+-- the lowered one, and has its rooms and marks; its numbers fit; and it names functions of the program, and of the known ones input and output alone.
 pub record IsCompiledTo (p : Program) (g : Function) (body : Body) : Type 0 where
   pub keeps : KeepsBody (lower_function p g) body
   pub params : body.params ≡ g.params
   pub rooms : body.rooms ≡ (lower_function p g).rooms
   pub marked : body.marked ≡ (lower_function p g).marked
   pub within : IsWithin false body
+  pub reads : globals_read body.code ≡ globals_read (lower_function p g).code
   pub words : HasWords body.code
   pub knowns : All IsDirect (knowns body.code)
   pub functions : All (λ f. f < length p.functions) (functions body.code)
@@ -61,7 +64,9 @@ AreFirstWords p parts =
 pub record IsBuilt (p : Program) (image : Fields) : Type 0 where
   pub parts : Parts
   pub are : AreParts parts
+  pub tables : FitTables parts
   pub one_each : length parts.functions ≡ length p.functions
+  pub one_attributed_each : length parts.attributed ≡ length (attributed_functions p)
   pub functions : (f : ℕ) (g : Function) (code : Labelled) → slice_get p.functions f ≡ Some g → slice_get parts.functions f ≡ Some code → IsCompiled p g code
   pub main : parts.main ≡ p.main
   pub globals : AreFirstWords p parts

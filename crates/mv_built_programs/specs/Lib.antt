@@ -1,4 +1,5 @@
 pub mod Built
 pub mod Layouts
+pub mod Closed
 pub mod Laws
 pub mod Patched

@@ -24,13 +24,14 @@ use Rattle.mv_flow_code.specs.Placed.{Placed}
 use Rattle.mv_call_code.specs.Convention.{Layout}
 use Rattle.mv_call_code.specs.Laws.{IsLinked}
 use Rattle.mv_function_code.specs.FunctionCode.{bytes_of, later_lines}
-use Rattle.mv_function_code.specs.Functions.{IsFunction, shape_of}
+use Rattle.mv_function_code.specs.Functions.{IsAmple, IsFunction, IsOpen, shape_of}
 use Rattle.mv_inline_bodies.specs.InlineOf.{inline_of}
 use Rattle.mv_machine_runs.specs.Assembled.{HasWords}
 use Rattle.mv_machine_runs.specs.MachineRuns.{machine_text, image_word, called_at}
 use Rattle.mv_machine_runs.specs.Shown.{IsSiteOf}
 use Rattle.mv_machine_runs.specs.Under.{words_under}
 use Rattle.mv_program_runs.specs.Hosts.{IsVariant, IsPatched}
+use Rattle.mv_statement_code.specs.Frames.{Reach}
 
 -- what a variant's row has of its inline body
 abbrev pub RowShows : Option (Instr × Instr) → VariantRow → Type 0
@@ -38,7 +39,7 @@ RowShows None row = row.inlined ≡ 0
 RowShows (Some both) row = (row.inlined ≡ 1) × Fits both.0 × Fits both.1 × (slice_index row.words 0 ≡ encode both.0) × (slice_index row.words 1 ≡ encode both.1)
 
 -- Code is assembled from a base, under a sizing.
-module _ (attributed : List ℕ) (image : Fields) (base : ℕ) (lines : List Line) (sizing : List ℕ) (y : Layout) (p : Program) (numbers : List ℕ) (f : ℕ) (g : Function) where
+module _ (attributed : List ℕ) (image : Fields) (closed : (pc address : ℕ) → Bool) (base : ℕ) (lines : List Line) (sizing : List ℕ) (y : Layout) (p : Program) (numbers : List ℕ) (f : ℕ) (g : Function) where
   -- its number among the attributed functions
   abbrev pub own_number : ℕ
   own_number = attributed_before p.functions f
@@ -72,7 +73,7 @@ module _ (attributed : List ℕ) (image : Fields) (base : ℕ) (lines : List Lin
     pub here : IsPlace at
 
   -- the row that its values lead to is that of a variant
-  pub record HasRow (vs : List ℕ) (v : IsVariant y (machine_text attributed image) (words_under image) p numbers f g vs) : Type 0 where
+  pub record HasRow (vs : List ℕ) (v : IsVariant y (machine_text attributed image) (words_under image) closed p numbers f g vs) : Type 0 where
     pub row : VariantRow
     pub led : variant_under image own_number (Some vs) ≡ Some row
     pub address_is : row.address ≡ v.address
@@ -82,22 +83,25 @@ module _ (attributed : List ℕ) (image : Fields) (base : ℕ) (lines : List Lin
     pub body : Body
     pub keeps : KeepsBody (lower_function p g) body
     pub params : body.params ≡ g.params
-    pub is_read : ℕ → Bool
+    pub reach : Reach
+    pub ample : IsAmple y reach
     pub is_fine : Tree → Bool
-    pub fits : IsFunction y (setting_of numbers p) true [] is_read is_fine body
+    pub fits : IsFunction y (setting_of numbers p) true [] reach is_fine body
     pub place : ℕ → ℕ
     pub linked : IsLinked y place
     pub is_attributed : ℕ → Bool
     pub next : ℕ
+    pub open_there : IsOpen closed (y.entry f + 4) next reach
     pub later : Placed (machine_text attributed image) place y.entry (later_lines y.place y.size is_attributed (shape_of true body) body.code) (y.entry f + 4) next
     pub entry : HasEntry (bytes_of (shape_of true body))
     pub slots : (at : ℕ) → called_at attributed image at ≡ Some f → HasSlot at
-    pub variants : (vs : List ℕ) → IsCombination (map (switch_domain p) g.switches) vs → IsVariant y (machine_text attributed image) (words_under image) p numbers f g vs
+    pub variants : (vs : List ℕ) → IsCombination (map (switch_domain p) g.switches) vs → IsVariant y (machine_text attributed image) (words_under image) closed p numbers f g vs
     pub rows : (vs : List ℕ) (is : IsCombination (map (switch_domain p) g.switches) vs) → HasRow vs (variants vs is)
+    pub slot_open : (at : ℕ) (vs : List ℕ) (is : IsCombination (map (switch_domain p) g.switches) vs) → called_at attributed image at ≡ Some f → IsOpen closed at (at + 8) (variants vs is).reach
 
 -- So the code of an attributed function stands on the machine with such an image.
 abbrev pub PatchedFunctionsStand : Type 0
 PatchedFunctionsStand =
-    (attributed : List ℕ) (image : Fields) (base : ℕ) (lines : List Line) (sizing words : List ℕ) → AreWordsUnder base lines sizing words → HasWords image base words →
+    (attributed : List ℕ) (image : Fields) (closed : (pc address : ℕ) → Bool) (base : ℕ) (lines : List Line) (sizing words : List ℕ) → AreWordsUnder base lines sizing words → HasWords image base words →
     (y : Layout) (p : Program) (numbers : List ℕ) (f : ℕ) (g : Function) → IsWellFormed p → slice_get p.functions f ≡ Some g → g.attributed ≡ true →
-    IsInTables attributed image base lines sizing y p numbers f g → IsPatched y (machine_text attributed image) (words_under image) p numbers f g
+    IsInTables attributed image closed base lines sizing y p numbers f g → IsPatched y (machine_text attributed image) (words_under image) closed p numbers f g

@@ -14,8 +14,8 @@ use mv_stub_runs::start_is_right;
 /// The run of an image that is built of a well-formed program without attributed functions does what the program means, on each
 /// input of bytes and by any picks of the fetches: `Behaves` of `mv_image_runs` says how. `IsBuilt` says what a compiler has to
 /// give: a body for each function that means what the function is lowered to, within the limits of selection; the code that is
-/// selected for it; the first words of the globals; and the image that is linked of them. The call does nothing: its contract is
-/// the law.
+/// selected for it; the first words of the globals; and the image that is linked of them. And no instruction of a function's words
+/// loads a data word of a global that the function doesn't read. The call does nothing: its contract is the law.
 pub fn built_programs_behave()
     ensures { BuiltProgramsBehave }
 {

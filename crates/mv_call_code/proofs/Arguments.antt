@@ -24,6 +24,7 @@ use Rattle.mv_tree_code.proofs.Registers.{put_same, put_other, changes_put}
 use Rattle.mv_tree_code.proofs.TreesAreShort.{trees_are_short}
 use Rattle.mv_tree_code.proofs.TreesRun.{and_left, and_right}
 use Rattle.mv_tree_code.proofs.Words.{word_of_pos, zero_add}
+use Rattle.mv_statement_code.specs.Leads.{limited}
 use Rattle.mv_statement_code.specs.Frames.{Site, IsFine, IsFit, Shows}
 use Rattle.mv_statement_code.proofs.FrameChanges.{frame_scratch}
 use Rattle.mv_statement_code.proofs.TreesFirst.{HasValue, tree_first}
@@ -69,7 +70,7 @@ module _ {M : Type 0} (access : Access M) (s : Site) (setting : ir.Setting) (fra
 
   pub record HasArguments (r : ℕ) (ts : List Tree) (l : State) (regs : List ℕ) (m : M) : Type 0 where
     pub after : List ℕ
-    pub runs : Straight access m s.entry (argument_lines s.place r ts) regs after
+    pub runs : Straight (limited access s) m s.entry (argument_lines s.place r ts) regs after
     pub below : (q : ℕ) → q < r → reg after q ≡ reg regs q
     pub hold : (j : ℕ) → j < length ts → reg after (r + j) ≡ slice_index (values ts l) j
     pub shown : Shows s access l after m
@@ -89,8 +90,8 @@ module _ {M : Type 0} (access : Access M) (s : Site) (setting : ir.Setting) (fra
       → HasArguments (suc r) ts l (moved t r l regs m x) m → HasArguments r (t ∷ ts) l regs m
   one_more t ts r l regs m low high x z = record {
     after = z.after;
-    runs = straight_append access m s.entry (tree_lines s.place t scratch_register) (Word (Addi r scratch_register (pos 0)) ∷ argument_lines s.place (suc r) ts) regs x.after z.after
-        x.runs (moved t r l regs m x, addi_sets access m r scratch_register (pos 0) x.after v 0 v x.holds (word_of_pos 0 (omega arith)) (zero_add v x.below), z.runs);
+    runs = straight_append (limited access s) m s.entry (tree_lines s.place t scratch_register) (Word (Addi r scratch_register (pos 0)) ∷ argument_lines s.place (suc r) ts) regs x.after z.after
+        x.runs (moved t r l regs m x, addi_sets (limited access s) m r scratch_register (pos 0) x.after v 0 v x.holds (word_of_pos 0 (omega arith)) (zero_add v x.below), z.runs);
     below = λ q lt. z.below q (omega (arith, lt)) ∙ put_other x.after r q v (omega (arith, low)) (λ e. omega (arith, lt, e)) ∙ x.changes.others q (inl (omega (arith, lt, high)));
     hold = hold;
     shown = z.shown;

@@ -30,7 +30,7 @@ use Rattle.mv_flow_code.specs.declared.enclosing.Enclosing.{Enclosing}
 use Rattle.mv_flow_code.specs.FlowCode.{all_true, fine_target, fine_layer}
 use Rattle.mv_flow_code.specs.Placed.{Placed}
 use Rattle.mv_flow_code.specs.Runs.{Machine, IsRun}
-use Rattle.mv_flow_code.specs.Laws.{has_word, LinesDo}
+use Rattle.mv_flow_code.specs.Laws.{uses_of, LinesDo}
 use Rattle.mv_flow_code.specs.Flow.{IsWithin, Follows}
 use Rattle.mv_flow_code.proofs.Walk as walk
 use Rattle.mv_flow_code.proofs.Walk.{placed_split, to_stands}
@@ -81,7 +81,7 @@ module _ {M : Type 0} (access : Access M) (y : Layout) (s : Site) (setting : ir.
 
   -- a call to the function whose address stands in t3
   by_jump : (result : Option ℕ) (f : ℕ) (args : List ℕ) (spare pc next : ℕ) (around : List Enclosing) (bound : Bound) (l : State) (regs : List ℕ) (m : M) (i : ℕ)
-      → fine_target is_fine s.may_ask s.temps (has_word s) result ≡ true → Passed args bound l regs m → reg regs scratch_register ≡ s.entry f → IsPlace (s.entry f)
+      → fine_target is_fine s.may_ask s.temps (uses_of s) result ≡ true → Passed args bound l regs m → reg regs scratch_register ≡ s.entry f → IsPlace (s.entry f)
       → P (guarded_lines jump_lines result) pc next → W l.world pc regs m i → i + (spare + 52 + (ToGoal (At f) result args bound l).cost) ≤ budget → far ≤ i + length bound
       → F spare (length bound) around next (ToGoal (At f) result args bound l).outcome
   by_jump result f args spare pc next around bound l regs m i fine x at there p a paid asked =
@@ -89,7 +89,7 @@ module _ {M : Type 0} (access : Access M) (y : Layout) (s : Site) (setting : ir.
       (jump_transfers access y s setting frame fit caller machine ok budget far place end linked is_fine f args l regs m x.few x.shown x.held at there) p a paid asked
 
   by_slot : (result : Option ℕ) (f : ℕ) (args : List ℕ) (spare pc next : ℕ) (around : List Enclosing) (bound : Bound) (l : State) (regs : List ℕ) (m : M) (i : ℕ)
-      → fine_target is_fine s.may_ask s.temps (has_word s) result ≡ true → Passed args bound l regs m
+      → fine_target is_fine s.may_ask s.temps (uses_of s) result ≡ true → Passed args bound l regs m
       → P (guarded_lines (Slot f ∷ []) result) pc next → W l.world pc regs m i → i + (spare + 52 + (ToGoal (At f) result args bound l).cost) ≤ budget → far ≤ i + length bound
       → F spare (length bound) around next (ToGoal (At f) result args bound l).outcome
   by_slot result f args spare pc next around bound l regs m i fine x p a paid asked =
@@ -104,7 +104,7 @@ module _ {M : Type 0} (access : Access M) (y : Layout) (s : Site) (setting : ir.
 
   -- the address of the function comes into t3
   by_entry : (result : Option ℕ) (f : ℕ) (args : List ℕ) (spare pc next : ℕ) (around : List Enclosing) (bound : Bound) (l : State) (regs : List ℕ) (m : M) (i : ℕ)
-      → fine_target is_fine s.may_ask s.temps (has_word s) result ≡ true → Passed args bound l regs m
+      → fine_target is_fine s.may_ask s.temps (uses_of s) result ≡ true → Passed args bound l regs m
       → P (Entry scratch_register f ∷ guarded_lines jump_lines result) pc next → W l.world pc regs m i → i + (spare + 54 + (ToGoal (At f) result args bound l).cost) ≤ budget → far ≤ i + length bound
       → F spare (length bound) around next (ToGoal (At f) result args bound l).outcome
   by_entry result f args spare pc next around bound l regs m i fine x p a paid asked =
@@ -122,7 +122,7 @@ module _ {M : Type 0} (access : Access M) (y : Layout) (s : Site) (setting : ir.
   -- a pointer's value stands in t3: a call through it
   by_value : (result : Option ℕ) (v : ℕ) (args : List ℕ) (spare pc next : ℕ) (around : List Enclosing) (bound : Bound) (l : State) (regs : List ℕ) (m : M) (i : ℕ) (b : Bool) (o : Option ℕ)
       → eqb v 0 ≡ b → meaning.place setting.numbers v 0 ≡ o
-      → fine_target is_fine s.may_ask s.temps (has_word s) result ≡ true → Passed args bound l regs m → reg regs scratch_register ≡ v
+      → fine_target is_fine s.may_ask s.temps (uses_of s) result ≡ true → Passed args bound l regs m → reg regs scratch_register ≡ v
       → P (Branch 0 scratch_register 0 (trap_label 3) ∷ guarded_lines jump_lines result) pc next → W l.world pc regs m i
       → i + (spare + 54 + (ToGoal (cond b Null (goal_at o)) result args bound l).cost) ≤ budget → far ≤ i + length bound
       → F spare (length bound) around next (ToGoal (cond b Null (goal_at o)) result args bound l).outcome
@@ -140,7 +140,7 @@ module _ {M : Type 0} (access : Access M) (y : Layout) (s : Site) (setting : ir.
 
   -- the call itself, its arguments in their registers
   transfer_does : (result : Option ℕ) (f : Callee) (args : List ℕ) (spare pc next : ℕ) (around : List Enclosing) (bound : Bound) (l : State) (regs : List ℕ) (m : M) (i : ℕ)
-      → fine_target is_fine s.may_ask s.temps (has_word s) result ≡ true → all_true (map is_fine (callee_trees f)) ≡ true → Passed args bound l regs m
+      → fine_target is_fine s.may_ask s.temps (uses_of s) result ≡ true → all_true (map is_fine (callee_trees f)) ≡ true → Passed args bound l regs m
       → P (transfer_lines s.place is_attributed f result) pc next → W l.world pc regs m i
       → i + (spare + 60 + 3 * callee_nodes setting frame f + (ToGoal (goal setting frame f l) result args bound l).cost) ≤ budget → far ≤ i + length bound
       → F spare (length bound) around next (ToGoal (goal setting frame f l) result args bound l).outcome
@@ -166,13 +166,13 @@ module _ {M : Type 0} (access : Access M) (y : Layout) (s : Site) (setting : ir.
   conventions_within bound (calls ∷ below) (inl e) keep = subst (Conventions access y machine budget far) (sym e) keep
   conventions_within bound (calls ∷ below) (inr h) keep = conventions_within bound below h keep.1
 
-  pub call_done : (top : Bound) → Conventions access y machine budget far top → (result : Option ℕ) (f : Callee) (args : List Tree) → fine_layer is_fine s.may_ask s.temps (has_word s) (stm.Call result f args) ≡ true
+  pub call_done : (top : Bound) → Conventions access y machine budget far top → (result : Option ℕ) (f : Callee) (args : List Tree) → fine_layer is_fine s.may_ask s.temps (uses_of s) (stm.Call result f args) ≡ true
       → LinesDo access s setting frame machine place end budget far is_fine top (call_lines s.place is_attributed result f args) (stm.Call result f args)
   call_done top keep result f args fine spare around pc next bound within p l i h =
       let trees = all_true (map is_fine args) in
-      let parts = and_right (ltb (length args) 9) (fine_target is_fine s.may_ask s.temps (has_word s) result && (all_true (map is_fine (callee_trees f)) && trees)) fine in
-      let both = and_right (fine_target is_fine s.may_ask s.temps (has_word s) result) (all_true (map is_fine (callee_trees f)) && trees) parts in
-      let few = ltb-true (length args) 9 (and_left (ltb (length args) 9) (fine_target is_fine s.may_ask s.temps (has_word s) result && (all_true (map is_fine (callee_trees f)) && trees)) fine) in
+      let parts = and_right (ltb (length args) 9) (fine_target is_fine s.may_ask s.temps (uses_of s) result && (all_true (map is_fine (callee_trees f)) && trees)) fine in
+      let both = and_right (fine_target is_fine s.may_ask s.temps (uses_of s) result) (all_true (map is_fine (callee_trees f)) && trees) parts in
+      let few = ltb-true (length args) 9 (and_left (ltb (length args) 9) (fine_target is_fine s.may_ask s.temps (uses_of s) result && (all_true (map is_fine (callee_trees f)) && trees)) fine) in
       let m = (machine.run i).memory in
       let regs = (machine.run i).regs in
       let z = arguments_first access s setting frame fit is_fine fine_trees args first l regs m (omega arith) (omega (arith, few)) (and_right (all_true (map is_fine (callee_trees f))) trees both) h.shows in
@@ -183,7 +183,7 @@ module _ {M : Type 0} (access : Access M) (y : Layout) (s : Site) (setting : ir.
       (to_stands access s machine ok place end budget far 0 (spare + (60 + 3 * (callee_nodes setting frame f + nodes_of_all args) + cost)) (length bound) pc l i h) in
       let late = r.late in let soon = r.soon in let paid = h.paid in let asked = h.asked in
       transfer_does result f (values access s setting frame fit is_fine fine_trees args l) spare q.0 next around bound l z.after m r.time
-      (and_left (fine_target is_fine s.may_ask s.temps (has_word s) result) (all_true (map is_fine (callee_trees f)) && trees) parts)
+      (and_left (fine_target is_fine s.may_ask s.temps (uses_of s) result) (all_true (map is_fine (callee_trees f)) && trees) parts)
       (and_left (all_true (map is_fine (callee_trees f))) trees both)
       (record { few = omega (arith, few, length-map args (λ t. of_tree setting frame t l)); shown = z.shown; held = λ j lt. z.hold j (omega (arith, lt, length-map args (λ t. of_tree setting frame t l))); keep = conventions_within bound top within keep })
       q.2 r.stands (omega (arith, paid, soon)) (omega (arith, asked, late))

@@ -20,14 +20,14 @@ use Rattle.mv_tree_code.proofs.Instructions.{addi_sets}
 use Rattle.mv_tree_code.proofs.Registers.{reg_zero}
 use Rattle.mv_tree_code.proofs.Words.{minus_one_is}
 use Rattle.mv_statement_code.specs.StatementCode.{trap_label}
-use Rattle.mv_statement_code.specs.Leads.{Past}
+use Rattle.mv_statement_code.specs.Leads.{limited, Past}
 use Rattle.mv_statement_code.specs.Frames.{Site, IsFit, Shows}
 use Rattle.mv_statement_code.proofs.Walks.{leads_straight}
 use Rattle.mv_flow_code.specs.declared.enclosing.Enclosing.{Enclosing}
 use Rattle.mv_flow_code.specs.FlowCode.{fine_target}
 use Rattle.mv_flow_code.specs.Placed.{IsPlaced, Placed}
 use Rattle.mv_flow_code.specs.Runs.{Spot, Machine, outside, IsRun}
-use Rattle.mv_flow_code.specs.Laws.{has_word}
+use Rattle.mv_flow_code.specs.Laws.{uses_of}
 use Rattle.mv_flow_code.specs.Flow.{AtTrap, Follows}
 use Rattle.mv_flow_code.proofs.Composition.{fewer}
 use Rattle.mv_flow_code.proofs.Walk as walk
@@ -62,7 +62,7 @@ module _ {M : Type 0} (access : Access M) (y : Layout) (s : Site) (setting : ir.
 
   -- lines that run one after the other
   pub straight_walk : (ls : List Line) (n : ℕ) (w : World) (pc next : ℕ) (regs after : List ℕ) (m : M) (i : ℕ) → sum_by greatest_words ls ≤ n → P ls pc next
-      → Straight access m s.entry ls regs after → W w pc regs m i → R w next after m i n
+      → Straight (limited access s) m s.entry ls regs after → W w pc regs m i → R w next after m i n
   straight_walk ls n w pc next regs after m i le p runs a =
       reaches_more access s machine ok place end budget far w next after m i i (sum_by greatest_words ls + 0) n (omega arith) (omega (arith, le))
       (leads_walk access s machine ok place end budget far (ls ++ []) (sum_by greatest_words ls + 0) w pc next regs m Past after m i (subst (λ l. P l pc next) (sym (append-nil ls)) p)
@@ -81,7 +81,7 @@ module _ {M : Type 0} (access : Access M) (y : Layout) (s : Site) (setting : ir.
       → IsPlaced machine.text place s.entry pc mid (Branch 0 r 0 (trap_label c)) → W l.world pc regs m i → i + 2 ≤ budget → F spare k around next (traps c l)
   zero_traps c r spare k around pc mid next l regs m i zero p a paid =
       let holds : eqb (reg regs r) (reg regs 0) ≡ true = eq-eqb (reg regs r) (reg regs 0) (zero ∙ sym (reg_zero regs)) in
-      let e = subst (λ d. BranchRuns access machine.text.word m d pc mid (place (trap_label c)) regs) holds
+      let e = subst (λ d. BranchRuns (limited access s) machine.text.word m d pc mid (place (trap_label c)) regs) holds
       (line_does access s machine ok place end budget far l.world pc mid regs m i (Branch 0 r 0 (trap_label c)) p.stands p a) in
       let t = taken access s machine ok place end budget far l.world pc mid (place (trap_label c)) regs m i e a in
       let soon = t.soon in
@@ -103,11 +103,11 @@ module _ {M : Type 0} (access : Access M) (y : Layout) (s : Site) (setting : ir.
       let held = left_held l regs m f ∙ sym e in
       let small : n + 1 < 2 ^ 32 = subst (λ z. z < 2 ^ 32) held (f.are.words left_register) in
       sets_on access y s setting frame fit caller machine ok budget far place end linked is_fine (Addi left_register left_register minus_one) l.world pc mid regs (put regs left_register n) m i
-      (addi_sets access m left_register left_register minus_one regs (n + 1) (2 ^ 32 - 1) n held minus_one_is (one_less n small)) p a
+      (addi_sets (limited access s) m left_register left_register minus_one regs (n + 1) (2 ^ 32 - 1) n held minus_one_is (one_less n small)) p a
 
   -- a call that is left is made, at each bound
   made : (go : List Line) (result : Option ℕ) (f : ℕ) (args : List ℕ) (spare pc mid next : ℕ) (around : List Enclosing) (bound : Bound) (l : State) (regs : List ℕ) (m : M) (i : ℕ)
-      → fine_target is_fine s.may_ask s.temps (has_word s) result ≡ true → (s.register left_register ≡ 0 → ⊥) → Shows s access l regs m → Conventions access y machine budget far bound → Goes go f args l regs m
+      → fine_target is_fine s.may_ask s.temps (uses_of s) result ≡ true → (s.register left_register ≡ 0 → ⊥) → Shows s access l regs m → Conventions access y machine budget far bound → Goes go f args l regs m
       → IsPlaced machine.text place s.entry pc mid (Branch 0 left_register 0 (trap_label 4)) → P (Word (Addi left_register left_register minus_one) ∷ (go ++ back_lines result)) mid next
       → W l.world pc regs m i
       → i + (spare + 52 + (within bound (λ calls. made_call result l (calls f args frame.depth frame.live l.world)) l).cost) ≤ budget → far ≤ i + length bound
@@ -126,7 +126,7 @@ module _ {M : Type 0} (access : Access M) (y : Layout) (s : Site) (setting : ir.
       (call_follows access y s setting frame fit caller machine ok budget far place end linked is_fine result end_of n spare (length below) x.0 q.0 next around l regs m fine e sh x.1 q.2 x.2)
 
   pub guarded_does : (go : List Line) (result : Option ℕ) (f : ℕ) (args : List ℕ) (spare pc next : ℕ) (around : List Enclosing) (bound : Bound) (l : State) (regs : List ℕ) (m : M) (i : ℕ)
-      → fine_target is_fine s.may_ask s.temps (has_word s) result ≡ true → Shows s access l regs m → Conventions access y machine budget far bound → Goes go f args l regs m
+      → fine_target is_fine s.may_ask s.temps (uses_of s) result ≡ true → Shows s access l regs m → Conventions access y machine budget far bound → Goes go f args l regs m
       → P (guarded_lines go result) pc next → W l.world pc regs m i → i + (spare + 52 + (call_to (At f) frame.depth frame.live result args bound l).cost) ≤ budget → far ≤ i + length bound
       → F spare (length bound) around next (call_to (At f) frame.depth frame.live result args bound l).outcome
   guarded_does go result f args spare pc next around bound l regs m i fine sh keep goes p a paid asked = by_depth (ltb frame.depth 512) refl paid

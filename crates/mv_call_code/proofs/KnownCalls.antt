@@ -29,12 +29,13 @@ use Rattle.mv_tree_code.proofs.TreesAreShort.{number_size}
 use Rattle.mv_tree_code.proofs.TreesRun.{and_left, and_right}
 use Rattle.mv_tree_code.proofs.Words.{word_of_pos, add_zero}
 use Rattle.mv_statement_code.specs.StatementCode.{first, second}
+use Rattle.mv_statement_code.specs.Leads.{limited}
 use Rattle.mv_statement_code.specs.Frames.{Site, IsFine, IsFit, Shows}
 use Rattle.mv_statement_code.proofs.FrameChanges.{frame_scratch}
 use Rattle.mv_flow_code.specs.FlowCode.{all_true, fine_known, fine_target, fine_layer}
 use Rattle.mv_flow_code.specs.Placed.{Placed}
 use Rattle.mv_flow_code.specs.Runs.{Spot, Machine, outside, IsRun}
-use Rattle.mv_flow_code.specs.Laws.{has_word, LinesDo}
+use Rattle.mv_flow_code.specs.Laws.{uses_of, LinesDo}
 use Rattle.mv_flow_code.specs.Flow.{Here}
 use Rattle.mv_flow_code.proofs.Walk as walk
 use Rattle.mv_flow_code.proofs.Walk.{placed_split, stands_at, line_does, steps_on, to_stands}
@@ -111,7 +112,7 @@ module _ {M : Type 0} (access : Access M) (y : Layout) (s : Site) (setting : ir.
   Served spare k i back a = (j : ℕ) × Returns access y machine budget far spare k i back a.world j × (reg (machine.run j).regs first ≡ a.value)
 
   -- the answer comes into its temporary
-  answered : (result : Option ℕ) (a : Answer) (spare k i back next : ℕ) (l : State) (regs regs' : List ℕ) (m : M) (pc : ℕ) → fine_target is_fine s.may_ask s.temps (has_word s) result ≡ true
+  answered : (result : Option ℕ) (a : Answer) (spare k i back next : ℕ) (l : State) (regs regs' : List ℕ) (m : M) (pc : ℕ) → fine_target is_fine s.may_ask s.temps (uses_of s) result ≡ true
       → Shows s access l regs m → ((q : ℕ) → 2 ≤ q → reg regs' q ≡ reg regs q) → W l.world pc regs' m i → P (result_lines result) back next → Served (spare + 1) k i back a
       → (t : ℕ) × H 0 spare k next (meaning.put result a.value (with_world l a.world)) t
   answered result a spare k i back next l regs regs' m pc fine f same at p x =
@@ -136,7 +137,7 @@ module _ {M : Type 0} (access : Access M) (y : Layout) (s : Site) (setting : ir.
 
   -- an environment call
   direct_asked : (k : Known) (args : List ℕ) (result : Option ℕ) (spare bound pc next : ℕ) (l : State) (regs : List ℕ) (m : M) (i : ℕ) → y.may_ask k ≡ true → IsDirect k → length args ≡ known_arguments k
-      → fine_target is_fine s.may_ask s.temps (has_word s) result ≡ true → Asked k args l regs m → P (Word Ecall ∷ result_lines result) pc next → W l.world pc regs m i
+      → fine_target is_fine s.may_ask s.temps (uses_of s) result ≡ true → Asked k args l regs m → P (Word Ecall ∷ result_lines result) pc next → W l.world pc regs m i
       → i + (spare + 2 + (Gives k args l).cost) ≤ budget → far ≤ i + bound
       → (t : ℕ) × H 0 spare bound next (meaning.put result (Gives k args l).value (with_world l (Gives k args l).world)) t
   direct_asked k args result spare bound pc next l regs m i may is count fine x p a paid asked =
@@ -149,7 +150,7 @@ module _ {M : Type 0} (access : Access M) (y : Layout) (s : Site) (setting : ir.
 
   -- a jump to the stub
   stub_asked : (k : Known) (args : List ℕ) (result : Option ℕ) (spare bound pc next : ℕ) (l : State) (regs : List ℕ) (m : M) (i : ℕ) → y.may_ask k ≡ true → (IsDirect k → ⊥) → length args ≡ known_arguments k
-      → fine_target is_fine s.may_ask s.temps (has_word s) result ≡ true → Asked k args l regs m → ((back : ℕ) → HoldsOrder k (put regs link_register back))
+      → fine_target is_fine s.may_ask s.temps (uses_of s) result ≡ true → Asked k args l regs m → ((back : ℕ) → HoldsOrder k (put regs link_register back))
       → P (Jump link_register commit_label ∷ result_lines result) pc next → W l.world pc regs m i → i + (spare + 17 + (Gives k args l).cost) ≤ budget → far ≤ i + bound
       → (t : ℕ) × H 0 spare bound next (meaning.put result (Gives k args l).value (with_world l (Gives k args l).world)) t
   stub_asked k args result spare bound pc next l regs m i may is count fine x order p a paid asked =
@@ -191,7 +192,7 @@ module _ {M : Type 0} (access : Access M) (y : Layout) (s : Site) (setting : ir.
 
   -- the known function is asked
   asked_follows : (k : Known) (args : List ℕ) (result : Option ℕ) (spare bound pc next : ℕ) (l : State) (regs : List ℕ) (m : M) (i : ℕ) → y.may_ask k ≡ true → length args ≡ known_arguments k
-      → fine_target is_fine s.may_ask s.temps (has_word s) result ≡ true → Asked k args l regs m → P (ask_lines k ++ result_lines result) pc next → W l.world pc regs m i
+      → fine_target is_fine s.may_ask s.temps (uses_of s) result ≡ true → Asked k args l regs m → P (ask_lines k ++ result_lines result) pc next → W l.world pc regs m i
       → i + (spare + 17 + (Gives k args l).cost) ≤ budget → far ≤ i + bound
       → (t : ℕ) × H 0 spare bound next (meaning.put result (Gives k args l).value (with_world l (Gives k args l).world)) t
   asked_follows Getchar args result spare bound pc next l regs m i may count fine x p a paid asked = direct_asked Getchar args result spare bound pc next l regs m i may tt count fine x p a (omega (arith, paid)) asked
@@ -206,7 +207,7 @@ module _ {M : Type 0} (access : Access M) (y : Layout) (s : Site) (setting : ir.
 
   record HasOrder (k : Known) (l : State) (regs : List ℕ) (m : M) : Type 0 where
     pub after : List ℕ
-    pub runs : Straight access m s.entry (order_lines k) regs after
+    pub runs : Straight (limited access s) m s.entry (order_lines k) regs after
     pub shown : Shows s access l after m
     pub order : HoldsOrder k after
     pub kept : (j : ℕ) → j < known_arguments k → reg after (first + j) ≡ reg regs (first + j)
@@ -217,7 +218,7 @@ module _ {M : Type 0} (access : Access M) (y : Layout) (s : Site) (setting : ir.
   order_short Poll = omega arith
   order_short (Plan code index) = omega (arith, sum_by-cons greatest_words (Word (Addi first 0 (pos code))) (number_lines index second), number_size index second)
 
-  order_held : (k : Known) (l : State) (regs : List ℕ) (m : M) → fine_known is_fine s.may_ask s.temps (has_word s) k ≡ true → Shows s access l regs m → HasOrder k l regs m
+  order_held : (k : Known) (l : State) (regs : List ℕ) (m : M) → fine_known is_fine s.may_ask s.temps (uses_of s) k ≡ true → Shows s access l regs m → HasOrder k l regs m
   order_held Getchar l regs m fine f = record { after = regs; runs = refl; shown = f; order = tt; kept = λ j lt. refl }
   order_held Putchar l regs m fine f = record { after = regs; runs = refl; shown = f; order = tt; kept = λ j lt. refl }
   order_held Poll l regs m fine f = record { after = regs; runs = refl; shown = f; order = tt; kept = λ j lt. refl }
@@ -228,17 +229,17 @@ module _ {M : Type 0} (access : Access M) (y : Layout) (s : Site) (setting : ir.
       let mid = put regs first code in
       let changes = changes_put 10 11 first code regs f.are (omega arith) (omega arith) (omega arith) (omega arith) (omega (arith, small)) in
       let shown = frame_scratch s access 10 11 l regs mid m (inl (omega arith, omega arith)) changes f in
-      let g = number_gives access m s.entry 11 12 second index mid shown.are (record { low = omega arith; from = omega arith; below = omega arith; high = omega arith }) word in
+      let g = number_gives (limited access s) m s.entry 11 12 second index mid shown.are (record { low = omega arith; from = omega arith; below = omega arith; high = omega arith }) word in
       record {
         after = g.after;
-        runs = (mid, addi_sets access m first 0 (pos code) regs 0 code code (reg_zero regs) (word_of_pos code (omega (arith, small))) (add_zero code (omega (arith, small))), g.runs);
+        runs = (mid, addi_sets (limited access s) m first 0 (pos code) regs 0 code code (reg_zero regs) (word_of_pos code (omega (arith, small))) (add_zero code (omega (arith, small))), g.runs);
         shown = frame_scratch s access 11 12 l mid g.after m (inl (omega arith, omega arith)) g.changes shown;
         order = (g.changes.others first (inl (omega arith)) ∙ put_same regs first code (omega arith) (omega (arith, f.are.count)), g.holds);
         kept = λ j lt. absurd (omega (arith, lt));
       }
 
   -- the code may ask for it
-  may_be_asked : (k : Known) → fine_known is_fine s.may_ask s.temps (has_word s) k ≡ true → y.may_ask k ≡ true
+  may_be_asked : (k : Known) → fine_known is_fine s.may_ask s.temps (uses_of s) k ≡ true → y.may_ask k ≡ true
   may_be_asked Getchar fine = caller.may_ask Getchar fine
   may_be_asked Putchar fine = caller.may_ask Putchar fine
   may_be_asked Poll fine = caller.may_ask Poll fine
@@ -273,12 +274,12 @@ module _ {M : Type 0} (access : Access M) (y : Layout) (s : Site) (setting : ir.
       n : ℕ
       n = request_of k
 
-  pub known_done : (top : Bound) (result : Option ℕ) (k : Known) (args : List Tree) → fine_layer is_fine s.may_ask s.temps (has_word s) (stm.Known result k args) ≡ true
+  pub known_done : (top : Bound) (result : Option ℕ) (k : Known) (args : List Tree) → fine_layer is_fine s.may_ask s.temps (uses_of s) (stm.Known result k args) ≡ true
       → LinesDo access s setting frame machine place end budget far is_fine top (known_lines s.place result k args) (stm.Known result k args)
   known_done top result k args fine spare around pc next bound within p l i h =
       let trees = all_true (map is_fine args) in
-      let target = fine_target is_fine s.may_ask s.temps (has_word s) result in
-      let order = fine_known is_fine s.may_ask s.temps (has_word s) k in
+      let target = fine_target is_fine s.may_ask s.temps (uses_of s) result in
+      let order = fine_known is_fine s.may_ask s.temps (uses_of s) k in
       let count = eqb-true (length args) (known_arguments k) (and_left (eqb (length args) (known_arguments k)) (order && (target && trees)) fine) in
       let parts = and_right (eqb (length args) (known_arguments k)) (order && (target && trees)) fine in
       let both = and_right order (target && trees) parts in
@@ -297,7 +298,7 @@ module _ {M : Type 0} (access : Access M) (y : Layout) (s : Site) (setting : ir.
       (to_stands access s machine ok place end budget far 0 (spare + (30 + 3 * nodes_of_all args + cost)) (length bound) pc l i h) in
       let w = straight_walk access y s setting frame fit caller machine ok budget far place end linked is_fine (order_lines k) 3 l.world q.0 u.0 z.after o.after m r.time (order_short k) u.1 o.runs r.stands in
       let a = sets_on access y s setting frame fit caller machine ok budget far place end linked is_fine request l.world u.0 u.2.0 o.after (put o.after request_register (request_of k)) m w.time
-      (addi_sets access m request_register 0 (pos (request_of k)) o.after 0 (request_of k) (request_of k) (reg_zero o.after) (word_of_pos (request_of k) (omega (arith, request_small k))) (add_zero (request_of k) (omega (arith, request_small k))))
+      (addi_sets (limited access s) m request_register 0 (pos (request_of k)) o.after 0 (request_of k) (request_of k) (reg_zero o.after) (word_of_pos (request_of k) (omega (arith, request_small k))) (add_zero (request_of k) (omega (arith, request_small k))))
       u.2.1 w.stands in
       let late = r.late in let soon = r.soon in let later = w.late in let sooner = w.soon in let paid = h.paid in let asked = h.asked in
       asked_follows k vs result spare (length bound) u.2.0 next l (put o.after request_register (request_of k)) m (w.time + 1) (may_be_asked k (and_left order (target && trees) parts)) same (and_left target trees both)

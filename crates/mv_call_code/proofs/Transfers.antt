@@ -21,7 +21,7 @@ use Rattle.mv_tree_code.proofs.Instructions.{addi_sets}
 use Rattle.mv_tree_code.proofs.Registers.{put_same, put_other, put_registers}
 use Rattle.mv_tree_code.proofs.Words.{word_of_pos, zero_add}
 use Rattle.mv_statement_code.specs.StatementCode.{first, write_temp}
-use Rattle.mv_statement_code.specs.Leads.{Past}
+use Rattle.mv_statement_code.specs.Leads.{limited, Past}
 use Rattle.mv_statement_code.specs.Frames.{Site, IsFit, Shows}
 use Rattle.mv_statement_code.proofs.TreesFirst.{add_small, temp_written}
 use Rattle.mv_statement_code.proofs.Walks.{leads_one}
@@ -29,7 +29,7 @@ use Rattle.mv_flow_code.specs.declared.enclosing.Enclosing.{Enclosing}
 use Rattle.mv_flow_code.specs.FlowCode.{fine_target}
 use Rattle.mv_flow_code.specs.Placed.{IsPlaced, Placed}
 use Rattle.mv_flow_code.specs.Runs.{Spot, Machine, outside, IsRun}
-use Rattle.mv_flow_code.specs.Laws.{has_word}
+use Rattle.mv_flow_code.specs.Laws.{uses_of}
 use Rattle.mv_flow_code.specs.Flow.{Here, AtTrap, IsCut, Follows}
 use Rattle.mv_flow_code.proofs.Walk as walk
 use Rattle.mv_flow_code.proofs.Walk.{Reaches, placed_split, stands_at, line_does, steps_on, branch_passes, taken, leads_walk, to_stands, to_here}
@@ -58,7 +58,7 @@ module _ {M : Type 0} (access : Access M) (y : Layout) (s : Site) (setting : ir.
   R = Reaches access s machine ok place end budget far
 
   -- one instruction that changes registers
-  pub sets_on : (i : Instr) (w : World) (pc next : ℕ) (regs regs' : List ℕ) (m : M) (t : ℕ) → ((pc : ℕ) → execute access i regs pc m ≡ Goes regs' (add pc 4) m)
+  pub sets_on : (i : Instr) (w : World) (pc next : ℕ) (regs regs' : List ℕ) (m : M) (t : ℕ) → ((pc : ℕ) → execute (limited access s) i regs pc m ≡ Goes regs' (add pc 4) m)
       → IsPlaced machine.text place s.entry pc next (Word i) → W w pc regs m t → W w next regs' m (t + 1)
   sets_on i w pc next regs regs' m t sets p a =
       let here = p.here in
@@ -67,7 +67,7 @@ module _ {M : Type 0} (access : Access M) (y : Layout) (s : Site) (setting : ir.
       (line_does access s machine ok place end budget far w pc next regs m t (Word i) p.stands p a ∙ sets pc ∙ ap (λ z. Goes regs' z m) on) (inl refl) a
 
   -- the result comes into its temporary
-  pub result_stands : (result : Option ℕ) (v spare k pc next : ℕ) (l : State) (w : World) (regs : List ℕ) (m : M) (i : ℕ) → fine_target is_fine s.may_ask s.temps (has_word s) result ≡ true → reg regs first ≡ v
+  pub result_stands : (result : Option ℕ) (v spare k pc next : ℕ) (l : State) (w : World) (regs : List ℕ) (m : M) (i : ℕ) → fine_target is_fine s.may_ask s.temps (uses_of s) result ≡ true → reg regs first ≡ v
       → Shows s access l regs m → outside l.world ≡ outside w → P (result_lines result) pc next → W w pc regs m i → i + (spare + 1) ≤ budget → far ≤ i + k
       → (j : ℕ) × H 0 spare k next (meaning.put result v l) j
   result_stands None v spare k pc next l w regs m i fine e f same p a paid asked = (
@@ -103,7 +103,7 @@ module _ {M : Type 0} (access : Access M) (y : Layout) (s : Site) (setting : ir.
       × Shows s access (with_world l w) (put (machine.run j).regs left_register (n + 1)) (machine.run j).memory
   back_shown n spare k i back mid l w regs m j e f was r p = (
     sets_on (Addi left_register left_register (pos 1)) w back mid now after memory j
-        (addi_sets access memory left_register left_register (pos 1) now n 1 (n + 1) count (word_of_pos 1 (omega arith)) (add_small n 1 (omega (arith, small)))) p
+        (addi_sets (limited access s) memory left_register left_register (pos 1) now n 1 (n + 1) count (word_of_pos 1 (omega arith)) (add_small n 1 (omega (arith, small)))) p
         (stands_at access s machine ok place end budget far w (machine.run j).pc back now memory j r.stands.at (record { is = refl; calm = r.stands.calm; sound = r.stands.sound })),
     shows_after access y s setting frame caller machine budget far l w regs after m memory f r.stands.globals are saved stack,
   )
@@ -146,7 +146,7 @@ module _ {M : Type 0} (access : Access M) (y : Layout) (s : Site) (setting : ir.
       stack b h = r.kept.stack b (subst (λ sp. IsAbove y sp b) (sym sp_held) h) ∙ ap (λ (x : M). access.load x b 4) was.memory
 
   -- a call has come back with a value
-  returned : (result : Option ℕ) (v n spare k i back next : ℕ) (l : State) (w : World) (regs : List ℕ) (m : M) (j : ℕ) → fine_target is_fine s.may_ask s.temps (has_word s) result ≡ true
+  returned : (result : Option ℕ) (v n spare k i back next : ℕ) (l : State) (w : World) (regs : List ℕ) (m : M) (j : ℕ) → fine_target is_fine s.may_ask s.temps (uses_of s) result ≡ true
       → n + 1 ≡ s.register left_register → Shows s access l regs m → Was regs n m i → Ret (spare + 2) k i back w j → reg (machine.run j).regs first ≡ v → P (back_lines result) back next
       → (t : ℕ) × H 0 spare k next (meaning.put result v (with_world l w)) t
   returned result v n spare k i back next l w regs m j fine e f was r value p =
@@ -164,7 +164,7 @@ module _ {M : Type 0} (access : Access M) (y : Layout) (s : Site) (setting : ir.
 
   -- what follows a call for its caller
   pub call_follows : (result : Option ℕ) (x : End) (n spare k i back next : ℕ) (around : List Enclosing) (l : State) (regs : List ℕ) (m : M)
-      → fine_target is_fine s.may_ask s.temps (has_word s) result ≡ true → n + 1 ≡ s.register left_register → Shows s access l regs m → Was regs n m i → P (back_lines result) back next
+      → fine_target is_fine s.may_ask s.temps (uses_of s) result ≡ true → n + 1 ≡ s.register left_register → Shows s access l regs m → Was regs n m i → P (back_lines result) back next
       → FC (spare + 2) k i back x → F spare k around next (call_end result l x)
   call_follows None (Returned None w) n spare k i back next around l regs m fine e f was p h =
       returned None (reg (machine.run h.0).regs first) n spare k i back next l w regs m h.0 fine e f was h.1 refl p
@@ -272,7 +272,7 @@ module _ {M : Type 0} (access : Access M) (y : Layout) (s : Site) (setting : ir.
       )
 
   -- a jump by a register, to an address of text
-  jalr_jumps : (rd rs1 : ℕ) (regs : List ℕ) (pc to : ℕ) (m : M) → reg regs rs1 ≡ to → IsPlace to → execute access (Jalr rd rs1 (pos 0)) regs pc m ≡ Goes (put regs rd (add pc 4)) to m
+  jalr_jumps : (rd rs1 : ℕ) (regs : List ℕ) (pc to : ℕ) (m : M) → reg regs rs1 ≡ to → IsPlace to → execute (limited access s) (Jalr rd rs1 (pos 0)) regs pc m ≡ Goes (put regs rd (add pc 4)) to m
   unfolding execute jumps
   jalr_jumps rd rs1 regs pc to m e is =
       let high = is.1 in let even = is.2 in
@@ -301,7 +301,7 @@ module _ {M : Type 0} (access : Access M) (y : Layout) (s : Site) (setting : ir.
       end_is : add at 4 ≡ back
       end_is = let here = p.1.here in add_small at 4 (omega (arith, here.1)) ∙ sym p.1.stands.1 ∙ sym p.2
 
-      jumps_on : step access (machine.text.word at) (put regs left_register n) at m ≡ Goes (put (put regs left_register n) link_register back) (s.entry f) m
+      jumps_on : step (limited access s) (machine.text.word at) (put regs left_register n) at m ≡ Goes (put (put regs left_register n) link_register back) (s.entry f) m
       jumps_on = line_does access s machine ok place end budget far l.world at p.0 from m i (Word (Jalr link_register scratch_register (pos 0))) p.1.stands p.1 a
           ∙ jalr_jumps link_register scratch_register from at (s.entry f) m target there ∙ ap (λ z. Goes (put from link_register z) (s.entry f) m) end_is
 

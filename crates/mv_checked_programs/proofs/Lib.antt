@@ -1,5 +1,5 @@
-mod Lists
-mod Units
+pub mod Lists
+pub mod Units
 mod Fitting
 mod Functions
 mod Given

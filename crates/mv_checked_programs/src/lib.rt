@@ -1,4 +1,10 @@
 //! The program of a unit that keeps the rules, and is within the limits, is what the layers above ask for.
+//!
+//! - `programs_of_texts_are_well_formed`: the program of a text, as `mv_front`'s contract says it (`IsProgram`), is well
+//!   formed and well typed; so it is lowered by `lower`. Nothing else is asked of the text.
+//! - Below it, `programs_of_small_units_are_well_formed`: the same of the program of each unit that breaks no rule, of
+//!   which no limit is reported, and that has at most 4,194,304 nodes; `checked_programs_are_well_formed`: and of each
+//!   such program of at most 16,777,216 nodes.
 #![tactic(auto)]
 
 ghost use Rattle.mv_checked_programs.specs.Checked.{CheckedAreWellFormed, ProgramsOfTextsAreWellFormed, SmallUnitsAreWellFormed};

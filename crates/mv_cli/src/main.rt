@@ -1,4 +1,7 @@
 //! The program `multiverse`: the top call over standard input, standard output, standard error and the files of the machine.
+//!
+//! `main` makes the real objects, boxes an oracle that picks the oldest word, and calls `multiverse`. It has one stored
+//! run. What the real objects hold is claimed by nothing.
 #![tactic(auto)]
 
 use mv_io::{FileShelf, StdSink, StdSource};

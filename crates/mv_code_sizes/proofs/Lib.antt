@@ -1,3 +1,4 @@
 pub mod OwnWords
 pub mod Sizes
 pub mod Texts
+pub mod Sites

@@ -13,9 +13,12 @@ use Rattle.mv_ir.proofs.Rolls.{same_functions}
 use Rattle.mv_clone.specs.Bind.{bound_layer, bound_stm, bound_code}
 use Rattle.mv_clone.proofs.Bound.{bound_stm_roll}
 use Rattle.mv_fold.specs.Simple.{constant, number, simple_tree, jumps, ended, simple_callee, alone, division, choice, simple_layer, simple_stm, simple_code}
+use Rattle.mv_fold.specs.Shortened.{shortened}
 use Rattle.mv_fold.specs.Needed.{needed_layer, needed_stm, needed_code}
+use Rattle.mv_fold.specs.Folded.{simple_body}
 use Rattle.mv_fold.proofs.SimpleKept.{simple_stm_roll}
 use Rattle.mv_fold.proofs.NeededEquations.{needed_stm_roll}
+use Rattle.mv_fold.proofs.Shortening.{temp, shortened_is}
 use Rattle.mv_regalloc.specs.Rename.{renamed_layer, renamed_stm, renamed_code}
 use Rattle.mv_regalloc.proofs.RenamedTrees.{renamed_stm_roll}
 use Rattle.mv_flow_code.specs.Encoded.{words_layer, stm_words, own_words}
@@ -186,6 +189,23 @@ to_many f x ys e h = omega (arith, ap own_words e, words_roll x, h)
 simple_words : (code : List Stm) → own_words (simple_code code) ≤ own_words code
 simple_words code = code_simple code (stms_ind (Many simple_stm) (stm_ind (Many simple_stm) (λ x h. to_many simple_stm x _ (simple_stm_roll x) (layer_simple x h))) code)
 
+abbrev NoLonger : List Stm → List Stm → Type 0
+NoLonger xs ys = own_words ys ≤ own_words xs
+
+-- a statement in place of two, of which the second takes as many words
+second_words : (x y z : Stm-F Stm) → W z ≤ W y → NoLonger (roll-Stm x ∷ roll-Stm y ∷ []) (roll-Stm z ∷ [])
+second_words x y z h = omega (arith, one_is z, words_roll y, h)
+
+short_words : (temps : ℕ) (code : List Stm) → own_words (shortened temps code) ≤ own_words code
+short_words temps = shortened_is temps NoLonger (record {
+  same = λ xs. omega arith;
+  both = λ xs ys zs h k. omega (arith, h, k);
+  behind = λ s xs ys h. omega (arith, h);
+  leave = λ n. omega arith;
+  stored = λ t g v lt. second_words (stm.Set t v) (stm.SetGlobal g (temp t)) (stm.SetGlobal g v) (omega arith);
+  returned = λ t v lt. second_words (stm.Set t v) (stm.Return (temp t)) (stm.Return v) (omega arith);
+})
+
 module _ (needed : ℕ → Bool) where
   set_words : (b : Bool) (t : ℕ) (v : Tree) → own_words (cond b (alone (stm.Set t v)) []) ≤ 1
   set_words true t v = alone_words (stm.Set t v) 1 (omega arith)
@@ -211,5 +231,5 @@ module _ (needed : ℕ → Bool) where
   needed_words : (code : List Stm) → own_words (needed_code needed code) ≤ own_words code
   needed_words code = many (needed_stm needed) code (stms_ind (Many (needed_stm needed)) (stm_ind (Many (needed_stm needed)) (λ x h. to_many (needed_stm needed) x _ (needed_stm_roll needed x) (layer_needed x h))) code)
 
-  pub folded_words : (code : List Stm) → own_words (needed_code needed (simple_code code)) ≤ own_words code
-  folded_words code = omega (arith, needed_words (simple_code code), simple_words code)
+  pub folded_words : (temps : ℕ) (code : List Stm) → own_words (needed_code needed (simple_body temps code)) ≤ own_words code
+  folded_words temps code = omega (arith, needed_words (simple_body temps code), short_words temps (simple_code code), simple_words code)

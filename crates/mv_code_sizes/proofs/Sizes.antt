@@ -38,7 +38,7 @@ renamed_words_fewer body b r =
 
 folded_words_fewer : (body b : Body) → IsFolded body b → most_words b.code ≤ most_words body.code
 folded_words_fewer body b h =
-    let own : own_words b.code ≤ own_words body.code = subst (λ c. own_words c ≤ own_words body.code) (sym h.code.2) (folded_words h.code.0 body.code) in
+    let own : own_words b.code ≤ own_words body.code = subst (λ c. own_words c ≤ own_words body.code) (sym h.code.2) (folded_words h.code.0 body.temps body.code) in
     let trees = h.smaller.tree_nodes in
     omega (arith, own, trees)
 

@@ -1,5 +1,5 @@
 -- A limit that is passed passes its count.
-use Rattle.std.proofs.Common.{arith, ◌≡◌, ℕ, false, get_or, Some}
+use Rattle.std.proofs.Common.{arith, ◌≡◌, ℕ, false, get_or, Some, sym, subst}
 use Rattle.std.specs.Prelude.{slice_get}
 use Rattle.std.proofs.lemmas.Option.{slice_get-get_or, slice_get_within}
 use Rattle.mv_ast.specs.declared.program.Program.{Program}
@@ -9,7 +9,7 @@ use Rattle.mv_front.specs.declared.refusal.Refusal.{Refusal}
 use Rattle.mv_lowering.specs.Functions.{lower_function}
 use Rattle.mv_checked_programs.specs.Checked.{ProgramsOfTextsAreWellFormed}
 use Rattle.mv_code_sizes.specs.Sizes.{renamed, LoweredFramesPass}
-use Rattle.mv_code_sizes.specs.Texts.{IsCodeOf, HaveCode, TextsPass}
+use Rattle.mv_code_sizes.specs.Texts.{IsCodeOf, HaveCode, HaveVariants, TextsPass}
 use Rattle.mv_build.specs.Verdicts.{PassesTextOf, PassesLimit, large_frame, much_data, long_text}
 use Rattle.mv_counted_limits.specs.Counted.{FramesAreCounted, TextsAreCounted, CountedPassNone}
 
@@ -36,8 +36,12 @@ module _ (formed : ProgramsOfTextsAreWellFormed) where
             items = c.items;
           }
 
+  -- so far without variants
+  have_variants : (p : Program) (words : ℕ) (h : PassesTextOf p words) → HaveVariants p h.parts.attributed
+  have_variants p words h = subst (HaveVariants p) (sym h.are_parts.no_attributed) (record { few = omega arith; each = λ n g a there is. absurd (let bad : ⊥ = cc in bad) })
+
   pub texts_counted : TextsPass → TextsAreCounted
-  texts_counted pass text p is words h = pass p (formed text p is) h.parts (have_code p words h) words h.past
+  texts_counted pass text p is words h = pass p (formed text p is) h.parts (have_code p words h) (have_variants p words h) words h.past
 
   pub pass_none : LoweredFramesPass → TextsPass → CountedPassNone
   pass_none frames texts text p accepted within r past = by past

@@ -1,4 +1,10 @@
 //! Programs that are small by counts over the source pass no limit on what they are compiled to.
+//!
+//! - `counted_programs_pass_no_limit`: refusal 8 never comes for a function where its declared words and 8 for each level
+//!   of its depth are at most 480 (`frames`), and 9 never where `400 + 40 * (1 + nodes) * (1 + assignments)`, summed over
+//!   the functions, is at most 131,072 (`texts`). So `build` answers a program that is compiled, is within these counts
+//!   and has at most 262,144 words of data with an image, unless memory is wanting (`none`).
+//! - A crate of one law, without a test.
 #![tactic(auto)]
 
 ghost use Rattle.mv_counted_limits.specs.Counted.{CountedPassNone, FramesAreCounted, TextsAreCounted};

@@ -1,4 +1,12 @@
 //! Evaluation of a program on an input: what it means, over a source and a sink.
+//!
+//! - `eval`: it takes the first 16,777,216 bytes of what the source tells, or all of it; the answer is the end of the
+//!   program's meaning on them at the bound, without an operator; and exactly the output of that meaning was written.
+//!   Where a read failed, or memory was refused, a part of these bytes was taken and nothing written; where a write
+//!   failed, a part of the output was written. A read or a write failed only where the count of that object rose. The
+//!   condition is that the program has fewer than 2^32 functions.
+//! - `writing::write_all`: all bytes were written, or less where a write failed.
+//! - Tested through the programs of `mv_top_rows`.
 #![tactic(auto)]
 
 ghost use Rattle.mv_io.specs.Outside.{Rose};

@@ -152,7 +152,9 @@ module _ (fit : ParametersFit) (grow : BodyGrows) where
           grows = record {
             locals = subst (λ ls. Keeps ls []) (sym empty) (keeps_same []);
             signatures = g.signatures;
+            enumerations = g.enumerations;
             around = ap (λ n. n.around) back;
+            tags = ap (λ n. n.around) (left_is s.tags t.tags g.tags);
             results = g.results;
           };
           same = sym empty;

@@ -63,7 +63,7 @@ pub record Widens (s t : Scope) : Type 0 where
 specifiers_names : (position : Position) (names : List Declarator) (specs : Specs) (s : Scope) → IfGood (specifiers position names specs s) (λ d. Names s d.0)
 specifiers_names position names specs s =
     if_more (Behind Names specs s) (λ d. Names s d.0) (specifiers position names specs s) (λ d h. h.0)
-    (specifiers_kept Names (λ s. names_same s s refl) names_joined names_one (λ s t n q l. names_same s t n) position names specs s)
+    (specifiers_kept Names (λ s. names_same s s refl) names_joined names_one (λ s t n q l a e. names_same s t n) position names specs s)
 
 -- specifiers widen the scope, and name a type that is no pointer
 pub specifiers_widen : (position : Position) (names : List Declarator) (specs : Specs) (s : Scope) → IfGood (specifiers position names specs s) (λ d. Widens s d.0 × Specifies s d)

@@ -1,6 +1,11 @@
 //! What the names of a unit's file scope mean, through its declarations.
 //!
 //! Each declaration that keeps the rules leads from sound contents to sound ones (`specs/Declared.antt`, `specs/Laws.antt`).
+//!
+//! Laws on a unit that `unit_judgement` finds good, and its program.
+//!
+//! - `good_declarations_are_sound`, `good_units_are_sound`: through the declarations, what a name of file scope means is
+//!   what the contents so far have, and stays so; and each function was defined where the names meant that.
 #![tactic(auto)]
 
 ghost use Rattle.mv_file_scope.specs.Laws.{FileScopeIsSound, ItemIsSound};

@@ -1,4 +1,13 @@
 //! Worlds in which each attributed function is free, or bound to values of its switches' domains, and in which the operator's actions fit.
+//!
+//! A world is fit where each attributed function is free or bound to one value of each of its switches' domains, and
+//! each action that is left fits.
+//!
+//! - `fit_worlds_law`: a test holds exactly in the fit worlds; a commit binds a function to the words of its switches
+//!   where they are in the domains, and else frees it; commits, reverts, polls, `getchar` and `putchar` leave a fit world
+//!   where they find one, carried out or refused; and a program starts in a fit world where all actions fit.
+//! - `fit_frames_law`: in a fit world a call of an attributed function finds it free, and then reads no switch as bound,
+//!   or bound to values of its domains, and then reads each of its switches, at most 6, as its value.
 #![tactic(auto)]
 
 ghost use Rattle.mv_fit_worlds.specs.Laws.{BindingsAreTold, CommitsAreToWords, FirstIsFit, FitIsTold, FramesOfBound, FramesOfFree, FunctionsAreFreeOrBound, KnownsKeepFit, OrdersKeepFit};

@@ -15,7 +15,7 @@ use Rattle.mv_tree_code.specs.TreeCode.{tree_lines}
 use Rattle.mv_tree_code.proofs.Registers.{reg_zero}
 use Rattle.mv_statement_code.specs.StatementCode.{first}
 use Rattle.mv_statement_code.specs.Frames.{Site, IsFine, IsFit}
-use Rattle.mv_statement_code.specs.Leads.{Past}
+use Rattle.mv_statement_code.specs.Leads.{limited, Past}
 use Rattle.mv_statement_code.proofs.ScalarStatements.{at_first, after_tree}
 use Rattle.mv_statement_code.proofs.TreesFirst.{HasValue, tree_first}
 use Rattle.mv_flow_code.specs.declared.enclosing.Enclosing.{Enclosing}
@@ -146,7 +146,7 @@ module _ {M : Type 0} (access : Access M) (s : Site) (setting : ir.Setting) (fra
       go true is h =
           let cost = (in_order b bound x).cost in
           let y = tree_reached v x 0 (spare + (8 + 3 * nodes v + cost)) k pc q.0 i z q.1 h in
-          let e = subst (λ d. BranchRuns access machine.text.word m d q.0 q.2.0 (place label) z.after) (by true is)
+          let e = subst (λ d. BranchRuns (limited access s) machine.text.word m d q.0 q.2.0 (place label) z.after) (by true is)
           (line_does access s machine ok place end budget far x.world q.0 q.2.0 z.after m y.time (Branch 0 first 0 label) q.2.1.stands q.2.1 y.stands) in
           let t = taken access s machine ok place end budget far x.world q.0 q.2.0 (place label) z.after m y.time e y.stands in
           let paid = h.paid in let asked = h.asked in let late = y.late in let soon = y.soon in let later = t.late in let sooner = t.soon in

@@ -11,7 +11,7 @@ use Rattle.mv_ir.specs.declared.stm.Stm.TheVariants.{rolls-Set, rolls-SetGlobal,
 use Rattle.mv_ir.specs.Measures.{callee_trees}
 use Rattle.mv_ir.specs.WellFormed.{known_arguments}
 use Rattle.mv_statement_code.specs.StatementCode.{set_lines, set_global_lines, divide_lines, check_lines, read_lines, write_lines, return_lines}
-use Rattle.mv_flow_code.specs.FlowCode.{Plan, plain, home, size, zero_code, if_code, loop_code, block_code, break_code, back_code, statement_code, code_of, all_true, fine_target, fine_known, is_fine_statement, are_fine}
+use Rattle.mv_flow_code.specs.FlowCode.{Plan, plain, home, size, zero_code, if_code, loop_code, block_code, break_code, back_code, statement_code, code_of, all_true, Uses, may_read, may_write, fine_target, fine_known, is_fine_statement, are_fine}
 use Rattle.mv_flow_code.proofs.StatementsDo.{code_roll, fine_roll}
 
 module _ (plan : Plan) where
@@ -60,53 +60,53 @@ module _ (plan : Plan) where
   pub code_return : (v : Tree) → statement_code plan (at.Return v) ≡ plain (return_lines plan.place plan.end v)
   code_return v = ap (statement_code plan) (sym (rolls-Return v)) ∙ code_roll plan (stm.Return v)
 
-module _ (is_fine : Tree → Bool) (may_ask : Known → Bool) (temps : ℕ) (is_scalar : ℕ → Bool) where
-  pub fine_set : (t : ℕ) (v : Tree) → is_fine_statement is_fine may_ask temps is_scalar (at.Set t v) ≡ (ltb t temps && is_fine v)
-  fine_set t v = ap (is_fine_statement is_fine may_ask temps is_scalar) (sym (rolls-Set t v)) ∙ fine_roll is_fine may_ask temps is_scalar (stm.Set t v)
+module _ (is_fine : Tree → Bool) (may_ask : Known → Bool) (temps : ℕ) (uses : Uses) where
+  pub fine_set : (t : ℕ) (v : Tree) → is_fine_statement is_fine may_ask temps uses (at.Set t v) ≡ (ltb t temps && is_fine v)
+  fine_set t v = ap (is_fine_statement is_fine may_ask temps uses) (sym (rolls-Set t v)) ∙ fine_roll is_fine may_ask temps uses (stm.Set t v)
 
-  pub fine_setglobal : (g : ℕ) (v : Tree) → is_fine_statement is_fine may_ask temps is_scalar (at.SetGlobal g v) ≡ (is_scalar g && is_fine v)
-  fine_setglobal g v = ap (is_fine_statement is_fine may_ask temps is_scalar) (sym (rolls-SetGlobal g v)) ∙ fine_roll is_fine may_ask temps is_scalar (stm.SetGlobal g v)
+  pub fine_setglobal : (g : ℕ) (v : Tree) → is_fine_statement is_fine may_ask temps uses (at.SetGlobal g v) ≡ ((uses.has_word g && uses.is_written g) && is_fine v)
+  fine_setglobal g v = ap (is_fine_statement is_fine may_ask temps uses) (sym (rolls-SetGlobal g v)) ∙ fine_roll is_fine may_ask temps uses (stm.SetGlobal g v)
 
-  pub fine_divide : (t o : ℕ) (a b : Tree) → is_fine_statement is_fine may_ask temps is_scalar (at.Divide t o a b) ≡ (ltb t temps && (is_fine a && is_fine b))
-  fine_divide t o a b = ap (is_fine_statement is_fine may_ask temps is_scalar) (sym (rolls-Divide t o a b)) ∙ fine_roll is_fine may_ask temps is_scalar (stm.Divide t o a b)
+  pub fine_divide : (t o : ℕ) (a b : Tree) → is_fine_statement is_fine may_ask temps uses (at.Divide t o a b) ≡ (ltb t temps && (is_fine a && is_fine b))
+  fine_divide t o a b = ap (is_fine_statement is_fine may_ask temps uses) (sym (rolls-Divide t o a b)) ∙ fine_roll is_fine may_ask temps uses (stm.Divide t o a b)
 
-  pub fine_check : (a : Array) (i : Tree) → is_fine_statement is_fine may_ask temps is_scalar (at.Check a i) ≡ (is_fine i)
-  fine_check a i = ap (is_fine_statement is_fine may_ask temps is_scalar) (sym (rolls-Check a i)) ∙ fine_roll is_fine may_ask temps is_scalar (stm.Check a i)
+  pub fine_check : (a : Array) (i : Tree) → is_fine_statement is_fine may_ask temps uses (at.Check a i) ≡ (is_fine i)
+  fine_check a i = ap (is_fine_statement is_fine may_ask temps uses) (sym (rolls-Check a i)) ∙ fine_roll is_fine may_ask temps uses (stm.Check a i)
 
-  pub fine_read : (t : ℕ) (a : Array) (i : Tree) → is_fine_statement is_fine may_ask temps is_scalar (at.Read t a i) ≡ (ltb t temps && is_fine i)
-  fine_read t a i = ap (is_fine_statement is_fine may_ask temps is_scalar) (sym (rolls-Read t a i)) ∙ fine_roll is_fine may_ask temps is_scalar (stm.Read t a i)
+  pub fine_read : (t : ℕ) (a : Array) (i : Tree) → is_fine_statement is_fine may_ask temps uses (at.Read t a i) ≡ (ltb t temps && (may_read is_fine may_ask temps uses a && is_fine i))
+  fine_read t a i = ap (is_fine_statement is_fine may_ask temps uses) (sym (rolls-Read t a i)) ∙ fine_roll is_fine may_ask temps uses (stm.Read t a i)
 
-  pub fine_write : (a : Array) (i v : Tree) → is_fine_statement is_fine may_ask temps is_scalar (at.Write a i v) ≡ (is_fine i && is_fine v)
-  fine_write a i v = ap (is_fine_statement is_fine may_ask temps is_scalar) (sym (rolls-Write a i v)) ∙ fine_roll is_fine may_ask temps is_scalar (stm.Write a i v)
+  pub fine_write : (a : Array) (i v : Tree) → is_fine_statement is_fine may_ask temps uses (at.Write a i v) ≡ (may_write is_fine may_ask temps uses a && (is_fine i && is_fine v))
+  fine_write a i v = ap (is_fine_statement is_fine may_ask temps uses) (sym (rolls-Write a i v)) ∙ fine_roll is_fine may_ask temps uses (stm.Write a i v)
 
-  pub fine_zero : (a : ℕ) → is_fine_statement is_fine may_ask temps is_scalar (at.Zero a) ≡ (true)
-  fine_zero a = ap (is_fine_statement is_fine may_ask temps is_scalar) (sym (rolls-Zero a)) ∙ fine_roll is_fine may_ask temps is_scalar (stm.Zero a)
+  pub fine_zero : (a : ℕ) → is_fine_statement is_fine may_ask temps uses (at.Zero a) ≡ (true)
+  fine_zero a = ap (is_fine_statement is_fine may_ask temps uses) (sym (rolls-Zero a)) ∙ fine_roll is_fine may_ask temps uses (stm.Zero a)
 
-  pub fine_if : (t : Tree) (a b : List Stm) → is_fine_statement is_fine may_ask temps is_scalar (at.If t a b) ≡ (is_fine t && (are_fine is_fine may_ask temps is_scalar a && are_fine is_fine may_ask temps is_scalar b))
-  fine_if t a b = ap (is_fine_statement is_fine may_ask temps is_scalar) (sym (rolls-If t a b)) ∙ fine_roll is_fine may_ask temps is_scalar (stm.If t a b)
+  pub fine_if : (t : Tree) (a b : List Stm) → is_fine_statement is_fine may_ask temps uses (at.If t a b) ≡ (is_fine t && (are_fine is_fine may_ask temps uses a && are_fine is_fine may_ask temps uses b))
+  fine_if t a b = ap (is_fine_statement is_fine may_ask temps uses) (sym (rolls-If t a b)) ∙ fine_roll is_fine may_ask temps uses (stm.If t a b)
 
-  pub fine_loop : (b : List Stm) → is_fine_statement is_fine may_ask temps is_scalar (at.Loop b) ≡ (are_fine is_fine may_ask temps is_scalar b)
-  fine_loop b = ap (is_fine_statement is_fine may_ask temps is_scalar) (sym (rolls-Loop b)) ∙ fine_roll is_fine may_ask temps is_scalar (stm.Loop b)
+  pub fine_loop : (b : List Stm) → is_fine_statement is_fine may_ask temps uses (at.Loop b) ≡ (are_fine is_fine may_ask temps uses b)
+  fine_loop b = ap (is_fine_statement is_fine may_ask temps uses) (sym (rolls-Loop b)) ∙ fine_roll is_fine may_ask temps uses (stm.Loop b)
 
-  pub fine_block : (b : List Stm) → is_fine_statement is_fine may_ask temps is_scalar (at.Block b) ≡ (are_fine is_fine may_ask temps is_scalar b)
-  fine_block b = ap (is_fine_statement is_fine may_ask temps is_scalar) (sym (rolls-Block b)) ∙ fine_roll is_fine may_ask temps is_scalar (stm.Block b)
+  pub fine_block : (b : List Stm) → is_fine_statement is_fine may_ask temps uses (at.Block b) ≡ (are_fine is_fine may_ask temps uses b)
+  fine_block b = ap (is_fine_statement is_fine may_ask temps uses) (sym (rolls-Block b)) ∙ fine_roll is_fine may_ask temps uses (stm.Block b)
 
-  pub fine_break : (n : ℕ) → is_fine_statement is_fine may_ask temps is_scalar (at.Break n) ≡ (true)
-  fine_break n = ap (is_fine_statement is_fine may_ask temps is_scalar) (sym (rolls-Break n)) ∙ fine_roll is_fine may_ask temps is_scalar (stm.Break n)
+  pub fine_break : (n : ℕ) → is_fine_statement is_fine may_ask temps uses (at.Break n) ≡ (true)
+  fine_break n = ap (is_fine_statement is_fine may_ask temps uses) (sym (rolls-Break n)) ∙ fine_roll is_fine may_ask temps uses (stm.Break n)
 
-  pub fine_back : (n : ℕ) → is_fine_statement is_fine may_ask temps is_scalar (at.Back n) ≡ (true)
-  fine_back n = ap (is_fine_statement is_fine may_ask temps is_scalar) (sym (rolls-Back n)) ∙ fine_roll is_fine may_ask temps is_scalar (stm.Back n)
+  pub fine_back : (n : ℕ) → is_fine_statement is_fine may_ask temps uses (at.Back n) ≡ (true)
+  fine_back n = ap (is_fine_statement is_fine may_ask temps uses) (sym (rolls-Back n)) ∙ fine_roll is_fine may_ask temps uses (stm.Back n)
 
-  pub fine_call : (r : Option ℕ) (f : Callee) (args : List Tree) → is_fine_statement is_fine may_ask temps is_scalar (at.Call r f args)
-      ≡ (ltb (length args) 9 && (fine_target is_fine may_ask temps is_scalar r && (all_true (map is_fine (callee_trees f)) && all_true (map is_fine args))))
-  fine_call r f args = ap (is_fine_statement is_fine may_ask temps is_scalar) (sym (rolls-Call r f args)) ∙ fine_roll is_fine may_ask temps is_scalar (stm.Call r f args)
+  pub fine_call : (r : Option ℕ) (f : Callee) (args : List Tree) → is_fine_statement is_fine may_ask temps uses (at.Call r f args)
+      ≡ (ltb (length args) 9 && (fine_target is_fine may_ask temps uses r && (all_true (map is_fine (callee_trees f)) && all_true (map is_fine args))))
+  fine_call r f args = ap (is_fine_statement is_fine may_ask temps uses) (sym (rolls-Call r f args)) ∙ fine_roll is_fine may_ask temps uses (stm.Call r f args)
 
-  pub fine_known_call : (r : Option ℕ) (k : Known) (args : List Tree) → is_fine_statement is_fine may_ask temps is_scalar (at.Known r k args)
-      ≡ (eqb (length args) (known_arguments k) && (fine_known is_fine may_ask temps is_scalar k && (fine_target is_fine may_ask temps is_scalar r && all_true (map is_fine args))))
-  fine_known_call r k args = ap (is_fine_statement is_fine may_ask temps is_scalar) (sym (rolls-Known r k args)) ∙ fine_roll is_fine may_ask temps is_scalar (stm.Known r k args)
+  pub fine_known_call : (r : Option ℕ) (k : Known) (args : List Tree) → is_fine_statement is_fine may_ask temps uses (at.Known r k args)
+      ≡ (eqb (length args) (known_arguments k) && (fine_known is_fine may_ask temps uses k && (fine_target is_fine may_ask temps uses r && all_true (map is_fine args))))
+  fine_known_call r k args = ap (is_fine_statement is_fine may_ask temps uses) (sym (rolls-Known r k args)) ∙ fine_roll is_fine may_ask temps uses (stm.Known r k args)
 
-  pub fine_return : (v : Tree) → is_fine_statement is_fine may_ask temps is_scalar (at.Return v) ≡ (is_fine v)
-  fine_return v = ap (is_fine_statement is_fine may_ask temps is_scalar) (sym (rolls-Return v)) ∙ fine_roll is_fine may_ask temps is_scalar (stm.Return v)
+  pub fine_return : (v : Tree) → is_fine_statement is_fine may_ask temps uses (at.Return v) ≡ (is_fine v)
+  fine_return v = ap (is_fine_statement is_fine may_ask temps uses) (sym (rolls-Return v)) ∙ fine_roll is_fine may_ask temps uses (stm.Return v)
 
 pub ruleset codes = (code_set, code_setglobal, code_divide, code_check, code_read, code_write, code_zero, code_if, code_loop, code_block, code_break, code_back, code_call, code_known, code_return)
 

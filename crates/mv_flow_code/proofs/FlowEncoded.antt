@@ -26,7 +26,7 @@ use Rattle.mv_statement_code.specs.StatementCode.{first, second, bounds_lines, c
 use Rattle.mv_statement_code.specs.Encoded.{IsCode, IsSmall, AreEncoded}
 use Rattle.mv_statement_code.proofs.EncodedCode.{are_encoded}
 use Rattle.mv_flow_code.specs.declared.enclosing.Enclosing.{Enclosing}
-use Rattle.mv_flow_code.specs.FlowCode.{Plan, Emitted, in_turn, enclosing_at, zero_lines, branch_lines, loop_lines, block_lines, loop_at, block_at, home, size, code_layer, statement_code, all_true, fine_layer}
+use Rattle.mv_flow_code.specs.FlowCode.{Plan, Emitted, in_turn, enclosing_at, zero_lines, branch_lines, loop_lines, block_lines, loop_at, block_at, home, size, code_layer, statement_code, all_true, may_read, may_write, fine_layer}
 use Rattle.mv_flow_code.specs.Layouts.{plan_in, any_global, any_known, is_small, is_small_statement}
 use Rattle.mv_flow_code.specs.Encoded.{words_layer, stm_words, CallsAreEncoded, FlowIsEncoded}
 use Rattle.mv_flow_code.proofs.ArraysWithin.{plan_within}
@@ -151,9 +151,13 @@ module _ (plan : Plan) (within : (a : ℕ) → plan.array_at a + 4 * plan.array_
       let both = and_right (ltb t 507) (is_small a && is_small b) small in
       wider _ _ _ (parts.divide t o a b (below t (is_small a && is_small b) small) (small_tree a (and_left (is_small a) (is_small b) both)) (small_tree b (and_right (is_small a) (is_small b) both))) (omega arith)
   layer (stm.Check a i) h small around label = wider _ _ _ (parts.check (size plan a) i (small_tree i small)) (omega arith)
-  layer (stm.Read t a i) h small around label = wider _ _ _ (parts.read t (size plan a) (home plan a) i (below t (is_small i) small) (home_within a) (tree t i small)) (omega arith)
+  layer (stm.Read t a i) h small around label =
+      let may = may_read is_small any_known 507 any_global a in
+      let tree_too = and_right (ltb t 507) (may && is_small i) small in
+      wider _ _ _ (parts.read t (size plan a) (home plan a) i (below t (may && is_small i) small) (home_within a) (small_tree i (and_right may (is_small i) tree_too))) (omega arith)
   layer (stm.Write a i v) h small around label =
-      wider _ _ _ (parts.write (size plan a) (home plan a) i v (home_within a) (small_tree i (and_left (is_small i) (is_small v) small)) (small_tree v (and_right (is_small i) (is_small v) small))) (omega arith)
+      let both = and_right (may_write is_small any_known 507 any_global a) (is_small i && is_small v) small in
+      wider _ _ _ (parts.write (size plan a) (home plan a) i v (home_within a) (small_tree i (and_left (is_small i) (is_small v) both)) (small_tree v (and_right (is_small i) (is_small v) both))) (omega arith)
   layer (stm.Zero a) h small around label =
       let at = plan.array_at a in
       let n = plan.array_size a in

@@ -13,3 +13,4 @@ pub mod TargetsStand
 pub mod TreeNames
 pub mod Walk
 pub mod Zeroing
+pub mod Reading

@@ -17,6 +17,7 @@ use Rattle.mv_tree_code.proofs.TreesRun.{and_left, and_right}
 use Rattle.mv_statement_code.specs.Encoded.{IsSmall}
 use Rattle.mv_flow_code.specs.Layouts.{any_global, any_known, is_small, small_call, small_known, is_small_statement, are_small}
 use Rattle.mv_flow_code.proofs.Equations.{fine_set, fine_setglobal, fine_divide, fine_check, fine_read, fine_write, fine_if, fine_loop, fine_block, fine_call, fine_known_call, fine_return}
+use Rattle.mv_flow_code.specs.FlowCode.{may_read, may_write}
 
 pub small_tree : (v : Tree) → is_small v ≡ true → IsSmall v
 small_tree v h =
@@ -53,10 +54,16 @@ module _ (s : Stm) (small : is_small_statement s ≡ true) where
   small_check a i same = of_kind (at.Check a i) (is_small i) same (fine_check is_small any_known 507 any_global a i)
 
   pub small_read : (t : ℕ) (a : Array) (i : Tree) → s ≡ at.Read t a i → (t < 507) × (is_small i ≡ true)
-  small_read t a i same = target_and t (is_small i) (of_kind (at.Read t a i) (ltb t 507 && is_small i) same (fine_read is_small any_known 507 any_global t a i))
+  small_read t a i same =
+      let may = may_read is_small any_known 507 any_global a in
+      let h = target_and t (may && is_small i) (of_kind (at.Read t a i) (ltb t 507 && (may && is_small i)) same (fine_read is_small any_known 507 any_global t a i)) in
+      (h.0, and_right may (is_small i) h.1)
 
   pub small_write : (a : Array) (i v : Tree) → s ≡ at.Write a i v → (is_small i ≡ true) × (is_small v ≡ true)
-  small_write a i v same = pair (is_small i) (is_small v) (of_kind (at.Write a i v) (is_small i && is_small v) same (fine_write is_small any_known 507 any_global a i v))
+  small_write a i v same =
+      let may = may_write is_small any_known 507 any_global a in
+      let both = is_small i && is_small v in
+      pair (is_small i) (is_small v) (and_right may both (of_kind (at.Write a i v) (may && both) same (fine_write is_small any_known 507 any_global a i v)))
 
   pub small_if : (t : Tree) (a b : List Stm) → s ≡ at.If t a b → (is_small t ≡ true) × (are_small a ≡ true) × (are_small b ≡ true)
   small_if t a b same =

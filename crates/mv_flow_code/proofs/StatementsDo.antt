@@ -5,6 +5,8 @@ use Rattle.mv_ast.specs.declared.program.Known.{Known}
 use Rattle.mv_isa.specs.declared.labelled.Line.{Line}
 use Rattle.mv_isa.specs.Execution.{Access}
 use Rattle.mv_ir.specs.declared.tree.Tree.{Tree}
+use Rattle.mv_ir.specs.declared.stm.Array.{Array}
+use Rattle.mv_ir.specs.declared.stm.Array.TheVariants as array
 use Rattle.mv_ir.specs.declared.stm.Stm.{Stm}
 use Rattle.mv_ir.specs.declared.stm.Stm.TheOpen.{Stm-F}
 use Rattle.mv_ir.specs.declared.stm.Stm.TheOpen as stm
@@ -17,15 +19,15 @@ use Rattle.mv_ir.specs.Trees.{divide}
 use Rattle.mv_ir.proofs.Induction.{Each, StmChildren, stm_ind, stms_ind}
 use Rattle.mv_ir.proofs.Keeping.{meaning_roll}
 use Rattle.mv_tree_code.proofs.TreesRun.{and_left, and_right}
-use Rattle.mv_statement_code.specs.Frames.{Site, IsFine, IsFit}
+use Rattle.mv_statement_code.specs.Frames.{Site, IsRead, IsWritten, IsFine, IsFit}
 use Rattle.mv_statement_code.proofs.ScalarStatements.{set_done, set_global_done, divide_done, return_done}
 use Rattle.mv_statement_code.proofs.ArrayStatements.{check_done, read_done, write_done}
 use Rattle.mv_flow_code.specs.declared.enclosing.Enclosing.{Enclosing}
-use Rattle.mv_flow_code.specs.FlowCode.{CallLines, Plan, Emitted, in_turn, loop_at, block_at, code_layer, statement_code, all_true, fine_layer, is_fine_statement}
+use Rattle.mv_flow_code.specs.FlowCode.{Uses, CallLines, Plan, Emitted, in_turn, loop_at, block_at, code_layer, statement_code, all_true, may_read, may_write, fine_layer, is_fine_statement}
 use Rattle.mv_flow_code.specs.Placed.{Placed}
 use Rattle.mv_flow_code.specs.Runs.{Machine, IsRun}
 use Rattle.mv_flow_code.specs.Flow.{IsWithin, Does}
-use Rattle.mv_flow_code.specs.Laws.{plan_of, has_word, LinesDo, CallsDo}
+use Rattle.mv_flow_code.specs.Laws.{plan_of, uses_of, LinesDo, CallsDo}
 use Rattle.mv_flow_code.proofs.Composition.{within_within, nothing_does, then_does}
 use Rattle.mv_flow_code.proofs.Control.{break_does, back_does, block_stands, loop_stands, if_stands}
 use Rattle.mv_flow_code.proofs.Leaves.{same_either, same_elements, leaf_does}
@@ -36,10 +38,10 @@ pub code_roll : (plan : Plan) (x : Stm-F Stm) → statement_code plan (roll-Stm 
 unfolding statement_code
 code_roll plan x = fold-roll-Stm Emitted (code_layer plan) x
 
-pub fine_roll : (is_fine : Tree → Bool) (may_ask : Known → Bool) (temps : ℕ) (is_scalar : ℕ → Bool) (x : Stm-F Stm)
-    → is_fine_statement is_fine may_ask temps is_scalar (roll-Stm x) ≡ fine_layer is_fine may_ask temps is_scalar (map-Stm Stm Bool (is_fine_statement is_fine may_ask temps is_scalar) x)
+pub fine_roll : (is_fine : Tree → Bool) (may_ask : Known → Bool) (temps : ℕ) (uses : Uses) (x : Stm-F Stm)
+    → is_fine_statement is_fine may_ask temps uses (roll-Stm x) ≡ fine_layer is_fine may_ask temps uses (map-Stm Stm Bool (is_fine_statement is_fine may_ask temps uses) x)
 unfolding is_fine_statement
-fine_roll is_fine may_ask temps is_scalar x = fold-roll-Stm Bool (fine_layer is_fine may_ask temps is_scalar) x
+fine_roll is_fine may_ask temps uses x = fold-roll-Stm Bool (fine_layer is_fine may_ask temps uses) x
 
 module _ {M : Type 0} (access : Access M) (s : Site) (setting : ir.Setting) (frame : ir.Frame) (fit : IsFit s access setting frame) (machine : Machine M) (ok : IsRun access s machine)
     (is_fine : Tree → Bool) (fine_trees : (t : Tree) → is_fine t ≡ true → IsFine s setting frame t) (place : ℕ → ℕ) (end budget far : ℕ) (top : Bound) (calls : CallLines)
@@ -54,7 +56,7 @@ module _ {M : Type 0} (access : Access M) (s : Site) (setting : ir.Setting) (fra
   Code = statement_code (plan_of s end calls)
 
   abbrev Fine : Stm → Bool
-  Fine = is_fine_statement is_fine s.may_ask s.temps (has_word s)
+  Fine = is_fine_statement is_fine s.may_ask s.temps (uses_of s)
 
   abbrev Mean : Stm → Meaning
   Mean = meaning setting frame
@@ -70,13 +72,13 @@ module _ {M : Type 0} (access : Access M) (s : Site) (setting : ir.Setting) (fra
   StmDoes t = Fine t ≡ true → Performs (Code t) (Mean t)
 
   abbrev LayerDoes : Stm-F Stm → Type 0
-  LayerDoes x = fine_layer is_fine s.may_ask s.temps (has_word s) (map-Stm Stm Bool Fine x) ≡ true
+  LayerDoes x = fine_layer is_fine s.may_ask s.temps (uses_of s) (map-Stm Stm Bool Fine x) ≡ true
       → Performs (code_layer (plan_of s end calls) (map-Stm Stm Emitted Code x)) (statement setting frame (map-Stm Stm Meaning Mean x))
 
   from_layer : (x : Stm-F Stm) → LayerDoes x → StmDoes (roll-Stm x)
   from_layer x h fine =
       subst (Performs (Code (roll-Stm x))) (sym (meaning_roll setting frame x))
-      (subst (λ c. Performs c (statement setting frame (map-Stm Stm Meaning Mean x))) (sym (code_roll (plan_of s end calls) x)) (h (sym (fine_roll is_fine s.may_ask s.temps (has_word s) x) ∙ fine)))
+      (subst (λ c. Performs c (statement setting frame (map-Stm Stm Meaning Mean x))) (sym (code_roll (plan_of s end calls) x)) (h (sym (fine_roll is_fine s.may_ask s.temps (uses_of s) x) ∙ fine)))
 
   -- statements in order
   pub code_does : (code : List Stm) → Each StmDoes code → all_true (map Fine code) ≡ true → Performs (in_turn (map Code code)) (in_order (map Mean code))
@@ -95,13 +97,25 @@ module _ {M : Type 0} (access : Access M) (s : Site) (setting : ir.Setting) (fra
   below : (t : ℕ) (b : Bool) → (ltb t s.temps && b) ≡ true → t < s.temps
   below t b e = ltb-true t s.temps (and_left (ltb t s.temps) b e)
 
+  array_read : (a : Array) → may_read is_fine s.may_ask s.temps (uses_of s) a ≡ true → IsRead s a
+  array_read (array.Global g) e = e
+  array_read (array.Local a) e = tt
+
+  array_written : (a : Array) → may_write is_fine s.may_ask s.temps (uses_of s) a ≡ true → IsWritten s a
+  array_written (array.Global g) e = e
+  array_written (array.Local a) e = tt
+
   layer : (x : Stm-F Stm) → StmChildren StmDoes x → LayerDoes x
   layer (stm.Set t v) h fine spare label around pc next bound le p =
       leaf_does access s setting frame machine ok place end budget far is_fine top _ (stm.Set t v)
       (set_done access s setting frame fit end t v (below t (is_fine v) fine) (fine_trees v (and_right (ltb t s.temps) (is_fine v) fine))) (λ bound l. refl) spare around pc next bound le p
   layer (stm.SetGlobal g v) h fine spare label around pc next bound le p =
+      let has_word = ltb 0 (s.size g) in
+      let may = has_word && s.reach.is_written g in
+      let global = and_left may (is_fine v) fine in
       leaf_does access s setting frame machine ok place end budget far is_fine top _ (stm.SetGlobal g v)
-      (set_global_done access s setting frame fit end g v (ltb-true 0 (s.size g) (and_left (has_word s g) (is_fine v) fine)) (fine_trees v (and_right (has_word s g) (is_fine v) fine))) (λ bound l. refl) spare around pc next bound le p
+      (set_global_done access s setting frame fit end g v (ltb-true 0 (s.size g) (and_left has_word (s.reach.is_written g) global)) (and_right has_word (s.reach.is_written g) global)
+      (fine_trees v (and_right may (is_fine v) fine))) (λ bound l. refl) spare around pc next bound le p
   layer (stm.Divide t o a b) h fine spare label around pc next bound le p =
       let both = and_right (ltb t s.temps) (is_fine a && is_fine b) fine in
       leaf_does access s setting frame machine ok place end budget far is_fine top _ (stm.Divide t o a b)
@@ -111,12 +125,16 @@ module _ {M : Type 0} (access : Access M) (s : Site) (setting : ir.Setting) (fra
       leaf_does access s setting frame machine ok place end budget far is_fine top _ (stm.Check a i) (check_done access s setting frame fit end a i (fine_trees i fine))
       (λ bound l. same_either l.world (ltb (V i l) (length (elements a l))) (Next l) (traps 2 l) refl refl) spare around pc next bound le p
   layer (stm.Read t a i) h fine spare label around pc next bound le p =
+      let may = may_read is_fine s.may_ask s.temps (uses_of s) a in
+      let rest = and_right (ltb t s.temps) (may && is_fine i) fine in
       leaf_does access s setting frame machine ok place end budget far is_fine top _ (stm.Read t a i)
-      (read_done access s setting frame fit end t a i (below t (is_fine i) fine) (fine_trees i (and_right (ltb t s.temps) (is_fine i) fine)))
+      (read_done access s setting frame fit end t a i (below t (may && is_fine i) fine) (array_read a (and_left may (is_fine i) rest)) (fine_trees i (and_right may (is_fine i) rest)))
       (λ bound l. same_either l.world (ltb (V i l) (length (elements a l))) (Next (with_temp l t (slice_index (elements a l) (V i l)))) (traps 2 l) refl refl) spare around pc next bound le p
   layer (stm.Write a i v) h fine spare label around pc next bound le p =
+      let may = may_write is_fine s.may_ask s.temps (uses_of s) a in
+      let rest = and_right may (is_fine i && is_fine v) fine in
       leaf_does access s setting frame machine ok place end budget far is_fine top _ (stm.Write a i v)
-      (write_done access s setting frame fit end a i v (fine_trees i (and_left (is_fine i) (is_fine v) fine)) (fine_trees v (and_right (is_fine i) (is_fine v) fine)))
+      (write_done access s setting frame fit end a i v (array_written a (and_left may (is_fine i && is_fine v) fine)) (fine_trees i (and_left (is_fine i) (is_fine v) rest)) (fine_trees v (and_right (is_fine i) (is_fine v) rest)))
       (λ bound l. same_either l.world (ltb (V i l) (length (elements a l))) (Next (with_elements a l (slice_set (elements a l) (V i l) (V v l)))) (traps 2 l) (same_elements a l _) refl) spare around pc next bound le p
   layer (stm.Zero a) h fine spare label around pc next bound le p =
       zero_stands access s setting frame fit machine ok place end budget far label a spare (length bound) pc next around bound p

@@ -11,7 +11,7 @@ use Rattle.mv_isa.proofs.LineSteps.{line_runs}
 use Rattle.mv_ir.specs.World.{World}
 use Rattle.mv_ir.specs.Outcome.{State}
 use Rattle.mv_statement_code.specs.Frames.{Site, Shows}
-use Rattle.mv_statement_code.specs.Leads.{Exit, Past, To, Writes, Stays, Leads}
+use Rattle.mv_statement_code.specs.Leads.{Exit, Past, To, limited, Writes, Stays, Leads}
 use Rattle.mv_statement_code.proofs.TreesFirst.{add_small}
 use Rattle.mv_flow_code.specs.Placed.{Text, IsPlaced, Placed}
 use Rattle.mv_flow_code.specs.Runs.{Spot, Machine, outside, Calm, LeadsOn, IsRun}
@@ -51,7 +51,7 @@ module _ {M : Type 0} (access : Access M) (s : Site) (machine : Machine M) (ok :
   stands_at w pc to regs m i e h = subst (λ z. Stands w z regs m i) e h
 
   -- one step
-  pub steps_on : (w : World) (pc to : ℕ) (regs regs' : List ℕ) (m m' : M) (i : ℕ) → step access (machine.text.word pc) regs pc m ≡ Goes regs' to m' → Writes access s m m'
+  pub steps_on : (w : World) (pc to : ℕ) (regs regs' : List ℕ) (m m' : M) (i : ℕ) → step (limited access s) (machine.text.word pc) regs pc m ≡ Goes regs' to m' → Writes access s m m'
       → Stands w pc regs m i → Stands w to regs' m' (i + 1)
   steps_on w pc to regs regs' m m' i e writes h = record {
     is = ok.goes i w (spot to regs' m') leads;
@@ -62,7 +62,7 @@ module _ {M : Type 0} (access : Access M) (s : Site) (machine : Machine M) (ok :
       leads : LeadsOn access s machine i w (spot to regs' m')
       leads = record {
         calm = subst (λ (x : Spot M). Calm access s machine w x.memory) (sym h.is) h.calm;
-        steps = subst (λ (x : Spot M). step access (machine.text.word x.pc) x.regs x.pc x.memory ≡ Goes regs' to m') (sym h.is) e;
+        steps = subst (λ (x : Spot M). step (limited access s) (machine.text.word x.pc) x.regs x.pc x.memory ≡ Goes regs' to m') (sym h.is) e;
         writes = subst (λ (x : Spot M). Writes access s x.memory m') (sym h.is) writes;
       }
 
@@ -71,8 +71,8 @@ module _ {M : Type 0} (access : Access M) (s : Site) (machine : Machine M) (ok :
 
   -- what a line does from where the run stands
   pub line_does : (w : World) (pc mid : ℕ) (regs : List ℕ) (m : M) (i : ℕ) (line : Line) → LineStands machine.text.word place s.entry pc mid line → (p : IsPlaced machine.text place s.entry pc mid line) → Stands w pc regs m i
-      → LineRuns access machine.text.word m pc mid (named place s.entry pc line) regs line
-  line_does w pc mid regs m i line stands p h = line_runs access m machine.text.word place s.entry pc mid line stands p.fits p.here p.there regs (has_registers w pc regs m i h)
+      → LineRuns (limited access s) machine.text.word m pc mid (named place s.entry pc line) regs line
+  line_does w pc mid regs m i line stands p h = line_runs (limited access s) m machine.text.word place s.entry pc mid line stands p.fits p.here p.there regs (has_registers w pc regs m i h)
 
   abbrev target : Exit → ℕ → ℕ
   target Past next = next
@@ -109,10 +109,10 @@ module _ {M : Type 0} (access : Access M) (s : Site) (machine : Machine M) (ok :
       → IsPlaced machine.text place s.entry pc mid (Branch funct3 rs1 rs2 l) → Stands w pc regs m i → Stands w mid regs m (i + 1)
   branch_passes w pc mid funct3 rs1 rs2 l regs m i passes p a =
       steps_on w pc mid regs regs m m i
-      (subst (λ b. BranchRuns access machine.text.word m b pc mid (place l) regs) passes (line_does w pc mid regs m i (Branch funct3 rs1 rs2 l) p.stands p a)) (inl refl) a
+      (subst (λ b. BranchRuns (limited access s) machine.text.word m b pc mid (place l) regs) passes (line_does w pc mid regs m i (Branch funct3 rs1 rs2 l) p.stands p a)) (inl refl) a
 
   -- a branch that is taken, in one step or in two
-  pub taken : (w : World) (pc mid to : ℕ) (regs : List ℕ) (m : M) (i : ℕ) → BranchRuns access machine.text.word m true pc mid to regs → Stands w pc regs m i → Reaches w to regs m i 2
+  pub taken : (w : World) (pc mid to : ℕ) (regs : List ℕ) (m : M) (i : ℕ) → BranchRuns (limited access s) machine.text.word m true pc mid to regs → Stands w pc regs m i → Reaches w to regs m i 2
   taken w pc mid to regs m i (inl e) h = reached w to regs m i (i + 1) 2 (omega arith) (omega arith) (steps_on w pc to regs regs m m i e (inl refl) h)
   taken w pc mid to regs m i (inr e) h =
       reached w to regs m i (i + 1 + 1) 2 (omega arith) (omega arith)
@@ -133,7 +133,7 @@ module _ {M : Type 0} (access : Access M) (s : Site) (machine : Machine M) (ok :
   leads_walk (Jump rd l ∷ ls) n w pc next regs m exit regs' m' i p h a =
       ended w next exit (To l) regs regs' m m' i n h.2 h.3 (reached w (place l) regs m i (i + 1) n (omega arith) (omega (arith, h.1)) (jump_stands w pc p.0 rd l regs m i h.0 p.1 a))
   leads_walk (Branch funct3 rs1 rs2 l ∷ ls) n w pc next regs m exit regs' m' i p (inl h) a =
-      let e = subst (λ b. BranchRuns access machine.text.word m b pc p.0 (place l) regs) h.0 (line_does w pc p.0 regs m i (Branch funct3 rs1 rs2 l) p.1.stands p.1 a) in
+      let e = subst (λ b. BranchRuns (limited access s) machine.text.word m b pc p.0 (place l) regs) h.0 (line_does w pc p.0 regs m i (Branch funct3 rs1 rs2 l) p.1.stands p.1 a) in
       ended w next exit (To l) regs regs' m m' i n h.2 h.3 (reaches_more w (place l) regs m i i 2 n (omega arith) (omega (arith, h.1)) (taken w pc p.0 (place l) regs m i e a))
   leads_walk (Branch funct3 rs1 rs2 l ∷ ls) n w pc next regs m exit regs' m' i p (inr h) a =
       let b = branch_passes w pc p.0 funct3 rs1 rs2 l regs m i h.0 p.1 a in

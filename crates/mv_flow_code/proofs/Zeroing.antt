@@ -14,7 +14,7 @@ use Rattle.mv_ir.specs.World as ir
 use Rattle.mv_ir.specs.Outcome.{State, Bound}
 use Rattle.mv_ir.specs.Meaning.{elements, with_elements, statement}
 use Rattle.mv_statement_code.specs.StatementCode.{first, second, bounds_lines, clear_lines}
-use Rattle.mv_statement_code.specs.Leads.{Past}
+use Rattle.mv_statement_code.specs.Leads.{limited, Past}
 use Rattle.mv_statement_code.specs.Frames.{Site, Element, IsFit, Shows}
 use Rattle.mv_statement_code.specs.Laws.{IsCleared}
 use Rattle.mv_statement_code.proofs.ZeroStatement.{cleared_all, bounds_done, clear_done}
@@ -75,7 +75,7 @@ module _ {M : Type 0} (access : Access M) (s : Site) (setting : ir.Setting) (fra
           let small = fit.addresses (Element (array.Local a) n) lt in
           let other : reg regs first ≡ reg regs second → ⊥ = λ q. apart (s.register 2) at n size lt below (omega (arith, small)) (sym f.next ∙ q ∙ f.stop) in
           let holds : branch_holds 1 (reg regs first) (reg regs second) ≡ true = ap not (ne_eqb (reg regs first) (reg regs second) other) in
-          let runs = subst (λ b. BranchRuns access machine.text.word m b test stop (place label) regs) holds (line_does access s machine ok place end budget far l.world test stop regs m i (Branch 1 first second label) here.stands here h) in
+          let runs = subst (λ b. BranchRuns (limited access s) machine.text.word m b test stop (place label) regs) holds (line_does access s machine ok place end budget far l.world test stop regs m i (Branch 1 first second label) here.stands here h) in
           let t = taken access s machine ok place end budget far l.world test stop (place label) regs m i runs h in
           let c = clear_done access s setting frame fit a l n regs m lt f in
           let begun = stands_at access s machine ok place end budget far l.world (place label) start regs m t.time at_start t.stands in

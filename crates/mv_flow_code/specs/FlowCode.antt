@@ -161,9 +161,23 @@ abbrev pub all_true : List Bool → Bool
 all_true [] = true
 all_true (b ∷ bs) = b && all_true bs
 
--- Trees are fine by a test, each temporary that is written is below a number, and each global that is written as a scalar may be. A call has at most
--- eight arguments, and a known function its own number; and the code may ask for it.
-module _ (is_fine : Tree → Bool) (may_ask : Known → Bool) (temps : ℕ) (is_scalar : ℕ → Bool) where
+-- which globals have a word, and of which the elements may be read and written
+pub record Uses : Type 0 where
+  pub has_word : ℕ → Bool
+  pub is_read : ℕ → Bool
+  pub is_written : ℕ → Bool
+
+-- Trees are fine by a test, each temporary that is written is below a number, and each array that is read or written may be; so may a global that is written
+-- as a scalar, and it has a word. A call has at most eight arguments, and a known function its own number; and the code may ask for it.
+module _ (is_fine : Tree → Bool) (may_ask : Known → Bool) (temps : ℕ) (uses : Uses) where
+  abbrev pub may_read : Array → Bool
+  may_read (array.Global g) = uses.is_read g
+  may_read (array.Local a) = true
+
+  abbrev pub may_write : Array → Bool
+  may_write (array.Global g) = uses.is_written g
+  may_write (array.Local a) = true
+
   abbrev pub fine_target : Option ℕ → Bool
   fine_target None = true
   fine_target (Some t) = ltb t temps
@@ -175,11 +189,11 @@ module _ (is_fine : Tree → Bool) (may_ask : Known → Bool) (temps : ℕ) (is_
 
   abbrev pub fine_layer : Stm-F Bool → Bool
   fine_layer (stm.Set t v) = ltb t temps && is_fine v
-  fine_layer (stm.SetGlobal g v) = is_scalar g && is_fine v
+  fine_layer (stm.SetGlobal g v) = (uses.has_word g && uses.is_written g) && is_fine v
   fine_layer (stm.Divide t o a b) = ltb t temps && (is_fine a && is_fine b)
   fine_layer (stm.Check a i) = is_fine i
-  fine_layer (stm.Read t a i) = ltb t temps && is_fine i
-  fine_layer (stm.Write a i v) = is_fine i && is_fine v
+  fine_layer (stm.Read t a i) = ltb t temps && (may_read a && is_fine i)
+  fine_layer (stm.Write a i v) = may_write a && (is_fine i && is_fine v)
   fine_layer (stm.Zero a) = true
   fine_layer (stm.If t a b) = is_fine t && (all_true a && all_true b)
   fine_layer (stm.Loop b) = all_true b

@@ -11,9 +11,9 @@ use Rattle.mv_ir.specs.declared.stm.Stm.TheOpen as stm
 use Rattle.mv_ir.specs.World as ir
 use Rattle.mv_ir.specs.Outcome.{Bound, Meaning}
 use Rattle.mv_ir.specs.Meaning.{statement, code_meaning}
-use Rattle.mv_statement_code.specs.Frames.{Site, IsFine, IsFit}
+use Rattle.mv_statement_code.specs.Frames.{Reach, Site, IsFine, IsFit}
 use Rattle.mv_flow_code.specs.declared.enclosing.Enclosing.{Enclosing}
-use Rattle.mv_flow_code.specs.FlowCode.{CallLines, Plan, code_of, fine_layer, are_fine}
+use Rattle.mv_flow_code.specs.FlowCode.{Uses, CallLines, Plan, code_of, fine_layer, are_fine}
 use Rattle.mv_flow_code.specs.Placed.{Placed}
 use Rattle.mv_flow_code.specs.Runs.{Machine, IsRun}
 use Rattle.mv_flow_code.specs.Flow.{IsWithin, Does}
@@ -22,9 +22,12 @@ use Rattle.mv_flow_code.specs.Flow.{IsWithin, Does}
 abbrev pub plan_of : Site → ℕ → CallLines → Plan
 plan_of s end calls = record { place = s.place; size = s.size; array_at = s.array_at; array_size = s.array_size; end = end; calls = calls }
 
--- whether a global has a word
-abbrev pub has_word : Site → ℕ → Bool
-has_word s g = ltb 0 (s.size g)
+-- what code may use, where globals have so many words
+abbrev pub uses_in : (size : ℕ → ℕ) → Reach → Uses
+uses_in size reach = record { has_word = λ g. ltb 0 (size g); is_read = reach.is_read; is_written = reach.is_written }
+
+abbrev pub uses_of : Site → Uses
+uses_of s = uses_in s.size s.reach
 
 module _ {M : Type 0} (access : Access M) (s : Site) (setting : ir.Setting) (frame : ir.Frame) (machine : Machine M) (place : ℕ → ℕ)
     (end budget far : ℕ) (is_fine : Tree → Bool) (top : Bound) where
@@ -36,9 +39,9 @@ module _ {M : Type 0} (access : Access M) (s : Site) (setting : ir.Setting) (fra
 
   -- the code of calls does what they mean
   pub record CallsDo (calls : CallLines) : Type 0 where
-    pub call : (r : Option ℕ) (f : Callee) (args : List Tree) → fine_layer is_fine s.may_ask s.temps (has_word s) (stm.Call r f args) ≡ true →
+    pub call : (r : Option ℕ) (f : Callee) (args : List Tree) → fine_layer is_fine s.may_ask s.temps (uses_of s) (stm.Call r f args) ≡ true →
         LinesDo (calls.call r f args) (stm.Call r f args)
-    pub known : (r : Option ℕ) (k : Known) (args : List Tree) → fine_layer is_fine s.may_ask s.temps (has_word s) (stm.Known r k args) ≡ true →
+    pub known : (r : Option ℕ) (k : Known) (args : List Tree) → fine_layer is_fine s.may_ask s.temps (uses_of s) (stm.Known r k args) ≡ true →
         LinesDo (calls.known r k args) (stm.Known r k args)
 
   -- the code of statements does what they mean, wherever it stands
@@ -56,5 +59,5 @@ FlowIsDone M =
     (is_fine : Tree → Bool) → ((t : Tree) → is_fine t ≡ true → IsFine s setting frame t) →
     (place : ℕ → ℕ) (end budget far : ℕ) (top : Bound) (calls : CallLines) →
     CallsDo access s setting frame machine place end budget far is_fine top calls →
-    (code : List Stm) → are_fine is_fine s.may_ask s.temps (has_word s) code ≡ true →
+    (code : List Stm) → are_fine is_fine s.may_ask s.temps (uses_of s) code ≡ true →
     CodeDoes access s setting frame machine place end budget far is_fine top calls code

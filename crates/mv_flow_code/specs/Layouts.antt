@@ -12,7 +12,7 @@ use Rattle.mv_tree_code.specs.TreeCode.{temps_of}
 use Rattle.mv_tree_code.specs.Rooms.{place_in}
 use Rattle.mv_flow_code.specs.declared.layout.Space.{Space}
 use Rattle.mv_flow_code.specs.declared.layout.Layout.{Layout}
-use Rattle.mv_flow_code.specs.FlowCode.{CallLines, Plan, all_true, fine_target, fine_known, is_fine_statement, are_fine}
+use Rattle.mv_flow_code.specs.FlowCode.{Uses, CallLines, Plan, all_true, fine_target, fine_known, is_fine_statement, are_fine}
 
 -- how many words a global has, and 0 where it has no room
 abbrev pub size_in : List Room → ℕ → ℕ
@@ -47,8 +47,8 @@ plan_in layout calls = record {
 abbrev pub is_small : Tree → Bool
 is_small t = leb (depth t) 4 && leb (temps_of t) 507
 
-abbrev pub any_global : ℕ → Bool
-any_global g = true
+abbrev pub any_global : Uses
+any_global = record { has_word = λ g. true; is_read = λ g. true; is_written = λ g. true }
 
 abbrev pub any_known : Known → Bool
 any_known k = true

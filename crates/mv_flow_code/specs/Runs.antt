@@ -3,7 +3,7 @@ use Rattle.std.specs.Prelude.{ℕ, ◌≡◌, ◌+◌, Bool, true, List, [], len
 use Rattle.mv_isa.specs.Execution.{Access, Goes, step}
 use Rattle.mv_ir.specs.World.{World}
 use Rattle.mv_statement_code.specs.Frames.{Site}
-use Rattle.mv_statement_code.specs.Leads.{Writes}
+use Rattle.mv_statement_code.specs.Leads.{limited, Writes}
 use Rattle.mv_flow_code.specs.Placed.{Text}
 
 -- a machine between two instructions
@@ -29,10 +29,10 @@ module _ {M : Type 0} (access : Access M) (s : Site) (machine : Machine M) where
   abbrev pub Calm : World → M → Type 0
   Calm w m = machine.is_calm (outside w) m ≡ true
 
-  -- a time of the run is calm, and the word of text leads from there to a place, storing at most to a cell of the frame's own
+  -- a time of the run is calm, and the word of text leads from there to a place, loading only what the code may load and storing at most to a cell of the frame's own
   pub record LeadsOn (i : ℕ) (w : World) (next : Spot M) : Type 0 where
     pub calm : Calm w (machine.run i).memory
-    pub steps : step access (machine.text.word (machine.run i).pc) (machine.run i).regs (machine.run i).pc (machine.run i).memory ≡ Goes next.regs next.pc next.memory
+    pub steps : step (limited access s) (machine.text.word (machine.run i).pc) (machine.run i).regs (machine.run i).pc (machine.run i).memory ≡ Goes next.regs next.pc next.memory
     pub writes : Writes access s (machine.run i).memory next.memory
 
   -- The run takes such steps, each from a sound place; it has 32 registers; and it stays calm.

@@ -78,10 +78,10 @@ module _ (needed : ℕ → Bool) where
 
 -- ---- constants computed: each temporary may be read
 
-abbrev every : ℕ → Bool
+abbrev pub every : ℕ → Bool
 every t = true
 
-abbrev Thinner : List Stm → List Stm → Type 0
+abbrev pub Thinner : List Stm → List Stm → Type 0
 Thinner = IsThinner every
 
 same_reads : (ts : List Tree) → ReadsLess every ts ts
@@ -90,7 +90,7 @@ same_reads ts t e = (e, refl)
 leaf : (x : Stm-F Stm) → Thins every (true ∷ []) (layer_of every x) (layer_of every x) → Thinner (roll-Stm x ∷ []) (roll-Stm x ∷ [])
 leaf x h = thinner_one every x x (true ∷ []) h
 
-abbrev IsSame : Stm → Type 0
+abbrev pub IsSame : Stm → Type 0
 IsSame s = Thinner (s ∷ []) (s ∷ [])
 
 kids_same : (b : List Stm) → Each IsSame b → Thinner b b
@@ -114,8 +114,11 @@ same_layer (stm.Call r f args) h = leaf (stm.Call r f args) (plain_thins every (
 same_layer (stm.Known r k args) h = leaf (stm.Known r k args) (plain_thins every args args r goes_next (same_reads args) (on_next every))
 same_layer (stm.Return v) h = leaf (stm.Return v) (plain_thins every (v ∷ []) (v ∷ []) None (λ r. false) (same_reads (v ∷ [])) (on_nothing every))
 
-same : (s : Stm) → IsSame s
+pub same : (s : Stm) → IsSame s
 same = stm_ind IsSame same_layer
+
+pub code_same : (code : List Stm) → Thinner code code
+code_same code = kids_same code (stms_ind IsSame same code)
 
 -- ---- a list up to its first jump
 
@@ -415,15 +418,10 @@ module _ (needed : ℕ → Bool) where
   needed_thinner : (code : List Stm) → Closed needed (code_uses code) → IsThinner needed code (needed_code needed code)
   needed_thinner code c = kids_left code (stms_ind IsLeft stm_left code) c
 
--- ---- both
+-- ---- bodies
 
-pub folded_intervals : (b : Body) (needed : ℕ → Bool) → IsNeeded needed (code_uses (simple_code b.code)) → KeepsIntervals every b (record b { code = needed_code needed (simple_code b.code) })
-folded_intervals b needed h =
-    let simple : Body = record b { code = simple_code b.code } in
-    let first = thinner_body every b (simple_code b.code) (simple_thinner b.code) in
-    let second = thinner_body needed simple (needed_code needed simple.code) (needed_thinner needed simple.code (closed needed (code_uses simple.code) (λ t e. h t ∙ e))) in
-    record {
-      whole = λ w. second.whole (first.whole w);
-      has_temps = λ w. second.has_temps (first.has_temps w);
-      intervals = omega (arith, first.intervals, second.intervals);
-    }
+pub simple_intervals : (b : Body) → KeepsIntervals every b (record b { code = simple_code b.code })
+simple_intervals b = thinner_body every b (simple_code b.code) (simple_thinner b.code)
+
+pub needed_intervals : (b : Body) (needed : ℕ → Bool) → IsNeeded needed (code_uses b.code) → KeepsIntervals needed b (record b { code = needed_code needed b.code })
+needed_intervals b needed h = thinner_body needed b (needed_code needed b.code) (needed_thinner needed b.code (closed needed (code_uses b.code) (λ t e. h t ∙ e)))

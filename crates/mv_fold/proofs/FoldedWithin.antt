@@ -19,10 +19,12 @@ use Rattle.mv_ir.proofs.Induction.{Each, TreeChildren, tree_ind, StmChildren, st
 use Rattle.mv_ir.proofs.Rolls.{nodes_roll, depth_roll, reads_roll}
 use Rattle.mv_fold.specs.Simple.{constant, number, one_or, two_or, simple_node, simple_tree, jumps, ended, simple_callee, alone, division, choice, simple_layer, simple_stm, simple_code}
 use Rattle.mv_fold.specs.Needed.{needed_layer, needed_stm, needed_code}
-use Rattle.mv_fold.specs.Folded.{IsNoGreater}
+use Rattle.mv_fold.specs.Shortened.{shortened}
+use Rattle.mv_fold.specs.Folded.{simple_body, IsNoGreater}
 use Rattle.mv_fold.proofs.SimpleKept.{nodes_some, simple_tree_roll, simple_stm_roll}
 use Rattle.mv_fold.proofs.NeededEquations.{needed_stm_roll}
-use Rattle.mv_fold.proofs.Within.{Among, among_append, none_among, Amount, Less, less_refl, less_trans, with, less_with, less_nothing, less_left, less_right, of_trees, of_trees_append, amount, layer_amount, Within, within_append, within_one, within_many, no_greater}
+use Rattle.mv_fold.proofs.Shortening.{temp, shortened_is}
+use Rattle.mv_fold.proofs.Within.{Among, among_append, none_among, Amount, Less, less_refl, less_trans, with, less_with, less_nothing, less_left, less_right, of_trees, of_trees_append, amount, amount_append, layer_amount, Within, within_append, within_one, within_many, no_greater}
 
 -- ---- trees
 
@@ -291,5 +293,24 @@ module _ (needed : ℕ → Bool) where
   needed_within : (code : List Stm) → Within code (needed_code needed code)
   needed_within code = kids_left code (stms_ind IsLeft stm_left code)
 
-pub folded_within : (needed : ℕ → Bool) (code : List Stm) → IsNoGreater code (needed_code needed (simple_code code))
-folded_within needed code = no_greater code (needed_code needed (simple_code code)) (less_trans _ _ _ (needed_within needed (simple_code code)) (simple_within code))
+-- ---- its end shortened
+
+pair_within : (x y z : Stm-F Stm) → Less (layer_amount z) (layer_amount x) → Within (roll-Stm x ∷ roll-Stm y ∷ []) (roll-Stm z ∷ [])
+pair_within x y z h =
+    let a = amount (roll-Stm x ∷ []) in
+    let b = amount (roll-Stm y ∷ []) in
+    less_trans _ _ _ (within_one x z h) (subst (Less a) (sym (amount_append (roll-Stm x ∷ []) (roll-Stm y ∷ []))) (less_left a b))
+
+short_within : (temps : ℕ) (code : List Stm) → Within code (shortened temps code)
+short_within temps = shortened_is temps Within (record {
+  same = λ xs. less_refl _;
+  both = λ xs ys zs h k. less_trans _ _ _ k h;
+  behind = λ s xs ys h. within_append (s ∷ []) (s ∷ []) xs ys (less_refl _) h;
+  leave = λ n. less_nothing _;
+  stored = λ t g v lt. pair_within (stm.Set t v) (stm.SetGlobal g (temp t)) (stm.SetGlobal g v) (less_refl _);
+  returned = λ t v lt. pair_within (stm.Set t v) (stm.Return (temp t)) (stm.Return v) (less_refl _);
+})
+
+pub folded_within : (temps : ℕ) (needed : ℕ → Bool) (code : List Stm) → IsNoGreater code (needed_code needed (simple_body temps code))
+folded_within temps needed code =
+    no_greater code (needed_code needed (simple_body temps code)) (less_trans _ _ _ (needed_within needed (simple_body temps code)) (less_trans _ _ _ (short_within temps (simple_code code)) (simple_within code)))

@@ -8,7 +8,7 @@ use Rattle.mv_ir.specs.declared.stm.Stm.TheOpen as stm
 use Rattle.mv_ir.specs.declared.stm.Stm.TheViews.{roll-Stm}
 use Rattle.mv_ir.specs.declared.stm.Stm.TheFolds.{map-Stm}
 use Rattle.mv_ir.specs.declared.body.Body.{Body}
-use Rattle.mv_ir.specs.Live.{reads_temp, any_reads, is, Around, Flow, with_after, at_place, around_block, around_loop, live_in_order, marks_in_order, live_at_loop, plain, goes_next, layer_flow, flow, nowhere, all_marks, IsWhole, any, filled, interval, mark_at, HasTemps, count_at, below, greatest_up_to, marks_length, most_intervals}
+use Rattle.mv_ir.specs.Live.{reads_temp, any_reads, is, Around, Flow, with_after, at_place, around_block, around_loop, live_in_order, marks_in_order, live_at_loop, plain, goes_next, layer_flow, flow, nowhere, live_at_start, all_marks, IsWhole, any, filled, interval, mark_at, HasTemps, count_at, below, greatest_up_to, marks_length, most_intervals}
 use Rattle.mv_ir.proofs.Rolls.{flow_roll}
 use Rattle.mv_ir.proofs.Keeping.{map_append}
 use Rattle.mv_fold.proofs.Reached.{or_left, or_right, or_cases, and_cases}
@@ -329,7 +329,7 @@ module _ (needed : ℕ → Bool) where
 
   -- ---- bodies
 
-  nowhere_fits : (t : ℕ) → FitsAround t nowhere nowhere
+  pub nowhere_fits : (t : ℕ) → FitsAround t nowhere nowhere
   nowhere_fits t = record { next = λ v. never v; leaves = λ n v. never v; restarts = λ n v. never v }
 
   pub record KeepsIntervals (b b' : Body) : Type 0 where
@@ -337,12 +337,15 @@ module _ (needed : ℕ → Bool) where
     pub has_temps : HasTemps b → HasTemps b'
     pub intervals : most_intervals b' ≤ most_intervals b
 
-  pub thinner_body : (b : Body) (code : List Stm) → IsThinner b.code code → KeepsIntervals b (record b { code = code })
-  thinner_body b code (m, h) = record {
-    whole = λ w t v. w t (h.live t nowhere nowhere (nowhere_fits t) v).0;
+  pub body_intervals : (b : Body) (code : List Stm) (m : List Bool) → ((t : ℕ) → live_at_start t code ≡ true → live_at_start t b.code ≡ true) → ((t : ℕ) → Covers m (marks_in_order (map (flow t) b.code) nowhere) (marks_in_order (map (flow t) code) nowhere)) → KeepsIntervals b (record b { code = code })
+  body_intervals b code m live marks = record {
+    whole = λ w t v. w t (live t v);
     has_temps = λ w i t v. w (place (true ∷ m) i) t (covers_mark (true ∷ m) (all_marks b t) (all_marks (record b { code = code }) t) (covered t) i v);
     intervals = intervals_most b (record b { code = code }) (true ∷ m) refl covered;
   }
     where
       covered : (t : ℕ) → Covers (true ∷ m) (all_marks b t) (all_marks (record b { code = code }) t)
-      covered t = (or_both _ (ltb t b.params) _ (ltb t b.params) (λ v. (h.live t nowhere nowhere (nowhere_fits t) v).0) (λ v. v), h.marks t nowhere nowhere (nowhere_fits t))
+      covered t = (or_both _ (ltb t b.params) _ (ltb t b.params) (live t) (λ v. v), marks t)
+
+  pub thinner_body : (b : Body) (code : List Stm) → IsThinner b.code code → KeepsIntervals b (record b { code = code })
+  thinner_body b code (m, h) = body_intervals b code m (λ t v. (h.live t nowhere nowhere (nowhere_fits t) v).0) (λ t. h.marks t nowhere nowhere (nowhere_fits t))

@@ -17,11 +17,13 @@ use Rattle.mv_ir.proofs.Keeping.{map_append}
 use Rattle.mv_ir.proofs.Lists.{joined_append}
 use Rattle.mv_fold.specs.Simple.{constant, simple_tree, jumps, ended, simple_callee, alone, division, choice, simple_layer, simple_stm, simple_code}
 use Rattle.mv_fold.specs.Needed.{needed_layer, needed_stm, needed_code}
-use Rattle.mv_fold.specs.Folded.{IsNoGreater}
+use Rattle.mv_fold.specs.Shortened.{shortened}
+use Rattle.mv_fold.specs.Folded.{simple_body, IsNoGreater}
 use Rattle.mv_fold.proofs.Reached.{and_cases, cons_head, cons_tail}
 use Rattle.mv_fold.proofs.SimpleKept.{simple_stm_roll}
 use Rattle.mv_fold.proofs.NeededEquations.{needed_stm_roll}
 use Rattle.mv_fold.proofs.FormNeeded.{length_map}
+use Rattle.mv_fold.proofs.Shortening.{temp, shortened_is}
 
 -- ---- what is asked of code
 
@@ -254,6 +256,24 @@ module _ (needed : ℕ → Bool) where
   needed_kept : (code : List Stm) → Kept code (needed_code needed code)
   needed_kept code = kids_left code (stms_ind IsLeft stm_left code)
 
+-- ---- its end shortened
+
+pair_kept : (x y z : Stm-F Stm) → layer_facts y ≡ layer_facts z → Kept (roll-Stm x ∷ roll-Stm y ∷ []) (alone z)
+pair_kept x y z e =
+    let a = facts (roll-Stm x ∷ []) in
+    let b = facts (roll-Stm y ∷ []) in
+    subst (λ f. Keep f (facts (alone z))) (sym (facts_append (roll-Stm x ∷ []) (roll-Stm y ∷ []))) (keep_trans (both a b) b (facts (alone z)) (keep_second a b) (alike y z e))
+
+short_kept : (temps : ℕ) (code : List Stm) → Kept code (shortened temps code)
+short_kept temps = shortened_is temps Kept (record {
+  same = λ xs. keep_refl _;
+  both = λ xs ys zs. keep_trans (facts xs) (facts ys) (facts zs);
+  behind = λ s xs ys h. kept_append (s ∷ []) (s ∷ []) xs ys (keep_refl _) h;
+  leave = λ n. kept_nothing (alone (stm.Break n));
+  stored = λ t g v lt. pair_kept (stm.Set t v) (stm.SetGlobal g (temp t)) (stm.SetGlobal g v) refl;
+  returned = λ t v lt. pair_kept (stm.Set t v) (stm.Return (temp t)) (stm.Return v) refl;
+})
+
 -- ---- bodies
 
 true_of : (p : ℕ → Bool) (xs : List ℕ) → all_true (map p xs) ≡ true → (y : ℕ) → Contains xs y → p y ≡ true
@@ -265,11 +285,14 @@ true_all : (p : ℕ → Bool) (ys : List ℕ) → ((y : ℕ) → Contains ys y �
 true_all p [] h = refl
 true_all p (y ∷ ys) h = ap (λ b. b && all_true (map p ys)) (h y (cons_head y ys y refl)) ∙ true_all p ys (λ z c. h z (cons_tail y ys z c))
 
-pub folded_well_formed : (b : Body) (needed : ℕ → Bool) → (HasTemps b → HasTemps (record b { code = needed_code needed (simple_code b.code) })) → IsNoGreater b.code (needed_code needed (simple_code b.code)) →
-    IsWellFormed b → IsWellFormed (record b { code = needed_code needed (simple_code b.code) })
+pub folded_well_formed : (b : Body) (needed : ℕ → Bool) → (HasTemps b → HasTemps (record b { code = needed_code needed (simple_body b.temps b.code) })) → IsNoGreater b.code (needed_code needed (simple_body b.temps b.code)) →
+    IsWellFormed b → IsWellFormed (record b { code = needed_code needed (simple_body b.temps b.code) })
 folded_well_formed b needed temps less w =
-    let code = needed_code needed (simple_code b.code) in
-    let kept = keep_trans (facts b.code) (facts (simple_code b.code)) (facts code) (simple_kept b.code) (needed_kept needed (simple_code b.code)) in
+    let simple = simple_code b.code in
+    let short = simple_body b.temps b.code in
+    let code = needed_code needed short in
+    let shorter = keep_trans (facts b.code) (facts simple) (facts short) (simple_kept b.code) (short_kept b.temps simple) in
+    let kept = keep_trans (facts b.code) (facts short) (facts code) shorter (needed_kept needed short) in
     record {
       temps = temps w.temps;
       params = w.params;

@@ -7,12 +7,17 @@ use Rattle.mv_ir.specs.Measures.{scalars_read, arrays_read, statements, tree_nod
 use Rattle.mv_ir.specs.Live.{IsWhole, HasTemps, most_intervals}
 use Rattle.mv_ir.specs.WellFormed.{IsWellFormed}
 use Rattle.mv_fold.specs.Simple.{simple_code}
+use Rattle.mv_fold.specs.Shortened.{shortened}
 use Rattle.mv_fold.specs.Needed.{code_uses, IsNeeded, needed_code}
 use Rattle.mv_fold.specs.Form.{IsFoldedForm}
 
--- constants computed, and then without the sets that aren't needed
-abbrev pub IsFoldedCode : List Stm → List Stm → Type 0
-IsFoldedCode code folded = (needed : ℕ → Bool) × IsNeeded needed (code_uses (simple_code code)) × (folded ≡ needed_code needed (simple_code code))
+-- the code of a body with so many temporaries, constants computed and its end shortened
+abbrev pub simple_body : ℕ → List Stm → List Stm
+simple_body temps code = shortened temps (simple_code code)
+
+-- and then without the sets that aren't needed
+abbrev pub IsFoldedCode : ℕ → List Stm → List Stm → Type 0
+IsFoldedCode temps code folded = (needed : ℕ → Bool) × IsNeeded needed (code_uses (simple_body temps code)) × (folded ≡ needed_code needed (simple_body temps code))
 
 -- The second code reads no other globals, and no count of it is greater.
 pub record IsNoGreater (code result : List Stm) : Type 0 where
@@ -28,7 +33,7 @@ pub record IsNoGreater (code result : List Stm) : Type 0 where
 pub record IsFolded (body result : Body) : Type 0 where
   pub means : KeepsBody body result
   pub form : IsFoldedForm result.code
-  pub code : IsFoldedCode body.code result.code
+  pub code : IsFoldedCode body.temps body.code result.code
   pub smaller : IsNoGreater body.code result.code
   pub whole : IsWhole body → IsWhole result
   pub has_temps : HasTemps body → HasTemps result

@@ -8,7 +8,8 @@ use mv_num::boxed::Boxed;
 use mv_num::list::List;
 use std::alloc::{AllocError, Global};
 
-fn copy_tree(alloc: Global, tree: &Tree) -> Result<Tree, AllocError>
+/// A copy of a tree.
+pub fn copy_tree(alloc: Global, tree: &Tree) -> Result<Tree, AllocError>
     ensures { IfOk result (λ copy. copy ≡ tree.now) }
 {
     match tree {

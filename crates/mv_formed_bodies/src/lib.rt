@@ -1,6 +1,14 @@
 //! The bodies of functions that keep the rules are well formed, beside being well typed.
 //!
 //! What is found of a body by the rules of statements is what the layers above ask for (`specs/Formed.antt`, `specs/Declared.antt`).
+//!
+//! - `good_bodies_are_well_formed`: such a body names what the program has (`stmt_is_well_formed`), its jumps have
+//!   targets, the arms of each `switch` are labelled as they should be, and known functions are called with their
+//!   arguments, where the names before it mean what the program has (`AreShaped`: scalars, arrays, switches, attributed
+//!   functions). `good_bodies_name_declared_locals`: it names a local only where it is declared.
+//!   `good_parameters_are_shaped`: parameters keep `AreShaped`. `good_definitions_are_well_formed`: all of it together
+//!   for the definition of a function, its parameters and then its body, where the scope before it names no local and
+//!   says what the program has.
 #![tactic(auto)]
 
 ghost use Rattle.mv_formed_bodies.specs.Declared.{BodyNamesDeclared};

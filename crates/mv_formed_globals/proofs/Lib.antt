@@ -1,4 +1,4 @@
-mod Tests
+pub mod Tests
 pub mod Values
 pub mod Words
 mod Sizes

@@ -1,4 +1,10 @@
 //! The globals and the switches of a unit that keeps the rules are well formed.
+//!
+//! Laws on a unit that `unit_judgement` finds good, and its program.
+//!
+//! - `good_globals_are_formed`: globals have words, and are given no more values than that, of their types; switches are
+//!   scalars of integer types with different values. `good_first_values_are_typed`: first values of function pointers are
+//!   null or functions of the type.
 #![tactic(auto)]
 
 ghost use Rattle.mv_formed_globals.specs.Globals.{GlobalsAreFormed};

@@ -1,4 +1,11 @@
 //! The front end: the program of a source, or why the source is refused.
+//!
+//! - `front`: the program of a source, or its one refusal. `specs/Verdicts.antt` says over the text alone what each
+//!   answer means: the text reads as a unit, no token of it is nested deeper than 255 levels, the unit breaks no rule and
+//!   is that program, and the program exceeds no limit; or one of the eight causes of the refusals 1 to 7, with its
+//!   place, rule or count. Each answer has its cause, and each cause its answer.
+//! - `one_verdict`: a text is at most one program, has at most one refusal, and never both.
+//! - `mv_top_rows` has a text for each refusal, and `mv_source_rows` the places.
 #![tactic(auto)]
 
 ghost use Rattle.std.specs.Prelude.{◌≡◌, ℕ, IfErr, IfOk, List};

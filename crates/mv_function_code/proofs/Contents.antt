@@ -8,13 +8,13 @@ use Rattle.mv_ir.specs.declared.stm.Array.TheVariants as array
 use Rattle.mv_ir.specs.World.{World}
 use Rattle.mv_ir.specs.Meaning.{Contents}
 use Rattle.mv_tree_code.specs.TreeCode.{temp_register, temp_offset}
-use Rattle.mv_statement_code.specs.Frames.{Site, Cell, TempCell, Element, IsThere, address}
+use Rattle.mv_statement_code.specs.Frames.{Site, Cell, TempCell, Element, IsThere, address, Reach}
 use Rattle.mv_statement_code.proofs.FrameChanges.{register_low, register_high, one_register}
 use Rattle.mv_flow_code.specs.Runs.{Machine, outside, IsRun}
 use Rattle.mv_call_code.specs.Convention.{Layout, IsAbove}
 use Rattle.mv_call_code.specs.Laws.{IsOfFrame}
 use Rattle.mv_function_code.specs.FunctionCode.{array_offset, bytes_of}
-use Rattle.mv_function_code.specs.Functions.{IsLaid, IsMemory, StandsInWords, shape_of}
+use Rattle.mv_function_code.specs.Functions.{IsLaid, IsMemory, StandsInWords, shape_of, IsAmple, RunsWithin}
 use Rattle.mv_function_code.proofs.EntryShown.{Here, word_of_stack, Holds}
 use Rattle.mv_function_code.proofs.Frame.{IsFrame, temp_is, frame_word}
 use Rattle.mv_function_code.proofs.Prologue.{Prepared}
@@ -39,24 +39,24 @@ contents_at access machine attributed body count i =
 -- ---- and still so where its body begins
 
 module _ {M : Type 0} (access : Access M) (y : Layout) (laid : IsLaid y) (machine : Machine M) (memory : IsMemory access y machine)
-    (runs : (s : Site) → StandsInWords y s → IsRun access s machine) (budget far : ℕ) (place : ℕ → ℕ) (is_read : ℕ → Bool) (attributed : Bool) (body : Body)
+    (reach : Reach) (ample : IsAmple y reach) (runs : RunsWithin access y machine reach) (budget far : ℕ) (place : ℕ → ℕ) (attributed : Bool) (body : Body)
     (args : List ℕ) (live sp caller : ℕ) (before : List ℕ) (m0 : M) (w : World) (next i : ℕ)
-    (p : Prepared access y laid machine memory runs budget far place (shape_of attributed body) args live sp before m0 w next i)
+    (p : Prepared access y laid machine memory reach ample runs budget far place (shape_of attributed body) args live sp before m0 w next i)
     (is : IsFrame y (shape_of attributed body) (reg p.regs 2) caller) (calm : machine.is_calm (outside w) p.mem ≡ true) where
   abbrev S : Site
-  S = Here access y laid machine memory budget far is_read attributed body (outside w) p.regs p.mem caller is calm
+  S = Here access y laid machine memory budget far reach attributed body (outside w) p.regs p.mem caller is calm
 
   abbrev word_now : ℕ → ℕ
-  word_now = word_of_stack access y laid machine memory budget far is_read attributed body (outside w) p.regs p.mem caller is calm
+  word_now = word_of_stack access y laid machine memory budget far reach attributed body (outside w) p.regs p.mem caller is calm
 
   -- the words of the frame but those of saved registers
   kept_word : (x : Cell) → IsThere S x → IsOfFrame x → sp + 40 ≤ address S x → word_before access before m0 sp (address S x) ≡ word_now (address S x)
   kept_word x there own high =
-      let h : IsAbove y (reg p.regs 2) (address S x) = frame_word y laid is_read (shape_of attributed body) (reg p.regs) caller word_now is x there own in
+      let h : IsAbove y (reg p.regs 2) (address S x) = frame_word y laid reach (shape_of attributed body) (reg p.regs) caller word_now is x there own in
       let low = h.0 in
       ap (λ o. unwrap_or o 0) (sym (p.words (address S x) (inl (omega (arith, low, is.low), h.1, h.2)) (λ j lt e. omega (arith, e, lt, high, min-le_right body.temps 9))))
 
-  pub holds_still : length args ≡ body.params → Holds access y laid machine memory budget far is_read attributed body (outside w) p.regs p.mem caller is calm (length args)
+  pub holds_still : length args ≡ body.params → Holds access y laid machine memory budget far reach attributed body (outside w) p.regs p.mem caller is calm (length args)
       (contents_before access before m0 sp body (length args))
   unfolding contents_before
   holds_still count = record {

@@ -13,15 +13,16 @@ use Rattle.mv_tree_code.proofs.Registers.{put_same, put_other, put_registers}
 use Rattle.mv_tree_code.proofs.TreesFit.{register_below}
 use Rattle.mv_tree_code.proofs.Words.{word_of_pos, zero_add, add_word}
 use Rattle.mv_statement_code.specs.StatementCode.{first}
-use Rattle.mv_statement_code.specs.Frames.{Site}
+use Rattle.mv_statement_code.specs.Frames.{Site, Reach}
 use Rattle.mv_statement_code.proofs.FrameChanges.{register_is, register_zero, one_register, register_low}
 use Rattle.mv_statement_code.proofs.TreesFirst.{add_small}
 use Rattle.mv_flow_code.specs.Runs.{Machine, outside, IsRun}
 use Rattle.mv_flow_code.proofs.Walk.{placed_split, stands_at}
 use Rattle.mv_call_code.specs.Convention.{Layout}
 use Rattle.mv_function_code.specs.FunctionCode.{saved_register, save_lines, restore_lines, parameter_lines}
-use Rattle.mv_function_code.specs.Functions.{IsStack, IsWord, IsLaid, IsMemory, StandsInWords}
+use Rattle.mv_function_code.specs.Functions.{IsStack, IsWord, IsLaid, IsMemory, StandsInWords, IsAmple, RunsWithin}
 use Rattle.mv_function_code.proofs.FrameWords.{words_site, ok, W, P, sets, Put, stores_on, loads_on}
+use Rattle.mv_statement_code.specs.Leads.{limited}
 
 -- ---- the registers that are saved
 
@@ -44,18 +45,18 @@ sp_apart zero e = omega (arith, e)
 sp_apart (suc t) e = omega (arith, e, register_low t)
 
 module _ {M : Type 0} (access : Access M) (y : Layout) (laid : IsLaid y) (machine : Machine M) (memory : IsMemory access y machine)
-    (runs : (s : Site) → StandsInWords y s → IsRun access s machine) (budget far : ℕ) (place : ℕ → ℕ) where
+    (reach : Reach) (ample : IsAmple y reach) (runs : RunsWithin access y machine reach) (budget far : ℕ) (place : ℕ → ℕ) where
   abbrev Ws : World → ℕ → List ℕ → M → ℕ → Type 0
-  Ws = W access y laid machine memory runs budget far place
+  Ws = W access y laid machine memory reach ample runs budget far place
 
   abbrev Ps : List Line → ℕ → ℕ → Type 0
-  Ps = P access y laid machine memory runs budget far place
+  Ps = P access y laid machine memory reach ample runs budget far place
 
   split : (a b : List Line) (at stop : ℕ) → Ps (a ++ b) at stop → (mid : ℕ) × Ps a at mid × Ps b mid stop
   split = placed_split machine.text place y.entry
 
   moved : (w : World) (pc to : ℕ) (regs : List ℕ) (m : M) (i : ℕ) → pc ≡ to → Ws w pc regs m i → Ws w to regs m i
-  moved w pc to regs m i e h = stands_at access (words_site y) machine (ok access y laid machine memory runs budget far place) place 0 budget far w pc to regs m i e h
+  moved w pc to regs m i e h = stands_at access (words_site y reach) machine (ok access y laid machine memory reach ample runs budget far place) place 0 budget far w pc to regs m i e h
 
   -- ---- registers are saved
 
@@ -70,7 +71,7 @@ module _ {M : Type 0} (access : Access M) (y : Layout) (laid : IsLaid y) (machin
     pub saved : Saved k sp regs m after
 
   saved_more : (k sp : ℕ) (w : World) (next : ℕ) (regs : List ℕ) (m mid : M) (i : ℕ) → ((j : ℕ) → j < suc k → IsStack y (sp + 4 * j)) → Saved k sp regs m mid
-      → Put access y laid machine memory runs budget far place (sp + 4 * k) (reg regs (saved_register k)) w next regs mid (i + 1) → Saves (suc k) sp w next regs m (i + 1)
+      → Put access y laid machine memory reach ample runs budget far place (sp + 4 * k) (reg regs (saved_register k)) w next regs mid (i + 1) → Saves (suc k) sp w next regs m (i + 1)
   saved_more k sp w next regs m mid i stack before p = record {
     after = p.after;
     stands = p.stands;
@@ -103,7 +104,7 @@ module _ {M : Type 0} (access : Access M) (y : Layout) (laid : IsLaid y) (machin
       let here = stack k (omega arith) in
       let at : add (reg regs 2) (word_of (pos (4 * k))) ≡ sp + 4 * k =
       add_word (reg regs 2) (4 * k) ∙ ap (λ z. add z (4 * k)) e ∙ add_small sp (4 * k) (omega (arith, here.1, laid.top)) in
-      let put_at = stores_on access y laid machine memory runs budget far place (saved_register k) (sp + 4 * k) (pos (4 * k)) w q.0 q.2.0 regs before.after (i + k) at here are q.2.1 before.stands in
+      let put_at = stores_on access y laid machine memory reach ample runs budget far place (saved_register k) (sp + 4 * k) (pos (4 * k)) w q.0 q.2.0 regs before.after (i + k) at here are q.2.1 before.stands in
       let more = saved_more k sp w q.2.0 regs m before.after (i + k) stack before.saved put_at in
       let same : i + k + 1 ≡ i + suc k = omega arith in
       record { after = more.after; stands = subst (Ws w next regs more.after) same (moved w q.2.0 next regs more.after (i + k + 1) (sym q.2.2) more.stands); saved = more.saved }
@@ -164,8 +165,8 @@ module _ {M : Type 0} (access : Access M) (y : Layout) (laid : IsLaid y) (machin
       let v = reg regs (first + k) in
       let from : reg before.after (first + k) ≡ v = before.moved.others (first + k) (λ j lt. argument_apart k j (omega (arith, small))) in
       let after = put before.after (temp_register k) v in
-      let b = sets access y laid machine memory runs budget far place (Addi (temp_register k) (first + k) (pos 0)) w q.0 q.2.0 before.after after m (i + k)
-      (addi_sets access m (temp_register k) (first + k) (pos 0) before.after v 0 v from (word_of_pos 0 (omega arith)) (zero_add v (subst (λ z. z < 2 ^ 32) from (before.moved.are.words (first + k))))) q.2.1 before.stands in
+      let b = sets access y laid machine memory reach ample runs budget far place (Addi (temp_register k) (first + k) (pos 0)) w q.0 q.2.0 before.after after m (i + k)
+      (addi_sets (limited access (words_site y reach)) m (temp_register k) (first + k) (pos 0) before.after v 0 v from (word_of_pos 0 (omega arith)) (zero_add v (subst (λ z. z < 2 ^ 32) from (before.moved.are.words (first + k))))) q.2.1 before.stands in
       let same : i + k + 1 ≡ i + suc k = omega arith in
       record { after = after; stands = subst (Ws w next after m) same (moved w q.2.0 next after m (i + k + 1) (sym q.2.2) b); moved = moved_more k regs before.after (omega (arith, small)) before.moved }
 
@@ -222,6 +223,6 @@ module _ {M : Type 0} (access : Access M) (y : Layout) (laid : IsLaid y) (machin
       let old = memory.stack (outside w) m (sp + 4 * k) a.calm here in
       let word = memory.words m (sp + 4 * k) old.0 (inl here) old.1 in
       let after = put before.after (saved_register k) old.0 in
-      let b = loads_on access y laid machine memory runs budget far place (saved_register k) (sp + 4 * k) old.0 (pos (4 * k)) w q.0 q.2.0 before.after m (i + k) at old.1 q.2.1 before.stands in
+      let b = loads_on access y laid machine memory reach ample runs budget far place (saved_register k) (sp + 4 * k) old.0 (pos (4 * k)) w q.0 q.2.0 before.after m (i + k) at here old.1 q.2.1 before.stands in
       let same : i + k + 1 ≡ i + suc k = omega arith in
       record { after = after; stands = subst (Ws w next after m) same (moved w q.2.0 next after m (i + k + 1) (sym q.2.2) b); restored = restored_more k sp old.0 regs before.after m (omega (arith, small)) word old.1 before.restored }

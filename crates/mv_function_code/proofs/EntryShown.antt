@@ -11,7 +11,7 @@ use Rattle.mv_ir.specs.Outcome.{State}
 use Rattle.mv_ir.specs.Meaning.{Contents, first_items, first_temps, first_arrays, entry_state, elements}
 use Rattle.mv_tree_code.specs.TreeCode.{temp_register}
 use Rattle.mv_tree_code.specs.View.{AreRegisters}
-use Rattle.mv_statement_code.specs.Frames.{Site, Cell, TempCell, Element, Kept, IsThere, address, content, size_of, Shows}
+use Rattle.mv_statement_code.specs.Frames.{Site, Cell, TempCell, Element, Kept, IsThere, address, content, size_of, Shows, Reach}
 use Rattle.mv_flow_code.specs.Runs.{Machine}
 use Rattle.mv_call_code.specs.Convention.{Layout, IsAbove, HoldsGlobals}
 use Rattle.mv_function_code.specs.Functions.{IsStack, IsWord, IsLaid, IsMemory, shape_of}
@@ -47,14 +47,14 @@ rest_at f n args t le lt =
     get_or-append_right args (first_items (n - length args) f) (length args) t 0 refl le ∙ items_at (n - length args) f (t - length args) (omega (arith, le, lt))
 
 module _ {M : Type 0} (access : Access M) (y : Layout) (laid : IsLaid y) (machine : Machine M) (memory : IsMemory access y machine) (budget far : ℕ)
-    (is_read : ℕ → Bool) (attributed : Bool) (body : Body) (w : World) (regs : List ℕ) (m : M) (caller : ℕ) (is : IsFrame y (shape_of attributed body) (reg regs 2) caller)
+    (reach : Reach) (attributed : Bool) (body : Body) (w : World) (regs : List ℕ) (m : M) (caller : ℕ) (is : IsFrame y (shape_of attributed body) (reg regs 2) caller)
     (calm : machine.is_calm w m ≡ true) where
   -- the word of memory at an address
   abbrev pub word_of_stack : ℕ → ℕ
   word_of_stack b = unwrap_or (access.load m b 4) 0
 
   abbrev pub Here : Site
-  Here = S y laid is_read (shape_of attributed body) (reg regs) caller word_of_stack is
+  Here = S y laid reach (shape_of attributed body) (reg regs) caller word_of_stack is
 
   pub loaded : (b : ℕ) → IsStack y b → access.load m b 4 ≡ Some (word_of_stack b)
   loaded b h = let v = memory.stack w m b calm h in v.1 ∙ ap Some (sym (ap (λ o. unwrap_or o 0) v.1))
@@ -95,23 +95,23 @@ module _ {M : Type 0} (access : Access M) (y : Layout) (laid : IsLaid y) (machin
 
     in_memory : (x : Cell) → IsThere Here x → access.load m (address Here x) 4 ≡ Some (content Here begin x)
     in_memory (TempCell t) h =
-        loaded (address Here (TempCell t)) (stack_cell (TempCell t) (frame_word y laid is_read (shape_of attributed body) (reg regs) caller word_of_stack is (TempCell t) h tt))
+        loaded (address Here (TempCell t)) (stack_cell (TempCell t) (frame_word y laid reach (shape_of attributed body) (reg regs) caller word_of_stack is (TempCell t) h tt))
         ∙ ap Some (sym (high_temp t h.1 h.0))
     in_memory (Element (array.Global g) i) h = globals.loads g i h
     in_memory (Element (array.Local a) i) h =
-        loaded (address Here (Element (array.Local a) i)) (stack_cell (Element (array.Local a) i) (frame_word y laid is_read (shape_of attributed body) (reg regs) caller word_of_stack is (Element (array.Local a) i) h tt))
+        loaded (address Here (Element (array.Local a) i)) (stack_cell (Element (array.Local a) i) (frame_word y laid reach (shape_of attributed body) (reg regs) caller word_of_stack is (Element (array.Local a) i) h tt))
         ∙ ap Some (sym (local_is a i h))
-    in_memory (Kept b) h = loaded b (stack_cell (Kept b) (frame_word y laid is_read (shape_of attributed body) (reg regs) caller word_of_stack is (Kept b) h tt))
+    in_memory (Kept b) h = loaded b (stack_cell (Kept b) (frame_word y laid reach (shape_of attributed body) (reg regs) caller word_of_stack is (Kept b) h tt))
 
     word_below : (x : Cell) → IsWord y (address Here x) → IsThere Here x → content Here begin x < 2 ^ 32
     word_below x word h = memory.words m (address Here x) (content Here begin x) word (in_memory x h)
 
     words : (x : Cell) → IsThere Here x → content Here begin x < 2 ^ 32
-    words (TempCell t) h = word_below (TempCell t) (inl (stack_cell (TempCell t) (frame_word y laid is_read (shape_of attributed body) (reg regs) caller word_of_stack is (TempCell t) h tt))) h
+    words (TempCell t) h = word_below (TempCell t) (inl (stack_cell (TempCell t) (frame_word y laid reach (shape_of attributed body) (reg regs) caller word_of_stack is (TempCell t) h tt))) h
     words (Element (array.Global g) i) h = globals.words g i h
     words (Element (array.Local a) i) h =
-        word_below (Element (array.Local a) i) (inl (stack_cell (Element (array.Local a) i) (frame_word y laid is_read (shape_of attributed body) (reg regs) caller word_of_stack is (Element (array.Local a) i) h tt))) h
-    words (Kept b) h = word_below (Kept b) (inl (stack_cell (Kept b) (frame_word y laid is_read (shape_of attributed body) (reg regs) caller word_of_stack is (Kept b) h tt))) h
+        word_below (Element (array.Local a) i) (inl (stack_cell (Element (array.Local a) i) (frame_word y laid reach (shape_of attributed body) (reg regs) caller word_of_stack is (Element (array.Local a) i) h tt))) h
+    words (Kept b) h = word_below (Kept b) (inl (stack_cell (Kept b) (frame_word y laid reach (shape_of attributed body) (reg regs) caller word_of_stack is (Kept b) h tt))) h
 
     pub begins_shown : Shows Here access begin regs m
     begins_shown = record {

@@ -12,14 +12,14 @@ use Rattle.mv_tree_code.specs.TreeCode.{two, temp_register}
 use Rattle.mv_tree_code.specs.View.{AreRegisters}
 use Rattle.mv_tree_code.proofs.Registers.{put_same, put_other, put_registers}
 use Rattle.mv_statement_code.specs.StatementCode.{first}
-use Rattle.mv_statement_code.specs.Frames.{Site, Kept, Shows}
+use Rattle.mv_statement_code.specs.Frames.{Site, Kept, Shows, Reach}
 use Rattle.mv_statement_code.proofs.FrameChanges.{register_is, register_zero, register_low, register_high, one_register}
 use Rattle.mv_flow_code.specs.Runs.{Machine, outside, IsRun}
 use Rattle.mv_flow_code.proofs.Walk.{placed_split}
 use Rattle.mv_call_code.specs.CallCode.{link_register, live_register, left_register}
 use Rattle.mv_call_code.specs.Convention.{Layout, IsTarget, IsSaved, IsAbove}
 use Rattle.mv_function_code.specs.FunctionCode.{Shape, bytes_of, saved_count, saved_register, restore_lines, leave_lines, epilogue_lines}
-use Rattle.mv_function_code.specs.Functions.{IsStack, IsLaid, IsMemory, StandsInWords, shape_of}
+use Rattle.mv_function_code.specs.Functions.{IsStack, IsLaid, IsMemory, StandsInWords, shape_of, IsAmple, RunsWithin}
 use Rattle.mv_function_code.proofs.Entry.{sp_apart, Restores, restore_walk}
 use Rattle.mv_function_code.proofs.EntryShown.{Here, word_of_stack, loaded}
 use Rattle.mv_function_code.proofs.Frame.{IsFrame, kept_low, kept_high}
@@ -50,12 +50,12 @@ high_apart q zero le lt e = omega (arith, le, e)
 high_apart q (suc t) le lt e = omega (arith, le, e, register_high t (omega (arith, lt)))
 
 module _ {M : Type 0} (access : Access M) (y : Layout) (laid : IsLaid y) (machine : Machine M) (memory : IsMemory access y machine)
-    (runs : (s : Site) → StandsInWords y s → IsRun access s machine) (budget far : ℕ) (place : ℕ → ℕ) (is_read : ℕ → Bool) (attributed : Bool) (body : Body) where
+    (reach : Reach) (ample : IsAmple y reach) (runs : RunsWithin access y machine reach) (budget far : ℕ) (place : ℕ → ℕ) (attributed : Bool) (body : Body) where
   abbrev Ws : World → ℕ → List ℕ → M → ℕ → Type 0
-  Ws = W access y laid machine memory runs budget far place
+  Ws = W access y laid machine memory reach ample runs budget far place
 
   abbrev Ps : List Line → ℕ → ℕ → Type 0
-  Ps = P access y laid machine memory runs budget far place
+  Ps = P access y laid machine memory reach ample runs budget far place
 
   abbrev shape : Shape
   shape = shape_of attributed body
@@ -76,10 +76,10 @@ module _ {M : Type 0} (access : Access M) (y : Layout) (laid : IsLaid y) (machin
     pub stack : (b : ℕ) → IsAbove y (reg before 2) b → access.load m b 4 ≡ access.load m0 b 4
 
   module _ (args : List ℕ) (live sp caller : ℕ) (before : List ℕ) (m0 : M) (w0 : World) (next0 i0 : ℕ)
-      (p : Prepared access y laid machine memory runs budget far place (shape_of attributed body) args live sp before m0 w0 next0 i0)
+      (p : Prepared access y laid machine memory reach ample runs budget far place (shape_of attributed body) args live sp before m0 w0 next0 i0)
       (is : IsFrame y (shape_of attributed body) (reg p.regs 2) caller) (calm : machine.is_calm (outside w0) p.mem ≡ true) where
     abbrev S : Site
-    S = Here access y laid machine memory budget far is_read attributed body (outside w0) p.regs p.mem caller is calm
+    S = Here access y laid machine memory budget far reach attributed body (outside w0) p.regs p.mem caller is calm
 
     module _ (w : World) (l : State) (regs : List ℕ) (m : M) (f : Shows S access l regs m) where
       -- the saved registers are still in the frame
@@ -89,8 +89,8 @@ module _ {M : Type 0} (access : Access M) (y : Layout) (laid : IsLaid y) (machin
           let at : reg p.regs 2 + 4 * j ≡ sp + 4 * j = ap (λ z. z + 4 * j) p.sp_is in
           let stack = saved_words y shape (reg p.regs 2) caller is j few in
           let kept = kept_low (reg p.regs 2) caller y.top (reg p.regs 2 + 4 * j) stack.2 (omega arith) (omega (arith, few)) in
-          let held : access.load m (sp + 4 * j) 4 ≡ Some (word_of_stack access y laid machine memory budget far is_read attributed body (outside w0) p.regs p.mem caller is calm (sp + 4 * j)) =
-          subst (λ b. access.load m b 4 ≡ Some (word_of_stack access y laid machine memory budget far is_read attributed body (outside w0) p.regs p.mem caller is calm b)) at (f.in_memory (Kept (reg p.regs 2 + 4 * j)) kept) in
+          let held : access.load m (sp + 4 * j) 4 ≡ Some (word_of_stack access y laid machine memory budget far reach attributed body (outside w0) p.regs p.mem caller is calm (sp + 4 * j)) =
+          subst (λ b. access.load m b 4 ≡ Some (word_of_stack access y laid machine memory budget far reach attributed body (outside w0) p.regs p.mem caller is calm b)) at (f.in_memory (Kept (reg p.regs 2 + 4 * j)) kept) in
           held ∙ ap Some (ap (λ o. unwrap_or o 0) (p.saved j lt))
 
       above_frame : reg before 2 ≡ caller → (b : ℕ) → IsAbove y (reg before 2) b → access.load m b 4 ≡ access.load m0 b 4
@@ -98,7 +98,7 @@ module _ {M : Type 0} (access : Access M) (y : Layout) (laid : IsLaid y) (machin
           let low : caller ≤ b = omega (arith, from, h.0) in
           let stack : IsStack y b = (omega (arith, low, is.low, is.below), h.1, h.2) in
           let kept = kept_high (reg p.regs 2) caller y.top b h.2 low h.1 in
-          f.in_memory (Kept b) kept ∙ sym (loaded access y laid machine memory budget far is_read attributed body (outside w0) p.regs p.mem caller is calm b stack)
+          f.in_memory (Kept b) kept ∙ sym (loaded access y laid machine memory budget far reach attributed body (outside w0) p.regs p.mem caller is calm b stack)
           ∙ p.words b (inl stack) (λ j lt e. omega (arith, e, low, is.below, p.sp_is, lt, min-le_right body.temps 9, room_for_saved (shape_of attributed body)))
 
       -- what a temporary's register had
@@ -127,7 +127,7 @@ module _ {M : Type 0} (access : Access M) (y : Layout) (laid : IsLaid y) (machin
         time = c.time + saved_count body.temps + 1 + 1;
         late = let late = c.late in omega (arith, late);
         soon = let soon = c.soon in omega (arith, soon, saved_few);
-        stands = back access y laid machine memory runs budget far place back_to w u.2.0 u.2.2.0 after m (c.time + saved_count body.temps + 1) link_is target u.2.2.1 raised;
+        stands = back access y laid machine memory reach ample runs budget far place back_to w u.2.0 u.2.2.0 after m (c.time + saved_count body.temps + 1) link_is target u.2.2.1 raised;
         are = put_registers d.after 2 (sp + bytes_of (shape_of attributed body)) d.restored.are (omega arith) (omega arith) below;
         result = put_other d.after 2 first (sp + bytes_of (shape_of attributed body)) (omega arith) (λ e. omega (arith, e)) ∙ d.restored.others first (λ j lt. first_apart j)
             ∙ c.others first (λ e. omega (arith, e));
@@ -144,14 +144,14 @@ module _ {M : Type 0} (access : Access M) (y : Layout) (laid : IsLaid y) (machin
           u : (mid : ℕ) × Ps (restore_lines (saved_count body.temps)) q.0 mid × Ps (two (Addi 2 2 (pos (bytes_of (shape_of attributed body)))) (Jalr 0 link_register (pos 0))) mid next
           u = placed_split machine.text place y.entry (restore_lines (saved_count body.temps)) (two (Addi 2 2 (pos (bytes_of (shape_of attributed body)))) (Jalr 0 link_register (pos 0))) q.0 next q.2
 
-          c : Counted access y laid machine memory runs budget far place live w q.0 regs m i
-          c = leave_walk access y laid machine memory runs budget far place attributed live w pc q.0 regs m i f.are small (f.left live_register (inr (omega arith, omega arith)) ∙ p.live_is) q.1 a
+          c : Counted access y laid machine memory reach ample runs budget far place live w q.0 regs m i
+          c = leave_walk access y laid machine memory reach ample runs budget far place attributed live w pc q.0 regs m i f.are small (f.left live_register (inr (omega arith, omega arith)) ∙ p.live_is) q.1 a
 
           sp_held : reg c.after 2 ≡ sp
           sp_held = c.others 2 (λ e. omega (arith, e)) ∙ f.left 2 (inl refl) ∙ p.sp_is
 
-          d : Restores access y laid machine memory runs budget far place (saved_count body.temps) sp w u.0 c.after m (c.time + saved_count body.temps)
-          d = restore_walk access y laid machine memory runs budget far place (saved_count body.temps) sp w q.0 u.0 c.after m c.time saved_few sp_held
+          d : Restores access y laid machine memory reach ample runs budget far place (saved_count body.temps) sp w u.0 c.after m (c.time + saved_count body.temps)
+          d = restore_walk access y laid machine memory reach ample runs budget far place (saved_count body.temps) sp w q.0 u.0 c.after m c.time saved_few sp_held
               (λ j lt. subst (λ z. IsStack y (z + 4 * j)) p.sp_is (saved_words y (shape_of attributed body) (reg p.regs 2) caller is j (omega (arith, lt, saved_few)))) c.are u.1 c.stands
 
           frame_is : sp + bytes_of (shape_of attributed body) ≡ caller
@@ -164,7 +164,7 @@ module _ {M : Type 0} (access : Access M) (y : Layout) (laid : IsLaid y) (machin
           after = put d.after 2 (sp + bytes_of (shape_of attributed body))
 
           raised : Ws w u.2.0 (put d.after 2 (sp + bytes_of (shape_of attributed body))) m (c.time + saved_count body.temps + 1)
-          raised = up access y laid machine memory runs budget far place (bytes_of (shape_of attributed body)) sp w u.0 u.2.0 d.after m (c.time + saved_count body.temps) below
+          raised = up access y laid machine memory reach ample runs budget far place (bytes_of (shape_of attributed body)) sp w u.0 u.2.0 d.after m (c.time + saved_count body.temps) below
               (d.restored.others 2 (λ j lt. sp_apart j) ∙ sp_held) u.2.1 d.stands
 
           other : (r : ℕ) → r ≢ 2 → reg (put d.after 2 (sp + bytes_of (shape_of attributed body))) r ≡ reg d.after r

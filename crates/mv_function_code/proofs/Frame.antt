@@ -11,13 +11,13 @@ use Rattle.mv_ir.specs.Measures.{total}
 use Rattle.mv_ir.specs.Trees.{found}
 use Rattle.mv_tree_code.specs.TreeCode.{temp_offset}
 use Rattle.mv_tree_code.proofs.TreesRun.{and_left, and_right}
-use Rattle.mv_statement_code.specs.Frames.{Site, Cell, TempCell, Element, Kept, IsThere, address, size_of, Stored, IsFit}
+use Rattle.mv_statement_code.specs.Frames.{Site, Cell, TempCell, Element, Kept, IsThere, address, size_of, Stored, IsFit, Reach, IsLoaded}
 use Rattle.mv_flow_code.specs.Runs.{Machine}
 use Rattle.mv_call_code.specs.Convention.{Layout, IsAbove, frame_limit, depth_limit}
 use Rattle.mv_call_code.specs.Laws.{IsOfFrame, IsCaller}
 use Rattle.mv_function_code.specs.FunctionCode.{words_before, Shape, bytes_of}
 use Rattle.mv_function_code.specs.Functions as functions
-use Rattle.mv_function_code.specs.Functions.{IsStack, IsWord, IsLaid, IsMemory, StandsInWords, site_of}
+use Rattle.mv_function_code.specs.Functions.{IsStack, IsWord, IsLaid, IsMemory, StandsInWords, site_of, IsAmple}
 
 -- ---- arrays in a row
 
@@ -95,9 +95,9 @@ pub record IsFrame (y : Layout) (shape : Shape) (sp caller : ℕ) : Type 0 where
   pub low : y.bottom ≤ sp
   pub high : caller ≤ y.top
 
-module _ (y : Layout) (laid : IsLaid y) (is_read : ℕ → Bool) (shape : Shape) (register : ℕ → ℕ) (caller : ℕ) (kept : ℕ → ℕ) (is : IsFrame y shape (register 2) caller) where
+module _ (y : Layout) (laid : IsLaid y) (reach : Reach) (shape : Shape) (register : ℕ → ℕ) (caller : ℕ) (kept : ℕ → ℕ) (is : IsFrame y shape (register 2) caller) where
   abbrev pub S : Site
-  S = site_of y is_read shape register (keeps (register 2) caller y.top) kept
+  S = site_of y reach shape register (keeps (register 2) caller y.top) kept
 
   abbrev start : ℕ
   start = max shape.temps 9
@@ -198,12 +198,19 @@ module _ (y : Layout) (laid : IsLaid y) (is_read : ℕ → Bool) (shape : Shape)
     stored_in : (m : M) (x : Cell) (v : ℕ) → functions.Kept access y m (address S x) v → Stored S access m x v
     stored_in m x v k = record { after = k.after; stored = k.stored; same = k.same; others = λ c there ne. k.others (address S c) (cell_word c there) ne }
 
-    pub frame_fits : ((g : ℕ) → is_read g ≡ true → 0 < y.size g) → ((g : ℕ) → is_read g ≡ true → found frame.bound g ≡ None) → IsFit S access setting frame
-    frame_fits read free = record {
+    loaded : IsAmple y reach → (x : Cell) → IsThere S x → IsLoaded S x → reach.may_load (address S x) ≡ true
+    loaded ample (TempCell t) h may = ample.stack (address S (TempCell t)) (in_stack (address S (TempCell t)) (frame_word (TempCell t) h tt))
+    loaded ample (Element (array.Global g) i) h may = ample.globals g i may h
+    loaded ample (Element (array.Local a) i) h may = ample.stack (address S (Element (array.Local a) i)) (in_stack (address S (Element (array.Local a) i)) (frame_word (Element (array.Local a) i) h tt))
+    loaded ample (Kept b) h may = ample.stack b (in_stack b (frame_word (Kept b) h tt))
+
+    pub frame_fits : IsAmple y reach → ((g : ℕ) → reach.is_read g ≡ true → 0 < y.size g) → ((g : ℕ) → reach.is_read g ≡ true → found frame.bound g ≡ None) → IsFit S access setting frame
+    frame_fits ample read free = record {
       stores = λ m x v w there lt load. stored_in m x v (memory.stores m (address S x) v w (cell_word x there) lt load);
       apart = cells_apart;
       addresses = cells_below;
       sizes = sizes_below;
+      loads = loaded ample;
       has_word = read;
       free = free;
       entries = λ f lt. (entries f lt).0;

@@ -15,7 +15,7 @@ use Rattle.mv_tree_code.specs.TreeCode.{temp_register}
 use Rattle.mv_tree_code.specs.View.{AreRegisters}
 use Rattle.mv_statement_code.specs.StatementCode.{first}
 use Rattle.mv_statement_code.proofs.FrameChanges.{register_high}
-use Rattle.mv_statement_code.specs.Frames.{Site, IsFine, IsFit, Shows}
+use Rattle.mv_statement_code.specs.Frames.{Site, IsFine, IsFit, Shows, Reach}
 use Rattle.mv_flow_code.specs.Placed.{Placed}
 use Rattle.mv_flow_code.specs.Runs.{Spot, Machine, outside, IsRun}
 use Rattle.mv_flow_code.specs.Laws.{CallsDo}
@@ -32,7 +32,7 @@ use Rattle.mv_call_code.proofs.CallerShown.{globals_held}
 use Rattle.mv_call_code.proofs.FunctionCalls.{call_done}
 use Rattle.mv_call_code.proofs.KnownCalls.{known_done}
 use Rattle.mv_function_code.specs.FunctionCode.{Shape, bytes_of, saved_count, lowered_lines, epilogue_lines, body_lines, later_lines, end_label}
-use Rattle.mv_function_code.specs.Functions.{IsLaid, IsMemory, StandsInWords, IsStack, IsFunction, LowersStack, shape_of}
+use Rattle.mv_function_code.specs.Functions.{IsLaid, IsMemory, StandsInWords, IsStack, IsFunction, LowersStack, shape_of, IsAmple, RunsWithin}
 use Rattle.mv_function_code.proofs.Begun.{Begun, frame_at}
 use Rattle.mv_function_code.proofs.Contents.{contents_at, holds_still}
 use Rattle.mv_function_code.proofs.EntryShown as shown
@@ -50,10 +50,10 @@ saved_few : (temps : ℕ) → saved_count temps ≤ 10
 saved_few temps = omega (arith, min-le_right temps 9)
 
 module _ {M : Type 0} (access : Access M) (y : Layout) (laid : IsLaid y) (machine : Machine M) (memory : IsMemory access y machine)
-    (runs : (s : Site) → StandsInWords y s → IsRun access s machine) (setting : ir.Setting)
+    (reach : Reach) (ample : IsAmple y reach) (runs : RunsWithin access y machine reach) (setting : ir.Setting)
     (entries : (f : ℕ) → f < length setting.numbers → (slice_index setting.numbers f ≡ y.entry f) × IsPlace (y.entry f))
     (budget far : ℕ) (serves : ServesKnown access y machine budget far setting) (levels : Bound) (keep : Conventions access y machine budget far levels)
-    (attributed : Bool) (bound : List (ℕ × ℕ)) (is_read : ℕ → Bool) (is_fine : Tree → Bool) (body : Body) (fn : IsFunction y setting attributed bound is_read is_fine body)
+    (attributed : Bool) (bound : List (ℕ × ℕ)) (is_fine : Tree → Bool) (body : Body) (fn : IsFunction y setting attributed bound reach is_fine body)
     (place : ℕ → ℕ) (linked : IsLinked y place) (is_attributed : ℕ → Bool) (pc mid next : ℕ)
     (placed : Placed machine.text place y.entry (later_lines y.place y.size is_attributed (shape_of attributed body) body.code) mid next)
     (depth live : ℕ) (args : List ℕ) (back i : ℕ) (count : length args ≡ body.params) (target : IsTarget back) (ra : reg (machine.run i).regs link_register ≡ back)
@@ -75,10 +75,10 @@ module _ {M : Type 0} (access : Access M) (y : Layout) (laid : IsLaid y) (machin
   sp = reg (machine.run i).regs 2 - bytes_of (shape_of attributed body)
 
   abbrev Ws : World → ℕ → List ℕ → M → ℕ → Type 0
-  Ws = W access y laid machine memory runs budget far place
+  Ws = W access y laid machine memory reach ample runs budget far place
 
   abbrev Ps : List Line → ℕ → ℕ → Type 0
-  Ps = P access y laid machine memory runs budget far place
+  Ps = P access y laid machine memory reach ample runs budget far place
 
   -- ---- the parts of the code
 
@@ -108,8 +108,8 @@ module _ {M : Type 0} (access : Access M) (y : Layout) (laid : IsLaid y) (machin
   live_small : live + 1 < 2 ^ 32
   live_small = omega (arith, begun.counts, begun.left)
 
-  prep : Prepared access y laid machine memory runs budget far place (shape_of attributed body) args live sp (machine.run i).regs (machine.run i).memory w p.0 i
-  prep = prologue_walk access y laid machine memory runs budget far place shape args live sp caller before (machine.run i).memory w mid p.0 i is_frame fn.params refl begun.live_is live_small stands.are
+  prep : Prepared access y laid machine memory reach ample runs budget far place (shape_of attributed body) args live sp (machine.run i).regs (machine.run i).memory w p.0 i
+  prep = prologue_walk access y laid machine memory reach ample runs budget far place shape args live sp caller before (machine.run i).memory w mid p.0 i is_frame fn.params refl begun.live_is live_small stands.are
       (λ j lt. begun.arguments j (omega (arith, lt, count))) p.1
       (record { is = lowers.goes; calm = stands.calm; sound = before_next (λ t. machine.is_sound (machine.run t) ≡ true) i stands.sound lowers.sound })
 
@@ -120,10 +120,10 @@ module _ {M : Type 0} (access : Access M) (y : Layout) (laid : IsLaid y) (machin
   calm = prep.stands.calm
 
   abbrev S : Site
-  S = shown.Here access y laid machine memory budget far is_read attributed body (outside w) prep.regs prep.mem caller is calm
+  S = shown.Here access y laid machine memory budget far reach attributed body (outside w) prep.regs prep.mem caller is calm
 
   abbrev kept : ℕ → ℕ
-  kept = shown.word_of_stack access y laid machine memory budget far is_read attributed body (outside w) prep.regs prep.mem caller is calm
+  kept = shown.word_of_stack access y laid machine memory budget far reach attributed body (outside w) prep.regs prep.mem caller is calm
 
   globals_now : HoldsGlobals access y machine budget far w prep.mem
   globals_now = record {
@@ -145,30 +145,30 @@ module _ {M : Type 0} (access : Access M) (y : Layout) (laid : IsLaid y) (machin
   abbrev contents : Contents
   contents = contents_at access machine attributed body (length args) i
 
-  held_still : shown.Holds access y laid machine memory budget far is_read attributed body (outside w) prep.regs prep.mem caller is calm (length args)
+  held_still : shown.Holds access y laid machine memory budget far reach attributed body (outside w) prep.regs prep.mem caller is calm (length args)
       (contents_at access machine attributed body (length args) i)
-  held_still = holds_still access y laid machine memory runs budget far place is_read attributed body args live sp caller before (machine.run i).memory w p.0 i prep is calm count
+  held_still = holds_still access y laid machine memory reach ample runs budget far place attributed body args live sp caller before (machine.run i).memory w p.0 i prep is calm count
 
   abbrev begin : State
-  begin = shown.begin access y laid machine memory budget far is_read attributed body (outside w) prep.regs prep.mem caller is calm args contents w few enough prep.are globals_now held held_still
+  begin = shown.begin access y laid machine memory budget far reach attributed body (outside w) prep.regs prep.mem caller is calm args contents w few enough prep.are globals_now held held_still
 
   begins : Shows S access begin prep.regs prep.mem
-  begins = shown.begins_shown access y laid machine memory budget far is_read attributed body (outside w) prep.regs prep.mem caller is calm args contents w few enough prep.are globals_now held held_still
+  begins = shown.begins_shown access y laid machine memory budget far reach attributed body (outside w) prep.regs prep.mem caller is calm args contents w few enough prep.are globals_now held held_still
 
   -- ---- the body
 
   fit : IsFit S access setting frame
-  fit = frame_fits y laid is_read shape (reg prep.regs) caller kept is access machine memory setting frame entries fn.read fn.free
+  fit = frame_fits y laid reach shape (reg prep.regs) caller kept is access machine memory setting frame entries ample fn.read fn.free
 
   left_is : reg prep.regs left_register ≡ reg (machine.run i).regs left_register
   left_is = prep.others left_register (λ e. omega (arith, e)) (λ e. omega (arith, e)) (λ j lt e. omega (arith, e, register_high j (omega (arith, lt, fn.params))))
 
   calls : IsCaller y S setting frame
-  calls = frame_calls y laid is_read shape (reg prep.regs) caller kept is access machine memory setting frame entries prep.live_is begun.counts
+  calls = frame_calls y laid reach shape (reg prep.regs) caller kept is access machine memory setting frame entries prep.live_is begun.counts
       (omega (arith, left_is, begun.left)) (omega (arith, left_is, begun.room, fn.small, prep.sp_is, small))
 
   abbrev okS : IsRun access S machine
-  okS = runs S (own_words y laid is_read shape (reg prep.regs) caller kept is)
+  okS = runs S (own_words y laid reach shape (reg prep.regs) caller kept is) (λ a h. h)
 
   fine_trees : (t : Tree) → is_fine t ≡ true → IsFine S setting frame t
   fine_trees t e = let fine = fn.trees t e depth live (reg prep.regs) S.is_kept kept in record { named = fine.named; shallow = fine.shallow }
@@ -192,7 +192,7 @@ module _ {M : Type 0} (access : Access M) (y : Layout) (laid : IsLaid y) (machin
       flow_done access S setting frame fit machine okS is_fine fine_trees place end_label budget far levels (calls_of y.place is_attributed) calls_do body.code fn.fine
       (spare + 13) (end_label + 1) [] p.0 q.0 levels (within_self levels) q.1 begin prep.time
       (to_here access S machine okS place end_label budget far 0 (spare + 13 + cost) (length levels) p.0 begin w prep.regs prep.mem prep.time refl begins (omega (arith, paid, soon)) (omega (arith, asked, late))
-      (other_frame access y laid machine memory runs budget far place (words_site y) S (ok access y laid machine memory runs budget far place) okS 0 end_label place w p.0 prep.regs prep.mem prep.time prep.stands))
+      (other_frame access y laid machine memory reach ample runs budget far place (words_site y reach) S (ok access y laid machine memory reach ample runs budget far place) okS 0 end_label place w p.0 prep.regs prep.mem prep.time prep.stands))
 
   -- ---- return
 
@@ -203,13 +203,13 @@ module _ {M : Type 0} (access : Access M) (y : Layout) (laid : IsLaid y) (machin
       ended : place end_label ≡ q.2.0
       ended = q.2.1.label ∙ sym q.2.1.stands
 
-      a : W access y laid machine memory runs budget far place l.world q.2.0 (machine.run j).regs (machine.run j).memory j
-      a = stands_at access (words_site y) machine (ok access y laid machine memory runs budget far place) place 0 budget far l.world (place end_label) q.2.0 (machine.run j).regs (machine.run j).memory j ended
-          (other_frame access y laid machine memory runs budget far place S (words_site y) okS (ok access y laid machine memory runs budget far place) end_label 0 place l.world (place end_label)
+      a : W access y laid machine memory reach ample runs budget far place l.world q.2.0 (machine.run j).regs (machine.run j).memory j
+      a = stands_at access (words_site y reach) machine (ok access y laid machine memory reach ample runs budget far place) place 0 budget far l.world (place end_label) q.2.0 (machine.run j).regs (machine.run j).memory j ended
+          (other_frame access y laid machine memory reach ample runs budget far place S (words_site y reach) okS (ok access y laid machine memory reach ample runs budget far place) end_label 0 place l.world (place end_label)
           (machine.run j).regs (machine.run j).memory j (to_stands access S machine okS place end_label budget far 0 (spare + 13) k (place end_label) l j h))
 
-      un : Unwound access y laid machine memory runs budget far place is_read attributed body (machine.run i).regs (machine.run i).memory back l.world (machine.run j).regs (machine.run j).memory j
-      un = epilogue_walk access y laid machine memory runs budget far place is_read attributed body args live sp caller before (machine.run i).memory w p.0 i prep is calm l.world l
+      un : Unwound access y laid machine memory reach ample runs budget far place attributed body (machine.run i).regs (machine.run i).memory back l.world (machine.run j).regs (machine.run j).memory j
+      un = epilogue_walk access y laid machine memory reach ample runs budget far place attributed body args live sp caller before (machine.run i).memory w p.0 i prep is calm l.world l
           (machine.run j).regs (machine.run j).memory h.shows back q.2.0 next j fn.params fn.temps refl begun.live_is live_small ra target q.2.2 a
 
       memory_is : (machine.run un.time).memory ≡ (machine.run j).memory

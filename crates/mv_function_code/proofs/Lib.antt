@@ -11,3 +11,4 @@ pub mod FunctionKeeps
 pub mod Equations
 pub mod EncodedFrames
 pub mod WholeFunction
+pub mod Alone

@@ -8,14 +8,14 @@ use Rattle.mv_tree_code.specs.TreeCode.{temp_register}
 use Rattle.mv_tree_code.specs.View.{AreRegisters}
 use Rattle.mv_tree_code.proofs.Registers.{put_same, put_other, put_registers}
 use Rattle.mv_statement_code.specs.StatementCode.{first}
-use Rattle.mv_statement_code.specs.Frames.{Site}
+use Rattle.mv_statement_code.specs.Frames.{Site, Reach}
 use Rattle.mv_statement_code.proofs.FrameChanges.{register_low, register_high}
 use Rattle.mv_flow_code.specs.Runs.{Machine, IsRun}
 use Rattle.mv_flow_code.proofs.Walk.{placed_split}
 use Rattle.mv_call_code.specs.CallCode.{live_register}
 use Rattle.mv_call_code.specs.Convention.{Layout}
 use Rattle.mv_function_code.specs.FunctionCode.{Shape, bytes_of, saved_count, saved_register, save_lines, parameter_lines, enter_lines, lowered_lines}
-use Rattle.mv_function_code.specs.Functions.{IsStack, IsWord, IsLaid, IsMemory, StandsInWords}
+use Rattle.mv_function_code.specs.Functions.{IsStack, IsWord, IsLaid, IsMemory, StandsInWords, IsAmple, RunsWithin}
 use Rattle.mv_function_code.proofs.Entry.{Saves, Moves, sp_apart, save_walk, parameter_walk}
 use Rattle.mv_function_code.proofs.Frame.{IsFrame}
 use Rattle.mv_function_code.proofs.FrameWords.{W, P}
@@ -32,12 +32,12 @@ saved_words y shape sp caller is j lt =
     (omega (arith, low), omega (arith, lt, high, below, room_for_saved shape), omega (arith, below, even))
 
 module _ {M : Type 0} (access : Access M) (y : Layout) (laid : IsLaid y) (machine : Machine M) (memory : IsMemory access y machine)
-    (runs : (s : Site) → StandsInWords y s → IsRun access s machine) (budget far : ℕ) (place : ℕ → ℕ) where
+    (reach : Reach) (ample : IsAmple y reach) (runs : RunsWithin access y machine reach) (budget far : ℕ) (place : ℕ → ℕ) where
   abbrev Ws : World → ℕ → List ℕ → M → ℕ → Type 0
-  Ws = W access y laid machine memory runs budget far place
+  Ws = W access y laid machine memory reach ample runs budget far place
 
   abbrev Ps : List Line → ℕ → ℕ → Type 0
-  Ps = P access y laid machine memory runs budget far place
+  Ps = P access y laid machine memory reach ample runs budget far place
 
   -- what stands there at the end of a prologue that began with other registers and another memory
   pub record Prepared (shape : Shape) (args : List ℕ) (live sp : ℕ) (before : List ℕ) (m0 : M) (w : World) (next i : ℕ) : Type 0 where
@@ -102,15 +102,15 @@ module _ {M : Type 0} (access : Access M) (y : Layout) (laid : IsLaid y) (machin
       u : (mid : ℕ) × Ps (parameter_lines shape.params) q.0 mid × Ps (enter_lines shape.attributed) mid next
       u = placed_split machine.text place y.entry (parameter_lines shape.params) (enter_lines shape.attributed) q.0 next q.2
 
-      b : Saves access y laid machine memory runs budget far place (saved_count shape.temps) sp w q.0 (put before 2 sp) m0 (i + 1 + saved_count shape.temps)
-      b = save_walk access y laid machine memory runs budget far place (saved_count shape.temps) sp w pc q.0 now m0 (i + 1) saved_few sp_now
+      b : Saves access y laid machine memory reach ample runs budget far place (saved_count shape.temps) sp w q.0 (put before 2 sp) m0 (i + 1 + saved_count shape.temps)
+      b = save_walk access y laid machine memory reach ample runs budget far place (saved_count shape.temps) sp w pc q.0 now m0 (i + 1) saved_few sp_now
           (λ j lt. saved_words y shape sp caller is j (omega (arith, lt, saved_few))) are_now q.1 a
 
-      c : Moves access y laid machine memory runs budget far place shape.params w u.0 (put before 2 sp) b.after (i + 1 + saved_count shape.temps + shape.params)
-      c = parameter_walk access y laid machine memory runs budget far place shape.params w q.0 u.0 now b.after (i + 1 + saved_count shape.temps) few are_now u.1 b.stands
+      c : Moves access y laid machine memory reach ample runs budget far place shape.params w u.0 (put before 2 sp) b.after (i + 1 + saved_count shape.temps + shape.params)
+      c = parameter_walk access y laid machine memory reach ample runs budget far place shape.params w q.0 u.0 now b.after (i + 1 + saved_count shape.temps) few are_now u.1 b.stands
 
       live_now : reg c.after live_register ≡ live
       live_now = c.moved.others live_register (λ j lt. temp_high live_register j (omega arith) (omega (arith, lt, few))) ∙ put_other before 2 live_register sp (omega arith) (λ e. omega (arith, e)) ∙ live_before
 
-      d : Counted access y laid machine memory runs budget far place (live + cond shape.attributed 1 0) w next c.after b.after (i + 1 + saved_count shape.temps + shape.params)
-      d = enter_walk access y laid machine memory runs budget far place shape.attributed live w u.0 next c.after b.after (i + 1 + saved_count shape.temps + shape.params) c.moved.are small live_now u.2 c.stands
+      d : Counted access y laid machine memory reach ample runs budget far place (live + cond shape.attributed 1 0) w next c.after b.after (i + 1 + saved_count shape.temps + shape.params)
+      d = enter_walk access y laid machine memory reach ample runs budget far place shape.attributed live w u.0 next c.after b.after (i + 1 + saved_count shape.temps + shape.params) c.moved.are small live_now u.2 c.stands

@@ -9,20 +9,22 @@ use Rattle.mv_isa.specs.declared.labelled.Line.{Line}
 use Rattle.mv_isa.specs.declared.labelled.Line.TheVariants.{Word}
 use Rattle.mv_isa.specs.Execution.{Access, Goes, Faults, reg, put, execute, jumps}
 use Rattle.mv_ir.specs.World.{World}
+use Rattle.mv_tree_code.specs.Straight.{Sets}
 use Rattle.mv_tree_code.specs.TreeCode.{minus_one}
 use Rattle.mv_tree_code.specs.View.{AreRegisters}
 use Rattle.mv_tree_code.proofs.Instructions.{addi_sets}
 use Rattle.mv_tree_code.proofs.Registers.{put_same, put_other, put_registers}
 use Rattle.mv_tree_code.proofs.Words.{word_of_pos, zero_add, minus_one_is}
-use Rattle.mv_statement_code.specs.Frames.{Site}
+use Rattle.mv_statement_code.specs.Frames.{Site, Reach}
 use Rattle.mv_statement_code.proofs.TreesFirst.{add_small}
 use Rattle.mv_flow_code.specs.Runs.{Machine, IsRun}
 use Rattle.mv_flow_code.proofs.Walk.{line_does, steps_on, stands_at}
 use Rattle.mv_call_code.specs.CallCode.{link_register, live_register}
 use Rattle.mv_call_code.specs.Convention.{Layout, IsTarget}
 use Rattle.mv_function_code.specs.FunctionCode.{enter_lines, leave_lines}
-use Rattle.mv_function_code.specs.Functions.{IsLaid, IsMemory, StandsInWords}
+use Rattle.mv_function_code.specs.Functions.{IsLaid, IsMemory, StandsInWords, IsAmple, RunsWithin}
 use Rattle.mv_function_code.proofs.FrameWords.{words_site, ok, W, P, One, sets}
+use Rattle.mv_statement_code.specs.Leads.{limited}
 
 -- ---- arithmetic
 
@@ -33,12 +35,15 @@ minus_is n above below = let e : pos 0 -ℤ pos n ≡ negsuc (n - 1) = omega (ar
     at : (k : ℕ) → k < 2 ^ 32 → word_of (negsuc k) ≡ 2 ^ 32 - suc k
     at k h = omega (arith, h)
 
-pub lowered : (a n : ℕ) → 0 < n → n ≤ a → a < 2 ^ 32 → add a (word_of (pos 0 -ℤ pos n)) ≡ a - n
+lowered : (a n : ℕ) → 0 < n → n ≤ a → a < 2 ^ 32 → add a (word_of (pos 0 -ℤ pos n)) ≡ a - n
 unfolding add
 lowered a n above le below = ap (λ z. (a + z) % 2 ^ 32) (minus_is n above (omega (arith, le, below))) ∙ turned
   where
     turned : (a + (2 ^ 32 - n)) % 2 ^ 32 ≡ a - n
     turned = omega (arith, above, le, below)
+
+pub lowers_sp : {M : Type 0} (access : Access M) (m : M) (n sp : ℕ) (regs : List ℕ) → 0 < n → n ≤ sp → sp < 2 ^ 32 → reg regs 2 ≡ sp → Sets access m (Addi 2 2 (pos 0 -ℤ pos n)) regs (put regs 2 (sp - n))
+lowers_sp access m n sp regs above le below e = addi_sets access m 2 2 (pos 0 -ℤ pos n) regs sp (word_of (pos 0 -ℤ pos n)) (sp - n) e refl (lowered sp n above le below)
 
 one_less : (n : ℕ) → n + 1 < 2 ^ 32 → add (n + 1) (2 ^ 32 - 1) ≡ n
 unfolding add
@@ -49,25 +54,25 @@ unfolding put
 put_zero regs v = refl
 
 module _ {M : Type 0} (access : Access M) (y : Layout) (laid : IsLaid y) (machine : Machine M) (memory : IsMemory access y machine)
-    (runs : (s : Site) → StandsInWords y s → IsRun access s machine) (budget far : ℕ) (place : ℕ → ℕ) where
+    (reach : Reach) (ample : IsAmple y reach) (runs : RunsWithin access y machine reach) (budget far : ℕ) (place : ℕ → ℕ) where
   abbrev Ws : World → ℕ → List ℕ → M → ℕ → Type 0
-  Ws = W access y laid machine memory runs budget far place
+  Ws = W access y laid machine memory reach ample runs budget far place
 
   abbrev Ps : List Line → ℕ → ℕ → Type 0
-  Ps = P access y laid machine memory runs budget far place
+  Ps = P access y laid machine memory reach ample runs budget far place
 
   -- sp moves down, and up
   pub down : (n sp : ℕ) (w : World) (pc next : ℕ) (regs : List ℕ) (m : M) (i : ℕ) → 0 < n → n ≤ sp → sp < 2 ^ 32 → reg regs 2 ≡ sp
-      → One access y laid machine memory runs budget far place pc next (Addi 2 2 (pos 0 -ℤ pos n)) → Ws w pc regs m i → Ws w next (put regs 2 (sp - n)) m (i + 1)
+      → One access y laid machine memory reach ample runs budget far place pc next (Addi 2 2 (pos 0 -ℤ pos n)) → Ws w pc regs m i → Ws w next (put regs 2 (sp - n)) m (i + 1)
   down n sp w pc next regs m i above le below e p a =
-      sets access y laid machine memory runs budget far place (Addi 2 2 (pos 0 -ℤ pos n)) w pc next regs (put regs 2 (sp - n)) m i
-      (addi_sets access m 2 2 (pos 0 -ℤ pos n) regs sp (word_of (pos 0 -ℤ pos n)) (sp - n) e refl (lowered sp n above le below)) p a
+      sets access y laid machine memory reach ample runs budget far place (Addi 2 2 (pos 0 -ℤ pos n)) w pc next regs (put regs 2 (sp - n)) m i
+      (lowers_sp (limited access (words_site y reach)) m n sp regs above le below e) p a
 
   pub up : (n sp : ℕ) (w : World) (pc next : ℕ) (regs : List ℕ) (m : M) (i : ℕ) → sp + n < 2 ^ 32 → reg regs 2 ≡ sp
-      → One access y laid machine memory runs budget far place pc next (Addi 2 2 (pos n)) → Ws w pc regs m i → Ws w next (put regs 2 (sp + n)) m (i + 1)
+      → One access y laid machine memory reach ample runs budget far place pc next (Addi 2 2 (pos n)) → Ws w pc regs m i → Ws w next (put regs 2 (sp + n)) m (i + 1)
   up n sp w pc next regs m i below e p a =
-      sets access y laid machine memory runs budget far place (Addi 2 2 (pos n)) w pc next regs (put regs 2 (sp + n)) m i
-      (addi_sets access m 2 2 (pos n) regs sp n (sp + n) e (word_of_pos n (omega (arith, below))) (add_small sp n below)) p a
+      sets access y laid machine memory reach ample runs budget far place (Addi 2 2 (pos n)) w pc next regs (put regs 2 (sp + n)) m i
+      (addi_sets (limited access (words_site y reach)) m 2 2 (pos n) regs sp n (sp + n) e (word_of_pos n (omega (arith, below))) (add_small sp n below)) p a
 
   -- ---- live frames
 
@@ -99,7 +104,7 @@ module _ {M : Type 0} (access : Access M) (y : Layout) (laid : IsLaid y) (machin
     time = i;
     late = omega arith;
     soon = omega arith;
-    stands = stands_at access (words_site y) machine (ok access y laid machine memory runs budget far place) place 0 budget far w pc next regs m i (sym same) a;
+    stands = stands_at access (words_site y reach) machine (ok access y laid machine memory reach ample runs budget far place) place 0 budget far w pc next regs m i (sym same) a;
     are = are;
     live = e;
     others = λ q ne. refl;
@@ -109,23 +114,23 @@ module _ {M : Type 0} (access : Access M) (y : Layout) (laid : IsLaid y) (machin
       → Ps (enter_lines attributed) pc next → Ws w pc regs m i → Counted (n + cond attributed 1 0) w next regs m i
   enter_walk true n w pc next regs m i are lt e p a =
       counted (n + 1) w next regs m i are lt
-      (stands_at access (words_site y) machine (ok access y laid machine memory runs budget far place) place 0 budget far w p.0 next (put regs live_register (n + 1)) m (i + 1) (sym p.2)
-      (sets access y laid machine memory runs budget far place (Addi live_register live_register (pos 1)) w pc p.0 regs (put regs live_register (n + 1)) m i
-      (addi_sets access m live_register live_register (pos 1) regs n 1 (n + 1) e (word_of_pos 1 (omega arith)) (add_small n 1 lt)) p.1 a))
+      (stands_at access (words_site y reach) machine (ok access y laid machine memory reach ample runs budget far place) place 0 budget far w p.0 next (put regs live_register (n + 1)) m (i + 1) (sym p.2)
+      (sets access y laid machine memory reach ample runs budget far place (Addi live_register live_register (pos 1)) w pc p.0 regs (put regs live_register (n + 1)) m i
+      (addi_sets (limited access (words_site y reach)) m live_register live_register (pos 1) regs n 1 (n + 1) e (word_of_pos 1 (omega arith)) (add_small n 1 lt)) p.1 a))
   enter_walk false n w pc next regs m i are lt e p a = uncounted (n + 0) w pc next regs m i are (e ∙ omega arith) p a
 
   pub leave_walk : (attributed : Bool) (n : ℕ) (w : World) (pc next : ℕ) (regs : List ℕ) (m : M) (i : ℕ) → AreRegisters regs → n + 1 < 2 ^ 32 → reg regs live_register ≡ n + cond attributed 1 0
       → Ps (leave_lines attributed) pc next → Ws w pc regs m i → Counted n w next regs m i
   leave_walk true n w pc next regs m i are lt e p a =
       counted n w next regs m i are (omega (arith, lt))
-      (stands_at access (words_site y) machine (ok access y laid machine memory runs budget far place) place 0 budget far w p.0 next (put regs live_register n) m (i + 1) (sym p.2)
-      (sets access y laid machine memory runs budget far place (Addi live_register live_register minus_one) w pc p.0 regs (put regs live_register n) m i
-      (addi_sets access m live_register live_register minus_one regs (n + 1) (2 ^ 32 - 1) n e minus_one_is (one_less n lt)) p.1 a))
+      (stands_at access (words_site y reach) machine (ok access y laid machine memory reach ample runs budget far place) place 0 budget far w p.0 next (put regs live_register n) m (i + 1) (sym p.2)
+      (sets access y laid machine memory reach ample runs budget far place (Addi live_register live_register minus_one) w pc p.0 regs (put regs live_register n) m i
+      (addi_sets (limited access (words_site y reach)) m live_register live_register minus_one regs (n + 1) (2 ^ 32 - 1) n e minus_one_is (one_less n lt)) p.1 a))
   leave_walk false n w pc next regs m i are lt e p a = uncounted n w pc next regs m i are (e ∙ omega arith) p a
 
   -- ---- the jump back
 
-  jalr_returns : (regs : List ℕ) (pc to : ℕ) (m : M) → reg regs link_register ≡ to → IsTarget to → execute access (Jalr 0 link_register (pos 0)) regs pc m ≡ Goes regs to m
+  jalr_returns : (regs : List ℕ) (pc to : ℕ) (m : M) → reg regs link_register ≡ to → IsTarget to → execute (limited access (words_site y reach)) (Jalr 0 link_register (pos 0)) regs pc m ≡ Goes regs to m
   unfolding execute jumps
   jalr_returns regs pc to m e is =
       let high = is.0 in let even = is.1 in
@@ -135,8 +140,8 @@ module _ {M : Type 0} (access : Access M) (y : Layout) (laid : IsLaid y) (machin
       ∙ ap (λ b. cond b (Goes (put regs 0 (add pc 4)) to m) (Faults cause.Jump)) (eq-eqb (to % 4) 0 even) ∙ ap (λ r. Goes r to m) (put_zero regs (add pc 4))
 
   pub back : (to : ℕ) (w : World) (pc next : ℕ) (regs : List ℕ) (m : M) (i : ℕ) → reg regs link_register ≡ to → IsTarget to
-      → One access y laid machine memory runs budget far place pc next (Jalr 0 link_register (pos 0)) → Ws w pc regs m i → Ws w to regs m (i + 1)
+      → One access y laid machine memory reach ample runs budget far place pc next (Jalr 0 link_register (pos 0)) → Ws w pc regs m i → Ws w to regs m (i + 1)
   back to w pc next regs m i e is p a =
-      steps_on access (words_site y) machine (ok access y laid machine memory runs budget far place) place 0 budget far w pc to regs regs m m i
-      (line_does access (words_site y) machine (ok access y laid machine memory runs budget far place) place 0 budget far w pc next regs m i (Word (Jalr 0 link_register (pos 0))) p.stands p a
+      steps_on access (words_site y reach) machine (ok access y laid machine memory reach ample runs budget far place) place 0 budget far w pc to regs regs m m i
+      (line_does access (words_site y reach) machine (ok access y laid machine memory reach ample runs budget far place) place 0 budget far w pc next regs m i (Word (Jalr 0 link_register (pos 0))) p.stands p a
       ∙ jalr_returns regs pc to m e is) (inl refl) a

@@ -8,7 +8,7 @@ use Rattle.mv_ir.specs.World as ir
 use Rattle.mv_ir.specs.World.{World}
 use Rattle.mv_ir.specs.Outcome.{Bound}
 use Rattle.mv_ir.specs.Meaning.{Contents, body_from}
-use Rattle.mv_statement_code.specs.Frames.{Site}
+use Rattle.mv_statement_code.specs.Frames.{Site, Reach}
 use Rattle.mv_flow_code.specs.Placed.{Placed}
 use Rattle.mv_flow_code.specs.Runs.{Machine, IsRun}
 use Rattle.mv_flow_code.proofs.Walk.{stands_at}
@@ -17,7 +17,7 @@ use Rattle.mv_call_code.specs.Convention.{Layout, IsTarget, Stands, FollowsCall,
 use Rattle.mv_call_code.specs.Environment.{ServesKnown}
 use Rattle.mv_call_code.specs.Laws.{IsLinked}
 use Rattle.mv_function_code.specs.FunctionCode.{bytes_of, function_lines}
-use Rattle.mv_function_code.specs.Functions.{IsLaid, IsMemory, StandsInWords, IsFunction, LowersStack, shape_of, frame_in}
+use Rattle.mv_function_code.specs.Functions.{IsLaid, IsMemory, StandsInWords, IsFunction, LowersStack, shape_of, frame_in, IsAmple, RunsWithin}
 use Rattle.mv_function_code.proofs.Begun.{Begun, frame_at, begun_called}
 use Rattle.mv_function_code.proofs.Contents.{contents_at}
 use Rattle.mv_function_code.proofs.FrameWords.{words_site, ok, W}
@@ -26,19 +26,19 @@ use Rattle.mv_function_code.proofs.Prologue.{room_for_saved}
 use Rattle.mv_function_code.proofs.Steps.{down}
 
 module _ {M : Type 0} (access : Access M) (y : Layout) (laid : IsLaid y) (machine : Machine M) (memory : IsMemory access y machine)
-    (runs : (s : Site) → StandsInWords y s → IsRun access s machine) (setting : ir.Setting)
+    (reach : Reach) (ample : IsAmple y reach) (runs : RunsWithin access y machine reach) (setting : ir.Setting)
     (entries : (f : ℕ) → f < length setting.numbers → (slice_index setting.numbers f ≡ y.entry f) × IsPlace (y.entry f))
     (budget far : ℕ) (serves : ServesKnown access y machine budget far setting) (levels : Bound) (keep : Conventions access y machine budget far levels)
-    (attributed : Bool) (bound : List (ℕ × ℕ)) (is_read : ℕ → Bool) (is_fine : Tree → Bool) (body : Body) (fn : IsFunction y setting attributed bound is_read is_fine body)
+    (attributed : Bool) (bound : List (ℕ × ℕ)) (is_fine : Tree → Bool) (body : Body) (fn : IsFunction y setting attributed bound reach is_fine body)
     (place : ℕ → ℕ) (linked : IsLinked y place) (is_attributed : ℕ → Bool) (pc next : ℕ)
     (placed : Placed machine.text place y.entry (function_lines y.place y.size is_attributed (shape_of attributed body) body.code) pc next)
     (back i : ℕ) (target : IsTarget back) (ra : reg (machine.run i).regs link_register ≡ back) where
   first_step : (depth live : ℕ) (args : List ℕ) (w : World) → Stands access y machine budget far pc w i → Begun y machine attributed depth live args i
-      → W access y laid machine memory runs budget far place w placed.0 (put (machine.run i).regs 2 (reg (machine.run i).regs 2 - bytes_of (shape_of attributed body))) (machine.run i).memory (i + 1)
+      → W access y laid machine memory reach ample runs budget far place w placed.0 (put (machine.run i).regs 2 (reg (machine.run i).regs 2 - bytes_of (shape_of attributed body))) (machine.run i).memory (i + 1)
   first_step depth live args w stands begun =
-      down access y laid machine memory runs budget far place (bytes_of (shape_of attributed body)) (reg (machine.run i).regs 2) w pc placed.0 (machine.run i).regs (machine.run i).memory i
+      down access y laid machine memory reach ample runs budget far place (bytes_of (shape_of attributed body)) (reg (machine.run i).regs 2) w pc placed.0 (machine.run i).regs (machine.run i).memory i
       (omega (arith, room_for_saved (shape_of attributed body))) (omega (arith, begun.room, fn.small)) (omega (arith, begun.within, laid.top)) refl placed.1
-      (stands_at access (words_site y) machine (ok access y laid machine memory runs budget far place) place 0 budget far w (machine.run i).pc pc (machine.run i).regs (machine.run i).memory i stands.at
+      (stands_at access (words_site y reach) machine (ok access y laid machine memory reach ample runs budget far place) place 0 budget far w (machine.run i).pc pc (machine.run i).regs (machine.run i).memory i stands.at
       (record { is = refl; calm = stands.calm; sound = stands.sound }))
 
   -- in a frame with numbers of its own
@@ -50,7 +50,7 @@ module _ {M : Type 0} (access : Access M) (y : Layout) (laid : IsLaid y) (machin
   function_keeps depth live args count spare w stands begun paid asked =
       let step = first_step depth live args w stands begun in
       let lowers : LowersStack machine (bytes_of (shape_of attributed body)) placed.0 i = record { goes = step.is; sound = step.sound i (omega arith) } in
-      later_keeps access y laid machine memory runs setting entries budget far serves levels keep attributed bound is_read is_fine body fn place linked is_attributed pc placed.0 next placed.2
+      later_keeps access y laid machine memory reach ample runs setting entries budget far serves levels keep attributed bound is_fine body fn place linked is_attributed pc placed.0 next placed.2
       depth live args back i count target ra w stands begun lowers spare paid asked
 
   -- called from another

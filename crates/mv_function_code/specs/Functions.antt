@@ -1,5 +1,5 @@
 -- What the code of a whole function promises: it keeps the calling convention, if the functions do at each lower bound.
-use Rattle.std.specs.Prelude.{ℕ, ◌≡◌, ◌≢◌, ◌+◌, ◌-◌, ◌*◌, ◌%◌, ◌^◌, ◌<◌, ◌≤◌, ◌⊎◌, Bool, true, false, cond, ltb, List, [], length, slice_index, Some, None}
+use Rattle.std.specs.Prelude.{ℕ, ◌≡◌, ◌≢◌, ◌+◌, ◌-◌, ◌*◌, ◌%◌, ◌^◌, ◌<◌, ◌≤◌, ◌⊎◌, Bool, true, false, ◌&&◌, cond, leb, ltb, List, [], length, slice_index, Some, None}
 use Rattle.mv_isa.specs.Code.{IsPlace}
 use Rattle.mv_isa.specs.Execution.{Access, reg, put}
 use Rattle.mv_ir.specs.declared.tree.Tree.{Tree}
@@ -9,15 +9,16 @@ use Rattle.mv_ir.specs.World as ir
 use Rattle.mv_ir.specs.World.{World}
 use Rattle.mv_ir.specs.Outcome.{Call, Bound}
 use Rattle.mv_ir.specs.Meaning.{Contents, body_from}
-use Rattle.mv_statement_code.specs.Frames.{Site, Cell, IsOwn, IsThere, address, IsFine}
+use Rattle.mv_statement_code.specs.Frames.{Site, Cell, IsOwn, IsThere, address, IsFine, Reach}
 use Rattle.mv_flow_code.specs.FlowCode.{are_fine}
-use Rattle.mv_flow_code.specs.Placed.{Placed}
+use Rattle.mv_flow_code.specs.Placed.{Text, Placed}
 use Rattle.mv_flow_code.specs.Runs.{Machine, IsRun}
 use Rattle.mv_call_code.specs.CallCode.{link_register, left_register, live_register}
 use Rattle.mv_call_code.specs.Convention.{Layout, IsTarget, IsAbove, frame_limit, depth_limit, Stands, FollowsCall, Conventions, Answers}
 use Rattle.mv_call_code.specs.Environment.{ServesKnown}
 use Rattle.mv_call_code.specs.Laws.{IsLinked}
 use Rattle.mv_function_code.specs.FunctionCode.{Shape, array_offset, bytes_of, later_lines, function_lines}
+use Rattle.mv_flow_code.specs.Laws.{uses_in}
 
 -- a word of the stack, and a word of the stack or of a global
 abbrev pub IsStack : Layout → ℕ → Type 0
@@ -51,14 +52,39 @@ module _ {M : Type 0} (access : Access M) (y : Layout) where
 
 -- the frame's own cells are words
 abbrev pub StandsInWords : Layout → Site → Type 0
-StandsInWords y s = (x : Cell) → IsOwn x → IsThere s x → IsWord y (address s x)
+StandsInWords y s = (x : Cell) → IsOwn s x → IsThere s x → IsWord y (address s x)
+
+-- Code may load the words of the stack, and those of the globals that it reads.
+pub record IsAmple (y : Layout) (reach : Reach) : Type 0 where
+  pub stack : (b : ℕ) → IsStack y b → reach.may_load b ≡ true
+  pub globals : (g i : ℕ) → reach.is_read g ≡ true → i < y.size g → reach.may_load (y.place g + 4 * i) ≡ true
+
+-- the part of a text from one address to another
+abbrev pub part : (from to : ℕ) → Text → Text
+part from to text = record {
+  word = λ a. cond (leb from a && ltb a to) (text.word a) None;
+  slot = λ a. cond (leb from a && ltb a to) (text.slot a) None;
+}
+
+-- the same run, where no other text stands
+abbrev pub alone : {M : Type 0} → Machine M → (from to : ℕ) → Machine M
+alone machine from to = record machine { text = part from to machine.text }
+
+-- a machine runs the code of frames that stand in words, where it loads no more than some code may
+abbrev pub RunsWithin : {M : Type 0} → Access M → Layout → Machine M → Reach → Type 0
+RunsWithin access y machine reach = (s : Site) → StandsInWords y s → ((a : ℕ) → s.reach.may_load a ≡ true → reach.may_load a ≡ true) → IsRun access s machine
+
+-- What stands from one address to another may load all that some code may: none of it is closed there. `closed` tells which addresses what stands at a
+-- place isn't to load.
+abbrev pub IsOpen : (closed : (pc address : ℕ) → Bool) → (from to : ℕ) → Reach → Type 0
+IsOpen closed from to reach = (pc a : ℕ) → from ≤ pc → pc < to → reach.may_load a ≡ true → closed pc a ≡ false
 
 -- a frame of a function, given its registers and what it is to leave alone
-abbrev pub site_of : Layout → (ℕ → Bool) → Shape → (register : ℕ → ℕ) → (is_kept : ℕ → Bool) → (kept : ℕ → ℕ) → Site
-site_of y is_read shape register is_kept kept = record {
+abbrev pub site_of : Layout → Reach → Shape → (register : ℕ → ℕ) → (is_kept : ℕ → Bool) → (kept : ℕ → ℕ) → Site
+site_of y reach shape register is_kept kept = record {
   place = y.place;
   size = y.size;
-  is_read = is_read;
+  reach = reach;
   entry = y.entry;
   may_ask = y.may_ask;
   temps = shape.temps;
@@ -82,26 +108,26 @@ main_frame bound = record { depth = 0; live = 0; bound = bound }
 
 -- A function whose frame is small enough, and whose code is fine for it. Each global that it may read has a word, and none of them is read
 -- as bound.
-pub record IsFunction (y : Layout) (setting : ir.Setting) (attributed : Bool) (bound : List (ℕ × ℕ)) (is_read : ℕ → Bool) (is_fine : Tree → Bool) (body : Body) : Type 0 where
+pub record IsFunction (y : Layout) (setting : ir.Setting) (attributed : Bool) (bound : List (ℕ × ℕ)) (reach : Reach) (is_fine : Tree → Bool) (body : Body) : Type 0 where
   pub params : body.params ≤ 8
   pub temps : body.params ≤ body.temps
   pub small : bytes_of (shape_of attributed body) ≤ frame_limit
-  pub read : (g : ℕ) → is_read g ≡ true → 0 < y.size g
-  pub free : (g : ℕ) → is_read g ≡ true → found bound g ≡ None
-  pub fine : are_fine is_fine y.may_ask body.temps (λ g. ltb 0 (y.size g)) body.code ≡ true
+  pub read : (g : ℕ) → reach.is_read g ≡ true → 0 < y.size g
+  pub free : (g : ℕ) → reach.is_read g ≡ true → found bound g ≡ None
+  pub fine : are_fine is_fine y.may_ask body.temps (uses_in y.size reach) body.code ≡ true
   pub trees : (t : Tree) → is_fine t ≡ true → (depth live : ℕ) (register : ℕ → ℕ) (is_kept : ℕ → Bool) (kept : ℕ → ℕ) →
-      IsFine (site_of y is_read (shape_of attributed body) register is_kept kept) setting (frame_in attributed bound depth live) t
+      IsFine (site_of y reach (shape_of attributed body) register is_kept kept) setting (frame_in attributed bound depth live) t
 
 -- Called with as many arguments as it has parameters, the code of a function does what its body means, given what its frame holds at first, in 44
 -- instructions more than that costs, and keeps the calling convention, over any functions that keep it at each lower bound.
 abbrev pub FunctionsKeep : Type 0 → Type 0
 FunctionsKeep M =
     (access : Access M) (y : Layout) → IsLaid y → (machine : Machine M) → IsMemory access y machine →
-    ((s : Site) → StandsInWords y s → IsRun access s machine) → (setting : ir.Setting) →
+    (setting : ir.Setting) →
     ((f : ℕ) → f < length setting.numbers → (slice_index setting.numbers f ≡ y.entry f) × IsPlace (y.entry f)) →
     (budget far : ℕ) → ServesKnown access y machine budget far setting → (levels : Bound) → Conventions access y machine budget far levels →
-    (attributed : Bool) (bound : List (ℕ × ℕ)) (is_read : ℕ → Bool) (is_fine : Tree → Bool) (body : Body) → IsFunction y setting attributed bound is_read is_fine body →
-    (place : ℕ → ℕ) → IsLinked y place → (is_attributed : ℕ → Bool) (pc next : ℕ) →
+    (attributed : Bool) (bound : List (ℕ × ℕ)) (reach : Reach) (is_fine : Tree → Bool) (body : Body) → IsAmple y reach → IsFunction y setting attributed bound reach is_fine body →
+    (place : ℕ → ℕ) → IsLinked y place → (is_attributed : ℕ → Bool) (pc next : ℕ) → RunsWithin access y (alone machine pc next) reach →
     Placed machine.text place y.entry (function_lines y.place y.size is_attributed (shape_of attributed body) body.code) pc next →
     (depth live : ℕ) (args : List ℕ) (back i : ℕ) → length args ≡ body.params → IsTarget back → reg (machine.run i).regs link_register ≡ back →
     (contents : Contents)
@@ -122,11 +148,11 @@ pub record LowersStack {M : Type 0} (machine : Machine M) (bytes mid i : ℕ) : 
 abbrev pub LaterKeeps : Type 0 → Type 0
 LaterKeeps M =
     (access : Access M) (y : Layout) → IsLaid y → (machine : Machine M) → IsMemory access y machine →
-    ((s : Site) → StandsInWords y s → IsRun access s machine) → (setting : ir.Setting) →
+    (setting : ir.Setting) →
     ((f : ℕ) → f < length setting.numbers → (slice_index setting.numbers f ≡ y.entry f) × IsPlace (y.entry f)) →
     (budget far : ℕ) → ServesKnown access y machine budget far setting → (levels : Bound) → Conventions access y machine budget far levels →
-    (attributed : Bool) (bound : List (ℕ × ℕ)) (is_read : ℕ → Bool) (is_fine : Tree → Bool) (body : Body) → IsFunction y setting attributed bound is_read is_fine body →
-    (place : ℕ → ℕ) → IsLinked y place → (is_attributed : ℕ → Bool) (pc mid next : ℕ) →
+    (attributed : Bool) (bound : List (ℕ × ℕ)) (reach : Reach) (is_fine : Tree → Bool) (body : Body) → IsAmple y reach → IsFunction y setting attributed bound reach is_fine body →
+    (place : ℕ → ℕ) → IsLinked y place → (is_attributed : ℕ → Bool) (pc mid next : ℕ) → RunsWithin access y (alone machine mid next) reach →
     Placed machine.text place y.entry (later_lines y.place y.size is_attributed (shape_of attributed body) body.code) mid next →
     (depth live : ℕ) (args : List ℕ) (back i : ℕ) → length args ≡ body.params → IsTarget back → reg (machine.run i).regs link_register ≡ back →
     LowersStack machine (bytes_of (shape_of attributed body)) mid i →
@@ -154,11 +180,11 @@ module _ {M : Type 0} (access : Access M) (y : Layout) (machine : Machine M) whe
 abbrev pub MainKeeps : Type 0 → Type 0
 MainKeeps M =
     (access : Access M) (y : Layout) → IsLaid y → (machine : Machine M) → IsMemory access y machine →
-    ((s : Site) → StandsInWords y s → IsRun access s machine) → (setting : ir.Setting) →
+    (setting : ir.Setting) →
     ((f : ℕ) → f < length setting.numbers → (slice_index setting.numbers f ≡ y.entry f) × IsPlace (y.entry f)) →
     (budget far : ℕ) → ServesKnown access y machine budget far setting → (levels : Bound) → Conventions access y machine budget far levels →
-    (bound : List (ℕ × ℕ)) (is_read : ℕ → Bool) (is_fine : Tree → Bool) (body : Body) → IsFunction y setting false bound is_read is_fine body → body.params ≡ 0 →
-    (place : ℕ → ℕ) → IsLinked y place → (is_attributed : ℕ → Bool) (pc next : ℕ) →
+    (bound : List (ℕ × ℕ)) (reach : Reach) (is_fine : Tree → Bool) (body : Body) → IsAmple y reach → IsFunction y setting false bound reach is_fine body → body.params ≡ 0 →
+    (place : ℕ → ℕ) → IsLinked y place → (is_attributed : ℕ → Bool) (pc next : ℕ) → RunsWithin access y (alone machine pc next) reach →
     Placed machine.text place y.entry (function_lines y.place y.size is_attributed (shape_of false body) body.code) pc next →
     (back i : ℕ) → IsTarget back → reg (machine.run i).regs link_register ≡ back →
     (contents : Contents)

@@ -1,3 +1,4 @@
 pub mod Encoded
 pub mod FunctionCode
 pub mod Functions
+pub mod Loads

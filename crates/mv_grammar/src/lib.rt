@@ -3,6 +3,16 @@
 //!
 //! A phrase is a list of terminals, tokens with their spelling. The nonterminals are relations
 //! between phrases and trees, production by production; no parser is in them.
+//!
+//! - `specs/` has the grammar as relations between terminals (tokens with their spelling) and trees, production by
+//!   production in the order of [docs/language.md](language.md): `Expressions`, `Declarations`, `Statements`, `Units`,
+//!   over the six words of `Language`. No parser is in them. Beside them stands what a reader without backtracking takes
+//!   (`ExpressionReader` to `UnitReader`), which the parser's code is proved against; `proofs/` shows that it takes
+//!   exactly the phrases, and breaks off exactly where none goes on.
+//! - `one_reading`: the same text and tokens are no two units (C11 6.8.4.1p3 included: an `else` has one `if`).
+//! - `one_verdict`: tokens either are a unit or break off at one place, and never both: those before the place begin a
+//!   unit, and those up to and with the one there begin none, whatever follows.
+//! - A crate of laws, without a test.
 #![tactic(auto)]
 
 ghost use Rattle.std.specs.Prelude.{◌≡◌, ◌⊎◌, ℕ, List};

@@ -1,6 +1,6 @@
 -- The course of a run through main: it ends in a stub, or goes on at least as long as was asked for.
-use Rattle.std.proofs.Common.{◌≡◌, ◌⊎◌, inl, inr, ⊎_elim, ℕ, ◌+◌, ◌-◌, ◌*◌, ◌%◌, ◌^◌, ◌<◌, ◌≤◌, true, List, [], length, Option, Some, None, refl, sym, ap, ◌∙◌, subst, arith}
-use Rattle.std.proofs.lemmas.Bool.{cases_lt, eqb-true}
+use Rattle.std.proofs.Common.{◌≡◌, ◌⊎◌, inl, inr, ⊎_elim, ℕ, ◌+◌, ◌-◌, ◌*◌, ◌%◌, ◌^◌, ◌<◌, ◌≤◌, zero, suc, Bool, true, false, not, List, [], ◌∷◌, length, Contains, slice_index_or, Option, Some, None, refl, sym, ap, ◌∙◌, subst, arith}
+use Rattle.std.proofs.lemmas.Bool.{cases_lt, eqb-true, and_parts}
 use Rattle.std.proofs.lemmas.List.{length-map}
 use Rattle.mv_ast.specs.declared.world.Action.{Action}
 use Rattle.mv_ast.specs.declared.program.Program.{Program}
@@ -23,12 +23,12 @@ use Rattle.mv_flow_code.specs.Runs.{Machine, outside}
 use Rattle.mv_call_code.specs.Convention.{Layout, FollowsCall}
 use Rattle.mv_machine_runs.specs.Calm.{Rest, IsCalm, is_calm}
 use Rattle.mv_machine_runs.specs.Laws.{CalmIsTested}
-use Rattle.mv_machine_runs.specs.MachineRuns.{access, machine_of, rest_of, spot_of, has_one_choice}
+use Rattle.mv_machine_runs.specs.MachineRuns.{access, machine_of, rest_of, spot_of, has_one_choice, opens, are_open, is_sound}
 use Rattle.mv_stub_runs.specs.Ends.{HasStopped, EndsAfter}
 use Rattle.mv_stub_runs.specs.Laws.{ExitIsRight, TrapIsRight}
 use Rattle.mv_stub_runs.specs.Stubs.{return_address}
 use Rattle.mv_stub_runs.proofs.Walked.{calm_inside}
-use Rattle.mv_image_runs.specs.Behaves.{IsWithin, IsWhole, EndsRight, HasDone, Behaves}
+use Rattle.mv_image_runs.specs.Behaves.{IsWithin, IsWhole, EndsRight, HasDone, Behaves, word_loads, LoadsWhatIsOpen}
 use Rattle.mv_image_runs.specs.Main.{HasStubs, main_cost, RunsMain}
 use Rattle.mv_image_runs.proofs.Growing.{run_grew, going_before}
 
@@ -60,9 +60,33 @@ cost_is w cost (Trapped c u) = refl
 cost_is w cost (More u) = refl
 cost_is w cost Stuck = refl
 
-one_choice : (s : State) → has_one_choice (spot_of s) ≡ true → choices_at s ≡ 1
-unfolding choices_at
-one_choice s h = eqb-true (length (choices s.room.held s.pc)) 1 h
+module _ (closed : (pc address : ℕ) → Bool) (s : State) (h : is_sound closed (spot_of s) ≡ true) where
+  parts : (has_one_choice (spot_of s) ≡ true) × (are_open (closed s.pc) s.regs (choices s.room.held s.pc) ≡ true)
+  parts = and_parts (has_one_choice (spot_of s)) (are_open (closed s.pc) s.regs (choices s.room.held s.pc)) h
+
+  one_choice : choices_at s ≡ 1
+  unfolding choices_at
+  one_choice = eqb-true (length (choices s.room.held s.pc)) 1 parts.0
+
+  -- a load is from an open address
+  opened : (o : Option ℕ) → opens (closed s.pc) o ≡ true → (a : ℕ) → o ≡ Some a → closed s.pc a ≡ false
+  opened None e a is = absurd cc
+  opened (Some b) e a is = let same : b ≡ a = cc in subst (λ z. closed s.pc z ≡ false) same (shut (closed s.pc b) e)
+    where
+      shut : (b : Bool) → not b ≡ true → b ≡ false
+      shut true e = absurd cc
+      shut false e = refl
+
+  loads_open : (words : List ℕ) → are_open (closed s.pc) s.regs words ≡ true → (word : ℕ) → Contains words word → (a : ℕ) → word_loads s.regs word ≡ Some a → closed s.pc a ≡ false
+  loads_open [] e word c a is = let few = c.1 in absurd (omega (arith, few))
+  loads_open (w ∷ words) e word c a is = at (λ rest. loads_open words p.1 word rest a is) c.0 c.1 c.2
+    where
+      p : (opens (closed s.pc) (word_loads s.regs w) ≡ true) × (are_open (closed s.pc) s.regs words ≡ true)
+      p = and_parts (opens (closed s.pc) (word_loads s.regs w)) (are_open (closed s.pc) s.regs words) e
+
+      at : (Contains words word → closed s.pc a ≡ false) → (k : ℕ) → k < length (w ∷ words) → slice_index_or (w ∷ words) k word ≡ word → closed s.pc a ≡ false
+      at others zero lt there = opened (word_loads s.regs w) p.0 a (ap (word_loads s.regs) there ∙ is)
+      at others (suc k) lt there = others (k, omega (arith, lt), there)
 
 module _ (bytes : List ℕ) where
   -- a world has taken what is missing of the input
@@ -108,26 +132,26 @@ module _ (bytes : List ℕ) where
     }
 
 module _ (tested : CalmIsTested) (exit_right : ExitIsRight) (trap_right : TrapIsRight)
-    (attributed : List ℕ) (p : Program) (image : Fields) (bytes : List ℕ) (actions : List Action) (picks : List ℕ) (y : Layout)
-    (stubs : HasStubs attributed image y) (main : RunsMain attributed p image bytes actions picks y) where
+    (attributed : List ℕ) (closed : (pc address : ℕ) → Bool) (p : Program) (image : Fields) (bytes : List ℕ) (actions : List Action) (picks : List ℕ) (y : Layout)
+    (stubs : HasStubs attributed image y) (main : RunsMain attributed closed p image bytes actions picks y) where
   abbrev input : List (Option ℕ)
   input = bytes_to_come bytes
 
   abbrev machine : Machine Rest
-  machine = machine_of attributed image input actions picks
+  machine = machine_of attributed closed image input actions picks
 
   abbrev state : ℕ → State
   state n = runs image input actions picks n
 
   abbrev IsSound : ℕ → Type 0
-  IsSound t = has_one_choice (spot_of (state t)) ≡ true
+  IsSound t = is_sound closed (spot_of (state t)) ≡ true
 
   -- the run ends in a stub as a meaning does
   record Ended (m : Meant) (budget : ℕ) : Type 0 where
     world : World
     last : ℕ
     stop : Stop
-    ends : EndsAfter image input actions picks world last stop
+    ends : EndsAfter closed image input actions picks world last stop
     soon : last ≤ budget + 2
     says : Says bytes m world
     over : stop ≡ Going → ⊥
@@ -156,12 +180,12 @@ module _ (tested : CalmIsTested) (exit_right : ExitIsRight) (trap_right : TrapIs
         let stands = f.1.stands in
         let paid = f.1.paid in
         let says = said bytes m (code.Exited (v % 256)) cost w x counts in
-        let ends = exit_right attributed image input actions picks stubs.place stubs.entry stubs.main_label stubs.start_ends stubs.start f.0 w
+        let ends = exit_right attributed closed image input actions picks stubs.place stubs.entry stubs.main_label stubs.start_ends stubs.start f.0 w
         (record { at = stands.at; calm = inside w f.0 stands.calm; sound = stands.sound }) in record {
           world = w;
           last = f.0 + 1;
           stop = Exit (v % 2 ^ 8);
-          ends = subst (λ (z : ℕ). EndsAfter image input actions picks w (f.0 + 1) (Exit (z % 2 ^ 8))) f.2 ends;
+          ends = subst (λ (z : ℕ). EndsAfter closed image input actions picks w (f.0 + 1) (Exit (z % 2 ^ 8))) f.2 ends;
           soon = omega (arith, paid);
           says = says;
           over = λ e. cc;
@@ -177,7 +201,7 @@ module _ (tested : CalmIsTested) (exit_right : ExitIsRight) (trap_right : TrapIs
           world = w;
           last = f.0 + 2;
           stop = Trap c;
-          ends = trap_right attributed image input actions picks c ge le stubs.place stubs.entry (y.trap c) (stubs.trap_ends c) placed f.0 w
+          ends = trap_right attributed closed image input actions picks c ge le stubs.place stubs.entry (y.trap c) (stubs.trap_ends c) placed f.0 w
               (record { at = f.1.at ∙ sym placed.1.label; calm = inside w f.0 f.1.calm; sound = f.1.sound });
           soon = omega (arith, paid);
           says = says;
@@ -290,8 +314,11 @@ module _ (tested : CalmIsTested) (exit_right : ExitIsRight) (trap_right : TrapIs
     late_sound : Late (meaning n) budget (n + 1) → IsSound n
     late_sound l = let asked = l.asked in l.sound n (omega (arith, asked))
 
+    sound : (state n).stop ≡ Going → IsSound n
+    sound going = ⊎_elim (λ (e : Ended (meaning n) budget). ended_sound e going) late_sound run_goes
+
     fetches : (state n).stop ≡ Going → choices_at (state n) ≡ 1
-    fetches going = one_choice (state n) (⊎_elim (λ (e : Ended (meaning n) budget). ended_sound e going) late_sound run_goes)
+    fetches going = one_choice closed (state n) (sound going)
 
   -- ---- all that is meant is done in time
 
@@ -305,5 +332,8 @@ module _ (tested : CalmIsTested) (exit_right : ExitIsRight) (trap_right : TrapIs
       late' : Late (meaning k) (n - 3) 0 → HasDone (state n) (meaning k)
       late' l = let soon = l.soon in calm_done (meaning k) l.world l.time l.calm l.says n (omega (arith, soon)) l.unfinished
 
-  pub behaves : Behaves p image bytes actions picks
-  behaves = record { within = within; ends = right; does = done; fetches = fetches }
+  pub behaves : Behaves p image bytes actions picks × LoadsWhatIsOpen image closed bytes actions picks
+  behaves = (
+    record { within = within; ends = right; does = done; fetches = fetches },
+    λ n a going word c is. loads_open closed (state n) (sound n going) (choices (state n).room.held (state n).pc) (parts closed (state n) (sound n going)).1 word c a is,
+  )

@@ -1,8 +1,11 @@
 -- What the run of an image does, by what a program means.
-use Rattle.std.specs.Prelude.{ℕ, ◌≡◌, ◌+◌, ◌-◌, ◌*◌, ◌^◌, ◌<◌, ◌≤◌, List, [], length, All}
+use Rattle.std.specs.Prelude.{ℕ, ◌≡◌, ◌+◌, ◌-◌, ◌*◌, ◌^◌, ◌<◌, ◌≤◌, Bool, false, List, [], length, All, Option, Some, option_and_then, Contains}
 use Rattle.mv_ast.specs.declared.world.Action.{Action}
 use Rattle.mv_ast.specs.declared.program.Program.{Program}
+use Rattle.mv_fetch.specs.Held.{choices}
 use Rattle.mv_image.specs.Spelling.{Fields}
+use Rattle.mv_isa.specs.Encoding.{decode}
+use Rattle.mv_function_code.specs.Loads.{loads_from}
 use Rattle.mv_machine.specs.Runs.{State, Stop, Going, Exit, Trap, Fault, bytes_to_come, choices_at, runs}
 use Rattle.mv_meaning.specs.declared.meant.End.{End}
 use Rattle.mv_meaning.specs.declared.meant.End.TheVariants as source
@@ -49,6 +52,16 @@ pub record Behaves (p : Program) (image : Fields) (bytes : List ℕ) (actions : 
   pub ends : (n : ℕ) → EndsRight bytes (runs image (bytes_to_come bytes) actions picks n) (mean p bytes [] n) (runs image (bytes_to_come bytes) actions picks n).stop
   pub does : (n k : ℕ) → 100 * (1 + (mean p bytes [] k).work) ≤ n → HasDone (runs image (bytes_to_come bytes) actions picks n) (mean p bytes [] k)
   pub fetches : (n : ℕ) → (runs image (bytes_to_come bytes) actions picks n).stop ≡ Going → choices_at (runs image (bytes_to_come bytes) actions picks n) ≡ 1
+
+-- where a word, read as an instruction, loads from, if it is a load
+abbrev pub word_loads : (regs : List ℕ) → ℕ → Option ℕ
+word_loads regs word = option_and_then (λ i. loads_from i regs) (decode word)
+
+-- No instruction of the run loads from an address that is closed to what stands at its place, whatever is picked.
+abbrev pub LoadsWhatIsOpen : Fields → (closed : (pc address : ℕ) → Bool) → (bytes : List ℕ) → List Action → (picks : List ℕ) → Type 0
+LoadsWhatIsOpen image closed bytes actions picks =
+    (n a : ℕ) → let s = runs image (bytes_to_come bytes) actions picks n in
+    s.stop ≡ Going → (word : ℕ) → Contains (choices s.room.held s.pc) word → word_loads s.regs word ≡ Some a → closed s.pc a ≡ false
 
 -- It does so on each input of bytes, with any actions, whatever is picked.
 abbrev pub BehavesAlways : Program → Fields → Type 0

@@ -1,5 +1,5 @@
 -- The two instructions of a body do what the body means.
-use Rattle.std.proofs.Common.{◌≡◌, ℕ, zero, suc, ◌+◌, ◌-◌, ◌<◌, ◌≤◌, ◌^◌, Bool, true, false, cond, ltb, List, [], ◌∷◌, length, Some, None, Contains, slice_index, refl, sym, ap, ◌∙◌, subst, arith}
+use Rattle.std.proofs.Common.{◌≡◌, ◌&&◌, ℕ, zero, suc, ◌+◌, ◌-◌, ◌<◌, ◌≤◌, ◌^◌, Bool, true, false, cond, ltb, List, [], ◌∷◌, length, Some, None, Contains, slice_index, refl, sym, ap, ◌∙◌, subst, arith}
 use Rattle.std.proofs.lemmas.Bool.{ltb-true}
 use Rattle.std.proofs.lemmas.List.{get_or_append_left}
 use Rattle.std.proofs.lemmas.Option.{none-some}
@@ -28,17 +28,18 @@ use Rattle.mv_ir.proofs.Rolls.{value_roll}
 use Rattle.mv_tree_code.specs.View.{View, names_layer, is_in_view}
 use Rattle.mv_tree_code.proofs.Rolls.{in_view_roll}
 use Rattle.mv_tree_code.proofs.TreesRun.{and_left}
-use Rattle.mv_statement_code.specs.Frames.{Site, view_of}
+use Rattle.mv_statement_code.specs.Frames.{Reach, view_of}
 use Rattle.mv_flow_code.specs.FlowCode.{are_fine, is_fine_statement}
-use Rattle.mv_flow_code.specs.Runs.{Machine, IsRun}
+use Rattle.mv_flow_code.specs.Runs.{Machine}
 use Rattle.mv_flow_code.proofs.StatementsDo.{fine_roll}
 use Rattle.mv_call_code.specs.Convention.{Layout, Stands, Enters, FollowsCall}
-use Rattle.mv_function_code.specs.Functions.{IsLaid, IsMemory, StandsInWords, IsFunction, frame_in, shape_of, site_of}
+use Rattle.mv_function_code.specs.Functions.{IsLaid, IsMemory, IsAmple, RunsWithin, IsFunction, frame_in, shape_of, site_of}
 use Rattle.mv_inline_bodies.specs.InlineOf.{parameter_pair, load_pair, store_pair, number_pair, return_layer, return_pair, set_layer, set_pair, statement_layer, statement_pair, code_pair, inline_of}
 use Rattle.mv_inline_bodies.specs.Laws.{ComesBack, IsDone, InlineAnswers}
 use Rattle.mv_inline_bodies.proofs.Stored.{set_in}
 use Rattle.mv_inline_bodies.proofs.Rooms.{reads_are}
 use Rattle.mv_inline_bodies.proofs.Shapes.{same_some, Shape, empty_done, number_done, parameter_done, load_done, store_done}
+use Rattle.mv_flow_code.specs.Laws.{uses_in}
 
 items_count : (n : ℕ) (f : ℕ → ℕ) → length (first_items n f) ≡ n
 items_count zero f = refl
@@ -54,8 +55,8 @@ chosen true a p e = same_some a p e
 chosen false a p e = absurd (none-some p e)
 
 module _ {M : Type 0} (access : Access M) (y : Layout) (laid : IsLaid y) (machine : Machine M) (memory : IsMemory access y machine)
-    (runs : (s : Site) → StandsInWords y s → IsRun access s machine) (setting : ir.Setting) (budget far : ℕ) (levels : Bound)
-    (attributed : Bool) (bound : List (ℕ × ℕ)) (is_read : ℕ → Bool) (is_fine : Tree → Bool) (body : Body) (fn : IsFunction y setting attributed bound is_read is_fine body)
+    (reach : Reach) (ample : IsAmple y reach) (runs : RunsWithin access y machine reach) (setting : ir.Setting) (budget far : ℕ) (levels : Bound)
+    (attributed : Bool) (bound : List (ℕ × ℕ)) (is_fine : Tree → Bool) (body : Body) (fn : IsFunction y setting attributed bound reach is_fine body)
     (at : ℕ) (here : IsPlace at) (depth live : ℕ) (args : List ℕ) (count : length args ≡ body.params) (contents : Contents) (k i spare : ℕ) (w : World)
     (stands : Stands access y machine budget far at w i) (enters : Enters access y machine budget far depth live args i)
     (paid : i + (spare + 2) ≤ budget) (asked : far ≤ i + k) where
@@ -70,13 +71,13 @@ module _ {M : Type 0} (access : Access M) (y : Layout) (laid : IsLaid y) (machin
   E code = body_end (code_meaning setting frame code levels s0).outcome
 
   abbrev S : Instr × Instr → End → Type 0
-  S = Shape access y laid machine memory runs budget far bound body at here depth live args k i spare w stands enters paid asked
+  S = Shape access y laid machine memory reach ample runs budget far bound body at here depth live args k i spare w stands enters paid asked
 
   abbrev Fine : List Stm → Bool
-  Fine = are_fine is_fine y.may_ask body.temps (λ g. ltb 0 (y.size g))
+  Fine = are_fine is_fine y.may_ask body.temps (uses_in y.size reach)
 
   abbrev Fine_statement : Stm → Bool
-  Fine_statement = is_fine_statement is_fine y.may_ask body.temps (λ g. ltb 0 (y.size g))
+  Fine_statement = is_fine_statement is_fine y.may_ask body.temps (uses_in y.size reach)
 
   -- ---- what a tree names is there
 
@@ -84,7 +85,7 @@ module _ {M : Type 0} (access : Access M) (y : Layout) (laid : IsLaid y) (machin
   shown = record { temps = first_items body.temps (λ i. 0); arrays = []; world = w }
 
   abbrev V : View
-  V = view_of (site_of y is_read (shape_of attributed body) (λ q. 0) (λ b. false) (λ b. 0)) setting frame (record { temps = first_items body.temps (λ i. 0); arrays = []; world = w })
+  V = view_of (site_of y reach (shape_of attributed body) (λ q. 0) (λ b. false) (λ b. 0)) setting frame (record { temps = first_items body.temps (λ i. 0); arrays = []; world = w })
 
   named : (x : Tree-F Tree) → is_fine (roll-Tree x) ≡ true → names_layer V (map-Tree Tree Bool (is_in_view V) x) ≡ true
   named x e =
@@ -95,11 +96,11 @@ module _ {M : Type 0} (access : Access M) (y : Layout) (laid : IsLaid y) (machin
   fine_alone x e = and_left (Fine_statement (roll-Stm x)) true e
 
   returned_fine : (v : Tree) → Fine (roll-Stm (stm.Return v) ∷ []) ≡ true → is_fine v ≡ true
-  returned_fine v e = sym (fine_roll is_fine y.may_ask body.temps (λ g. ltb 0 (y.size g)) (stm.Return v)) ∙ fine_alone (stm.Return v) e
+  returned_fine v e = sym (fine_roll is_fine y.may_ask body.temps (uses_in y.size reach) (stm.Return v)) ∙ fine_alone (stm.Return v) e
 
   stored_there : (g : ℕ) (v : Tree) → Fine (roll-Stm (stm.SetGlobal g v) ∷ []) ≡ true → 0 < y.size g
   stored_there g v e =
-      ltb-true 0 (y.size g) (and_left (ltb 0 (y.size g)) (is_fine v) (sym (fine_roll is_fine y.may_ask body.temps (λ g. ltb 0 (y.size g)) (stm.SetGlobal g v)) ∙ fine_alone (stm.SetGlobal g v) e))
+      ltb-true 0 (y.size g) (and_left (ltb 0 (y.size g)) (reach.is_written g) (and_left (ltb 0 (y.size g) && reach.is_written g) (is_fine v) (sym (fine_roll is_fine y.may_ask body.temps (uses_in y.size reach) (stm.SetGlobal g v)) ∙ fine_alone (stm.SetGlobal g v) e)))
 
   -- the global that is returned is one that the code reads
   read_alone : (g : ℕ) → Contains (scalars_read (roll-Stm (stm.Return (roll-Tree (tree.Global g))) ∷ [])) g
@@ -131,17 +132,17 @@ module _ {M : Type 0} (access : Access M) (y : Layout) (laid : IsLaid y) (machin
       → body.code ≡ roll-Stm (stm.Return (roll-Tree x)) ∷ [] → S p (E (roll-Stm (stm.Return (roll-Tree x)) ∷ []))
   of_return (tree.Number n) p e fine is =
       as_shape (number_pair n) p (Returned (Some n) w) (E (roll-Stm (stm.Return (roll-Tree (tree.Number n))) ∷ [])) (same_some (number_pair n) p e) (returns (tree.Number n))
-      (number_done access y laid machine memory runs budget far bound body at here depth live args k i spare w stands enters paid asked n (ltb-true n (2 ^ 32) (named (tree.Number n) (returned_fine (roll-Tree (tree.Number n)) fine))))
+      (number_done access y laid machine memory reach ample runs budget far bound body at here depth live args k i spare w stands enters paid asked n (ltb-true n (2 ^ 32) (named (tree.Number n) (returned_fine (roll-Tree (tree.Number n)) fine))))
   of_return (tree.Temp t) p e fine is =
       let lt = is_argument t (chosen_test (ltb t body.params) (parameter_pair t) p e) in
       as_shape (parameter_pair t) p (Returned (Some (slice_index args t)) w) (E (roll-Stm (stm.Return (roll-Tree (tree.Temp t))) ∷ [])) (chosen (ltb t body.params) (parameter_pair t) p e)
       (returns (tree.Temp t) ∙ ap (λ v. Returned (Some v) w) (argument t lt))
-      (parameter_done access y laid machine memory runs budget far bound body at here depth live args k i spare w stands enters paid asked t lt)
+      (parameter_done access y laid machine memory reach ample runs budget far bound body at here depth live args k i spare w stands enters paid asked t lt)
   of_return (tree.Global g) p e fine is =
-      let reads : is_read g ≡ true = named (tree.Global g) (returned_fine (roll-Tree (tree.Global g)) fine) in
+      let reads : reach.is_read g ≡ true = named (tree.Global g) (returned_fine (roll-Tree (tree.Global g)) fine) in
       as_shape (load_pair (y.place g)) p (Returned (Some (scalar w.globals g)) w) (E (roll-Stm (stm.Return (roll-Tree (tree.Global g))) ∷ [])) (same_some (load_pair (y.place g)) p e)
       (returns (tree.Global g) ∙ ap (λ o. Returned (Some (read_as o (scalar w.globals g))) w) (fn.free g reads))
-      (load_done access y laid machine memory runs budget far bound body at here depth live args k i spare w stands enters paid asked g (fn.read g reads) (subst (λ c. Contains (scalars_read c) g) (sym is) (read_alone g)) (fn.free g reads))
+      (load_done access y laid machine memory reach ample runs budget far bound body at here depth live args k i spare w stands enters paid asked g reads (fn.read g reads) (subst (λ c. Contains (scalars_read c) g) (sym is) (read_alone g)) (fn.free g reads))
   of_return (tree.Function f) p e fine is = absurd (none-some p e)
   of_return (tree.Unary o a) p e fine is = absurd (none-some p e)
   of_return (tree.Binary o a b) p e fine is = absurd (none-some p e)
@@ -153,7 +154,7 @@ module _ {M : Type 0} (access : Access M) (y : Layout) (laid : IsLaid y) (machin
       let lt = is_argument t (chosen_test (ltb t body.params) (store_pair (y.place g) t) p e) in
       as_shape (store_pair (y.place g) t) p (Returned None (set_in w g (slice_index args t))) (E (roll-Stm (stm.SetGlobal g (roll-Tree (tree.Temp t))) ∷ []))
       (chosen (ltb t body.params) (store_pair (y.place g) t) p e) (sets g (tree.Temp t) ∙ ap (λ v. Returned None (set_in w g v)) (argument t lt))
-      (store_done access y laid machine memory runs budget far bound body at here depth live args k i spare w stands enters paid asked g t (stored_there g (roll-Tree (tree.Temp t)) fine) lt)
+      (store_done access y laid machine memory reach ample runs budget far bound body at here depth live args k i spare w stands enters paid asked g t (stored_there g (roll-Tree (tree.Temp t)) fine) lt)
   of_set g (tree.Number n) p e fine = absurd (none-some p e)
   of_set g (tree.Global h) p e fine = absurd (none-some p e)
   of_set g (tree.Function f) p e fine = absurd (none-some p e)
@@ -183,7 +184,7 @@ module _ {M : Type 0} (access : Access M) (y : Layout) (laid : IsLaid y) (machin
 
   of_code : (code : List Stm) (p : Instr × Instr) → code_pair y.place body.params code ≡ Some p → Fine code ≡ true → body.code ≡ code → S p (E code)
   unfolding statement_pair
-  of_code [] p e fine is = as_shape _ p (Returned None w) (E []) (same_some _ p e) refl (empty_done access y laid machine memory runs budget far bound body at here depth live args k i spare w stands enters paid asked)
+  of_code [] p e fine is = as_shape _ p (Returned None w) (E []) (same_some _ p e) refl (empty_done access y laid machine memory reach ample runs budget far bound body at here depth live args k i spare w stands enters paid asked)
   of_code (s ∷ []) p e fine is = subst (λ z. Fine (z ∷ []) ≡ true → body.code ≡ z ∷ [] → S p (E (z ∷ []))) (roll-out-Stm s) (of_statement (out-Stm s) p e) fine is
   of_code (s ∷ t ∷ code) p e fine is = absurd (none-some p e)
 
@@ -201,6 +202,6 @@ follows access y machine budget far spare k i back (More w) c = absurd c
 follows access y machine budget far spare k i back Stuck c = absurd c
 
 pub inline_answers : (M : Type 0) → InlineAnswers M
-inline_answers M access y laid machine memory runs setting budget far levels attributed bound is_read is_fine body fn one two is at here p q depth live args count contents k i spare w stands enters paid asked =
+inline_answers M access y laid machine memory reach ample runs setting budget far levels attributed bound is_fine body fn one two is at here p q depth live args count contents k i spare w stands enters paid asked =
     follows access y machine budget far spare k i (at + 8) (body_from setting (frame_in attributed bound depth live) contents body args levels w).end
-    (inline_done access y laid machine memory runs setting budget far levels attributed bound is_read is_fine body fn at here depth live args count contents k i spare w stands enters (omega (arith, paid)) asked one two is p q).comes
+    (inline_done access y laid machine memory reach ample runs setting budget far levels attributed bound is_fine body fn at here depth live args count contents k i spare w stands enters (omega (arith, paid)) asked one two is p q).comes

@@ -1,5 +1,5 @@
 -- What the two instructions of each shape do.
-use Rattle.std.proofs.Common.{◌≡◌, ◌≢◌, inl, ⊎_elim, ℕ, ◌+◌, ◌<◌, ◌≤◌, ◌^◌, Bool, cond, eqb, List, length, pos, Some, None, Contains, slice_index, refl, sym, ap, ◌∙◌, subst, arith}
+use Rattle.std.proofs.Common.{◌≡◌, ◌≢◌, inl, ⊎_elim, ℕ, ◌+◌, ◌*◌, ◌<◌, ◌≤◌, ◌^◌, Bool, true, cond, eqb, List, length, pos, Some, None, Contains, slice_index, refl, sym, ap, ◌∙◌, subst, arith}
 use Rattle.std.proofs.lemmas.Bool.{cases_eq, eq-eqb, ne_eqb}
 use Rattle.std.proofs.lemmas.Option.{none-some}
 use Rattle.mv_num.specs.Words.{word_of, add}
@@ -20,14 +20,15 @@ use Rattle.mv_tree_code.proofs.Instructions.{lui_sets, lw_sets, addi_sets}
 use Rattle.mv_tree_code.proofs.Registers.{reg_zero, put_same, put_other, put_registers}
 use Rattle.mv_tree_code.proofs.Words.{word_of_pos, zero_add, parts_add, lower_add, upper_below}
 use Rattle.mv_statement_code.specs.StatementCode.{first}
-use Rattle.mv_statement_code.specs.Frames.{Site}
+use Rattle.mv_statement_code.specs.Frames.{Reach}
 use Rattle.mv_statement_code.proofs.Walks.{sw_moves}
-use Rattle.mv_flow_code.specs.Runs.{Machine, IsRun}
+use Rattle.mv_flow_code.specs.Runs.{Machine}
 use Rattle.mv_call_code.specs.Convention.{Layout, Stands, Enters}
-use Rattle.mv_function_code.specs.Functions.{IsLaid, IsMemory, StandsInWords}
+use Rattle.mv_function_code.specs.Functions.{IsLaid, IsMemory, IsAmple, RunsWithin}
 use Rattle.mv_inline_bodies.specs.InlineOf.{address_register, number_pair, parameter_pair, load_pair, store_pair}
-use Rattle.mv_inline_bodies.specs.Laws.{loads_from, LoadsRead, IsDone}
-use Rattle.mv_inline_bodies.proofs.Steps.{globals_site, nop_sets, begun, two_steps, Came, comes}
+use Rattle.mv_function_code.specs.Loads.{loads_from}
+use Rattle.mv_inline_bodies.specs.Laws.{LoadsRead, IsDone}
+use Rattle.mv_inline_bodies.proofs.Steps.{globals_site, own, nop_sets, begun, two_steps, Came, comes}
 use Rattle.mv_inline_bodies.proofs.Stored.{set_in, Put, stored_global}
 
 pub same_some : {A : Type 0} (a b : A) → Some a ≡ Some b → a ≡ b
@@ -37,7 +38,7 @@ no_load : (y : Layout) (bound : List (ℕ × ℕ)) (body : Body) (i : Instr) (re
 no_load y bound body i regs none a e = absurd (none-some a (sym none ∙ e))
 
 module _ {M : Type 0} (access : Access M) (y : Layout) (laid : IsLaid y) (machine : Machine M) (memory : IsMemory access y machine)
-    (runs : (s : Site) → StandsInWords y s → IsRun access s machine) (budget far : ℕ) (bound : List (ℕ × ℕ)) (body : Body)
+    (reach : Reach) (ample : IsAmple y reach) (runs : RunsWithin access y machine reach) (budget far : ℕ) (bound : List (ℕ × ℕ)) (body : Body)
     (at : ℕ) (here : IsPlace at) (depth live : ℕ) (args : List ℕ) (k i spare : ℕ) (w : World)
     (stands : Stands access y machine budget far at w i) (enters : Enters access y machine budget far depth live args i)
     (paid : i + (spare + 2) ≤ budget) (asked : far ≤ i + k) where
@@ -48,7 +49,7 @@ module _ {M : Type 0} (access : Access M) (y : Layout) (laid : IsLaid y) (machin
   m = (machine.run i).memory
 
   abbrev C : World → List ℕ → List ℕ → Type 0
-  C w' mid after = Came access y machine runs budget far w' mid after spare k i (at + 8)
+  C w' mid after = Came access y machine reach runs budget far w' mid after spare k i (at + 8)
 
   -- what is to be shown of a pair of instructions and a body's end
   abbrev pub Shape : Instr × Instr → End → Type 0
@@ -60,10 +61,10 @@ module _ {M : Type 0} (access : Access M) (y : Layout) (laid : IsLaid y) (machin
 
   -- instructions that leave memory alone
   same_memory : (one two : Instr) (mid after : List ℕ) → InstrStands machine.text.word at one → InstrStands machine.text.word (at + 4) two
-      → Sets access m one R mid → Sets access m two mid after → AreRegisters after → Others after → C w mid after
+      → Sets (own access y machine reach runs budget far) m one R mid → Sets (own access y machine reach runs budget far) m two mid after → AreRegisters after → Others after → C w mid after
   same_memory one two mid after p q does then are others =
-      comes access y machine runs budget far w w at spare k i mid after m refl are others stands.globals (λ b s. refl) paid asked
-      (two_steps access y machine runs budget far one two at here p q w R mid after m m i does then (inl refl) (begun access y machine runs budget far w at i stands))
+      comes access y machine reach runs budget far w w at spare k i mid after m refl are others stands.globals (λ b s. refl) paid asked
+      (two_steps access y machine reach runs budget far one two at here p q w R mid after m m i does then (inl refl) (begun access y machine reach runs budget far w at i stands))
 
   no_value : (one two : Instr) (w' : World) (mid after : List ℕ) → C w' mid after → Others after → LoadsRead y bound body one R → LoadsRead y bound body two mid
       → IsDone access y machine budget far bound body one two spare k i (at + 8) (Returned None w')
@@ -93,15 +94,15 @@ module _ {M : Type 0} (access : Access M) (y : Layout) (laid : IsLaid y) (machin
   result_are v regs are small = put_registers regs first v are (omega arith) (omega arith) small
 
   -- a value in one instruction, and in two, of which the first leaves another in a0
-  by_one : (one : Instr) (v : ℕ) → v < 2 ^ 32 → Sets access m one R (put R first v) → loads_from one R ≡ None → Shape (one, nop) (Returned (Some v) w)
+  by_one : (one : Instr) (v : ℕ) → v < 2 ^ 32 → Sets (own access y machine reach runs budget far) m one R (put R first v) → loads_from one R ≡ None → Shape (one, nop) (Returned (Some v) w)
   by_one one v small does none p q =
       let after = put R first v in
       let are = result_are v R stands.are small in
       let others : Others (put (machine.run i).regs first v) = result_other v R (λ r n n'. refl) in
-      with_value one nop v w after after (same_memory one nop after after p q does (nop_sets access m after) are others) others (result_same v R stands.are)
+      with_value one nop v w after after (same_memory one nop after after p q does (nop_sets (own access y machine reach runs budget far) m after) are others) others (result_same v R stands.are)
       (no_load y bound body one R none) (no_load y bound body nop after refl)
 
-  by_two : (one two : Instr) (u v : ℕ) → u < 2 ^ 32 → v < 2 ^ 32 → Sets access m one R (put R first u) → Sets access m two (put R first u) (put (put R first u) first v)
+  by_two : (one two : Instr) (u v : ℕ) → u < 2 ^ 32 → v < 2 ^ 32 → Sets (own access y machine reach runs budget far) m one R (put R first u) → Sets (own access y machine reach runs budget far) m two (put R first u) (put (put R first u) first v)
       → loads_from one R ≡ None → LoadsRead y bound body two (put R first u) → Shape (one, two) (Returned (Some v) w)
   by_two one two u v low small does then none loads p q =
       let mid = put R first u in
@@ -115,7 +116,7 @@ module _ {M : Type 0} (access : Access M) (y : Layout) (laid : IsLaid y) (machin
 
   pub empty_done : Shape (nop, nop) (Returned None w)
   empty_done p q =
-      no_value nop nop w R R (same_memory nop nop R R p q (nop_sets access m R) (nop_sets access m R) stands.are (λ r n n'. refl)) (λ r n n'. refl)
+      no_value nop nop w R R (same_memory nop nop R R p q (nop_sets (own access y machine reach runs budget far) m R) (nop_sets (own access y machine reach runs budget far) m R) stands.are (λ r n n'. refl)) (λ r n n'. refl)
       (no_load y bound body nop R refl) (no_load y bound body nop R refl)
 
   -- ---- a constant
@@ -130,14 +131,14 @@ module _ {M : Type 0} (access : Access M) (y : Layout) (laid : IsLaid y) (machin
       short : upper_bits n ≡ 0 → Shape (by_length n (eqb (upper_bits n) 0)) (Returned (Some n) w)
       short e =
           subst (λ is_short. Shape (by_length n is_short) (Returned (Some n) w)) (sym (eq-eqb (upper_bits n) 0 e))
-          (by_one (Addi first 0 (lower_bits n)) n small (addi_sets access m first 0 (lower_bits n) R 0 (word_of (lower_bits n)) n (reg_zero R) refl (lower_add n small e)) refl)
+          (by_one (Addi first 0 (lower_bits n)) n small (addi_sets (own access y machine reach runs budget far) m first 0 (lower_bits n) R 0 (word_of (lower_bits n)) n (reg_zero R) refl (lower_add n small e)) refl)
 
       long : (upper_bits n ≡ 0 → ⊥) → Shape (by_length n (eqb (upper_bits n) 0)) (Returned (Some n) w)
       long ne =
           let up = upper (pos (upper_bits n)) in
           subst (λ is_short. Shape (by_length n is_short) (Returned (Some n) w)) (sym (ne_eqb (upper_bits n) 0 ne))
-          (by_two (Lui first (pos (upper_bits n))) (Addi first first (lower_bits n)) up n (upper_below n) small (lui_sets access m first (pos (upper_bits n)) R up refl)
-          (addi_sets access m first first (lower_bits n) (put R first up) up (word_of (lower_bits n)) n (result_same up R stands.are) refl (parts_add n small))
+          (by_two (Lui first (pos (upper_bits n))) (Addi first first (lower_bits n)) up n (upper_below n) small (lui_sets (own access y machine reach runs budget far) m first (pos (upper_bits n)) R up refl)
+          (addi_sets (own access y machine reach runs budget far) m first first (lower_bits n) (put R first up) up (word_of (lower_bits n)) n (result_same up R stands.are) refl (parts_add n small))
           refl (no_load y bound body (Addi first first (lower_bits n)) (put R first up) refl))
 
   -- ---- a parameter
@@ -152,7 +153,7 @@ module _ {M : Type 0} (access : Access M) (y : Layout) (laid : IsLaid y) (machin
   parameter_done t lt =
       let v = slice_index args t in
       by_one (Addi first (first + t) (pos 0)) v (parameter_small t lt)
-      (addi_sets access m first (first + t) (pos 0) R v 0 v (parameter_is t lt) (word_of_pos 0 (omega arith)) (zero_add v (parameter_small t lt))) refl
+      (addi_sets (own access y machine reach runs budget far) m first (first + t) (pos 0) R v 0 v (parameter_is t lt) (word_of_pos 0 (omega arith)) (zero_add v (parameter_small t lt))) refl
 
   -- ---- a global scalar
 
@@ -162,15 +163,18 @@ module _ {M : Type 0} (access : Access M) (y : Layout) (laid : IsLaid y) (machin
   place_small : (g : ℕ) → 0 < y.size g → y.place g < 2 ^ 32
   place_small g lt = omega (arith, laid.addresses g 0 lt)
 
-  pub load_done : (g : ℕ) → 0 < y.size g → Contains (scalars_read body.code) g → found bound g ≡ None → Shape (load_pair (y.place g)) (Returned (Some (scalar w.globals g)) w)
-  load_done g lt reads free =
+  pub load_done : (g : ℕ) → reach.is_read g ≡ true → 0 < y.size g → Contains (scalars_read body.code) g → found bound g ≡ None → Shape (load_pair (y.place g)) (Returned (Some (scalar w.globals g)) w)
+  load_done g read lt reads free =
       let a = y.place g in
       let up = upper (pos (upper_bits a)) in
       let mid = put R first up in
       let to : add (reg mid first) (word_of (lower_bits a)) ≡ a = parts a first mid (place_small g lt) (result_same up R stands.are) in
-      let loads : access.load m a 4 ≡ Some (scalar w.globals g) = ap (λ b. access.load m b 4) (omega arith) ∙ stands.globals.loads g 0 lt in
+      let same : a ≡ y.place g + 4 * 0 = omega arith in
+      let may : reach.may_load a ≡ true = ap reach.may_load same ∙ ample.globals g 0 read lt in
+      let loads : (own access y machine reach runs budget far).load m a 4 ≡ Some (scalar w.globals g) =
+      ap (λ c. cond c (access.load m a 4) None) may ∙ ap (λ b. access.load m b 4) same ∙ stands.globals.loads g 0 lt in
       by_two (Lui first (pos (upper_bits a))) (Lw first first (lower_bits a)) up (scalar w.globals g) (upper_below a) (stands.globals.words g 0 lt)
-      (lui_sets access m first (pos (upper_bits a)) R up refl) (lw_sets access m first first (lower_bits a) mid a (scalar w.globals g) to loads)
+      (lui_sets (own access y machine reach runs budget far) m first (pos (upper_bits a)) R up refl) (lw_sets (own access y machine reach runs budget far) m first first (lower_bits a) mid a (scalar w.globals g) to loads)
       refl (λ b e. (g, reads, free, sym (same_some (add (reg mid first) (word_of (lower_bits a))) b e) ∙ to))
 
   -- ---- a store of a parameter
@@ -184,14 +188,14 @@ module _ {M : Type 0} (access : Access M) (y : Layout) (laid : IsLaid y) (machin
       let one = Lui address_register (pos (upper_bits a)) in
       let two = Sw address_register (first + t) (lower_bits a) in
       let room = enters.room in
-      let stored : Put access y laid machine memory budget far w m g v (reg (machine.run i).regs 2) =
-      stored_global access y laid machine memory budget far w m g v (reg R 2) lt (parameter_small t few) (omega (arith, room)) stands.globals in
+      let stored : Put access y laid machine memory reach budget far w m g v (reg (machine.run i).regs 2) =
+      stored_global access y laid machine memory reach budget far w m g v (reg R 2) lt (parameter_small t few) (omega (arith, room)) stands.globals in
       let to : add (reg mid address_register) (word_of (lower_bits a)) ≡ a =
       parts a address_register mid (place_small g lt) (put_same R address_register up (omega arith) (omega (arith, stands.are.count))) in
       let value : reg mid (first + t) ≡ v = put_other R address_register (first + t) up (omega arith) (λ e. omega (arith, e)) ∙ parameter_is t few in
       let others : Others (put (machine.run i).regs address_register (upper (pos (upper_bits (y.place g))))) = λ r n n'. put_other R address_register r up (omega arith) n' in
-      let came = comes access y machine runs budget far w (set_in w g v) at spare k i mid mid stored.after refl
+      let came = comes access y machine reach runs budget far w (set_in w g v) at spare k i mid mid stored.after refl
       (put_registers R address_register up stands.are (omega arith) (omega arith) (upper_below a)) others stored.globals stored.stack paid asked
-      (two_steps access y machine runs budget far one two at here p q w R mid mid m stored.after i (lui_sets access m address_register (pos (upper_bits a)) R up refl)
-      (sw_moves access (globals_site y) address_register (first + t) (lower_bits a) mid m stored.after a v to value stored.stored) stored.writes (begun access y machine runs budget far w at i stands)) in
+      (two_steps access y machine reach runs budget far one two at here p q w R mid mid m stored.after i (lui_sets (own access y machine reach runs budget far) m address_register (pos (upper_bits a)) R up refl)
+      (sw_moves (own access y machine reach runs budget far) (globals_site y reach) address_register (first + t) (lower_bits a) mid m stored.after a v to value stored.stored) stored.writes (begun access y machine reach runs budget far w at i stands)) in
       no_value one two (set_in w g v) mid mid came others (no_load y bound body one R refl) (no_load y bound body two mid refl)

@@ -20,8 +20,8 @@ pair_of None a b e = absurd (none-some (a ∷ b ∷ []) e)
 pair_of (Some p) a b e = record { one = p.0; two = p.1; is = refl; first_word = cc; second_word = cc }
 
 pub inline_words_answer : (M : Type 0) → InlineWordsAnswer M
-inline_words_answer M access y laid machine memory runs setting budget far levels attributed bound is_read is_fine body fn a b is at here p q depth live args count contents k i =
-    inline_answers M access y laid machine memory runs setting budget far levels attributed bound is_read is_fine body fn pair.one pair.two pair.is at here
+inline_words_answer M access y laid machine memory reach ample runs setting budget far levels attributed bound is_fine body fn a b is at here p q depth live args count contents k i =
+    inline_answers M access y laid machine memory reach ample runs setting budget far levels attributed bound is_fine body fn pair.one pair.two pair.is at here
     (record { fields = fit.0; word = p ∙ ap Some (sym pair.first_word) }) (record { fields = fit.1; word = q ∙ ap Some (sym pair.second_word) }) depth live args count contents k i
   where
     pair : Pair (inline_of y.place body) a b

@@ -14,22 +14,22 @@ use Rattle.mv_tree_code.proofs.Instructions.{addi_sets}
 use Rattle.mv_tree_code.proofs.Registers.{reg_zero}
 use Rattle.mv_tree_code.proofs.Words.{word_of_pos, add_zero}
 use Rattle.mv_statement_code.specs.StatementCode.{first}
-use Rattle.mv_statement_code.specs.Frames.{Site, TempCell, Element, Kept}
-use Rattle.mv_statement_code.specs.Leads.{Writes}
+use Rattle.mv_statement_code.specs.Frames.{Reach, Site, TempCell, Element, Kept}
+use Rattle.mv_statement_code.specs.Leads.{limited, Writes}
 use Rattle.mv_statement_code.proofs.TreesFirst.{add_small}
 use Rattle.mv_flow_code.specs.Runs.{Spot, Machine, outside, IsRun}
 use Rattle.mv_flow_code.proofs.Walk as walk
 use Rattle.mv_flow_code.proofs.Walk.{steps_on, stands_at}
 use Rattle.mv_call_code.specs.Convention.{Layout, IsSaved, IsAbove, HoldsGlobals, Stands, Returns}
-use Rattle.mv_function_code.specs.Functions.{StandsInWords}
+use Rattle.mv_function_code.specs.Functions.{StandsInWords, RunsWithin}
 use Rattle.mv_inline_bodies.specs.InlineOf.{address_register}
 
 -- a frame that has no cells but the words of globals
-abbrev pub globals_site : Layout → Site
-globals_site y = record {
+abbrev pub globals_site : Layout → Reach → Site
+globals_site y reach = record {
   place = y.place;
   size = y.size;
-  is_read = λ g. false;
+  reach = record { is_read = λ g. false; is_written = λ g. true; may_load = reach.may_load };
   entry = y.entry;
   may_ask = y.may_ask;
   temps = 0;
@@ -40,11 +40,11 @@ globals_site y = record {
   kept = λ b. 0;
 }
 
-pub globals_stand : (y : Layout) → StandsInWords y (globals_site y)
-globals_stand y (TempCell t) own h = absurd (omega (arith, h.1))
-globals_stand y (Element (array.Global g) i) own h = inr (g, i, h, refl)
-globals_stand y (Element (array.Local a) i) own h = absurd (omega (arith, h))
-globals_stand y (Kept b) own h = absurd own
+pub globals_stand : (y : Layout) (reach : Reach) → StandsInWords y (globals_site y reach)
+globals_stand y reach (TempCell t) own h = absurd (omega (arith, h.1))
+globals_stand y reach (Element (array.Global g) i) own h = inr (g, i, h, refl)
+globals_stand y reach (Element (array.Local a) i) own h = absurd (omega (arith, h))
+globals_stand y reach (Kept b) own h = absurd own
 
 -- what a callee sets back is neither a0 nor t0
 saved_result : (q : ℕ) → IsSaved q → q ≢ first
@@ -66,24 +66,27 @@ nop_sets access m regs pc =
     addi_sets access m 0 0 (pos 0) regs 0 0 0 (reg_zero regs) (word_of_pos 0 (omega arith)) (add_zero 0 (omega arith)) pc
     ∙ ap (λ r. Goes r (add pc 4) m) (put_zero regs 0)
 
-module _ {M : Type 0} (access : Access M) (y : Layout) (machine : Machine M) (runs : (s : Site) → StandsInWords y s → IsRun access s machine) (budget far : ℕ) where
-  abbrev pub ok : IsRun access (globals_site y) machine
-  ok = runs (globals_site y) (globals_stand y)
+module _ {M : Type 0} (access : Access M) (y : Layout) (machine : Machine M) (reach : Reach) (runs : RunsWithin access y machine reach) (budget far : ℕ) where
+  abbrev pub ok : IsRun access (globals_site y reach) machine
+  ok = runs (globals_site y reach) (globals_stand y reach) (λ a h. h)
+
+  abbrev pub own : Access M
+  own = limited access (globals_site y reach)
 
   abbrev pub W : World → ℕ → List ℕ → M → ℕ → Type 0
-  W = walk.Stands access (globals_site y) machine ok y.entry 0 budget far
+  W = walk.Stands access (globals_site y reach) machine ok y.entry 0 budget far
 
   pub begun : (w : World) (pc i : ℕ) → Stands access y machine budget far pc w i → W w pc (machine.run i).regs (machine.run i).memory i
   begun w pc i h =
-      stands_at access (globals_site y) machine ok y.entry 0 budget far w (machine.run i).pc pc (machine.run i).regs (machine.run i).memory i h.at
+      stands_at access (globals_site y reach) machine ok y.entry 0 budget far w (machine.run i).pc pc (machine.run i).regs (machine.run i).memory i h.at
       (record { is = refl; calm = h.calm; sound = h.sound })
 
   -- one instruction that stands in text
   one_step : (j : Instr) (pc next : ℕ) (w : World) (regs after : List ℕ) (m m' : M) (i : ℕ) → InstrStands machine.text.word pc j → add pc 4 ≡ next
-      → ((pc : ℕ) → execute access j regs pc m ≡ Goes after (add pc 4) m') → Writes access (globals_site y) m m' → W w pc regs m i → W w next after m' (i + 1)
+      → ((pc : ℕ) → execute own j regs pc m ≡ Goes after (add pc 4) m') → Writes access (globals_site y reach) m m' → W w pc regs m i → W w next after m' (i + 1)
   one_step j pc next w regs after m m' i stands on does writes h =
-      steps_on access (globals_site y) machine ok y.entry 0 budget far w pc next regs after m m' i
-      (stands_steps access m machine.text.word regs pc j stands ∙ does pc ∙ ap (λ z. Goes after z m') on) writes h
+      steps_on access (globals_site y reach) machine ok y.entry 0 budget far w pc next regs after m m' i
+      (stands_steps own m machine.text.word regs pc j stands ∙ does pc ∙ ap (λ z. Goes after z m') on) writes h
 
   -- Two instructions lead on: the first changes registers alone, the second may store to a global.
   pub record Walked (w : World) (at : ℕ) (mid after : List ℕ) (m m' : M) (i : ℕ) : Type 0 where
@@ -91,8 +94,8 @@ module _ {M : Type 0} (access : Access M) (y : Layout) (machine : Machine M) (ru
     pub stands : W w (at + 8) after m' (i + 2)
 
   pub two_steps : (one two : Instr) (at : ℕ) → IsPlace at → InstrStands machine.text.word at one → InstrStands machine.text.word (at + 4) two
-      → (w : World) (regs mid after : List ℕ) (m m' : M) (i : ℕ) → Sets access m one regs mid → ((pc : ℕ) → execute access two mid pc m ≡ Goes after (add pc 4) m')
-      → Writes access (globals_site y) m m' → W w at regs m i → Walked w at mid after m m' i
+      → (w : World) (regs mid after : List ℕ) (m m' : M) (i : ℕ) → Sets own m one regs mid → ((pc : ℕ) → execute own two mid pc m ≡ Goes after (add pc 4) m')
+      → Writes access (globals_site y reach) m m' → W w at regs m i → Walked w at mid after m m' i
   two_steps one two at here p q w regs mid after m m' i does then writes h =
       let a : W w (at + 4) mid m (i + 1) = one_step one at (at + 4) w regs mid m m i p (add_small at 4 (omega (arith, here.1))) does (inl refl) h in
       let b : W w (at + 8) after m' (i + 1 + 1) = one_step two (at + 4) (at + 8) w mid after m m' (i + 1) q (add_small (at + 4) 4 (omega (arith, here.1)) ∙ omega arith) then writes a in

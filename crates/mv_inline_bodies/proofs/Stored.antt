@@ -5,7 +5,7 @@ use Rattle.mv_isa.specs.Execution.{Access}
 use Rattle.mv_ir.specs.declared.stm.Array.TheVariants as array
 use Rattle.mv_ir.specs.World.{World}
 use Rattle.mv_ir.specs.Meaning.{with_elements, with_global}
-use Rattle.mv_statement_code.specs.Frames.{Element}
+use Rattle.mv_statement_code.specs.Frames.{Reach, Element}
 use Rattle.mv_statement_code.specs.Leads.{Writes}
 use Rattle.mv_statement_code.proofs.FrameChanges.{Updates, updates_element}
 use Rattle.mv_flow_code.specs.Runs.{Machine}
@@ -18,14 +18,14 @@ use Rattle.mv_inline_bodies.proofs.Steps.{globals_site}
 abbrev pub set_in : World → ℕ → ℕ → World
 set_in w g v = with_global w g (slice_set (slice_index_or w.globals g []) 0 v)
 
-module _ {M : Type 0} (access : Access M) (y : Layout) (laid : IsLaid y) (machine : Machine M) (memory : IsMemory access y machine) (budget far : ℕ) where
+module _ {M : Type 0} (access : Access M) (y : Layout) (laid : IsLaid y) (machine : Machine M) (memory : IsMemory access y machine) (reach : Reach) (budget far : ℕ) where
   abbrev H : World → M → Type 0
   H = HoldsGlobals access y machine budget far
 
   pub record Put (w : World) (m : M) (g v sp : ℕ) : Type 0 where
     pub after : M
     pub stored : access.store m (y.place g) 4 v ≡ Some after
-    pub writes : Writes access (globals_site y) m after
+    pub writes : Writes access (globals_site y reach) m after
     pub globals : H (set_in w g v) after
     pub stack : (b : ℕ) → IsAbove y sp b → access.load after b 4 ≡ access.load m b 4
 
@@ -33,7 +33,7 @@ module _ {M : Type 0} (access : Access M) (y : Layout) (laid : IsLaid y) (machin
   stored_global w m g v sp lt small low h = record {
     after = kept.after;
     stored = ap (λ b. access.store m b 4 v) same_place ∙ kept.stored;
-    writes = inr (Element (array.Global g) 0, v, tt, lt, small, kept.stored);
+    writes = inr (Element (array.Global g) 0, v, refl, lt, small, kept.stored);
     globals = record { sizes = λ x. update.sizes (array.Global x) ∙ h.sizes x; words = words; loads = loads };
     stack = λ b s. kept.others b (inl (above b s)) (λ e. laid.off_stack g 0 lt (subst (IsStack y) e (above b s)));
   }
@@ -47,9 +47,9 @@ module _ {M : Type 0} (access : Access M) (y : Layout) (laid : IsLaid y) (machin
       above : (b : ℕ) → IsAbove y sp b → IsStack y b
       above b s = (omega (arith, s.0, low), s.1, s.2)
 
-      update : Updates (globals_site y) (record { temps = []; arrays = []; world = w })
+      update : Updates (globals_site y reach) (record { temps = []; arrays = []; world = w })
           (with_elements (array.Global g) (record { temps = []; arrays = []; world = w }) (slice_set (slice_index_or w.globals g []) 0 v)) (Element (array.Global g) 0) v
-      update = updates_element (globals_site y) (record { temps = []; arrays = []; world = w }) (array.Global g) 0 v (omega (arith, lt, h.sizes g))
+      update = updates_element (globals_site y reach) (record { temps = []; arrays = []; world = w }) (array.Global g) 0 v (omega (arith, lt, h.sizes g))
 
       there : (x n : ℕ) → n < y.size x → y.place x + 4 * n ≡ y.place g + 4 * 0 → slice_index (slice_index_or (set_in w g v).globals x []) n ≡ v
       there x n few e =

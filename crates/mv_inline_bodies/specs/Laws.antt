@@ -1,8 +1,6 @@
 -- What the two instructions of an inline body do where they stand at a call.
-use Rattle.std.specs.Prelude.{ℕ, ◌≡◌, ◌≢◌, ◌+◌, ◌≤◌, Bool, List, [], ◌∷◌, length, Option, Some, None, Contains}
-use Rattle.mv_num.specs.Words.{word_of, add}
+use Rattle.std.specs.Prelude.{ℕ, ◌≡◌, ◌≢◌, ◌+◌, ◌≤◌, Bool, List, [], ◌∷◌, length, Some, None, Contains}
 use Rattle.mv_isa.specs.declared.instr.Instr.{Instr}
-use Rattle.mv_isa.specs.declared.instr.Instr.TheVariants.{Lb, Lh, Lw, Lbu, Lhu}
 use Rattle.mv_isa.specs.Encoding.{Fits}
 use Rattle.mv_isa.specs.Code.{IsPlace}
 use Rattle.mv_isa.specs.Execution.{Access, reg}
@@ -18,21 +16,13 @@ use Rattle.mv_ir.specs.Measures.{scalars_read}
 use Rattle.mv_ir.specs.WellFormed.{IsWellFormed}
 use Rattle.mv_tree_code.specs.Rooms.{place_in}
 use Rattle.mv_statement_code.specs.StatementCode.{first}
-use Rattle.mv_statement_code.specs.Frames.{Site}
-use Rattle.mv_flow_code.specs.Runs.{Machine, IsRun}
+use Rattle.mv_statement_code.specs.Frames.{Reach}
+use Rattle.mv_flow_code.specs.Runs.{Machine}
 use Rattle.mv_call_code.specs.Convention.{Layout, Stands, Enters, Returns, Answers, slot_cost}
-use Rattle.mv_function_code.specs.Functions.{IsLaid, IsMemory, StandsInWords, IsFunction, frame_in}
+use Rattle.mv_function_code.specs.Loads.{loads_from}
+use Rattle.mv_function_code.specs.Functions.{IsLaid, IsMemory, IsAmple, RunsWithin, IsFunction, frame_in}
 use Rattle.mv_selected_bodies.specs.SelectedBodies.{AreRooms}
 use Rattle.mv_inline_bodies.specs.InlineOf.{address_register, inline_of, inline_words}
-
--- where an instruction loads from, if it is a load
-abbrev pub loads_from : Instr → List ℕ → Option ℕ
-loads_from (Lb rd rs1 imm) regs = Some (add (reg regs rs1) (word_of imm))
-loads_from (Lh rd rs1 imm) regs = Some (add (reg regs rs1) (word_of imm))
-loads_from (Lw rd rs1 imm) regs = Some (add (reg regs rs1) (word_of imm))
-loads_from (Lbu rd rs1 imm) regs = Some (add (reg regs rs1) (word_of imm))
-loads_from (Lhu rd rs1 imm) regs = Some (add (reg regs rs1) (word_of imm))
-loads_from _ regs = None
 
 -- an instruction loads no word but that of a global that a body reads, and that isn't read as a bound value
 abbrev pub LoadsRead : Layout → List (ℕ × ℕ) → Body → Instr → List ℕ → Type 0
@@ -59,8 +49,8 @@ module _ {M : Type 0} (access : Access M) (y : Layout) (machine : Machine M) (bu
 abbrev pub InlineIsDone : Type 0 → Type 0
 InlineIsDone M =
     (access : Access M) (y : Layout) → IsLaid y → (machine : Machine M) → IsMemory access y machine →
-    ((s : Site) → StandsInWords y s → IsRun access s machine) → (setting : ir.Setting) → (budget far : ℕ) → (levels : Bound) →
-    (attributed : Bool) (bound : List (ℕ × ℕ)) (is_read : ℕ → Bool) (is_fine : Tree → Bool) (body : Body) → IsFunction y setting attributed bound is_read is_fine body →
+    (reach : Reach) → IsAmple y reach → RunsWithin access y machine reach → (setting : ir.Setting) → (budget far : ℕ) → (levels : Bound) →
+    (attributed : Bool) (bound : List (ℕ × ℕ)) (is_fine : Tree → Bool) (body : Body) → IsFunction y setting attributed bound reach is_fine body →
     (one two : Instr) → inline_of y.place body ≡ Some (one, two) →
     (at : ℕ) → IsPlace at → InstrStands machine.text.word at one → InstrStands machine.text.word (at + 4) two →
     (depth live : ℕ) (args : List ℕ) → length args ≡ body.params → (contents : Contents) →
@@ -72,8 +62,8 @@ InlineIsDone M =
 abbrev pub InlineAnswers : Type 0 → Type 0
 InlineAnswers M =
     (access : Access M) (y : Layout) → IsLaid y → (machine : Machine M) → IsMemory access y machine →
-    ((s : Site) → StandsInWords y s → IsRun access s machine) → (setting : ir.Setting) → (budget far : ℕ) → (levels : Bound) →
-    (attributed : Bool) (bound : List (ℕ × ℕ)) (is_read : ℕ → Bool) (is_fine : Tree → Bool) (body : Body) → IsFunction y setting attributed bound is_read is_fine body →
+    (reach : Reach) → IsAmple y reach → RunsWithin access y machine reach → (setting : ir.Setting) → (budget far : ℕ) → (levels : Bound) →
+    (attributed : Bool) (bound : List (ℕ × ℕ)) (is_fine : Tree → Bool) (body : Body) → IsFunction y setting attributed bound reach is_fine body →
     (one two : Instr) → inline_of y.place body ≡ Some (one, two) →
     (at : ℕ) → IsPlace at → InstrStands machine.text.word at one → InstrStands machine.text.word (at + 4) two →
     (depth live : ℕ) (args : List ℕ) → length args ≡ body.params → (contents : Contents) →
@@ -88,8 +78,8 @@ InlineFits = (place : ℕ → ℕ) (body : Body) → body.params ≤ 8 → (one 
 abbrev pub InlineWordsAnswer : Type 0 → Type 0
 InlineWordsAnswer M =
     (access : Access M) (y : Layout) → IsLaid y → (machine : Machine M) → IsMemory access y machine →
-    ((s : Site) → StandsInWords y s → IsRun access s machine) → (setting : ir.Setting) → (budget far : ℕ) → (levels : Bound) →
-    (attributed : Bool) (bound : List (ℕ × ℕ)) (is_read : ℕ → Bool) (is_fine : Tree → Bool) (body : Body) → IsFunction y setting attributed bound is_read is_fine body →
+    (reach : Reach) → IsAmple y reach → RunsWithin access y machine reach → (setting : ir.Setting) → (budget far : ℕ) → (levels : Bound) →
+    (attributed : Bool) (bound : List (ℕ × ℕ)) (is_fine : Tree → Bool) (body : Body) → IsFunction y setting attributed bound reach is_fine body →
     (a b : ℕ) → inline_words y.place body ≡ Some (a ∷ b ∷ []) → (at : ℕ) → IsPlace at → machine.text.word at ≡ Some a → machine.text.word (at + 4) ≡ Some b →
     (depth live : ℕ) (args : List ℕ) → length args ≡ body.params → (contents : Contents) → (k i : ℕ) →
     Answers access y machine budget far slot_cost k at (at + 8) depth live args (body_from setting (frame_in attributed bound depth live) contents body args levels) i

@@ -1,4 +1,6 @@
 //! What is the same of every end of a program in intermediate code.
+//!
+//! - `ends_are_reached`: code traps with codes 1 to 4 alone, and the bytes taken and those left stay as many as before.
 #![tactic(auto)]
 
 ghost use Rattle.mv_ir_ends.specs.Reached.{EndsAreReached};

@@ -1,13 +1,14 @@
 -- The linked lines keep the assembler's condition.
 use Rattle.std.proofs.Common.{◌≡◌, ℕ, zero, suc, ◌+◌, ◌-◌, ◌<◌, ◌≤◌, ◌⊎◌, ◌++◌, List, [], ◌∷◌, Some, length, take, slice_get, map, count_by, All, eqb, pos, refl, sym, subst, ⊎_elim, arith, rules}
+use Rattle.std.proofs.lemmas.List.{length-append}
 use Rattle.std.proofs.lemmas.List.Elements.{All-nil, All-cons, All-append, All-map, All-head, All-tail, All-from_recursion}
-use Rattle.mv_isa.specs.declared.instr.Instr.TheVariants.{Jalr, Addi, FenceI, Ecall}
+use Rattle.mv_isa.specs.declared.instr.Instr.TheVariants.{Addi, Ecall}
 use Rattle.mv_isa.specs.declared.labelled.Labelled.{Labelled}
 use Rattle.mv_isa.specs.declared.labelled.Line.{Line}
 use Rattle.mv_isa.specs.declared.labelled.Line.TheVariants.{Word, Label, Jump, Branch, Entry, Slot}
 use Rattle.mv_isa.specs.Code.{is_label, StandsOnce, TargetStands, LineFits, CodeFits}
 use Rattle.mv_linker.specs.declared.parts.Parts.{Parts}
-use Rattle.mv_linker.specs.Linked.{trap_label, commit_label, own, relabelled, start_lines, trap_lines, commit_lines, stub_lines, function_part, function_parts, linked_lines, label_count, first_label, IsStubLabel, IsOwnLabel, IsTarget, NamesAreThere, IsFunction, AreParts}
+use Rattle.mv_linker.specs.Linked.{function_variants, variant_codes, codes, trap_label, commit_label, own, relabelled, start_lines, trap_lines, commit_instrs, commit_lines, stub_lines, function_part, function_parts, linked_lines, label_count, first_label, IsStubLabel, IsOwnLabel, IsTarget, NamesAreThere, IsFunction, AreParts}
 use Rattle.mv_linker.proofs.Counting.{times, count_append, count_cons, unmarked, own_is, own_stays, label_count_more, labels_within, parts_other, parts_entry, parts_own}
 
 -- ---- labels of the stubs
@@ -16,7 +17,7 @@ trap_count : (m c : ℕ) → count_by (is_label m) (trap_lines c) ≡ times (eqb
 trap_count m c = omega (arith, count_cons m (Label (trap_label c)) (Word (Addi 10 0 (pos c)) ∷ Word (Addi 17 0 (pos 3)) ∷ Word Ecall ∷ []))
 
 commit_count : (m : ℕ) → count_by (is_label m) commit_lines ≡ times (eqb commit_label m)
-commit_count m = omega (arith, count_cons m (Label commit_label) (Word Ecall ∷ Word FenceI ∷ Word (Jalr 0 1 (pos 0)) ∷ []))
+commit_count m = omega (arith, count_cons m (Label commit_label) (map Word commit_instrs))
 
 stub_count : (main m : ℕ) → count_by (is_label m) (stub_lines main)
     ≡ times (eqb (trap_label 1) m) + (times (eqb (trap_label 2) m) + (times (eqb (trap_label 3) m) + (times (eqb (trap_label 4) m) + times (eqb commit_label m))))
@@ -66,30 +67,34 @@ stub_above l is = ⊎_elim (λ (trap : (trap_label 1 ≤ l) × (l ≤ trap_label
 
 -- ---- labels that stand once in the linked lines
 
+-- each function is among the codes
+pub within_codes : (parts : Parts) (f : ℕ) → f < length parts.functions → f < length (codes parts)
+within_codes parts f below = omega (arith, length-append parts.functions (variant_codes (function_variants parts.attributed)))
+
 module _ (parts : Parts) (are : AreParts parts) where
   counted : (m : ℕ) → count_by (is_label m) (linked_lines parts)
-      ≡ count_by (is_label m) (stub_lines parts.main) + count_by (is_label m) (function_parts 0 (length parts.functions) parts.functions)
-  counted m = count_append m (stub_lines parts.main) (function_parts 0 (length parts.functions) parts.functions)
+      ≡ count_by (is_label m) (stub_lines parts.main) + count_by (is_label m) (function_parts 0 (length (codes parts)) (codes parts))
+  counted m = count_append m (stub_lines parts.main) (function_parts 0 (length (codes parts)) (codes parts))
 
-  pub entry_once : (f : ℕ) → f < length parts.functions → StandsOnce (linked_lines parts) f
+  pub entry_once : (f : ℕ) → f < length (codes parts) → StandsOnce (linked_lines parts) f
   entry_once f below =
       omega (
         arith,
         counted f,
         stubs_other parts.main f (omega (arith, are.labels)),
-        parts_entry (length parts.functions) parts.functions 0 (length parts.functions) f are.functions (omega arith) (omega arith) below,
+        parts_entry (length parts.functions) (codes parts) 0 (length (codes parts)) f are.functions (omega arith) (omega arith) below,
       )
 
-  pub own_once : (f : ℕ) (code : Labelled) → slice_get parts.functions f ≡ Some code → (l : ℕ) → IsOwnLabel code l → StandsOnce (linked_lines parts) (first_label parts.functions f + l)
+  pub own_once : (f : ℕ) (code : Labelled) → slice_get (codes parts) f ≡ Some code → (l : ℕ) → IsOwnLabel code l → StandsOnce (linked_lines parts) (first_label (codes parts) f + l)
   own_once f code found l is =
-      let m = first_label parts.functions f + l in
-      let within = labels_within parts.functions f code found in
+      let m = first_label (codes parts) f + l in
+      let within = labels_within (codes parts) f code found in
       omega (
         arith,
         counted m,
         stubs_other parts.main m (omega (arith, are.labels, is.0)),
         is.1,
-        parts_own (length parts.functions) parts.functions 0 (length parts.functions) f code l m are.functions (omega arith) found is.0 refl,
+        parts_own (length parts.functions) (codes parts) 0 (length (codes parts)) f code l m are.functions (omega arith) found is.0 refl,
       )
 
   pub trap_once : (c : ℕ) → 1 ≤ c → c ≤ 4 → StandsOnce (linked_lines parts) (trap_label c)
@@ -98,7 +103,7 @@ module _ (parts : Parts) (are : AreParts parts) where
         arith,
         counted (trap_label c),
         stubs_trap parts.main c from to,
-        parts_other (length parts.functions) parts.functions 0 (length parts.functions) (trap_label c) are.functions
+        parts_other (length parts.functions) (codes parts) 0 (length (codes parts)) (trap_label c) are.functions
             (λ le. omega (arith, are.labels)) (λ le. omega (arith, are.labels)),
       )
 
@@ -108,7 +113,7 @@ module _ (parts : Parts) (are : AreParts parts) where
         arith,
         counted commit_label,
         stubs_commit parts.main,
-        parts_other (length parts.functions) parts.functions 0 (length parts.functions) commit_label are.functions
+        parts_other (length parts.functions) (codes parts) 0 (length (codes parts)) commit_label are.functions
             (λ le. omega (arith, are.labels)) (λ le. omega (arith, are.labels)),
       )
 
@@ -179,7 +184,7 @@ parts_fields n (code ∷ rest) f first all =
 
 -- of the stubs
 module _ (P : Line → Type 0) (main : ℕ) (start : All P (start_lines main)) (traps : (c : ℕ) → c ≤ 4 → All P (trap_lines c)) (commit : All P commit_lines) where
-  stubs_all : All P (stub_lines main)
+  pub stubs_all : All P (stub_lines main)
   stubs_all =
       All-append P (start_lines main) (trap_lines 1 ++ (trap_lines 2 ++ (trap_lines 3 ++ (trap_lines 4 ++ commit_lines)))) start
       (All-append P (trap_lines 1) (trap_lines 2 ++ (trap_lines 3 ++ (trap_lines 4 ++ commit_lines))) (traps 1 (omega arith))
@@ -203,19 +208,22 @@ trap_targets : (whole : List Line) (c : ℕ) → c ≤ 4 → All (TargetStands w
 trap_targets whole c le = All-from_recursion (TargetStands whole) (trap_lines c) (tt, (tt, (tt, (tt, tt))))
 
 commit_targets : (whole : List Line) → All (TargetStands whole) commit_lines
-commit_targets whole = All-from_recursion (TargetStands whole) commit_lines (tt, (tt, (tt, (tt, tt))))
+commit_targets whole =
+    All-from_recursion (TargetStands whole) commit_lines (tt, (tt, (tt, (tt, (tt, (tt, (tt, (tt, (tt, (tt, (tt, (tt, (tt, tt)))))))))))))
 
 -- ---- all lines
 
 pub lines_fit : (parts : Parts) → AreParts parts → CodeFits (linked_lines parts)
 lines_fit parts are =
     let n = length parts.functions in
-    let rest = function_parts 0 n parts.functions in
+    let m = length (codes parts) in
+    let rest = function_parts 0 m (codes parts) in
     let fields : All LineFits (linked_lines parts) =
-    All-append LineFits (stub_lines parts.main) rest (stubs_all LineFits parts.main (start_fields parts.main) trap_fields commit_fields) (parts_fields n parts.functions 0 n are.functions) in
+    All-append LineFits (stub_lines parts.main) rest (stubs_all LineFits parts.main (start_fields parts.main) trap_fields commit_fields) (parts_fields n (codes parts) 0 m are.functions) in
     let whole = linked_lines parts in
+    let entries : (f : ℕ) → f < n → StandsOnce whole f = λ f below. entry_once parts are f (within_codes parts f below) in
     let targets : All (TargetStands whole) whole =
     All-append (TargetStands whole) (stub_lines parts.main) rest
-    (stubs_all (TargetStands whole) parts.main (start_targets whole parts.main (entry_once parts are parts.main are.main)) (trap_targets whole) (commit_targets whole))
-    (parts_targets whole n (entry_once parts are) (stub_target parts are) parts.functions 0 n are.functions (omega (arith, are.labels)) (own_once parts are)) in
+    (stubs_all (TargetStands whole) parts.main (start_targets whole parts.main (entries parts.main are.main)) (trap_targets whole) (commit_targets whole))
+    (parts_targets whole n entries (stub_target parts are) (codes parts) 0 m are.functions (omega (arith, are.labels)) (own_once parts are)) in
     record { fields = λ k l. fields k (Label 0) l; targets = λ k l. targets k (Label 0) l }

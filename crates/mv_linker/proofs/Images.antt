@@ -1,22 +1,70 @@
--- The image of parts: its text, and the addresses in its data.
+-- The image of parts: its text, and the addresses in its data and its tables.
 use Rattle.std.proofs.Common.{◌≡◌, ℕ, zero, suc, ◌+◌, ◌<◌, ◌≤◌, List, [], ◌∷◌, Some, length, map, slice_get, slice_index, All, refl, ap, sym, subst, ◌∙◌, arith, eq-eqb}
-use Rattle.std.proofs.lemmas.List.Elements.{All-head, All-tail, All-from_get_or}
+use Rattle.std.proofs.lemmas.List.{get_or-map, length-append, length-map}
+use Rattle.std.proofs.lemmas.List.Elements.{All-head, All-tail, All-weaker, All-from_get_or}
 use Rattle.std.proofs.lemmas.List.Sums.{get_or-le-sum_by}
+use Rattle.std.proofs.lemmas.Option.{slice_get-get_or}
+use Rattle.mv_descriptors.specs.declared.rows.SiteRow.{SiteRow}
 use Rattle.mv_isa.specs.declared.labelled.Labelled.{Labelled}
 use Rattle.mv_isa.specs.declared.labelled.Line.{Line}
-use Rattle.mv_isa.specs.declared.labelled.Line.TheVariants.{Label}
-use Rattle.mv_isa.specs.Code.{CodeFits, line_at, label_index, label_address, address, text_start}
-use Rattle.mv_asm.specs.Outcome.{ArePlaced, PassesText}
+use Rattle.mv_isa.specs.declared.labelled.Line.TheVariants.{Word, Label, Jump, Branch, Entry, Slot}
+use Rattle.mv_isa.specs.Code.{CodeFits, IsSizing, line_at, label_index, label_address, address, text_start}
+use Rattle.mv_asm.specs.Outcome.{ArePlaced, ArePlacedUnder, AreAddresses, PassesText}
 use Rattle.mv_asm.proofs.Standing.{index_once}
-use Rattle.mv_image.specs.Spelling.{Fields, bare}
+use Rattle.mv_image.specs.Spelling.{Fields}
 use Rattle.mv_linker.specs.declared.joined.Joined.{Joined}
 use Rattle.mv_linker.specs.declared.parts.Parts.{Parts}
+use Rattle.mv_linker.specs.declared.parts.PartFunction.{PartFunction}
+use Rattle.mv_linker.specs.declared.parts.PartVariant.{PartVariant}
 use Rattle.mv_linker.specs.declared.parts.Datum.{Datum}
 use Rattle.mv_linker.specs.declared.parts.Datum.TheVariants.{Number, Function}
-use Rattle.mv_linker.specs.Linked.{linked_lines, part_index, IsDatum, AreParts, IsJoined}
-use Rattle.mv_linker.specs.Outcome.{datum_word, WithinLimit, IsLinked}
-use Rattle.mv_linker.proofs.Fits.{lines_fit}
+use Rattle.mv_linker.specs.Linked.{codes, function_variants, linked_lines, part_index, IsDatum, AreParts, IsJoined}
+use Rattle.mv_linker.specs.Tables.{function_row, variant_row, variant_rows, sites_from, place_among, attributed_numbers, FitsPartFunction, FitTables}
+use Rattle.mv_linker.specs.Outcome.{datum_word, image_with, HasFewSites, WithinLimit, IsLinked}
+use Rattle.mv_linker.proofs.Fits.{lines_fit, within_codes}
 use Rattle.mv_linker.proofs.Places.{function_law}
+
+-- ---- what has the same addresses is the same
+
+module _ (n : ℕ) (address_of other : ℕ → ℕ) (same : (f : ℕ) → f < n → address_of f ≡ other f) where
+  same_word : (d : Datum) → IsDatum n d → datum_word address_of d ≡ datum_word other d
+  same_word (Number m) h = refl
+  same_word (Function f) h = same f h
+
+  same_words : (globals : List Datum) → All (IsDatum n) globals → map (datum_word address_of) globals ≡ map (datum_word other) globals
+  same_words [] all = refl
+  same_words (datum ∷ rest) all =
+      let here = same_word datum (All-head (IsDatum n) datum rest all) in
+      let later = same_words rest (All-tail (IsDatum n) datum rest all) in
+      cc
+
+  same_functions : (attributed : List PartFunction) → All (λ (a : PartFunction). a.function < n) attributed → map (function_row address_of) attributed ≡ map (function_row other) attributed
+  same_functions [] all = refl
+  same_functions (a ∷ rest) all =
+      let here = same a.function (All-head (λ (x : PartFunction). x.function < n) a rest all) in
+      let later = same_functions rest (All-tail (λ (x : PartFunction). x.function < n) a rest all) in
+      ap (λ e. record (function_row other a) { entry = e } ∷ map (function_row address_of) rest) here ∙ ap (λ rows. function_row other a ∷ rows) later
+
+  same_variants : (k : ℕ) (vs : List PartVariant) → k + length vs ≤ n → variant_rows address_of k vs ≡ variant_rows other k vs
+  same_variants k [] le = refl
+  same_variants k (v ∷ vs) le =
+      ap (λ a. variant_row a v ∷ variant_rows address_of (suc k) vs) (same k (omega arith)) ∙ ap (λ rows. variant_row (other k) v ∷ rows) (same_variants (suc k) vs (omega arith))
+
+  same_sites : (numbers : List ℕ) (k : ℕ) (ls : List Line) → k + length ls ≤ n → sites_from address_of numbers k ls ≡ sites_from other numbers k ls
+  same_sites numbers k [] le = refl
+  same_sites numbers k (Word i ∷ ls) le = same_sites numbers (suc k) ls (omega arith)
+  same_sites numbers k (Label l ∷ ls) le = same_sites numbers (suc k) ls (omega arith)
+  same_sites numbers k (Jump rd l ∷ ls) le = same_sites numbers (suc k) ls (omega arith)
+  same_sites numbers k (Branch funct3 a b l ∷ ls) le = same_sites numbers (suc k) ls (omega arith)
+  same_sites numbers k (Entry rd f ∷ ls) le = same_sites numbers (suc k) ls (omega arith)
+  same_sites numbers k (Slot f ∷ ls) le =
+      ap (λ a. record { address = a; function = place_among numbers f } ∷ sites_from address_of numbers (suc k) ls) (same k (omega arith))
+      ∙ ap (λ rows. record { address = other k; function = place_among numbers f } ∷ rows) (same_sites numbers (suc k) ls (omega arith))
+
+-- a function that data names is among the codes
+pub datum_within : (parts : Parts) (d : Datum) → IsDatum (length parts.functions) d → IsDatum (length (codes parts)) d
+datum_within parts (Number m) h = tt
+datum_within parts (Function f) h = within_codes parts f h
 
 -- the function of a number
 found_at : (functions : List Labelled) (f : ℕ) → f < length functions → (code : Labelled) × (slice_get functions f ≡ Some code)
@@ -24,32 +72,19 @@ found_at [] f below = absurd (omega arith)
 found_at (code ∷ rest) zero below = (code, refl)
 found_at (code ∷ rest) (suc f) below = found_at rest f (omega arith)
 
--- data with the same addresses has the same words
-same_words : (n : ℕ) (address_of other : ℕ → ℕ) → ((f : ℕ) → f < n → address_of f ≡ other f)
-    → (globals : List Datum) → All (IsDatum n) globals → map (datum_word address_of) globals ≡ map (datum_word other) globals
-same_words n address_of other same [] all = refl
-same_words n address_of other same (datum ∷ rest) all =
-    let here = same_word datum (All-head (IsDatum n) datum rest all) in
-    let later = same_words n address_of other same rest (All-tail (IsDatum n) datum rest all) in
-    cc
-  where
-    same_word : (d : Datum) → IsDatum n d → datum_word address_of d ≡ datum_word other d
-    same_word (Number m) h = refl
-    same_word (Function f) h = same f h
-
 module _ (parts : Parts) (are : AreParts parts) where
-  part_index_within : (f : ℕ) → f < length parts.functions → part_index parts.functions f < length (linked_lines parts)
+  part_index_within : (f : ℕ) → f < length (codes parts) → part_index (codes parts) f < length (linked_lines parts)
   part_index_within f below =
-      let found = found_at parts.functions f below in
+      let found = found_at (codes parts) f below in
       let stands = function_law parts are f found.0 found.1 in
       omega (arith, stands.part.within)
 
   -- the label of an entry stands where the function's part begins
-  pub entry_index : (f : ℕ) → f < length parts.functions → label_index (linked_lines parts) f ≡ part_index parts.functions f
+  pub entry_index : (f : ℕ) → f < length (codes parts) → label_index (linked_lines parts) f ≡ part_index (codes parts) f
   entry_index f below =
-      let found = found_at parts.functions f below in
+      let found = found_at (codes parts) f below in
       let stands = function_law parts are f found.0 found.1 in
-      let index = part_index parts.functions f in
+      let index = part_index (codes parts) f in
       let here : line_at (linked_lines parts) (index + 0) ≡ Label f = stands.part.each 0 (omega arith) in
       let same : index + 0 ≡ index = omega arith in
       let here' : line_at (linked_lines parts) index ≡ Label f = rw same at here in
@@ -59,11 +94,8 @@ module _ (parts : Parts) (are : AreParts parts) where
     pub joined_fits : CodeFits joined.code.items
     joined_fits = subst CodeFits (sym is.lines) (lines_fit parts are)
 
-    pub globals_fit : All (IsDatum (length joined.entries)) parts.globals
-    globals_fit = rw is.one_each are.globals
-
     module _ (words addresses : List ℕ) (placed : ArePlaced text_start joined.code.items words addresses) where
-      linked : ArePlaced text_start (linked_lines parts) words addresses
+      pub linked : ArePlaced text_start (linked_lines parts) words addresses
       linked = subst (λ (lines : List Line). ArePlaced text_start lines words addresses) is.lines placed
 
       pub entries_within : All (λ (entry : ℕ). entry < length addresses) joined.entries
@@ -71,38 +103,65 @@ module _ (parts : Parts) (are : AreParts parts) where
           let one_more = linked.under.addresses_are.one_more in
           let one_each = linked.least.fits.sizes.one_each in
           All-from_get_or (λ (entry : ℕ). entry < length addresses) joined.entries 0
-          (λ f below. omega (arith, is.each f (omega (arith, is.one_each)), part_index_within f (omega (arith, is.one_each))))
+          (λ f below. omega (arith, is.each f (omega (arith, is.one_each)), part_index_within f (omega (arith, is.one_each)), one_more, one_each))
 
-      -- it has a word, and not too many
-      pub text_begins : 0 < length words
-      text_begins =
+      -- each line has an address
+      pub lines_within : length joined.code.items ≤ length addresses
+      lines_within =
+          let one_more = linked.under.addresses_are.one_more in
           let one_each = linked.least.fits.sizes.one_each in
-          let first = linked.least.fits.sizes.at_least 0 (omega arith) in
-          omega (arith, linked.under.words_are.count, get_or-le-sum_by (λ (n : ℕ). n) linked.sizing 0 0 (omega arith))
+          omega (arith, one_more, one_each, ap length is.lines)
 
-      pub text_ends : length words ≤ 131072
-      text_ends = omega (arith, linked.under.words_are.count, linked.under.words_are.within)
-
-      address_is : (f : ℕ) → f < length parts.functions → slice_index addresses (slice_index joined.entries f) ≡ label_address text_start (linked_lines parts) linked.sizing f
-      address_is f below =
-          let entry = is.each f below in
-          let index = entry_index f below in
-          let within = part_index_within f below in
+      address_is : (k : ℕ) → k < length (linked_lines parts) → slice_index addresses k ≡ address text_start linked.sizing k
+      address_is k below =
           let one_each = linked.least.fits.sizes.one_each in
-          ap (slice_index addresses) entry
-          ∙ linked.under.addresses_are.each (part_index parts.functions f) (omega arith)
-          ∙ ap (address text_start linked.sizing) (sym index)
+          linked.under.addresses_are.each k (omega (arith, below, one_each))
 
-      pub image_linked : WithinLimit parts → (globals : List ℕ) → globals ≡ map (datum_word (λ f. slice_index addresses (slice_index joined.entries f))) parts.globals
-          → (image : Fields) → image ≡ bare text_start words globals → IsLinked parts image
-      image_linked data_fits globals globals_are image image_is = record {
-        data_fits = data_fits;
-        sizing = linked.sizing;
-        least = linked.least;
-        text = words;
-        text_is = linked.under.words_are;
-        image_is = image_is ∙ ap (bare text_start words) (globals_are ∙ same_words (length parts.functions) _ _ address_is parts.globals are.globals);
-      }
+      -- where each code begins
+      module _ (starts : List ℕ) (starts_are : starts ≡ map (slice_index addresses) joined.entries) where
+        pub start_count : length starts ≡ length (codes parts)
+        start_count = ap length starts_are ∙ length-map joined.entries (slice_index addresses) ∙ is.one_each
+
+        start_is : (f : ℕ) → f < length (codes parts) → slice_index starts f ≡ label_address text_start (linked_lines parts) linked.sizing f
+        start_is f below =
+            let within = part_index_within f below in
+            ap (λ (xs : List ℕ). slice_index xs f) starts_are
+            ∙ get_or-map (slice_index addresses) joined.entries f 0 0 (omega (arith, below, is.one_each))
+            ∙ ap (slice_index addresses) (is.each f below)
+            ∙ address_is (part_index (codes parts) f) within
+            ∙ ap (address text_start linked.sizing) (sym (entry_index f below))
+
+        pub image_is : FitTables parts → image_with (slice_index starts) (slice_index addresses) words parts
+            ≡ image_with (label_address text_start (linked_lines parts) linked.sizing) (address text_start linked.sizing) words parts
+        image_is tables =
+            let n = length (codes parts) in
+            let one = slice_index starts in
+            let other = label_address text_start (linked_lines parts) linked.sizing in
+            let functions = within_codes parts in
+            let image = image_with other (address text_start linked.sizing) words parts in
+            let words_same = same_words n one other start_is parts.globals (All-weaker (IsDatum (length parts.functions)) (IsDatum n) (datum_within parts) parts.globals are.globals) in
+            let rows = same_functions n one other start_is parts.attributed
+            (All-weaker (FitsPartFunction parts) (λ (a : PartFunction). a.function < n) (λ a h. functions a.function h.there) parts.attributed tables.functions) in
+            let variants = same_variants n one other start_is (length parts.functions) (function_variants parts.attributed) (omega (arith, code_count)) in
+            let sites = same_sites (length (linked_lines parts)) (slice_index addresses) (address text_start linked.sizing) address_is (attributed_numbers parts.attributed) 0 (linked_lines parts) (omega arith) in
+            ap (λ x. record image {
+              globals = x;
+              functions = map (function_row one) parts.attributed;
+              variants = variant_rows one (length parts.functions) (function_variants parts.attributed);
+              sites = sites_from (slice_index addresses) (attributed_numbers parts.attributed) 0 (linked_lines parts);
+            }) words_same
+            ∙ ap (λ x. record image {
+              functions = x;
+              variants = variant_rows one (length parts.functions) (function_variants parts.attributed);
+              sites = sites_from (slice_index addresses) (attributed_numbers parts.attributed) 0 (linked_lines parts);
+            }) rows
+            ∙ ap (λ x. record image { variants = x; sites = sites_from (slice_index addresses) (attributed_numbers parts.attributed) 0 (linked_lines parts) }) variants
+            ∙ ap (λ x. record image { sites = x }) sites
+          where
+            code_count : length (codes parts) ≡ length parts.functions + length (function_variants parts.attributed)
+            code_count =
+                length-append parts.functions (map (λ (v : PartVariant). v.code) (function_variants parts.attributed))
+                ∙ ap (λ k. length parts.functions + k) (length-map (function_variants parts.attributed) (λ (v : PartVariant). v.code))
 
     pub text_passes : (count : ℕ) → PassesText text_start joined.code.items count → PassesText text_start (linked_lines parts) count
     text_passes count passes = subst (λ (lines : List Line). PassesText text_start lines count) is.lines passes

@@ -1,4 +1,11 @@
 pub mod Counting
 pub mod Fits
 pub mod Places
+pub mod Joining
 pub mod Images
+pub mod Slots
+pub mod Entered
+pub mod Rowed
+pub mod Sited
+pub mod Tabled
+pub mod ImageLinked

@@ -1,11 +1,14 @@
 -- What holds of the linked lines of all parts.
-use Rattle.std.specs.Prelude.{ℕ, ◌+◌, ◌*◌, ◌<◌, ◌≤◌, ◌≡◌, Option, Some, List, length, slice_get}
+use Rattle.std.specs.Prelude.{ℕ, ◌+◌, ◌<◌, ◌≤◌, ◌≡◌, Option, Some, List, [], length, slice_get}
 use Rattle.mv_isa.specs.declared.labelled.Labelled.{Labelled}
 use Rattle.mv_isa.specs.declared.labelled.Line.{Line}
 use Rattle.mv_isa.specs.Code.{CodeFits, StandsOnce, line_at}
 use Rattle.mv_isa.specs.Standing.{LineStands}
+use Rattle.mv_image.specs.Spelling.{Fields}
 use Rattle.mv_linker.specs.declared.parts.Parts.{Parts}
-use Rattle.mv_linker.specs.Linked.{AreParts, IsOwnLabel, own, relabelled, trap_label, commit_label, start_lines, trap_lines, commit_lines, function_part, linked_lines, first_label, part_index}
+use Rattle.mv_linker.specs.Linked.{AreParts, IsOwnLabel, codes, own, relabelled, trap_label, commit_label, start_lines, trap_lines, commit_lines, function_part, linked_lines, first_label, trap_index, commit_index, part_index}
+use Rattle.mv_linker.specs.Tables.{site_count, FitTables}
+use Rattle.mv_linker.specs.Outcome.{IsLinked}
 
 -- they may be assembled
 abbrev pub LinesFit : Type 0
@@ -18,12 +21,12 @@ pub record StandFrom (lines : List Line) (k : ℕ) (part : List Line) : Type 0 w
 
 -- the stub of a trap stands in lines, its label nowhere else
 pub record TrapStands (lines : List Line) (c : ℕ) : Type 0 where
-  pub stub : StandFrom lines (4 * c + 1) (trap_lines c)
+  pub stub : StandFrom lines (trap_index c) (trap_lines c)
   pub label : StandsOnce lines (trap_label c)
 
 -- the stub of commits stands in lines, its label nowhere else
 pub record CommitStands (lines : List Line) : Type 0 where
-  pub stub : StandFrom lines 21 commit_lines
+  pub stub : StandFrom lines commit_index commit_lines
   pub label : StandsOnce lines commit_label
 
 -- The start stands at the beginning, the stubs of the traps behind it, and the stub of commits behind these.
@@ -40,11 +43,26 @@ pub record FunctionStands (lines : List Line) (functions : List Labelled) (f : �
 
 abbrev pub FunctionsStand : Type 0
 FunctionsStand =
-    (parts : Parts) → AreParts parts → (f : ℕ) (code : Labelled) → slice_get parts.functions f ≡ Some code →
-    FunctionStands (linked_lines parts) parts.functions f code
+    (parts : Parts) → AreParts parts → (f : ℕ) (code : Labelled) → slice_get (codes parts) f ≡ Some code →
+    FunctionStands (linked_lines parts) (codes parts) f code
 
 -- A line with its labels renamed that stands in text is a line that stands there, if each label is where what it becomes is.
 abbrev pub RenamedLinesStand : Type 0
 RenamedLinesStand =
     (text : ℕ → Option ℕ) (place entry : ℕ → ℕ) (at end first count : ℕ) (line : Line) →
     LineStands text place entry at end (relabelled first count line) → LineStands text (λ l. place (own first count l)) entry at end line
+
+-- Where no function is attributed there are no codes but those of the functions, none of which has a slot, and nothing is ever patched: the image has no
+-- row of a function, and no site.
+pub record IsPlain (parts : Parts) : Type 0 where
+  pub codes_are : codes parts ≡ parts.functions
+  pub no_slots : site_count parts ≡ 0
+  pub no_functions : (image : Fields) → IsLinked parts image → image.functions ≡ []
+  pub no_sites : (image : Fields) → IsLinked parts image → image.sites ≡ []
+
+abbrev pub UnattributedPartsArePlain : Type 0
+UnattributedPartsArePlain = (parts : Parts) → FitTables parts → parts.attributed ≡ [] → IsPlain parts
+
+-- A linked image has as many sites as all code has slots.
+abbrev pub SitesAreCounted : Type 0
+SitesAreCounted = (parts : Parts) (image : Fields) → IsLinked parts image → length image.sites ≡ site_count parts

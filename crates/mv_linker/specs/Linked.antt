@@ -1,17 +1,34 @@
--- What the linker joins: the stubs, and the functions behind them.
-use Rattle.std.specs.Prelude.{ℕ, ◌+◌, ◌<◌, ◌≤◌, ◌≡◌, ◌⊎◌, pos, nat_lt, if◌then◌else◌, List, [], ◌∷◌, ◌++◌, length, take, map, slice_index, All, sum_by}
-use Rattle.mv_isa.specs.declared.instr.Instr.TheVariants.{Lui, Jalr, Addi, FenceI, Ecall}
+-- What the linker joins: the stubs, and behind them the functions and their variants.
+use Rattle.std.specs.Prelude.{ℕ, ◌+◌, ◌*◌, ◌<◌, ◌≤◌, ◌≡◌, ◌⊎◌, pos, negsuc, nat_lt, if◌then◌else◌, List, [], ◌∷◌, ◌++◌, length, take, map, slice_index, All, sum_by}
+use Rattle.std.specs.List.{flat_map}
+use Rattle.mv_isa.specs.declared.instr.Instr.{Instr}
+use Rattle.mv_isa.specs.declared.instr.Instr.TheVariants.{Lui, Jal, Jalr, Beq, Lw, Sw, Addi, FenceI, Ecall}
 use Rattle.mv_isa.specs.declared.labelled.Labelled.{Labelled}
 use Rattle.mv_isa.specs.declared.labelled.Line.{Line}
 use Rattle.mv_isa.specs.declared.labelled.Line.TheVariants.{Word, Label, Jump, Branch, Entry, Slot}
 use Rattle.mv_isa.specs.Code.{StandsOnce, LineFits}
 use Rattle.mv_linker.specs.declared.parts.Parts.{Parts}
+use Rattle.mv_linker.specs.declared.parts.PartFunction.{PartFunction}
+use Rattle.mv_linker.specs.declared.parts.PartVariant.{PartVariant}
 use Rattle.mv_linker.specs.declared.parts.Datum.{Datum}
 use Rattle.mv_linker.specs.declared.parts.Datum.TheVariants.{Number, Function}
 use Rattle.mv_linker.specs.declared.joined.Joined.{Joined}
 
--- ---- labels. In the linked code the label of a function's entry is the function's number. Behind those of all functions come the own labels of
--- each function in order, and the labels of the stubs stay as they are.
+-- ---- codes
+
+-- the variants of attributed functions, one function's behind another's
+abbrev pub function_variants : List PartFunction → List PartVariant
+function_variants attributed = flat_map (λ (a : PartFunction). a.variants) attributed
+
+abbrev pub variant_codes : List PartVariant → List Labelled
+variant_codes variants = map (λ (v : PartVariant). v.code) variants
+
+-- The codes that are linked, by their numbers: those of the functions, and those of the variants behind them. So a variant is one more function.
+abbrev pub codes : Parts → List Labelled
+codes parts = parts.functions ++ variant_codes (function_variants parts.attributed)
+
+-- ---- labels. In the linked code the label of an entry is the number of its code. Behind those of all codes come the own labels of each in order, and
+-- the labels of the stubs stay as they are.
 
 -- the label of the stub of a trap, 1 to 4
 abbrev pub trap_label : ℕ → ℕ
@@ -44,9 +61,27 @@ start_lines main = Word (Lui 2 (pos 0x400)) ∷ Word (Addi 27 0 (pos 512)) ∷ J
 abbrev pub trap_lines : (c : ℕ) → List Line
 trap_lines c = Label (trap_label c) ∷ Word (Addi 10 0 (pos c)) ∷ Word (Addi 17 0 (pos 3)) ∷ Word Ecall ∷ []
 
--- the stub of commits: the environment call that a7 names already, FENCE.I so that what it patched is fetched, and the return
+-- The stub of commits. The environment call that a7 names already writes its plan to 0x0040_0000: how many pairs, and behind that the address and the
+-- word of each. They are stored one by one, then FENCE.I lets fetches see them, and the stub returns. t0 goes along the plan, t1 has how many pairs are
+-- left, t2 and t3 are a pair's.
+abbrev pub commit_instrs : List Instr
+commit_instrs =
+    Ecall
+    ∷ Lui 5 (pos 0x400)
+    ∷ Lw 6 5 (pos 0)
+    ∷ Beq 6 0 (pos 28)
+    ∷ Lw 7 5 (pos 4)
+    ∷ Lw 28 5 (pos 8)
+    ∷ Sw 7 28 (pos 0)
+    ∷ Addi 5 5 (pos 8)
+    ∷ Addi 6 6 (negsuc 0)
+    ∷ Jal 0 (negsuc 23)
+    ∷ FenceI
+    ∷ Jalr 0 1 (pos 0)
+    ∷ []
+
 abbrev pub commit_lines : List Line
-commit_lines = Label commit_label ∷ Word Ecall ∷ Word FenceI ∷ Word (Jalr 0 1 (pos 0)) ∷ []
+commit_lines = Label commit_label ∷ map Word commit_instrs
 
 -- the start, the stubs of the traps 1 to 4, and the stub of commits
 abbrev pub stub_lines : (main : ℕ) → List Line
@@ -61,9 +96,9 @@ abbrev pub function_parts : (f first : ℕ) → List Labelled → List Line
 function_parts f first [] = []
 function_parts f first (code ∷ rest) = function_part f first code ++ function_parts (f + 1) (first + code.labels) rest
 
--- the stubs, and the functions behind them
+-- the stubs, and all codes behind them
 abbrev pub linked_lines : Parts → List Line
-linked_lines parts = stub_lines parts.main ++ function_parts 0 (length parts.functions) parts.functions
+linked_lines parts = stub_lines parts.main ++ function_parts 0 (length (codes parts)) (codes parts)
 
 -- ---- places
 
@@ -79,9 +114,20 @@ first_label functions f = length functions + label_count (take f functions)
 abbrev pub line_count : List Labelled → ℕ
 line_count functions = sum_by (λ (code : Labelled). 1 + length code.items) functions
 
--- the index at which a function's part begins, behind the 25 lines of the stubs
+-- how many lines the stubs have
+abbrev pub stub_count : ℕ
+stub_count = length (stub_lines 0)
+
+-- the index at which the stub of a trap begins, and that of commits, which stands where the stub of one trap more would
+abbrev pub trap_index : (c : ℕ) → ℕ
+trap_index c = 4 * c + 1
+
+abbrev pub commit_index : ℕ
+commit_index = trap_index 5
+
+-- the index at which a function's part begins, behind the stubs
 abbrev pub part_index : List Labelled → (f : ℕ) → ℕ
-part_index functions f = 25 + line_count (take f functions)
+part_index functions f = stub_count + line_count (take f functions)
 
 -- ---- parts
 
@@ -119,12 +165,12 @@ IsDatum functions (Function f) = f < functions
 -- what can be linked: what is named is there, and there are numbers for all labels below those of the stubs
 pub record AreParts (parts : Parts) : Type 0 where
   pub main : parts.main < length parts.functions
-  pub functions : All (IsFunction (length parts.functions)) parts.functions
+  pub functions : All (IsFunction (length parts.functions)) (codes parts)
   pub globals : All (IsDatum (length parts.functions)) parts.globals
-  pub labels : length parts.functions + label_count parts.functions < trap_label 1
+  pub labels : length (codes parts) + label_count (codes parts) < trap_label 1
 
--- the lines of parts, and the index at which each function begins
+-- the lines of parts, and the index at which each code begins
 pub record IsJoined (parts : Parts) (joined : Joined) : Type 0 where
   pub lines : joined.code.items ≡ linked_lines parts
-  pub one_each : length joined.entries ≡ length parts.functions
-  pub each : (f : ℕ) → f < length parts.functions → slice_index joined.entries f ≡ part_index parts.functions f
+  pub one_each : length joined.entries ≡ length (codes parts)
+  pub each : (f : ℕ) → f < length (codes parts) → slice_index joined.entries f ≡ part_index (codes parts) f

@@ -1,7 +1,8 @@
-ghost use Rattle.std.specs.Prelude.{◌≡◌, ◌+◌, ◌<◌, ◌≤◌, [], ◌∷◌, ◌++◌, IfOk, OnOk};
-ghost use Rattle.mv_linker.specs.Linked.{own, relabelled, start_lines, trap_lines, commit_lines, stub_lines, function_part, AreParts, IsJoined};
+ghost use Rattle.std.specs.Prelude.{◌≡◌, ◌+◌, ◌<◌, ◌≤◌, [], ◌∷◌, ◌++◌, length, map, IfOk, OnOk};
+ghost use Rattle.mv_linker.specs.Linked.{codes, function_variants, variant_codes, own, relabelled, trap_label, start_lines, trap_lines, commit_lines, stub_lines, function_part, label_count, AreParts, IsJoined};
+ghost use Rattle.mv_linker.specs.Joining.{with_code, with_codes};
 
-use crate::parts::Parts;
+use crate::parts::{PartFunction, PartVariant, Parts};
 use mv_isa::Instr;
 use mv_isa::labelled::{Labelled, Line};
 use mv_num::list::List;
@@ -21,6 +22,14 @@ const A0: u8 = 10;
 const A7: u8 = 17;
 /// s11 has how many calls are left.
 const LEFT: u8 = 27;
+/// t0, t1, t2 and t3: where in the plan the stub of commits is, how many pairs are left, and the address and the word of one.
+const AT: u8 = 5;
+
+const PAIRS: u8 = 6;
+
+const ADDRESS: u8 = 7;
+
+const WORD: u8 = 28;
 /// The numbers of the environment calls, which a7 has.
 const EXIT: i32 = 0;
 
@@ -32,31 +41,85 @@ pub struct Joined {
     /// Its `labels` is more than the label of each entry and each own label. Those of the stubs are above it, the last of them
     /// the greatest number there is.
     pub code: Labelled,
-    /// At which item each function begins.
+    /// At which item each code begins.
     pub entries: List<usize>,
 }
 
-/// The stubs, and the functions in order behind them.
+/// The stubs, and behind them in order the functions and the variants.
 pub fn join_parts(alloc: Global, parts: &Parts) -> Result<Joined, AllocError>
     requires { AreParts parts.now }
     ensures { IfOk result (IsJoined parts.now) }
 {
     let mut items = List::new(alloc);
     push_stubs(&mut items, parts.main)?;
-    let mut entries = List::new(alloc);
-    let mut first = parts.functions.len() as u32;
-    for (index, code) in parts.functions.as_slice().iter().enumerate() {
-        entries.push(items.len())?;
-        push_function(&mut items, index as u32, first, code)?;
-        first += code.labels;
-    }
-    Ok(Joined {
+    let mut joined = Joined {
         code: Labelled {
             items,
-            labels: first,
+            labels: code_count(parts),
         },
-        entries,
-    })
+        entries: List::new(alloc),
+    };
+    push_functions(&mut joined, parts.functions.as_slice())?;
+    push_all_variants(&mut joined, parts.attributed.as_slice())?;
+    Ok(joined)
+}
+
+/// How many codes parts have.
+fn code_count(parts: &Parts) -> u32
+    requires { length (codes parts.now) < trap_label 1 }
+    ensures { result ≡ length (codes parts.now) }
+{
+    let mut count = parts.functions.len() as u32;
+    for function in parts.attributed.as_slice() {
+        count += function.variants.len() as u32;
+    }
+    count
+}
+
+fn push_functions(joined: &mut Joined, functions: &[Labelled]) -> Result<(), AllocError>
+    requires entries { length joined.old.entries + length functions.now < trap_label 1 }
+    requires labels { joined.old.code.labels + label_count functions.now < trap_label 1 }
+    ensures { OnOk result (joined.new ≡ with_codes joined.old functions.now) }
+{
+    for code in functions {
+        push_code(joined, code)?;
+    }
+    Ok(())
+}
+
+fn push_all_variants(joined: &mut Joined, attributed: &[PartFunction]) -> Result<(), AllocError>
+    requires entries { length joined.old.entries + length (variant_codes (function_variants attributed.now)) < trap_label 1 }
+    requires labels { joined.old.code.labels + label_count (variant_codes (function_variants attributed.now)) < trap_label 1 }
+    ensures { OnOk result (joined.new ≡ with_codes joined.old (variant_codes (function_variants attributed.now))) }
+{
+    for function in attributed {
+        push_variants(joined, function.variants.as_slice())?;
+    }
+    Ok(())
+}
+
+fn push_variants(joined: &mut Joined, variants: &[PartVariant]) -> Result<(), AllocError>
+    requires entries { length joined.old.entries + length (variant_codes variants.now) < trap_label 1 }
+    requires labels { joined.old.code.labels + label_count (variant_codes variants.now) < trap_label 1 }
+    ensures { OnOk result (joined.new ≡ with_codes joined.old (variant_codes variants.now)) }
+{
+    for variant in variants {
+        push_code(joined, &variant.code)?;
+    }
+    Ok(())
+}
+
+/// The next code, whose number is that of the codes before it.
+fn push_code(joined: &mut Joined, code: &Labelled) -> Result<(), AllocError>
+    requires entries { length joined.old.entries < trap_label 1 }
+    requires labels { joined.old.code.labels + code.now.labels < trap_label 1 }
+    ensures { OnOk result (joined.new ≡ with_code joined.old code.now) }
+{
+    let number = joined.entries.len() as u32;
+    joined.entries.push(joined.code.items.len())?;
+    push_function(&mut joined.code.items, number, joined.code.labels, code)?;
+    joined.code.labels += code.labels;
+    Ok(())
 }
 
 fn push_stubs(items: &mut List<Line>, main: u32) -> Result<(), AllocError>
@@ -95,19 +158,70 @@ fn push_trap(items: &mut List<Line>, code: u32) -> Result<(), AllocError>
     Ok(())
 }
 
-/// The stub of commits: who calls it has the number of the environment call in a7. FENCE.I stands behind the call because
-/// only then fetches see what it stored into text (RISC-V unprivileged ISA, Zifencei).
+/// The stub of commits: who calls it has the number of the environment call in a7, which writes its plan to 0x400000: the number
+/// of pairs, and the address and word of each. FENCE.I stands behind the stores because only then fetches see what they put into
+/// text (RISC-V unprivileged ISA, Zifencei).
 fn push_commit(items: &mut List<Line>) -> Result<(), AllocError>
     ensures { OnOk result (items.new ≡ items.old ++ commit_lines) }
 {
     items.push(Line::Label(COMMIT))?;
-    items.push(Line::Word(Instr::Ecall))?;
-    items.push(Line::Word(Instr::FenceI))?;
-    items.push(Line::Word(Instr::Jalr {
+    push_instrs(items, &COMMIT_STUB)
+}
+
+/// A loop over the pairs, with a branch past its end and a jump back to that.
+const COMMIT_STUB: [Instr; 12] = [
+    Instr::Ecall,
+    Instr::Lui { rd: AT, imm: 0x400 },
+    Instr::Lw {
+        rd: PAIRS,
+        rs1: AT,
+        imm: 0,
+    },
+    Instr::Beq {
+        rs1: PAIRS,
+        rs2: 0,
+        imm: 28,
+    },
+    Instr::Lw {
+        rd: ADDRESS,
+        rs1: AT,
+        imm: 4,
+    },
+    Instr::Lw {
+        rd: WORD,
+        rs1: AT,
+        imm: 8,
+    },
+    Instr::Sw {
+        rs1: ADDRESS,
+        rs2: WORD,
+        imm: 0,
+    },
+    Instr::Addi {
+        rd: AT,
+        rs1: AT,
+        imm: 8,
+    },
+    Instr::Addi {
+        rd: PAIRS,
+        rs1: PAIRS,
+        imm: -1,
+    },
+    Instr::Jal { rd: 0, imm: -24 },
+    Instr::FenceI,
+    Instr::Jalr {
         rd: 0,
         rs1: RA,
         imm: 0,
-    }))?;
+    },
+];
+
+fn push_instrs(items: &mut List<Line>, instrs: &[Instr]) -> Result<(), AllocError>
+    ensures { OnOk result (items.new ≡ items.old ++ map (λ i. Line.Word i) instrs.now) }
+{
+    for instr in instrs {
+        items.push(Line::Word(*instr))?;
+    }
     Ok(())
 }
 

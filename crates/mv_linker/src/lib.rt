@@ -1,4 +1,25 @@
-//! The linker: from the code of all functions to an image in which nothing is patched.
+//! The linker: from the code of all functions and of their variants to an image, with tables of what a commit may patch.
+//!
+//! - `link`: the image is `image_with` of the parts. Its text is the assembled words of the stubs, of the code of all
+//!   functions and of that of all variants, and no choice of short branches that all reach has fewer words. Each data
+//!   word is its number or the address of the named function's entry. Its tables have the switches with the addresses of
+//!   their words, the attributed functions with their entries, the variants with their addresses and their guard rows,
+//!   and as sites exactly the slots, ascending, each with its function. `Sites` comes exactly where there are more than
+//!   16,384 slots, else `DataLimit` exactly where there are more than 262,144 data words, with their number, and else
+//!   `TextLimit` only where the words pass the end of text. Assumed is that main and what the lines and data name are
+//!   there, that fields fit, and that 32 bits number all labels (`AreParts`); and of what goes into tables (`FitTables`),
+//!   that names are identifiers, attributed functions and the switches of each ascend, a switch has 1 to 16 values of its
+//!   type, a function 1 to 64 guard rows, each a range of such values, that the code of an attributed function or variant
+//!   begins with words that are no slot, and that slots call attributed functions alone.
+//! - `linking_law`: the linked lines may be assembled (`fits`); the start stands first, the stubs of the traps and that
+//!   of commits behind it, each label once (`stubs`); the lines of each function and variant stand one behind the other
+//!   from a known index on, its entry first and once, and its own labels once (`functions`); a line with its labels
+//!   renamed stands where the line stands by the places before the renaming (`renamed`); without attributed functions
+//!   there is no slot, no row of a function and no site (`plain`); an image has as many sites as all code has slots
+//!   (`sites`).
+//! - Only tested: the words of two functions and a variant behind the stubs, by outside assemblers, with data that names
+//!   a function, and their sites; the limits of text and data at their value and one above, with the texts of these
+//!   refusals.
 #![tactic(auto)]
 
 mod error;
@@ -6,11 +27,14 @@ mod joined;
 mod laws;
 mod linking;
 mod parts;
+mod rows;
+mod sites;
 
 pub use error::LinkError;
 pub use laws::linking_law;
 pub use linking::link;
-pub use parts::{Datum, Parts};
+pub use parts::{Datum, PartFunction, PartSwitch, PartVariant, Parts};
+pub use sites::slot_count;
 
 #[cfg(test)]
 mod tests;

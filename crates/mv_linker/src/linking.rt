@@ -1,42 +1,57 @@
-ghost use Rattle.std.specs.Prelude.{◌≡◌, ◌<◌, IfOk, MatchResult, All, map, length, slice_index};
+ghost use Rattle.std.specs.Prelude.{◌≡◌, ◌<◌, IfOk, MatchResult, All, length, map, slice_index};
+ghost use Rattle.mv_asm.specs.Outcome.{ArePlaced};
+ghost use Rattle.mv_isa.specs.Code.{text_start};
 ghost use Rattle.mv_linker.specs.Linked.{AreParts, IsDatum, IsJoined};
-ghost use Rattle.mv_linker.specs.Outcome.{datum_word, WithinLimit, IsLinked, IsRefusal};
+ghost use Rattle.mv_linker.specs.Tables.{FitTables};
+ghost use Rattle.mv_linker.specs.Outcome.{datum_word, HasFewSites, WithinLimit, IsLinked, IsRefusal};
 
 use crate::error::LinkError;
 use crate::joined::{Joined, join_parts};
 use crate::parts::{Datum, Parts};
+use crate::rows::{function_rows, guard_rows, names, switch_rows, variant_rows};
+use crate::sites::{site_rows, slot_count};
 use mv_asm::error::AsmError;
-use mv_asm::place;
+use mv_asm::{Placed, place};
 use mv_image::Image;
+use mv_image::facts::format_law;
 use mv_num::list::List;
 use std::alloc::{AllocError, Global};
 
 const TEXT_START: u32 = 0x1000;
 
+/// How many sites there may be.
+const SITE_LIMIT: usize = 16_384;
 /// How many words of data there may be.
 const DATA_LIMIT: usize = 262_144;
 
 /// The image of parts. A run of it begins at a stub that calls `main`, with the stack at its end and 512 calls left, and exits
-/// with its result. Nothing of it is ever patched.
+/// with its result. Its tables say what a commit may patch: the entries of the attributed functions, and as sites all slots.
 ///
-/// `DataLimit` comes exactly where there are more than 262,144 words of data, and else `TextLimit` exactly where the words of
-/// text, with as many short branches as can be, pass its end.
+/// `Sites` comes exactly where there are more than 16,384 slots, else `DataLimit` exactly where there are more than 262,144 words
+/// of data, and else `TextLimit` exactly where the words of text, with as many short branches as can be, pass its end.
 pub fn link(alloc: Global, parts: &Parts) -> Result<Image, LinkError>
-    requires { AreParts parts.now }
+    requires parts { AreParts parts.now }
+    requires tables { FitTables parts.now }
     ensures { MatchResult result (IsLinked parts.now) (IsRefusal parts.now) }
 {
+    let joined = join_parts(alloc, parts).map_err(LinkError::Memory)?;
+    let sites = slot_count(joined.code.items.as_slice());
+    if sites > SITE_LIMIT {
+        return Err(LinkError::Sites(sites as u64));
+    }
     let words = parts.globals.len();
     if words > DATA_LIMIT {
         return Err(LinkError::DataLimit(words as u64));
     }
-    let joined = join_parts(alloc, parts).map_err(LinkError::Memory)?;
     assembled(alloc, parts, &joined)
 }
 
 /// The image of parts whose code is joined.
 fn assembled(alloc: Global, parts: &Parts, joined: &Joined) -> Result<Image, LinkError>
     requires parts { AreParts parts.now }
+    requires tables { FitTables parts.now }
     requires joined { IsJoined parts.now joined.now }
+    requires sites { HasFewSites parts.now }
     requires data { WithinLimit parts.now }
     ensures { MatchResult result (IsLinked parts.now) (IsRefusal parts.now) }
 {
@@ -45,39 +60,79 @@ fn assembled(alloc: Global, parts: &Parts, joined: &Joined) -> Result<Image, Lin
         Err(AsmError::TextLimit(count)) => return Err(LinkError::TextLimit(count)),
         Err(AsmError::Memory(e)) => return Err(LinkError::Memory(e)),
     };
-    let globals = parts.globals.as_slice();
-    let entries = joined.entries.as_slice();
-    let words = data(alloc, globals, entries, placed.addresses.as_slice()).map_err(
-        LinkError::Memory,
-    )?;
-    Ok(Image::without_tables(alloc, TEXT_START, placed.words, words))
+    tabled(alloc, parts, joined, placed).map_err(LinkError::Memory)
 }
 
-/// The words of data, given at which item each function begins and the address of each item.
-fn data(
+/// The image of parts whose code is placed.
+fn tabled(
     alloc: Global,
-    globals: &[Datum],
-    entries: &[usize],
-    addresses: &[u32],
-) -> Result<List<u32>, AllocError>
-    requires globals { All (IsDatum (length entries.now)) globals.now }
-    requires entries { All (λ entry. entry < length addresses.now) entries.now }
-    ensures { IfOk result (λ words. words ≡ map (datum_word (λ f. slice_index addresses.now (slice_index entries.now f))) globals.now) }
+    parts: &Parts,
+    joined: &Joined,
+    placed: Placed,
+) -> Result<Image, AllocError>
+    requires parts { AreParts parts.now }
+    requires tables { FitTables parts.now }
+    requires joined { IsJoined parts.now joined.now }
+    requires sites { HasFewSites parts.now }
+    requires data { WithinLimit parts.now }
+    requires placed { ArePlaced text_start joined.now.code.items placed.words placed.addresses }
+    ensures { IfOk result (IsLinked parts.now) }
+{
+    format_law();
+    let addresses = placed.addresses.as_slice();
+    let starts = starts(alloc, joined.entries.as_slice(), addresses)?;
+    let starts = starts.as_slice();
+    let attributed = parts.attributed.as_slice();
+    let globals = data(alloc, parts.globals.as_slice(), starts)?;
+    let switches = switch_rows(alloc, parts.switches.as_slice())?;
+    let functions = function_rows(alloc, attributed, starts)?;
+    let variants = variant_rows(alloc, attributed, starts, parts.functions.len())?;
+    let guards = guard_rows(alloc, attributed)?;
+    let sites = site_rows(alloc, attributed, joined.code.items.as_slice(), addresses)?;
+    let names = names(alloc, parts.switches.as_slice(), attributed)?;
+    Ok(Image::of_parts(
+        TEXT_START,
+        placed.words,
+        globals,
+        switches,
+        functions,
+        variants,
+        guards,
+        sites,
+        names,
+    ))
+}
+
+/// The address at which each code begins, given at which item, and the address of each item.
+fn starts(alloc: Global, entries: &[usize], addresses: &[u32]) -> Result<List<u32>, AllocError>
+    requires { All (λ entry. entry < length addresses.now) entries.now }
+    ensures { IfOk result (λ starts. starts ≡ map (slice_index addresses.now) entries.now) }
+{
+    let mut starts = List::new(alloc);
+    for entry in entries {
+        starts.push(addresses[*entry])?;
+    }
+    Ok(starts)
+}
+
+/// The words of data, given the address at which each code begins.
+fn data(alloc: Global, globals: &[Datum], starts: &[u32]) -> Result<List<u32>, AllocError>
+    requires { All (IsDatum (length starts.now)) globals.now }
+    ensures { IfOk result (λ words. words ≡ map (datum_word (slice_index starts.now)) globals.now) }
 {
     let mut words = List::new(alloc);
     for datum in globals {
-        words.push(word_of(*datum, entries, addresses))?;
+        words.push(word_of(*datum, starts))?;
     }
     Ok(words)
 }
 
-fn word_of(datum: Datum, entries: &[usize], addresses: &[u32]) -> u32
-    requires datum { IsDatum (length entries.now) datum }
-    requires entries { All (λ entry. entry < length addresses.now) entries.now }
-    ensures { result ≡ datum_word (λ f. slice_index addresses.now (slice_index entries.now f)) datum }
+fn word_of(datum: Datum, starts: &[u32]) -> u32
+    requires { IsDatum (length starts.now) datum }
+    ensures { result ≡ datum_word (slice_index starts.now) datum }
 {
     match datum {
         Datum::Number(number) => number,
-        Datum::Function(function) => addresses[entries[function as usize]],
+        Datum::Function(function) => starts[function as usize],
     }
 }

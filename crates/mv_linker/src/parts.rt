@@ -1,5 +1,8 @@
+use mv_descriptors::GuardRow;
 use mv_isa::labelled::Labelled;
+use mv_num::kind::Kind;
 use mv_num::list::List;
+use mv_num::text::Text;
 
 /// A word of data.
 #[derive(Clone, Copy, Debug, Drop)]
@@ -10,17 +13,59 @@ pub enum Datum {
     Function(u32),
 }
 
-/// What is linked: the functions of a program, counted from 0, and its data.
+/// A switch.
+#[derive(Drop)]
+pub struct PartSwitch {
+    /// Its name in the source.
+    pub name: Text,
+    /// The index of its word in data.
+    pub word: u32,
+    /// Its type.
+    pub kind: Kind,
+    /// The values of its domain.
+    pub values: List<u32>,
+}
+
+/// What an attributed function may be bound to.
+#[derive(Drop)]
+pub struct PartVariant {
+    /// Its code, as that of a function: nothing names its entry.
+    pub code: Labelled,
+    /// The two words that stand at a site in place of a call, if its body fits there.
+    pub inline: Option<[u32; 2]>,
+    /// The values of the function's switches that lead to it.
+    pub guards: List<GuardRow>,
+}
+
+/// An attributed function.
+#[derive(Drop)]
+pub struct PartFunction {
+    /// Its name in the source.
+    pub name: Text,
+    /// Its number among all functions. Its own code is the generic one.
+    pub function: u32,
+    /// The numbers of its switches, ascending.
+    pub switches: List<u32>,
+    /// Its variants.
+    pub variants: List<PartVariant>,
+}
+
+/// What is linked: the functions of a program, counted from 0, its data, and what of it may be patched.
 ///
-/// In the code of a function, entries and slots name functions. Jumps and branches name own labels of the function, each
+/// In the code of a function or variant, entries and slots name functions. Jumps and branches name own labels of the code, each
 /// below its `labels`, the stubs of the traps 1 to 4, whose labels are 4,294,967,290 to 4,294,967,293, and the stub of commits,
 /// whose label is 4,294,967,295: called with the number of the environment call that carries out an order or a poll in a7, it
-/// makes the call, executes FENCE.I and returns.
-#[derive(Debug, Drop)]
+/// makes the call, stores the pairs of its plan, executes FENCE.I and returns.
+#[derive(Drop)]
 pub struct Parts {
+    /// The code of all functions.
     pub functions: List<Labelled>,
     /// The function at which a run begins.
     pub main: u32,
     /// The words of data, from 0x100000 on.
     pub globals: List<Datum>,
+    /// The switches, in order of declaration.
+    pub switches: List<PartSwitch>,
+    /// The attributed functions, their numbers ascending.
+    pub attributed: List<PartFunction>,
 }

@@ -1,4 +1,14 @@
 //! The lowering of programs to intermediate code.
+//!
+//! - `lower`: of a well-formed program (`IsWellFormed`) an `ir` with `IsLowering program ir`. So `ir.program` is the
+//!   program, `ir.bodies` has a body for each of its functions, under each numbering and at each bound the code means
+//!   what the program means, at a cost of at most 20 + 100 × work, and each body has the form that the passes ask for
+//!   (`mv_lowered`). It is exactly the `lower_program` of `mv_lowering` (clause `exact`).
+//! - `lower_each`: of a program whose numbers of temporaries and blocks fit 32 bits (`IsSmall`) exactly the
+//!   `lower_program` of `mv_lowering`. That the numbers of a well-formed program fit follows from the limits on programs.
+//! - Only tested: that `int main(void) { }` ends with 0, and that a `switch` of 30,000 arms is lowered and let go. By its
+//!   form its time is the size of the code times the depth of an expression, which the parser bounds by 255. `eval` and
+//!   `run` don't lower.
 #![tactic(auto)]
 
 ghost use Rattle.std.specs.Prelude.{◌≡◌, IfOk};
@@ -29,9 +39,13 @@ use std::alloc::{AllocError, Global};
 ///
 /// Under each numbering of functions, at each bound, on each input and with all actions that fit, the code means what the program means.
 /// The cost is at most 20 and 100 for one of the program's work; the same holds of each function, callees included.
+///
+/// `exact`: it is the lowering that is defined, so each body has rooms for the globals that its code names, where the
+/// program's data has them, and marks the attributed functions that its code calls.
 pub fn lower(alloc: Global, program: &Program) -> Result<IrProgram, AllocError>
     requires { IsWellFormed program.now }
-    ensures { IfOk result (λ ir. IsLowering program.now ir) }
+    ensures lowering { IfOk result (λ ir. IsLowering program.now ir) }
+    ensures exact { IfOk result (λ ir. ir ≡ lower_program program.now) }
 {
     lowering_is_right();
     lower_each(alloc, program)

@@ -1,5 +1,9 @@
 //! What the lowering of a program promises, in one record (`specs/Lowering.antt`): the program's meaning and each function's, at a bounded cost, and the
 //! form of the code. The code that lowers cites it.
+//!
+//! - `lowering_is_right`: each well-formed program is lowered so that `IsLowering` holds (`specs/Lowering.antt`): the
+//!   program's meaning and each function's, at every bound and under every numbering, at a cost of at most 20 + 100 ×
+//!   work, and the form of each body. A crate of one law, without a test.
 #![tactic(auto)]
 
 ghost use Rattle.mv_lowered.specs.Lowering.{LoweringIsRight};

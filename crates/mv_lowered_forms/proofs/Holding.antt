@@ -1,5 +1,5 @@
 -- Sets of globals that hold what is read.
-use Rattle.std.proofs.Common.{◌≡◌, ℕ, ◌<◌, Bool, true, false, List, [], ◌∷◌, ◌++◌, ◌∙◌, refl}
+use Rattle.std.proofs.Common.{◌≡◌, ℕ, ◌<◌, Bool, true, false, not, List, [], ◌∷◌, ◌++◌, ◌∙◌, refl}
 use Rattle.std.specs.Prelude.{◌||◌, nat_eq}
 use Rattle.std.proofs.lemmas.Bool.{or_left, or_right}
 use Rattle.mv_ast.specs.Names.{any_of}
@@ -20,17 +20,17 @@ pub any_right : (xs ys : List Bool) → any_of ys ≡ true → any_of (xs ++ ys)
 any_right [] ys e = e
 any_right (x ∷ xs) ys e = or_right x (any_of (xs ++ ys)) (any_right xs ys e)
 
-module _ (globals : Globals) (count : ℕ) where
-  -- which of so many globals are read, scalars as scalars and arrays as arrays
+module _ (globals : Globals) (count : ℕ) (is_own : ℕ → Bool) where
+  -- which of so many globals are read, scalars as scalars and arrays as arrays, where these are no switches of the function
   pub record Holds (reads : Reading) : Type 0 where
     pub scalars : (k : ℕ) → k < count → reads (nat_eq k) none ≡ true → globals.scalars k ≡ true
-    pub arrays : (k : ℕ) → k < count → reads none (nat_eq k) ≡ true → globals.arrays k ≡ true
+    pub arrays : (k : ℕ) → k < count → not (is_own k) ≡ true → reads none (nat_eq k) ≡ true → globals.arrays k ≡ true
 
   -- what reads no more is held too
   pub holds_within : (x y : Reading) → ((s a : ℕ → Bool) → x s a ≡ true → y s a ≡ true) → Holds y → Holds x
   holds_within x y le h = record {
     scalars = λ k lt e. h.scalars k lt (le (nat_eq k) none e);
-    arrays = λ k lt e. h.arrays k lt (le none (nat_eq k) e);
+    arrays = λ k lt n e. h.arrays k lt n (le none (nat_eq k) e);
   }
 
   pub holds_same : (x y : Reading) → ((s a : ℕ → Bool) → y s a ≡ x s a) → Holds y → Holds x

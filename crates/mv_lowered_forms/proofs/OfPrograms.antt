@@ -1,5 +1,5 @@
 -- A function of a well-formed program is within all limits, with the sets of the globals that it reads.
-use Rattle.std.proofs.Common.{◌≡◌, ℕ, zero, suc, ◌≤◌, true, List, [], ◌∷◌, map, length, ap, arith, Some}
+use Rattle.std.proofs.Common.{◌≡◌, ℕ, zero, suc, ◌≤◌, Bool, true, false, not, List, [], ◌∷◌, map, length, refl, sym, ◌∙◌, ap, arith, Some}
 use Rattle.std.specs.Prelude.{◌&&◌, All, sum, nat_lt, slice_get}
 use Rattle.std.proofs.lemmas.Bool.{lt-ltb, ltb-true, and_from}
 use Rattle.std.proofs.lemmas.List.Elements.{All-nil, All-cons}
@@ -8,12 +8,13 @@ use Rattle.mv_ast.specs.declared.program.Function.{Function}
 use Rattle.mv_ast.specs.declared.program.Stmt.{Stmt}
 use Rattle.mv_ast.specs.Counts.{nodes}
 use Rattle.mv_ast.specs.Names.{any_of}
+use Rattle.mv_ast.specs.Plans.{is_among, switch_global}
 use Rattle.mv_ir.specs.Live.{IsWhole}
 use Rattle.mv_ir.specs.WellFormed.{IsWellFormed}
 use Rattle.mv_ir.proofs.Induction.{Each}
 use Rattle.mv_numbering.specs.Typing.{IsTypedFunction, IsTypedStmt}
 use Rattle.mv_numbering.proofs.Typed.{AllStmts}
-use Rattle.mv_lowering.specs.Lower.{is_scalar, is_void}
+use Rattle.mv_lowering.specs.Lower.{is_scalar, is_void, is_own_switch}
 use Rattle.mv_lowering.specs.Functions.{size_in, lower_function}
 use Rattle.mv_lowering.proofs.Expressions.{split}
 use Rattle.mv_lowered_programs.specs.WellFormed.{IsWellFormedFunction, parameters}
@@ -49,15 +50,18 @@ module _ (p : Program) (f : ℕ) (g : Function) (h : IsFunctionOf p f g) where
   abbrev count : ℕ
   count = length p.globals
 
-  -- the globals that the function reads, of those that are there
+  -- the globals that the function reads, of those that are there; no switch of it as an array
   abbrev own : Globals
-  own = record { there = λ k. nat_lt k count; scalars = λ k. nat_lt k count && reads_scalar g k; arrays = reads_array g }
+  own = record { there = λ k. nat_lt k count; scalars = λ k. nat_lt k count && reads_scalar g k; arrays = λ k. not (is_own_switch p (slice_get p.functions f) k) && reads_array g k }
 
   abbrev formed : IsWellFormedFunction p f g
   formed = h.formed.functions f g h.there
 
-  holds_own : Holds own count (λ s a. any_of (map (stmt_reads s a) g.body))
-  holds_own = record { scalars = λ k lt e. and_from (nat_lt k count) (reads_scalar g k) (lt-ltb k count lt) e; arrays = λ k lt e. e }
+  holds_own : Holds own count (is_own_switch p (slice_get p.functions f)) (λ s a. any_of (map (stmt_reads s a) g.body))
+  holds_own = record {
+    scalars = λ k lt e. and_from (nat_lt k count) (reads_scalar g k) (lt-ltb k count lt) e;
+    arrays = λ k lt n e. and_from (not (is_own_switch p (slice_get p.functions f) k)) (reads_array g k) n e;
+  }
 
   asked : IsAsked p own g
   asked = record {
@@ -93,8 +97,16 @@ module _ (p : Program) (f : ℕ) (g : Function) (h : IsFunctionOf p f g) where
   pub reads : ReadsNoMore g (lower_function p g)
   reads = record {
     scalars = all_from (λ k. own.scalars k ≡ true) (λ k. reads_scalar g k ≡ true) _ (λ k e. (split (nat_lt k count) (reads_scalar g k) e).1) (bodies.scalars_within p own g asked);
-    arrays = all_from (λ k. own.arrays k ≡ true) (λ k. reads_array g k ≡ true) _ (λ k e. e) (bodies.arrays_within p own g asked);
+    arrays = all_from (λ k. own.arrays k ≡ true) (λ k. reads_array g k ≡ true) _ (λ k e. (split (not (is_own_switch p (slice_get p.functions f) k)) (reads_array g k) e).1) (bodies.arrays_within p own g asked);
+    switches = all_from (λ k. own.arrays k ≡ true) (λ k. is_among k (map (switch_global p) g.switches) ≡ false) _ (λ k e. no_switch k (split (not (is_own_switch p (slice_get p.functions f) k)) (reads_array g k) e).0) (bodies.arrays_within p own g asked);
   }
+    where
+      is_false : (b : Bool) → not b ≡ true → b ≡ false
+      is_false true e = let n : false ≡ true = e in absurd (cc)
+      is_false false e = refl
+
+      no_switch : (k : ℕ) → not (is_own_switch p (slice_get p.functions f) k) ≡ true → is_among k (map (switch_global p) g.switches) ≡ false
+      no_switch k e = sym (ap (λ o. is_own_switch p o k) h.there) ∙ is_false (is_own_switch p (slice_get p.functions f) k) e
 
   pub small : IsSmall g (lower_function p g)
   small = bodies.lowered_small p own g asked

@@ -77,8 +77,11 @@ module _ (p : Program) (own : ℕ) (fn : Function) (globals : Globals) (locals :
   abbrev count : ℕ
   count = length p.globals
 
+  abbrev is_own : ℕ → Bool
+  is_own = is_own_switch p (slice_get p.functions own)
+
   abbrev Holds : holding.Reading → Type 0
-  Holds = holding.Holds globals count
+  Holds = holding.Holds globals count is_own
 
   abbrev form_known : Form → Bool
   form_known = fold-Form Bool Bool Bool (form_calls_known p) target_in_parts layer_in
@@ -165,8 +168,8 @@ module _ (p : Program) (own : ℕ) (fn : Function) (globals : Globals) (locals :
       let ds = split (names_declared outer e) (all_of (map (names_declared outer) es)) d in
       let ks = split (calls_known p e) (all_of (map (calls_known p) es)) k in
       and_from (is_within globals locals sizes inner e) (all_within es)
-      (h.0 (record { typed = t.0; named = ns.0; declared = ds.0; known = ks.0; held = holding.holds_left globals count (λ s a. expr_reads s a e) (any_reads es) r }))
-      (all_good es h.1 t.1 ns.1 ds.1 ks.1 (holding.holds_right globals count (λ s a. expr_reads s a e) (any_reads es) r))
+      (h.0 (record { typed = t.0; named = ns.0; declared = ds.0; known = ks.0; held = holding.holds_left globals count is_own (λ s a. expr_reads s a e) (any_reads es) r }))
+      (all_good es h.1 t.1 ns.1 ds.1 ks.1 (holding.holds_right globals count is_own (λ s a. expr_reads s a e) (any_reads es) r))
 
   parameters_few : (f : ℕ) (g : Function) (args : List Expr) → slice_get p.functions f ≡ Some g → types_of args ≡ parameter_types g → length args ≤ 8
   parameters_few f g args e q =
@@ -207,10 +210,10 @@ module _ (p : Program) (own : ℕ) (fn : Function) (globals : Globals) (locals :
   index x s a = (target_reads s a x).index
 
   abbrev left : (x y : holding.Reading) → Holds (λ s a. x s a || y s a) → Holds x
-  left = holding.holds_left globals count
+  left = holding.holds_left globals count is_own
 
   abbrev right : (x y : holding.Reading) → Holds (λ s a. x s a || y s a) → Holds y
-  right = holding.holds_right globals count
+  right = holding.holds_right globals count is_own
 
   pair : (a b : Expr) → S a → S b → TypedExpr p fn a → TypedExpr p fn b → (N a && N b) ≡ true → (D a && (D b && true)) ≡ true → (K a && (K b && true)) ≡ true → Holds (λ s x. R a s x || R b s x) → (I a && I b) ≡ true
   pair a b ha hb ta tb n d k r =
@@ -304,11 +307,11 @@ module _ (p : Program) (own : ℕ) (fn : Function) (globals : Globals) (locals :
       let b = and_from (nat_lt l locals) (inner l && is_scalar (sizes l)) ns.0 (and_from (inner l) (is_scalar (sizes l)) (narrow l ms.0 d) ms.1) in
       record { read = λ held. b; stored = b }
   target_layer (form.GlobalAt g e) h t type parts n d k r =
-      let ns = split (not (is_own_switch p (slice_get p.functions own) g)) (N e) n in
+      let ns = split (not (is_own g)) (N e) n in
       let i = h (record { typed = parts; named = ns.1; declared = d; known = one (K e) k; held = r }) in
       let b = there g (below g t type.0) in
       record {
-        read = λ held. and_from (globals.there g) (globals.arrays g && I e) b (and_from (globals.arrays g) (I e) (held.arrays g (below g t type.0) (eq-eqb g g refl)) i);
+        read = λ held. and_from (globals.there g) (globals.arrays g && I e) b (and_from (globals.arrays g) (I e) (held.arrays g (below g t type.0) ns.0 (eq-eqb g g refl)) i);
         stored = and_from (globals.there g) (I e) b i;
       }
   target_layer (form.LocalAt l e) h t type parts n d k r =
@@ -334,7 +337,7 @@ module _ (p : Program) (own : ℕ) (fn : Function) (globals : Globals) (locals :
         declared = sym (fold-roll-Form Bool Bool Bool form_in (target_in outer) layer_in x) ∙ g.declared;
         known = sym (fold-roll-Form Bool Bool Bool (form_calls_known p) target_in_parts layer_in x) ∙ g.known;
         held =
-            holding.holds_same globals count (λ s a. reads_layer s a (read_parts s a x)) (λ s a. form_reads s a (roll-Form x))
+            holding.holds_same globals count is_own (λ s a. reads_layer s a (read_parts s a x)) (λ s a. form_reads s a (roll-Form x))
             (λ s a. fold-roll-Form Bool LvalueReads Bool (reads_layer s a) (lvalue_reads s a) (inner_reads s a) x) g.held;
       })
 
@@ -348,11 +351,11 @@ module _ (p : Program) (own : ℕ) (fn : Function) (globals : Globals) (locals :
       (sym (fold-roll-Target (CType → Bool) Bool Bool (names_form p own locals sizes free) (names_target p own locals sizes free) (names_layer p own locals sizes free) x) ∙ g.named)
       (sym (fold-roll-Target Bool Bool Bool form_in (target_in outer) layer_in x) ∙ g.declared)
       (sym (fold-roll-Target Bool Bool Bool (form_calls_known p) target_in_parts layer_in x) ∙ g.known)
-      (holding.holds_same globals count (λ s a. (lvalue_reads s a (read_places s a x)).index) (index (roll-Target x)) (λ s a. ap (λ (l : LvalueReads). l.index) (reads_as s a)) g.held) in
+      (holding.holds_same globals count is_own (λ s a. (lvalue_reads s a (read_places s a x)).index) (index (roll-Target x)) (λ s a. ap (λ (l : LvalueReads). l.index) (reads_as s a)) g.held) in
       record {
         read = λ held.
             ap (λ (l : Access). l.read) within_as ∙
-            reached.read (holding.holds_same globals count (λ s a. (lvalue_reads s a (read_places s a x)).itself) (itself (roll-Target x)) (λ s a. ap (λ (l : LvalueReads). l.itself) (reads_as s a)) held);
+            reached.read (holding.holds_same globals count is_own (λ s a. (lvalue_reads s a (read_places s a x)).itself) (itself (roll-Target x)) (λ s a. ap (λ (l : LvalueReads). l.itself) (reads_as s a)) held);
         stored = ap (λ (l : Access). l.stored) within_as ∙ reached.stored;
       }
 
@@ -366,7 +369,7 @@ module _ (p : Program) (own : ℕ) (fn : Function) (globals : Globals) (locals :
         declared = sym (fold-roll-Expr Bool Bool Bool form_in (target_in outer) layer_in x) ∙ g.declared;
         known = sym (fold-roll-Expr Bool Bool Bool (form_calls_known p) target_in_parts layer_in x) ∙ g.known;
         held =
-            holding.holds_same globals count (λ s a. form_reads s a x.what) (R (roll-Expr x))
+            holding.holds_same globals count is_own (λ s a. form_reads s a x.what) (R (roll-Expr x))
             (λ s a. fold-roll-Expr Bool LvalueReads Bool (reads_layer s a) (lvalue_reads s a) (inner_reads s a) x) g.held;
       })
 

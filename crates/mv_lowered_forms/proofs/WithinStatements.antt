@@ -1,6 +1,6 @@
 -- The statements of a well-formed function are within the limits.
 use Rattle.std.proofs.Common.{◌≡◌, ℕ, suc, ◌<◌, Bool, true, false, not, cond, List, [], ◌∷◌, ◌++◌, map, length, refl, sym, ◌∙◌, ap, subst, arith, Option, Some, None}
-use Rattle.std.specs.Prelude.{◌&&◌, ◌||◌, nat_lt, nat_eq, nat_le, All, option_to_list}
+use Rattle.std.specs.Prelude.{◌&&◌, ◌||◌, nat_lt, nat_eq, nat_le, All, option_to_list, slice_get}
 use Rattle.std.proofs.lemmas.Bool.{and_from}
 use Rattle.mv_ast.specs.declared.program.Program.{Program}
 use Rattle.mv_ast.specs.declared.program.Function.{Function}
@@ -14,7 +14,7 @@ use Rattle.mv_ir.proofs.Induction.{Each}
 use Rattle.mv_ir.proofs.Keeping.{map_append}
 use Rattle.mv_numbering.specs.Typing.{HasTypedParts, IsTypedAt, IsTypedExpr, IsTypedOption}
 use Rattle.mv_numbering.proofs.Typed.{TypedStmt, TypedArm, AllStmts, AllArms, StmtParts, stmt_parts, stmt_node, arm_parts}
-use Rattle.mv_lowering.specs.Lower.{all_of, is_well_named}
+use Rattle.mv_lowering.specs.Lower.{all_of, is_well_named, is_own_switch}
 use Rattle.mv_lowering.specs.LowerStatements.{but_for, named_option, stmt_named_layer, arm_named_layer, stmt_is_well_formed, arm_is_well_formed}
 use Rattle.mv_lowering.proofs.Expressions.{split, no}
 use Rattle.mv_lowered_programs.specs.Scopes.{Scope, Scoped, with_local, with_declared, all_scoped, scope_behind, names_declared, option_declared, scoped_layer, arm_scoped_layer, stmt_scoped, arm_scoped}
@@ -47,14 +47,17 @@ module _ (p : Program) (own : ℕ) (fn : Function) (globals : Globals) (locals :
   abbrev count : ℕ
   count = length p.globals
 
+  abbrev is_own : ℕ → Bool
+  is_own = is_own_switch p (slice_get p.functions own)
+
   abbrev Holds : holding.Reading → Type 0
-  Holds = holding.Holds globals count
+  Holds = holding.Holds globals count is_own
 
   abbrev left : (x y : holding.Reading) → Holds (λ s a. x s a || y s a) → Holds x
-  left = holding.holds_left globals count
+  left = holding.holds_left globals count is_own
 
   abbrev right : (x y : holding.Reading) → Holds (λ s a. x s a || y s a) → Holds y
-  right = holding.holds_right globals count
+  right = holding.holds_right globals count is_own
 
   -- ---- expressions
 
@@ -251,8 +254,8 @@ module _ (p : Program) (own : ℕ) (fn : Function) (globals : Globals) (locals :
   both_held : (xs ys : List Stmt) → Holds (λ r a. any_of (map (stmt_reads r a) xs ++ map (stmt_reads r a) ys)) → Holds (reads_all xs) × Holds (reads_all ys)
   both_held xs ys h =
       let whole : holding.Reading = λ r a. any_of (map (stmt_reads r a) xs ++ map (stmt_reads r a) ys) in (
-        holding.holds_within globals count (reads_all xs) whole (λ r a e. any_left (map (stmt_reads r a) xs) (map (stmt_reads r a) ys) e) h,
-        holding.holds_within globals count (reads_all ys) whole (λ r a e. any_right (map (stmt_reads r a) xs) (map (stmt_reads r a) ys) e) h,
+        holding.holds_within globals count is_own (reads_all xs) whole (λ r a e. any_left (map (stmt_reads r a) xs) (map (stmt_reads r a) ys) e) h,
+        holding.holds_within globals count is_own (reads_all ys) whole (λ r a e. any_right (map (stmt_reads r a) xs) (map (stmt_reads r a) ys) e) h,
       )
 
   abbrev reads_exprs : List Expr → holding.Reading
@@ -261,8 +264,8 @@ module _ (p : Program) (own : ℕ) (fn : Function) (globals : Globals) (locals :
   exprs_held : (xs ys : List Expr) → Holds (reads_exprs (xs ++ ys)) → Holds (reads_exprs xs) × Holds (reads_exprs ys)
   exprs_held xs ys h =
       let q : (r a : ℕ → Bool) → any_of (map (expr_reads r a) (xs ++ ys)) ≡ any_of (map (expr_reads r a) xs ++ map (expr_reads r a) ys) = λ r a. ap (λ bs. any_of bs) (map_append (expr_reads r a) xs ys) in (
-        holding.holds_within globals count (reads_exprs xs) (reads_exprs (xs ++ ys)) (λ r a e. q r a ∙ any_left (map (expr_reads r a) xs) (map (expr_reads r a) ys) e) h,
-        holding.holds_within globals count (reads_exprs ys) (reads_exprs (xs ++ ys)) (λ r a e. q r a ∙ any_right (map (expr_reads r a) xs) (map (expr_reads r a) ys) e) h,
+        holding.holds_within globals count is_own (reads_exprs xs) (reads_exprs (xs ++ ys)) (λ r a e. q r a ∙ any_left (map (expr_reads r a) xs) (map (expr_reads r a) ys) e) h,
+        holding.holds_within globals count is_own (reads_exprs ys) (reads_exprs (xs ++ ys)) (λ r a e. q r a ∙ any_right (map (expr_reads r a) xs) (map (expr_reads r a) ys) e) h,
       )
 
   layer : (x : Stmt-F Stmt Arm) → source.Children Inside ArmInside x → (scope : Scope) → GoodLayer x scope → (stmt_scope_layer globals locals sizes (within_parts x)).within scope ≡ true
@@ -350,7 +353,7 @@ module _ (p : Program) (own : ℕ) (fn : Function) (globals : Globals) (locals :
               scoped = sym (ap (λ (z : Scoped). z.holds scope) scoped_as) ∙ g.scoped;
               known = sym (fold-roll-Stmt Bool Bool (all_layer K) all_arm_layer x) ∙ g.known;
               held =
-                  holding.holds_same globals count (λ r a. stmt_reads_layer r a (read_parts r a x)) (λ r a. stmt_reads r a (roll-Stmt x))
+                  holding.holds_same globals count is_own (λ r a. stmt_reads_layer r a (read_parts r a x)) (λ r a. stmt_reads r a (roll-Stmt x))
                   (λ r a. fold-roll-Stmt Bool Bool (stmt_reads_layer r a) (arm_reads_layer r a) x) g.held;
             });
         behind = λ scope. ap (λ (z : asked.Scope). z.behind scope) within_as ∙ (behind_layer x scope ∙ sym (ap (λ (z : Scoped). with_declared z.declares scope) scoped_as));
@@ -368,7 +371,7 @@ module _ (p : Program) (own : ℕ) (fn : Function) (globals : Globals) (locals :
               scoped = sym (ap (λ (z : Scope → Bool). z scope) (fold-roll-Arm Scoped (Scope → Bool) scoped_layer arm_scoped_layer x)) ∙ g.scoped;
               known = sym (fold-roll-Arm Bool Bool (all_layer K) all_arm_layer x) ∙ g.known;
               held =
-                  holding.holds_same globals count (reads_all x.body) (λ r a. arm_reads r a (roll-Arm x)) (λ r a. fold-roll-Arm Bool Bool (stmt_reads_layer r a) (arm_reads_layer r a) x) g.held;
+                  holding.holds_same globals count is_own (reads_all x.body) (λ r a. arm_reads r a (roll-Arm x)) (λ r a. fold-roll-Arm Bool Bool (stmt_reads_layer r a) (arm_reads_layer r a) x) g.held;
             });
       }
 

@@ -1,4 +1,8 @@
 //! What the code that functions are lowered to names: functions, known functions and constants that are there.
+//!
+//! - `lowered_names_are_there`: the code of a well-formed program's functions names only functions, orders and switches
+//!   that the program has; without commits, reverts and polls it calls only `getchar` and `putchar`; its constants are
+//!   words where the source's numbers are. `renaming_keeps_names`: renaming temporaries changes none of these names.
 #![tactic(auto)]
 
 ghost use Rattle.mv_lowered_names.specs.Laws.{ConstantsAreWords, FunctionsAreThere, NothingIsMarked, OnlyInputAndOutput, OrdersAreThere, RenamingKeepsNames};

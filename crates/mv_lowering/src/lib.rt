@@ -3,6 +3,18 @@
 //! An expression is lowered, from the first free temporary on, to statements and a tree for its value at their end (`specs/Lowered.antt`,
 //! `specs/Lower.antt`); a statement to statements, by where control leads from it (`specs/Statements.antt`, `specs/LowerStatements.antt`).
 //! Evaluation is left to right, traps come before stores, and a place is evaluated once.
+//!
+//! - `specs/Lowered.antt`, `Lower.antt`, `Statements.antt` and `LowerStatements.antt` say to which code each expression
+//!   and each statement is lowered ([docs/compiler.md](compiler.md)), `specs/Functions.antt` to what functions and
+//!   programs are.
+//! - `expressions_are_right`: an expression that names only what there is, lowered from any free temporary on and run in
+//!   any frame that has room, does what it means (value, effects, traps) at a cost of at most 100 × work, keeping the
+//!   value included. The premises are that the functions that it calls and the known functions do so, and that a call
+//!   through a pointer reaches only functions that fit it. No tree of a lowered expression is deeper than 4.
+//! - `statements_are_right`: the same of well-formed statements, labelled as they should be, of all forms, at every
+//!   bound: blocks, declarations with their values, choices, loops, `switch` with fall through, and every way for control
+//!   to leave, again at a cost of at most 100 × work.
+//! - A crate of laws, without a test.
 #![tactic(auto)]
 
 ghost use Rattle.mv_lowering.specs.Law.{ExpressionsAreRight, ExpressionsAreShallow, StatementsAreRight};

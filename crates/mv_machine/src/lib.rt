@@ -1,4 +1,17 @@
 //! The machine that runs an image.
+//!
+//! - `specs/Runs.antt` defines the run: the state of an image after n instructions under a list of picks.
+//! - `Machine::start` gives the first state. `Machine::run` is that definition for the given number of instructions,
+//!   under the oracle's way or, where it tells none, one list of picks, one for each executed instruction but for one
+//!   that can't be fetched; a told list's place goes on by as many. `Ended`, `Trapped` and `Fault` are its stop; `Steps`
+//!   comes where that many were executed and none ended the run. After a failed read or write the state is the one before
+//!   that call, which is a read or a write, and the count of the source's or the sink's faults rose; neither count ever
+//!   falls. A machine that has ended gives its answer again and does nothing. Each probe that is left was told the log of
+//!   the state. `bindings` and `word` are the state's.
+//! - Not built yet: the environment calls of commits and polls, which are the fault `call` so far. So the probes are left
+//!   as they were, a clause says, and no action is taken.
+//! - Only tested: that each pick is told the address of its instruction; two images that store over their own words under
+//!   three oracles, seven faults with their places, and an echo whose read or write fails (`mv_machine_cases`).
 #![tactic(auto)]
 
 mod call;

@@ -1,7 +1,8 @@
 -- What an environment call does from a calm time.
-use Rattle.std.proofs.Common.{◌≡◌, ℕ, ◌+◌, ◌-◌, ◌%◌, ◌^◌, ◌<◌, ◌≤◌, true, false, eqb, ltb, List, [], ◌∷◌, ◌++◌, length, slice_index, Option, Some, None, refl, sym, ap, ◌∙◌, subst, arith}
+use Rattle.std.proofs.Common.{◌≡◌, ℕ, ◌+◌, ◌-◌, ◌%◌, ◌^◌, ◌<◌, ◌≤◌, Bool, true, false, eqb, ltb, List, [], ◌∷◌, ◌++◌, length, slice_index, Option, Some, None, refl, sym, ap, ◌∙◌, subst, arith}
 use Rattle.std.proofs.lemmas.Bool.{lt-ltb, ne_eqb}
 use Rattle.mv_ast.specs.declared.world.Action.{Action}
+use Rattle.mv_isa.specs.Encoding.{decode}
 use Rattle.mv_isa.specs.Execution.{Outcome, Goes, Calls, Faults, reg, put, step}
 use Rattle.mv_fetch.specs.Held.{Room, choices}
 use Rattle.mv_rv32.specs.Stepping.{access as room_access}
@@ -12,9 +13,10 @@ use Rattle.mv_machine.specs.Runs.{State, Stop, Exit, Trap, Reads, Writes, reques
 use Rattle.mv_machine.proofs.Turns.{runs_more, turn_by, IsOver, runs_over}
 use Rattle.mv_machine_runs.specs.Calm.{Rest, IsCalm}
 use Rattle.mv_machine_runs.specs.Calls.{IsAnswered, stopped_at, AtCall, CallsAreAnswered}
-use Rattle.mv_machine_runs.specs.MachineRuns.{access, rest_of, spot_of, unpatched_word, has_one_choice}
+use Rattle.mv_machine_runs.specs.MachineRuns.{access, rest_of, spot_of, unpatched_word, is_sound}
 use Rattle.mv_machine_runs.proofs.Steps.{beside, step_beside}
 use Rattle.mv_machine_runs.proofs.Fetches.{unpatched_stands, calm_choice, fetches_one}
+use Rattle.mv_machine_runs.proofs.Open.{sound_at, decodes_none}
 
 -- ---- what a call leaves
 
@@ -122,8 +124,8 @@ module _ (image : Fields) (input : List (Option ℕ)) (actions : List Action) (p
       runs_more (first image input actions) picks i ∙ turn_by (at i) (slice_index picks i) outcome h.calm.goes_on fetched
       ∙ ap (λ a. environment_call (request_of a) (at i)) h.asks
 
-  sound : (number i : ℕ) (w : World) → Asked number i w → has_one_choice (spot_of (at i)) ≡ true
-  sound number i w h = let c = called number i w h in ap (λ (words : List ℕ). eqb (length words) 1) c.one
+  sound : (closed : (pc address : ℕ) → Bool) (number i : ℕ) (w : World) → Asked number i w → is_sound closed (spot_of (at i)) ≡ true
+  sound closed number i w h = let c = called number i w h in sound_at closed (spot_of (at i)) c.word c.one (λ a e. absurd (decodes_none room_access (at i).regs (at i).pc (at i).room (decode c.word) a c.calls e))
 
   reads : (i : ℕ) (w : World) → Asked 1 i w → IsAnswered image (next_byte w.input w) (spot_of (at i)) (spot_of (at (i + 1)))
   unfolding request_of
@@ -149,5 +151,5 @@ module _ (image : Fields) (input : List (Option ℕ)) (actions : List Action) (p
   traps i j w h ge le lt =
       stays i j (Trap (reg (at i).regs 10)) tt (after_call 3 i w h ∙ ap (stopped (at i)) (trap_is (reg (at i).regs 10) ge le)) lt
 
-  pub answered_calls : CallsAreAnswered image input actions picks
-  answered_calls = record { sound = sound; exits = exits; reads = reads; writes = writes; traps = traps }
+  pub answered_calls : (closed : (pc address : ℕ) → Bool) → CallsAreAnswered image input actions picks closed
+  answered_calls closed = record { sound = sound closed; exits = exits; reads = reads; writes = writes; traps = traps }

@@ -3,6 +3,7 @@ mod Registers
 mod Memory
 mod Calming
 mod Fetches
+mod Open
 mod Starts
 pub mod OnRuns
 pub mod Under

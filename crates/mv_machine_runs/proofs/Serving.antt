@@ -1,5 +1,5 @@
 -- The machine serves `getchar` and `putchar`.
-use Rattle.std.proofs.Common.{◌≡◌, ◌≢◌, inl, inr, ⊎_elim, ℕ, ◌+◌, ◌*◌, ◌^◌, ◌<◌, ◌≤◌, true, List, [], ◌∷◌, length, slice_index, slice_index_or, Option, Some, refl, sym, ap, ◌∙◌, subst, arith}
+use Rattle.std.proofs.Common.{◌≡◌, ◌≢◌, inl, inr, ⊎_elim, ℕ, ◌+◌, ◌*◌, ◌^◌, ◌<◌, ◌≤◌, Bool, true, List, [], ◌∷◌, length, slice_index, slice_index_or, Option, Some, refl, sym, ap, ◌∙◌, subst, arith}
 use Rattle.std.specs.List.{All}
 use Rattle.std.proofs.lemmas.List.Elements.{All-head}
 use Rattle.std.proofs.lemmas.Bool.{cases_eq}
@@ -26,7 +26,7 @@ use Rattle.mv_call_code.specs.Convention.{Layout, IsSaved, HoldsGlobals, Stands,
 use Rattle.mv_call_code.specs.Environment.{Serves, ServesCalls}
 use Rattle.mv_machine_runs.specs.Calm.{Rest, IsCalm}
 use Rattle.mv_machine_runs.specs.Calls.{IsAnswered, AtCall, CallsAreAnswered}
-use Rattle.mv_machine_runs.specs.MachineRuns.{access, unpatched_word, run_of, machine_of, has_one_choice}
+use Rattle.mv_machine_runs.specs.MachineRuns.{access, unpatched_word, run_of, machine_of, is_sound}
 use Rattle.mv_machine_runs.specs.Laws.{IsByteOrEnd}
 use Rattle.mv_machine_runs.proofs.Answering.{answered_calls}
 use Rattle.mv_machine_runs.proofs.Calming.{calm_told, calm_tested}
@@ -67,9 +67,9 @@ not_saved q (inl h) e = omega (arith, h, e)
 not_saved q (inr (inl h)) e = omega (arith, h, e)
 not_saved q (inr (inr h)) e = omega (arith, h.0, e)
 
-module _ (attributed : List ℕ) (image : Fields) (input : List (Option ℕ)) (actions : List Action) (picks : List ℕ) (bytes : All IsByteOrEnd input) (y : Layout) (budget far : ℕ) where
+module _ (attributed : List ℕ) (closed : (pc address : ℕ) → Bool) (image : Fields) (input : List (Option ℕ)) (actions : List Action) (picks : List ℕ) (bytes : All IsByteOrEnd input) (y : Layout) (budget far : ℕ) where
   abbrev machine : Machine Rest
-  machine = machine_of attributed image input actions picks
+  machine = machine_of attributed closed image input actions picks
 
   abbrev run : ℕ → Spot Rest
   run = run_of image input actions picks
@@ -85,7 +85,7 @@ module _ (attributed : List ℕ) (image : Fields) (input : List (Option ℕ)) (a
     small : answer.value < 2 ^ 32
 
   module _ (outer answer : Answer) (w : World) (pc i : ℕ) (fits : Fits outer answer w) (h : St pc w i) (at_word : unpatched_word image pc ≡ Some (encode Ecall)) (done : IsAnswered image outer (run i) (run (i + 1)))
-      (one : has_one_choice (run i) ≡ true) where
+      (one : is_sound closed (run i) ≡ true) where
     loads : (a : ℕ) → access.load (run (i + 1)).memory a 4 ≡ access.load (run i).memory a 4
     loads a = loads_same (run i).memory (run (i + 1)).memory a 4 done.room
 
@@ -112,7 +112,7 @@ module _ (attributed : List ℕ) (image : Fields) (input : List (Option ℕ)) (a
         let below = unpatched_below image pc (encode Ecall) at_word in record {
           at = done.pc ∙ ap (λ a. add a 4) h.at ∙ add_small pc 4 (omega (arith, below));
           calm = calm_tested image (outside answer.world) (run (i + 1)).memory (subst (λ x. IsCalm image x (run (i + 1)).memory) fits.world done.calm);
-          sound = λ t lt. ⊎_elim (λ (e : t ≡ i). ap (λ k. has_one_choice (run k)) e ∙ one) (λ (ne : t ≢ i). h.sound t (omega arith)) (cases_eq t i);
+          sound = λ t lt. ⊎_elim (λ (e : t ≡ i). ap (λ k. is_sound closed (run k)) e ∙ one) (λ (ne : t ≢ i). h.sound t (omega arith)) (cases_eq t i);
           globals = globals_held;
           are = subst AreRegisters (sym regs_are) (put_registers (run i).regs 10 answer.value h.are (omega arith) (omega arith) fits.small);
         }
@@ -139,8 +139,8 @@ module _ (attributed : List ℕ) (image : Fields) (input : List (Option ℕ)) (a
   }
 
   module _ (numbers : List ℕ) (p : Program) where
-    answers : CallsAreAnswered image input actions picks
-    answers = answered_calls image input actions picks
+    answers : CallsAreAnswered image input actions picks closed
+    answers = answered_calls image input actions picks closed
 
     byte_served : (args : List ℕ) (pc i : ℕ) → unpatched_word image pc ≡ Some (encode Ecall) → Serves access y machine budget far (setting_of numbers p) 1 pc (pc + 4) Getchar args i
     byte_served args pc i at_word spare bound w h asks paid asked =

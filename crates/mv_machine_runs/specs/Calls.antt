@@ -1,5 +1,5 @@
 -- What the machine does at environment calls from a calm time.
-use Rattle.std.specs.Prelude.{ℕ, ◌≡◌, ◌+◌, ◌%◌, ◌^◌, ◌<◌, ◌≤◌, true, List, Option}
+use Rattle.std.specs.Prelude.{ℕ, ◌≡◌, ◌+◌, ◌%◌, ◌^◌, ◌<◌, ◌≤◌, Bool, true, List, Option}
 use Rattle.mv_ast.specs.declared.world.Action.{Action}
 use Rattle.mv_num.specs.Words.{add}
 use Rattle.mv_isa.specs.Execution.{Calls, reg, put, step}
@@ -9,7 +9,7 @@ use Rattle.mv_ir.specs.KnownFunctions.{next_byte, written}
 use Rattle.mv_machine.specs.Runs.{Stop, Exit, Trap}
 use Rattle.mv_flow_code.specs.Runs.{Spot}
 use Rattle.mv_machine_runs.specs.Calm.{Rest, IsCalm}
-use Rattle.mv_machine_runs.specs.MachineRuns.{access, has_one_choice, run_of, unpatched_word}
+use Rattle.mv_machine_runs.specs.MachineRuns.{access, is_sound, run_of, unpatched_word}
 
 -- The next instruction stands behind the call, with the answer in a0. Memory is as it was, and all else is as the world that the answer leaves.
 pub record IsAnswered (image : Fields) (answer : Answer) (now next : Spot Rest) : Type 0 where
@@ -36,8 +36,8 @@ module _ (image : Fields) (input : List (Option ℕ)) (actions : List Action) (p
   argument i = reg (run i).regs 10
 
   -- A read and a write do what `getchar` and `putchar` do. An exit and a trap end the run.
-  pub record CallsAreAnswered : Type 0 where
-    pub sound : (number i : ℕ) (w : World) → AtCall number i w → has_one_choice (run i) ≡ true
+  pub record CallsAreAnswered (closed : (pc address : ℕ) → Bool) : Type 0 where
+    pub sound : (number i : ℕ) (w : World) → AtCall number i w → is_sound closed (run i) ≡ true
     pub exits : (i j : ℕ) (w : World) → AtCall 0 i w → i < j → run j ≡ stopped_at (run i) (Exit (argument i % 2 ^ 8))
     pub reads : (i : ℕ) (w : World) → AtCall 1 i w → IsAnswered image (next_byte w.input w) (run i) (run (i + 1))
     pub writes : (i : ℕ) (w : World) → AtCall 2 i w → IsAnswered image (written (argument i) w) (run i) (run (i + 1))

@@ -9,7 +9,7 @@ IsOutsideText a = (0x0010_0000 ≤ a) × (a < 0x0040_0000)
 
 -- the frame's own cells lie there
 abbrev pub OwnOutsideText : Site → Type 0
-OwnOutsideText s = (x : Cell) → IsOwn x → IsThere s x → IsOutsideText (address s x)
+OwnOutsideText s = (x : Cell) → IsOwn s x → IsThere s x → IsOutsideText (address s x)
 
 -- the address of the frame: what sp holds
 abbrev pub frame_at : Site → ℕ

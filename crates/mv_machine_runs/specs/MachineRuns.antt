@@ -1,6 +1,7 @@
 -- The machine as a run on which code stands. Its text has what is never patched, and the sites as slots; what stands under bindings is told apart.
-use Rattle.std.specs.Prelude.{ℕ, ◌-◌, ◌/◌, ◌%◌, Bool, ◌||◌, cond, eqb, ltb, List, length, slice_get, is_some, Option, None, option_map, option_and_then}
+use Rattle.std.specs.Prelude.{ℕ, ◌-◌, ◌/◌, ◌%◌, Bool, true, not, ◌&&◌, ◌||◌, cond, eqb, ltb, List, [], ◌∷◌, length, slice_get, is_some, Option, Some, None, option_map, option_and_then}
 use Rattle.mv_ast.specs.declared.world.Action.{Action}
+use Rattle.mv_isa.specs.Encoding.{decode}
 use Rattle.mv_isa.specs.Execution.{Access}
 use Rattle.mv_fetch.specs.Held.{Room, choices}
 use Rattle.mv_rv32.specs.Stepping as memory
@@ -11,6 +12,7 @@ use Rattle.mv_ir.specs.World.{World}
 use Rattle.mv_machine.specs.Runs.{State, runs}
 use Rattle.mv_flow_code.specs.Placed.{Text}
 use Rattle.mv_flow_code.specs.Runs.{Spot, Machine}
+use Rattle.mv_function_code.specs.Loads.{loads_from}
 use Rattle.mv_machine_runs.specs.Calm.{Rest, is_calm}
 use Rattle.mv_patch.specs.Orders.{values_of}
 
@@ -63,14 +65,28 @@ machine_text attributed image = record { word = unpatched_word image; slot = cal
 abbrev pub has_one_choice : Spot Rest → Bool
 has_one_choice spot = eqb (length (choices spot.memory.room.held spot.pc)) 1
 
+-- a load, if it is one, isn't from a closed address
+abbrev pub opens : (closed : ℕ → Bool) → Option ℕ → Bool
+opens closed None = true
+opens closed (Some a) = not (closed a)
+
+-- none of some words is a load from a closed address
+abbrev pub are_open : (closed : ℕ → Bool) → (regs words : List ℕ) → Bool
+are_open closed regs [] = true
+are_open closed regs (word ∷ words) = opens closed (option_and_then (λ i. loads_from i regs) (decode word)) && are_open closed regs words
+
+-- What a fetch gives at a spot doesn't depend on the pick, and is no load from an address that is closed to what stands there.
+abbrev pub is_sound : (closed : (pc address : ℕ) → Bool) → Spot Rest → Bool
+is_sound closed spot = has_one_choice spot && are_open (closed spot.pc) spot.regs (choices spot.memory.room.held spot.pc)
+
 -- the run of an image on an input, by any picks of the fetches
 abbrev pub run_of : Fields → (input : List (Option ℕ)) → List Action → (picks : List ℕ) → ℕ → Spot Rest
 run_of image input actions picks n = spot_of (runs image input actions picks n)
 
-abbrev pub machine_of : (attributed : List ℕ) → Fields → (input : List (Option ℕ)) → List Action → (picks : List ℕ) → Machine Rest
-machine_of attributed image input actions picks = record {
+abbrev pub machine_of : (attributed : List ℕ) → (closed : (pc address : ℕ) → Bool) → Fields → (input : List (Option ℕ)) → List Action → (picks : List ℕ) → Machine Rest
+machine_of attributed closed image input actions picks = record {
   text = machine_text attributed image;
   is_calm = is_calm image;
-  is_sound = has_one_choice;
+  is_sound = is_sound closed;
   run = run_of image input actions picks;
 }

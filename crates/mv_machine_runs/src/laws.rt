@@ -1,4 +1,4 @@
-ghost use Rattle.mv_machine_runs.specs.Laws.{CalmIsTested, RunsAreRuns, RunsAreRunsUnder, BoundStepsAreTaken, TextsAreFound, CodeIsPlaced, FreeLinesStand, BindingsAreShown, RunsBeginInCalm, KnownCallsAreServed, PackedIsLaidOut, EnvironmentCalls, BoundWordsAreInstructions};
+ghost use Rattle.mv_machine_runs.specs.Laws.{CalmIsTested, RunsAreRuns, RunsAreRunsAlone, RunsAreRunsUnder, BoundStepsAreTaken, TextsAreFound, CodeIsPlaced, FreeLinesStand, BindingsAreShown, RunsBeginInCalm, KnownCallsAreServed, PackedIsLaidOut, EnvironmentCalls, BoundWordsAreInstructions};
 ghost use Rattle.mv_machine_runs.specs.Shown.{BindingsHaveValues, BoundFunctionsShow, FreeFunctionsShow};
 
 /// The test of calm is true exactly where the machine is calm. The call does nothing: its contract is the law.
@@ -6,9 +6,14 @@ pub fn calm_is_tested()
     ensures { CalmIsTested }
 {}
 
-/// The machine is one on which code runs.
+/// The machine is one on which code runs that loads from no address that is closed.
 pub fn runs_are_runs()
     ensures { RunsAreRuns }
+{}
+
+/// So it is where only a part of text stands, for code that loads from no address that is closed there.
+pub fn runs_are_runs_alone()
+    ensures { RunsAreRunsAlone }
 {}
 
 /// From a calm time, the word that stands under the bindings is executed, also where text may be patched.
@@ -16,7 +21,8 @@ pub fn bound_steps_are_taken()
     ensures { BoundStepsAreTaken }
 {}
 
-/// The machine under some bindings, over the words that stand under these, is one on which code runs.
+/// The machine under some bindings, over a part of the words that stand under these, is one on which code runs that loads from no address that is closed
+/// there.
 pub fn runs_are_runs_under()
     ensures { RunsAreRunsUnder }
 {}

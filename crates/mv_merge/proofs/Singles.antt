@@ -3,6 +3,7 @@ use Rattle.std.proofs.Common.{arith, ◌≡◌, ℕ, zero, suc, ◌+◌, ◌-◌
 use Rattle.std.specs.Prelude.{slice_get, slice_index, slice_index_or, nat_lt, nat_le, if◌then◌else◌, Some}
 use Rattle.std.proofs.lemmas.Bool.Decides.{nat_tests}
 use Rattle.std.proofs.lemmas.List.{get_or_append_left, length-map}
+use Rattle.std.proofs.lemmas.Option.{slice_get_within}
 use Rattle.std.proofs.Math.Seq.{get_or-append_right}
 use Rattle.mv_num.specs.Kinds.{kind_number, is_signed, rank, is_at_most}
 use Rattle.mv_num.specs.Bytes.{AreWords}
@@ -15,7 +16,7 @@ use Rattle.mv_merge.specs.declared.rows.Domain.{Domain}
 use Rattle.mv_merge.specs.declared.rows.Bound.{Bound}
 use Rattle.mv_merge.specs.declared.rows.Guarded.{Guarded}
 use Rattle.mv_merge.specs.declared.rows.Variants.{Variants}
-use Rattle.mv_merge.specs.Guards.{kinds, domain_values, row_holds, AreValues, all_values, bodies_led_to, SomeHolds, AtMostOne, LeadsTo, EachLeads, IsClean, AreClean, IsMerged}
+use Rattle.mv_merge.specs.Guards.{kinds, domain_values, row_holds, AreValues, all_values, bodies_led_to, SomeHolds, AtMostOne, LeadsTo, EachLeads, IsClean, HasRanges, EachRow, IsMerged}
 use Rattle.mv_merge.specs.Grouping.{padded, single, Leads, HaveWords, IsGrouped}
 
 -- ---- values and their order
@@ -210,7 +211,7 @@ module _ (domains : List Domain) where
   padded_clean : (us : List ℕ) → AreValues domains us → ZerosFrom (length domains) (padded us)
   padded_clean us u i le = get_or-append_right us (replicate (6 - length us) 0) i 0 (omega (arith, le, u.each)) ∙ zeros_at (6 - length us) (i - length us)
 
-  all_clean : (bodies : List Body) (rows : List Bound) (guards : List Guarded) → AllValues rows → Leads bodies rows guards → AreClean domains guards
+  all_clean : (bodies : List Body) (rows : List Bound) (guards : List Guarded) → AllValues rows → Leads bodies rows guards → EachRow (IsClean domains) guards
   all_clean bodies [] [] w l = tt
   all_clean bodies [] (g ∷ guards) w l = absurd l
   all_clean bodies (r ∷ rows) [] w l = absurd l
@@ -236,6 +237,31 @@ module _ (domains : List Domain) where
       let lt : 0 < suc (length (all_values rows)) = omega arith in
       (width domains r.assignment.values (h r.assignment.values (0, lt, λ d. refl)), widths rows (λ vs i. h vs (in_behind vs r.assignment.values (all_values rows) i)))
 
+  -- ---- ranges
+
+  value_in : (ds : List Domain) (vs : List ℕ) → IsCombination (domain_values ds) vs → (i : ℕ) (d : Domain) → slice_get ds i ≡ Some d → In (slice_index vs i) d.values
+  value_in [] vs h i d e = absurd cc
+  value_in (c ∷ ds) [] h i d e = absurd h
+  value_in (c ∷ ds) (v ∷ vs) h zero d e = let same : c ≡ d = cc in subst (λ (x : Domain). In v x.values) same h.0
+  value_in (c ∷ ds) (v ∷ vs) h (suc i) d e = value_in ds vs h.1 i d e
+
+  single_ranges : (vs : List ℕ) → IsCombination (domain_values domains) vs → HasRanges domains (single vs)
+  single_ranges vs h i d e =
+      let below : i < length vs = let within = slice_get_within domains i d e in omega (arith, within, width domains vs h) in
+      let here : In (slice_index (padded vs) i) d.values = subst (λ v. In v d.values) (sym (padded_at vs i below)) (value_in domains vs h i d e) in
+      record { lowest = here; highest = here; ordered = le_self (rank (kind_number d.kind) (slice_index (padded vs) i)) }
+
+  all_ranges : (bodies : List Body) (rows : List Bound) (guards : List Guarded) → ((vs : List ℕ) → In vs (all_values rows) → IsCombination (domain_values domains) vs) →
+      Leads bodies rows guards → EachRow (HasRanges domains) guards
+  all_ranges bodies [] [] h l = tt
+  all_ranges bodies [] (g ∷ guards) h l = absurd l
+  all_ranges bodies (r ∷ rows) [] h l = absurd l
+  all_ranges bodies (r ∷ rows) (g ∷ guards) h l =
+      let first : 0 < suc (length (all_values rows)) = omega arith in (
+        subst (HasRanges domains) (sym l.0.0) (single_ranges r.assignment.values (h r.assignment.values (0, first, λ d. refl))),
+        all_ranges bodies rows guards (λ vs i. h vs (in_behind vs r.assignment.values (all_values rows) i)) l.1,
+      )
+
   all_values_of : (rows : List Bound) → Widths rows → HaveWords rows → AllValues rows
   all_values_of [] w h = tt
   all_values_of (r ∷ rows) w h = (record { each = w.0; words = h.0 }, all_values_of rows w.1 h.1)
@@ -251,5 +277,6 @@ module _ (domains : List Domain) where
         apart = g.apart;
         used = g.used;
         count = as_many v.bodies rows v.guards g.leads;
+        ranges = all_ranges v.bodies rows v.guards c.only g.leads;
         clean = all_clean v.bodies rows v.guards w g.leads;
       }

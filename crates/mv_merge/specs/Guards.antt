@@ -1,6 +1,6 @@
 -- What the rows and the variants of a function are to be.
-use Rattle.std.specs.Prelude.{ℕ, ◌<◌, ◌≡◌, ◌↔◌, ◌⊎◌, Bool, true, List, [], ◌∷◌, length, map, slice_get, Some}
-use Rattle.mv_num.specs.Kinds.{kind_number}
+use Rattle.std.specs.Prelude.{ℕ, ◌<◌, ◌≡◌, ◌↔◌, ◌⊎◌, Bool, true, List, [], ◌∷◌, length, map, slice_get, slice_index, Some}
+use Rattle.mv_num.specs.Kinds.{kind_number, is_at_most}
 use Rattle.mv_num.specs.Bytes.{AreWords}
 use Rattle.mv_ir.specs.declared.body.Body.{Body}
 use Rattle.mv_ir.specs.Combinations.{In, AllApart, IsCombination}
@@ -58,17 +58,29 @@ abbrev pub EachLeads : List Domain → List Body → List Guarded → List Bound
 EachLeads domains bodies guards [] = Unit {0}
 EachLeads domains bodies guards (r ∷ rows) = LeadsTo domains bodies guards r.assignment.values r.body × EachLeads domains bodies guards rows
 
+-- a fact of each row
+abbrev pub EachRow : (GuardRow → Type 0) → List Guarded → Type 0
+EachRow P [] = Unit {0}
+EachRow P (g ∷ guards) = P g.row × EachRow P guards
+
 -- the words of a row that belong to no switch are 0
 abbrev pub IsClean : List Domain → GuardRow → Type 0
 IsClean domains row = ZerosFrom (length domains) row.low × ZerosFrom (length domains) row.high
 
-abbrev pub AreClean : List Domain → List Guarded → Type 0
-AreClean domains [] = Unit {0}
-AreClean domains (g ∷ guards) = IsClean domains g.row × AreClean domains guards
+-- a range goes from one value of a domain up to another
+pub record IsRange (domain : Domain) (low high : ℕ) : Type 0 where
+  pub lowest : In low domain.values
+  pub highest : In high domain.values
+  pub ordered : is_at_most (kind_number domain.kind) low high ≡ true
+
+-- those of a row that belong to a switch are a range of its domain
+abbrev pub HasRanges : List Domain → GuardRow → Type 0
+HasRanges domains row = (i : ℕ) (d : Domain) → slice_get domains i ≡ Some d → IsRange d (slice_index row.low i) (slice_index row.high i)
 
 -- Of any words for the switches some row holds exactly where they are a combination of the domains' values, and at
 -- most one; each assignment's row leads to the body that came with it; each body came with an assignment, no two are
--- equal, and each has a row; there are as many rows as assignments, and their unused words are 0.
+-- equal, and each has a row; there are as many rows as assignments, they give ranges of the domains, and their unused
+-- words are 0.
 pub record IsMerged (domains : List Domain) (rows : List Bound) (variants : Variants) : Type 0 where
   pub exact : (vs : List ℕ) → AreValues domains vs → SomeHolds domains variants.guards vs ↔ IsCombination (domain_values domains) vs
   pub disjoint : (vs : List ℕ) → AreValues domains vs → AtMostOne domains variants.guards vs
@@ -77,4 +89,5 @@ pub record IsMerged (domains : List Domain) (rows : List Bound) (variants : Vari
   pub apart : AllApart variants.bodies
   pub used : (i : ℕ) → i < length variants.bodies → In i (bodies_led_to variants.guards)
   pub count : length variants.guards ≡ length rows
-  pub clean : AreClean domains variants.guards
+  pub ranges : EachRow (HasRanges domains) variants.guards
+  pub clean : EachRow (IsClean domains) variants.guards

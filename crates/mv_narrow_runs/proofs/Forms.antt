@@ -15,4 +15,4 @@ pub jumps : (M : Type 0) → JumpsUnder M
 jumps M access y laid machine test text on budget far = jumps_under access y machine test text budget far laid on
 
 pub firsts : (M : Type 0) → FirstsUnder M
-firsts M access y laid machine test text memory on budget far = firsts_under access y machine test text budget far laid memory on
+firsts M access y laid machine test text on budget far = firsts_under access y machine test text budget far laid on

@@ -1,29 +1,31 @@
 -- What narrowed machines do, the machine does.
-use Rattle.std.proofs.Common.{◌≡◌, ℕ, ◌+◌, ◌-◌, ◌*◌, ◌%◌, ◌≤◌, ◌<◌, Bool, true, ◌&&◌, List, pos, ◌-ℤ◌, sym, refl, ap, subst, ◌∙◌, Some, None, arith}
+use Rattle.std.proofs.Common.{◌≡◌, inl, ℕ, ◌+◌, ◌-◌, ◌*◌, ◌%◌, ◌≤◌, ◌<◌, Bool, true, ◌&&◌, List, pos, ◌-ℤ◌, sym, refl, ap, subst, ◌∙◌, Some, None, arith}
 use Rattle.std.proofs.lemmas.Bool.{and_parts, and_from}
 use Rattle.mv_isa.specs.declared.instr.Instr.TheVariants.{Addi, Jal}
 use Rattle.mv_isa.specs.declared.labelled.Line.TheVariants as line
 use Rattle.mv_isa.specs.Code.{IsPlace, distance}
-use Rattle.mv_isa.specs.Execution.{Access, reg, put}
+use Rattle.mv_isa.specs.Execution.{Access, Goes, reg, put}
 use Rattle.mv_isa.specs.LineSteps.{LineRuns}
 use Rattle.mv_isa.specs.Standing.{InstrStands, SlotStands}
-use Rattle.mv_isa.proofs.LineSteps.{line_runs}
+use Rattle.mv_isa.proofs.LineSteps.{line_runs, stands_steps}
 use Rattle.mv_ir.specs.World.{World}
 use Rattle.mv_ir.specs.Outcome.{End, Returned, Trapped, More, Stuck, Call}
 use Rattle.mv_tree_code.specs.View.{AreRegisters}
 use Rattle.mv_statement_code.specs.Frames.{Site}
+use Rattle.mv_statement_code.proofs.TreesFirst.{add_small}
 use Rattle.mv_flow_code.specs.Placed.{Text}
 use Rattle.mv_flow_code.specs.Runs.{Spot, Machine, outside, LeadsOn, IsRun}
-use Rattle.mv_flow_code.proofs.Walk.{stands_at}
+use Rattle.mv_flow_code.proofs.Walk as walk
+use Rattle.mv_flow_code.proofs.Walk.{stands_at, steps_on}
 use Rattle.mv_call_code.specs.CallCode.{link_register}
 use Rattle.mv_call_code.specs.Convention.{Layout, IsTarget, IsAbove, Stands, Enters, Returns, FollowsCall, Answers, entry_cost, slot_cost}
 use Rattle.mv_function_code.specs.Functions.{IsLaid, IsMemory, LowersStack}
-use Rattle.mv_function_code.proofs.FrameWords.{words_site, ok, W}
-use Rattle.mv_function_code.proofs.Steps.{down}
+use Rattle.mv_function_code.proofs.FrameWords.{words_site}
+use Rattle.mv_function_code.proofs.Steps.{lowers_sp}
 use Rattle.mv_narrow_runs.specs.Narrowed as spec
 use Rattle.mv_narrow_runs.specs.Narrowed.{LeavesTrue}
-use Rattle.mv_narrow_runs.specs.Laws.{Runs, Jumps}
-use Rattle.mv_narrow_runs.proofs.Slots.{slot_answers, Stepped, stepped}
+use Rattle.mv_narrow_runs.specs.Laws.{Runs, nothing, Jumps}
+use Rattle.mv_narrow_runs.proofs.Slots.{own, on_run, slot_answers, Stepped, stepped}
 
 module _ {M : Type 0} (access : Access M) (y : Layout) (machine : Machine M) (test : World → Bool) (text : Text) where
   abbrev narrowed : Machine M
@@ -126,8 +128,8 @@ module _ {M : Type 0} (access : Access M) (y : Layout) (machine : Machine M) (te
     jumps_under laid runs to at jump here there depth frames args w i t stands enters =
         record { registers = same_regs; stands = stands_too to w (i + 1) next.stands; enters = entered; follows = follows }
       where
-        does : LineRuns access text.word (machine.run i).memory at (at + 4) to (machine.run i).regs (line.Jump 0 0)
-        does = line_runs access (machine.run i).memory text.word (λ l. to) (λ l. to) at (at + 4) (line.Jump 0 0) (record { jump = jump; end_is = refl }) (omega arith) here there (machine.run i).regs stands.are.count
+        does : LineRuns (own access y laid narrowed runs budget far) text.word (machine.run i).memory at (at + 4) to (machine.run i).regs (line.Jump 0 0)
+        does = line_runs (own access y laid narrowed runs budget far) (machine.run i).memory text.word (λ l. to) (λ l. to) at (at + 4) (line.Jump 0 0) (record { jump = jump; end_is = refl }) (omega arith) here there (machine.run i).regs stands.are.count
 
         next : Stepped access y laid narrowed runs budget far to (put (machine.run i).regs 0 (at + 4)) w i
         next = stepped access y laid narrowed runs budget far at to (put (machine.run i).regs 0 (at + 4)) w i (subst (λ r. AreRegisters r) (sym (put_zero (machine.run i).regs (at + 4))) stands.are) does
@@ -165,18 +167,22 @@ module _ {M : Type 0} (access : Access M) (y : Layout) (machine : Machine M) (te
         follows spare k back (More u) c = c
         follows spare k back Stuck c = c
 
-    pub firsts_under : IsLaid y → IsMemory access y machine → Runs access y narrowed → (bytes at : ℕ) → InstrStands text.word at (Addi 2 2 (pos 0 -ℤ pos bytes)) → IsPlace at →
+    pub firsts_under : IsLaid y → Runs access y narrowed → (bytes at : ℕ) → InstrStands text.word at (Addi 2 2 (pos 0 -ℤ pos bytes)) → IsPlace at →
         (w : World) (i : ℕ) → 0 < bytes → bytes ≤ reg (machine.run i).regs 2 → test (outside w) ≡ true → Stands access y machine budget far at w i → LowersStack machine bytes (at + 4) i
-    firsts_under laid memory runs bytes at first here w i some enough t stands = record { goes = next.is; sound = next.sound i (omega arith) }
+    firsts_under laid runs bytes at first here w i some enough t stands = record { goes = next.is; sound = next.sound i (omega arith) }
       where
-        before : W access y laid narrowed (memory_too memory) runs budget far (λ l. 0) w at (machine.run i).regs (machine.run i).memory i
-        before = stands_at access (words_site y) narrowed (ok access y laid narrowed (memory_too memory) runs budget far (λ l. 0)) (λ l. 0) 0 budget far w (machine.run i).pc at (machine.run i).regs
-            (machine.run i).memory i stands.at
+        ok : IsRun access (words_site y nothing) narrowed
+        ok = on_run access y laid narrowed runs budget far
+
+        before : walk.Stands access (words_site y nothing) narrowed ok y.entry 0 budget far w at (machine.run i).regs (machine.run i).memory i
+        before = stands_at access (words_site y nothing) narrowed ok y.entry 0 budget far w (machine.run i).pc at (machine.run i).regs (machine.run i).memory i stands.at
             (record { is = refl; calm = and_from (test (outside w)) (machine.is_calm (outside w) (machine.run i).memory) t stands.calm; sound = stands.sound })
 
-        next : W access y laid narrowed (memory_too memory) runs budget far (λ l. 0) w (at + 4) (put (machine.run i).regs 2 (reg (machine.run i).regs 2 - bytes)) (machine.run i).memory (i + 1)
-        next = down access y laid narrowed (memory_too memory) runs budget far (λ l. 0) bytes (reg (machine.run i).regs 2) w at (at + 4) (machine.run i).regs (machine.run i).memory i some enough
-            (stands.are.words 2) refl (record { stands = (first, refl); fits = first.fields; here = here; there = here; label = tt }) before
+        next : walk.Stands access (words_site y nothing) narrowed ok y.entry 0 budget far w (at + 4) (put (machine.run i).regs 2 (reg (machine.run i).regs 2 - bytes)) (machine.run i).memory (i + 1)
+        next = steps_on access (words_site y nothing) narrowed ok y.entry 0 budget far w at (at + 4) (machine.run i).regs (put (machine.run i).regs 2 (reg (machine.run i).regs 2 - bytes)) (machine.run i).memory (machine.run i).memory i
+            (stands_steps (own access y laid narrowed runs budget far) (machine.run i).memory text.word (machine.run i).regs at (Addi 2 2 (pos 0 -ℤ pos bytes)) first
+            ∙ lowers_sp (own access y laid narrowed runs budget far) (machine.run i).memory bytes (reg (machine.run i).regs 2) (machine.run i).regs some enough (stands.are.words 2) refl at
+            ∙ ap (λ z. Goes (put (machine.run i).regs 2 (reg (machine.run i).regs 2 - bytes)) z (machine.run i).memory) (add_small at 4 (omega (arith, here.1)))) (inl refl) before
 
 module _ {M : Type 0} (access : Access M) (y : Layout) (machine : Machine M) (test : World → Bool) where
   abbrev alone : Machine M

@@ -11,14 +11,15 @@ use Rattle.mv_ir.specs.Outcome.{End, Returned, Trapped, More, Stuck, Call}
 use Rattle.mv_tree_code.specs.View.{AreRegisters}
 use Rattle.mv_tree_code.proofs.Registers.{put_same, put_other, put_registers}
 use Rattle.mv_statement_code.specs.StatementCode.{first}
-use Rattle.mv_statement_code.specs.Frames.{Site}
+use Rattle.mv_statement_code.specs.Leads.{limited}
 use Rattle.mv_flow_code.specs.Runs.{Spot, Machine, outside, IsRun}
 use Rattle.mv_flow_code.proofs.Walk as walk
 use Rattle.mv_flow_code.proofs.Walk.{steps_on, stands_at}
 use Rattle.mv_call_code.specs.CallCode.{link_register, left_register, live_register}
 use Rattle.mv_call_code.specs.Convention.{Layout, IsTarget, IsSaved, HoldsGlobals, Stands, Enters, Returns, FollowsCall, Answers, entry_cost, slot_cost}
-use Rattle.mv_function_code.specs.Functions.{IsLaid, StandsInWords}
+use Rattle.mv_function_code.specs.Functions.{IsLaid}
 use Rattle.mv_function_code.proofs.FrameWords.{words_site, words_stand}
+use Rattle.mv_narrow_runs.specs.Laws.{Runs, nothing}
 
 -- what a callee sets back isn't ra
 saved_other : (q : ℕ) → IsSaved q → q ≢ link_register
@@ -26,9 +27,12 @@ saved_other q (inl e) same = omega (arith, e, same)
 saved_other q (inr (inl e)) same = omega (arith, e, same)
 saved_other q (inr (inr h)) same = omega (arith, h.0, same)
 
-module _ {M : Type 0} (access : Access M) (y : Layout) (laid : IsLaid y) (machine : Machine M) (runs : (s : Site) → StandsInWords y s → IsRun access s machine) (budget far : ℕ) where
-  abbrev on_run : IsRun access (words_site y) machine
-  on_run = runs (words_site y) (words_stand y laid)
+module _ {M : Type 0} (access : Access M) (y : Layout) (laid : IsLaid y) (machine : Machine M) (runs : Runs access y machine) (budget far : ℕ) where
+  abbrev pub on_run : IsRun access (words_site y nothing) machine
+  on_run = runs (words_site y nothing) (words_stand y nothing laid) (λ a h. h)
+
+  abbrev pub own : Access M
+  own = limited access (words_site y nothing)
 
   abbrev At : ℕ → World → ℕ → Type 0
   At = Stands access y machine budget far
@@ -43,7 +47,7 @@ module _ {M : Type 0} (access : Access M) (y : Layout) (laid : IsLaid y) (machin
     pub memory : (machine.run (i + 1)).memory ≡ (machine.run i).memory
     pub stands : At pc w (i + 1)
 
-  pub stepped : (pc to : ℕ) (regs : List ℕ) (w : World) (i : ℕ) → AreRegisters regs → Leads access machine.text.word (machine.run i).memory (machine.run i).regs pc regs to → At pc w i → Stepped to regs w i
+  pub stepped : (pc to : ℕ) (regs : List ℕ) (w : World) (i : ℕ) → AreRegisters regs → Leads own machine.text.word (machine.run i).memory (machine.run i).regs pc regs to → At pc w i → Stepped to regs w i
   stepped pc to regs w i are leads h = record {
     registers = ap (λ (x : Spot M). x.regs) a.is;
     memory = same;
@@ -55,11 +59,11 @@ module _ {M : Type 0} (access : Access M) (y : Layout) (laid : IsLaid y) (machin
       are = subst AreRegisters (sym (ap (λ (x : Spot M). x.regs) a.is)) are;
     };
   } where
-    here : walk.Stands access (words_site y) machine on_run y.entry 0 budget far w pc (machine.run i).regs (machine.run i).memory i
-    here = stands_at access (words_site y) machine on_run y.entry 0 budget far w (machine.run i).pc pc (machine.run i).regs (machine.run i).memory i h.at (record { is = refl; calm = h.calm; sound = h.sound })
+    here : walk.Stands access (words_site y nothing) machine on_run y.entry 0 budget far w pc (machine.run i).regs (machine.run i).memory i
+    here = stands_at access (words_site y nothing) machine on_run y.entry 0 budget far w (machine.run i).pc pc (machine.run i).regs (machine.run i).memory i h.at (record { is = refl; calm = h.calm; sound = h.sound })
 
-    a : walk.Stands access (words_site y) machine on_run y.entry 0 budget far w to regs (machine.run i).memory (i + 1)
-    a = steps_on access (words_site y) machine on_run y.entry 0 budget far w pc to (machine.run i).regs regs (machine.run i).memory (machine.run i).memory i leads (inl refl) here
+    a : walk.Stands access (words_site y nothing) machine on_run y.entry 0 budget far w to regs (machine.run i).memory (i + 1)
+    a = steps_on access (words_site y nothing) machine on_run y.entry 0 budget far w pc to (machine.run i).regs regs (machine.run i).memory (machine.run i).memory i leads (inl refl) here
 
     same : (machine.run (i + 1)).memory ≡ (machine.run i).memory
     same = ap (λ (x : Spot M). x.memory) a.is
@@ -67,8 +71,8 @@ module _ {M : Type 0} (access : Access M) (y : Layout) (laid : IsLaid y) (machin
   -- ---- the two instructions of a slot
 
   module _ (to at : ℕ) (slot : SlotStands machine.text.word at (at + 8) to) (here : IsPlace at) (there : IsPlace to) where
-    does : (m : M) (regs : List ℕ) → length regs ≡ 32 → LineRuns access machine.text.word m at (at + 8) to regs (line.Slot 0)
-    does m regs count = line_runs access m machine.text.word (λ g. to) (λ g. to) at (at + 8) (line.Slot 0) slot tt here there regs count
+    does : (m : M) (regs : List ℕ) → length regs ≡ 32 → LineRuns own machine.text.word m at (at + 8) to regs (line.Slot 0)
+    does m regs count = line_runs own m machine.text.word (λ g. to) (λ g. to) at (at + 8) (line.Slot 0) slot tt here there regs count
 
     behind : at + 4 < 2 ^ 32
     behind = omega (arith, here.1)

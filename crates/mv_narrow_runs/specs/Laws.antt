@@ -1,5 +1,5 @@
 -- What is proved of narrowed machines.
-use Rattle.std.specs.Prelude.{ℕ, ◌≡◌, ◌↔◌, ◌+◌, ◌<◌, ◌≤◌, Bool, true, List, pos, ◌-ℤ◌}
+use Rattle.std.specs.Prelude.{ℕ, ◌≡◌, ◌↔◌, ◌+◌, ◌<◌, ◌≤◌, Bool, true, false, List, pos, ◌-ℤ◌}
 use Rattle.mv_ast.specs.declared.world.Binding.{Binding}
 use Rattle.mv_isa.specs.declared.instr.Instr.TheVariants.{Addi, Jal}
 use Rattle.mv_isa.specs.Code.{IsPlace, distance}
@@ -7,20 +7,24 @@ use Rattle.mv_isa.specs.Execution.{Access, reg}
 use Rattle.mv_isa.specs.Standing.{InstrStands, SlotStands}
 use Rattle.mv_ir.specs.World.{World}
 use Rattle.mv_ir.specs.Outcome.{End, Call}
-use Rattle.mv_statement_code.specs.Frames.{Site}
+use Rattle.mv_statement_code.specs.Frames.{Reach, Site}
 use Rattle.mv_flow_code.specs.Placed.{Text}
 use Rattle.mv_flow_code.specs.Runs.{Machine, outside, IsRun}
 use Rattle.mv_call_code.specs.CallCode.{link_register}
 use Rattle.mv_call_code.specs.Convention.{Layout, IsTarget, Stands, Enters, FollowsCall, entry_cost, slot_cost}
-use Rattle.mv_function_code.specs.Functions.{IsLaid, IsMemory, StandsInWords, LowersStack}
+use Rattle.mv_function_code.specs.Functions.{IsLaid, IsMemory, RunsWithin, LowersStack}
 use Rattle.mv_narrow_runs.specs.Narrowed.{narrowed, same_bindings, LeavesTrue}
 
 abbrev pub BindingsAreTold : Type 0
 BindingsAreTold = (xs ys : List Binding) → (same_bindings xs ys ≡ true) ↔ (xs ≡ ys)
 
--- frames' code runs on a machine
+-- code that uses no global and loads nothing
+abbrev pub nothing : Reach
+nothing = record { is_read = λ g. false; is_written = λ g. false; may_load = λ a. false }
+
+-- such code runs on a machine, of frames that stand in words
 abbrev pub Runs : {M : Type 0} → Access M → Layout → Machine M → Type 0
-Runs access y machine = (s : Site) → StandsInWords y s → IsRun access s machine
+Runs access y machine = RunsWithin access y machine nothing
 
 -- ---- between a machine and a narrowed one
 
@@ -74,6 +78,6 @@ JumpsUnder M =
 -- The first instruction of a function moves sp down.
 abbrev pub FirstsUnder : Type 0 → Type 0
 FirstsUnder M =
-    (access : Access M) (y : Layout) → IsLaid y → (machine : Machine M) (test : World → Bool) (text : Text) → IsMemory access y machine → Runs access y (narrowed machine test text) →
+    (access : Access M) (y : Layout) → IsLaid y → (machine : Machine M) (test : World → Bool) (text : Text) → Runs access y (narrowed machine test text) →
     (budget far bytes at : ℕ) → InstrStands text.word at (Addi 2 2 (pos 0 -ℤ pos bytes)) → IsPlace at → (w : World) (i : ℕ) → 0 < bytes → bytes ≤ reg (machine.run i).regs 2 →
     test (outside w) ≡ true → Stands access y machine budget far at w i → LowersStack machine bytes (at + 4) i

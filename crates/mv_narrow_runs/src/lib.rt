@@ -2,6 +2,14 @@
 //!
 //! Words that stand only while some bindings hold are the text of a machine that is calm only in worlds with these bindings. What they do there, they do on
 //! the machine itself in such worlds.
+//!
+//! A machine can be narrowed: the same run, calm in fewer worlds, over another text. Under some bindings its text is
+//! the words that stand while these hold.
+//!
+//! - `narrow_runs_law`: a call that is followed on a narrowed machine is followed on the machine, and the other way round
+//!   where it leaves the test true; a slot whose words stand in the narrowed text calls its target; an entry with a jump
+//!   goes to the jump's target; and an entry with a function's first instruction moves sp down. None of these loads
+//!   anything.
 #![tactic(auto)]
 
 ghost use Rattle.mv_narrow_runs.specs.Laws.{BindingsAreTold, FirstsUnder, JumpsUnder, NarrowedAreAlike, NarrowedRuns, SlotsUnder};

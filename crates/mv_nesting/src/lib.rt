@@ -1,4 +1,9 @@
 //! How deep the tokens of a source are nested: a bound on what a reader by recursion must remember.
+//!
+//! - `first_too_deep`: the place of the first token at which the level is above 255, and `None` exactly where no level
+//!   is. The level is the sum of the counters of what is open, by `specs/Nesting.antt`; the code keeps them in a stack with
+//!   their sum, in one pass.
+//! - A table of 23 rows, worked out by hand, shows the definition.
 #![tactic(auto)]
 
 ghost use Rattle.std.specs.Prelude.{◌≡◌, ◌≤◌, [], ◌∷◌, All, IfOk, MatchOption};

@@ -1,4 +1,8 @@
 //! A function whose switches are those that its statements name names no other switch.
+//!
+//! Laws on a unit that `unit_judgement` finds good, and its program.
+//!
+//! - `own_switches_are_named`: a function whose switches are those that its statements name names no other.
 #![tactic(auto)]
 
 ghost use Rattle.mv_own_switches.specs.OwnSwitches.{OwnSwitchesAreNamed};

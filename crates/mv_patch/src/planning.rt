@@ -1,4 +1,4 @@
-ghost use Rattle.std.specs.Prelude.{◌≡◌, ◌≤◌, ◌<◌, ◌↔◌, length, OnOk, OnErr, Err};
+ghost use Rattle.std.specs.Prelude.{◌≡◌, ◌≤◌, ◌<◌, length, OnOk, OnErr, IfErr};
 ghost use Rattle.mv_patch.specs.Tables.{patchable};
 ghost use Rattle.mv_patch.specs.Orders.{code_of, index_of, plan_of};
 
@@ -34,7 +34,8 @@ pub fn plan(
     requires bound { length bound.now ≡ length image.now.functions }
     ensures planned { OnOk result (into.new.planned ≡ plan_of image.now memory.now.held bound.now (code_of order) (index_of order)) }
     ensures none_live { OnOk result (live ≡ 0) }
-    ensures live { (result ≡ Err (PlanError.Live live)) ↔ (0 < live) }
+    ensures some_live { OnErr result (0 < live) }
+    ensures live { IfErr result (λ e. e ≡ PlanError.Live live) }
     ensures refused { OnErr result (into.new ≡ into.old) }
     ensures count { length into.new.planned.bound ≡ length image.now.functions }
     ensures few { OnOk result (length into.new.planned.pairs ≤ patchable image.now) }

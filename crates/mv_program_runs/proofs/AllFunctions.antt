@@ -25,7 +25,8 @@ use Rattle.mv_lowering.specs.Law.{strict_context}
 use Rattle.mv_flow_code.specs.Runs.{Machine, outside}
 use Rattle.mv_call_code.specs.CallCode.{link_register}
 use Rattle.mv_call_code.specs.Convention.{Layout, IsTarget, Stands, Enters, FollowsCall, Answers, entry_cost, slot_cost, Convention, Conventions}
-use Rattle.mv_function_code.specs.Functions.{FunctionsKeep, LaterKeeps}
+use Rattle.mv_function_code.specs.Functions.{FunctionsKeep, LaterKeeps, part, alone}
+use Rattle.mv_function_code.proofs.Alone.{word_in}
 use Rattle.mv_inline_bodies.specs.InlineOf.{inline_of}
 use Rattle.mv_inline_bodies.specs.Laws.{InlineAnswers}
 use Rattle.mv_narrow_runs.specs.Narrowed.{has_bindings, words_alone, under, LeavesTrue}
@@ -34,7 +35,7 @@ use Rattle.mv_source_calls.specs.SourceCalls.{as_call, any_frame, meaningless, c
 use Rattle.mv_source_calls.specs.Laws.{BodiesAreRight, CallsKeepBindings}
 use Rattle.mv_program_runs.specs.Hosts.{IsHost, IsVariant, IsPatched, IsLoaded, SlotShows}
 use Rattle.mv_program_runs.proofs.Frames.{leaves_true}
-use Rattle.mv_program_runs.proofs.Entries.{plain_answers, free_answers, variant_promises, variant_answers, bound_answers, promised}
+use Rattle.mv_program_runs.proofs.Entries.{nothing_open, slot_in, plain_answers, free_answers, variant_promises, variant_answers, bound_answers, promised}
 
 -- the laws that the induction stands on
 pub record Known (M : Type 0) : Type 0 where
@@ -53,9 +54,9 @@ pub record Known (M : Type 0) : Type 0 where
   pub firsts : narrow.FirstsUnder M
   pub inlines : InlineAnswers M
 
-module _ {M : Type 0} (access : Access M) (y : Layout) (machine : Machine M) (words : List Binding → ℕ → Option ℕ) (budget far : ℕ) (p : Program) (numbers : List ℕ)
-    (loaded : IsLoaded access y machine words budget far p numbers) (known : Known M) where
-  abbrev host : IsHost access y machine words budget far p numbers
+module _ {M : Type 0} (access : Access M) (y : Layout) (machine : Machine M) (words : List Binding → ℕ → Option ℕ) (closed : (pc address : ℕ) → Bool) (budget far : ℕ) (p : Program) (numbers : List ℕ)
+    (loaded : IsLoaded access y machine words closed budget far p numbers) (known : Known M) where
+  abbrev host : IsHost access y machine words closed budget far p numbers
   host = loaded.host
 
   abbrev setting : Setting
@@ -98,16 +99,16 @@ module _ {M : Type 0} (access : Access M) (y : Layout) (machine : Machine M) (wo
           where
             attributed : g.attributed ≡ true → Bindings g w → FC spare i back (Source f depth frames args w).end
             attributed is (inl free) =
-                free_answers access y machine words budget far p numbers loaded known.right k below f depth frames args g here count is known.later known.firsts known.told known.frames_free back i target ra spare w free
+                free_answers access y machine words closed budget far p numbers loaded known.right k below f depth frames args g here count is known.later known.firsts known.told known.frames_free back i target ra spare w free
                 stands enters paid asked
             attributed is (inr b) =
-                bound_answers access y machine words budget far p numbers loaded known.right k below f depth frames args g here count is b.0 b.2 b.3 known.each known.jumps known.told known.frames_bound
+                bound_answers access y machine words closed budget far p numbers loaded known.right k below f depth frames args g here count is b.0 b.2 b.3 known.each known.jumps known.told known.frames_bound
                 back i target ra spare w b.1 stands enters paid asked
 
             by : (z : Bool) → g.attributed ≡ z → FC spare i back (Source f depth frames args w).end
             by true is = attributed is (bindings_of g here is (y.entry f) i w stands)
             by false not =
-                plain_answers access y machine words budget far p numbers loaded known.right k below f depth frames args g here count not known.each back i target ra spare w stands enters paid asked
+                plain_answers access y machine words closed budget far p numbers loaded known.right k below f depth frames args g here count not known.each back i target ra spare w stands enters paid asked
 
       at_entry : (back i : ℕ) → IsTarget back → reg (machine.run i).regs link_register ≡ back →
           Answers access y machine budget far entry_cost (length levels) (y.entry f) back depth frames args (Source f depth frames args) i
@@ -129,7 +130,7 @@ module _ {M : Type 0} (access : Access M) (y : Layout) (machine : Machine M) (wo
         abbrev is : g.attributed ≡ true
         is = (host.slots at f slot).1 g here
 
-        abbrev s : IsPatched y machine.text words p numbers f g
+        abbrev s : IsPatched y machine.text words closed p numbers f g
         s = (loaded.functions f g here).patched is
 
         abbrev bs : List Binding
@@ -146,40 +147,45 @@ module _ {M : Type 0} (access : Access M) (y : Layout) (machine : Machine M) (wo
 
         slot_is_free : IsFreeIn bs (attributed_before p.functions f) → FC spare i (at + 8) (Source f depth frames args w).end
         slot_is_free free =
-            known.slots access y host.laid machine (has_bindings bs) (words_alone (words bs)) (host.runs_under bs) budget far (y.entry f) at (s.slot_free bs at slot free) (host.slots at f slot).0 s.here
+            known.slots access y host.laid machine (has_bindings bs) (part at (at + 8) (words_alone (words bs))) (host.runs_under bs at (at + 8) narrow.nothing (nothing_open closed at (at + 8))) budget far (y.entry f) at
+            (slot_in (words_alone (words bs)) at (y.entry f) (s.slot_free bs at slot free)) (host.slots at f slot).0 s.here
             (length levels) depth frames args (Source f depth frames args) keeps (λ back j target ra spare u t. at_entry back j target ra spare u) i spare w holds stands enters paid asked
 
         slot_is_bound : (vs : List ℕ) → IsBoundIn bs (attributed_before p.functions f) vs → (combination : IsCombination (map (switch_domain p) g.switches) vs) → length vs ≡ length g.switches →
             FC spare i (at + 8) (Source f depth frames args w).end
         slot_is_bound vs bound combination fitting = by (inline_of y.place v.body) refl
           where
-            v : IsVariant y machine.text words p numbers f g vs
+            v : IsVariant y machine.text words closed p numbers f g vs
             v = s.variants vs combination
 
             called : (back j : ℕ) → IsTarget back → reg (machine.run j).regs link_register ≡ back → (spare : ℕ) (u : World) → has_bindings bs (outside u) ≡ true →
                 Stands access y machine budget far v.address u j → Enters access y machine budget far depth frames args j → j + (spare + entry_cost + (Source f depth frames args u).cost) ≤ budget → far ≤ j + length levels →
                 FC spare j back (Source f depth frames args u).end
             called back j target ra spare u t stands enters paid asked =
-                variant_answers access y machine words budget far p numbers loaded known.right k below f depth frames args g here count is vs combination fitting known.each known.frames_bound back j target ra spare u
+                variant_answers access y machine words closed budget far p numbers loaded known.right k below f depth frames args g here count is vs combination fitting known.each known.frames_bound back j target ra spare u
                 (subst (λ (xs : List Binding). IsBoundIn xs (attributed_before p.functions f) vs) ((known.told bs u.bindings).0 t) bound) stands enters (omega (arith, paid)) asked
 
             -- by two instructions
             inlined : (both : Instr × Instr) → inline_of y.place v.body ≡ Some both → InstrStands (words bs) at both.0 × InstrStands (words bs) (at + 4) both.1 → FC spare i (at + 8) (Source f depth frames args w).end
             inlined both e stand =
-                let a = known.alike access y machine (has_bindings bs) (words_alone (words bs)) budget far in
+                let shown = part at (at + 8) (words_alone (words bs)) in
+                let a = known.alike access y machine (has_bindings bs) shown budget far in
                 let done =
-                known.inlines access y host.laid (under machine words bs) ((known.narrowed access y machine (has_bindings bs)).2 (words_alone (words bs)) host.memory) (host.runs_under bs) setting budget far levels
-                true (zip (lower_function p g).switches vs) v.is_read v.is_fine v.body v.fits both.0 both.1 e at (host.slots at f slot).0 stand.0 stand.1 depth frames args (count ∙ sym v.params) cleared (length levels) i in
-                promised access y machine words budget far p numbers loaded known.right k below f depth frames args g here count slot_cost slot_cost spare i (at + 8) _ (Source f depth frames args w) (omega arith)
-                (variant_promises access y machine words budget far p numbers loaded known.right k below f depth frames args g here count is vs combination fitting known.frames_bound cleared w at i bound stands) paid
+                known.inlines access y host.laid (alone (under machine words bs) at (at + 8)) ((known.narrowed access y machine (has_bindings bs)).2 shown host.memory) v.reach v.ample
+                (host.runs_under bs at (at + 8) v.reach (s.slot_open at vs combination slot)) setting budget far levels
+                true (zip (lower_function p g).switches vs) v.is_fine v.body v.fits both.0 both.1 e at (host.slots at f slot).0
+                (word_in (words_alone (words bs)) at (at + 8) at (omega arith) (omega arith) stand.0)
+                (word_in (words_alone (words bs)) at (at + 8) (at + 4) (omega arith) (omega arith) stand.1) depth frames args (count ∙ sym v.params) cleared (length levels) i in
+                promised access y machine words closed budget far p numbers loaded known.right k below f depth frames args g here count slot_cost slot_cost spare i (at + 8) _ (Source f depth frames args w) (omega arith)
+                (variant_promises access y machine words closed budget far p numbers loaded known.right k below f depth frames args g here count is vs combination fitting known.frames_bound cleared w at i bound stands) paid
                 (λ enough. a.2 spare (length levels) i (at + 8) _ (done spare w ((a.0 at w i holds).0 stands) ((a.1 depth frames args i).0 enters) enough asked))
 
             by : (o : Option (Instr × Instr)) → inline_of y.place v.body ≡ o → FC spare i (at + 8) (Source f depth frames args w).end
             by None e =
-                known.slots access y host.laid machine (has_bindings bs) (words_alone (words bs)) (host.runs_under bs) budget far v.address at
-                (subst (SlotShows y machine.text words p numbers f g (words bs) at v.address) e (s.slot_bound bs at vs combination slot bound)) (host.slots at f slot).0 v.placed.1.here
+                known.slots access y host.laid machine (has_bindings bs) (part at (at + 8) (words_alone (words bs))) (host.runs_under bs at (at + 8) narrow.nothing (nothing_open closed at (at + 8))) budget far v.address at
+                (slot_in (words_alone (words bs)) at v.address (subst (SlotShows y machine.text words closed p numbers f g (words bs) at v.address) e (s.slot_bound bs at vs combination slot bound))) (host.slots at f slot).0 v.placed.1.here
                 (length levels) depth frames args (Source f depth frames args) keeps called i spare w holds stands enters paid asked
-            by (Some both) e = inlined both e (subst (SlotShows y machine.text words p numbers f g (words bs) at v.address) e (s.slot_bound bs at vs combination slot bound))
+            by (Some both) e = inlined both e (subst (SlotShows y machine.text words closed p numbers f g (words bs) at v.address) e (s.slot_bound bs at vs combination slot bound))
 
         slot_fitted : FC spare i (at + 8) (Source f depth frames args w).end
         slot_fitted = by (bindings_of g here is at i w stands)

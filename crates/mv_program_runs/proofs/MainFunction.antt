@@ -1,5 +1,5 @@
 -- The main function does what the program means.
-use Rattle.std.proofs.Common.{◌≡◌, ℕ, zero, suc, ◌+◌, ◌≤◌, List, [], length, Option, Some, None, refl, sym, subst, ◌∙◌, arith}
+use Rattle.std.proofs.Common.{◌≡◌, ℕ, zero, suc, ◌+◌, ◌≤◌, Bool, List, [], length, Option, Some, None, refl, sym, subst, ◌∙◌, arith}
 use Rattle.std.specs.Prelude.{All, IsTrue, slice_get}
 use Rattle.mv_ast.specs.declared.program.Program.{Program}
 use Rattle.mv_ast.specs.declared.program.Function.{Function}
@@ -33,8 +33,8 @@ level_count : (calls : ℕ → Calls) (k : ℕ) → length (levels calls k) ≡ 
 level_count calls zero = refl
 level_count calls (suc k) = let below = level_count calls k in omega (arith, below)
 
-module _ {M : Type 0} (access : Access M) (y : Layout) (machine : Machine M) (words : List Binding → ℕ → Option ℕ) (budget far : ℕ) (p : Program) (numbers : List ℕ)
-    (loaded : IsLoaded access y machine words budget far p numbers) (known : Known M) (keep_main : MainKeeps M) (right_main : MainIsRight) (alike : MainEndsAlike)
+module _ {M : Type 0} (access : Access M) (y : Layout) (machine : Machine M) (words : List Binding → ℕ → Option ℕ) (closed : (pc address : ℕ) → Bool) (budget far : ℕ) (p : Program) (numbers : List ℕ)
+    (loaded : IsLoaded access y machine words closed budget far p numbers) (known : Known M) (keep_main : MainKeeps M) (right_main : MainIsRight) (alike : MainEndsAlike)
     (numbering : IsNumbering p numbers) (input : List ℕ) (actions : List Action) (fit : All (λ a. IsTrue (fits p a)) actions)
     (back i : ℕ) (target : IsTarget back) (ra : reg (machine.run i).regs link_register ≡ back) (begins : Begins access y machine i)
     (stands : Stands access y machine budget far (y.entry p.main) (first_seen p numbers input actions) i) (k : ℕ) where
@@ -44,13 +44,13 @@ module _ {M : Type 0} (access : Access M) (y : Layout) (machine : Machine M) (wo
   abbrev here : slice_get p.functions p.main ≡ Some main
   here = loaded.formed.typed.entry.defined
 
-  abbrev host : IsHost access y machine words budget far p numbers
+  abbrev host : IsHost access y machine words closed budget far p numbers
   host = loaded.host
 
   abbrev setting : Setting
   setting = setting_of numbers p
 
-  abbrev s : IsPlain y machine.text words p numbers p.main main
+  abbrev s : IsPlain y machine.text words closed p numbers p.main main
   s = (loaded.functions p.main main here).plain (loaded.formed.entry main here)
 
   abbrev frame : ir.Frame
@@ -70,9 +70,9 @@ module _ {M : Type 0} (access : Access M) (y : Layout) (machine : Machine M) (wo
   followed : Followed
   followed =
       let m =
-      keep_main access y host.laid machine host.memory host.runs setting host.entries budget far host.serves below
-      (all_keep access y machine words budget far p numbers loaded known k) [] s.is_read s.is_fine s.body s.fits (s.params ∙ loaded.formed.typed.entry.bare) s.place s.linked s.is_attributed
-      (y.entry p.main) s.next s.placed back i target ra in
+      keep_main access y host.laid machine host.memory setting host.entries budget far host.serves below
+      (all_keep access y machine words closed budget far p numbers loaded known k) [] s.reach s.is_fine s.body s.ample s.fits (s.params ∙ loaded.formed.typed.entry.bare) s.place s.linked s.is_attributed
+      (y.entry p.main) s.next (host.runs (y.entry p.main) s.next s.reach s.open_there) s.placed back i target ra in
       record { contents = m.0; follows = λ spare paid asked. m.1 spare first stands begins paid asked }
 
   pub main_follows : (c : Call)

@@ -1,5 +1,5 @@
 -- A machine that is calm in any worlds, narrowed to fit ones.
-use Rattle.std.proofs.Common.{◌≡◌, ℕ, ◌+◌, true, List, Option}
+use Rattle.std.proofs.Common.{◌≡◌, ℕ, ◌+◌, Bool, true, List, Option}
 use Rattle.std.proofs.lemmas.Bool.{and_parts}
 use Rattle.mv_ast.specs.declared.program.Program.{Program}
 use Rattle.mv_ast.specs.declared.world.Binding.{Binding}
@@ -11,13 +11,14 @@ use Rattle.mv_fit_worlds.specs.Laws.{FitIsTold, KnownsKeepFit, FirstIsFit}
 use Rattle.mv_flow_code.specs.Runs.{Machine, outside}
 use Rattle.mv_call_code.specs.Convention.{Layout, Returns}
 use Rattle.mv_call_code.specs.Environment.{ServesCalls}
+use Rattle.mv_function_code.specs.Functions.{part, alone}
 use Rattle.mv_narrow_runs.specs.Narrowed.{narrowed, has_bindings, words_alone}
 use Rattle.mv_narrow_runs.specs.Laws as narrow
 use Rattle.mv_program_runs.specs.Hosts.{IsHost, IsOpenHost}
 use Rattle.mv_program_runs.specs.Laws.{first_seen, HostsAreNarrowed, MainFollows, MainFollowsOpenly}
 
 module _ {M : Type 0} (told : FitIsTold) (keep : KnownsKeepFit) (alike : narrow.NarrowedAreAlike M) (runs : narrow.NarrowedRuns M)
-    (access : Access M) (y : Layout) (machine : Machine M) (words : List Binding → ℕ → Option ℕ) (budget far : ℕ) (p : Program) (numbers : List ℕ) where
+    (access : Access M) (y : Layout) (machine : Machine M) (words : List Binding → ℕ → Option ℕ) (closed : (pc address : ℕ) → Bool) (budget far : ℕ) (p : Program) (numbers : List ℕ) where
   abbrev fit : Machine M
   fit = narrowed machine (is_fit p) machine.text
 
@@ -38,13 +39,14 @@ module _ {M : Type 0} (told : FitIsTold) (keep : KnownsKeepFit) (alike : narrow.
         asked = h.asked;
       }
 
-  host : IsOpenHost access y machine words budget far p numbers → IsHost access y fit words budget far p numbers
+  host : IsOpenHost access y machine words closed budget far p numbers → IsHost access y fit words closed budget far p numbers
   host h = record {
     laid = h.laid;
     memory = (runs access y machine (is_fit p)).2 machine.text h.memory;
     sizes = h.sizes;
-    runs = λ s stands. (runs access y machine (is_fit p)).0 s (h.runs s stands);
-    runs_under = λ bs s stands. (runs access y machine (has_bindings bs)).1 (is_fit p) (words_alone (words bs)) machine.text s (h.runs_under bs s stands);
+    runs = λ from to reach free s stands less. (runs access y (alone machine from to) (is_fit p)).0 s (h.runs from to reach free s stands less);
+    runs_under = λ bs from to reach free s stands less.
+        (runs access y machine (has_bindings bs)).1 (is_fit p) (part from to (words_alone (words bs))) machine.text s (h.runs_under bs from to reach free s stands less);
     entries = h.entries;
     serves = record { calls = serves_calls h.calls; stub = h.stub };
     fit = λ w m calm. (told p w).0 (and_parts (is_fit p w) (machine.is_calm w m) calm).0;
@@ -52,18 +54,18 @@ module _ {M : Type 0} (told : FitIsTold) (keep : KnownsKeepFit) (alike : narrow.
   }
 
 pub hosts_narrowed : (M : Type 0) → FitIsTold → KnownsKeepFit → narrow.NarrowedAreAlike M → narrow.NarrowedRuns M → HostsAreNarrowed M
-hosts_narrowed M told keep alike runs access y machine words budget far p numbers loaded = record {
+hosts_narrowed M told keep alike runs access y machine words closed budget far p numbers loaded = record {
   formed = loaded.formed;
-  host = host told keep alike runs access y machine words budget far p numbers loaded.host;
+  host = host told keep alike runs access y machine words closed budget far p numbers loaded.host;
   functions = loaded.functions;
 }
 
 pub main_openly : (M : Type 0) → FitIsTold → FirstIsFit → narrow.NarrowedAreAlike M → HostsAreNarrowed M → MainFollows M → MainFollowsOpenly M
-main_openly M told first alike hosts follows access y machine words budget far p numbers loaded numbering input actions fitting back i target ra begins stands bound =
+main_openly M told first alike hosts follows access y machine words closed budget far p numbers loaded numbering input actions fitting back i target ra begins stands bound =
     let a = alike access y machine (is_fit p) machine.text budget far in
     let t : is_fit p (first_seen p numbers input actions) ≡ true = (told p (first_seen p numbers input actions)).1 (first p numbers input actions fitting) in
     let m =
-    follows access y (narrowed machine (is_fit p) machine.text) words budget far p numbers (hosts access y machine words budget far p numbers loaded) numbering input actions fitting back i target ra
+    follows access y (narrowed machine (is_fit p) machine.text) words closed budget far p numbers (hosts access y machine words closed budget far p numbers loaded) numbering input actions fitting back i target ra
     (record { live = begins.live; left = begins.left; even = begins.even; room = begins.room; within = begins.within })
     ((a.0 (y.entry p.main) (first_seen p numbers input actions) i t).0 stands) bound in
     (m.0, m.1, m.2, m.3, λ spare paid asked. a.2 spare bound i back m.0.end (m.4 spare paid asked))

@@ -1,5 +1,5 @@
 -- What is proved of all functions of a program at once.
-use Rattle.std.specs.Prelude.{ℕ, ◌≡◌, ◌+◌, ◌≤◌, All, IsTrue, List, Option, None}
+use Rattle.std.specs.Prelude.{ℕ, ◌≡◌, ◌+◌, ◌≤◌, Bool, All, IsTrue, List, Option, None}
 use Rattle.mv_ast.specs.declared.program.Program.{Program}
 use Rattle.mv_ast.specs.declared.world.Action.{Action}
 use Rattle.mv_ast.specs.declared.world.Binding.{Binding}
@@ -27,7 +27,7 @@ use Rattle.mv_program_runs.specs.Hosts.{IsLoaded, IsOpenlyLoaded}
 -- it does in the source.
 abbrev pub FunctionsKeepConvention : Type 0 → Type 0
 FunctionsKeepConvention M =
-    (access : Access M) (y : Layout) (machine : Machine M) (words : List Binding → ℕ → Option ℕ) (budget far : ℕ) (p : Program) (numbers : List ℕ) → IsLoaded access y machine words budget far p numbers →
+    (access : Access M) (y : Layout) (machine : Machine M) (words : List Binding → ℕ → Option ℕ) (closed : (pc address : ℕ) → Bool) (budget far : ℕ) (p : Program) (numbers : List ℕ) → IsLoaded access y machine words closed budget far p numbers →
     (bound : ℕ) → Conventions access y machine budget far (source_levels p numbers bound)
 
 -- the first world of a program, as code sees it
@@ -47,7 +47,7 @@ MainDoes access y machine budget far p numbers input actions back i bound =
 -- And its main function does so, begun in the first world, at every bound.
 abbrev pub MainFollows : Type 0 → Type 0
 MainFollows M =
-    (access : Access M) (y : Layout) (machine : Machine M) (words : List Binding → ℕ → Option ℕ) (budget far : ℕ) (p : Program) (numbers : List ℕ) → IsLoaded access y machine words budget far p numbers →
+    (access : Access M) (y : Layout) (machine : Machine M) (words : List Binding → ℕ → Option ℕ) (closed : (pc address : ℕ) → Bool) (budget far : ℕ) (p : Program) (numbers : List ℕ) → IsLoaded access y machine words closed budget far p numbers →
     IsNumbering p numbers → (input : List ℕ) (actions : List Action) → All (λ a. IsTrue (fits p a)) actions →
     (back i : ℕ) → IsTarget back → reg (machine.run i).regs link_register ≡ back → Begins access y machine i →
     Stands access y machine budget far (y.entry p.main) (first_seen p numbers input actions) i → (bound : ℕ) → MainDoes access y machine budget far p numbers input actions back i bound
@@ -55,14 +55,14 @@ MainFollows M =
 -- A machine of which nothing is known of the worlds in which it is calm is a host where these are fit.
 abbrev pub HostsAreNarrowed : Type 0 → Type 0
 HostsAreNarrowed M =
-    (access : Access M) (y : Layout) (machine : Machine M) (words : List Binding → ℕ → Option ℕ) (budget far : ℕ) (p : Program) (numbers : List ℕ) →
-    IsOpenlyLoaded access y machine words budget far p numbers → IsLoaded access y (narrowed machine (is_fit p) machine.text) words budget far p numbers
+    (access : Access M) (y : Layout) (machine : Machine M) (words : List Binding → ℕ → Option ℕ) (closed : (pc address : ℕ) → Bool) (budget far : ℕ) (p : Program) (numbers : List ℕ) →
+    IsOpenlyLoaded access y machine words closed budget far p numbers → IsLoaded access y (narrowed machine (is_fit p) machine.text) words closed budget far p numbers
 
 -- So there too the main function does what the program means.
 abbrev pub MainFollowsOpenly : Type 0 → Type 0
 MainFollowsOpenly M =
-    (access : Access M) (y : Layout) (machine : Machine M) (words : List Binding → ℕ → Option ℕ) (budget far : ℕ) (p : Program) (numbers : List ℕ) →
-    IsOpenlyLoaded access y machine words budget far p numbers →
+    (access : Access M) (y : Layout) (machine : Machine M) (words : List Binding → ℕ → Option ℕ) (closed : (pc address : ℕ) → Bool) (budget far : ℕ) (p : Program) (numbers : List ℕ) →
+    IsOpenlyLoaded access y machine words closed budget far p numbers →
     IsNumbering p numbers → (input : List ℕ) (actions : List Action) → All (λ a. IsTrue (fits p a)) actions →
     (back i : ℕ) → IsTarget back → reg (machine.run i).regs link_register ≡ back → Begins access y machine i →
     Stands access y machine budget far (y.entry p.main) (first_seen p numbers input actions) i → (bound : ℕ) → MainDoes access y machine budget far p numbers input actions back i bound

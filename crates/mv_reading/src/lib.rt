@@ -1,4 +1,7 @@
 //! What a source reads as.
+//!
+//! - `one_unit`: one source reads as one translation unit at most: its tokens by `mv_lexer`'s reading, and these as a
+//!   unit by the grammar. A crate of one law.
 #![tactic(auto)]
 
 ghost use Rattle.std.specs.Prelude.{◌≡◌, ℕ, List};

@@ -1,4 +1,6 @@
 //! Whether a program commits, reverts or polls.
+//!
+//! - `never_rebinds`: exactly whether no function of a program commits, reverts or polls, in whatever stands in it.
 #![tactic(auto)]
 
 ghost use Rattle.std.specs.Prelude.{◌≡◌, ◌↔◌, IsTrue};

@@ -1,4 +1,19 @@
 //! A run of an image that does what its program means.
+//!
+//! `execute` starts a machine on the image of a `Built` and runs it. Its contract has two parts.
+//!
+//! - *The run* (`specs/Run.antt`): one run of that image by the machine's definition is what was done: its stop after the
+//!   given number of instructions is the answer (`Steps` where it goes on), the output grew by what it wrote, the input
+//!   lost what it took, the machine handed back is in its state, and the oracle's place went on by its instructions.
+//!   Before a read or a write that failed it is a state after fewer instructions.
+//! - *What the program means* (`specs/Meant.antt`), where the image does what its program means and the source tells
+//!   bytes: after `Ended` and `Trapped` the meaning at the number of instructions as its bound has that end, all its
+//!   output was written and all that it takes was taken. After `Steps`, `InputFault`, `OutputFault` and `Memory` it is a
+//!   part of that output, and no more was taken; after `Steps` no bound for which there was time has an end. `Fault`
+//!   never comes. Where no count of faults rose and there was time for a bound at which the meaning has ended, the answer
+//!   is that end or want of memory.
+//!
+//! An error is want of memory before the first instruction, with all as before.
 #![tactic(auto)]
 
 ghost use Rattle.std.specs.Prelude.{◌≡◌, [], All, IsTrue};

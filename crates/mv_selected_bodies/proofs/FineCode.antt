@@ -13,22 +13,26 @@ use Rattle.mv_ir.specs.declared.stm.Stm.TheOpen.{Stm-F}
 use Rattle.mv_ir.specs.declared.stm.Stm.TheOpen as stm
 use Rattle.mv_ir.specs.declared.stm.Stm.TheViews.{roll-Stm}
 use Rattle.mv_ir.specs.declared.stm.Stm.TheFolds.{fold-roll-Stm, map-Stm}
-use Rattle.mv_ir.specs.Measures.{joined, callee_trees, layer_trees, stm_trees}
+use Rattle.mv_ir.specs.Measures.{joined, callee_trees, layer_trees, stm_trees, array_read, layer_arrays, stm_arrays}
 use Rattle.mv_ir.specs.Live.{reads_temp, any_reads, is, Around, Flow, with_after, around_block, around_loop, live_in_order, marks_in_order, live_at_loop, layer_flow, flow, mark_at}
 use Rattle.mv_ir.specs.WellFormed as formed
 use Rattle.mv_ir.specs.WellFormed.{known_arguments, layer_named, stm_named, layer_arguments, stm_arguments}
 use Rattle.mv_ir.proofs.Induction.{Each, TreeChildren, tree_ind, StmChildren, stm_ind, stms_ind}
-use Rattle.mv_ir.proofs.Rolls.{reads_temp_roll, trees_roll, named_roll, arguments_roll, flow_roll}
+use Rattle.mv_ir.proofs.Rolls.{reads_temp_roll, trees_roll, named_roll, arrays_roll, arguments_roll, flow_roll}
 use Rattle.mv_tree_code.specs.TreeCode.{temps_of}
 use Rattle.mv_tree_code.proofs.Rolls.{temps_roll}
-use Rattle.mv_flow_code.specs.FlowCode.{all_true, fine_target, fine_known, fine_layer, is_fine_statement, are_fine}
+use Rattle.mv_flow_code.specs.FlowCode.{Uses, all_true, may_read, may_write, fine_target, fine_known, fine_layer, is_fine_statement, are_fine}
 use Rattle.mv_flow_code.proofs.StatementsDo.{fine_roll}
-use Rattle.mv_selected_bodies.specs.SelectedBodies.{knowns_layer, stm_knowns}
+use Rattle.mv_selected_bodies.specs.SelectedBodies.{knowns_layer, stm_knowns, written_layer, stm_written}
 use Rattle.mv_selected_bodies.proofs.Lists.{each_front, each_back, each_both, and_first, and_last, and_both, true_each, each_weaker}
 
 pub knowns_roll : (x : Stm-F Stm) → stm_knowns (roll-Stm x) ≡ knowns_layer (map-Stm Stm (List Known) stm_knowns x)
 unfolding stm_knowns
 knowns_roll x = fold-roll-Stm (List Known) knowns_layer x
+
+written_roll : (x : Stm-F Stm) → stm_written (roll-Stm x) ≡ written_layer (map-Stm Stm (List ℕ) stm_written x)
+unfolding stm_written
+written_roll x = fold-roll-Stm (List ℕ) written_layer x
 
 pub or_first : (a b : Bool) → a ≡ true → (a || b) ≡ true
 or_first a b h = ap (λ c. c || b) h
@@ -99,30 +103,46 @@ module _ (limit : ℕ) where
 
 -- ---- statements
 
-module _ (is_fine : Tree → Bool) (may_ask : Known → Bool) (limit : ℕ) (is_scalar : ℕ → Bool) (P : Tree → Type 0)
-    (tree_fine : (v : Tree) → P v → ReadsBelow limit v → is_fine v ≡ true) where
-  abbrev Fine : Stm → Bool
-  Fine = is_fine_statement is_fine may_ask limit is_scalar
-
+module _ (is_fine : Tree → Bool) (may_ask : Known → Bool) (limit : ℕ) (uses : Uses) where
+  -- an array has a word, where it is a global
   abbrev pub IsScalar : Array → Type 0
-  IsScalar (array.Global g) = is_scalar g ≡ true
+  IsScalar (array.Global g) = uses.has_word g ≡ true
   IsScalar (array.Local l) = Unit {0}
 
   abbrev pub IsAsked : Known → Type 0
-  IsAsked k = fine_known is_fine may_ask limit is_scalar k ≡ true
+  IsAsked k = fine_known is_fine may_ask limit uses k ≡ true
 
-  -- what is asked of the trees, the names and the calls of a statement, and of some code
-  record Holds (vs : List Tree) (names : List Array) (calls : List Known) (has_arguments : Bool) : Type 0 where
+module _ (is_fine : Tree → Bool) (may_ask : Known → Bool) (limit : ℕ) (uses : Uses) (P : Tree → Type 0)
+    (tree_fine : (v : Tree) → P v → ReadsBelow limit v → is_fine v ≡ true) where
+  abbrev Fine : Stm → Bool
+  Fine = is_fine_statement is_fine may_ask limit uses
+
+  abbrev Scalar : Array → Type 0
+  Scalar = IsScalar is_fine may_ask limit uses
+
+  abbrev Asked : Known → Type 0
+  Asked = IsAsked is_fine may_ask limit uses
+
+  abbrev IsRead : ℕ → Type 0
+  IsRead g = uses.is_read g ≡ true
+
+  abbrev IsWritten : ℕ → Type 0
+  IsWritten g = uses.is_written g ≡ true
+
+  -- what is asked of the trees, the names, the calls, and the globals that are read by elements and written, of a statement, and of some code
+  record Holds (vs : List Tree) (names : List Array) (calls : List Known) (reads writes : List ℕ) (has_arguments : Bool) : Type 0 where
     trees : Each P vs
-    named : Each IsScalar names
-    knowns : Each IsAsked calls
+    named : Each Scalar names
+    knowns : Each Asked calls
+    arrays : Each IsRead reads
+    written : Each IsWritten writes
     arguments : has_arguments ≡ true
 
   abbrev HoldsOf : Stm → Type 0
-  HoldsOf s = Holds (stm_trees s) (stm_named s) (stm_knowns s) (stm_arguments s)
+  HoldsOf s = Holds (stm_trees s) (stm_named s) (stm_knowns s) (stm_arrays s) (stm_written s) (stm_arguments s)
 
   abbrev HoldsOfAll : List Stm → Type 0
-  HoldsOfAll code = Holds (joined (map stm_trees code)) (joined (map stm_named code)) (joined (map stm_knowns code)) (formed.all_true (map stm_arguments code))
+  HoldsOfAll code = Holds (joined (map stm_trees code)) (joined (map stm_named code)) (joined (map stm_knowns code)) (joined (map stm_arrays code)) (joined (map stm_written code)) (formed.all_true (map stm_arguments code))
 
   abbrev Marked : Stm → (ℕ → Around) → Type 0
   Marked s r = (t : ℕ) → Each (Low limit t) ((flow t s).marks (r t))
@@ -136,20 +156,24 @@ module _ (is_fine : Tree → Bool) (may_ask : Known → Bool) (limit : ℕ) (is_
   holds_first : (s : Stm) (code : List Stm) → HoldsOfAll (s ∷ code) → HoldsOf s
   holds_first s code h = record {
     trees = each_front P (stm_trees s) (joined (map stm_trees code)) h.trees;
-    named = each_front IsScalar (stm_named s) (joined (map stm_named code)) h.named;
-    knowns = each_front IsAsked (stm_knowns s) (joined (map stm_knowns code)) h.knowns;
+    named = each_front Scalar (stm_named s) (joined (map stm_named code)) h.named;
+    knowns = each_front Asked (stm_knowns s) (joined (map stm_knowns code)) h.knowns;
+    arrays = each_front IsRead (stm_arrays s) (joined (map stm_arrays code)) h.arrays;
+    written = each_front IsWritten (stm_written s) (joined (map stm_written code)) h.written;
     arguments = and_first (stm_arguments s) (formed.all_true (map stm_arguments code)) h.arguments;
   }
 
   holds_rest : (s : Stm) (code : List Stm) → HoldsOfAll (s ∷ code) → HoldsOfAll code
   holds_rest s code h = record {
     trees = each_back P (stm_trees s) (joined (map stm_trees code)) h.trees;
-    named = each_back IsScalar (stm_named s) (joined (map stm_named code)) h.named;
-    knowns = each_back IsAsked (stm_knowns s) (joined (map stm_knowns code)) h.knowns;
+    named = each_back Scalar (stm_named s) (joined (map stm_named code)) h.named;
+    knowns = each_back Asked (stm_knowns s) (joined (map stm_knowns code)) h.knowns;
+    arrays = each_back IsRead (stm_arrays s) (joined (map stm_arrays code)) h.arrays;
+    written = each_back IsWritten (stm_written s) (joined (map stm_written code)) h.written;
     arguments = and_last (stm_arguments s) (formed.all_true (map stm_arguments code)) h.arguments;
   }
 
-  code_fine : (code : List Stm) → Each IsFineStm code → (r : ℕ → Around) → HoldsOfAll code → AllMarked code r → are_fine is_fine may_ask limit is_scalar code ≡ true
+  code_fine : (code : List Stm) → Each IsFineStm code → (r : ℕ → Around) → HoldsOfAll code → AllMarked code r → are_fine is_fine may_ask limit uses code ≡ true
   code_fine [] f r h m = refl
   code_fine (s ∷ code) f r h m =
       let behind = λ (t : ℕ). with_after (r t) (live_in_order (map (flow t) code) (r t)) in
@@ -161,7 +185,7 @@ module _ (is_fine : Tree → Bool) (may_ask : Known → Bool) (limit : ℕ) (is_
   fine_trees vs h r =
       true_each is_fine vs (each_weaker (λ v. P v × ReadsBelow limit v) (λ v. is_fine v ≡ true) (λ v k. tree_fine v k.0 k.1) vs (each_both P (ReadsBelow limit) vs h r))
 
-  target_fine : (w : Option ℕ) → Target limit w → fine_target is_fine may_ask limit is_scalar w ≡ true
+  target_fine : (w : Option ℕ) → Target limit w → fine_target is_fine may_ask limit uses w ≡ true
   target_fine None h = refl
   target_fine (Some t) h = lt-ltb t limit h
 
@@ -170,24 +194,27 @@ module _ (is_fine : Tree → Bool) (may_ask : Known → Bool) (limit : ℕ) (is_
   abbrev LayerHolds : Stm-F Stm → Type 0
   LayerHolds x =
       Holds (layer_trees (map-Stm Stm (List Tree) stm_trees x)) (layer_named (map-Stm Stm (List Array) stm_named x))
-      (knowns_layer (map-Stm Stm (List Known) stm_knowns x)) (layer_arguments (map-Stm Stm Bool stm_arguments x))
+      (knowns_layer (map-Stm Stm (List Known) stm_knowns x)) (layer_arrays (map-Stm Stm (List ℕ) stm_arrays x)) (written_layer (map-Stm Stm (List ℕ) stm_written x))
+      (layer_arguments (map-Stm Stm Bool stm_arguments x))
 
   abbrev LayerMarked : Stm-F Stm → (ℕ → Around) → Type 0
   LayerMarked x r = (t : ℕ) → Each (Low limit t) ((layer_flow t (map-Stm Stm Flow (flow t) x)).marks (r t))
 
   abbrev LayerFine : Stm-F Stm → Type 0
-  LayerFine x = (r : ℕ → Around) → LayerHolds x → LayerMarked x r → fine_layer is_fine may_ask limit is_scalar (map-Stm Stm Bool Fine x) ≡ true
+  LayerFine x = (r : ℕ → Around) → LayerHolds x → LayerMarked x r → fine_layer is_fine may_ask limit uses (map-Stm Stm Bool Fine x) ≡ true
 
   from_layer : (x : Stm-F Stm) → LayerFine x → IsFineStm (roll-Stm x)
   from_layer x f r h m =
       let holds : LayerHolds x = record {
         trees = subst (Each P) (trees_roll x) h.trees;
-        named = subst (Each IsScalar) (named_roll x) h.named;
-        knowns = subst (Each IsAsked) (knowns_roll x) h.knowns;
+        named = subst (Each Scalar) (named_roll x) h.named;
+        knowns = subst (Each Asked) (knowns_roll x) h.knowns;
+        arrays = subst (Each IsRead) (arrays_roll x) h.arrays;
+        written = subst (Each IsWritten) (written_roll x) h.written;
         arguments = sym (arguments_roll x) ∙ h.arguments;
       } in
       let marked : LayerMarked x r = λ t. subst (λ (w : Flow). Each (Low limit t) (w.marks (r t))) (flow_roll t x) (m t) in
-      fine_roll is_fine may_ask limit is_scalar x ∙ f r holds marked
+      fine_roll is_fine may_ask limit uses x ∙ f r holds marked
 
   -- a statement that reads one tree and may write a temporary
   one_tree : (v : Tree) (w : Option ℕ) (on : ℕ → Bool) → P v → ((t : ℕ) → Low limit t ((any_reads t (v ∷ []) || (not (is w t) && on t)) || is w t)) → is_fine v ≡ true
@@ -206,23 +233,35 @@ module _ (is_fine : Tree → Bool) (may_ask : Known → Bool) (limit : ℕ) (is_
       let test = tree_fine v h.trees.0 (λ t e. (m t).0 (or_first (reads_temp t v) (either t) e)) in
       let first = code_fine a f.0 r (record {
         trees = each_front P (joined (map stm_trees a)) (joined (map stm_trees b)) h.trees.1;
-        named = each_front IsScalar (joined (map stm_named a)) (joined (map stm_named b)) h.named;
-        knowns = each_front IsAsked (joined (map stm_knowns a)) (joined (map stm_knowns b)) h.knowns;
+        named = each_front Scalar (joined (map stm_named a)) (joined (map stm_named b)) h.named;
+        knowns = each_front Asked (joined (map stm_knowns a)) (joined (map stm_knowns b)) h.knowns;
+        arrays = each_front IsRead (joined (map stm_arrays a)) (joined (map stm_arrays b)) h.arrays;
+        written = each_front IsWritten (joined (map stm_written a)) (joined (map stm_written b)) h.written;
         arguments = and_first (formed.all_true (map stm_arguments a)) (formed.all_true (map stm_arguments b)) h.arguments;
       }) (λ t. each_front (Low limit t) (in_a t) (in_b t) (m t).1) in
       let second = code_fine b f.1 r (record {
         trees = each_back P (joined (map stm_trees a)) (joined (map stm_trees b)) h.trees.1;
-        named = each_back IsScalar (joined (map stm_named a)) (joined (map stm_named b)) h.named;
-        knowns = each_back IsAsked (joined (map stm_knowns a)) (joined (map stm_knowns b)) h.knowns;
+        named = each_back Scalar (joined (map stm_named a)) (joined (map stm_named b)) h.named;
+        knowns = each_back Asked (joined (map stm_knowns a)) (joined (map stm_knowns b)) h.knowns;
+        arrays = each_back IsRead (joined (map stm_arrays a)) (joined (map stm_arrays b)) h.arrays;
+        written = each_back IsWritten (joined (map stm_written a)) (joined (map stm_written b)) h.written;
         arguments = and_last (formed.all_true (map stm_arguments a)) (formed.all_true (map stm_arguments b)) h.arguments;
       }) (λ t. each_back (Low limit t) (in_a t) (in_b t) (m t).1) in
       and_both (is_fine v) (all_true (map Fine a) && all_true (map Fine b)) test (and_both (all_true (map Fine a)) (all_true (map Fine b)) first second)
+
+  element_read : (a : Array) → Each IsRead (array_read a) → may_read is_fine may_ask limit uses a ≡ true
+  element_read (array.Global g) h = h.0
+  element_read (array.Local a) h = refl
+
+  element_written : (a : Array) → Each IsWritten (array_read a) → may_write is_fine may_ask limit uses a ≡ true
+  element_written (array.Global g) h = h.0
+  element_written (array.Local a) h = refl
 
   layer : (x : Stm-F Stm) → StmChildren IsFineStm x → LayerFine x
   layer (stm.Set t v) f r h m =
       let on = λ (t : ℕ). (r t).next in
       and_both (ltb t limit) (is_fine v) (lt-ltb t limit (target_below limit (v ∷ []) (Some t) on (λ t. (m t).0))) (one_tree v (Some t) on h.trees.0 (λ t. (m t).0))
-  layer (stm.SetGlobal g v) f r h m = and_both (is_scalar g) (is_fine v) h.named.0 (one_tree v None (λ t. (r t).next) h.trees.0 (λ t. (m t).0))
+  layer (stm.SetGlobal g v) f r h m = and_both (uses.has_word g && uses.is_written g) (is_fine v) (and_both (uses.has_word g) (uses.is_written g) h.named.0 h.written.0) (one_tree v None (λ t. (r t).next) h.trees.0 (λ t. (m t).0))
   layer (stm.Divide t o a b) f r h m =
       let on = λ (t : ℕ). (r t).next in
       and_both (ltb t limit) (is_fine a && is_fine b) (lt-ltb t limit (target_below limit (a ∷ b ∷ []) (Some t) on (λ t. (m t).0)))
@@ -230,14 +269,17 @@ module _ (is_fine : Tree → Bool) (may_ask : Known → Bool) (limit : ℕ) (is_
   layer (stm.Check a i) f r h m = one_tree i None (λ t. (r t).next) h.trees.0 (λ t. (m t).0)
   layer (stm.Read t a i) f r h m =
       let on = λ (t : ℕ). (r t).next in
-      and_both (ltb t limit) (is_fine i) (lt-ltb t limit (target_below limit (i ∷ []) (Some t) on (λ t. (m t).0))) (one_tree i (Some t) on h.trees.0 (λ t. (m t).0))
-  layer (stm.Write a i v) f r h m = two_trees i v None (λ t. (r t).next) h.trees.0 h.trees.1.0 (λ t. (m t).0)
+      let may = may_read is_fine may_ask limit uses a in
+      let tree = one_tree i (Some t) on h.trees.0 (λ t. (m t).0) in
+      and_both (ltb t limit) (may && is_fine i) (lt-ltb t limit (target_below limit (i ∷ []) (Some t) on (λ t. (m t).0))) (and_both may (is_fine i) (element_read a h.arrays) tree)
+  layer (stm.Write a i v) f r h m =
+      and_both (may_write is_fine may_ask limit uses a) (is_fine i && is_fine v) (element_written a h.written) (two_trees i v None (λ t. (r t).next) h.trees.0 h.trees.1.0 (λ t. (m t).0))
   layer (stm.Zero l) f r h m = refl
   layer (stm.If v a b) f r h m = branch_fine v a b f r h m
   layer (stm.Loop b) f r h m =
-      code_fine b f (λ t. around_loop (r t) (live_at_loop (map (flow t) b) (r t))) (record { trees = h.trees; named = h.named; knowns = h.knowns; arguments = h.arguments }) (λ t. (m t).1)
+      code_fine b f (λ t. around_loop (r t) (live_at_loop (map (flow t) b) (r t))) (record { trees = h.trees; named = h.named; knowns = h.knowns; arrays = h.arrays; written = h.written; arguments = h.arguments }) (λ t. (m t).1)
   layer (stm.Block b) f r h m =
-      code_fine b f (λ t. around_block (r t)) (record { trees = h.trees; named = h.named; knowns = h.knowns; arguments = h.arguments }) (λ t. (m t).1)
+      code_fine b f (λ t. around_block (r t)) (record { trees = h.trees; named = h.named; knowns = h.knowns; arrays = h.arrays; written = h.written; arguments = h.arguments }) (λ t. (m t).1)
   layer (stm.Break n) f r h m = refl
   layer (stm.Back n) f r h m = refl
   layer (stm.Call w c args) f r h m =
@@ -249,7 +291,7 @@ module _ (is_fine : Tree → Bool) (may_ask : Known → Bool) (limit : ℕ) (is_
       let target = target_fine w (target_below limit reads w on (λ t. (m t).0)) in
       let trees = and_both (all_true (map is_fine (callee_trees c))) (all_true (map is_fine args)) of_callee of_args in
       let callee_and_args = all_true (map is_fine (callee_trees c)) && all_true (map is_fine args) in
-      let is_target = fine_target is_fine may_ask limit is_scalar w in
+      let is_target = fine_target is_fine may_ask limit uses w in
       and_both (ltb (length args) 9) (is_target && callee_and_args) h.arguments (and_both is_target callee_and_args target trees)
   layer (stm.Known w k args) f r h m =
       let on = λ (t : ℕ). (r t).next in
@@ -257,16 +299,17 @@ module _ (is_fine : Tree → Bool) (may_ask : Known → Bool) (limit : ℕ) (is_
       let target = target_fine w (target_below limit args w on (λ t. (m t).0)) in
       let trees = fine_trees args h.trees below in
       let are_args = all_true (map is_fine args) in
-      let is_target = fine_target is_fine may_ask limit is_scalar w in
-      let is_known = fine_known is_fine may_ask limit is_scalar k in
+      let is_target = fine_target is_fine may_ask limit uses w in
+      let is_known = fine_known is_fine may_ask limit uses k in
       and_both (eqb (length args) (known_arguments k)) (is_known && (is_target && are_args)) h.arguments
       (and_both is_known (is_target && are_args) h.knowns.0 (and_both is_target are_args target trees))
   layer (stm.Return v) f r h m = one_tree v None (λ t. false) h.trees.0 (λ t. (m t).0)
 
-  -- Code is fine if its trees, its names and the known functions that it calls are what is asked, and each temporary that is marked is below the limit.
-  pub all_fine : (code : List Stm) → Each P (joined (map stm_trees code)) → Each IsScalar (joined (map stm_named code)) → Each IsAsked (joined (map stm_knowns code)) →
+  -- Code is fine if its trees, its names, the known functions that it calls and the globals that it reads and writes are what is asked, and each temporary that is marked is below the limit.
+  pub all_fine : (code : List Stm) → Each P (joined (map stm_trees code)) → Each Scalar (joined (map stm_named code)) → Each Asked (joined (map stm_knowns code)) →
+      Each IsRead (joined (map stm_arrays code)) → Each IsWritten (joined (map stm_written code)) →
       formed.all_true (map stm_arguments code) ≡ true → (r : ℕ → Around) → ((t : ℕ) → Each (Low limit t) (marks_in_order (map (flow t) code) (r t))) →
-      are_fine is_fine may_ask limit is_scalar code ≡ true
-  all_fine code trees named knowns arguments r marked =
+      are_fine is_fine may_ask limit uses code ≡ true
+  all_fine code trees named knowns arrays written arguments r marked =
       code_fine code (stms_ind IsFineStm (stm_ind IsFineStm (λ x f. from_layer x (layer x f))) code) r
-      (record { trees = trees; named = named; knowns = knowns; arguments = arguments }) marked
+      (record { trees = trees; named = named; knowns = knowns; arrays = arrays; written = written; arguments = arguments }) marked

@@ -1,7 +1,8 @@
 -- The bodies that code can be selected for.
-use Rattle.std.specs.Prelude.{ℕ, ◌≡◌, ◌<◌, ◌≤◌, ◌^◌, Bool, true, List, [], ◌∷◌, ◌++◌, All, length, map, None}
+use Rattle.std.specs.Prelude.{ℕ, ◌≡◌, ◌+◌, ◌*◌, ◌<◌, ◌≤◌, ◌^◌, Bool, true, false, ◌&&◌, ◌||◌, leb, ltb, List, [], ◌∷◌, ◌++◌, All, length, map, None}
 use Rattle.mv_ast.specs.declared.program.Known.{Known}
 use Rattle.mv_ast.specs.declared.program.Known.TheVariants.{Plan}
+use Rattle.mv_ast.specs.Plans.{is_among}
 use Rattle.mv_ir.specs.declared.tree.Tree.{Tree}
 use Rattle.mv_ir.specs.declared.tree.Tree.TheOpen.{Tree-F}
 use Rattle.mv_ir.specs.declared.tree.Tree.TheOpen as tree
@@ -14,14 +15,15 @@ use Rattle.mv_ir.specs.declared.body.Body.{Body}
 use Rattle.mv_ir.specs.declared.body.Room.{Room}
 use Rattle.mv_ir.specs.Trees.{found}
 use Rattle.mv_ir.specs.World as ir
-use Rattle.mv_ir.specs.Measures.{joined, trees, scalars_read, deepest}
+use Rattle.mv_ir.specs.Measures.{joined, trees, scalars_read, array_read, arrays_read, deepest}
 use Rattle.mv_ir.specs.WellFormed.{has_room, IsWellFormed}
 use Rattle.mv_tree_code.specs.Rooms.{place_in}
+use Rattle.mv_statement_code.specs.Frames.{Reach}
 use Rattle.mv_flow_code.specs.Labels.{functions}
 use Rattle.mv_flow_code.specs.Layouts.{size_in, are_small}
 use Rattle.mv_call_code.specs.Convention.{Layout, frame_limit}
 use Rattle.mv_function_code.specs.FunctionCode.{bytes_of, function_lines}
-use Rattle.mv_function_code.specs.Functions.{IsFunction, shape_of}
+use Rattle.mv_function_code.specs.Functions.{IsAmple, IsFunction, shape_of}
 
 -- ---- the constants that stand in code, and the known functions that it calls
 
@@ -66,6 +68,26 @@ stm_knowns = fold-Stm (List Known) knowns_layer
 -- those that some code calls
 abbrev pub knowns : List Stm → List Known
 knowns code = joined (map stm_knowns code)
+
+-- the globals that one statement stores to, as scalars or to their elements, given those that the ones within it do
+abbrev pub written_layer : Stm-F (List ℕ) → List ℕ
+written_layer (stm.SetGlobal g v) = g ∷ []
+written_layer (stm.Write a i v) = array_read a
+written_layer (stm.If t a b) = joined a ++ joined b
+written_layer (stm.Loop b) = joined b
+written_layer (stm.Block b) = joined b
+written_layer _ = []
+
+-- those that a statement stores to, with the statements within it
+unfoldable pub stm_written : Stm → List ℕ
+stm_written = fold-Stm (List ℕ) written_layer
+
+-- the globals that some code writes, and those that it reads, as scalars or elements of them
+abbrev pub globals_written : List Stm → List ℕ
+globals_written code = joined (map stm_written code)
+
+abbrev pub globals_read : List Stm → List ℕ
+globals_read code = scalars_read code ++ arrays_read code
 
 -- an order's numbers are a byte and a word
 abbrev pub IsOrder : Known → Type 0
@@ -115,7 +137,7 @@ CodeIsTheSame =
 -- ---- bodies of a program
 
 -- A body within the limits whose rooms are the program's, with words for constants, which asks for known functions that it may, and names functions that
--- there are; and no tree reads a global that is read as bound.
+-- there are; and no global that is read as bound is read, nor elements of it.
 pub record IsInProgram (y : Layout) (setting : ir.Setting) (attributed : Bool) (bound : List (ℕ × ℕ)) (b : Body) : Type 0 where
   pub within : IsWithin attributed b
   pub rooms : AreRooms y b.rooms
@@ -123,9 +145,23 @@ pub record IsInProgram (y : Layout) (setting : ir.Setting) (attributed : Bool) (
   pub knowns : All (λ k. y.may_ask k ≡ true) (knowns b.code)
   pub functions : All (λ f. f < length setting.numbers) (functions b.code)
   pub free : All (λ g. found bound g ≡ None) (scalars_read b.code)
+  pub arrays : All (λ g. found bound g ≡ None) (arrays_read b.code)
 
--- Such a body is one whose code keeps the calling convention, with some globals for its trees to read and some test for them.
+-- whether an address is that of a data word of one of some globals
+abbrev pub is_in_globals : Layout → List ℕ → ℕ → Bool
+is_in_globals y [] a = false
+is_in_globals y (g ∷ gs) a = (leb (y.place g) a && ltb a (y.place g + 4 * y.size g)) || is_in_globals y gs a
+
+-- The code of a body reads and writes the globals that the body does. It loads from the stack and from data words of the globals that the body reads.
+abbrev pub reach_of : Layout → Body → Reach
+reach_of y b = record {
+  is_read = λ g. is_among g (globals_read b.code);
+  is_written = λ g. is_among g (globals_written b.code);
+  may_load = λ a. (leb y.bottom a && ltb a y.top) || is_in_globals y (globals_read b.code) a;
+}
+
+-- Such a body is one whose code keeps the calling convention, using no more of memory, with some test for its trees.
 abbrev pub BodiesAreFunctions : Type 0
 BodiesAreFunctions =
     (y : Layout) (setting : ir.Setting) (attributed : Bool) (bound : List (ℕ × ℕ)) (b : Body) → IsInProgram y setting attributed bound b →
-    (is_read : ℕ → Bool) × (is_fine : Tree → Bool) × IsFunction y setting attributed bound is_read is_fine b
+    (is_fine : Tree → Bool) × IsAmple y (reach_of y b) × IsFunction y setting attributed bound (reach_of y b) is_fine b

@@ -24,12 +24,12 @@ use Rattle.mv_tree_code.proofs.Registers.{put_same, put_other, changes_put, chan
 use Rattle.mv_tree_code.proofs.TreesAreShort.{number_size}
 use Rattle.mv_tree_code.proofs.Words.{word_of_pos, add_word, add_below, parts_add, upper_below}
 use Rattle.mv_statement_code.specs.StatementCode.{first, second, third, trap_label, write_temp, element_offset, element_lines, test_lines, check_lines, read_lines, write_lines}
-use Rattle.mv_statement_code.specs.Leads.{Exit, Past, To, Leads}
-use Rattle.mv_statement_code.specs.Frames.{Site, Element, home_of, size_of, address, IsFine, IsFit, Shows}
+use Rattle.mv_statement_code.specs.Leads.{Exit, Past, To, limited, Leads}
+use Rattle.mv_statement_code.specs.Frames.{Site, Element, IsRead, IsWritten, home_of, size_of, address, IsFine, IsFit, Shows}
 use Rattle.mv_statement_code.specs.Laws.{Follows, Does}
 use Rattle.mv_statement_code.proofs.FrameChanges.{updates_element, frame_scratch}
 use Rattle.mv_statement_code.proofs.ScalarStatements.{at_first, at_second, after_tree}
-use Rattle.mv_statement_code.proofs.TreesFirst.{HasValue, tree_first, cell_written, temp_written}
+use Rattle.mv_statement_code.proofs.TreesFirst.{HasValue, cell_loaded, tree_first, cell_written, temp_written}
 use Rattle.mv_statement_code.proofs.Walks.{leads_more, leads_straight, leads_one, leads_next}
 
 -- ---- places of elements
@@ -68,7 +68,7 @@ module _ {M : Type 0} (access : Access M) (s : Site) (setting : ir.Setting) (fra
   -- what is added to the index's place in the first register gives the place of the element
   record IsPlaced (a : Array) (k : ℕ) (l : State) (regs : List ℕ) (m : M) : Type 0 where
     after : List ℕ
-    runs : Straight access m s.entry (element_lines (home_of s a)) regs after
+    runs : Straight (limited access s) m s.entry (element_lines (home_of s a)) regs after
     to : add (reg after first) (word_of (element_offset (home_of s a))) ≡ address s (Element a k)
     beside : reg after second ≡ reg regs second
     shown : Shows s access l after m
@@ -87,9 +87,9 @@ module _ {M : Type 0} (access : Access M) (s : Site) (setting : ir.Setting) (fra
       let c3 = changes_put 10 13 first mix r2 c2.are (omega arith) (omega arith) (omega arith) (omega arith) (add_below (4 * k) up) in
       let held : reg r2 first ≡ 4 * k = put_other r1 third first up (omega arith) (λ e. omega arith) ∙ put_same regs first (4 * k) (omega arith) (omega (arith, f.are.count)) in
       let high : reg r2 third ≡ up = put_same r1 third up (omega arith) (omega (arith, c1.are.count)) in
-      let s1 = slli_sets access m first first (pos 2) regs k 2 (4 * k) index (word_of_pos 2 (omega arith)) (shl_two k (omega arith)) in
-      let s2 = lui_sets access m third (pos (upper_bits at)) r1 up refl in
-      let s3 = add_sets access m first first third r2 (4 * k) up mix held high refl in
+      let s1 = slli_sets (limited access s) m first first (pos 2) regs k 2 (4 * k) index (word_of_pos 2 (omega arith)) (shl_two k (omega arith)) in
+      let s2 = lui_sets (limited access s) m third (pos (upper_bits at)) r1 up refl in
+      let s3 = add_sets (limited access s) m first first third r2 (4 * k) up mix held high refl in
       record {
         after = r3;
         runs = (r1, s1, (r2, s2, (r3, s3, refl)));
@@ -107,8 +107,8 @@ module _ {M : Type 0} (access : Access M) (s : Site) (setting : ir.Setting) (fra
       let c1 = changes_put 10 13 first (4 * k) regs f.are (omega arith) (omega arith) (omega arith) (omega arith) (omega arith) in
       let c2 = changes_put 10 13 first mix r1 c1.are (omega arith) (omega arith) (omega arith) (omega arith) (add_below (4 * k) sp) in
       let stack : reg r1 2 ≡ sp = put_other regs first 2 (4 * k) (omega arith) (λ e. omega arith) ∙ f.left 2 (inl (omega arith)) in
-      let s1 = slli_sets access m first first (pos 2) regs k 2 (4 * k) index (word_of_pos 2 (omega arith)) (shl_two k (omega arith)) in
-      let s2 = add_sets access m first first 2 r1 (4 * k) sp mix (put_same regs first (4 * k) (omega arith) (omega (arith, f.are.count))) stack refl in
+      let s1 = slli_sets (limited access s) m first first (pos 2) regs k 2 (4 * k) index (word_of_pos 2 (omega arith)) (shl_two k (omega arith)) in
+      let s2 = add_sets (limited access s) m first first 2 r1 (4 * k) sp mix (put_same regs first (4 * k) (omega arith) (omega (arith, f.are.count))) stack refl in
       record {
         after = r2;
         runs = (r1, s1, (r2, s2, refl));
@@ -126,14 +126,14 @@ module _ {M : Type 0} (access : Access M) (s : Site) (setting : ir.Setting) (fra
   -- the number of elements stands in the third register
   record IsSized (size : ℕ) (l : State) (regs : List ℕ) (m : M) : Type 0 where
     after : List ℕ
-    runs : Straight access m s.entry (number_lines size third) regs after
+    runs : Straight (limited access s) m s.entry (number_lines size third) regs after
     changes : Changes 12 13 regs after
     holds : reg after third ≡ size
     shown : Shows s access l after m
 
   sized : (a : Array) (l : State) (regs : List ℕ) (m : M) → Shows s access l regs m → IsSized (size_of s a) l regs m
   sized a l regs m f =
-      let g = number_gives access m s.entry 12 13 third (size_of s a) regs f.are (record { low = omega arith; from = omega arith; below = omega arith; high = omega arith }) (fit.sizes a) in
+      let g = number_gives (limited access s) m s.entry 12 13 third (size_of s a) regs f.are (record { low = omega arith; from = omega arith; below = omega arith; high = omega arith }) (fit.sizes a) in
       record { after = g.after; runs = g.runs; changes = g.changes; holds = g.holds; shown = frame_scratch s access 12 13 l regs g.after m (inl (omega arith, omega arith)) g.changes f }
 
   abbrev branch : Line
@@ -193,8 +193,8 @@ module _ {M : Type 0} (access : Access M) (s : Site) (setting : ir.Setting) (fra
             ),
           )
 
-  pub read_done : (end t : ℕ) (a : Array) (i : Tree) → t < s.temps → IsFine s setting frame i → Does access s setting frame end (read_lines s.place t (home_of s a) (size_of s a) i) (stm.Read t a i)
-  read_done end t a i lt fine bound l regs m f = by_index (ltb (V i l) (length (elements a l))) refl
+  pub read_done : (end t : ℕ) (a : Array) (i : Tree) → t < s.temps → IsRead s a → IsFine s setting frame i → Does access s setting frame end (read_lines s.place t (home_of s a) (size_of s a) i) (stm.Read t a i)
+  read_done end t a i lt may fine bound l regs m f = by_index (ltb (V i l) (length (elements a l))) refl
     where
       load : List Line
       load = two (Lw first first (element_offset (home_of s a))) (write_temp t first)
@@ -222,8 +222,11 @@ module _ {M : Type 0} (access : Access M) (s : Site) (setting : ir.Setting) (fra
           let shown = frame_scratch s access 10 11 l p.after mid m (inl (omega arith, omega arith)) (changes_put 10 11 first w p.after p.shown.are (omega arith) (omega arith) (omega arith) (omega arith) word) p.shown in
           let g = temp_written access s setting frame fit t first w l mid m lt word (put_same p.after first w (omega arith) (omega (arith, p.shown.are.count))) shown in
           let lw = Lw first first (element_offset (home_of s a)) in
-          let loads = leads_next access s lw (one (write_temp t first)) 1 p.after m mid m Past g.after g.memory
-          (lw_sets access m first first (element_offset (home_of s a)) p.after (address s (Element a (V i l))) w p.to (p.shown.in_memory (Element a (V i l)) below), inl refl)
+          let loads = leads_next access s lw (one (write_temp t first)) 1 p.after m mid m Past g.after g.memory (
+            lw_sets (limited access s) m first first (element_offset (home_of s a)) p.after (address s (Element a (V i l))) w p.to
+                (cell_loaded access s setting frame fit m (Element a (V i l)) w below may (p.shown.in_memory (Element a (V i l)) below)),
+            inl refl,
+          )
           (leads_one access s (write_temp t first) mid m g.after g.memory g.moves) in
           let placed = leads_more access s ks (sum_by greatest_words (element_lines (home_of s a)) + 2) 5 z.after m Past g.after g.memory (omega (arith, element_size a))
           (leads_straight access s (element_lines (home_of s a)) load 2 z.after p.after m Past g.after g.memory p.runs loads) in (
@@ -246,8 +249,8 @@ module _ {M : Type 0} (access : Access M) (s : Site) (setting : ir.Setting) (fra
             ),
           )
 
-  pub write_done : (end : ℕ) (a : Array) (i v : Tree) → IsFine s setting frame i → IsFine s setting frame v → Does access s setting frame end (write_lines s.place (home_of s a) (size_of s a) i v) (stm.Write a i v)
-  write_done end a i v fi fv bound l regs m f = by_index (ltb (V i l) (length (elements a l))) refl
+  pub write_done : (end : ℕ) (a : Array) (i v : Tree) → IsWritten s a → IsFine s setting frame i → IsFine s setting frame v → Does access s setting frame end (write_lines s.place (home_of s a) (size_of s a) i v) (stm.Write a i v)
+  write_done end a i v may fi fv bound l regs m f = by_index (ltb (V i l) (length (elements a l))) refl
     where
       store : List Line
       store = one (Sw first second (element_offset (home_of s a)))
@@ -281,7 +284,7 @@ module _ {M : Type 0} (access : Access M) (s : Site) (setting : ir.Setting) (fra
           let p = element_placed a (V i l) l z.after m below index z.shown in
           let value : reg p.after second ≡ V v l = p.beside ∙ z.changes.others second (inl (omega arith)) ∙ y.holds in
           let l' = with_elements a l (slice_set (elements a l) (V i l) (V v l)) in
-          let g = cell_written access s setting frame fit first second (element_offset (home_of s a)) (Element a (V i l)) (V v l) l l' p.after m p.to value y.below tt below (updates_element s l a (V i l) (V v l) many) p.shown in
+          let g = cell_written access s setting frame fit first second (element_offset (home_of s a)) (Element a (V i l)) (V v l) l l' p.after m p.to value y.below may below (updates_element s l a (V i l) (V v l) many) p.shown in
           let placed = leads_more access s ks (sum_by greatest_words (element_lines (home_of s a)) + 1) 4 z.after m Past g.after g.memory (omega (arith, element_size a))
           (leads_straight access s (element_lines (home_of s a)) store 1 z.after p.after m Past g.after g.memory p.runs (leads_one access s (Sw first second (element_offset (home_of s a))) p.after m g.after g.memory g.moves)) in
           (g.after, g.memory, both (4 + 1 + 2) Past g.after g.memory (omega arith) (after_test a ks (4 + 1) l y.after m Past g.after g.memory z (passed a (V i l) 4 ks l y.after m g.after g.memory z index below placed)), g.shown)

@@ -21,8 +21,8 @@ use Rattle.mv_tree_code.proofs.Registers.{reg_zero, put_same, put_other, changes
 use Rattle.mv_tree_code.proofs.TreesAreShort.{trees_are_short}
 use Rattle.mv_tree_code.proofs.Words.{parts_add, upper_below}
 use Rattle.mv_statement_code.specs.StatementCode.{first, second, trap_label, write_temp, division, set_lines, set_global_lines, divide_lines, return_lines}
-use Rattle.mv_statement_code.specs.Leads.{Exit, Past, To, Leads}
-use Rattle.mv_statement_code.specs.Frames.{Site, Element, address, IsFine, IsFit}
+use Rattle.mv_statement_code.specs.Leads.{Exit, Past, To, limited, Leads}
+use Rattle.mv_statement_code.specs.Frames.{Site, Element, IsWritten, address, IsFine, IsFit}
 use Rattle.mv_statement_code.specs.Laws.{Follows, Does}
 use Rattle.mv_statement_code.proofs.Divisions.{divide_below, division_sets}
 use Rattle.mv_statement_code.proofs.FrameChanges.{updates_element, frame_scratch}
@@ -58,8 +58,8 @@ module _ {M : Type 0} (access : Access M) (s : Site) (setting : ir.Setting) (fra
       let w = temp_written access s setting frame fit t first (V v l) l x.after m lt x.below x.holds x.shown in
       (w.after, w.memory, after_tree first v (one (write_temp t first)) 1 (8 + 3 * nodes v) l regs m Past w.after w.memory (omega arith) x (leads_one access s (write_temp t first) x.after m w.after w.memory w.moves), w.shown)
 
-  pub set_global_done : (end g : ℕ) (v : Tree) → 0 < s.size g → Fine v → Does access s setting frame end (set_global_lines s.place g v) (stm.SetGlobal g v)
-  set_global_done end g v lt fine bound l regs m f =
+  pub set_global_done : (end g : ℕ) (v : Tree) → 0 < s.size g → IsWritten s (array.Global g) → Fine v → Does access s setting frame end (set_global_lines s.place g v) (stm.SetGlobal g v)
+  set_global_done end g v lt may fine bound l regs m f =
       let a = array.Global g in
       let at = s.place g in
       let x = tree_first access s setting frame fit first v l regs m at_first fine f in
@@ -73,13 +73,13 @@ module _ {M : Type 0} (access : Access M) (s : Site) (setting : ir.Setting) (fra
       ap (λ z. add z (word_of (lower_bits at))) (put_same x.after second up (omega arith) (omega (arith, x.shown.are.count))) ∙ parts_add at below ∙ same in
       let value : reg mid first ≡ V v l = put_other x.after second first up (omega arith) (λ e. omega arith) ∙ x.holds in
       let l' = with_elements a l (slice_set (elements a l) 0 (V v l)) in
-      let w = cell_written access s setting frame fit second first (lower_bits at) (Element a 0) (V v l) l l' mid m to value x.below tt lt (updates_element s l a 0 (V v l) (omega (arith, lt, f.sizes a))) shown in
+      let w = cell_written access s setting frame fit second first (lower_bits at) (Element a 0) (V v l) l l' mid m to value x.below may lt (updates_element s l a 0 (V v l) (omega (arith, lt, f.sizes a))) shown in
       let high = Lui second (pos (upper_bits at)) in
       let store = Sw second first (lower_bits at) in (
         w.after,
         w.memory,
         after_tree first v (two high store) (1 + 1) (8 + 3 * nodes v) l regs m Past w.after w.memory (omega arith) x
-            (leads_next access s high (one store) 1 x.after m mid m Past w.after w.memory (lui_sets access m second (pos (upper_bits at)) x.after up refl, inl refl) (leads_one access s store mid m w.after w.memory w.moves)),
+            (leads_next access s high (one store) 1 x.after m mid m Past w.after w.memory (lui_sets (limited access s) m second (pos (upper_bits at)) x.after up refl, inl refl) (leads_one access s store mid m w.after w.memory w.moves)),
         w.shown,
       )
 
@@ -128,7 +128,7 @@ module _ {M : Type 0} (access : Access M) (s : Site) (setting : ir.Setting) (fra
               holds,
               2,
               omega arith,
-              leads_next access s (division o) (one (write_temp t first)) 1 y.after m mid m Past w.after w.memory (division_sets access m o (V a l) (V b l) y.after nonzero dividend y.holds, inl refl)
+              leads_next access s (division o) (one (write_temp t first)) 1 y.after m mid m Past w.after w.memory (division_sets (limited access s) m o (V a l) (V b l) y.after nonzero dividend y.holds, inl refl)
                   (leads_one access s (write_temp t first) mid m w.after w.memory w.moves),
             )),
             w.shown,

@@ -1,5 +1,5 @@
 -- Trees of a frame: their values come into registers, and the frame is still shown. What is then put into a temporary or into a cell.
-use Rattle.std.proofs.Common.{inr, refl, ◌≡◌, inl, ⊎_elim, ℕ, ◌+◌, ◌^◌, ◌<◌, ◌≤◌, Bool, true, cond, ltb, List, slice_index, pos, ℤ, Some, sym, ap, ◌∙◌, subst, arith}
+use Rattle.std.proofs.Common.{inr, refl, ◌≡◌, inl, ⊎_elim, ℕ, ◌+◌, ◌^◌, ◌<◌, ◌≤◌, Bool, true, cond, ltb, List, slice_index, pos, ℤ, Some, None, sym, ap, ◌∙◌, subst, arith}
 use Rattle.std.proofs.lemmas.Bool.{cases_lt, lt-ltb, le-ltb}
 use Rattle.mv_num.specs.Words.{word_of, add}
 use Rattle.mv_isa.specs.declared.instr.Instr.{Instr}
@@ -19,8 +19,8 @@ use Rattle.mv_tree_code.proofs.Registers.{changes_wider, scratch_part}
 use Rattle.mv_tree_code.proofs.TreesRun.{tree_runs}
 use Rattle.mv_tree_code.proofs.Words.{word_of_pos, zero_add, add_word}
 use Rattle.mv_statement_code.specs.StatementCode.{write_temp}
-use Rattle.mv_statement_code.specs.Leads.{Moves}
-use Rattle.mv_statement_code.specs.Frames.{Site, Cell, TempCell, Element, address, IsOwn, IsThere, content, view_of, IsFine, IsFit, Shows}
+use Rattle.mv_statement_code.specs.Leads.{limited, Moves}
+use Rattle.mv_statement_code.specs.Frames.{Site, Cell, TempCell, Element, IsLoaded, IsOwn, address, IsThere, content, view_of, IsFine, IsFit, Shows}
 use Rattle.mv_statement_code.proofs.FrameChanges.{Updates, updates_temp, frame_scratch, frame_register, frame_stored}
 use Rattle.mv_statement_code.proofs.Walks.{sw_moves}
 
@@ -32,18 +32,23 @@ module _ {M : Type 0} (access : Access M) (s : Site) (setting : ir.Setting) (fra
   abbrev Sh : State → List ℕ → M → Type 0
   Sh = Shows s access
 
-  temps_held : (l : State) (regs : List ℕ) (m : M) → Sh l regs m → HoldsTemps access m (view_of s setting frame l) regs
+  -- a cell that the code may load
+  pub cell_loaded : (m : M) (x : Cell) (v : ℕ) → IsThere s x → IsLoaded s x → access.load m (address s x) 4 ≡ Some v → (limited access s).load m (address s x) 4 ≡ Some v
+  cell_loaded m x v there may e = ap (λ b. cond b (access.load m (address s x) 4) None) (fit.loads x there may) ∙ e
+
+  temps_held : (l : State) (regs : List ℕ) (m : M) → Sh l regs m → HoldsTemps (limited access s) m (view_of s setting frame l) regs
   temps_held l regs m f = record {
     words = λ t p. ⊎_elim (λ (h : t < 9). f.low_words t (omega (arith, p, f.count)) h) (λ (h : 9 ≤ t). f.words (TempCell t) (h, omega (arith, p, f.count))) (cases_lt t 9);
     in_register = λ t p q. f.in_register t (omega (arith, p, f.count)) q;
     in_frame = λ t p q. loaded t (q, omega (arith, p, f.count));
   }
     where
-      loaded : (t : ℕ) → IsThere s (TempCell t) → access.load m (add (reg regs 2) (temp_offset t)) 4 ≡ Some (slice_index l.temps t)
+      loaded : (t : ℕ) → IsThere s (TempCell t) → (limited access s).load m (add (reg regs 2) (temp_offset t)) 4 ≡ Some (slice_index l.temps t)
       loaded t h =
-          ap (λ a. access.load m a 4) (ap (λ x. add x (temp_offset t)) (f.left 2 (inl (omega arith))) ∙ add_small (s.register 2) (temp_offset t) (fit.addresses (TempCell t) h)) ∙ f.in_memory (TempCell t) h
+          ap (λ a. (limited access s).load m a 4) (ap (λ x. add x (temp_offset t)) (f.left 2 (inl (omega arith))) ∙ add_small (s.register 2) (temp_offset t) (fit.addresses (TempCell t) h))
+          ∙ cell_loaded m (TempCell t) (slice_index l.temps t) h tt (f.in_memory (TempCell t) h)
 
-  named_held : (l : State) (regs : List ℕ) (m : M) → Sh l regs m → HoldsNamed access m (view_of s setting frame l)
+  named_held : (l : State) (regs : List ℕ) (m : M) → Sh l regs m → HoldsNamed (limited access s) m (view_of s setting frame l)
   named_held l regs m f = record {
     places = λ g k. omega (arith, fit.addresses (Element (array.Global g) 0) (fit.has_word g k));
     words = λ g k. f.words (Element (array.Global g) 0) (fit.has_word g k);
@@ -53,15 +58,15 @@ module _ {M : Type 0} (access : Access M) (s : Site) (setting : ir.Setting) (fra
     entry_words = fit.entry_words;
   }
     where
-      loaded : (g : ℕ) → s.is_read g ≡ true → access.load m (s.place g) 4 ≡ Some (scalar l.world.globals g)
+      loaded : (g : ℕ) → s.reach.is_read g ≡ true → (limited access s).load m (s.place g) 4 ≡ Some (scalar l.world.globals g)
       loaded g k =
           let same : s.place g ≡ address s (Element (array.Global g) 0) = omega arith in
-          ap (λ a. access.load m a 4) same ∙ f.in_memory (Element (array.Global g) 0) (fit.has_word g k)
+          ap (λ a. (limited access s).load m a 4) same ∙ cell_loaded m (Element (array.Global g) 0) (scalar l.world.globals g) (fit.has_word g k) k (f.in_memory (Element (array.Global g) 0) (fit.has_word g k))
 
   -- a tree's value stands in a register, and the frame is shown as before
   pub record HasValue (r : ℕ) (t : Tree) (l : State) (regs : List ℕ) (m : M) : Type 0 where
     pub after : List ℕ
-    pub runs : Straight access m s.entry (tree_lines s.place t r) regs after
+    pub runs : Straight (limited access s) m s.entry (tree_lines s.place t r) regs after
     pub changes : Changes r (r + 4) regs after
     pub holds : reg after r ≡ of_tree setting frame t l
     pub below : of_tree setting frame t l < 2 ^ 32
@@ -71,7 +76,7 @@ module _ {M : Type 0} (access : Access M) (s : Site) (setting : ir.Setting) (fra
   tree_first r t l regs m scratch fine f =
       let low = fine.shallow in
       let part = scratch_part r (r + 4) r (r + depth t) (omega arith) (omega arith) scratch in
-      let g = tree_runs access m (view_of s setting frame l) (named_held l regs m f) t r regs (fine.named l f.count) f.are (temps_held l regs m f) part in
+      let g = tree_runs (limited access s) m (view_of s setting frame l) (named_held l regs m f) t r regs (fine.named l f.count) f.are (temps_held l regs m f) part in
       record {
         after = g.after;
         runs = g.runs;
@@ -90,13 +95,13 @@ module _ {M : Type 0} (access : Access M) (s : Site) (setting : ir.Setting) (fra
 
   -- a word is stored to a cell
   pub cell_written : (rs1 rs2 : ℕ) (imm : ℤ) (x : Cell) (v : ℕ) (l l' : State) (regs : List ℕ) (m : M)
-      → add (reg regs rs1) (word_of imm) ≡ address s x → reg regs rs2 ≡ v → v < 2 ^ 32 → IsOwn x → IsThere s x → Updates s l l' x v → Sh l regs m → Makes (Sw rs1 rs2 imm) l' regs m
+      → add (reg regs rs1) (word_of imm) ≡ address s x → reg regs rs2 ≡ v → v < 2 ^ 32 → IsOwn s x → IsThere s x → Updates s l l' x v → Sh l regs m → Makes (Sw rs1 rs2 imm) l' regs m
   cell_written rs1 rs2 imm x v l l' regs m a e b own there u f =
       let st = fit.stores m x v (content s l x) there b (f.in_memory x there) in
       record {
         after = regs;
         memory = st.after;
-        moves = (sw_moves access s rs1 rs2 imm regs m st.after (address s x) v a e st.stored, inr (x, v, own, there, b, st.stored));
+        moves = (sw_moves (limited access s) s rs1 rs2 imm regs m st.after (address s x) v a e st.stored, inr (x, v, own, there, b, st.stored));
         shown = frame_stored s access setting frame fit l l' regs m x v there b u st f;
       }
 
@@ -114,7 +119,7 @@ module _ {M : Type 0} (access : Access M) (s : Site) (setting : ir.Setting) (fra
           (record {
             after = put regs (temp_register t) v;
             memory = m;
-            moves = (addi_sets access m (temp_register t) r (pos 0) regs v 0 v e (word_of_pos 0 (omega arith)) (zero_add v b), inl refl);
+            moves = (addi_sets (limited access s) m (temp_register t) r (pos 0) regs v 0 v e (word_of_pos 0 (omega arith)) (zero_add v b), inl refl);
             shown = frame_register s access l regs m t v lt small b f;
           })
 

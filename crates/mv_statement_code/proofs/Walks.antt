@@ -10,7 +10,7 @@ use Rattle.mv_isa.specs.Code.{greatest_words}
 use Rattle.mv_isa.specs.Execution.{Access, Goes, reg, put, stored, stores, execute}
 use Rattle.mv_tree_code.specs.Straight.{Straight}
 use Rattle.mv_statement_code.specs.Frames.{Site}
-use Rattle.mv_statement_code.specs.Leads.{Exit, Past, To, Moves, Leads}
+use Rattle.mv_statement_code.specs.Leads.{Exit, Past, To, limited, Moves, Leads}
 
 module _ {M : Type 0} (access : Access M) (s : Site) where
   abbrev L : List Line → ℕ → List ℕ → M → Exit → List ℕ → M → Type 0
@@ -28,7 +28,7 @@ module _ {M : Type 0} (access : Access M) (s : Site) where
   leads_more (Slot f ∷ ls) n k regs m exit regs' m' le h = absurd h
 
   -- lines behind straight ones
-  pub leads_straight : (ls ks : List Line) (n : ℕ) (regs mid : List ℕ) (m : M) (exit : Exit) (regs' : List ℕ) (m' : M) → Straight access m s.entry ls regs mid → L ks n mid m exit regs' m'
+  pub leads_straight : (ls ks : List Line) (n : ℕ) (regs mid : List ℕ) (m : M) (exit : Exit) (regs' : List ℕ) (m' : M) → Straight (limited access s) m s.entry ls regs mid → L ks n mid m exit regs' m'
       → L (ls ++ ks) (sum_by greatest_words ls + n) regs m exit regs' m'
   leads_straight [] ks n regs mid m exit regs' m' h k = leads_more ks n (0 + n) regs m exit regs' m' (omega arith) (subst (λ z. L ks n z m exit regs' m') h k)
   leads_straight (Word i ∷ ls) ks n regs mid m exit regs' m' h k = (sum_by greatest_words ls + n, omega (arith, sum_by-cons greatest_words (Word i) ls), h.0, m, (h.1, inl refl), leads_straight ls ks n h.0 mid m exit regs' m' h.2 k)

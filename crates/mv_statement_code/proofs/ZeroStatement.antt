@@ -13,7 +13,7 @@ use Rattle.mv_tree_code.proofs.Instructions.{addi_sets}
 use Rattle.mv_tree_code.proofs.Registers.{reg_zero, put_same, put_other, changes_put}
 use Rattle.mv_tree_code.proofs.Words.{add_below, add_word, word_of_pos, zero_add}
 use Rattle.mv_statement_code.specs.StatementCode.{first, second, bounds_lines, clear_lines}
-use Rattle.mv_statement_code.specs.Leads.{Past}
+use Rattle.mv_statement_code.specs.Leads.{limited, Past}
 use Rattle.mv_statement_code.specs.Frames.{Site, Element, address, content, IsFit, Shows}
 use Rattle.mv_statement_code.specs.Laws.{cleared, IsCleared, Clears}
 use Rattle.mv_statement_code.proofs.FrameChanges.{elements_same, updates_element, frame_scratch, frame_stored}
@@ -87,8 +87,8 @@ module _ {M : Type 0} (access : Access M) (s : Site) (setting : ir.Setting) (fra
           after,
           m,
           leads_next access s i (one j) 1 regs m mid m Past after m
-              (addi_sets access m first 2 (pos at) regs (reg regs 2) (word_of (pos at)) x refl refl (add_word (reg regs 2) at ∙ low), inl refl)
-              (leads_one access s j mid m after m (addi_sets access m second 2 (pos stop) mid (reg mid 2) (word_of (pos stop)) y refl refl (add_word (reg mid 2) stop ∙ high), inl refl)),
+              (addi_sets (limited access s) m first 2 (pos at) regs (reg regs 2) (word_of (pos at)) x refl refl (add_word (reg regs 2) at ∙ low), inl refl)
+              (leads_one access s j mid m after m (addi_sets (limited access s) m second 2 (pos stop) mid (reg mid 2) (word_of (pos stop)) y refl refl (add_word (reg mid 2) stop ∙ high), inl refl)),
           record {
             size = f.sizes (array.Local a);
             shown = subst (λ (z : State). Shows s access z after m) (sym none_yet) shown';
@@ -112,12 +112,12 @@ module _ {M : Type 0} (access : Access M) (s : Site) (setting : ir.Setting) (fra
         let inside : n < length (elements (array.Local a) (X n)) = omega (arith, ap length (elements_same (array.Local a) l (cleared n xs) n (omega (arith, size))), cleared_count n xs, size) in
         let l' = with_elements (array.Local a) (X n) (slice_set (elements (array.Local a) (X n)) n 0) in
         let st = fit.stores m x 0 (content s (X n) x) there (omega arith) (f.shown.in_memory x there) in
-        let stores = sw_moves access s first 0 (pos 0) regs m st.after (address s x) 0 to (reg_zero regs) st.stored in
+        let stores = sw_moves (limited access s) s first 0 (pos 0) regs m st.after (address s x) 0 to (reg_zero regs) st.stored in
         let stored = frame_stored s access setting frame fit (X n) l' regs m x 0 there (omega arith) (updates_element s (X n) (array.Local a) n 0 inside) st f.shown in
         let next = s.register 2 + at in
         let v = add next 4 in
         let after = put regs first v in
-        let moves = addi_sets access st.after first first (pos 4) regs next 4 v here (word_of_pos 4 (omega arith)) refl in
+        let moves = addi_sets (limited access s) st.after first first (pos 4) regs next 4 v here (word_of_pos 4 (omega arith)) refl in
         let shown = adds_to first first 4 v l' regs st.after (omega arith) (omega arith) (ap (λ r. add r 4) here) stored in
         let suc_is : suc n ≡ n + 1 = omega arith in (
           after,

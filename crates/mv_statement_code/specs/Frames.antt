@@ -14,13 +14,19 @@ use Rattle.mv_tree_code.specs.View.{View, is_in_view, AreRegisters}
 use Rattle.mv_statement_code.specs.declared.elements.Home.{Home}
 use Rattle.mv_statement_code.specs.declared.elements.Home.TheVariants as home
 
--- Where a frame stands: the address of each global and function, how many words a global has and whether the code may read it, which known functions it
+-- What some code may use of memory: the globals that it reads, those that it writes, and the addresses that it may load.
+pub record Reach : Type 0 where
+  pub is_read : ℕ → Bool
+  pub is_written : ℕ → Bool
+  pub may_load : ℕ → Bool
+
+-- Where a frame stands: the address of each global and function, how many words a global has, what the code may use of memory, which known functions it
 -- may ask for, the number of temporaries, the place and size of each array in bytes above sp and in words, and what the code is to leave alone:
 -- registers, and words of memory.
 pub record Site : Type 0 where
   pub place : ℕ → ℕ
   pub size : ℕ → ℕ
-  pub is_read : ℕ → Bool
+  pub reach : Reach
   pub entry : ℕ → ℕ
   pub may_ask : Known → Bool
   pub temps : ℕ
@@ -36,16 +42,30 @@ pub data Cell : Type 0 where
   Element : Array → ℕ → Cell
   Kept : ℕ → Cell
 
--- the code of the frame may store to its temporaries and to elements
-abbrev pub IsOwn : Cell → Type 0
-IsOwn (Kept b) = ⊥
-IsOwn _ = Unit {0}
-
 -- sp, s10 and s11, which only calls change and set back
 abbrev pub IsLeft : ℕ → Type 0
 IsLeft q = (q ≡ 2) ⊎ ((26 ≤ q) × (q < 28))
 
 module _ (s : Site) where
+  -- the code may load elements of an array, and store to them, where it is one of the frame or a global of those that the code reads or writes
+  abbrev pub IsRead : Array → Type 0
+  IsRead (array.Global g) = s.reach.is_read g ≡ true
+  IsRead (array.Local a) = Unit {0}
+
+  abbrev pub IsWritten : Array → Type 0
+  IsWritten (array.Global g) = s.reach.is_written g ≡ true
+  IsWritten (array.Local a) = Unit {0}
+
+  -- it may load all else that the frame counts on, and store to its temporaries
+  abbrev pub IsLoaded : Cell → Type 0
+  IsLoaded (Element a i) = IsRead a
+  IsLoaded _ = Unit {0}
+
+  abbrev pub IsOwn : Cell → Type 0
+  IsOwn (TempCell t) = Unit {0}
+  IsOwn (Element a i) = IsWritten a
+  IsOwn (Kept b) = ⊥
+
   abbrev pub home_of : Array → Home
   home_of (array.Global g) = home.Data (s.place g)
   home_of (array.Local a) = home.Frame (s.array_at a)
@@ -79,7 +99,7 @@ module _ (s : Site) where
   abbrev pub view_of : ir.Setting → ir.Frame → State → View
   view_of setting frame l = record {
     place = s.place;
-    is_read = s.is_read;
+    is_read = s.reach.is_read;
     globals = l.world.globals;
     bound = frame.bound;
     entry = s.entry;
@@ -100,15 +120,16 @@ module _ (s : Site) where
       pub same : access.load after (address x) 4 ≡ Some v
       pub others : (y : Cell) → IsThere y → address y ≢ address x → access.load after (address y) 4 ≡ access.load m (address y) 4
 
-    -- Memory is fit for the frame: cells can be stored to, and no two are the same word. Globals that are read have a word and aren't read as bound
+    -- Memory is fit for the frame: cells can be stored to, no two are the same word, and those that the code may load have such addresses. Globals that are read have a word and aren't read as bound
     -- values; a function's number is its address.
     pub record IsFit (setting : ir.Setting) (frame : ir.Frame) : Type 0 where
       pub stores : (m : M) (x : Cell) (v w : ℕ) → IsThere x → v < 2 ^ 32 → access.load m (address x) 4 ≡ Some w → Stored m x v
       pub apart : (x y : Cell) → IsThere x → IsThere y → address x ≡ address y → x ≡ y
       pub addresses : (x : Cell) → IsThere x → address x < 2 ^ 32
       pub sizes : (a : Array) → size_of a < 2 ^ 32
-      pub has_word : (g : ℕ) → s.is_read g ≡ true → 0 < s.size g
-      pub free : (g : ℕ) → s.is_read g ≡ true → found frame.bound g ≡ None
+      pub loads : (x : Cell) → IsThere x → IsLoaded x → s.reach.may_load (address x) ≡ true
+      pub has_word : (g : ℕ) → s.reach.is_read g ≡ true → 0 < s.size g
+      pub free : (g : ℕ) → s.reach.is_read g ≡ true → found frame.bound g ≡ None
       pub entries : (f : ℕ) → f < length setting.numbers → slice_index setting.numbers f ≡ s.entry f
       pub entry_words : (f : ℕ) → f < length setting.numbers → s.entry f < 2 ^ 32
 

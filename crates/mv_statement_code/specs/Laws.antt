@@ -15,7 +15,7 @@ use Rattle.mv_ir.specs.Outcome.{State, Outcome, Next, Ends, Trapped, Returned, B
 use Rattle.mv_ir.specs.Meaning.{elements, with_elements, statement}
 use Rattle.mv_statement_code.specs.StatementCode.{first, second, trap_label, set_lines, set_global_lines, divide_lines, check_lines, read_lines, write_lines, bounds_lines, clear_lines, return_lines}
 use Rattle.mv_statement_code.specs.Leads.{Exit, Past, To, Leads}
-use Rattle.mv_statement_code.specs.Frames.{Site, home_of, size_of, IsFine, IsFit, Shows}
+use Rattle.mv_statement_code.specs.Frames.{Site, IsRead, IsWritten, home_of, size_of, IsFine, IsFit, Shows}
 
 -- a list whose first elements are 0
 abbrev pub cleared : ℕ → List ℕ → List ℕ
@@ -63,11 +63,11 @@ module _ {M : Type 0} (access : Access M) (s : Site) (setting : ir.Setting) (fra
 
   pub record AreDone : Type 0 where
     pub set : (end t : ℕ) (v : Tree) → t < s.temps → Fine v → Does end (set_lines s.place t v) (stm.Set t v)
-    pub set_global : (end g : ℕ) (v : Tree) → 0 < s.size g → Fine v → Does end (set_global_lines s.place g v) (stm.SetGlobal g v)
+    pub set_global : (end g : ℕ) (v : Tree) → 0 < s.size g → IsWritten s (array.Global g) → Fine v → Does end (set_global_lines s.place g v) (stm.SetGlobal g v)
     pub divide : (end t o : ℕ) (a b : Tree) → t < s.temps → Fine a → Fine b → Does end (divide_lines s.place t o a b) (stm.Divide t o a b)
     pub check : (end : ℕ) (a : Array) (i : Tree) → Fine i → Does end (check_lines s.place (size_of s a) i) (stm.Check a i)
-    pub read : (end t : ℕ) (a : Array) (i : Tree) → t < s.temps → Fine i → Does end (read_lines s.place t (home_of s a) (size_of s a) i) (stm.Read t a i)
-    pub write : (end : ℕ) (a : Array) (i v : Tree) → Fine i → Fine v → Does end (write_lines s.place (home_of s a) (size_of s a) i v) (stm.Write a i v)
+    pub read : (end t : ℕ) (a : Array) (i : Tree) → t < s.temps → IsRead s a → Fine i → Does end (read_lines s.place t (home_of s a) (size_of s a) i) (stm.Read t a i)
+    pub write : (end : ℕ) (a : Array) (i v : Tree) → IsWritten s a → Fine i → Fine v → Does end (write_lines s.place (home_of s a) (size_of s a) i v) (stm.Write a i v)
     pub bounds : (a : ℕ) (l : State) (regs : List ℕ) (m : M) → Shows s access l regs m → Clears (bounds_lines (s.array_at a) (s.array_size a)) 2 regs m a 0 l
     pub clear : (a n : ℕ) (l : State) (regs : List ℕ) (m : M) → n < s.array_size a → IsCleared a n l regs m → Clears clear_lines 2 regs m a (n + 1) l
     pub returns : (end : ℕ) (v : Tree) → Fine v → Does end (return_lines s.place end v) (stm.Return v)

@@ -1,5 +1,5 @@
 -- Where lines lead, wherever they stand: the registers and the memory that they leave, and in how many instructions.
-use Rattle.std.specs.Prelude.{ℕ, ◌≡◌, ◌+◌, ◌^◌, ◌<◌, ◌≤◌, ◌⊎◌, true, false, List, [], ◌∷◌, Some}
+use Rattle.std.specs.Prelude.{ℕ, ◌≡◌, ◌+◌, ◌^◌, ◌<◌, ◌≤◌, ◌⊎◌, Bool, true, false, cond, List, [], ◌∷◌, Some, None}
 use Rattle.mv_num.specs.Words.{add}
 use Rattle.mv_isa.specs.declared.instr.Instr.{Instr}
 use Rattle.mv_isa.specs.declared.labelled.Line.{Line}
@@ -13,14 +13,22 @@ pub data Exit : Type 0 where
   Past : Exit
   To : ℕ → Exit
 
+-- an access that refuses to load from other addresses than those that a test allows
+abbrev pub reading : {M : Type 0} → (ℕ → Bool) → Access M → Access M
+reading may_load access = record access { load = λ m a n. cond (may_load a) (access.load m a n) None }
+
 module _ {M : Type 0} (access : Access M) (s : Site) where
+  -- the accesses that the code of the frame may make
+  abbrev pub limited : Access M
+  limited = reading s.reach.may_load access
+
   -- memory is as it was, or a word was stored to a cell of the frame's own
   abbrev pub Writes : M → M → Type 0
-  Writes m m' = (m' ≡ m) ⊎ ((x : Cell) × (v : ℕ) × IsOwn x × IsThere s x × (v < 2 ^ 32) × (access.store m (address s x) 4 v ≡ Some m'))
+  Writes m m' = (m' ≡ m) ⊎ ((x : Cell) × (v : ℕ) × IsOwn s x × IsThere s x × (v < 2 ^ 32) × (access.store m (address s x) 4 v ≡ Some m'))
 
-  -- wherever an instruction stands, it goes on to the next one
+  -- wherever an instruction stands, it goes on to the next one, loading only what the code may load
   abbrev pub Moves : Instr → List ℕ → M → List ℕ → M → Type 0
-  Moves i regs m regs' m' = ((pc : ℕ) → execute access i regs pc m ≡ Goes regs' (add pc 4) m') × Writes m m'
+  Moves i regs m regs' m' = ((pc : ℕ) → execute limited i regs pc m ≡ Goes regs' (add pc 4) m') × Writes m m'
 
   -- registers and memory stay as they are
   abbrev pub Stays : List ℕ → M → List ℕ → M → Type 0

@@ -24,7 +24,8 @@ use Rattle.mv_machine_runs.specs.MachineRuns.{access, machine_of, machine_text}
 use Rattle.mv_stub_runs.specs.Stubs.{stack_register, stack_end, start_address, return_address, start_lines}
 use Rattle.mv_stub_runs.specs.Laws.{HoldsData, EntersMain}
 use Rattle.mv_stub_runs.proofs.Data.{data_held}
-use Rattle.mv_stub_runs.proofs.Walked.{no_frame, none_inside, At, sets, jumps, number_sets}
+use Rattle.mv_stub_runs.proofs.Walked as walked
+use Rattle.mv_stub_runs.proofs.Walked.{no_frame, own, At, sets, jumps, number_sets}
 
 -- ---- the first state
 
@@ -60,17 +61,17 @@ stack_is = ap (λ (n : ℕ). shl n 12) (word_of_pos 0x400 (omega arith))
 -- ---- the walk
 
 module _ (tested : CalmIsTested) (are_runs : RunsAreRuns) (begin_in_calm : RunsBeginInCalm)
-    (attributed : List ℕ) (image : Fields) (bytes : List ℕ) (actions : List Action) (picks : List ℕ) (y : Layout) (budget far : ℕ) (w : World)
+    (attributed : List ℕ) (closed : (pc address : ℕ) → Bool) (image : Fields) (bytes : List ℕ) (actions : List Action) (picks : List ℕ) (y : Layout) (budget far : ℕ) (w : World)
     (begins : IsFirst image bytes w) (held : HoldsData y image w) (entry_is : image.entry ≡ start_address)
     (place entry : ℕ → ℕ) (main_label end : ℕ) (p : Placed (machine_text attributed image) place entry (start_lines main_label) start_address end) where
   abbrev machine : Machine Rest
-  machine = machine_of attributed image (bytes_to_come bytes) actions picks
+  machine = machine_of attributed closed image (bytes_to_come bytes) actions picks
 
   ok : IsRun access (no_frame entry) machine
-  ok = are_runs attributed image (bytes_to_come bytes) actions picks (no_frame entry) (none_inside entry)
+  ok = walked.ok tested are_runs attributed closed image (bytes_to_come bytes) actions picks place entry
 
   abbrev At' : ℕ → List ℕ → Rest → ℕ → Type 0
-  At' = At tested are_runs attributed image (bytes_to_come bytes) actions picks place entry w
+  At' = At tested are_runs attributed closed image (bytes_to_come bytes) actions picks place entry w
 
   abbrev start : State
   start = first image (bytes_to_come bytes) actions
@@ -93,7 +94,7 @@ module _ (tested : CalmIsTested) (are_runs : RunsAreRuns) (begin_in_calm : RunsB
   at0 : At' start_address regs0 m 0
   at0 = record {
     is = ap (λ (a : ℕ). record (machine.run 0) { pc = a }) (ap (λ (s : State). s.pc) none ∙ first_entry image bytes actions ∙ entry_is);
-    calm = begin_in_calm attributed image bytes actions picks (no_frame entry) w begins;
+    calm = begin_in_calm attributed closed image bytes actions picks (no_frame entry) w begins;
     sound = λ t lt. absurd (omega (arith, lt));
   }
 
@@ -101,8 +102,8 @@ module _ (tested : CalmIsTested) (are_runs : RunsAreRuns) (begin_in_calm : RunsB
   regs1 = put regs0 stack_register stack_end
 
   at1 : At' p.0 regs1 m 1
-  at1 = sets tested are_runs attributed image (bytes_to_come bytes) actions picks place entry (Lui stack_register (pos 0x400)) w start_address p.0 0 regs0 regs1 m
-      (lui_sets access m stack_register (pos 0x400) regs0 stack_end stack_is) p.1 at0
+  at1 = sets tested are_runs attributed closed image (bytes_to_come bytes) actions picks place entry (Lui stack_register (pos 0x400)) w start_address p.0 0 regs0 regs1 m
+      (lui_sets (own tested are_runs attributed closed image (bytes_to_come bytes) actions picks place entry) m stack_register (pos 0x400) regs0 stack_end stack_is) p.1 at0
 
   are1 : AreRegisters regs1
   are1 = put_registers regs0 stack_register stack_end are0 (omega arith) (omega arith) (omega arith)
@@ -111,8 +112,8 @@ module _ (tested : CalmIsTested) (are_runs : RunsAreRuns) (begin_in_calm : RunsB
   regs2 = put regs1 left_register depth_limit
 
   at2 : At' p.2.0 regs2 m 2
-  at2 = sets tested are_runs attributed image (bytes_to_come bytes) actions picks place entry (Addi left_register 0 (pos depth_limit)) w p.0 p.2.0 1 regs1 regs2 m
-      (number_sets tested are_runs attributed image (bytes_to_come bytes) actions picks place entry left_register depth_limit regs1 m (omega arith)) p.2.1 at1
+  at2 = sets tested are_runs attributed closed image (bytes_to_come bytes) actions picks place entry (Addi left_register 0 (pos depth_limit)) w p.0 p.2.0 1 regs1 regs2 m
+      (number_sets tested are_runs attributed closed image (bytes_to_come bytes) actions picks place entry left_register depth_limit regs1 m (omega arith)) p.2.1 at1
 
   are2 : AreRegisters regs2
   are2 = put_registers regs1 left_register depth_limit are1 (omega arith) (omega arith) (omega arith)
@@ -127,7 +128,7 @@ module _ (tested : CalmIsTested) (are_runs : RunsAreRuns) (begin_in_calm : RunsB
   regs3 = put regs2 link_register p.2.2.0
 
   at3 : At' (place main_label) regs3 m 3
-  at3 = jumps tested are_runs attributed image (bytes_to_come bytes) actions picks place entry link_register main_label w p.2.0 p.2.2.0 2 regs2 m p.2.2.1 at2
+  at3 = jumps tested are_runs attributed closed image (bytes_to_come bytes) actions picks place entry link_register main_label w p.2.0 p.2.2.0 2 regs2 m p.2.2.1 at2
 
   are3 : AreRegisters regs3
   are3 = put_registers regs2 link_register p.2.2.0 are2 (omega arith) (omega arith) (omega (arith, behind))

@@ -1,12 +1,12 @@
 -- Lines of stubs that a run walks.
-use Rattle.std.proofs.Common.{◌≡◌, inl, ℕ, ◌+◌, ◌^◌, ◌<◌, false, true, List, length, pos, Option, refl, sym, ap, ◌∙◌, subst, arith}
+use Rattle.std.proofs.Common.{◌≡◌, inl, ℕ, ◌+◌, ◌^◌, ◌<◌, Bool, false, true, List, length, pos, Option, refl, sym, ap, ◌∙◌, subst, arith}
 use Rattle.mv_ast.specs.declared.world.Action.{Action}
 use Rattle.mv_num.specs.Words.{add}
 use Rattle.mv_isa.specs.declared.instr.Instr.{Instr}
 use Rattle.mv_isa.specs.declared.instr.Instr.TheVariants.{Addi, Ecall}
 use Rattle.mv_isa.specs.declared.labelled.Line.{Line}
 use Rattle.mv_isa.specs.declared.labelled.Line.TheVariants.{Word, Jump}
-use Rattle.mv_isa.specs.Execution.{Goes, Calls, reg, put, step, execute}
+use Rattle.mv_isa.specs.Execution.{Access, Goes, Calls, reg, put, step, execute}
 use Rattle.mv_image.specs.Spelling.{Fields}
 use Rattle.mv_ir.specs.declared.stm.Array.TheVariants as array
 use Rattle.mv_ir.specs.World.{World}
@@ -14,6 +14,8 @@ use Rattle.mv_tree_code.specs.Straight.{Sets}
 use Rattle.mv_tree_code.proofs.Instructions.{addi_sets}
 use Rattle.mv_tree_code.proofs.Registers.{reg_zero, put_same, put_other}
 use Rattle.mv_tree_code.proofs.Words.{word_of_pos, add_zero}
+use Rattle.mv_isa.proofs.LineSteps.{line_runs}
+use Rattle.mv_statement_code.specs.Leads.{limited}
 use Rattle.mv_statement_code.specs.Frames.{Site, TempCell, Element, Kept}
 use Rattle.mv_statement_code.proofs.TreesFirst.{add_small}
 use Rattle.mv_flow_code.specs.Placed.{IsPlaced, Placed}
@@ -21,6 +23,7 @@ use Rattle.mv_flow_code.specs.Runs.{Spot, Machine, outside, IsRun}
 use Rattle.mv_flow_code.proofs.Walk as walk
 use Rattle.mv_flow_code.proofs.Walk.{line_does, steps_on}
 use Rattle.mv_call_code.specs.CallCode.{request_register}
+use Rattle.mv_narrow_runs.specs.Laws.{nothing}
 use Rattle.mv_machine_runs.specs.Calm.{Rest, IsCalm, is_calm}
 use Rattle.mv_machine_runs.specs.Calls.{AtCall}
 use Rattle.mv_machine_runs.specs.Layout.{OwnOutsideText}
@@ -34,7 +37,7 @@ abbrev pub no_frame : (ℕ → ℕ) → Site
 no_frame entry = record {
   place = λ g. 0;
   size = λ g. 0;
-  is_read = λ g. false;
+  reach = nothing;
   entry = entry;
   may_ask = λ k. false;
   temps = 0;
@@ -81,15 +84,19 @@ unfolding execute
 call_is regs pc m = refl
 
 module _ (tested : CalmIsTested) (are_runs : RunsAreRuns)
-    (attributed : List ℕ) (image : Fields) (input : List (Option ℕ)) (actions : List Action) (picks : List ℕ) (place entry : ℕ → ℕ) where
+    (attributed : List ℕ) (closed : (pc address : ℕ) → Bool) (image : Fields) (input : List (Option ℕ)) (actions : List Action) (picks : List ℕ) (place entry : ℕ → ℕ) where
   abbrev pub machine : Machine Rest
-  machine = machine_of attributed image input actions picks
+  machine = machine_of attributed closed image input actions picks
 
   abbrev pub run : ℕ → Spot Rest
   run = machine.run
 
   pub ok : IsRun access (no_frame entry) machine
-  ok = are_runs attributed image input actions picks (no_frame entry) (none_inside entry)
+  ok = are_runs attributed closed image input actions picks (no_frame entry) (none_inside entry) (λ pc a may. absurd cc)
+
+  -- it loads nothing
+  abbrev pub own : Access Rest
+  own = limited access (no_frame entry)
 
   -- time t of the run stands at a place with these registers and this memory, in calm
   abbrev pub At : World → ℕ → List ℕ → Rest → ℕ → Type 0
@@ -98,7 +105,7 @@ module _ (tested : CalmIsTested) (are_runs : RunsAreRuns)
   abbrev pub One : ℕ → ℕ → Line → Type 0
   One = IsPlaced (machine_text attributed image) place entry
 
-  pub comes : (pc i : ℕ) (w : World) → ComesTo image input actions picks pc w i → At w pc (run i).regs (run i).memory i
+  pub comes : (pc i : ℕ) (w : World) → ComesTo closed image input actions picks pc w i → At w pc (run i).regs (run i).memory i
   comes pc i w h = record {
     is = ap (λ (a : ℕ). record (run i) { pc = a }) h.at;
     calm = (tested image (outside w) (run i).memory).1 (calm_outside image w (run i).memory h.calm);
@@ -114,7 +121,7 @@ module _ (tested : CalmIsTested) (are_runs : RunsAreRuns)
 
   -- ---- lines
 
-  pub sets : (i : Instr) (w : World) (pc next t : ℕ) (regs regs' : List ℕ) (m : Rest) → Sets access m i regs regs' → One pc next (Word i) → At w pc regs m t → At w next regs' m (t + 1)
+  pub sets : (i : Instr) (w : World) (pc next t : ℕ) (regs regs' : List ℕ) (m : Rest) → Sets own m i regs regs' → One pc next (Word i) → At w pc regs m t → At w next regs' m (t + 1)
   sets i w pc next t regs regs' m does p a =
       let here = p.here in
       let on : add pc 4 ≡ next = add_small pc 4 (omega (arith, here.1)) ∙ sym p.stands.1 in
@@ -129,8 +136,8 @@ module _ (tested : CalmIsTested) (are_runs : RunsAreRuns)
   -- ---- environment calls
 
   -- a number into a register
-  pub number_sets : (r n : ℕ) (regs : List ℕ) (m : Rest) → n < 2 ^ 32 → Sets access m (Addi r 0 (pos n)) regs (put regs r n)
-  number_sets r n regs m lt = addi_sets access m r 0 (pos n) regs 0 n n (reg_zero regs) (word_of_pos n lt) (add_zero n lt)
+  pub number_sets : (r n : ℕ) (regs : List ℕ) (m : Rest) → n < 2 ^ 32 → Sets own m (Addi r 0 (pos n)) regs (put regs r n)
+  number_sets r n regs m lt = addi_sets own m r 0 (pos n) regs 0 n n (reg_zero regs) (word_of_pos n lt) (add_zero n lt)
 
   -- one instruction on, the run stands at an environment call, with the argument that it had
   pub record Requests (number : ℕ) (w : World) (regs : List ℕ) (t : ℕ) : Type 0 where
@@ -144,7 +151,7 @@ module _ (tested : CalmIsTested) (are_runs : RunsAreRuns)
       let regs' = put regs request_register number in
       let b : At w p.0 regs' m (t + 1) = sets (Addi request_register 0 (pos number)) w pc p.0 t regs regs' m (number_sets request_register number regs m lt) p.1 a in
       let calls : step access (unpatched_word image p.0) regs' p.0 m ≡ Calls =
-      line_does access (no_frame entry) machine ok place 0 0 0 w p.0 p.2.0 regs' m (t + 1) (Word Ecall) p.2.1.stands p.2.1 b ∙ call_is regs' p.0 m in
+      line_runs access m (unpatched_word image) place entry p.0 p.2.0 (Word Ecall) p.2.1.stands p.2.1.fits p.2.1.here p.2.1.there regs' (count w p.0 (t + 1) regs' m b) ∙ call_is regs' p.0 m in
       let many = count w pc t regs m a in
       let number_is : reg regs' request_register ≡ number = put_same regs request_register number (omega arith) (omega (arith, many)) in
       let argument_is : reg regs' 10 ≡ reg regs 10 = put_other regs request_register 10 number (omega arith) (λ e. omega (arith, e)) in record {

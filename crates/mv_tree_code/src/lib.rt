@@ -1,4 +1,13 @@
 //! The code of trees: the instructions that leave a tree's value in a register.
+//!
+//! - `push_tree` puts exactly the lines of `specs/TreeCode.antt` behind some code, for a register with as many registers
+//!   from it on as the tree is deep. `push_number`, `place_of`, `upper_bits`, `lower_bits`, `temp_register`,
+//!   `temp_offset`, `push_one` and `push_two` are exact too.
+//! - `tree_code_law` says of these lines, over any memory: they lead straight to registers of which that one holds the
+//!   tree's value, and change no others but those behind it up to the tree's depth; they have at most two words for each
+//!   node; their instructions have encodings. Assumed is that temporaries, the globals that are read and the functions
+//!   stand where the view says, and that no global that is read is bound in the frame.
+//! - Only tested: the words of a tree with each kind of node but one, by LLVM's assembler.
 #![tactic(auto)]
 
 mod laws;

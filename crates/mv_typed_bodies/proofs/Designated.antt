@@ -27,7 +27,7 @@ use Rattle.mv_typing.specs.Soundness.{IsListed}
 use Rattle.mv_typing.proofs.Plain.{IsPlain}
 use Rattle.mv_typed_bodies.proofs.Judging.{IfGood, if_any, if_then, if_kept, if_more, if_through}
 use Rattle.mv_typed_bodies.proofs.Places.{plain_listed}
-use Rattle.mv_typed_bodies.proofs.Growing.{Declares, declares_same, declares_joined, declares_declared, declares_numbered, declares_block, names_back}
+use Rattle.mv_typed_bodies.proofs.Growing.{Declares, declares_same, declares_joined, declares_declared, declares_numbered, declares_block, names_back, tags_back}
 use Rattle.mv_typed_bodies.proofs.Specified.{Specifies, specifiers_specify}
 use Rattle.mv_typed_bodies.proofs.Shapes.{ShapeParts, every_shape}
 use Rattle.mv_typed_bodies.proofs.Signatures.{signature_at}
@@ -37,15 +37,17 @@ IsListedEntity signatures (entity.Scalar t fixed) = IsListed signatures t
 IsListedEntity signatures (entity.Array t fixed size) = IsListed signatures t
 IsListedEntity signatures (entity.Function s) = IsListed signatures (Pointer s)
 
--- from a scope to one with the same names, and an entity that is listed there
+-- from a scope to one with the same names and tags, and an entity that is listed there
 pub record Designates (s : Scope) (d : Scope × Entity) : Type 0 where
   pub declares : Declares s d.0
   pub names : d.0.names ≡ s.names
+  pub tags : d.0.tags ≡ s.tags
   pub listed : IsListedEntity d.0.signatures d.1
 
 record Numbers (s : Scope) (d : Scope × ℕ) : Type 0 where
   declares : Declares s d.0
   names : d.0.names ≡ s.names
+  tags : d.0.tags ≡ s.tags
   listed : IsListed d.0.signatures (Pointer d.1)
 
 -- ---- what holds of the parts of a declarator
@@ -72,11 +74,12 @@ type_numbers t params plain h s =
     (λ d g. record {
       declares = declares_joined s (block_left d.0) (numbered t d.1 (block_left d.0)).0 (declares_block s d.0 g) (declares_numbered t d.1 (block_left d.0) plain);
       names = names_back s d.0 g.grows;
+      tags = tags_back s d.0 g.grows;
       listed = (signature_of t d.1, signature_at (signature_of t d.1) d.0.signatures);
     })
 
 as_it_is : (s : Scope) (e : Entity) → IsListedEntity s.signatures e → Designates s (s, e)
-as_it_is s e h = record { declares = declares_same s; names = refl; listed = h }
+as_it_is s e h = record { declares = declares_same s; names = refl; tags = refl; listed = h }
 
 shape_good : (x : Shape-F Shapes Declarators Params) → ShapeParts ParamDeclares x → ShapeDesignates (shape_step x)
 shape_good shape.Plain h t fixed s plain = as_it_is s (entity.Scalar t fixed) (plain_listed s.signatures t plain)
@@ -84,14 +87,14 @@ shape_good (shape.Array size) h t fixed s plain =
     if_then (λ n. Unit {0}) (Designates s) (size_of s size) _ (if_any (size_of s size)) (λ n u. as_it_is s (entity.Array t fixed n) (plain_listed s.signatures t plain))
 shape_good (shape.Function params) h t fixed s plain =
     if_then (Numbers s) (Designates s) (function_type t params s) _ (type_numbers t params plain h s)
-    (λ d n. record { declares = n.declares; names = n.names; listed = n.listed })
+    (λ d n. record { declares = n.declares; names = n.names; tags = n.tags; listed = n.listed })
 shape_good (shape.Pointer constant params) h t fixed s plain =
     if_then (Numbers s) (Designates s) (function_type t params s) _ (type_numbers t params plain h s)
-    (λ d n. record { declares = n.declares; names = n.names; listed = n.listed })
+    (λ d n. record { declares = n.declares; names = n.names; tags = n.tags; listed = n.listed })
 shape_good (shape.PointerArray constant size params) h t fixed s plain =
     if_then (λ n. Unit {0}) (Designates s) (size_of s size) _ (if_any (size_of s size)) (λ m u.
     if_then (Numbers s) (Designates s) (function_type t params s) _ (type_numbers t params plain h s)
-    (λ d n. record { declares = n.declares; names = n.names; listed = n.listed }))
+    (λ d n. record { declares = n.declares; names = n.names; tags = n.tags; listed = n.listed }))
 
 -- ---- parameters of declarations
 

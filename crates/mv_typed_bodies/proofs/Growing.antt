@@ -13,27 +13,52 @@ use Rattle.mv_typed_bodies.proofs.Places.{keeps_same, keeps_joined, keeps_more, 
 use Rattle.mv_typing.proofs.Plain.{IsPlain}
 
 pub grows_same : (s : Scope) → Grows s s
-grows_same s = record { locals = keeps_same s.locals; signatures = keeps_same s.signatures; around = refl; results = λ h. h }
+grows_same s = record {
+  locals = keeps_same s.locals;
+  signatures = keeps_same s.signatures;
+  enumerations = keeps_same s.enumerations;
+  around = refl;
+  tags = refl;
+  results = λ h. h;
+}
 
 pub grows_joined : (s t u : Scope) → Grows s t → Grows t u → Grows s u
 grows_joined s t u g h = record {
   locals = keeps_joined s.locals t.locals u.locals g.locals h.locals;
   signatures = keeps_joined s.signatures t.signatures u.signatures g.signatures h.signatures;
+  enumerations = keeps_joined s.enumerations t.enumerations u.enumerations g.enumerations h.enumerations;
   around = h.around ∙ g.around;
+  tags = h.tags ∙ g.tags;
   results = λ r. h.results (g.results r);
 }
 
 pub grows_declared : (s : Scope) (name : List ℕ) (m : Meaning) → Grows s (declared s name m)
-grows_declared s name m = record { locals = keeps_same s.locals; signatures = keeps_same s.signatures; around = refl; results = λ h. h }
+grows_declared s name m = record {
+  locals = keeps_same s.locals;
+  signatures = keeps_same s.signatures;
+  enumerations = keeps_same s.enumerations;
+  around = refl;
+  tags = refl;
+  results = λ h. h;
+}
 
 pub grows_local : (s : Scope) (l : Local) → Grows s (with_local s l)
-grows_local s l = record { locals = keeps_more s.locals (l ∷ []); signatures = keeps_same s.signatures; around = refl; results = λ h. h }
+grows_local s l = record {
+  locals = keeps_more s.locals (l ∷ []);
+  signatures = keeps_same s.signatures;
+  enumerations = keeps_same s.enumerations;
+  around = refl;
+  tags = refl;
+  results = λ h. h;
+}
 
 pub grows_numbered : (result : CType) (params : List CType) (s : Scope) → IsPlain result → Grows s (numbered result params s).0
 grows_numbered result params s plain = record {
   locals = keeps_same s.locals;
   signatures = signature_kept (signature_of result params) s.signatures;
+  enumerations = keeps_same s.enumerations;
   around = refl;
+  tags = refl;
   results = results_listed (signature_of result params) s.signatures plain;
 }
 
@@ -42,11 +67,16 @@ grows_numbered result params s plain = record {
 pub names_back : (s t : Scope) → Grows (block_entered s) t → (block_left t).names ≡ s.names
 names_back s t g = left_is s.names t.names g.around
 
+pub tags_back : (s t : Scope) → Grows (block_entered s) t → (block_left t).tags ≡ s.tags
+tags_back s t g = left_is s.tags t.tags g.tags
+
 pub grows_block : (s t : Scope) → Grows (block_entered s) t → Grows s (block_left t)
 grows_block s t g = record {
   locals = g.locals;
   signatures = g.signatures;
+  enumerations = g.enumerations;
   around = ap (λ n. n.around) (names_back s t g);
+  tags = ap (λ n. n.around) (tags_back s t g);
   results = g.results;
 }
 

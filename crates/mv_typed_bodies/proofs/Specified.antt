@@ -1,5 +1,5 @@
 -- What specifiers declare: enumerators and tags. The type that they name is no pointer.
-use Rattle.std.proofs.Common.{◌≡◌, ℕ, inl, refl, sym, ◌∙◌, ap, subst, Bool, true, false, is_some, if◌then◌else◌, List, [], length, take, drop, Option, Some, None}
+use Rattle.std.proofs.Common.{◌≡◌, ℕ, inl, refl, sym, ◌∙◌, ap, subst, Bool, true, false, is_some, if◌then◌else◌, List, [], ◌∷◌, length, take, drop, Option, Some, None}
 use Rattle.mv_num.specs.declared.kind.Kind.{Kind}
 use Rattle.mv_ast.specs.declared.place.Place.{Place}
 use Rattle.mv_ast.specs.declared.unit.Declarator.{Declarator}
@@ -27,7 +27,7 @@ use Rattle.mv_scope.specs.Scoped.{unless_declared}
 use Rattle.mv_declare.specs.declared.specifiers.Enumeration.{Enumeration}
 use Rattle.mv_typed_bodies.specs.Bodies.{Keeps, AreListed}
 use Rattle.mv_typed_bodies.proofs.Judging.{IfGood, if_any, if_then, if_kept, if_through, if_more}
-use Rattle.mv_typed_bodies.proofs.Places.{keeps_same}
+use Rattle.mv_typed_bodies.proofs.Places.{keeps_same, keeps_more}
 use Rattle.mv_typed_bodies.proofs.Growing.{Enumerates, enumerates_same, enumerates_joined, enumerates_one}
 use Rattle.mv_typed_bodies.proofs.NamedTypes.{IsNamed, rules_named, named_is_plain}
 use Rattle.mv_typed_bodies.proofs.Lists.{each_any}
@@ -39,10 +39,12 @@ use Rattle.mv_typing.proofs.Plain.{IsPlain}
 abbrev pub Behind : (Scope → Scope → Type 0) → Specs → Scope → Scope × Specified → Type 0
 Behind R specs s d = R s d.0 × IsNamed specs d.1.ctype
 
--- where each scope has it to itself and to one that has one more enumerator, and to one that has no other names, signatures and locals
+-- where each scope has it to itself and to one that has one more enumerator, and to one that has no other names, signatures and locals, and only more
+-- enumerations and tags of its own
 module _ (R : Scope → Scope → Type 0) (same : (s : Scope) → R s s) (joined : (s t u : Scope) → R s t → R t u → R s u)
     (one_enumerator : (s : Scope) (name : List ℕ) (v : ℕ) → R s (declared s name (meaning.Enumerator v)))
-    (only_tags : (s t : Scope) → t.names ≡ s.names → t.signatures ≡ s.signatures → t.locals ≡ s.locals → R s t) where
+    (only_tags : (s t : Scope) → t.names ≡ s.names → t.signatures ≡ s.signatures → t.locals ≡ s.locals → t.tags.around ≡ s.tags.around →
+    Keeps s.enumerations t.enumerations → R s t) where
   enumerator_kept : (place : Place) (name : List ℕ) (s : Scope) (value : Option ℕ) → IfGood (enumerator_of place name s value) (λ d. R s d.0)
   enumerator_kept place name s None = tt
   enumerator_kept place name s (Some v) = one_enumerator s name v
@@ -72,11 +74,11 @@ module _ (R : Scope → Scope → Type 0) (same : (s : Scope) → R s s) (joined
 
   tag_kept : (tag : Option (List ℕ)) (s : Scope) (values : List ℕ) → R s (tagged tag s values).0
   unfolding tagged
-  tag_kept None s values = only_tags s (with_enumeration s values) refl refl refl
+  tag_kept None s values = only_tags s (with_enumeration s values) refl refl refl refl (keeps_more s.enumerations (values ∷ []))
   tag_kept (Some tag) s values =
       let t : Scope = tag_declared (with_enumeration s values) tag (meaning.Tag (length s.enumerations)) in
       either_kept s (is_some (named tag s.tags.here)) (s, record { number = None; again = true }) (t, record { number = Some (length s.enumerations); again = false })
-      (same s) (only_tags s t refl refl refl)
+      (same s) (only_tags s t refl refl refl refl (keeps_more s.enumerations (values ∷ [])))
 
   enumeration_kept : (s : Scope) (tag : Option (List ℕ)) (members : Option (List Member)) → IfGood (enumeration_of s tag members) (λ d. R s d.0)
   enumeration_kept s tag None = same s
@@ -112,13 +114,16 @@ module _ (R : Scope → Scope → Type 0) (same : (s : Scope) → R s s) (joined
 
 -- ---- specifiers only enumerate
 
-enumerates_tags : (s t : Scope) → t.names ≡ s.names → t.signatures ≡ s.signatures → t.locals ≡ s.locals → Enumerates s t
-enumerates_tags s t n q l = record {
+enumerates_tags : (s t : Scope) → t.names ≡ s.names → t.signatures ≡ s.signatures → t.locals ≡ s.locals → t.tags.around ≡ s.tags.around →
+    Keeps s.enumerations t.enumerations → Enumerates s t
+enumerates_tags s t n q l a e = record {
   declares = record {
     grows = record {
       locals = subst (Keeps s.locals) (sym l) (keeps_same s.locals);
       signatures = subst (Keeps s.signatures) (sym q) (keeps_same s.signatures);
+      enumerations = e;
       around = ap (λ (x : NameSpace). x.around) n;
+      tags = a;
       results = subst (λ z. AreListed s.signatures → AreListed z) (sym q) (λ h. h);
     };
     same = l;

@@ -23,11 +23,13 @@ Keeps {A} xs ys = (i : ℕ) (x : A) → slice_get xs i ≡ Some x → slice_get 
 abbrev pub AreListed : List Signature → Type 0
 AreListed signatures = (s : ℕ) (signature : Signature) → slice_get signatures s ≡ Some signature → IsListed signatures signature.result
 
--- From one scope to a later one: locals and signatures keep their numbers, and the blocks around are the same.
+-- From one scope to a later one: locals, signatures and enumerations keep their numbers, and the blocks around are the same.
 pub record Grows (before after : Scope) : Type 0 where
   pub locals : Keeps before.locals after.locals
   pub signatures : Keeps before.signatures after.signatures
+  pub enumerations : Keeps before.enumerations after.enumerations
   pub around : after.names.around ≡ before.names.around
+  pub tags : after.tags.around ≡ before.tags.around
   pub results : AreListed before.signatures → AreListed after.signatures
 
 -- A body that keeps the rules only adds to the scope before it.

@@ -1,4 +1,11 @@
 //! The bodies of functions that keep the rules are well typed.
+//!
+//! - `good_bodies_are_typed`: a body that `body_judgement` finds good only adds to the scope before it (`Grows`: locals
+//!   and signatures keep their numbers), and its statements are well typed in each program and function that have the
+//!   signatures and the locals after it, where the scope before it fits; the scope after it fits too.
+//!   `good_parameters_fit`: the parameters of a function that is defined are its next locals, all scalars, and the scope
+//!   after them fits where the one before them does. Both rest on one theorem about properties of statements that come
+//!   from those of their parts (`Passage` in `proofs/Property.antt`).
 #![tactic(auto)]
 
 ghost use Rattle.mv_typed_bodies.specs.Bodies.{BodyGrows, BodyIsTyped, ParametersFit};

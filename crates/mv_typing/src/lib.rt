@@ -1,4 +1,8 @@
 //! Expressions that keep the rules are well typed.
+//!
+//! - `good_expressions_are_typed`: the tree of a good node has the type at each node that `mv_numbering`'s well-typed
+//!   programs have, in each program that fits the scope (`Fits`). `constants_come_to_their_values`: a constant comes to
+//!   its value wherever it is evaluated.
 #![tactic(auto)]
 
 ghost use Rattle.std.specs.Prelude.{◌≡◌, ℕ, Some};

@@ -54,4 +54,4 @@ pub specifiers_add : (position : Position) (names : List Declarator) (specs : Sp
 specifiers_add position names specs s =
     if_more (Behind AddsTo specs s) (λ d. AddsTo s d.0) (specifiers position names specs s) (λ d h. h.0)
     (specifiers_kept AddsTo (λ s. adds_same (here s)) (λ s t u. adds_joined (here s) (here t) (here u)) (λ s name v. adds_one (here s) name (meaning.Enumerator v) refl)
-    (λ s t n q l. adds_nothing s t n) position names specs s)
+    (λ s t n q l a e. adds_nothing s t n) position names specs s)

@@ -1,4 +1,9 @@
 //! The numbers that a unit's names have before its first declaration is judged are those that they have in its program.
+//!
+//! Laws on a unit that `unit_judgement` finds good, and its program.
+//!
+//! - `functions_have_their_numbers`, `objects_have_their_numbers`: the functions, attributed functions, objects and
+//!   switches that the unit's outline has are those of the program, with the same numbers, and each function is defined.
 #![tactic(auto)]
 
 ghost use Rattle.mv_unit_numbers.specs.Numbers.{AttributedAreCounted, FunctionsAreDefined, ItemsAreForeknown, SwitchesAreCounted};

@@ -1,4 +1,8 @@
 //! A source has at least as many bytes as nodes.
+//!
+//! - `units_of_texts_are_small`: the unit that a source reads as (`mv_reading`'s `ReadsAs`) has at most as many nodes as
+//!   the source has bytes: by the grammar each node has a token of its own, and by the lexer's reading a string's
+//!   characters are fewer than its bytes.
 #![tactic(auto)]
 
 ghost use Rattle.mv_unit_sizes.specs.Sizes.{UnitsOfTextsAreSmall};

@@ -1,4 +1,10 @@
 //! Checked programs are within the limits that the layers above ask for.
+//!
+//! Laws on a unit that `unit_judgement` finds good, and its program.
+//!
+//! - `unreported_programs_are_within_limits`; `programs_of_small_units_are_small`: a program has at most four times as
+//!   many nodes as its unit; `main_is_typed`: `main` has no parameters and gives an integer; `main_is_unmarked`: no
+//!   declaration gives it the attribute.
 #![tactic(auto)]
 
 ghost use Rattle.mv_within_limits.specs.Limits.{WithinLimits};

@@ -1,4 +1,5 @@
 use Rattle.mv_bound_bodies.proofs.Meant.{made, made_of_lowered}
+use Rattle.mv_bound_bodies.proofs.RenamedForm.{renaming_keeps_form}
 use Rattle.mv_bound_bodies.proofs.made_bodies_are_variants.Goals as goal
 
 pub returns-clause-all : goal.returns-clause-all
@@ -6,3 +7,6 @@ returns-clause-all c = made
 
 pub returns-clause-lowered : goal.returns-clause-lowered
 returns-clause-lowered c = made_of_lowered
+
+pub returns-clause-form : goal.returns-clause-form
+returns-clause-form c = renaming_keeps_form

@@ -1,5 +1,5 @@
 use Rattle.mv_bound_bodies.proofs.Slots.{slots_are_calls}
-use Rattle.mv_bound_bodies.proofs.FewSlots.{few_slots, own_few_slots, all_few_slots, variant_few_slots}
+use Rattle.mv_bound_bodies.proofs.FewSlots.{few_slots, own_few_slots, renamed_few_slots, all_few_slots, variant_few_slots}
 use Rattle.mv_bound_bodies.proofs.Patchable.{slots_patchable}
 use Rattle.mv_bound_bodies.proofs.slots_are_counted.Goals as goal
 
@@ -11,6 +11,9 @@ returns-clause-few c = few_slots
 
 pub returns-clause-own : goal.returns-clause-own
 returns-clause-own c = own_few_slots
+
+pub returns-clause-renamed : goal.returns-clause-renamed
+returns-clause-renamed c = renamed_few_slots
 
 pub returns-clause-all : goal.returns-clause-all
 returns-clause-all c = all_few_slots

@@ -1,4 +1,4 @@
-use Rattle.mv_bound_bodies.proofs.Variants.{made_names, made_calls, made_in_program}
+use Rattle.mv_bound_bodies.proofs.Variants.{made_names, made_calls, made_in_program, made_frames}
 use Rattle.mv_bound_bodies.proofs.variants_can_be_selected.Goals as goal
 
 pub returns-clause-names : goal.returns-clause-names
@@ -9,3 +9,6 @@ returns-clause-calls c = made_calls
 
 pub returns-clause-selected : goal.returns-clause-selected
 returns-clause-selected c = made_in_program
+
+pub returns-clause-frames : goal.returns-clause-frames
+returns-clause-frames c = made_frames

@@ -1,5 +1,6 @@
 use Rattle.mv_code_sizes.proofs.Sizes.{code_short, lines_short, variants_short, frames_fit, frames_pass, lowered_frames_pass}
 use Rattle.mv_code_sizes.proofs.Texts.{texts_pass, sites_few}
+use Rattle.mv_code_sizes.proofs.Sites.{code_slots, slots_counted}
 use Rattle.mv_code_sizes.proofs.code_is_short.Goals as goal
 
 pub returns-clause-code : goal.returns-clause-code
@@ -27,3 +28,8 @@ returns-clause-text c =
 
 pub returns-clause-sites : goal.returns-clause-sites
 returns-clause-sites c = sites_few c.slots_are_counted.ensures.patchable
+
+pub returns-clause-slots : goal.returns-clause-slots
+returns-clause-slots c =
+    let counted = c.slots_are_counted.ensures in
+    slots_counted (code_slots c.lowered_forms_are_right.ensures.calls counted.renamed counted.own counted.few) counted.patchable (sites_few counted.patchable)

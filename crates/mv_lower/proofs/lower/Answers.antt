@@ -14,5 +14,5 @@ kept p (Err x) right e = tt
 pub lower_each-requires : goal.lower_each-requires
 lower_each-requires c = small_enough c.args.program.now c.requires
 
-pub returns : goal.returns
-returns c = kept c.args.program.now c.lower_each.result (c.lowering_is_right.ensures c.args.program.now c.requires) c.lower_each.ensures
+pub returns-clause-lowering : goal.returns-clause-lowering
+returns-clause-lowering c = kept c.args.program.now c.lower_each.result (c.lowering_is_right.ensures c.args.program.now c.requires) c.lower_each.ensures

@@ -3,8 +3,8 @@ use Rattle.mv_program_runs.proofs.MainFunction.{main_follows}
 use Rattle.mv_program_runs.proofs.programs_keep.Goals as goal
 
 pub returns-clause-functions : goal.returns-clause-functions
-returns-clause-functions g c access y machine words budget far p numbers loaded bound =
-    all_keep access y machine words budget far p numbers loaded
+returns-clause-functions g c access y machine words closed budget far p numbers loaded bound =
+    all_keep access y machine words closed budget far p numbers loaded
     (record {
       each = c.function_code_law.ensures.each;
       later = c.function_code_law.ensures.later;
@@ -23,8 +23,8 @@ returns-clause-functions g c access y machine words budget far p numbers loaded 
     }) bound
 
 pub returns-clause-main : goal.returns-clause-main
-returns-clause-main g c access y machine words budget far p numbers loaded numbering input actions fit back i target ra begins stands bound =
-    main_follows access y machine words budget far p numbers loaded
+returns-clause-main g c access y machine words closed budget far p numbers loaded numbering input actions fit back i target ra begins stands bound =
+    main_follows access y machine words closed budget far p numbers loaded
     (record {
       each = c.function_code_law.ensures.each;
       later = c.function_code_law.ensures.later;

@@ -11,6 +11,7 @@ returns c = built_behaves laws
       lines_fit = c.linking_law.ensures.fits;
       stubs_stand = c.linking_law.ensures.stubs;
       functions_stand = c.linking_law.ensures.functions;
+      plain = c.linking_law.ensures.plain;
       code_is_placed = c.code_is_placed.ensures;
       texts_are_found = c.texts_are_found.ensures;
       packed_is_laid_out = c.packed_is_laid_out.ensures;

@@ -6,8 +6,8 @@ use Rattle.mv_inline_bodies.proofs.Shown.{inline_words_answer}
 use Rattle.mv_inline_bodies.proofs.laws.inline_law.Goals as goal
 
 pub returns-clause-done : goal.returns-clause-done
-returns-clause-done g c access y laid machine memory runs setting budget far levels attributed bound is_read is_fine body fn one two is at here p q depth live args count contents k i spare w stands enters paid asked =
-    inline_done access y laid machine memory runs setting budget far levels attributed bound is_read is_fine body fn at here depth live args count contents k i spare w stands enters paid asked one two is p q
+returns-clause-done g c access y laid machine memory reach ample runs setting budget far levels attributed bound is_fine body fn one two is at here p q depth live args count contents k i spare w stands enters paid asked =
+    inline_done access y laid machine memory reach ample runs setting budget far levels attributed bound is_fine body fn at here depth live args count contents k i spare w stands enters paid asked one two is p q
 
 pub returns-clause-answers : goal.returns-clause-answers
 returns-clause-answers g c = inline_answers _

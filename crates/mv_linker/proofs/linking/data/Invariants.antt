@@ -3,4 +3,4 @@ use Rattle.mv_linker.specs.Outcome.{datum_word}
 use Rattle.mv_linker.proofs.linking.data.Given as goal
 
 abbrev pub invariant-loop-datum : goal.invariant-loop-datum
-invariant-loop-datum l = l.words ≡ map (datum_word (λ f. slice_index l.addresses (slice_index l.entries f))) (take l.datum-index l.globals)
+invariant-loop-datum l = l.words ≡ map (datum_word (slice_index l.starts)) (take l.datum-index l.globals)

@@ -2,4 +2,4 @@ use Rattle.mv_machine_runs.proofs.OnRuns.{runs_are}
 use Rattle.mv_machine_runs.proofs.laws.runs_are_runs.Goals as goal
 
 pub returns : goal.returns
-returns c attributed image input actions picks s out = runs_are image input actions picks s out attributed
+returns c = runs_are

@@ -1,0 +1,8 @@
+mod Attributes
+mod Enumerations
+mod Declarators
+mod Units
+mod Switches
+mod Functions
+mod Whole
+mod Identifiers

@@ -1,0 +1,180 @@
+-- Where the codes of parts begin: at different words of text, none of which is a slot's.
+use Rattle.std.proofs.Common.{◌≡◌, ℕ, zero, suc, ◌+◌, ◌*◌, ◌<◌, ◌≤◌, ◌⊎◌, inl, inr, true, false, List, [], ◌∷◌, Some, length, take, map, get_or, slice_get, slice_index, refl, ap, sym, subst, ◌∙◌, arith}
+use Rattle.std.proofs.lemmas.List.{length-map, take-take, get_or-take, length-take-le, get_or-map}
+use Rattle.std.proofs.lemmas.List.Sums.{sum_by_more_le, sum_by-take-le}
+use Rattle.std.proofs.lemmas.Option.{get_or_from_slice_get, slice_get_within}
+use Rattle.std.proofs.lemmas.Bool.{cases_lt, cases_eq}
+use Rattle.mv_isa.specs.declared.labelled.Labelled.{Labelled}
+use Rattle.mv_isa.specs.declared.labelled.Line.{Line}
+use Rattle.mv_isa.specs.declared.labelled.Line.TheVariants.{Word, Label, Jump, Branch, Entry, Slot}
+use Rattle.mv_isa.specs.Code.{IsSizing, IsPlace, line_at, least_words, offset, address, label_address, text_start}
+use Rattle.mv_isa.specs.Standing.{LineStands, word_at}
+use Rattle.mv_asm.specs.Outcome.{AreWordsUnder}
+use Rattle.mv_image.specs.Spelling.{Fields}
+use Rattle.mv_image.specs.WellFormed.{IsInText}
+use Rattle.mv_linker.specs.declared.parts.Parts.{Parts}
+use Rattle.mv_linker.specs.Linked.{codes, relabelled, linked_lines, first_label, line_count, part_index, AreParts}
+use Rattle.mv_linker.specs.Tables.{is_slot, BeginsWithWords}
+use Rattle.mv_linker.specs.Laws.{FunctionStands}
+use Rattle.mv_linker.proofs.Places.{function_law}
+use Rattle.mv_linker.proofs.Slots.{offset_next, behind_slot, before_slot}
+
+-- ---- renaming keeps what a line is
+
+relabelled_words : (first count : ℕ) (x : Line) → least_words (relabelled first count x) ≡ least_words x
+relabelled_words first count (Word i) = refl
+relabelled_words first count (Label l) = refl
+relabelled_words first count (Jump rd l) = refl
+relabelled_words first count (Branch funct3 a b l) = refl
+relabelled_words first count (Entry rd f) = refl
+relabelled_words first count (Slot f) = refl
+
+pub relabelled_slot : (first count : ℕ) (x : Line) → is_slot (relabelled first count x) ≡ is_slot x
+relabelled_slot first count (Word i) = refl
+relabelled_slot first count (Label l) = refl
+relabelled_slot first count (Jump rd l) = refl
+relabelled_slot first count (Branch funct3 a b l) = refl
+relabelled_slot first count (Entry rd f) = refl
+relabelled_slot first count (Slot f) = refl
+
+-- code that begins with words has a line
+has_line : (items : List Line) → 1 ≤ least_words (line_at items 0) → 0 < length items
+has_line [] some = absurd (omega (arith, some))
+has_line (x ∷ items) some = omega arith
+
+-- ---- codes
+
+-- the lines of a code end where the next begins, or before
+pub index_behind : (xs : List Labelled) (f g : ℕ) (code : Labelled) → slice_get xs f ≡ Some code → f < g → g ≤ length xs → part_index xs f + 1 + length code.items ≤ part_index xs g
+index_behind xs f g code found lt le =
+    let size = λ (c : Labelled). 1 + length c.items in
+    let count : length (take g xs) ≡ g = length-take-le g xs le in
+    let all = sum_by_more_le size (take g xs) f code (omega (arith, count, lt)) in
+    let front : line_count (take f (take g xs)) ≡ line_count (take f xs) = ap line_count (take-take f g xs (omega (arith, lt))) in
+    let here : get_or (take g xs) f code ≡ code = get_or-take g xs f code lt ∙ get_or_from_slice_get xs f code code found in
+    let size_here : size (get_or (take g xs) f code) ≡ size code = ap size here in
+    omega (arith, all, front, size_here)
+
+module _ (parts : Parts) (are : AreParts parts) (sizing words : List ℕ) (fits : IsSizing (linked_lines parts) sizing)
+    (under : AreWordsUnder text_start (linked_lines parts) sizing words) where
+  abbrev lines : List Line
+  lines = linked_lines parts
+
+  abbrev at : ℕ → ℕ
+  at = address text_start sizing
+
+  abbrev entry : ℕ → ℕ
+  entry = label_address text_start lines sizing
+
+  abbrev all : List Labelled
+  all = codes parts
+
+  -- a line with words stands in text
+  pub in_text : (image : Fields) → image.text ≡ words → (k : ℕ) → k < length lines → 1 ≤ least_words (line_at lines k) → IsInText image (at k)
+  in_text image text_is k below some =
+      let place = under.places k in
+      let most = sum_by-take-le (λ (n : ℕ). n) sizing (suc k) in
+      let here = fits.at_least k below in
+      record {
+        aligned = place.2;
+        not_before = place.0;
+        within = omega (arith, most, here, some, offset_next sizing k, under.count, ap length text_is);
+      }
+
+  -- and so does its second word
+  pub next_in_text : (image : Fields) → image.text ≡ words → (k : ℕ) → k < length lines → 2 ≤ least_words (line_at lines k) → IsInText image (at k + 4)
+  next_in_text image text_is k below two =
+      let place = under.places k in
+      let most = sum_by-take-le (λ (n : ℕ). n) sizing (suc k) in
+      let here = fits.at_least k below in
+      record {
+        aligned = omega (arith, place.2);
+        not_before = omega (arith, place.0);
+        within = omega (arith, most, here, two, offset_next sizing k, under.count, ap length text_is);
+      }
+
+  module _ (f : ℕ) (code : Labelled) (found : slice_get all f ≡ Some code) where
+    abbrev stands : FunctionStands lines all f code
+    stands = function_law parts are f code found
+
+    abbrev index : ℕ
+    index = part_index all f
+
+    label_here : line_at lines index ≡ Label f
+    label_here = let same : index + 0 ≡ index = omega arith in ap (line_at lines) (sym same) ∙ stands.part.each 0 (omega arith)
+
+    label_within : index < length lines
+    label_within = let within = stands.part.within in omega (arith, within)
+
+    entry_is : entry f ≡ at index
+    entry_is = under.stands.labels index f label_within label_here stands.entry
+
+    -- behind the label of its entry the code goes on where the label is
+    at_same : at (index + 1) ≡ at index
+    at_same =
+        subst (λ (x : Line). LineStands (word_at text_start words) entry entry (at index) (at (index + 1)) x) label_here (under.stands.each index label_within)
+
+  module _ (f : ℕ) (code : Labelled) (found : slice_get all f ≡ Some code) (begins : BeginsWithWords code) where
+    abbrev k : ℕ
+    k = part_index all f
+
+    abbrev renamed : Line → Line
+    renamed = relabelled (first_label all f) code.labels
+
+    some_line : 0 < length code.items
+    some_line = has_line code.items begins.some
+
+    first_is : line_at lines (k + 1) ≡ renamed (line_at code.items 0)
+    first_is =
+        let count = length-map code.items renamed in
+        (stands f code found).part.each 1 (omega (arith, count, some_line)) ∙ get_or-map renamed code.items 0 (Label 0) (Label 0) some_line
+
+    first_within : k + 1 < length lines
+    first_within =
+        let within = (stands f code found).part.within in
+        let count = length-map code.items renamed in omega (arith, within, count, some_line)
+
+    first_some : 1 ≤ least_words (line_at lines (k + 1))
+    first_some =
+        let same = ap least_words first_is ∙ relabelled_words (first_label all f) code.labels (line_at code.items 0) in
+        omega (arith, same, begins.some)
+
+    first_no_slot : is_slot (line_at lines (k + 1)) ≡ false
+    first_no_slot = ap is_slot first_is ∙ relabelled_slot (first_label all f) code.labels (line_at code.items 0) ∙ begins.no_slot
+
+    pub entry_in_text : (image : Fields) → image.text ≡ words → IsInText image (entry f)
+    entry_in_text image text_is =
+        subst (IsInText image) (at_same f code found ∙ sym (entry_is f code found)) (in_text image text_is (k + 1) first_within first_some)
+
+    -- a later code begins at a later address
+    pub entry_before : (g : ℕ) (other : Labelled) → slice_get all g ≡ Some other → f < g → entry f < entry g
+    entry_before g other there lt =
+        let within = slice_get_within all g other there in
+        let later = index_behind all f g code found lt (omega (arith, within)) in
+        let less = before_slot text_start lines sizing k (k + 1) (part_index all g) fits (omega arith) (omega (arith, later, some_line)) first_within first_some in
+        omega (arith, less, entry_is f code found, entry_is g other there)
+
+    -- a slot stands behind it, or ends at it or before
+    pub entry_outside : (m h : ℕ) → m < length lines → line_at lines m ≡ Slot h → (entry f < at m) ⊎ (at m + 8 ≤ entry f)
+    entry_outside m h below slot =
+        let here = entry_is f code found in
+        elim (cases_lt m k) [
+          | inl before ↦ let less = behind_slot text_start lines sizing m h k fits below slot before in inr (omega (arith, less, here))
+          | inr not_before ↦ elim (cases_lt (k + 1) m) [
+            | inl behind ↦ let less = before_slot text_start lines sizing k (k + 1) m fits (omega arith) behind first_within first_some in inl (omega (arith, less, here))
+            | inr not_behind ↦ elim (cases_eq m k) [
+              | inl same ↦ absurd (neither m (inl same) slot)
+              | inr other ↦ absurd (neither m (inr (omega (arith, not_before, not_behind, other))) slot)
+            ]
+          ]
+        ]
+      where
+        not_label : (x : Line) → x ≡ Label f → x ≡ Slot h → ⊥
+        not_label x is other = let e : false ≡ true = sym (ap is_slot is) ∙ ap is_slot other in cc
+
+        not_first : (x : Line) → is_slot x ≡ false → x ≡ Slot h → ⊥
+        not_first x is other = let e : false ≡ true = sym is ∙ ap is_slot other in cc
+
+        neither : (n : ℕ) → (n ≡ k) ⊎ (n ≡ k + 1) → line_at lines n ≡ Slot h → ⊥
+        neither n (inl same) is = not_label (line_at lines n) (ap (line_at lines) same ∙ label_here f code found) is
+        neither n (inr next) is = not_first (line_at lines n) (ap (λ j. is_slot (line_at lines j)) next ∙ first_no_slot) is

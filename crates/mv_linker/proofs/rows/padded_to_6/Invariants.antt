@@ -1,0 +1,5 @@
+use Rattle.std.proofs.Common.{◌≡◌, ◌-◌, ◌++◌, replicate, take}
+use Rattle.mv_linker.proofs.rows.padded_to_6.Given as goal
+
+abbrev pub invariant-loop-place : goal.invariant-loop-place
+invariant-loop-place l = l.row ≡ take l.place l.words ++ replicate (6 - l.place) 0

@@ -1,0 +1,5 @@
+//! An image with tables, and the plans of orders on it.
+#![tactic(auto)]
+
+#[cfg(test)]
+mod orders;

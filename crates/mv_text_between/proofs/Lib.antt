@@ -1,0 +1,9 @@
+pub mod Places
+pub mod Stores
+pub mod Whole
+pub mod Stored
+pub mod InRange
+pub mod Tested
+pub mod Settled
+pub mod Images
+pub mod Left

@@ -1,0 +1,3 @@
+pub mod Phrases
+mod Declarations
+mod Texts

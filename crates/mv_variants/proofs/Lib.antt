@@ -1,0 +1,5 @@
+pub mod Functions
+pub mod Domains
+pub mod Rows
+pub mod Grouped
+pub mod Whole

@@ -1,0 +1,108 @@
+-- The variants of a function, from the steps.
+use Rattle.std.proofs.Common.{arith, ◌≡◌, ℕ, ◌<◌, ◌≤◌, List, [], ◌∷◌, length, map, get_or, refl, sym, ◌∙◌, ap, subst}
+use Rattle.std.proofs.lemmas.List.{length-map}
+use Rattle.mv_ast.specs.declared.program.Program.{Program}
+use Rattle.mv_ast.specs.declared.program.Function.{Function}
+use Rattle.mv_ast.specs.Plans.{switch_domain, switch_global}
+use Rattle.mv_ast.specs.Counts.{product_of}
+use Rattle.mv_clone.specs.Assignments as clone
+use Rattle.mv_ir.specs.declared.body.Body.{Body}
+use Rattle.mv_ir.specs.declared.body.Assignment.{Assignment}
+use Rattle.mv_ir.specs.Combinations.{AreDomains, AreAllCombinations, values_of}
+use Rattle.mv_ir.specs.Live.{IsWhole}
+use Rattle.mv_ir.specs.WellFormed as ir
+use Rattle.mv_lowered_forms.specs.Law.{LoweredAreWhole, LoweredAreWellFormed}
+use Rattle.mv_lowered_programs.specs.WellFormed.{IsWellFormed}
+use Rattle.mv_merge.specs.declared.rows.Domain.{Domain}
+use Rattle.mv_merge.specs.declared.rows.Bound.{Bound}
+use Rattle.mv_merge.specs.declared.rows.Variants.{Variants}
+use Rattle.mv_merge.specs.Guards.{domain_values, all_values, IsMerged}
+use Rattle.mv_bound_bodies.specs.Led.{AreMade, HaveWords}
+use Rattle.mv_bound_bodies.specs.Switches.{domains_in}
+use Rattle.mv_variants.specs.declared.variant.Variant.{Variant}
+use Rattle.mv_variants.specs.Domains.{switch_kind, domain, domains_or_none, own_domains, AreDomainsOf}
+use Rattle.mv_variants.specs.Rows.{AreRowsUnder}
+use Rattle.mv_variants.specs.Variants.{IsLoweredFrom, AreGrouped, AreVariants, AreVariantsOf}
+use Rattle.mv_variants.proofs.Domains.{words_of}
+use Rattle.mv_variants.proofs.Functions.{IsAttributed, are_domains, few_switches, few_assignments, assignments_are}
+use Rattle.mv_variants.proofs.Rows.{values_long}
+
+module _ (p : Program) (formed : IsWellFormed p) (f : ℕ) (a : IsAttributed p f) where
+  abbrev g : Function
+  g = a.function
+
+  abbrev combined : List (List ℕ)
+  combined = map (switch_domain p) g.switches
+
+  -- ---- domains
+
+  clone_domains : clone.domains_of p f ≡ combined
+  clone_domains = ap (clone.domains_or_none p) a.there
+
+  own : own_domains p f ≡ domains_in p (switch_kind p) g
+  own = ap (domains_or_none p) a.there
+
+  values_in : (ss : List ℕ) → domain_values (map (domain p) ss) ≡ map (switch_domain p) ss
+  values_in [] = refl
+  values_in (s ∷ ss) = ap (λ l. switch_domain p s ∷ l) (values_in ss)
+
+  pub domains_apart : AreDomains (clone.domains_of p f)
+  domains_apart = subst AreDomains (sym clone_domains) (are_domains p formed g.switches)
+
+  pub domains_few : (domains : List Domain) → AreDomainsOf (own_domains p f) domains → length domains ≤ 6
+  domains_few domains are = omega (arith, ap length (are.is ∙ own), length-map g.switches (domain p), few_switches p formed f g a.there a.attributed)
+
+  domains_match : (domains : List Domain) → AreDomainsOf (own_domains p f) domains → domain_values domains ≡ combined
+  domains_match domains are = ap domain_values (are.is ∙ own) ∙ values_in g.switches
+
+  -- ---- assignments
+
+  lengths : (ss : List ℕ) → map (λ (d : List ℕ). length d) (map (switch_domain p) ss) ≡ map (λ s. length (switch_domain p s)) ss
+  lengths [] = refl
+  lengths (s ∷ ss) = ap (λ l. length (switch_domain p s) ∷ l) (lengths ss)
+
+  module _ (all : List Assignment) (every : AreAllCombinations (clone.domains_of p f) (values_of all)) (count : length all ≡ product_of (map (λ (d : List ℕ). length d) (clone.domains_of p f))) where
+    product : product_of (map (λ (d : List ℕ). length d) (clone.domains_of p f)) ≡ product_of (map (λ s. length (switch_domain p s)) g.switches)
+    product = ap (λ ds. product_of (map (λ (d : List ℕ). length d) ds)) clone_domains ∙ ap product_of (lengths g.switches)
+
+    pub values_fit : (body : Body) → IsLoweredFrom p f body → (k : ℕ) (d : Assignment) → k < length all → length body.switches ≡ length (get_or all k d).values
+    values_fit body lowered k d below =
+        let own_switches = ap (λ (b : Body). length b.switches) (lowered g a.there) ∙ length-map g.switches (switch_global p) in
+        let domains = ap length clone_domains ∙ length-map g.switches (switch_domain p) in
+        own_switches ∙ sym domains ∙ sym (values_long (clone.domains_of p f) all every.only k d below)
+
+    module _ (body : Body) (lowered : IsLoweredFrom p f body) (rows : List Bound) (are : AreRowsUnder body all rows) where
+      rows_count : length rows ≡ product_of (map (λ s. length (switch_domain p s)) g.switches)
+      rows_count = sym (length-map rows (λ (r : Bound). r.assignment.values)) ∙ ap length are.values ∙ length-map all (λ (x : Assignment). x.values) ∙ count ∙ product
+
+      pub rows_few : length rows ≤ 64
+      rows_few = omega (arith, rows_count, few_assignments p formed f g a.there a.attributed)
+
+      combinations_are : AreAllCombinations combined (all_values rows)
+      combinations_are = subst (λ ds. AreAllCombinations ds (all_values rows)) clone_domains (subst (AreAllCombinations (clone.domains_of p f)) (sym are.values) every)
+
+      pub rows_are_all : (domains : List Domain) → AreDomainsOf (own_domains p f) domains → AreAllCombinations (domain_values domains) (all_values rows)
+      rows_are_all domains ds = subst (λ vs. AreAllCombinations vs (all_values rows)) (sym (domains_match domains ds)) combinations_are
+
+      pub are_variants : (domains : List Domain) → AreDomainsOf (own_domains p f) domains → (merged : Variants) → IsMerged domains rows merged → (variants : List Variant) → AreGrouped merged variants →
+          AreVariantsOf p f variants
+      are_variants domains ds merged is_merged variants grouped h there =
+          let same : g ≡ h = let here = a.there in cc in
+          subst (λ (x : Function). AreVariants p x variants) same (record {
+            words = words_of p g.switches (subst HaveWords (ds.is ∙ own) ds.words);
+            rows = rows;
+            count = rows_count ∙ sym (assignments_are p formed f g a.there a.attributed);
+            all = combinations_are;
+            made = subst (λ (b : Body). AreMade b rows) (lowered g a.there) are.made;
+            merged = merged;
+            is_merged = subst (λ xs. IsMerged xs rows merged) (ds.is ∙ own) is_merged;
+            grouped = grouped;
+          })
+
+  -- ---- the body
+
+  pub body_formed : LoweredAreWellFormed → (body : Body) → IsLoweredFrom p f body → ir.IsWellFormed body
+  body_formed law body lowered = subst ir.IsWellFormed (sym (lowered g a.there)) (law p f g (record { formed = formed; there = a.there }))
+
+  pub body_whole : LoweredAreWhole → (body : Body) → IsLoweredFrom p f body → IsWhole body
+  body_whole law body lowered = subst IsWhole (sym (lowered g a.there)) (law p f g (record { formed = formed; there = a.there }))

@@ -1,0 +1,88 @@
+#!/usr/bin/env python3
+"""Checks that what the headers of the crates and README.md name is there.
+
+  check_headers.py [ROOT]
+
+Of each text in back quotes it looks at the names and the paths. A path has to be a file or folder of the repository, or of the crate whose header it
+stands in. A name has to be that of a crate or of a file at the top, or a word of the sources of some crate. It prints what isn't there, and ends with 1
+where there is something.
+"""
+import glob
+import os
+import re
+import sys
+
+WORD = re.compile(r"[A-Za-z_][A-Za-z0-9_]*")
+QUOTED = re.compile(r"`([^`]+)`")
+PATH = re.compile(r"^[\w.]+(/[\w.*]+)+/?$")
+# Words of C, of the commands and of shells, which stand in no source of ours.
+OUTSIDE = {"rt", "ci", "gcc", "clang", "as", "objdump", "llvm"}
+# Commands that README says are still to come.
+COMING = {"build", "exec", "list", "gen"}
+
+
+def words_below(folder):
+    """Returns the words of all sources below a folder, headers aside, and their names."""
+    found = set()
+    for at, _, files in os.walk(folder):
+        if f"{os.sep}out{os.sep}" in at + os.sep:
+            continue
+        for name in files:
+            if name.endswith((".rt", ".antt")):
+                with open(os.path.join(at, name), encoding="utf-8") as it:
+                    text = "\n".join(line for line in it if not line.startswith("//!"))
+                found.update(WORD.findall(text))
+                found.add(name.rpartition(".")[0])
+    return found
+
+
+def header_of(crate):
+    """Returns the text of a crate's header."""
+    for name in ("lib.rt", "main.rt"):
+        file = os.path.join(crate, "src", name)
+        if os.path.isfile(file):
+            with open(file, encoding="utf-8") as it:
+                lines = [line[3:].strip() for line in it if line.startswith("//!")]
+            return " ".join(lines)
+    return ""
+
+
+def missing(text, root, crate, every, crates):
+    """Returns what a text names that isn't there."""
+    found = []
+    for quoted in QUOTED.findall(text):
+        if PATH.match(quoted):
+            places = [os.path.join(at, quoted) for at in (root, crate, os.path.join(root, "crates", "*"))]
+            if not any(map(glob.glob, places)):
+                found.append(quoted)
+            continue
+        if not re.fullmatch(r"[\w:{}, ]+", quoted):
+            continue
+        for word in WORD.findall(quoted):
+            known = word in every or word in crates or word in OUTSIDE | COMING
+            if not known and not os.path.exists(os.path.join(root, word)):
+                found.append(word)
+    return found
+
+
+def main():
+    root = os.path.abspath(sys.argv[1] if len(sys.argv) > 1 else os.path.join(os.path.dirname(__file__), ".."))
+    top = os.path.join(root, "crates")
+    crates = sorted(os.listdir(top))
+    every = words_below(top)
+    bad = 0
+    for name in crates:
+        crate = os.path.join(top, name)
+        header = header_of(crate)
+        for lacks in ["a header"] * (not header) + missing(header, root, crate, every, crates):
+            print(f"{name}: {lacks} isn't there")
+            bad += 1
+    with open(os.path.join(root, "README.md"), encoding="utf-8") as it:
+        for lacks in missing(re.sub(r"```.*?```", "", it.read(), flags=re.S), root, root, every, crates):
+            print(f"README.md: {lacks} isn't there")
+            bad += 1
+    return 1 if bad else 0
+
+
+sys.exit(main())
+##### take_fast.py
