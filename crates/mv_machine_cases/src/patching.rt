@@ -1,6 +1,5 @@
 //! Commits, reverts and polls of images made by hand.
 
-use mv_ast::world::Action;
 use mv_image::{Image, ImageError, read};
 use mv_io::{MemSink, MemSource};
 use mv_machine::{Machine, Stopped};
@@ -14,25 +13,38 @@ use std::test::*;
 /// A call: its number in a7, then a0, a1 and s10.
 type Call = (u32, u32, u32, u32);
 
-/// The words behind the calls of an image with a switch `s`, whose values are -1 and 3, and two functions. `dp` depends on it: it
-/// has a variant with an inline body for 3 and one without for -1, and a site. `g2` depends on no switch and has one variant.
-const TABLES: [u32; 106] = [
-    // text
-    19,
-    19,
-    19,
-    19,
+/// Stores the pairs of the plan area, executes FENCE.I, and exits with the answer. Behind that stand the entry of `dp` at 0x104C, a
+/// site that calls it at 0x1054, the entry of `g2` at 0x105C, and the variants from 0x1064 on.
+const STORES: [u32; 24] = [
+    0x0040_02B7,
+    0x0002_A303,
+    0x0003_0E63,
+    0x0042_A383,
+    0x0082_AE03,
+    0x01C3_A023,
+    0x0082_8293,
+    0xFFF3_0313,
+    0xFE9F_F06F,
+    0x0000_100F,
+    0x0000_0893,
+    0x0000_0073,
+    0x13,
+    0x13,
+    0x13,
+    0x13,
     0xFF9F_F0EF,
-    19,
-    19,
-    19,
-    19,
-    19,
-    19,
-    19,
-    // data
-    7,
-    // switch
+    0x13,
+    0x13,
+    0x13,
+    0x13,
+    0x13,
+    0x13,
+    0x13,
+];
+
+/// The rows of an image with a switch `s`, whose values are -1 and 3, and two functions. `dp` depends on it: it has a variant with an
+/// inline body for 3 and one without for -1, and a site. `g2` depends on no switch and has one variant.
+const ROWS: [u32; 93] = [
     1,
     0x10_0000,
     5,
@@ -53,9 +65,8 @@ const TABLES: [u32; 106] = [
     0,
     0,
     0,
-    // function dp
     2,
-    0x1028,
+    0x104C,
     1,
     0,
     0,
@@ -64,9 +75,8 @@ const TABLES: [u32; 106] = [
     0,
     0,
     2,
-    // function g2
     2,
-    0x1038,
+    0x105C,
     0,
     0,
     0,
@@ -75,24 +85,21 @@ const TABLES: [u32; 106] = [
     0,
     0,
     1,
-    // variants of dp
-    0x1040,
+    0x1064,
     1,
     0x0010_0513,
     0x0020_0593,
     1,
-    0x1044,
+    0x1068,
     0,
     0,
     0,
     1,
-    // variant of g2
-    0x1048,
+    0x106C,
     0,
     0,
     0,
     1,
-    // guards of dp
     3,
     0,
     0,
@@ -117,7 +124,6 @@ const TABLES: [u32; 106] = [
     0,
     0,
     0,
-    // guard of g2
     0,
     0,
     0,
@@ -130,8 +136,7 @@ const TABLES: [u32; 106] = [
     0,
     0,
     0,
-    // site
-    0x1030,
+    0x1054,
     0,
 ];
 
@@ -148,100 +153,117 @@ fn number_to(register: u32, number: u32) -> u32 {
     ((number % 2048) << 20) | ((register % 32) << 7) | 0x13
 }
 
-/// A call, and then an exit with its answer.
-fn code(call: Call) -> [u32; 8] {
+/// A call, and what is done behind it.
+fn code(alloc: Global, call: Call) -> Result<Vec<u32>, AllocError> {
     let (number, first, second, live) = call;
-    [
+    let asks = [
         number_to(17, number),
         number_to(10, first),
         number_to(11, second),
         number_to(26, live),
         0x73,
-        number_to(17, 0),
-        0x73,
-        0x13,
-    ]
+    ];
+    let mut words = Vec::from_slice(alloc, &asks)?;
+    words.extend_from_slice(&STORES)?;
+    Ok(words)
 }
 
-fn tabled(alloc: Global, call: Call) -> Result<Image, ImageError> {
-    let header = [0x3149_564D, 1, 0x1000, 20, 1, 1, 2, 3, 3, 1, 5, 0];
+/// The image with its rows, where the switch begins with a value.
+fn tabled(alloc: Global, call: Call, value: u32) -> Result<Image, ImageError> {
+    let header = [0x3149_564D, 1, 0x1000, 29, 1, 1, 2, 3, 3, 1, 5, 0];
     let mut words = Vec::from_slice(alloc, &header)?;
-    words.extend_from_slice(&code(call))?;
-    words.extend_from_slice(&TABLES)?;
+    words.extend_from_slice(code(alloc, call)?.as_slice())?;
+    words.push(value)?;
+    words.extend_from_slice(&ROWS)?;
     let mut bytes = bytes_of_words(alloc, &List::from_vec(words))?;
     bytes.extend_from_slice(NAMES)?;
     read(alloc, &bytes)
 }
 
-/// What became of a call: the answer of the run, the number in the plan area, and how many events were told.
-fn called(alloc: Global, image: &Image) -> Result<(Stopped, Option<u32>, u32), AllocError> {
+/// The same code without rows.
+fn bare(alloc: Global, call: Call) -> Result<Image, ImageError> {
+    let text = List::from_vec(code(alloc, call)?);
+    Ok(Image::without_tables(alloc, 0x1000, text, List::new(alloc)))
+}
+
+/// The answer of a run, the machine behind it, and how many events were told.
+fn called(alloc: Global, image: &Image) -> Result<(Stopped, Machine, u32), AllocError> {
     let mut machine = Machine::start(alloc, image)?;
     let mut source = MemSource::new(Vec::new(alloc), Vec::new(alloc));
     let mut sink = MemSink::new(alloc, 0, 1, Vec::new(alloc))?;
     let mut oracle: Box<dyn FetchOracle> = Box::new(alloc, Oldest)?;
     let mut probes: Vec<Box<dyn Probe>> = Vec::new(alloc);
     probes.push(Box::new(alloc, Recorder::new(alloc, 10)?)?)?;
-    let stopped = machine.run(10, &mut source, &mut sink, &mut oracle, &mut probes, &[]);
+    let stopped = machine.run(60, &mut source, &mut sink, &mut oracle, &mut probes, &[]);
     let heard = if probes.len() == 1 {
         probes[0].heard()
     } else {
         0
     };
-    Ok((stopped, machine.word(PLAN_AREA), heard))
+    Ok((stopped, machine, heard))
 }
 
+// A row without a value is of an image without tables.
 #[test]
 fn calls_are_answered(rt: HostRuntime) -> Result<(), Fail> {
     let fault = Stopped::Fault(AT_CALL, Cause::Call);
     let rows = [
-        ((4, 0, 0, 0), Stopped::Ended(1), 1, 1),
-        ((4, 1, 0, 0), Stopped::Ended(0), 0, 0),
-        ((4, 2, 0, 0), Stopped::Ended(0), 0, 0),
-        ((4, 2, 1, 0), Stopped::Ended(1), 1, 1),
-        ((4, 3, 1, 0), Stopped::Ended(0), 0, 0),
-        ((4, 4, 0, 0), Stopped::Ended(0), 0, 0),
-        ((4, 5, 0, 0), Stopped::Ended(0), 0, 0),
-        ((5, 0, 0, 0), Stopped::Ended(0), 0, 0),
+        (Some(7), (4, 0, 0, 0), Stopped::Ended(1), 1, 1),
+        (Some(7), (4, 1, 0, 0), Stopped::Ended(0), 0, 0),
+        (Some(7), (4, 2, 0, 0), Stopped::Ended(0), 0, 0),
+        (Some(7), (4, 2, 1, 0), Stopped::Ended(1), 1, 1),
+        (Some(7), (4, 3, 1, 0), Stopped::Ended(0), 0, 0),
+        (Some(7), (4, 4, 0, 0), Stopped::Ended(0), 0, 0),
+        (Some(3), (4, 4, 0, 0), Stopped::Ended(1), 3, 1),
+        (Some(3), (4, 0, 0, 0), Stopped::Ended(2), 4, 2),
+        (Some(3), (4, 5, 0, 0), Stopped::Ended(0), 0, 0),
+        (Some(3), (5, 0, 0, 0), Stopped::Ended(0), 0, 0),
         // unknown orders, and numbers just out of range
-        ((4, 6, 0, 0), fault, 0, 0),
-        ((4, 2, 2, 0), fault, 0, 0),
-        ((4, 3, 2, 0), fault, 0, 0),
-        ((4, 4, 1, 0), fault, 0, 0),
-        ((4, 5, 1, 0), fault, 0, 0),
+        (Some(3), (4, 6, 0, 0), fault, 0, 0),
+        (Some(3), (4, 2, 2, 0), fault, 0, 0),
+        (Some(3), (4, 3, 2, 0), fault, 0, 0),
+        (Some(3), (4, 4, 1, 0), fault, 0, 0),
+        (Some(3), (4, 5, 1, 0), fault, 0, 0),
         // with a live frame
-        ((4, 0, 0, 1), Stopped::Ended(255), 0, 0),
-        ((4, 1, 0, 1), Stopped::Ended(255), 0, 0),
-        ((4, 6, 0, 1), fault, 0, 0),
-        ((5, 0, 0, 1), Stopped::Ended(0), 0, 0),
+        (Some(3), (4, 0, 0, 1), Stopped::Ended(255), 0, 0),
+        (Some(3), (4, 1, 0, 1), Stopped::Ended(255), 0, 0),
+        (Some(3), (4, 6, 0, 1), fault, 0, 0),
+        (Some(3), (5, 0, 0, 1), Stopped::Ended(0), 0, 0),
+        (None, (4, 0, 0, 0), Stopped::Ended(0), 0, 0),
+        (None, (4, 1, 0, 0), Stopped::Ended(0), 0, 0),
+        (None, (4, 2, 0, 0), fault, 0, 0),
+        (None, (4, 4, 0, 0), fault, 0, 0),
+        (None, (4, 0, 0, 1), Stopped::Ended(255), 0, 0),
+        (None, (5, 0, 0, 0), Stopped::Ended(0), 0, 0),
     ];
-    for (call, stopped, count, events) in rows {
-        let image = tabled(rt.alloc(), call)?;
-        let (answer, plan, heard) = called(rt.alloc(), &image)?;
+    for (value, call, stopped, pairs, events) in rows {
+        let image = match value {
+            None => bare(rt.alloc(), call)?,
+            Some(value) => tabled(rt.alloc(), call, value)?,
+        };
+        let (answer, machine, heard) = called(rt.alloc(), &image)?;
         assert_eq!(rt; answer, stopped);
-        assert_eq!(rt; plan, Some(count));
+        assert_eq!(rt; machine.word(PLAN_AREA), Some(pairs));
         assert_eq!(rt; heard, events);
     }
     Ok(())
 }
 
+// What a commit of all functions leaves at the entry of `dp`, at its site and at the entry of `g2`.
 #[test]
-fn an_image_without_tables_answers(rt: HostRuntime) -> Result<(), Fail> {
-    let fault = Stopped::Fault(AT_CALL, Cause::Call);
+fn a_commit_patches(rt: HostRuntime) -> Result<(), Fail> {
     let rows = [
-        ((4, 0, 0, 0), Stopped::Ended(0)),
-        ((4, 1, 0, 0), Stopped::Ended(0)),
-        ((4, 2, 0, 0), fault),
-        ((4, 4, 0, 0), fault),
-        ((4, 0, 0, 1), Stopped::Ended(255)),
-        ((5, 0, 0, 0), Stopped::Ended(0)),
+        (3, [0x0180_006F, 0x0010_0513, 0x0020_0593, 0x0100_006F]),
+        (0xFFFF_FFFF, [0x01C0_006F, 0x0140_00EF, 0x13, 0x0100_006F]),
+        (7, [0x13, 0xFF9F_F0EF, 0x13, 0x0100_006F]),
     ];
-    for (call, stopped) in rows {
-        let text = List::from_vec(Vec::from_slice(rt.alloc(), &code(call))?);
-        let image = Image::without_tables(rt.alloc(), 0x1000, text, List::new(rt.alloc()));
-        let (answer, plan, heard) = called(rt.alloc(), &image)?;
-        assert_eq!(rt; answer, stopped);
-        assert_eq!(rt; plan, Some(0));
-        assert_eq!(rt; heard, 0);
+    for (value, [entry, site, behind, other]) in rows {
+        let image = tabled(rt.alloc(), (4, 0, 0, 0), value)?;
+        let (_answer, machine, _heard) = called(rt.alloc(), &image)?;
+        assert!(rt; machine.word(0x104C) == Some(entry));
+        assert!(rt; machine.word(0x1054) == Some(site));
+        assert!(rt; machine.word(0x1058) == Some(behind));
+        assert!(rt; machine.word(0x105C) == Some(other));
     }
     Ok(())
 }

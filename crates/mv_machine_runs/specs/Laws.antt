@@ -37,7 +37,7 @@ use Rattle.mv_machine_runs.specs.Layout.{OwnOutsideText, IsLaidOut, IsPacked}
 abbrev pub CalmIsTested : Type 0
 CalmIsTested = (image : Fields) (w : World) (m : Rest) → (is_calm image w m ≡ true) ↔ IsCalm image w m
 
--- For every image, input and picks, the machine's run is one of a machine on which code runs, at each site whose own cells lie outside text, and that
+-- For every image, input, actions and picks, the machine's run is one of a machine on which code runs, at each site whose own cells lie outside text, and that
 -- loads from no address that is closed anywhere.
 abbrev pub RunsAreRuns : Type 0
 RunsAreRuns =
@@ -117,7 +117,7 @@ RunsBeginInCalm =
     (attributed : List ℕ) (closed : (pc address : ℕ) → Bool) (image : Fields) (bytes : List ℕ) (actions : List Action) (picks : List ℕ) (s : Site) (w : World) → IsFirst image bytes w →
     let machine = machine_of attributed closed image (bytes_to_come bytes) actions picks in Calm access s machine w (machine.run 0).memory
 
--- environment calls are answered, for every image, input and picks
+-- environment calls are answered, for every image, input, actions and picks
 abbrev pub EnvironmentCalls : Type 0
 EnvironmentCalls = (closed : (pc address : ℕ) → Bool) (image : Fields) (input : List (Option ℕ)) (actions : List Action) (picks : List ℕ) → CallsAreAnswered image input actions picks closed
 
