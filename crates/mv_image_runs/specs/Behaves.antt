@@ -44,9 +44,9 @@ pub record HasDone (s : State) (m : Meant) : Type 0 where
   pub log : Begins m.log s.log
   pub ended : (m.«end» ≡ source.More → ⊥) → s.stop ≡ Going → ⊥
 
--- The run of an image on an input, whatever the operator's actions are and by any picks of the fetches, does what a program means that never polls, and so
--- takes no action. After n instructions it has done no more than the meaning at the bound n, and all of the meaning at each bound whose work is less than a hundredth of n. It ends only as the meaning does. And each fetch has one
--- choice, so that no pick matters.
+-- The run of an image on an input, whatever the operator's actions are and by any picks of the fetches, does what a program means that never
+-- polls, and so takes no action. After n instructions it has done no more than the meaning at the bound n, and all of the meaning at each bound
+-- whose work is less than a hundredth of n. It ends only as the meaning does. And each fetch has one choice, so that no pick matters.
 pub record Behaves (p : Program) (image : Fields) (bytes : List ℕ) (actions : List Action) (picks : List ℕ) : Type 0 where
   pub within : (n : ℕ) → IsWithin bytes (runs image (bytes_to_come bytes) actions picks n) (mean p bytes [] n)
   pub ends : (n : ℕ) → EndsRight bytes (runs image (bytes_to_come bytes) actions picks n) (mean p bytes [] n) (runs image (bytes_to_come bytes) actions picks n).stop
