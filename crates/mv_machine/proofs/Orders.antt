@@ -1,5 +1,5 @@
 -- Calls for plans, and polls: what the engine does is what the definition does to a state.
-use Rattle.std.proofs.Common.{◌≡◌, ◌≢◌, ⊎_elim, ℕ, ◌-◌, ◌<◌, ◌≤◌, ◌^◌, ltb, Bool, true, false, eqb, nat_eq, if◌then◌else◌, List, [], ◌∷◌, ◌++◌, length, Option, Some, None, refl, sym, ap, ap₂, ◌∙◌, subst, arith, append-nil, Result, Ok, Err, OnOk, IfErr}
+use Rattle.std.proofs.Common.{◌≡◌, ◌≢◌, ⊎_elim, ℕ, ◌-◌, ◌<◌, ◌≤◌, ◌^◌, ltb, Bool, true, false, eqb, nat_eq, if◌then◌else◌, List, [], ◌∷◌, ◌++◌, length, Option, Some, None, refl, sym, ap, ap₂, ◌∙◌, subst, arith, append-nil, Result, Ok, Err, OnOk, OnErr}
 use Rattle.std.proofs.lemmas.Bool.{ne_eqb, cases_lt, le-ltb}
 use Rattle.mv_num.specs.Words.{add}
 use Rattle.mv_ast.specs.declared.world.Binding.{Binding}
@@ -14,7 +14,6 @@ use Rattle.mv_image.specs.Spelling.{Fields}
 use Rattle.mv_patch.specs.Orders.{Planned, is_known_order, plan_of, bindings_after, answer_after, code_of, index_of}
 use Rattle.mv_patch.specs.declared.order.Order.{Order}
 use Rattle.mv_patch.specs.declared.planning.PlanError.{PlanError}
-use Rattle.mv_patch.specs.declared.planning.PlanError.TheVariants.{Live}
 use Rattle.mv_patch.specs.declared.order.Order.TheVariants.{CommitAll, RevertAll, CommitFunction, RevertFunction, CommitRefs, RevertRefs}
 use Rattle.mv_machine.specs.declared.engine.Engine.{Engine}
 use Rattle.mv_machine.specs.Runs.{State, Stop, Going, Fault, Plans, Polls, environment_call, answered, stopped, with_plan, with_value, refused, carried_out, ordered, planned, flipped, act, acted, polled}
@@ -169,6 +168,6 @@ flips engine engine' switch value memory plan news Told stores plans told action
     ∙ does i o l)
 
 -- with no live frame no order is refused
-pub was_planned : {T A : Type 0} (result : Result T PlanError) → OnOk result A → IfErr result (λ e. (e ≡ Live 0) × (0 < 0)) → A
+pub was_planned : {T A : Type 0} (result : Result T PlanError) → OnOk result A → OnErr result (0 < 0) → A
 was_planned (Ok done) ok err = ok
-was_planned (Err e) ok err = absurd (let n = err.1 in omega (arith, n))
+was_planned (Err e) ok err = absurd (omega (arith, err))

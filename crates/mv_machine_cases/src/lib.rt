@@ -8,6 +8,4 @@ mod machine;
 #[cfg(test)]
 mod memory;
 #[cfg(test)]
-mod patching;
-#[cfg(test)]
 mod probes;

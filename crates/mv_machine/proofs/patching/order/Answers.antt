@@ -20,7 +20,7 @@ pub returns-in-Err-clause-moves : goal.returns-in-Err-clause-moves
 returns-in-Err-clause-moves g c = λ actions left written.
     refused_order c.args.engine.now c.refuse.new.engine left written _ actions
     (ap₂ (λ a b. is_known_order c.args.engine.now.image a b) (sym c.argument-code.ensures) (sym c.index-index.ensures) ∙ sym c.is_known.ensures ∙ c.if-not-is_known.false)
-    (subst (λ n. 0 < n) c.live_frames-live.ensures c.in-Err.ensures.live.1) (told_nothing _ _ c.args.probes.now.items c.requires) (c.refuse.ensures.does actions)
+    (subst (λ n. 0 < n) c.live_frames-live.ensures c.in-Err.ensures.some_live) (told_nothing _ _ c.args.probes.now.items c.requires) (c.refuse.ensures.does actions)
 
 pub returns-in-Ok-clause-moves : goal.returns-in-Ok-clause-moves
 returns-in-Ok-clause-moves g c = λ actions left written.
