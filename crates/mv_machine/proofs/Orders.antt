@@ -1,5 +1,5 @@
 -- Calls for plans, and polls: what the engine does is what the definition does to a state.
-use Rattle.std.proofs.Common.{◌≡◌, ◌≢◌, ⊎_elim, ℕ, ◌-◌, ◌<◌, ◌≤◌, ◌^◌, ltb, Bool, true, false, eqb, nat_eq, if◌then◌else◌, List, [], ◌∷◌, ◌++◌, length, Option, Some, None, refl, sym, ap, ap₂, ◌∙◌, subst, arith, append-nil, Result, Ok, Err, OnOk, OnErr}
+use Rattle.std.proofs.Common.{◌≡◌, ◌≢◌, ⊎_elim, ℕ, ◌-◌, ◌<◌, ◌≤◌, ◌^◌, ltb, Bool, true, false, nat_eq, if◌then◌else◌, List, [], ◌∷◌, ◌++◌, Option, Some, None, refl, sym, ap, ap₂, ◌∙◌, subst, arith, append-nil, Result, Ok, Err, OnOk, OnErr}
 use Rattle.std.proofs.lemmas.Bool.{ne_eqb, cases_lt, le-ltb}
 use Rattle.mv_num.specs.Words.{add}
 use Rattle.mv_ast.specs.declared.world.Binding.{Binding}
@@ -19,7 +19,7 @@ use Rattle.mv_machine.specs.declared.engine.Engine.{Engine}
 use Rattle.mv_machine.specs.Runs.{State, Stop, Going, Fault, Plans, Polls, environment_call, answered, stopped, with_plan, with_value, refused, carried_out, ordered, planned, flipped, act, acted, polled}
 use Rattle.mv_machine.specs.Moves.{Seen, seen, shown, Moves, Does}
 use Rattle.mv_machine.specs.Engines.{Taken, IsAsked}
-use Rattle.mv_machine.proofs.Moved.{moves_telling, moves_quietly, moves_as}
+use Rattle.mv_machine.proofs.Moved.{moves_telling, moves_quietly}
 
 -- ---- states by their fields
 

@@ -3,7 +3,6 @@ use Rattle.std.proofs.Common.{ℕ, ◌≡◌, ◌<◌, ◌≤◌, ◌+◌, inl, 
 use Rattle.std.proofs.lemmas.List.{length-append}
 use Rattle.std.proofs.lemmas.Option.{none-some}
 use Rattle.mv_ast.specs.declared.world.Event.{Event}
-use Rattle.mv_ast.specs.declared.world.Action.{Action}
 use Rattle.mv_isa.specs.declared.instr.Cause.{Cause}
 use Rattle.mv_isa.specs.Execution.{Goes as GoesTo, Calls, Faults, reg, step}
 use Rattle.mv_fetch.specs.Held.{Room, IsInText, choices, only}

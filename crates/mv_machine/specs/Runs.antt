@@ -1,7 +1,7 @@
 -- The run of a machine as a definition. `turn` is one instruction, `runs_from` is so many of them from any state, and `runs` is so many of an
 -- image from its start. All of them are functions: of the image, the input, the operator's actions, the picks of the fetches and the number of
 -- instructions.
-use Rattle.std.specs.Prelude.{ℕ, zero, suc, ◌+◌, ◌*◌, ◌-◌, ◌%◌, ◌^◌, cond, eqb, ltb, if◌then◌else◌, nat_eq, List, [], ◌∷◌, ◌++◌, length, map, replicate, slice_get, slice_index, Option, Some, None, unwrap_or}
+use Rattle.std.specs.Prelude.{ℕ, zero, suc, ◌+◌, ◌-◌, ◌%◌, ◌^◌, cond, eqb, ltb, if◌then◌else◌, nat_eq, List, [], ◌∷◌, ◌++◌, length, map, replicate, slice_get, slice_index, Option, Some, None, unwrap_or}
 use Rattle.mv_num.specs.Words.{add}
 use Rattle.mv_ast.specs.declared.world.Binding.{Binding}
 use Rattle.mv_ast.specs.declared.world.Event.{Event}

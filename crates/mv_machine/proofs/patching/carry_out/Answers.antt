@@ -1,4 +1,4 @@
-use Rattle.std.proofs.Common.{[], refl, sym, ap, ap₂, ◌∙◌, ◌≤◌, length, subst}
+use Rattle.std.proofs.Common.{sym, ap, ap₂, ◌∙◌, ◌≤◌, length, subst}
 use Rattle.std.proofs.lemmas.List.{nil_from_length}
 use Rattle.mv_ast.specs.Plans.{events_from}
 use Rattle.mv_machine.specs.Runs.{with_plan}

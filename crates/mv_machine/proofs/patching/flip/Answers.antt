@@ -1,4 +1,3 @@
-use Rattle.std.proofs.Common.{◌≤◌, length}
 use Rattle.mv_ast.specs.Plans.{events_from}
 use Rattle.mv_machine.proofs.Orders.{flips, was_planned}
 use Rattle.mv_machine.proofs.patching.flip.Goals as goal

@@ -1,4 +1,4 @@
-use Rattle.std.proofs.Common.{ap, ap₂, refl, sym, ◌∙◌, ◌<◌, ◌-◌, ◌^◌, subst, arith}
+use Rattle.std.proofs.Common.{ap₂, refl, sym, ◌∙◌, ◌<◌, subst}
 use Rattle.mv_ast.specs.Plans.{events_from}
 use Rattle.mv_probe.proofs.Logs.{told_nothing}
 use Rattle.mv_patch.specs.Orders.{is_known_order, plan_of}

@@ -1,6 +1,6 @@
 use Rattle.std.proofs.Common.{inl, inr, refl, ◌∙◌}
 use Rattle.mv_probe.proofs.Logs.{told_nothing}
-use Rattle.mv_machine.specs.Moves.{Seen, seen}
+use Rattle.mv_machine.specs.Moves.{seen}
 use Rattle.mv_machine.proofs.Walks.{steps_on, faults, calls, same_stepped, step_is, wanting}
 use Rattle.mv_machine.proofs.turning.turn.Goals as goal
 
