@@ -24,7 +24,7 @@ use Rattle.mv_ir.specs.Measures.{scalars_read, arrays_read}
 use Rattle.mv_ir.specs.Programs.{setting_of}
 use Rattle.mv_ir.specs.Trees.{found}
 use Rattle.mv_ir.specs.WellFormed.{has_room}
-use Rattle.mv_lowering.specs.Functions.{names_global, rooms_from, marked_from, functions_called, lower_function_code}
+use Rattle.mv_lowering.specs.Functions.{names_global, rooms_from, functions_called, lower_function_code}
 use Rattle.mv_lowered_programs.specs.WellFormed.{IsWellFormed, IsWellFormedGlobal}
 use Rattle.mv_machine.specs.Runs.{bytes_to_come}
 use Rattle.mv_statement_code.specs.Frames.{Site}

@@ -1,5 +1,5 @@
 -- The run of a built image does what its program means.
-use Rattle.std.proofs.Common.{◌≡◌, ℕ, suc, ◌+◌, ◌*◌, ◌<◌, ◌^◌, ◌%◌, Bool, false, List, [], ◌∷◌, Option, Some, None, map, take, sum, length, get_or, filter, replicate, slice_get, All, refl, sym, ap, ◌∙◌, subst, arith}
+use Rattle.std.proofs.Common.{◌≡◌, ℕ, ◌+◌, ◌*◌, ◌<◌, ◌^◌, ◌%◌, Bool, List, [], Option, Some, None, map, take, sum, length, get_or, replicate, slice_get, All, refl, sym, ap, ◌∙◌, subst, arith}
 use Rattle.std.specs.Prelude.{IsTrue}
 use Rattle.std.specs.List.{flat_map}
 use Rattle.std.proofs.Math.ListN as lists
