@@ -45,6 +45,14 @@ pub record IsRunnable (text : List ℕ) (p : Program) : Type 0 where
   pub program : IsProgram text p
   pub never_rebinds : NeverRebinds p
 
+-- no function of its program is attributed
+abbrev pub IsPlainText : List ℕ → Type 0
+IsPlainText text = (p : Program) → IsProgram text p → IsUnattributed p
+
+-- nor of any that the file of a command may hold
+abbrev pub IsPlain : (words : List (List ℕ)) → Option Files → Type 0
+IsPlain words files = (file text : List ℕ) (task : Task) → IsCommand words file task → Holds files file text → IsPlainText text
+
 -- the refusal of programs that do, which aren't run so far
 abbrev pub not_run_yet : Refusal
 not_run_yet = at_place 16 (record { line = 1; column = 1 })
@@ -108,7 +116,7 @@ module _ (before after : Environment) (text : List ℕ) where
     -- there was no memory to read it as a program, or to compile and load that
     unread : (task : Task) → after ≡ before → Does task Memory
     no_image : (steps : ℕ) (r : Refusal) → IsNotRun text r → after ≡ before → Does (Run steps) (Refused r)
-    ran : (steps : ℕ) (built : Built) (e : Execution) → IsToRun text built → IsExecution built steps before after e →
+    ran : (steps : ℕ) (built : Built) (e : Execution) → IsToRun text built → IsExecution built [] steps before after e →
         Does (Run steps) (status_of_stop e.stopped)
     no_program : (bound : ℕ) (r : Refusal) → IsRefused text r → after ≡ before → Does (Eval bound) (Refused r)
     evaluated : (bound : ℕ) (p : Program) (result : Result End EvalError) → IsProgram text p →

@@ -6,7 +6,7 @@ ghost use Rattle.mv_io.specs.Outside.{Rose};
 ghost use Rattle.mv_probe.specs.Hearing.{hearing, IsPatient};
 ghost use Rattle.mv_probe.specs.Ways.{Way};
 ghost use Rattle.mv_refine.specs.Environment.{environment, reading, writing};
-ghost use Rattle.mv_top.specs.Outcomes.{Comes, Does, IsCarriedOut, IsCause, IsToRun, Notes, outside, shelved, status_of_build, status_of_error, status_of_evaluation, status_of_stop};
+ghost use Rattle.mv_top.specs.Outcomes.{Comes, Does, IsCarriedOut, IsCause, IsPlain, IsPlainText, IsToRun, Notes, outside, shelved, status_of_build, status_of_error, status_of_evaluation, status_of_stop};
 
 use crate::command::{Command, Task, command_of};
 use crate::status::Status;
@@ -105,7 +105,7 @@ fn run_text<I: Source, O: Sink>(
     requires { All (λ probe. IsPatient (hearing (told probe) (patience probe))) probes.old.items }
     ensures does { Does (environment (reading (I.left input.old) (I.faults input.old)) (writing (O.written out.old) (O.faults out.old)) (way oracle.old))
         (environment (reading (I.left input.new) (I.faults input.new)) (writing (O.written out.new) (O.faults out.new)) (way oracle.new)) text.now (Task.Run steps) result }
-    ensures quiet { probes.new ≡ probes.old }
+    ensures quiet { IsPlainText text.now → probes.new ≡ probes.old }
 {
     let built = match runnable(alloc, text) {
         Ok(built) => built,
@@ -149,7 +149,7 @@ fn perform<H: Shelf, I: Source, O: Sink>(
         (outside (shelved (H.files shelf.old) (H.faults shelf.old)) (environment (reading (I.left input.old) (I.faults input.old)) (writing (O.written out.old) (O.faults out.old)) (way oracle.old)))
         (outside (shelved (H.files shelf.new) (H.faults shelf.new)) (environment (reading (I.left input.new) (I.faults input.new)) (writing (O.written out.new) (O.faults out.new)) (way oracle.new))) result }
     ensures files { H.files shelf.new ≡ H.files shelf.old }
-    ensures quiet { probes.new ≡ probes.old }
+    ensures quiet { IsPlain (map string_bytes words.now) (H.files shelf.old) → probes.new ≡ probes.old }
 {
     let Some(Command { file, task }) = command_of(words) else {
         return Status::Usage;
@@ -184,7 +184,7 @@ fn report<N: Sink>(alloc: Global, status: Status, notes: &mut N) -> Status
 
 /// Carries out the command that the words are: the words after the program's name. The output goes to `out`, and the last line to `notes`.
 /// Where memory was refused or a write failed, there is no last line: `notes` is as it was, or has a part of the last line of a status whose
-/// cause stands. `run` fetches by the oracle. The programs that it runs don't commit, so no probe is told anything.
+/// cause stands. `run` fetches by the oracle. Where no function is attributed no probe is told anything.
 pub fn multiverse<H: Shelf, I: Source, O: Sink, N: Sink>(
     alloc: Global,
     words: &[String],
@@ -200,7 +200,7 @@ pub fn multiverse<H: Shelf, I: Source, O: Sink, N: Sink>(
         (outside (shelved (H.files shelf.old) (H.faults shelf.old)) (environment (reading (I.left input.old) (I.faults input.old)) (writing (O.written out.old) (O.faults out.old)) (way oracle.old)))
         (outside (shelved (H.files shelf.new) (H.faults shelf.new)) (environment (reading (I.left input.new) (I.faults input.new)) (writing (O.written out.new) (O.faults out.new)) (way oracle.new)))
         (writing (N.written notes.old) (N.faults notes.old)) (writing (N.written notes.new) (N.faults notes.new)) result }
-    ensures quiet { probes.new ≡ probes.old }
+    ensures quiet { IsPlain (map string_bytes words.now) (H.files shelf.old) → probes.new ≡ probes.old }
 {
     let status = perform(alloc, words, shelf, input, out, oracle, probes);
     report(alloc, status, notes)
