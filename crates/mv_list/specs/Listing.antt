@@ -19,8 +19,9 @@ use Rattle.mv_list.specs.Numbers.{address_text, value_text}
 abbrev pub switch_name : Fields → ℕ → List ℕ
 switch_name image switch = slice_index_or image.names switch []
 
+-- those of the functions behind them
 abbrev pub function_name : Fields → ℕ → List ℕ
-function_name image function = slice_index_or image.names (length image.switches + function) []
+function_name image function = slice_index_or (drop (length image.switches) image.names) function []
 
 unfoldable pub kind_name : Kind → List ℕ
 kind_name kinds.Bool = codes "_Bool"

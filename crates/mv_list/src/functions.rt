@@ -154,8 +154,14 @@ fn push_variants(
     let mut left = guards;
     for row in rows {
         push_variant(alloc, out, number, row)?;
-        push_guards(alloc, out, image, switches, front(left, row.guards))?;
-        left = behind(left, row.guards);
+        push_guards(
+            alloc,
+            out,
+            image,
+            switches,
+            front(left, row.guards as usize),
+        )?;
+        left = behind(left, row.guards as usize);
         number += 1;
     }
     Ok(())
@@ -168,7 +174,7 @@ fn guards_behind<'a>(rows: &[VariantRow], guards: &'a [GuardRow]) -> &'a [GuardR
 {
     let mut left = guards;
     for row in rows {
-        left = behind(left, row.guards);
+        left = behind(left, row.guards as usize);
     }
     left
 }
@@ -201,7 +207,7 @@ fn push_function(
     out.extend_from_slice(b" entry ")?;
     push_address(alloc, out, row.entry)?;
     out.extend_from_slice(b" switches")?;
-    push_names(out, image, front(&row.switches, row.count))?;
+    push_names(out, image, front(&row.switches, row.count as usize))?;
     out.push(b'\n')?;
     Ok(())
 }
@@ -221,11 +227,11 @@ pub(crate) fn push_functions(
     let mut guards = image.guards().as_slice();
     for row in rows {
         push_function(alloc, out, image, number, row)?;
-        let own = front(variants, row.variants);
-        let switches = front(&row.switches, row.count);
+        let own = front(variants, row.variants as usize);
+        let switches = front(&row.switches, row.count as usize);
         push_variants(alloc, out, image, switches, own, guards)?;
         guards = guards_behind(own, guards);
-        variants = behind(variants, row.variants);
+        variants = behind(variants, row.variants as usize);
         number += 1;
     }
     Ok(())

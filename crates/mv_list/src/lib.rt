@@ -3,13 +3,13 @@
 //! Each call gives exactly the text that its definition in `specs/` says.
 #![tactic(auto)]
 
+mod bound;
 mod functions;
 mod lines;
 mod names;
 mod numbers;
 mod parts;
 mod switches;
-#[cfg(test)]
-mod tests;
 
+pub use bound::bindings;
 pub use lines::listing;

@@ -1,30 +1,38 @@
 //! Names of switches, functions and kinds.
 
-ghost use Rattle.std.specs.Prelude.{◌≡◌};
+ghost use Rattle.std.specs.Prelude.{◌≡◌, [], slice_index_or};
 ghost use Rattle.mv_image.specs.Patched.{kind_of};
 ghost use Rattle.mv_list.specs.Listing.{switch_name, function_name, kind_name};
 
+use crate::parts::behind;
 use mv_image::Image;
 use mv_num::kind::Kind;
+use mv_num::text::Text;
+
+/// The name with a number.
+#[tactic(auto, using(std::proofs::lemmas::Option::get_or_from_slice_get, crate::proofs::Missing::item_missing))]
+fn name_at(names: &[Text], number: usize) -> &[u8]
+    ensures { result.now ≡ slice_index_or names.now number [] }
+{
+    match names.get(number) {
+        Some(name) => name.bytes(),
+        None => &[],
+    }
+}
 
 /// The name of a switch.
 pub(crate) fn switch_name(image: &Image, switch: usize) -> &[u8]
     ensures { result.now ≡ switch_name image.now switch }
 {
-    match image.names().get(switch) {
-        Some(name) => name.bytes(),
-        None => &[],
-    }
+    name_at(image.names().as_slice(), switch)
 }
 
 /// The name of a function.
 pub(crate) fn function_name(image: &Image, function: usize) -> &[u8]
     ensures { result.now ≡ function_name image.now function }
 {
-    match image.names().get(image.switches().len() + function) {
-        Some(name) => name.bytes(),
-        None => &[],
-    }
+    let names = behind(image.names().as_slice(), image.switches().len());
+    name_at(names, function)
 }
 
 /// The number of the kind of a switch.

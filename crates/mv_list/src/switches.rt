@@ -38,7 +38,12 @@ fn push_switch(
     out.push(b' ')?;
     out.extend_from_slice(kind_name(row.kind))?;
     out.extend_from_slice(b" values")?;
-    push_values(alloc, out, row.kind.number(), front(&row.values, row.count))?;
+    push_values(
+        alloc,
+        out,
+        row.kind.number(),
+        front(&row.values, row.count as usize),
+    )?;
     out.push(b'\n')?;
     Ok(())
 }

@@ -1,0 +1,5 @@
+//! The texts of an image made by hand.
+#![tactic(auto)]
+
+#[cfg(test)]
+mod texts;
