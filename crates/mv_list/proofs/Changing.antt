@@ -1,5 +1,5 @@
 -- The lines of a text and of what a memory holds there, a word at a time.
-use Rattle.std.proofs.Common.{◌≡◌, ℕ, ◌+◌, ◌<◌, ◌≤◌, List, [], ◌∷◌, ◌++◌, length, drop, get_or}
+use Rattle.std.proofs.Common.{◌≡◌, ℕ, ◌+◌, ◌<◌, ◌≤◌, List, [], ◌++◌, length, drop, get_or}
 use Rattle.std.proofs.lemmas.List.{at_drop_more, at_drop_all}
 use Rattle.mv_fetch.specs.Held.{Held}
 use Rattle.mv_list.specs.Changes.{change_line, changes, word_now, words_now}

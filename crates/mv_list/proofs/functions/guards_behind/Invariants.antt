@@ -1,4 +1,4 @@
-use Rattle.std.proofs.Common.{◌≡◌, ◌++◌, drop}
+use Rattle.std.proofs.Common.{◌≡◌, drop}
 use Rattle.mv_list.specs.Listing.{guards_behind}
 use Rattle.mv_list.proofs.functions.guards_behind.Given as goal
 
