@@ -1,7 +1,8 @@
-pub mod Answers
 pub mod Lists
-pub mod Functions
-pub mod Compiling
-pub mod Linking
-pub mod Images
+pub mod Tabled
+pub mod Leading
+pub mod Running
+pub mod Limits
+pub mod Whole
 pub mod Verdicts
+pub mod Answers

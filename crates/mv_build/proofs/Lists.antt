@@ -1,30 +1,9 @@
--- Elements of lists by their index.
-use Rattle.std.proofs.Common.{◌≡◌, ℕ, zero, suc, ◌+◌, ◌<◌, List, [], ◌∷◌, ◌++◌, Some, length, map, slice_get, All, refl, ap, subst, arith}
-use Rattle.std.proofs.lemmas.List.Elements.{All-nil, All-cons}
+-- Two lists of one length, with elements that are made to the same.
+use Rattle.std.proofs.Common.{◌≡◌, ℕ, suc, List, [], ◌∷◌, Some, length, map, slice_get, refl, ap₂, arith}
 
--- below its length a list has an element
-pub some_at : {X : Type 0} (xs : List X) (i : ℕ) → i < length xs → (x : X) × (slice_get xs i ≡ Some x)
-some_at [] i h = absurd (omega (arith, h))
-some_at (x ∷ xs) zero h = (x, refl)
-some_at (x ∷ xs) (suc i) h = some_at xs i (omega (arith, h))
-
--- what holds of each element holds of all
-pub all_by_index : {X : Type 0} (P : X → Type 0) (xs : List X) → ((i : ℕ) (x : X) → slice_get xs i ≡ Some x → P x) → All P xs
-all_by_index P [] h = All-nil P
-all_by_index P (x ∷ xs) h = All-cons P x xs (h 0 x refl) (all_by_index P xs (λ i y is. h (suc i) y is))
-
-pub some_same : {X : Type 0} (x y : X) → Some x ≡ Some y → x ≡ y
-some_same x y e = cc
-
--- one element more, with a fact for each by its index
-pub each_push : {X : Type 0} (P : ℕ → X → Type 0) (xs : List X) (x : X) → ((i : ℕ) (y : X) → slice_get xs i ≡ Some y → P i y) → P (length xs) x →
-    (i : ℕ) (y : X) → slice_get (xs ++ x ∷ []) i ≡ Some y → P i y
-each_push P [] x each last zero y is = subst (P 0) (some_same x y is) last
-each_push P [] x each last (suc i) y is = absurd (cc is)
-each_push P (z ∷ xs) x each last zero y is = each 0 y is
-each_push P (z ∷ xs) x each last (suc i) y is = each_push (λ k. P (suc k)) xs x (λ k w there. each (suc k) w there) last i y is
-
-pub map_at : {X Y : Type 0} (f : X → Y) (xs : List X) (i : ℕ) (x : X) → slice_get xs i ≡ Some x → slice_get (map f xs) i ≡ Some (f x)
-map_at f [] i x e = absurd (cc e)
-map_at f (y ∷ xs) zero x e = ap (λ z. Some (f z)) (some_same y x e)
-map_at f (y ∷ xs) (suc i) x e = map_at f xs i x e
+pub map_same : {X Y Z : Type 0} (f : X → Z) (g : Y → Z) (xs : List X) (ys : List Y) → length xs ≡ length ys →
+    ((i : ℕ) (x : X) (y : Y) → slice_get xs i ≡ Some x → slice_get ys i ≡ Some y → f x ≡ g y) → map f xs ≡ map g ys
+map_same f g [] [] e h = refl
+map_same f g [] (y ∷ ys) e h = absurd (omega (arith, e))
+map_same f g (x ∷ xs) [] e h = absurd (omega (arith, e))
+map_same f g (x ∷ xs) (y ∷ ys) e h = ap₂ ◌∷◌ (h 0 x y refl refl) (map_same f g xs ys (omega (arith, e)) (λ i a b there is. h (suc i) a b there is))

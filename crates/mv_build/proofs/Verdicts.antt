@@ -2,7 +2,7 @@
 use Rattle.std.proofs.Common.{List, ℕ, sym, subst}
 use Rattle.std.specs.Prelude.{Result, Ok, Err, IfOk, IfErr}
 use Rattle.mv_ast.specs.declared.program.Program.{Program}
-use Rattle.mv_formed_globals.specs.Globals.{GlobalsAreFormed}
+use Rattle.mv_checked_facts.specs.Laws.{ProgramsHaveTableFacts}
 use Rattle.mv_checked_programs.specs.Checked.{ProgramsOfTextsAreWellFormed}
 use Rattle.mv_front.specs.Verdicts.{IsProgram}
 use Rattle.mv_front.specs.Verdicts as front
@@ -12,39 +12,30 @@ use Rattle.mv_build.specs.declared.built.Built.{Built}
 use Rattle.mv_build.specs.declared.error.BuildError.{BuildError}
 use Rattle.mv_build.specs.declared.error.BuildError.TheVariants.{Refused, Memory}
 use Rattle.mv_build.specs.Answers.{IsCause, of_front}
-use Rattle.mv_build.specs.Compiled.{IsSound, IsImageOf, IsCompiled, OnRefusal}
-use Rattle.mv_build.specs.Frames.{IsCompilable}
-use Rattle.mv_build.specs.Verdicts.{IsAccepted, IsBuiltFrom, PassesLimit, refused, over_limit}
+use Rattle.mv_build.specs.Compiled.{IsSound, IsCompiled, OnRefusal}
+use Rattle.mv_build.specs.Images.{IsImageOf}
+use Rattle.mv_build.specs.Verdicts.{IsBuiltFrom, PassesLimit, refused, over_limit}
 
 -- the cause of a refusal of the front end
 pub front_cause : (text : List ℕ) (e : FrontError) → front.IsCause text e → IsCause text (of_front e)
 front_cause text (fronting.Refused r) h = refused r h
 front_cause text (fronting.Memory e) h = tt
 
-module _ (text : List ℕ) (p : Program) where
-  pub sound : ProgramsOfTextsAreWellFormed → GlobalsAreFormed → IsProgram text p → IsCompilable p → IsSound p
-  sound formed globals is compilable = record { formed = formed text p is; compilable = compilable; words = (globals is.unit p is.good).words }
+module _ (text : List ℕ) (p : Program) (is : IsProgram text p) where
+  pub sound : ProgramsOfTextsAreWellFormed → ProgramsHaveTableFacts → IsSound p
+  sound formed facts = record { formed = formed text p is; facts = facts text p is }
 
-  module _ (is : IsProgram text p) (compilable : IsCompilable p) where
-    accepted : IsAccepted text p
-    accepted = record { program = is; compilable = compilable }
+  of_compiled : (b : Built) → IsCompiled p b → IsBuiltFrom text b
+  of_compiled b h = record {
+    program = subst (IsProgram text) (sym h.program) is;
+    image = subst (λ (x : Program). IsImageOf x b.generics b.variants b.image) (sym h.program) h.image;
+  }
 
-    of_compiled : (b : Built) → IsCompiled p b → IsBuiltFrom text b
-    of_compiled b h =
-        let image = subst (λ (x : Program). IsImageOf x b.generics b.image) (sym h.program) h.image in record {
-          accepted = subst (IsAccepted text) (sym h.program) accepted;
-          frames = image.frames;
-          data_fits = image.data_fits;
-          made = image.made;
-          no_variants = h.no_variants;
-          behaves = image.behaves;
-        }
+  pub built : (result : Result Built BuildError) → IfOk result (λ b. IsCompiled p b) → IfOk result (λ b. IsBuiltFrom text b)
+  built (Ok b) h = of_compiled b h
+  built (Err e) h = h
 
-    pub built : (result : Result Built BuildError) → IfOk result (λ b. IsCompiled p b) → IfOk result (λ b. IsBuiltFrom text b)
-    built (Ok b) h = of_compiled b h
-    built (Err e) h = h
-
-    pub cause : (result : Result Built BuildError) → IfErr result (λ e. OnRefusal e (PassesLimit p)) → IfErr result (λ e. IsCause text e)
-    cause (Ok b) h = h
-    cause (Err (Refused r)) h = over_limit p r accepted h
-    cause (Err (Memory e)) h = tt
+  pub cause : (result : Result Built BuildError) → IfErr result (λ e. OnRefusal e (PassesLimit p)) → IfErr result (λ e. IsCause text e)
+  cause (Ok b) h = h
+  cause (Err (Refused r)) h = over_limit p r is h
+  cause (Err (Memory e)) h = tt

@@ -1,5 +1,4 @@
-pub mod Frames
-pub mod Made
+pub mod Images
 pub mod Verdicts
 pub mod Answers
 pub mod Errors

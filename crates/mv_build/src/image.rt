@@ -1,67 +1,107 @@
-//! The image of a program.
+//! The image of a program's code.
 
-ghost use Rattle.std.specs.Prelude.{◌<◌, ◌^◌, ◌≤◌, All, IfErr, IfOk};
-ghost use Rattle.mv_first_data.specs.FirstData.{data_words};
+ghost use Rattle.std.specs.Prelude.{◌≡◌, ◌<◌, ◌^◌, length, All, IfErr, IfOk, OnOk};
+ghost use Rattle.mv_front.specs.Refusals.{counted};
 ghost use Rattle.mv_linker.specs.Linked.{AreParts};
 ghost use Rattle.mv_linker.specs.Tables.{FitTables};
-ghost use Rattle.mv_build.specs.Compiled.{IsImageOf, IsLinkedTo, IsLinkRefusal, IsSound, OnRefusal, parts_of};
-ghost use Rattle.mv_build.specs.Made.{AreGenerics};
-ghost use Rattle.mv_build.specs.Verdicts.{PassesLimit, data_limit};
+ghost use Rattle.mv_parts.specs.Codes.{FramesFit};
+ghost use Rattle.mv_parts.specs.Switches.{HasSwitches};
+ghost use Rattle.mv_build.specs.Compiled.{IsLinkedOf, IsLinkedTo, IsLinkRefusal, IsSound, IsWithinLimits, OnRefusal, parts_of, without_data};
+ghost use Rattle.mv_build.specs.Verdicts.{IsCoded, PassesLimit};
+ghost use Rattle.mv_build.specs.declared.error.BuildError.TheVariants.{Refused};
 
 use crate::error::BuildError;
-use crate::function::codes_of;
 use mv_ast::program::Program;
-use mv_built_programs::built_programs_behave;
-use mv_first_data::{data_law, data_words, first_data};
+use mv_first_data::{data_words, first_data};
 use mv_front::Refusal;
 use mv_image::Image;
-use mv_ir::body::Body;
 use mv_isa::labelled::Labelled;
-use mv_linker::{Parts, link, linking_law};
+use mv_linker::{PartFunction, Parts, link};
 use mv_num::list::List;
-use std::alloc::Global;
+use mv_parts::{labels_fit, part_switches, parts_law, site_count};
+use std::alloc::{AllocError, Global};
 
+/// How many sites there may be.
+const SITE_LIMIT: u64 = 16_384;
 /// How many words of data there may be.
 const DATA_LIMIT: u64 = 262_144;
 
-/// The image of a program whose functions have these bodies, or the limit that it passes: that of a frame, of data, or of text, in this order.
+/// The image of a program with this code, or the limit that it passes: that of sites, of data, or of text, in this order.
 pub(crate) fn image_of(
     alloc: Global,
     program: &Program,
-    generics: &List<Body>,
+    functions: List<Labelled>,
+    attributed: List<PartFunction>,
 ) -> Result<Image, BuildError>
     requires sound { IsSound program.now }
-    requires generics { AreGenerics program.now generics.now }
-    ensures ok { IfOk result (λ image. IsImageOf program.now generics.now image) }
+    requires frames { FramesFit program.now (length program.now.functions) }
+    requires coded { IsCoded program.now (parts_of program.now functions attributed) }
+    ensures ok { IfOk result (IsLinkedTo program.now (parts_of program.now functions attributed)) }
     ensures err { IfErr result (λ e. OnRefusal e (PassesLimit program.now)) }
 {
-    data_law();
-    linking_law();
-    built_programs_behave();
-    let functions = codes_of(alloc, program, generics)?;
-    let words = data_words(program);
-    if words > DATA_LIMIT {
-        return Err(BuildError::Refused(Refusal::counted(13, 0, words)));
-    }
-    linked(alloc, program, functions)
+    parts_law();
+    let mut parts = parts_without_data(alloc, program, functions, attributed)?;
+    test_limits(program, &parts)?;
+    parts.globals = first_data(alloc, program)?;
+    linked(alloc, &parts)
 }
 
-/// The image of a program whose functions have this code.
-fn linked(alloc: Global, program: &Program, functions: List<Labelled>) -> Result<Image, BuildError>
-    requires parts { AreParts (parts_of program.now functions) }
-    requires tables { FitTables (parts_of program.now functions) }
-    requires fits { data_words program.now ≤ data_limit }
-    ensures ok { IfOk result (λ image. IsLinkedTo (parts_of program.now functions) image) }
-    ensures err { IfErr result (λ e. OnRefusal e (IsLinkRefusal (parts_of program.now functions))) }
+/// What is linked of a program with this code, but for its data.
+fn parts_without_data(
+    alloc: Global,
+    program: &Program,
+    functions: List<Labelled>,
+    attributed: List<PartFunction>,
+) -> Result<Parts, AllocError>
+    requires { HasSwitches program.now }
+    ensures { IfOk result (λ parts. parts ≡ without_data (parts_of program.now functions attributed)) }
 {
-    let parts = Parts {
+    let switches = part_switches(alloc, program)?;
+    Ok(Parts {
         functions,
         main: program.main,
-        globals: first_data(alloc, program)?,
-        switches: List::new(alloc),
-        attributed: List::new(alloc),
-    };
-    let image = link(alloc, &parts)?;
+        globals: List::new(alloc),
+        switches,
+        attributed,
+    })
+}
+
+/// Whether a program's code has few enough sites, and its data few enough words. There are numbers for all labels, or memory is wanting.
+fn test_limits(program: &Program, parts: &Parts) -> Result<(), BuildError>
+    requires frames { FramesFit program.now (length program.now.functions) }
+    requires coded { IsCoded program.now parts.now }
+    ensures ok { OnOk result (IsWithinLimits program.now parts.now) }
+    ensures err { IfErr result (λ e. OnRefusal e (PassesLimit program.now)) }
+{
+    let sites = site_count(parts);
+    if sites > SITE_LIMIT {
+        return Err(too_many(14, sites));
+    }
+    let words = data_words(program);
+    if words > DATA_LIMIT {
+        return Err(too_many(13, words));
+    }
+    if !labels_fit(parts) {
+        return Err(BuildError::Memory(AllocError));
+    }
+    Ok(())
+}
+
+/// The refusal of a count that is above the limit of its code.
+fn too_many(code: u8, count: u64) -> BuildError
+    ensures { result ≡ Refused (counted code 0 count) }
+{
+    BuildError::Refused(Refusal::counted(code, 0, count))
+}
+
+/// The image that is linked of some parts.
+fn linked(alloc: Global, parts: &Parts) -> Result<Image, BuildError>
+    requires parts { AreParts parts.now }
+    requires tables { FitTables parts.now }
+    ensures ok { IfOk result (IsLinkedOf parts.now) }
+    ensures err { IfErr result (λ e. OnRefusal e (IsLinkRefusal parts.now)) }
+{
+    let image = link(alloc, parts)?;
     are_words(image.globals().as_slice());
     Ok(image)
 }

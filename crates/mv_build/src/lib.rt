@@ -1,61 +1,61 @@
 //! The compiler: from a source to the image of its program.
 //!
-//! - `build(alloc, text)`: a source that is a program by `mv_front`'s definition, without attributed functions, commits,
-//!   reverts and polls, is answered with that program and an image. Each function's body in `generics` is what it is
-//!   lowered to with its temporaries renamed, and means what the function means at no greater cost; the image is linked
-//!   of the code of these bodies and of the first words of the globals, and its run does what the program means
-//!   (`Behaves`), on each input of bytes, whatever the fetches pick. `variants` is empty.
+//! - `build(alloc, text)`: a source that is a program by `mv_front`'s definition is answered with that program and an
+//!   image (`IsBuiltFrom`). The image is linked of the code of bodies, of the first words of the globals, and of tables
+//!   (`IsImageOf`): each function's body in `generics` is what it is lowered to with its temporaries renamed, and means
+//!   what the function means at no greater cost; `variants` has for each attributed function its variants, and from each
+//!   assignment of its switches the tables lead to the one that means what the function means under it; its code stands
+//!   in the image, with its two inline words where its body has one of the five shapes. No two variants of a function are
+//!   equal, and the sites are exactly the slots. Where no function is attributed, and none commits, reverts or polls, the
+//!   image's run does what the program means (`Behaves`), on each input of bytes, whatever the fetches pick.
 //! - Each other answer has its cause, and each cause its answer unless memory is wanting: refusals 1 to 7 are those of
-//!   `mv_front`; 16 comes exactly of programs with attributed functions, commits, reverts or polls; of the others 8 names
-//!   the first function whose frame is above 2,032 bytes and its bytes, then 13 the words of data above 262,144, then 9
-//!   the words of text above 131,072. A program that is compiled and passes none of these limits has an image.
+//!   `mv_front`; 8 names the first function whose frame is above 2,032 bytes and its bytes, then 14 the sites above
+//!   16,384, then 13 the words of data above 262,144, then 9 the words of text above 131,072. A program that passes none
+//!   of these limits has an image.
+//! - `compiled`: the same from a program.
 //! - The codes and counts of small sources are rows of `mv_top_rows`.
 #![tactic(auto)]
 
-ghost use Rattle.std.specs.Prelude.{◌↔◌, IfErr, IfOk, IsTrue};
+ghost use Rattle.std.specs.Prelude.{IfErr, IfOk};
 ghost use Rattle.mv_ast.specs.declared.program.Program.{Program};
 ghost use Rattle.mv_front.specs.declared.refusal.Refusal.{Refusal};
 ghost use Rattle.mv_front.specs.Verdicts.{IsProgram, IsRefused};
-ghost use Rattle.mv_built_programs.specs.Built.{IsUnattributed};
 ghost use Rattle.mv_build.specs.Answers as answers;
 ghost use Rattle.mv_build.specs.Compiled.{IsCompiled, IsSound, OnRefusal};
-ghost use Rattle.mv_build.specs.Frames.{IsCompilable};
 ghost use Rattle.mv_build.specs.Verdicts as spec;
 
 mod built;
+mod code;
 mod error;
-mod function;
 mod image;
 
-use crate::function::generics_of;
+use crate::code::{Coded, coded};
 use crate::image::image_of;
 pub use built::Built;
 pub use error::BuildError;
-use mv_ast::place::Place;
 use mv_ast::program::Program;
+use mv_bound_bodies::{made_bodies_are_variants, rows_lead_to_variants};
+use mv_built_programs::built_programs_behave;
+use mv_checked_facts::programs_of_texts_have_table_facts;
 use mv_checked_programs::programs_of_texts_are_well_formed;
-use mv_formed_globals::good_globals_are_formed;
-use mv_front::{Refusal, front, one_verdict};
-use mv_num::list::List;
-use mv_rebinds::never_rebinds;
+use mv_first_data::data_law;
+use mv_front::{front, one_verdict};
+use mv_lowered_names::{lowered_names_are_there, renaming_keeps_names};
+use mv_parts::parts_law;
 use std::alloc::Global;
-
-/// The place that a refusal of a whole program names.
-const START: Place = Place { line: 1, column: 1 };
 
 /// The program of a source and its image, or its one refusal.
 ///
-/// The codes are tested in this order: 1 to 7 as `front` of `mv_front` tests them; 16, with the place 1:1, for a program that has attributed
-/// functions, commits, reverts or polls, which aren't compiled yet; 8, with the function's number as detail and the bytes that it needs, for the
-/// first frame above 2,032 bytes; 13 for more than 262,144 words of data; 9 for more than 131,072 words of text, each with their number.
+/// The codes are tested in this order: 1 to 7 as `front` of `mv_front` tests them; 8, with the function's number as detail and the bytes that it needs, for
+/// the first frame above 2,032 bytes; 14 for more than 16,384 sites; 13 for more than 262,144 words of data; 9 for more than 131,072 words of text, each with
+/// their number.
 pub fn build(alloc: Global, text: &[u8]) -> Result<Built, BuildError>
     // Each answer has its cause.
     ensures built { IfOk result (λ b. spec.IsBuiltFrom text.now b) }
     ensures refused { IfErr result (λ e. answers.IsCause text.now e) }
     // And each cause has its answer, unless memory is wanting.
     ensures all_refusals { (r : Refusal) → IsRefused text.now r → answers.HasRefusal result r }
-    ensures all_not_built { (p : Program) → IsProgram text.now p → (IsCompilable p → ⊥) → answers.HasRefusal result spec.not_built_yet }
-    ensures all_accepted { (p : Program) → spec.IsAccepted text.now p → answers.HasVerdict result p }
+    ensures all_accepted { (p : Program) → IsProgram text.now p → answers.HasVerdict result p }
 {
     one_verdict();
     verdict(alloc, text)
@@ -68,44 +68,34 @@ fn verdict(alloc: Global, text: &[u8]) -> Result<Built, BuildError>
 {
     let program = front(alloc, text)?;
     programs_of_texts_are_well_formed();
-    good_globals_are_formed();
-    if !is_compilable(&program) {
-        return Err(BuildError::Refused(Refusal::at_place(16, START)));
-    }
+    programs_of_texts_have_table_facts();
     compiled(alloc, program)
 }
 
-/// A program with its image, or the limit that it passes.
-fn compiled(alloc: Global, program: Program) -> Result<Built, BuildError>
+/// A program with its image, or the limit that it passes, as `build` tests them.
+pub fn compiled(alloc: Global, program: Program) -> Result<Built, BuildError>
     requires { IsSound program }
     ensures ok { IfOk result (λ b. IsCompiled program b) }
     ensures err { IfErr result (λ e. OnRefusal e (spec.PassesLimit program)) }
 {
-    let generics = generics_of(alloc, &program)?;
-    let image = image_of(alloc, &program, &generics)?;
+    parts_law();
+    rows_lead_to_variants();
+    made_bodies_are_variants();
+    lowered_names_are_there();
+    renaming_keeps_names();
+    data_law();
+    built_programs_behave();
+    let Coded {
+        generics,
+        variants,
+        functions,
+        attributed,
+    } = coded(alloc, &program)?;
+    let image = image_of(alloc, &program, functions, attributed)?;
     Ok(Built {
         program,
         image,
         generics,
-        variants: List::new(alloc),
+        variants,
     })
-}
-
-/// Whether a program is compiled so far.
-fn is_compilable(program: &Program) -> bool
-    ensures { IsTrue result ↔ IsCompilable program.now }
-{
-    is_unattributed(program) && never_rebinds(program)
-}
-
-/// Whether no function of a program is attributed.
-fn is_unattributed(program: &Program) -> bool
-    ensures { IsTrue result ↔ IsUnattributed program.now }
-{
-    for function in program.functions.as_slice() {
-        if function.attributed {
-            return false;
-        }
-    }
-    true
 }

@@ -7,9 +7,9 @@ use Rattle.mv_io.specs.Shelves.{Files, Lacks}
 use Rattle.mv_front.specs.Verdicts.{IsProgram, IsRefused}
 use Rattle.mv_front.specs.declared.refusal.Refusal.{Refusal}
 use Rattle.mv_front.proofs.OneVerdict.{one_program, one_refusal, not_both}
-use Rattle.mv_build.specs.Frames.{IsCompilable}
-use Rattle.mv_build.specs.Verdicts as built
-use Rattle.mv_build.specs.Verdicts.{IsAccepted, HasNoImage, PassesLimit, not_built_yet}
+use Rattle.mv_source_calls.specs.Bindings.{NeverRebinds}
+use Rattle.mv_built_programs.specs.Built.{IsUnattributed}
+use Rattle.mv_build.specs.Verdicts.{PassesLimit}
 use Rattle.mv_machine.specs.declared.machine.Stopped.{Stopped}
 use Rattle.mv_machine.specs.declared.machine.Stopped.TheVariants as stop
 use Rattle.mv_refine.specs.Environment.{Environment, Writing, Took, Wrote, ReadFailed, WriteFailed}
@@ -26,7 +26,7 @@ use Rattle.mv_top.proofs.Commands.{same_file, same_task}
 use Rattle.mv_top.specs.Commands.{IsCommand, IsNoCommand}
 use Rattle.mv_top.specs.Lines.{is_silent, last_line}
 use Rattle.mv_top.specs.Outcomes as spec
-use Rattle.mv_top.specs.Outcomes.{Holds, Does, Outside, ShelfFailed, Comes, Gives, Quiet, Tells, Is, IsWithinLimits, Decides, Cut, NotesBy, Notes, IsCarriedOut, status_of_end, status_of_evaluation, status_of_stop}
+use Rattle.mv_top.specs.Outcomes.{IsRunnable, IsNotRun, not_run_yet, Holds, Does, Outside, ShelfFailed, Comes, Gives, Quiet, Tells, Is, IsWithinLimits, Decides, Cut, NotesBy, Notes, IsCarriedOut, status_of_end, status_of_evaluation, status_of_stop}
 use Rattle.mv_top.specs.declared.command.Task.{Task}
 use Rattle.mv_top.specs.declared.command.Task.TheVariants.{Run, Eval}
 use Rattle.mv_top.specs.declared.status.Status.{Status}
@@ -51,21 +51,21 @@ told_lacks (Some files) file other text e l t = let f : None ≡ Some text = sym
 
 -- ---- each status of a text
 
--- a text has no image for the one cause that it is refused for
-one_cause : (text : List ℕ) (s r : Refusal) → HasNoImage text s → IsRefused text r → s ≡ r
-one_cause text s r (built.refused t there) is = one_refusal text t r there is
-one_cause text s r (built.not_yet p good never) is = absurd (not_both text p r good is)
-one_cause text s r (built.over_limit p t accepted passes) is = absurd (not_both text p r accepted.program is)
+-- a text isn't run for the one cause that it is refused for
+one_cause : (text : List ℕ) (s r : Refusal) → IsNotRun text s → IsRefused text r → s ≡ r
+one_cause text s r (spec.refused t there) is = one_refusal text t r there is
+one_cause text s r (spec.not_yet p good rebinds) is = absurd (not_both text p r good is)
+one_cause text s r (spec.over_limit p t runnable passes) is = absurd (not_both text p r runnable.program is)
 
-not_yet_cause : (text : List ℕ) (s : Refusal) → HasNoImage text s → (p : Program) → IsProgram text p → (IsCompilable p → ⊥) → s ≡ not_built_yet
-not_yet_cause text s (built.refused t there) p is never = absurd (not_both text p t is there)
-not_yet_cause text s (built.not_yet q good never') p is never = refl
-not_yet_cause text s (built.over_limit q t accepted passes) p is never = absurd (never (subst IsCompilable (one_program text q p accepted.program is) accepted.compilable))
+not_yet_cause : (text : List ℕ) (s : Refusal) → IsNotRun text s → (p : Program) → IsProgram text p → (NeverRebinds p → ⊥) → s ≡ not_run_yet
+not_yet_cause text s (spec.refused t there) p is rebinds = absurd (not_both text p t is there)
+not_yet_cause text s (spec.not_yet q good rebinds') p is rebinds = refl
+not_yet_cause text s (spec.over_limit q t runnable passes) p is rebinds = absurd (rebinds (subst NeverRebinds (one_program text q p runnable.program is) runnable.never_rebinds))
 
-limit_cause : (text : List ℕ) (s : Refusal) → HasNoImage text s → (p : Program) → IsAccepted text p → PassesLimit p s
-limit_cause text s (built.refused t there) p is = absurd (not_both text p t is.program there)
-limit_cause text s (built.not_yet q good never) p is = absurd (never (subst IsCompilable (one_program text p q is.program good) is.compilable))
-limit_cause text s (built.over_limit q t accepted passes) p is = subst (λ z. PassesLimit z t) (one_program text q p accepted.program is.program) passes
+limit_cause : (text : List ℕ) (s : Refusal) → IsNotRun text s → (p : Program) → IsRunnable text p → PassesLimit p s
+limit_cause text s (spec.refused t there) p is = absurd (not_both text p t is.program there)
+limit_cause text s (spec.not_yet q good rebinds) p is = absurd (rebinds (subst NeverRebinds (one_program text p q is.program good) is.never_rebinds))
+limit_cause text s (spec.over_limit q t runnable passes) p is = subst (λ z. PassesLimit z t) (one_program text q p runnable.program is.program) passes
 
 -- the answer of a run that is an end has the status of that end
 status_of_answer : (e : End) (stopped : Stopped) → IsAnswer e stopped → status_of_stop stopped ≡ status_of_end e
@@ -80,17 +80,17 @@ module _ (before after : Environment) (no_input_fault : ReadFailed before after 
   text_refused : {task : Task} {status : Status} → Done task status → (r : Refusal) → IsRefused text r → Is status (Refused r)
   text_refused (spec.unread task untouched) r is = inr refl
   text_refused (spec.no_image steps s none untouched) r is = inl (ap Refused (one_cause text s r none is))
-  text_refused (spec.ran steps b x good is_one) r is = absurd (not_both text b.program r good.accepted.program is)
+  text_refused (spec.ran steps b x good is_one) r is = absurd (not_both text b.program r good.built_from.program is)
   text_refused (spec.no_program bound s there untouched) r is = inl (ap Refused (one_refusal text s r there is))
   text_refused (spec.evaluated bound p result good evaluates) r is = absurd (not_both text p r good is)
 
-  text_not_built : {task : Task} {status : Status} → Done task status → (steps : ℕ) → task ≡ Run steps → (p : Program) → IsProgram text p → (IsCompilable p → ⊥) → Is status (Refused not_built_yet)
-  text_not_built (spec.unread task untouched) steps e p is never = inr refl
-  text_not_built (spec.no_image n s none untouched) steps e p is never = inl (ap Refused (not_yet_cause text s none p is never))
-  text_not_built (spec.ran n b x good is_one) steps e p is never =
-      absurd (never (subst IsCompilable (one_program text b.program p good.accepted.program is) good.accepted.compilable))
-  text_not_built (spec.no_program bound s there untouched) steps e p is never = absurd (let f : Eval bound ≡ Run steps = e in cc)
-  text_not_built (spec.evaluated bound q result good evaluates) steps e p is never = absurd (let f : Eval bound ≡ Run steps = e in cc)
+  text_not_run : {task : Task} {status : Status} → Done task status → (steps : ℕ) → task ≡ Run steps → (p : Program) → IsProgram text p → (NeverRebinds p → ⊥) → Is status (Refused not_run_yet)
+  text_not_run (spec.unread task untouched) steps e p is rebinds = inr refl
+  text_not_run (spec.no_image n s none untouched) steps e p is rebinds = inl (ap Refused (not_yet_cause text s none p is rebinds))
+  text_not_run (spec.ran n b x good is_one) steps e p is rebinds =
+      absurd (rebinds (subst NeverRebinds (one_program text b.program p good.built_from.program is) good.never_rebinds))
+  text_not_run (spec.no_program bound s there untouched) steps e p is rebinds = absurd (let f : Eval bound ≡ Run steps = e in cc)
+  text_not_run (spec.evaluated bound q result good evaluates) steps e p is rebinds = absurd (let f : Eval bound ≡ Run steps = e in cc)
 
   -- where a run has time enough for an end, it ends so
   run_decided : (n : ℕ) (q : Program) (stopped : Stopped) → meant.Decides q n before after stopped → (bytes : List ℕ) → before.input.left ≡ Some bytes →
@@ -104,19 +104,20 @@ module _ (before after : Environment) (no_input_fault : ReadFailed before after 
       by_answer (inl is) = inl (status_of_answer (meaning q bound bytes).«end» stopped is)
       by_answer (inr memory) = inr (ap status_of_stop memory)
 
-  text_ended : {task : Task} {status : Status} → Done task status → (steps : ℕ) → task ≡ Run steps → (p : Program) → IsAccepted text p → (bytes : List ℕ) → before.input.left ≡ Some bytes →
+  text_ended : {task : Task} {status : Status} → Done task status → (steps : ℕ) → task ≡ Run steps → (p : Program) → IsRunnable text p → IsUnattributed p → (bytes : List ℕ) → before.input.left ≡ Some bytes →
       All (λ b. b < 2 ^ 8) bytes → (bound : ℕ) → IsEnough p bytes steps bound → ((meaning p bound bytes).«end» ≡ More → ⊥) →
       IsWithinLimits status (status_of_end (meaning p bound bytes).«end») p
-  text_ended (spec.unread task untouched) steps e p is bytes told are bound enough ended = inl (inr refl)
-  text_ended (spec.no_image n s none untouched) steps e p is bytes told are bound enough ended = inr (s, limit_cause text s none p is, refl)
-  text_ended (spec.ran n b x good is_one) steps e p is bytes told are bound enough ended =
+  text_ended (spec.unread task untouched) steps e p is plain bytes told are bound enough ended = inl (inr refl)
+  text_ended (spec.no_image n s none untouched) steps e p is plain bytes told are bound enough ended = inr (s, limit_cause text s none p is, refl)
+  text_ended (spec.ran n b x good is_one) steps e p is plain bytes told are bound enough ended =
       let same : n ≡ steps = let f : Run n ≡ Run steps = e in cc in
-      let one : b.program ≡ p = one_program text b.program p good.accepted.program is.program in
+      let one : b.program ≡ p = one_program text b.program p good.built_from.program is.program in
+      let behaves = good.built_from.image.behaves (subst IsUnattributed (sym one) plain) good.never_rebinds in
       let here : meant.Decides p steps before after x.stopped =
-      subst (λ k. meant.Decides p k before after x.stopped) same (subst (λ z. meant.Decides z n before after x.stopped) one (is_one.decides good.behaves)) in
+      subst (λ k. meant.Decides p k before after x.stopped) same (subst (λ z. meant.Decides z n before after x.stopped) one (is_one.decides behaves)) in
       inl (run_decided steps p x.stopped here bytes told are bound enough ended)
-  text_ended (spec.no_program k s there untouched) steps e p is bytes told are bound enough ended = absurd (let f : Eval k ≡ Run steps = e in cc)
-  text_ended (spec.evaluated k q result good evaluates) steps e p is bytes told are bound enough ended = absurd (let f : Eval k ≡ Run steps = e in cc)
+  text_ended (spec.no_program k s there untouched) steps e p is plain bytes told are bound enough ended = absurd (let f : Eval k ≡ Run steps = e in cc)
+  text_ended (spec.evaluated k q result good evaluates) steps e p is plain bytes told are bound enough ended = absurd (let f : Eval k ≡ Run steps = e in cc)
 
   input_is : (told bytes input : List ℕ) → told ≡ bytes → IsInput (Some told) input → input ≡ take most bytes
   input_is told bytes input e is = is ∙ ap (take most) e
@@ -185,16 +186,16 @@ module _ (words : List (List ℕ)) (before after : Outside) (was is : Writing) (
   refused_of unloaded r is = inr refl
   refused_of {text = text} (read status does) r is = text_refused before.environment after.environment quiet.input quiet.output text does r is
 
-  not_built_of : {file text : List ℕ} {status : Status} (steps : ℕ) → Read file text (Run steps) status → (p : Program) → IsProgram text p → (IsCompilable p → ⊥) → Is status (Refused not_built_yet)
-  not_built_of steps unloaded p is never = inr refl
-  not_built_of {text = text} steps (read status does) p is never = text_not_built before.environment after.environment quiet.input quiet.output text does steps refl p is never
+  not_run_of : {file text : List ℕ} {status : Status} (steps : ℕ) → Read file text (Run steps) status → (p : Program) → IsProgram text p → (NeverRebinds p → ⊥) → Is status (Refused not_run_yet)
+  not_run_of steps unloaded p is rebinds = inr refl
+  not_run_of {text = text} steps (read status does) p is rebinds = text_not_run before.environment after.environment quiet.input quiet.output text does steps refl p is rebinds
 
-  ended_of : {file text : List ℕ} {status : Status} (steps : ℕ) → Read file text (Run steps) status → (p : Program) → IsAccepted text p → (bytes : List ℕ) → before.environment.input.left ≡ Some bytes →
+  ended_of : {file text : List ℕ} {status : Status} (steps : ℕ) → Read file text (Run steps) status → (p : Program) → IsRunnable text p → IsUnattributed p → (bytes : List ℕ) → before.environment.input.left ≡ Some bytes →
       All (λ b. b < 2 ^ 8) bytes → (bound : ℕ) → IsEnough p bytes steps bound → ((meaning p bound bytes).«end» ≡ More → ⊥) →
       IsWithinLimits status (status_of_end (meaning p bound bytes).«end») p
-  ended_of steps unloaded p is bytes told are bound enough ended = inl (inr refl)
-  ended_of {text = text} steps (read status does) p is bytes told are bound enough ended =
-      text_ended before.environment after.environment quiet.input quiet.output text does steps refl p is bytes told are bound enough ended
+  ended_of steps unloaded p is plain bytes told are bound enough ended = inl (inr refl)
+  ended_of {text = text} steps (read status does) p is plain bytes told are bound enough ended =
+      text_ended before.environment after.environment quiet.input quiet.output text does steps refl p is plain bytes told are bound enough ended
 
   evaluated_of : {file text : List ℕ} {status : Status} (bound : ℕ) → Read file text (Eval bound) status → (p : Program) → IsProgram text p → (bytes : List ℕ) → before.environment.input.left ≡ Some bytes → Is status (status_of_end (meaning p bound (take most bytes)).«end»)
   evaluated_of bound unloaded p is bytes told = inr refl
@@ -205,8 +206,8 @@ module _ (words : List (List ℕ)) (before after : Outside) (was is : Writing) (
     usage = usage_of came;
     absent = absent_of came;
     refused = λ file text task r c tells is. refused_of (read_of came file text task c tells) r is;
-    not_built = λ file text steps p c tells is never. not_built_of steps (read_of came file text (Run steps) c tells) p is never;
-    ended = λ file text bytes steps bound p c tells is told are enough over. ended_of steps (read_of came file text (Run steps) c tells) p is bytes told are bound enough over;
+    not_run = λ file text steps p c tells is rebinds. not_run_of steps (read_of came file text (Run steps) c tells) p is rebinds;
+    ended = λ file text bytes steps bound p c tells is plain told are enough over. ended_of steps (read_of came file text (Run steps) c tells) p is plain bytes told are bound enough over;
     evaluated = λ file text bytes bound p c tells is told. evaluated_of bound (read_of came file text (Eval bound) c tells) p is bytes told;
   }
 
@@ -216,8 +217,8 @@ module _ (words : List (List ℕ)) (before after : Outside) (was is : Writing) (
     usage = λ never. inr refl;
     absent = λ file task c lacks. inr refl;
     refused = λ file text task r c tells is. inr refl;
-    not_built = λ file text steps p c tells is never. inr refl;
-    ended = λ file text bytes steps bound p c tells is told are enough over. inl (inr refl);
+    not_run = λ file text steps p c tells is rebinds. inr refl;
+    ended = λ file text bytes steps bound p c tells is plain told are enough over. inl (inr refl);
     evaluated = λ file text bytes bound p c tells is told. inr refl;
   }
   decides (spec.unwritten_line due came rose) = absurd (quiet.notes rose)

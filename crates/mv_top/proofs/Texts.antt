@@ -1,16 +1,20 @@
 -- From the parts of a command to what comes of its text.
-use Rattle.std.proofs.Common.{ℕ, ◌≡◌, List, [], sym, ap, subst, Option, Some, None}
-use Rattle.std.specs.Prelude.{Result, Vec, Ok}
+use Rattle.std.proofs.Common.{ℕ, ◌≡◌, List, [], sym, subst, Option, Some, None}
+use Rattle.std.specs.Prelude.{Result, Vec, Ok, Err, IfOk, IfErr}
 use Rattle.std.specs.declared.alloc.Global.{Global}
 use Rattle.mv_ast.specs.declared.program.Program.{Program}
-use Rattle.mv_image.specs.Spelling.{Fields}
 use Rattle.mv_io.specs.Shelves.{Files, Loads}
 use Rattle.mv_front.specs.Verdicts.{IsProgram}
 use Rattle.mv_front.specs.Verdicts as front
 use Rattle.mv_front.specs.declared.refusal.FrontError.{FrontError}
 use Rattle.mv_front.specs.declared.refusal.FrontError.TheVariants as front_error
-use Rattle.mv_build.specs.Verdicts.{IsBuiltFrom}
-use Rattle.mv_build.specs.Answers as build
+use Rattle.mv_source_calls.specs.Bindings.{NeverRebinds}
+use Rattle.mv_checked_facts.specs.Laws.{ProgramsHaveTableFacts}
+use Rattle.mv_checked_programs.specs.Checked.{ProgramsOfTextsAreWellFormed}
+use Rattle.mv_build.specs.Answers.{of_front}
+use Rattle.mv_build.specs.Compiled.{IsCompiled, IsSound, OnRefusal}
+use Rattle.mv_build.specs.Images.{IsImageOf}
+use Rattle.mv_build.specs.Verdicts.{IsBuiltFrom, PassesLimit}
 use Rattle.mv_build.specs.declared.built.Built.{Built}
 use Rattle.mv_build.specs.declared.error.BuildError.{BuildError}
 use Rattle.mv_build.specs.declared.error.BuildError.TheVariants as build_error
@@ -21,23 +25,54 @@ use Rattle.mv_meaning.specs.declared.meant.End.{End}
 use Rattle.mv_eval.specs.Evaluations.{Evaluates}
 use Rattle.mv_eval.specs.declared.error.EvalError.{EvalError}
 use Rattle.mv_top.specs.Commands.{IsCommand}
-use Rattle.mv_top.specs.Outcomes.{Holds, Does, Outside, Comes, done, unread, no_image, ran, no_program, evaluated, status_of_build, status_of_error, status_of_evaluation, status_of_stop}
+use Rattle.mv_top.specs.Outcomes.{IsRunnable, IsNotRun, IsCause, IsToRun, Holds, Does, Outside, Comes, refused, over_limit, done, unread, no_image, ran, no_program, evaluated, status_of_build, status_of_error, status_of_evaluation, status_of_stop}
 use Rattle.mv_top.specs.declared.command.Task.{Task}
 use Rattle.mv_top.specs.declared.command.Task.TheVariants.{Run, Eval}
 use Rattle.mv_top.specs.declared.status.Status.{Status}
+
+-- ---- what is built of a text to be run
+
+-- the cause of a refusal of the front end
+pub front_cause : (text : List ℕ) (e : FrontError) → front.IsCause text e → IsCause text (of_front e)
+front_cause text (front_error.Refused r) h = refused r h
+front_cause text (front_error.Memory e) h = tt
+
+module _ (text : List ℕ) (p : Program) (is : IsProgram text p) where
+  pub sound : ProgramsOfTextsAreWellFormed → ProgramsHaveTableFacts → IsSound p
+  sound formed facts = record { formed = formed text p is; facts = facts text p is }
+
+  of_compiled : NeverRebinds p → (b : Built) → IsCompiled p b → IsToRun text b
+  of_compiled never b h = record {
+    built_from = record {
+      program = subst (IsProgram text) (sym h.program) is;
+      image = subst (λ (x : Program). IsImageOf x b.generics b.variants b.image) (sym h.program) h.image;
+    };
+    never_rebinds = subst NeverRebinds (sym h.program) never;
+  }
+
+  pub to_run : NeverRebinds p → (result : Result Built BuildError) → IfOk result (λ b. IsCompiled p b) → IfOk result (λ b. IsToRun text b)
+  to_run never (Ok b) h = of_compiled never b h
+  to_run never (Err e) h = h
+
+  pub not_to_run : NeverRebinds p → (result : Result Built BuildError) → IfErr result (λ e. OnRefusal e (PassesLimit p)) → IfErr result (λ e. IsCause text e)
+  not_to_run never (Ok b) h = h
+  not_to_run never (Err (build_error.Refused r)) h = over_limit p r (record { program = is; never_rebinds = never }) h
+  not_to_run never (Err (build_error.Memory e)) h = tt
+
+-- ---- from an answer to what comes of the text
 
 module _ (before after : Environment) (text : List ℕ) where
   abbrev pub Done : Task → Status → Type 0
   Done task status = Does before after text task status
 
-  no_image_by : (steps : ℕ) (e : BuildError) → build.IsCause text e → after ≡ before → Done (Run steps) (status_of_build e)
+  no_image_by : (steps : ℕ) (e : BuildError) → IsCause text e → after ≡ before → Done (Run steps) (status_of_build e)
   no_image_by steps (build_error.Refused r) is unused = no_image steps r is unused
   no_image_by steps (build_error.Memory m) is unused = unread (Run steps) unused
 
-  pub not_built : (steps : ℕ) (status : Status) (e : BuildError) → status ≡ status_of_build e → build.IsCause text e → after ≡ before → Done (Run steps) status
+  pub not_built : (steps : ℕ) (status : Status) (e : BuildError) → status ≡ status_of_build e → IsCause text e → after ≡ before → Done (Run steps) status
   not_built steps status e same is unused = subst (λ s. Done (Run steps) s) (sym same) (no_image_by steps e is unused)
 
-  pub run_done : (steps : ℕ) (status : Status) (built : Built) (e : Execution) → status ≡ status_of_stop e.stopped → IsBuiltFrom text built →
+  pub run_done : (steps : ℕ) (status : Status) (built : Built) (e : Execution) → status ≡ status_of_stop e.stopped → IsToRun text built →
       IsExecution built [] steps before after e → Done (Run steps) status
   run_done steps status built e same is execution = subst (λ s. Done (Run steps) s) (sym same) (ran steps built e is execution)
 
@@ -51,10 +86,6 @@ module _ (before after : Environment) (text : List ℕ) where
   pub evaluation_done : (bound : ℕ) (status : Status) (p : Program) (result : Result End EvalError) → status ≡ status_of_evaluation result → IsProgram text p →
       Evaluates p bound before.input.left (Took before after) (Wrote before after) (ReadFailed before after) (WriteFailed before after) result → Done (Eval bound) status
   evaluation_done bound status p result same is evaluates = subst (λ s. Done (Eval bound) s) (sym same) (evaluated bound p result is evaluates)
-
--- the image of a text has no attributed functions
-pub no_functions : (text : List ℕ) (built : Built) → IsBuiltFrom text built → built.image.functions ≡ []
-no_functions text built is = ap (λ (i : Fields). i.functions) is.made.linked.image_is
 
 -- ---- from the parts of a command to the command
 

@@ -7,8 +7,10 @@ use Rattle.mv_front.specs.Verdicts.{IsProgram, IsRefused}
 use Rattle.mv_front.specs.declared.refusal.Refusal.{Refusal}
 use Rattle.mv_front.specs.declared.refusal.FrontError.{FrontError}
 use Rattle.mv_front.specs.declared.refusal.FrontError.TheVariants as front
-use Rattle.mv_build.specs.Frames.{IsCompilable}
-use Rattle.mv_build.specs.Verdicts.{IsAccepted, IsBuiltFrom, HasNoImage, PassesLimit, not_built_yet}
+use Rattle.mv_front.specs.Refusals.{at_place}
+use Rattle.mv_source_calls.specs.Bindings.{NeverRebinds}
+use Rattle.mv_built_programs.specs.Built.{IsUnattributed}
+use Rattle.mv_build.specs.Verdicts.{IsBuiltFrom, PassesLimit}
 use Rattle.mv_build.specs.declared.built.Built.{Built}
 use Rattle.mv_build.specs.declared.error.BuildError.{BuildError}
 use Rattle.mv_build.specs.declared.error.BuildError.TheVariants as build
@@ -37,6 +39,31 @@ Holds None file text = Unit {0}
 Holds (Some files) file text = files file ≡ Some text
 
 -- ---- a program that is run
+
+-- a source is this program, which neither commits, reverts nor polls
+pub record IsRunnable (text : List ℕ) (p : Program) : Type 0 where
+  pub program : IsProgram text p
+  pub never_rebinds : NeverRebinds p
+
+-- the refusal of programs that do, which aren't run so far
+abbrev pub not_run_yet : Refusal
+not_run_yet = at_place 16 (record { line = 1; column = 1 })
+
+-- A source isn't run for one of these causes: the front end refuses it; its program commits, reverts or polls; or that passes a limit.
+pub data IsNotRun (text : List ℕ) : Refusal → Type 0 where
+  refused : (r : Refusal) → IsRefused text r → IsNotRun text r
+  not_yet : (p : Program) → IsProgram text p → (NeverRebinds p → ⊥) → IsNotRun text not_run_yet
+  over_limit : (p : Program) (r : Refusal) → IsRunnable text p → PassesLimit p r → IsNotRun text r
+
+-- the cause of each answer that is no image to run
+abbrev pub IsCause : List ℕ → BuildError → Type 0
+IsCause text (build.Refused r) = IsNotRun text r
+IsCause text (build.Memory e) = Unit {0}
+
+-- a runnable source with the image that is built of it
+pub record IsToRun (text : List ℕ) (built : Built) : Type 0 where
+  pub built_from : IsBuiltFrom text built
+  pub never_rebinds : NeverRebinds built.program
 
 -- the status of a run that has stopped
 abbrev pub status_of_stop : Stopped → Status
@@ -75,12 +102,13 @@ status_of_error (front.Memory e) = Memory
 -- ---- a command
 
 module _ (before after : Environment) (text : List ℕ) where
-  -- What comes of the text of a command's file. For the command `run` that is one run of one image, which behaves as the program means.
+  -- What comes of the text of a command's file. For the command `run` that is one run of one image that is built of it. Where no function is attributed,
+  -- this image behaves as the program means.
   pub data Does : Task → Status → Type 0 where
     -- there was no memory to read it as a program, or to compile and load that
     unread : (task : Task) → after ≡ before → Does task Memory
-    no_image : (steps : ℕ) (r : Refusal) → HasNoImage text r → after ≡ before → Does (Run steps) (Refused r)
-    ran : (steps : ℕ) (built : Built) (e : Execution) → IsBuiltFrom text built → IsExecution built [] steps before after e →
+    no_image : (steps : ℕ) (r : Refusal) → IsNotRun text r → after ≡ before → Does (Run steps) (Refused r)
+    ran : (steps : ℕ) (built : Built) (e : Execution) → IsToRun text built → IsExecution built [] steps before after e →
         Does (Run steps) (status_of_stop e.stopped)
     no_program : (bound : ℕ) (r : Refusal) → IsRefused text r → after ≡ before → Does (Eval bound) (Refused r)
     evaluated : (bound : ℕ) (p : Program) (result : Result End EvalError) → IsProgram text p →
@@ -165,10 +193,10 @@ pub record Decides (words : List (List ℕ)) (files : Option Files) (left : Opti
   pub usage : IsNoCommand words → Is result Usage
   pub absent : (file : List ℕ) (task : Task) → IsCommand words file task → Lacks files file → Is result ShelfFault
   pub refused : (file text : List ℕ) (task : Task) (r : Refusal) → IsCommand words file task → Tells files file text → IsRefused text r → Is result (Refused r)
-  pub not_built : (file text : List ℕ) (steps : ℕ) (p : Program) → IsCommand words file (Run steps) → Tells files file text → IsProgram text p →
-      (IsCompilable p → ⊥) → Is result (Refused not_built_yet)
-  -- the run has time enough for a bound at which the meaning has ended
-  pub ended : (file text bytes : List ℕ) (steps bound : ℕ) (p : Program) → IsCommand words file (Run steps) → Tells files file text → IsAccepted text p →
+  pub not_run : (file text : List ℕ) (steps : ℕ) (p : Program) → IsCommand words file (Run steps) → Tells files file text → IsProgram text p →
+      (NeverRebinds p → ⊥) → Is result (Refused not_run_yet)
+  -- no function is attributed, and the run has time enough for a bound at which the meaning has ended
+  pub ended : (file text bytes : List ℕ) (steps bound : ℕ) (p : Program) → IsCommand words file (Run steps) → Tells files file text → IsRunnable text p → IsUnattributed p →
       left ≡ Some bytes → All (λ b. b < 2 ^ 8) bytes → IsEnough p bytes steps bound → ((meaning p bound bytes).«end» ≡ More → ⊥) →
       IsWithinLimits result (status_of_end (meaning p bound bytes).«end») p
   pub evaluated : (file text bytes : List ℕ) (bound : ℕ) (p : Program) → IsCommand words file (Eval bound) → Tells files file text → IsProgram text p →

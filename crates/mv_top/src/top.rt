@@ -1,26 +1,33 @@
 //! The top call.
 
-ghost use Rattle.std.specs.Prelude.{◌≡◌, ◌⊎◌, All, Option, map};
+ghost use Rattle.std.specs.Prelude.{◌≡◌, ◌⊎◌, All, IfErr, IfOk, Option, map};
 ghost use Rattle.std.specs.String.{string_bytes};
 ghost use Rattle.mv_io.specs.Outside.{Rose};
 ghost use Rattle.mv_probe.specs.Hearing.{hearing, IsPatient};
 ghost use Rattle.mv_probe.specs.Ways.{Way};
 ghost use Rattle.mv_refine.specs.Environment.{environment, reading, writing};
-ghost use Rattle.mv_top.specs.Outcomes.{Comes, Does, IsCarriedOut, Notes, outside, shelved, status_of_build, status_of_error, status_of_evaluation, status_of_stop};
+ghost use Rattle.mv_top.specs.Outcomes.{Comes, Does, IsCarriedOut, IsCause, IsToRun, Notes, outside, shelved, status_of_build, status_of_error, status_of_evaluation, status_of_stop};
 
 use crate::command::{Command, Task, command_of};
 use crate::status::Status;
-use mv_build::{BuildError, build};
+use mv_ast::place::Place;
+use mv_build::{BuildError, Built, compiled};
+use mv_checked_facts::programs_of_texts_have_table_facts;
+use mv_checked_programs::programs_of_texts_are_well_formed;
 use mv_eval::error::EvalError;
 use mv_eval::eval;
 use mv_eval::writing::write_all;
-use mv_front::{FrontError, front};
+use mv_front::{FrontError, Refusal, front};
 use mv_io::{Shelf, ShelfError, Sink, Source};
 use mv_machine::Stopped;
 use mv_meaning::meant::End;
 use mv_probe::{FetchOracle, Probe};
+use mv_rebinds::never_rebinds;
 use mv_refine::execute;
 use std::alloc::Global;
+
+/// The place that a refusal of a whole program names.
+const START: Place = Place { line: 1, column: 1 };
 
 // The status of a run that has stopped.
 fn status_of_stop(stopped: Stopped) -> Status
@@ -71,6 +78,20 @@ fn status_of_refusal(error: FrontError) -> Status
     }
 }
 
+// The program of a text with its image, where it is run: it neither commits, reverts nor polls.
+fn runnable(alloc: Global, text: &[u8]) -> Result<Built, BuildError>
+    ensures ok { IfOk result (λ b. IsToRun text.now b) }
+    ensures err { IfErr result (λ e. IsCause text.now e) }
+{
+    let program = front(alloc, text)?;
+    if !never_rebinds(&program) {
+        return Err(BuildError::Refused(Refusal::at_place(16, START)));
+    }
+    programs_of_texts_are_well_formed();
+    programs_of_texts_have_table_facts();
+    compiled(alloc, program)
+}
+
 // Compiles a text and runs it for at most so many instructions.
 fn run_text<I: Source, O: Sink>(
     alloc: Global,
@@ -86,7 +107,7 @@ fn run_text<I: Source, O: Sink>(
         (environment (reading (I.left input.new) (I.faults input.new)) (writing (O.written out.new) (O.faults out.new)) (way oracle.new)) text.now (Task.Run steps) result }
     ensures quiet { probes.new ≡ probes.old }
 {
-    let built = match build(alloc, text) {
+    let built = match runnable(alloc, text) {
         Ok(built) => built,
         Err(error) => return status_of_build(error),
     };

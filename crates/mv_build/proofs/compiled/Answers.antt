@@ -1,7 +1,5 @@
-use Rattle.std.proofs.lemmas.Result.{err_from_is_err_and}
+use Rattle.mv_build.proofs.Whole.{image_is}
 use Rattle.mv_build.proofs.compiled.Goals as goal
 
-pub returns-in_err-generics-clause-err : goal.returns-in_err-generics-clause-err
-returns-in_err-generics-clause-err c =
-    let p = err_from_is_err_and c.from_residual.result c.from_residual.ensures.1 in
-    rw (p.1, p.2) tt
+pub image_of-requires-clause-coded : goal.image_of-requires-clause-coded
+image_of-requires-clause-coded c = ?

@@ -1,0 +1,102 @@
+-- The limits that a program passes, by the answers of the steps.
+use Rattle.std.proofs.Common.{◌≡◌, ℕ, ◌<◌, ◌≤◌, List, [], length, refl, ap₂, subst, sym, ◌∙◌, arith}
+use Rattle.mv_ast.specs.declared.program.Program.{Program}
+use Rattle.mv_ast.specs.declared.program.Function.{Function}
+use Rattle.mv_image.specs.Spelling.{Fields}
+use Rattle.mv_isa.specs.declared.labelled.Labelled.{Labelled}
+use Rattle.mv_ir.specs.declared.body.Body.{Body}
+use Rattle.mv_front.specs.Refusals.{counted}
+use Rattle.mv_front.specs.declared.refusal.Refusal.{Refusal}
+use Rattle.mv_call_code.specs.Convention.{frame_limit}
+use Rattle.mv_select.specs.declared.error.SelectError.{SelectError}
+use Rattle.mv_select.specs.declared.error.SelectError.TheVariants as selecting
+use Rattle.mv_select.specs.Selected.{OnFrame}
+use Rattle.mv_linker.specs.declared.parts.Parts.{Parts}
+use Rattle.mv_linker.specs.declared.parts.PartFunction.{PartFunction}
+use Rattle.mv_linker.specs.declared.parts.Datum.{Datum}
+use Rattle.mv_linker.specs.declared.error.LinkError.{LinkError}
+use Rattle.mv_linker.specs.declared.error.LinkError.TheVariants as linking
+use Rattle.mv_linker.specs.Tables.{site_count}
+use Rattle.mv_linker.specs.Outcome.{data_limit, site_limit, HasFewSites, IsRefusal}
+use Rattle.mv_first_data.specs.FirstData.{first_data, data_words}
+use Rattle.mv_parts.specs.Codes.{frame_size, AreGenerics, FramesFit, HaveCode, PassesFirstFrame}
+use Rattle.mv_parts.specs.Counts.{up_to_greatest}
+use Rattle.mv_parts.specs.Laws.{DataIsCounted, PartsCanBeLinked}
+use Rattle.mv_parts.specs.Parts.{ArePartsOf}
+use Rattle.mv_build.specs.declared.error.BuildError.{BuildError}
+use Rattle.mv_build.specs.declared.error.BuildError.TheVariants.{Refused, Memory}
+use Rattle.mv_build.specs.Compiled.{IsLinkedOf, IsLinkedTo, IsLinkRefusal, IsSound, IsWithinLimits, OnRefusal, parts_of, without_data}
+use Rattle.mv_build.specs.Errors.{of_linking, of_selecting}
+use Rattle.mv_build.specs.Verdicts.{IsCoded, PassesLimit, large_frame, many_sites, much_data, long_text}
+use Rattle.mv_parts.proofs.Lists.{some_at, some_same}
+
+-- ---- frames
+
+pub frame_refused : (p : Program) (e : SelectError) → OnFrame e (PassesFirstFrame p) → OnRefusal (of_selecting e) (PassesLimit p)
+frame_refused p (selecting.Frame f bytes) h = large_frame f bytes h
+frame_refused p (selecting.Memory e) h = tt
+
+pub frames_fit : (p : Program) (bodies : List Body) (codes : List Labelled) → AreGenerics p bodies → HaveCode p bodies codes → FramesFit p (length p.functions)
+frames_fit p bodies codes generics have f g below there =
+    let body = some_at bodies f (omega (arith, generics.one_each, below)) in
+    let code = some_at codes f (omega (arith, have.one_each, below)) in
+    let h = have.each f body.0 code.0 body.1 code.1 in
+    subst (λ (x : Function). frame_size p x ≤ frame_limit) (some_same h.function g (sym h.there ∙ there)) h.frame
+
+-- ---- links
+
+-- why parts aren't linked
+pub cause_told : (parts : Parts) (cause : LinkError) → IsRefusal parts cause → OnRefusal (of_linking cause) (IsLinkRefusal parts)
+cause_told parts (linking.Sites n) h = record { cause = linking.Sites n; is = refl; why = h }
+cause_told parts (linking.DataLimit n) h = record { cause = linking.DataLimit n; is = refl; why = h }
+cause_told parts (linking.TextLimit n) h = record { cause = linking.TextLimit n; is = refl; why = h }
+cause_told parts (linking.Memory e) h = tt
+
+module _ (p : Program) (parts : Parts) (frames : FramesFit p (length p.functions)) (coded : IsCoded p parts) where
+  pub sites_past : (sites : ℕ) → sites ≡ up_to_greatest (site_count parts) → site_limit < sites → PassesLimit p (counted 14 0 sites)
+  sites_past sites is past = many_sites sites frames (record { parts = parts; coded = coded; past = omega (arith, is, past); is = is })
+
+  pub few_sites : (sites : ℕ) → sites ≡ up_to_greatest (site_count parts) → sites ≤ site_limit → HasFewSites parts
+  few_sites sites is few = omega (arith, is, few)
+
+  pub data_past : HasFewSites parts → data_limit < data_words p → PassesLimit p (counted 13 0 (data_words p))
+  data_past few past = much_data frames (record { parts = parts; coded = coded; few = few }) past
+
+  module _ (few : HasFewSites parts) (fits : data_words p ≤ data_limit) (count : length parts.globals ≡ data_words p) (are : ArePartsOf p coded.bodies coded.tables parts) where
+    link_refused : (r : Refusal) (cause : LinkError) → Refused r ≡ of_linking cause → IsRefusal parts cause → PassesLimit p r
+    link_refused r (linking.Sites n) e h = absurd (omega (arith, h.0, h.1, few))
+    link_refused r (linking.DataLimit n) e h = absurd (omega (arith, h.1, h.2, count, fits))
+    link_refused r (linking.TextLimit n) e h =
+        let same : counted 9 0 n ≡ r = cc e in
+        subst (PassesLimit p) same
+        (long_text n frames fits (record { bodies = coded.bodies; tables = coded.tables; parts = parts; are_parts = are; few = few; past = h.2 }))
+    link_refused r (linking.Memory m) e h = absurd (cc e)
+
+    pub refusal_is : (e : BuildError) → OnRefusal e (IsLinkRefusal parts) → OnRefusal e (PassesLimit p)
+    refusal_is (Refused r) h = link_refused r h.cause h.is h.why
+    refusal_is (Memory e) h = tt
+
+-- ---- parts with their data
+
+module _ (p : Program) (functions : List Labelled) (attributed : List PartFunction) where
+  pub with_data : (parts : Parts) (data : List Datum) → parts ≡ without_data (parts_of p functions attributed) → data ≡ first_data p →
+      record parts { globals = data } ≡ parts_of p functions attributed
+  with_data parts data is all = ap₂ (λ (x : Parts) (ds : List Datum). record x { globals = ds }) is all
+
+  pub coded_without : (parts : Parts) → parts ≡ without_data (parts_of p functions attributed) → IsCoded p (parts_of p functions attributed) → IsCoded p parts
+  coded_without parts is h = subst (IsCoded p) (sym is) (record { bodies = h.bodies; tables = h.tables; codes = h.codes })
+
+  pub within : (parts : Parts) → parts ≡ without_data (parts_of p functions attributed) → IsWithinLimits p parts → IsWithinLimits p (parts_of p functions attributed)
+  within parts is h =
+      let own = subst (IsWithinLimits p) is h in record { sites = own.sites; data_fits = own.data_fits; labels = own.labels }
+
+  module _ (can_be_linked : PartsCanBeLinked) (counts : DataIsCounted) (sound : IsSound p) (coded : IsCoded p (parts_of p functions attributed))
+      (fit : IsWithinLimits p (parts_of p functions attributed)) where
+    pub linkable : ArePartsOf p coded.bodies coded.tables (parts_of p functions attributed)
+    linkable = can_be_linked p sound.formed sound.facts coded.bodies coded.tables (parts_of p functions attributed) coded.codes refl refl refl fit.labels
+
+    pub linked_to : (image : Fields) → IsLinkedOf (parts_of p functions attributed) image → IsLinkedTo p (parts_of p functions attributed) image
+    linked_to image of = record { data_fits = fit.data_fits; labels = fit.labels; of = of }
+
+    pub not_linked : FramesFit p (length p.functions) → (e : BuildError) → OnRefusal e (IsLinkRefusal (parts_of p functions attributed)) → OnRefusal e (PassesLimit p)
+    not_linked frames = refusal_is p (parts_of p functions attributed) frames coded fit.sites fit.data_fits (counts p sound.formed) linkable

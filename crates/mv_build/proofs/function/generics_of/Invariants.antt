@@ -1,6 +1,0 @@
-use Rattle.std.proofs.Common.{◌≡◌, length}
-use Rattle.mv_build.proofs.Functions.{EachRenamed}
-use Rattle.mv_build.proofs.function.generics_of.Given as goal
-
-abbrev pub invariant-loop-body : goal.invariant-loop-body
-invariant-loop-body l = record { one_each : length l.generics ≡ l.body-index; each : EachRenamed l.program l.generics }
