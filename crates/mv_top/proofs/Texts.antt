@@ -15,7 +15,6 @@ use Rattle.mv_build.specs.Answers.{of_front}
 use Rattle.mv_build.specs.Compiled.{IsCompiled, IsSound, OnRefusal}
 use Rattle.mv_build.specs.Images.{IsImageOf}
 use Rattle.mv_build.specs.Verdicts.{IsBuiltFrom, PassesLimit}
-use Rattle.mv_build.proofs.Running.{none_in_tables}
 use Rattle.mv_build.specs.declared.built.Built.{Built}
 use Rattle.mv_build.specs.declared.error.BuildError.{BuildError}
 use Rattle.mv_build.specs.declared.error.BuildError.TheVariants as build_error
@@ -26,7 +25,7 @@ use Rattle.mv_meaning.specs.declared.meant.End.{End}
 use Rattle.mv_eval.specs.Evaluations.{Evaluates}
 use Rattle.mv_eval.specs.declared.error.EvalError.{EvalError}
 use Rattle.mv_top.specs.Commands.{IsCommand}
-use Rattle.mv_top.specs.Outcomes.{IsPlain, IsPlainText, IsRunnable, IsNotRun, IsCause, IsToRun, Holds, Does, Outside, Comes, refused, over_limit, done, unread, no_image, ran, no_program, evaluated, status_of_build, status_of_error, status_of_evaluation, status_of_stop}
+use Rattle.mv_top.specs.Outcomes.{IsRunnable, IsNotRun, IsCause, IsToRun, Holds, Does, Outside, Comes, refused, over_limit, done, unread, no_image, ran, no_program, evaluated, status_of_build, status_of_error, status_of_evaluation, status_of_stop}
 use Rattle.mv_top.specs.declared.command.Task.{Task}
 use Rattle.mv_top.specs.declared.command.Task.TheVariants.{Run, Eval}
 use Rattle.mv_top.specs.declared.status.Status.{Status}
@@ -88,12 +87,6 @@ module _ (before after : Environment) (text : List ℕ) where
       Evaluates p bound before.input.left (Took before after) (Wrote before after) (ReadFailed before after) (WriteFailed before after) result → Done (Eval bound) status
   evaluation_done bound status p result same is evaluates = subst (λ s. Done (Eval bound) s) (sym same) (evaluated bound p result is evaluates)
 
--- the image of a text without attributed functions has none in its tables
-pub no_functions : (text : List ℕ) (built : Built) → IsToRun text built → IsPlainText text → built.image.functions ≡ []
-no_functions text built is plain =
-    let image = is.built_from.image in
-    none_in_tables built.program built.generics built.variants image.parts image.are_parts built.image image.linked (plain built.program is.built_from.program)
-
 -- ---- from the parts of a command to the command
 
 holds_loaded : (told : Option Files) (name : List ℕ) (bytes : Vec ℕ Global) → Loads told name (Ok bytes) → Holds told name bytes.items
@@ -108,9 +101,3 @@ loaded words before after file task what status command same bytes loads text is
     done file bytes.items task status command (holds_loaded before.shelf.files file bytes loads)
     (subst (λ t. Does before.environment after.environment bytes.items t status) (sym same)
     (subst (λ z. Does before.environment after.environment z what status) is does))
-
--- so where the command's file has no program with attributed functions, the text that was loaded has none
-pub plain_text : (words : List (List ℕ)) (told : Option Files) → IsPlain words told → (file : List ℕ) (task : Task) → IsCommand words file task →
-    (bytes : Vec ℕ Global) → Loads told file (Ok bytes) → (text : List ℕ) → text ≡ bytes.items → IsPlainText text
-plain_text words told plain file task command bytes loads text is =
-    subst IsPlainText (sym is) (plain file bytes.items task command (holds_loaded told file bytes loads))

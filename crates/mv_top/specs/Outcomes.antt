@@ -45,14 +45,6 @@ pub record IsRunnable (text : List ℕ) (p : Program) : Type 0 where
   pub program : IsProgram text p
   pub never_rebinds : NeverRebinds p
 
--- no function of its program is attributed
-abbrev pub IsPlainText : List ℕ → Type 0
-IsPlainText text = (p : Program) → IsProgram text p → IsUnattributed p
-
--- nor of any that the file of a command may hold
-abbrev pub IsPlain : (words : List (List ℕ)) → Option Files → Type 0
-IsPlain words files = (file text : List ℕ) (task : Task) → IsCommand words file task → Holds files file text → IsPlainText text
-
 -- the refusal of programs that do, which aren't run so far
 abbrev pub not_run_yet : Refusal
 not_run_yet = at_place 16 (record { line = 1; column = 1 })

@@ -6,7 +6,7 @@ ghost use Rattle.mv_io.specs.Outside.{Rose};
 ghost use Rattle.mv_probe.specs.Hearing.{hearing, IsPatient};
 ghost use Rattle.mv_probe.specs.Ways.{Way};
 ghost use Rattle.mv_refine.specs.Environment.{environment, reading, writing};
-ghost use Rattle.mv_top.specs.Outcomes.{Comes, Does, IsCarriedOut, IsCause, IsPlain, IsPlainText, IsToRun, Notes, outside, shelved, status_of_build, status_of_error, status_of_evaluation, status_of_stop};
+ghost use Rattle.mv_top.specs.Outcomes.{Comes, Does, IsCarriedOut, IsCause, IsToRun, Notes, outside, shelved, status_of_build, status_of_error, status_of_evaluation, status_of_stop};
 
 use crate::command::{Command, Task, command_of};
 use crate::status::Status;
@@ -92,7 +92,7 @@ fn runnable(alloc: Global, text: &[u8]) -> Result<Built, BuildError>
     compiled(alloc, program)
 }
 
-// Compiles a text and runs it for at most so many instructions.
+// Compiles a text and runs it for at most so many instructions. Its program doesn't commit, so there are no probes to tell.
 fn run_text<I: Source, O: Sink>(
     alloc: Global,
     text: &[u8],
@@ -100,18 +100,24 @@ fn run_text<I: Source, O: Sink>(
     input: &mut I,
     out: &mut O,
     oracle: &mut Box<dyn FetchOracle>,
-    probes: &mut Vec<Box<dyn Probe>>,
 ) -> Status
-    requires { All (λ probe. IsPatient (hearing (told probe) (patience probe))) probes.old.items }
     ensures does { Does (environment (reading (I.left input.old) (I.faults input.old)) (writing (O.written out.old) (O.faults out.old)) (way oracle.old))
         (environment (reading (I.left input.new) (I.faults input.new)) (writing (O.written out.new) (O.faults out.new)) (way oracle.new)) text.now (Task.Run steps) result }
-    ensures quiet { IsPlainText text.now → probes.new ≡ probes.old }
 {
     let built = match runnable(alloc, text) {
         Ok(built) => built,
         Err(error) => return status_of_build(error),
     };
-    match execute(alloc, &built, steps, input, out, oracle, probes, &[]) {
+    match execute(
+        alloc,
+        &built,
+        steps,
+        input,
+        out,
+        oracle,
+        &mut Vec::new(alloc),
+        &[],
+    ) {
         Ok(execution) => status_of_stop(execution.stopped),
         Err(_) => Status::Memory,
     }
@@ -142,14 +148,11 @@ fn perform<H: Shelf, I: Source, O: Sink>(
     input: &mut I,
     out: &mut O,
     oracle: &mut Box<dyn FetchOracle>,
-    probes: &mut Vec<Box<dyn Probe>>,
 ) -> Status
-    requires { All (λ probe. IsPatient (hearing (told probe) (patience probe))) probes.old.items }
     ensures comes { Comes (map string_bytes words.now)
         (outside (shelved (H.files shelf.old) (H.faults shelf.old)) (environment (reading (I.left input.old) (I.faults input.old)) (writing (O.written out.old) (O.faults out.old)) (way oracle.old)))
         (outside (shelved (H.files shelf.new) (H.faults shelf.new)) (environment (reading (I.left input.new) (I.faults input.new)) (writing (O.written out.new) (O.faults out.new)) (way oracle.new))) result }
     ensures files { H.files shelf.new ≡ H.files shelf.old }
-    ensures quiet { IsPlain (map string_bytes words.now) (H.files shelf.old) → probes.new ≡ probes.old }
 {
     let Some(Command { file, task }) = command_of(words) else {
         return Status::Usage;
@@ -160,7 +163,7 @@ fn perform<H: Shelf, I: Source, O: Sink>(
         Err(ShelfError::Memory(_)) => return Status::Memory,
     };
     match task {
-        Task::Run(steps) => run_text(alloc, text.as_slice(), steps, input, out, oracle, probes),
+        Task::Run(steps) => run_text(alloc, text.as_slice(), steps, input, out, oracle),
         Task::Eval(bound) => eval_text(alloc, text.as_slice(), bound, input, out),
     }
 }
@@ -184,7 +187,7 @@ fn report<N: Sink>(alloc: Global, status: Status, notes: &mut N) -> Status
 
 /// Carries out the command that the words are: the words after the program's name. The output goes to `out`, and the last line to `notes`.
 /// Where memory was refused or a write failed, there is no last line: `notes` is as it was, or has a part of the last line of a status whose
-/// cause stands. `run` fetches by the oracle. Where no function is attributed no probe is told anything.
+/// cause stands. `run` fetches by the oracle. The programs that it runs don't commit, so no probe is told anything.
 pub fn multiverse<H: Shelf, I: Source, O: Sink, N: Sink>(
     alloc: Global,
     words: &[String],
@@ -200,8 +203,8 @@ pub fn multiverse<H: Shelf, I: Source, O: Sink, N: Sink>(
         (outside (shelved (H.files shelf.old) (H.faults shelf.old)) (environment (reading (I.left input.old) (I.faults input.old)) (writing (O.written out.old) (O.faults out.old)) (way oracle.old)))
         (outside (shelved (H.files shelf.new) (H.faults shelf.new)) (environment (reading (I.left input.new) (I.faults input.new)) (writing (O.written out.new) (O.faults out.new)) (way oracle.new)))
         (writing (N.written notes.old) (N.faults notes.old)) (writing (N.written notes.new) (N.faults notes.new)) result }
-    ensures quiet { IsPlain (map string_bytes words.now) (H.files shelf.old) → probes.new ≡ probes.old }
+    ensures quiet { probes.new ≡ probes.old }
 {
-    let status = perform(alloc, words, shelf, input, out, oracle, probes);
+    let status = perform(alloc, words, shelf, input, out, oracle);
     report(alloc, status, notes)
 }

@@ -2,7 +2,7 @@ use Rattle.std.proofs.Common.{ap, ◌∙◌, refl}
 use Rattle.std.specs.Prelude.{Err}
 use Rattle.mv_top.specs.Outcomes.{no_file, unloaded, usage}
 use Rattle.mv_top.specs.declared.command.Task.TheVariants.{Run, Eval}
-use Rattle.mv_top.proofs.Texts.{loaded, plain_text}
+use Rattle.mv_top.proofs.Texts.{loaded}
 use Rattle.mv_top.proofs.top.perform.Goals as goal
 
 pub returns-in_default-clause-comes : goal.returns-in_default-clause-comes
@@ -20,11 +20,6 @@ pub returns-in-Run-clause-comes : goal.returns-in-Run-clause-comes
 returns-in-Run-clause-comes g c =
     loaded _ _ _ c.in-Some.field-0.file.now c.in-Some.field-0.task (Run c.in-Run.steps) c.run_text.result c.in-Some.ensures c.in-Run.is c.in-Ok.text
     c.in-Ok.ensures.bytes c.as_slice.result.now c.as_slice.ensures.value c.run_text.ensures.does
-
-pub returns-in-Run-clause-quiet : goal.returns-in-Run-clause-quiet
-returns-in-Run-clause-quiet g c = λ plain.
-    c.run_text.ensures.quiet
-    (plain_text _ _ plain c.in-Some.field-0.file.now c.in-Some.field-0.task c.in-Some.ensures c.in-Ok.text c.in-Ok.ensures.bytes c.as_slice.result.now c.as_slice.ensures.value)
 
 pub returns-clause-comes : goal.returns-clause-comes
 returns-clause-comes g c =
