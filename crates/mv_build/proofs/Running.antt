@@ -15,20 +15,15 @@ use Rattle.mv_ir.specs.declared.body.Body.{Body}
 use Rattle.mv_numbering.specs.Typing.{IsFirstValue}
 use Rattle.mv_source_calls.specs.Bindings.{NeverRebinds}
 use Rattle.mv_lowering.specs.Functions.{lower_function}
-use Rattle.mv_lowered_programs.specs.WellFormed.{IsWellFormed}
 use Rattle.mv_lowered_names.specs.Laws.{FunctionsAreThere, OnlyInputAndOutput, NamesTheSame, RenamingKeepsNames}
 use Rattle.mv_regalloc.specs.Intervals.{IsRenamed}
 use Rattle.mv_call_code.specs.Environment.{IsDirect}
-use Rattle.mv_flow_code.specs.Labels.{functions}
-use Rattle.mv_selected_bodies.specs.SelectedBodies.{HasWords, knowns}
+use Rattle.mv_selected_bodies.specs.SelectedBodies.{HasWords}
 use Rattle.mv_image.specs.Spelling.{Fields}
 use Rattle.mv_image_runs.specs.Behaves.{BehavesAlways}
-use Rattle.mv_source_facts.specs.Facts.{HasTableFacts}
 use Rattle.mv_linker.specs.declared.parts.Parts.{Parts}
 use Rattle.mv_linker.specs.declared.parts.PartFunction.{PartFunction}
-use Rattle.mv_linker.specs.declared.parts.Datum.{Datum}
 use Rattle.mv_linker.specs.Outcome.{datum_word}
-use Rattle.mv_first_data.specs.FirstData.{first_data}
 use Rattle.mv_first_data.specs.Laws.{IsFirstValueAmong, HasFirstValues, WordsAreFirst}
 use Rattle.mv_built_programs.specs.Built.{AreFirstWords, HasWordsOfGlobals, IsBuilt, IsCompiled, IsCompiledTo, IsUnattributed}
 use Rattle.mv_built_programs.specs.Laws.{BuiltProgramsBehave}
