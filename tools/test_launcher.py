@@ -106,9 +106,15 @@ class Launcher(unittest.TestCase):
             out, notes = run.communicate()
         return run.returncode, out.decode(), notes.decode()
 
+    def terminal(self):
+        try:
+            return pty.openpty()
+        except OSError as error:
+            return self.skipTest(f"there are no terminals here ({error})")
+
     def run_at_terminal(self, *words):
         """Returns what a run whose notes go to a terminal has there."""
-        ours, its = pty.openpty()
+        ours, its = self.terminal()
         with self.start(*words, stderr=its) as run:
             run.stdout.read()
         os.close(its)
@@ -210,9 +216,18 @@ class Launcher(unittest.TestCase):
             os.remove(os.path.join(self.scratch, "waiting"))
             shutil.rmtree(os.path.join(self.top, "out"))
 
-    def interrupted(self, number, is_due):
+    def test_signal_at_a_terminal_ends_the_program(self):
+        self.run_it("--build")
+        self.write("waits", "")
+        ours, its = self.terminal()
+        self.interrupted(signal.SIGTERM, lambda: os.path.exists(os.path.join(self.scratch, "waiting")), stderr=its)
+        os.close(its)
+        os.close(ours)
+        self.assertRaises(ProcessLookupError, os.kill, int(self.read("waiting")), 0)
+
+    def interrupted(self, number, is_due, **how):
         """Sends a signal to a run once it is due, and sees that the run ends and leaves no file."""
-        with self.start("run", "a.c") as run:
+        with self.start("run", "a.c", **how) as run:
             for _ in range(200):
                 if is_due():
                     break
