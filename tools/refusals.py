@@ -32,9 +32,10 @@ def explained(last_line):
     known = all_refusals()
     if name not in known:
         return None
-    cause = ", at most ".join(known[name][key] for key in ("cause", "greatest") if key in known[name])
-    place = (int(line), int(column)) if line else None
-    return place, f"{name}: {cause}" if kind else cause, known[name]["do"]
+    found = known[name]
+    is_placed = line and "LINE:COLUMN" in found.get("line", "LINE:COLUMN")
+    cause = ", at most ".join(found[key] for key in ("cause", "greatest") if key in found)
+    return (int(line), int(column)) if is_placed else None, f"{name}: {cause}" if kind else cause, found["do"]
 
 
 def place_in(example):
