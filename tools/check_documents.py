@@ -4,8 +4,8 @@
   check_documents.py     prints what differs, and ends with 1 where something does
 
 Looked up are: in README.md and docs/*.md each row of a table of commands, with its output and its last line, and each command of a block
-`console`; the examples of docs/refusals.ini; and each `examples/NAME.out`, which is the output of what has the input NAME.in, or of NAME.c. A program in a
-block `c` is a file of `examples/`. The tables of docs/refusals.md are those of docs/refusals.ini.
+`console`; the examples of docs/refusals.ini; and each `examples/NAME.out`, which is the output of what has the input NAME.in, or of NAME.c. A program
+in a block `c` is a file of `examples/`. The tables of docs/refusals.md are those of docs/refusals.ini.
 """
 import glob
 import os
@@ -101,10 +101,8 @@ def wrong_refusals(known):
     for name, section in refusals.all_refusals().items():
         if "example" in section:
             before, after = AROUND[section.get("in", "source")]
-            whole = before + section["example"].replace("M ", f"{ATTRIBUTE} ") + after
-            place, source = refusals.place_in(whole)
-            answer = section.get("answer", f"refused 6 {name}")
-            answer = refusals.with_place(answer, place)
+            place, source = refusals.place_in(before + re.sub(r"\bM\b", ATTRIBUTE, section["example"]) + after)
+            answer = refusals.with_place(section.get("answer", f"refused 6 {name}"), place)
             if known.get(("run a.c", source)) != f"{answer}\n":
                 yield f"{name}: `{source}` gives {known.get(('run a.c', source))!r}, not {answer!r}"
     text = text_of(TOP, "docs", "refusals.md")
