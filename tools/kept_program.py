@@ -67,6 +67,7 @@ def keep(program, kind, known_sum):
     copied = os.path.join(PLACE, f"copy-{os.getpid()}")
     try:
         shutil.copy(program, copied)
+        os.chmod(copied, 0o755)
         os.replace(copied, kept)
     finally:
         if os.path.exists(copied):
