@@ -29,6 +29,7 @@ ci)
     [ ! -e "$SCRATCH/fault" ] || { echo '3 passed, 1 failed'; exit 1; }
     echo '4 passed, 0 failed' ;;
 try)
+    echo "$$" > "$SCRATCH/trying"
     [ ! -e "$SCRATCH/fault" ] || { cat "$SCRATCH/fault" >&2; echo 'run=none proved=no' >&2; exit 1; }
     folder=$(mktemp -d)
     trap 'kill "$child" 2> /dev/null; rm -rf "$folder"; exit 143' TERM INT HUP
@@ -203,30 +204,34 @@ class Launcher(unittest.TestCase):
             out = run.communicate(b"late\n")[0]
         self.assertEqual((run.returncode, out), (0, b"[run]\nlate\n"))
 
+    def process(self, name):
+        """Returns the process that has written its number, or None."""
+        return int((os.path.exists(os.path.join(self.scratch, name)) and self.read(name)) or 0) or None
+
     def test_signals_leave_nothing(self):
         for number in (signal.SIGINT, signal.SIGTERM, signal.SIGHUP):
             self.write("slow", "")
-            self.interrupted(number, lambda: self.tries() > 0 and os.listdir(self.room))
+            self.interrupted(number, lambda: self.process("trying"))
             os.remove(os.path.join(self.scratch, "slow"))
             self.write("calls", "")
             self.run_it("--build")
             self.write("waits", "")
-            self.interrupted(number, lambda: os.path.exists(os.path.join(self.scratch, "waiting")))
+            self.interrupted(number, lambda: self.process("waiting"))
             os.remove(os.path.join(self.scratch, "waits"))
             os.remove(os.path.join(self.scratch, "waiting"))
+            os.remove(os.path.join(self.scratch, "trying"))
             shutil.rmtree(os.path.join(self.top, "out"))
 
     def test_signal_at_a_terminal_ends_the_program(self):
         self.run_it("--build")
         self.write("waits", "")
         ours, its = self.terminal()
-        self.interrupted(signal.SIGTERM, lambda: os.path.exists(os.path.join(self.scratch, "waiting")), stderr=its)
+        self.interrupted(signal.SIGTERM, lambda: self.process("waiting"), stderr=its)
         os.close(its)
         os.close(ours)
-        self.assertRaises(ProcessLookupError, os.kill, int(self.read("waiting")), 0)
 
     def interrupted(self, number, is_due, **how):
-        """Sends a signal to a run once it is due, and sees that the run ends and leaves no file."""
+        """Sends a signal to a run once it is due, and sees that the run ends and leaves no file and no process."""
         with self.start("run", "a.c", **how) as run:
             for _ in range(200):
                 if is_due():
@@ -236,6 +241,9 @@ class Launcher(unittest.TestCase):
             run.communicate()
         self.assertIn(run.returncode, (-number, 128 + number))
         self.assertEqual(os.listdir(self.room), [])
+        for name in ("trying", "waiting"):
+            if self.process(name):
+                self.assertRaises(ProcessLookupError, os.kill, self.process(name), 0)
 
     def test_gate_keeps_the_proved_program(self):
         gate = self.gate()
