@@ -16,7 +16,7 @@ WORD = re.compile(r"[A-Za-z_][A-Za-z0-9_]*")
 QUOTED = re.compile(r"`([^`]+)`")
 PATH = re.compile(r"^[\w.]+(/[\w.*]+)+/?$")
 # Words of C, of the commands and of shells, which stand in no source of ours.
-OUTSIDE = {"rt", "ci", "gcc", "clang", "as", "objdump", "llvm"}
+OUTSIDE = {"EOF", "rt", "ci", "gcc", "clang", "as", "objdump", "llvm"}
 # Commands that README says are still to come.
 COMING = {"build", "exec", "list", "gen"}
 

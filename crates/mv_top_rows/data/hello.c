@@ -1,5 +1,7 @@
+/* Writes a word, and ends with the status 3. */
 int main(void) {
-    putchar(72);
-    putchar(105);
+    putchar('H');
+    putchar('i');
+    putchar('\n');
     return 3;
 }

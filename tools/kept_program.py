@@ -1,0 +1,91 @@
+#!/usr/bin/env python3
+"""The programs that are kept, and the sum by which they are known.
+
+  kept_program.py sum                 prints the sum of the sources and the toolchain as they stand
+  kept_program.py keep SUM PROGRAM    keeps a program as the proved one of SUM, if that is the sum still
+
+A kept program is a file of `out/` at the top, named by its kind and its sum. So it is found exactly for the sources and the
+toolchain that it was made of, whatever the times of the files say.
+"""
+import hashlib
+import os
+import shutil
+import subprocess
+import sys
+
+TOP = os.path.dirname(os.path.dirname(os.path.realpath(__file__)))
+PLACE = os.path.join(TOP, "out")
+KINDS = ("proved", "unproved")
+
+
+class NoToolchain(Exception):
+    """The toolchain's `rt` can't be run."""
+
+
+def sources():
+    """Returns the paths from the top of all files that a program is made of, in order."""
+    found = [name for name in ("crates.txt", "HANDLES") if os.path.isfile(os.path.join(TOP, name))]
+    for crate in os.listdir(os.path.join(TOP, "crates")):
+        for part in ("src", "specs", "proofs"):
+            for at, _, names in os.walk(os.path.join(TOP, "crates", crate, part)):
+                found += (os.path.relpath(os.path.join(at, name), TOP) for name in names)
+    return sorted(found)
+
+
+def sum_of_sources():
+    """Returns the sum of the toolchain's version and of the names and texts of all sources."""
+    try:
+        toolchain = subprocess.Popen(["rt", "version"], stdout=subprocess.PIPE)
+    except OSError as error:
+        raise NoToolchain(error.strerror) from error
+    whole = hashlib.sha256()
+    for name in sources():
+        with open(os.path.join(TOP, name), "rb") as it:
+            text = it.read()
+        whole.update(f"{name}\n{len(text)}\n".encode() + text)
+    version = toolchain.communicate()[0]
+    if toolchain.returncode != 0:
+        raise NoToolchain(f"rt version ends with {toolchain.returncode}")
+    whole.update(version)
+    return whole.hexdigest()
+
+
+def place_of(kind, known_sum):
+    """Returns where the program of a kind and a sum is kept."""
+    return os.path.join(PLACE, f"multiverse-{kind}-{known_sum}")
+
+
+def find(known_sum):
+    """Returns the kind of the best program that is kept for a sum, or None."""
+    return next((kind for kind in KINDS if os.access(place_of(kind, known_sum), os.X_OK)), None)
+
+
+def keep(program, kind, known_sum):
+    """Keeps a program in the place of all others of its kind."""
+    os.makedirs(PLACE, exist_ok=True)
+    kept = place_of(kind, known_sum)
+    copied = os.path.join(PLACE, f"copy-{os.getpid()}")
+    try:
+        shutil.copy(program, copied)
+        os.chmod(copied, 0o755)
+        os.replace(copied, kept)
+    finally:
+        if os.path.exists(copied):
+            os.remove(copied)
+    for name in os.listdir(PLACE):
+        if name.startswith(f"multiverse-{kind}-") and name != os.path.basename(kept):
+            os.remove(os.path.join(PLACE, name))
+
+
+def main(words):
+    if words == ["sum"]:
+        print(sum_of_sources())
+    elif len(words) == 3 and words[0] == "keep":
+        if sum_of_sources() == words[1]:
+            keep(words[2], "proved", words[1])
+    else:
+        sys.exit(__doc__)
+
+
+if __name__ == "__main__":
+    main(sys.argv[1:])

@@ -1,0 +1,319 @@
+#!/usr/bin/env python3
+"""Tests ./multiverse, and what .ci/run keeps for it, with a stand-in toolchain and a stand-in program: test_launcher.py [LAUNCHER]
+
+LAUNCHER is tried in the place of ./multiverse.
+"""
+import os
+import pty
+import shutil
+import signal
+import subprocess
+import sys
+import tempfile
+import time
+import unittest
+
+TOP = os.path.dirname(os.path.dirname(os.path.realpath(__file__)))
+LAUNCHER = os.path.abspath(sys.argv.pop()) if len(sys.argv) == 2 else os.path.join(TOP, "multiverse")
+NO_PROGRAM = 125
+
+# `rt try` makes the program and runs it, within its own limits on what is read and written; `rt ci` makes it as a gate does.
+TOOLCHAIN = r"""#!/bin/sh
+echo "$*" >> "$SCRATCH/calls"
+case $1 in
+version) cat "$SCRATCH/version" ;;
+ci)
+    mkdir -p crates/mv_cli/out
+    cp "$SCRATCH/program" crates/mv_cli/out/mv_cli
+    [ ! -e "$SCRATCH/edit" ] || echo edited >> crates/mv_cli/src/main.rt
+    [ ! -e "$SCRATCH/fault" ] || { echo '3 passed, 1 failed'; exit 1; }
+    echo '4 passed, 0 failed' ;;
+try)
+    echo "$$" > "$SCRATCH/trying"
+    [ ! -e "$SCRATCH/fault" ] || { cat "$SCRATCH/fault" >&2; echo 'run=none proved=no' >&2; exit 1; }
+    folder=$(mktemp -d)
+    trap 'kill "$child" 2> /dev/null; rm -rf "$folder"; exit 143' TERM INT HUP
+    [ ! -e "$SCRATCH/slow" ] || { sleep 30 & child=$!; wait "$child"; }
+    cp "$SCRATCH/program" "$folder/program"
+    while [ "$1" != -- ]; do case $1 in guest.c=*) cp "${1#*=}" "$folder/guest.c" ;; esac; shift; done
+    shift
+    timeout 2 cat > "$folder/stdin"
+    (cd "$folder" && exec ./program "$@") < "$folder/stdin" > "$folder/stdout" & child=$!
+    wait "$child"
+    status=$?
+    head -c 1048576 "$folder/stdout"
+    rm -rf "$folder"
+    exit "$status" ;;
+esac
+"""
+
+# Writes its words and its input; its notes and its status are those of the test.
+PROGRAM = r"""#!/bin/sh
+[ ! -f guest.c ] || { printf .; exec sleep 60; }
+for word; do printf '[%s]\n' "$word"; done
+[ ! -e "$SCRATCH/long" ] || head -c 2000000 /dev/zero
+[ ! -e "$SCRATCH/waits" ] || { echo "$$" > "$SCRATCH/waiting"; exec sleep 60; }
+cat
+cat "$SCRATCH/notes" >&2
+exit "$(cat "$SCRATCH/status")"
+"""
+
+
+class Launcher(unittest.TestCase):
+    def setUp(self):
+        self.scratch = os.path.realpath(tempfile.mkdtemp(prefix="test-launcher-"))
+        self.addCleanup(shutil.rmtree, self.scratch)
+        self.top = os.path.join(self.scratch, "top")
+        self.room = os.path.join(self.scratch, "tmp")
+        for folder in ("bin", "bare", "tmp", "top/tools", "top/docs", "top/.ci", "top/crates/mv_cli/src"):
+            os.makedirs(os.path.join(self.scratch, folder))
+        for name in ("kept_program.py", "explanations.py", "refusals.py"):
+            shutil.copy(os.path.join(TOP, "tools", name), os.path.join(self.top, "tools"))
+        shutil.copy(os.path.join(TOP, "docs", "refusals.ini"), os.path.join(self.top, "docs"))
+        shutil.copy(os.path.join(TOP, ".ci", "run"), os.path.join(self.top, ".ci"))
+        shutil.copy(LAUNCHER, os.path.join(self.top, "multiverse"))
+        for name in ("check_headers.py", "check_documents.py", "test_launcher.py"):
+            self.write(f"top/tools/{name}", "")
+        for name, text in (("crates.txt", "mv_cli:\n"), ("HANDLES", ""), ("crates/mv_cli/src/main.rt", "//\n"), ("crates/mv_cli/src/more.rt", "//\n")):
+            self.write(f"top/{name}", text)
+        for name in ("bin", "bare"):
+            os.symlink(sys.executable, os.path.join(self.scratch, name, "python3"))
+        for name, text in (("bin/rt", TOOLCHAIN), ("program", PROGRAM)):
+            os.chmod(self.write(name, text), 0o755)
+        for name, text in (("version", "kit 1\n"), ("notes", "ended 3\n"), ("status", "0\n"), ("calls", "")):
+            self.write(name, text)
+
+    def write(self, name, text):
+        file = os.path.join(self.scratch, name)
+        with open(file, "w", encoding="utf-8") as it:
+            it.write(text)
+        return file
+
+    def read(self, name):
+        with open(os.path.join(self.scratch, name), encoding="utf-8") as it:
+            return it.read()
+
+    def environment(self, tools="bin"):
+        path = [os.path.join(self.scratch, tools)] + ["/usr/bin", "/bin"] * (tools == "bin")
+        return {"PATH": os.pathsep.join(path), "SCRATCH": self.scratch, "TMPDIR": self.room, "LANG": "C.UTF-8"}
+
+    def start(self, *words, launcher=None, tools="bin", **how):
+        how = {"stdin": subprocess.DEVNULL, "stdout": subprocess.PIPE, "stderr": subprocess.PIPE, "cwd": self.scratch, **how}
+        return subprocess.Popen([launcher or os.path.join(self.top, "multiverse"), *words], env=self.environment(tools), **how)
+
+    def run_it(self, *words, **how):
+        """Returns the status of a run, what it wrote and its notes."""
+        with self.start(*words, **how) as run:
+            out, notes = run.communicate()
+        return run.returncode, out.decode(), notes.decode()
+
+    def terminal(self):
+        try:
+            return pty.openpty()
+        except OSError as error:
+            return self.skipTest(f"there are no terminals here ({error})")
+
+    def run_at_terminal(self, *words):
+        """Returns what a run whose notes go to a terminal has there."""
+        ours, its = self.terminal()
+        with self.start(*words, stderr=its) as run:
+            run.stdout.read()
+        os.close(its)
+        notes = b""
+        try:
+            while piece := os.read(ours, 65536):
+                notes += piece
+        except OSError:
+            pass
+        os.close(ours)
+        return notes.decode().replace("\r\n", "\n")
+
+    def gate(self):
+        return subprocess.run([os.path.join(self.top, ".ci", "run")], env=self.environment(), stdout=subprocess.PIPE, stderr=subprocess.STDOUT, check=False)
+
+    def tries(self):
+        return sum(line.startswith("try") for line in self.read("calls").splitlines())
+
+    def said(self):
+        """Returns which program a run takes."""
+        return self.run_it("--build")[2].splitlines()[-1].split()[2]
+
+    def test_program_is_made_once(self):
+        for _ in range(3):
+            self.assertEqual(self.run_it("run", "a.c")[:2], (0, "[run]\n[a.c]\n"))
+        self.assertEqual(self.tries(), 1)
+
+    def test_build_runs_nothing(self):
+        status, out, notes = self.run_it("--build")
+        self.assertEqual((status, out), (0, ""))
+        self.assertIn("the unproved program of these sources is kept", notes)
+        self.run_it("run", "a.c")
+        self.assertEqual(self.tries(), 1)
+
+    def test_words_are_as_they_are(self):
+        for name in ("eval", "1000", "a.c", "--bound"):
+            self.write(name, "")
+        words = ("eval", "a.c", "--bound", "1000", "", "two words", "*")
+        self.assertEqual(self.run_it(*words)[1], "".join(f"[{it}]\n" for it in words))
+
+    def test_own_words_stand_before_the_command(self):
+        for words in (("run", "a.c", "--explain", "off"), ("run", "--build"), ("--explain", "on", "run"), ("--build", "run")):
+            self.assertEqual(self.run_it(*words)[1], "".join(f"[{it}]\n" for it in words))
+        self.assertEqual(self.run_it("--explain", "off", "run", "a.c")[1], "[run]\n[a.c]\n")
+
+    def test_status_notes_and_input_are_the_program_s(self):
+        self.write("status", "8\n")
+        self.write("notes", "steps\n")
+        with open(self.write("input", "text\n"), encoding="utf-8") as it:
+            status, out, notes = self.run_it("run", stdin=it)
+        self.assertEqual((status, out), (8, "[run]\ntext\n"))
+        self.assertEqual(notes.splitlines()[-1], "steps")
+
+    def test_proved_program_says_nothing_more(self):
+        self.gate()
+        self.assertEqual(self.run_it("run", "a.c"), (0, "[run]\n[a.c]\n", "ended 3\n"))
+
+    def test_unproved_program_says_so(self):
+        self.assertIn("unproved", self.run_it("run", "a.c")[2])
+        self.assertIn("unproved", self.run_it("run", "a.c")[2])
+
+    def test_symbolic_link(self):
+        for to, name in ((os.path.join(self.top, "multiverse"), "link"), ("link", "another")):
+            os.symlink(to, os.path.join(self.scratch, name))
+            self.assertEqual(self.run_it("run", launcher=os.path.join(self.scratch, name))[:2], (0, "[run]\n"))
+
+    def test_no_toolchain(self):
+        status, out, notes = self.run_it("run", "a.c", tools="bare")
+        self.assertEqual((status, out), (NO_PROGRAM, ""))
+        self.assertIn("toolchain", notes)
+
+    def test_refused_sources(self):
+        self.write("fault", "src/main.rt:1:1: error[mismatched-types]: here\n")
+        status, out, notes = self.run_it("run", "a.c")
+        self.assertEqual((status, out), (NO_PROGRAM, ""))
+        self.assertIn("src/main.rt:1:1: error[mismatched-types]: here", notes)
+
+    def test_much_output(self):
+        self.write("long", "")
+        self.assertEqual(len(self.run_it("run")[1]), len("[run]\n") + 2000000)
+
+    def test_input_that_comes_late(self):
+        self.run_it("--build")
+        with self.start("run", stdin=subprocess.PIPE) as run:
+            time.sleep(2.5)
+            out = run.communicate(b"late\n")[0]
+        self.assertEqual((run.returncode, out), (0, b"[run]\nlate\n"))
+
+    def process(self, name):
+        """Returns the process that has written its number, or None."""
+        return int((os.path.exists(os.path.join(self.scratch, name)) and self.read(name)) or 0) or None
+
+    def test_signals_leave_nothing(self):
+        for number in (signal.SIGINT, signal.SIGTERM, signal.SIGHUP):
+            self.write("slow", "")
+            self.interrupted(number, lambda: self.process("trying"))
+            os.remove(os.path.join(self.scratch, "slow"))
+            self.write("calls", "")
+            self.run_it("--build")
+            self.write("waits", "")
+            self.interrupted(number, lambda: self.process("waiting"))
+            os.remove(os.path.join(self.scratch, "waits"))
+            os.remove(os.path.join(self.scratch, "waiting"))
+            os.remove(os.path.join(self.scratch, "trying"))
+            shutil.rmtree(os.path.join(self.top, "out"))
+
+    def test_signal_at_a_terminal_ends_the_program(self):
+        self.run_it("--build")
+        self.write("waits", "")
+        ours, its = self.terminal()
+        self.interrupted(signal.SIGTERM, lambda: self.process("waiting"), stderr=its)
+        os.close(its)
+        os.close(ours)
+
+    def interrupted(self, number, is_due, **how):
+        """Sends a signal to a run once it is due, and sees that the run ends and leaves no file and no process."""
+        with self.start("run", "a.c", **how) as run:
+            for _ in range(200):
+                if is_due():
+                    break
+                time.sleep(0.05)
+            run.send_signal(number)
+            run.communicate()
+        self.assertIn(run.returncode, (-number, 128 + number))
+        self.assertEqual(os.listdir(self.room), [])
+        for name in ("trying", "waiting"):
+            if self.process(name):
+                self.assertRaises(ProcessLookupError, os.kill, self.process(name), 0)
+
+    def test_gate_keeps_the_proved_program(self):
+        gate = self.gate()
+        self.assertEqual((gate.returncode, gate.stdout.splitlines()[-1]), (0, b"4 passed, 0 failed"))
+        self.assertEqual(self.said(), "proved")
+        self.assertEqual(self.tries(), 0)
+
+    def test_failed_gate_keeps_nothing(self):
+        self.write("fault", "")
+        gate = self.gate()
+        self.assertEqual((gate.returncode, gate.stdout.splitlines()[-1]), (1, b"3 passed, 1 failed"))
+        os.remove(os.path.join(self.scratch, "fault"))
+        self.assertEqual(self.said(), "unproved")
+
+    def test_edit_during_the_gate(self):
+        self.write("edit", "")
+        self.gate()
+        self.assertEqual(self.said(), "unproved")
+
+    def test_what_makes_a_program_unproved(self):
+        more = os.path.join(self.top, "crates/mv_cli/src/more.rt")
+        for change in (
+            lambda: self.write("top/crates/mv_cli/src/main.rt", "// \n"),
+            lambda: self.write("top/crates/mv_cli/src/new.rt", ""),
+            lambda: os.rename(more, f"{more}s"),
+            lambda: os.remove(f"{more}s"),
+            lambda: self.write("top/crates.txt", "mv_cli: mv_top\n"),
+            lambda: self.write("top/HANDLES", "Handles allowed: Threads.\n"),
+            lambda: self.write("version", "kit 2\n"),
+        ):
+            self.gate()
+            self.assertEqual(self.said(), "proved")
+            change()
+            for at, _, names in os.walk(self.top):
+                for name in names:
+                    os.utime(os.path.join(at, name), (0, 0))
+            self.assertEqual(self.said(), "unproved")
+
+    def test_times_alone_change_nothing(self):
+        self.gate()
+        os.utime(os.path.join(self.top, "crates/mv_cli/src/main.rt"))
+        self.assertEqual(self.said(), "proved")
+
+    def explained(self, notes, *words):
+        self.write("notes", f"{notes}\n")
+        self.gate()
+        whole = self.run_at_terminal(*words)
+        self.assertEqual(whole.splitlines()[0], notes)
+        self.assertEqual(self.run_at_terminal("--explain", "off", *words), f"{notes}\n")
+        self.assertEqual(self.run_it(*words)[2], f"{notes}\n")
+        return whole
+
+    def test_usage_is_explained(self):
+        self.assertIn("run FILE [--steps N]", self.explained("usage", "fly"))
+
+    def test_shelf_fault_is_explained(self):
+        self.assertIn("none.c", self.explained("shelf fault", "run", "none.c", "--steps", "3"))
+
+    def test_refusal_is_explained(self):
+        self.write("a.c", "int main(void) {\n\tint \u00e4 = y;\n}\n")
+        whole = self.explained("refused 6 2:11 rule 1", "run", "a.c")
+        self.assertIn("multiverse:     \tint \u00e4 = y;\nmultiverse:     \t        ^\n", whole)
+        self.assertIn("isn't declared before its use", whole)
+
+    def test_limit_is_explained(self):
+        self.assertIn("parameters of a function", self.explained("refused 7 limit 3 count 9", "run", "a.c"))
+
+    def test_end_is_not_explained(self):
+        self.assertEqual(self.explained("ended 3", "run", "a.c"), "ended 3\n")
+
+
+if __name__ == "__main__":
+    unittest.main()
