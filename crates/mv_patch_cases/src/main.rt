@@ -2,9 +2,11 @@
 //! functions: `dp` depends on the switch, and has a variant with an inline body for 3, one without for -1, and a site; `g2`
 //! depends on no switch, and has one variant.
 //!
-//! A row of the input is `BEFORE SWITCH LIVE ORDER NUMBER`: whether all functions are `free` before or were `bound` while the switch was
-//! 3, the word of the switch, how many frames are live, the order, and the number of its function or switch. The words
-//! that the order changes are printed, or why it is refused, and the answer.
+//!     BEFORE SWITCH LIVE ORDER NUMBER
+//!
+//! is a row of the input: whether all functions are `free` before or were `bound` while the switch was 3, the word of the switch, how many
+//! frames are live, the order, and the number of its function or switch. The words that the order changes are printed,
+//! or why it is refused, and the answer.
 #![tactic(auto)]
 
 ghost use Rattle.std.specs.Prelude.{◌≡◌, ◌≤◌, length};
