@@ -43,7 +43,7 @@ module _ (data_there : FunctionsAreThere) (p : Program) (sound : IsSound p) (bod
     frames = frames_fit p bodies generics codes have;
     data_fits = fits;
     made = record { generics = generics; parts = parts_of p codes; are_parts = are_parts_of p bodies generics codes have data_there sound; linked = to.linked };
-    behaves = λ bytes picks are. (behave p image sound.formed sound.compilable.unattributed sound.words (built p bodies generics codes have data_there sound words_first image to) bytes picks are).0;
+    behaves = λ bytes actions picks are. (behave p image sound.formed sound.compilable.unattributed sound.words (built p bodies generics codes have data_there sound words_first image to) bytes actions picks are).0;
   }
 
   link_refused : (plain : UnattributedPartsArePlain) (count : CountIsSum) (r : Refusal) (cause : LinkError) → Refused r ≡ of_linking cause → IsRefusal (parts_of p codes) cause → PassesLimit p r

@@ -2,6 +2,7 @@
 use Rattle.std.proofs.Common.{◌≡◌, ℕ, ◌+◌, ◌<◌, ◌≤◌, ◌^◌, zero, suc, pos, ◌-ℤ◌, Bool, true, false, List, [], ◌∷◌, Option, Some, None, map, sum, length, slice_get, All, refl, sym, ap, ◌∙◌, subst, arith}
 use Rattle.std.proofs.lemmas.List.Elements.{All-from_get_or, All-map, All-weaker}
 use Rattle.std.proofs.lemmas.Option.{slice_get-get_or, slice_get_within}
+use Rattle.mv_ast.specs.declared.world.Action.{Action}
 use Rattle.mv_ast.specs.declared.program.Program.{Program}
 use Rattle.mv_ast.specs.declared.program.Function.{Function}
 use Rattle.mv_ast.specs.declared.program.Global.{Global}
@@ -23,7 +24,7 @@ use Rattle.mv_ir.specs.Measures.{scalars_read, arrays_read}
 use Rattle.mv_ir.specs.Programs.{setting_of}
 use Rattle.mv_ir.specs.Trees.{found}
 use Rattle.mv_ir.specs.WellFormed.{has_room}
-use Rattle.mv_lowering.specs.Functions.{names_global, rooms_from, marked_from, functions_called, lower_function_code}
+use Rattle.mv_lowering.specs.Functions.{names_global, rooms_from, functions_called, lower_function_code}
 use Rattle.mv_lowered_programs.specs.WellFormed.{IsWellFormed, IsWellFormedGlobal}
 use Rattle.mv_machine.specs.Runs.{bytes_to_come}
 use Rattle.mv_statement_code.specs.Frames.{Site}
@@ -216,9 +217,9 @@ module _ (laws : Laws) (p : Program) (image : Fields) (formed : IsWellFormed p) 
 
   -- ---- the machine
 
-  module _ (bytes picks : List ℕ) (are_bytes : All (λ b. b < 2 ^ 8) bytes) (budget far : ℕ) where
+  module _ (bytes : List ℕ) (actions : List Action) (picks : List ℕ) (are_bytes : All (λ b. b < 2 ^ 8) bytes) (budget far : ℕ) where
     abbrev machine : Machine Rest
-    machine = machine_of [] shut image (bytes_to_come bytes) picks
+    machine = machine_of [] shut image (bytes_to_come bytes) actions picks
 
     abbrev words : List Binding → ℕ → Option ℕ
     words = words_under image
@@ -229,13 +230,13 @@ module _ (laws : Laws) (p : Program) (image : Fields) (formed : IsWellFormed p) 
     host : IsOpenHost access y machine words shut budget far p numbers
     host = record {
       laid = laid y set_out;
-      memory = memory y set_out [] shut image (bytes_to_come bytes) picks;
+      memory = memory y set_out [] shut image (bytes_to_come bytes) actions picks;
       sizes = λ x. refl;
-      runs = λ from to reach free s stands less. runs_are_alone [] shut image (bytes_to_come bytes) picks from to s (own y set_out s stands) (λ pc a le lt may. free pc a le lt (less a may));
+      runs = λ from to reach free s stands less. runs_are_alone [] shut image (bytes_to_come bytes) actions picks from to s (own y set_out s stands) (λ pc a le lt may. free pc a le lt (less a may));
       runs_under = λ bs from to reach free s stands less.
-          runs_are_under [] shut image (bytes_to_come bytes) picks bs from to s (own y set_out s stands) (λ pc a le lt may. free pc a le lt (less a may));
+          runs_are_under [] shut image (bytes_to_come bytes) actions picks bs from to s (own y set_out s stands) (λ pc a le lt may. free pc a le lt (less a may));
       entries = entries parts (plain_stands laws p image plain built) sizing built.linked.text built.linked.least.fits.sizes built.linked.text_is each_begins;
-      calls = serves_calls [] shut image (bytes_to_come bytes) picks bytes_or_end y budget far numbers p;
+      calls = serves_calls [] shut image (bytes_to_come bytes) actions picks bytes_or_end y budget far numbers p;
       stub = λ k args back i asked orders count target ra. absurd (orders (may_ask_direct k asked));
       slots = λ at f e. absurd (no_slot image at f e);
     }

@@ -1,5 +1,5 @@
 -- The run of a built image does what its program means.
-use Rattle.std.proofs.Common.{◌≡◌, ℕ, suc, ◌+◌, ◌*◌, ◌<◌, ◌^◌, ◌%◌, Bool, false, List, [], ◌∷◌, Option, Some, None, map, take, sum, length, get_or, filter, replicate, slice_get, All, refl, sym, ap, ◌∙◌, subst, arith}
+use Rattle.std.proofs.Common.{◌≡◌, ℕ, ◌+◌, ◌*◌, ◌<◌, ◌^◌, ◌%◌, Bool, List, [], Option, Some, None, map, take, sum, length, get_or, replicate, slice_get, All, refl, sym, ap, ◌∙◌, subst, arith}
 use Rattle.std.specs.Prelude.{IsTrue}
 use Rattle.std.specs.List.{flat_map}
 use Rattle.std.proofs.Math.ListN as lists
@@ -51,7 +51,7 @@ run_reached reached p numbers codes None bound w = tt
 run_reached reached p numbers codes (Some main) bound w = reached p numbers codes main bound w
 
 module _ (laws : Laws) (p : Program) (image : Fields) (formed : IsWellFormed p) (plain : IsUnattributed p) (have_words : HasWordsOfGlobals p)
-    (built : IsBuilt p image) (bytes picks : List ℕ) (are_bytes : All (λ b. b < 2 ^ 8) bytes) where
+    (built : IsBuilt p image) (bytes : List ℕ) (actions : List Action) (picks : List ℕ) (are_bytes : All (λ b. b < 2 ^ 8) bytes) where
   abbrev parts : Parts
   parts = built.parts
 
@@ -71,7 +71,7 @@ module _ (laws : Laws) (p : Program) (image : Fields) (formed : IsWellFormed p) 
   shut = closed parts sizing p
 
   abbrev the_machine : Machine Rest
-  the_machine = machine_of [] shut image (bytes_to_come bytes) picks
+  the_machine = machine_of [] shut image (bytes_to_come bytes) actions picks
 
   numbered : IsNumbering p numbers
   numbered = is_numbering laws p image formed plain have_words built
@@ -122,7 +122,7 @@ module _ (laws : Laws) (p : Program) (image : Fields) (formed : IsWellFormed p) 
   module _ (budget far : ℕ) where
     enters : EntersMain y the_machine budget far (address_of parts sizing parts.main) first 3
     enters =
-        laws.start_is_right [] shut image bytes picks y budget far first is_first holds (ap (λ (i : Fields). i.entry) built.linked.image_is) (address_of parts sizing) (address_of parts sizing) parts.main
+        laws.start_is_right [] shut image bytes actions picks y budget far first is_first holds (ap (λ (i : Fields). i.entry) built.linked.image_is) (address_of parts sizing) (address_of parts sizing) parts.main
         (start_ends laws p image plain built) (start_placed laws p image plain built)
 
     begins : Begins access y the_machine 3
@@ -138,10 +138,10 @@ module _ (laws : Laws) (p : Program) (image : Fields) (formed : IsWellFormed p) 
     stands : Stands access y the_machine budget far (y.entry p.main) first 3
     stands = subst (λ f. Stands access y the_machine budget far (address_of parts sizing f) first 3) built.main enters.stands
 
-    calls_main : (k : ℕ) → CallsMain [] shut p image bytes picks y first budget far k
+    calls_main : (k : ℕ) → CallsMain [] shut p image bytes actions picks y first budget far k
     calls_main k =
         let m = laws.main_follows access y the_machine (words_under image) shut budget far p numbers
-        (loaded laws p image formed plain have_words built bytes picks are_bytes budget far)
+        (loaded laws p image formed plain have_words built bytes actions picks are_bytes budget far)
         numbered bytes [] (All-nil (λ (a : Action). IsTrue (fits p a))) return_address 3 (omega arith, refl) enters.link begins stands k in record {
           call = m.0;
           means = m.1;
@@ -150,5 +150,5 @@ module _ (laws : Laws) (p : Program) (image : Fields) (formed : IsWellFormed p) 
           follows = m.4;
         }
 
-  pub built_behaves : Behaves p image bytes picks × LoadsWhatIsOpen image (closed built.parts built.linked.sizing p) bytes picks
-  built_behaves = laws.images_behave [] shut p image bytes picks y stubs record { first = first; input = omega arith; calls = calls_main }
+  pub built_behaves : Behaves p image bytes actions picks × LoadsWhatIsOpen image (closed built.parts built.linked.sizing p) bytes actions picks
+  built_behaves = laws.images_behave [] shut p image bytes actions picks y stubs record { first = first; input = omega arith; calls = calls_main }

@@ -2,6 +2,7 @@
 use Rattle.std.proofs.Common.{◌≡◌, ◌⊎◌, inl, inr, ⊎_elim, ℕ, ◌+◌, ◌-◌, ◌*◌, ◌%◌, ◌^◌, ◌<◌, ◌≤◌, zero, suc, Bool, true, false, not, List, [], ◌∷◌, length, Contains, slice_index_or, Option, Some, None, refl, sym, ap, ◌∙◌, subst, arith}
 use Rattle.std.proofs.lemmas.Bool.{cases_lt, eqb-true, and_parts}
 use Rattle.std.proofs.lemmas.List.{length-map}
+use Rattle.mv_ast.specs.declared.world.Action.{Action}
 use Rattle.mv_ast.specs.declared.program.Program.{Program}
 use Rattle.mv_fetch.specs.Held.{choices}
 use Rattle.mv_image.specs.Spelling.{Fields}
@@ -131,16 +132,16 @@ module _ (bytes : List ℕ) where
     }
 
 module _ (tested : CalmIsTested) (exit_right : ExitIsRight) (trap_right : TrapIsRight)
-    (attributed : List ℕ) (closed : (pc address : ℕ) → Bool) (p : Program) (image : Fields) (bytes picks : List ℕ) (y : Layout)
-    (stubs : HasStubs attributed image y) (main : RunsMain attributed closed p image bytes picks y) where
+    (attributed : List ℕ) (closed : (pc address : ℕ) → Bool) (p : Program) (image : Fields) (bytes : List ℕ) (actions : List Action) (picks : List ℕ) (y : Layout)
+    (stubs : HasStubs attributed image y) (main : RunsMain attributed closed p image bytes actions picks y) where
   abbrev input : List (Option ℕ)
   input = bytes_to_come bytes
 
   abbrev machine : Machine Rest
-  machine = machine_of attributed closed image input picks
+  machine = machine_of attributed closed image input actions picks
 
   abbrev state : ℕ → State
-  state n = runs image input picks n
+  state n = runs image input actions picks n
 
   abbrev IsSound : ℕ → Type 0
   IsSound t = is_sound closed (spot_of (state t)) ≡ true
@@ -150,7 +151,7 @@ module _ (tested : CalmIsTested) (exit_right : ExitIsRight) (trap_right : TrapIs
     world : World
     last : ℕ
     stop : Stop
-    ends : EndsAfter closed image input picks world last stop
+    ends : EndsAfter closed image input actions picks world last stop
     soon : last ≤ budget + 2
     says : Says bytes m world
     over : stop ≡ Going → ⊥
@@ -179,12 +180,12 @@ module _ (tested : CalmIsTested) (exit_right : ExitIsRight) (trap_right : TrapIs
         let stands = f.1.stands in
         let paid = f.1.paid in
         let says = said bytes m (code.Exited (v % 256)) cost w x counts in
-        let ends = exit_right attributed closed image input picks stubs.place stubs.entry stubs.main_label stubs.start_ends stubs.start f.0 w
+        let ends = exit_right attributed closed image input actions picks stubs.place stubs.entry stubs.main_label stubs.start_ends stubs.start f.0 w
         (record { at = stands.at; calm = inside w f.0 stands.calm; sound = stands.sound }) in record {
           world = w;
           last = f.0 + 1;
           stop = Exit (v % 2 ^ 8);
-          ends = subst (λ (z : ℕ). EndsAfter closed image input picks w (f.0 + 1) (Exit (z % 2 ^ 8))) f.2 ends;
+          ends = subst (λ (z : ℕ). EndsAfter closed image input actions picks w (f.0 + 1) (Exit (z % 2 ^ 8))) f.2 ends;
           soon = omega (arith, paid);
           says = says;
           over = λ e. cc;
@@ -200,7 +201,7 @@ module _ (tested : CalmIsTested) (exit_right : ExitIsRight) (trap_right : TrapIs
           world = w;
           last = f.0 + 2;
           stop = Trap c;
-          ends = trap_right attributed closed image input picks c ge le stubs.place stubs.entry (y.trap c) (stubs.trap_ends c) placed f.0 w
+          ends = trap_right attributed closed image input actions picks c ge le stubs.place stubs.entry (y.trap c) (stubs.trap_ends c) placed f.0 w
               (record { at = f.1.at ∙ sym placed.1.label; calm = inside w f.0 f.1.calm; sound = f.1.sound });
           soon = omega (arith, paid);
           says = says;
@@ -248,7 +249,7 @@ module _ (tested : CalmIsTested) (exit_right : ExitIsRight) (trap_right : TrapIs
   module _ (m : Meant) (w : World) (t : ℕ) (calm : IsCalm image w (rest_of (state t))) (says : Says bytes m w) where
     calm_within : (n : ℕ) → n ≤ t → IsWithin bytes (state n) m
     calm_within n le =
-        let g = run_grew (first_state image input) picks n t le in
+        let g = run_grew (first_state image input actions) picks n t le in
         let fewer = g.input in
         let taken = says.taken in
         let left = left_over bytes (state t).input w calm.input in record {
@@ -258,11 +259,11 @@ module _ (tested : CalmIsTested) (exit_right : ExitIsRight) (trap_right : TrapIs
         }
 
     calm_going : (n : ℕ) → n ≤ t → (state n).stop ≡ Going
-    calm_going n le = going_before (first_state image input) picks n t le calm.goes_on
+    calm_going n le = going_before (first_state image input actions) picks n t le calm.goes_on
 
     calm_done : (n : ℕ) → t ≤ n → m.«end» ≡ source.More → HasDone (state n) m
     calm_done n le more =
-        let g = run_grew (first_state image input) picks t n le in record {
+        let g = run_grew (first_state image input actions) picks t n le in record {
           output = subst (λ o. Begins o (state n).output) (calm.output ∙ sym says.output) g.output;
           log = subst (λ o. Begins o (state n).log) (calm.log ∙ sym says.log) g.log;
           ended = λ finished going. finished more;
@@ -331,7 +332,7 @@ module _ (tested : CalmIsTested) (exit_right : ExitIsRight) (trap_right : TrapIs
       late' : Late (meaning k) (n - 3) 0 → HasDone (state n) (meaning k)
       late' l = let soon = l.soon in calm_done (meaning k) l.world l.time l.calm l.says n (omega (arith, soon)) l.unfinished
 
-  pub behaves : Behaves p image bytes picks × LoadsWhatIsOpen image closed bytes picks
+  pub behaves : Behaves p image bytes actions picks × LoadsWhatIsOpen image closed bytes actions picks
   behaves = (
     record { within = within; ends = right; does = done; fetches = fetches },
     λ n a going word c is. loads_open closed (state n) (sound n going) (choices (state n).room.held (state n).pc) (parts closed (state n) (sound n going)).1 word c a is,

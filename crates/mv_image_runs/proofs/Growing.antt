@@ -2,7 +2,9 @@
 use Rattle.std.proofs.Common.{◌≡◌, ℕ, zero, suc, ◌+◌, ◌-◌, ◌≤◌, List, [], ◌∷◌, length, slice_index, Option, refl, sym, ap, ◌∙◌, subst, arith}
 use Rattle.mv_isa.specs.Execution.{Outcome, Goes, Calls, Faults, reg}
 use Rattle.mv_fetch.specs.Held.{Room}
-use Rattle.mv_machine.specs.Runs.{State, Stop, Going, Exit, Trap, Fault, Request, Exits, Reads, Writes, Traps, Unknown, request_of, later_reads, answered, environment_call, fetched_step, after, where_going, turn, runs_from}
+use Rattle.mv_ast.specs.Plans.{events_from}
+use Rattle.mv_machine.proofs.Leaving.{Leaves as EachLeaves, planned_leaves, polled_leaves}
+use Rattle.mv_machine.specs.Runs.{State, Stop, Going, Exit, Trap, Fault, Request, Exits, Reads, Writes, Traps, Plans, Polls, Unknown, request_of, argument, later_reads, answered, environment_call, fetched_step, after, where_going, turn, runs_from}
 use Rattle.mv_machine.proofs.Turns.{runs_more, IsOver, runs_over}
 use Rattle.mv_meaning.specs.Growth.{Begins}
 use Rattle.mv_meaning.proofs.Growing.{Begins-refl, Begins-trans}
@@ -28,12 +30,22 @@ fewer : (input : List (Option ℕ)) → length (later_reads input) ≤ length in
 fewer [] = omega arith
 fewer (answer ∷ later) = omega arith
 
+plan_grew : (s : State) → EachLeaves (λ (t : State). Grew s t) s
+unfolding answered
+plan_grew s = record {
+  refuses = λ actions answer. record { output = Begins-refl s.output; log = Begins-refl s.log; input = omega arith };
+  carries = λ room actions plan answer. record { output = Begins-refl s.output; log = (events_from 0 s.bindings plan.bound, refl); input = omega arith };
+  faults = record { output = Begins-refl s.output; log = Begins-refl s.log; input = omega arith };
+}
+
 call_grew : (request : Request) (s : State) → Grew s (environment_call request s)
 unfolding answered
 call_grew Exits s = record { output = Begins-refl s.output; log = Begins-refl s.log; input = omega arith }
 call_grew Reads s = record { output = Begins-refl s.output; log = Begins-refl s.log; input = fewer s.input }
 call_grew Writes s = record { output = (_ ∷ [], refl); log = Begins-refl s.log; input = omega arith }
 call_grew Traps s = record { output = Begins-refl s.output; log = Begins-refl s.log; input = omega arith }
+call_grew Plans s = planned_leaves (λ (t : State). Grew s t) s (argument s) (reg s.regs 11) (plan_grew s)
+call_grew Polls s = polled_leaves (λ (t : State). Grew s t) s (plan_grew s)
 call_grew Unknown s = record { output = Begins-refl s.output; log = Begins-refl s.log; input = omega arith }
 
 after_grew : (outcome : Outcome Room) (s : State) → Grew s (after outcome s)

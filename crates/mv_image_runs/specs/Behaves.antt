@@ -1,5 +1,6 @@
 -- What the run of an image does, by what a program means.
 use Rattle.std.specs.Prelude.{ℕ, ◌≡◌, ◌+◌, ◌-◌, ◌*◌, ◌^◌, ◌<◌, ◌≤◌, Bool, false, List, [], length, All, Option, Some, option_and_then, Contains}
+use Rattle.mv_ast.specs.declared.world.Action.{Action}
 use Rattle.mv_ast.specs.declared.program.Program.{Program}
 use Rattle.mv_fetch.specs.Held.{choices}
 use Rattle.mv_image.specs.Spelling.{Fields}
@@ -43,25 +44,25 @@ pub record HasDone (s : State) (m : Meant) : Type 0 where
   pub log : Begins m.log s.log
   pub ended : (m.«end» ≡ source.More → ⊥) → s.stop ≡ Going → ⊥
 
--- The run of an image on an input, by any picks of the fetches, does what a program means. After n instructions it has done no more than the meaning at
--- the bound n, and all of the meaning at each bound whose work is less than a hundredth of n. It ends only as the meaning does. And each fetch has one
--- choice, so that no pick matters.
-pub record Behaves (p : Program) (image : Fields) (bytes picks : List ℕ) : Type 0 where
-  pub within : (n : ℕ) → IsWithin bytes (runs image (bytes_to_come bytes) picks n) (mean p bytes [] n)
-  pub ends : (n : ℕ) → EndsRight bytes (runs image (bytes_to_come bytes) picks n) (mean p bytes [] n) (runs image (bytes_to_come bytes) picks n).stop
-  pub does : (n k : ℕ) → 100 * (1 + (mean p bytes [] k).work) ≤ n → HasDone (runs image (bytes_to_come bytes) picks n) (mean p bytes [] k)
-  pub fetches : (n : ℕ) → (runs image (bytes_to_come bytes) picks n).stop ≡ Going → choices_at (runs image (bytes_to_come bytes) picks n) ≡ 1
+-- The run of an image on an input, whatever the operator's actions are and by any picks of the fetches, does what a program means that never
+-- polls, and so takes no action. After n instructions it has done no more than the meaning at the bound n, and all of the meaning at each bound
+-- whose work is less than a hundredth of n. It ends only as the meaning does. And each fetch has one choice, so that no pick matters.
+pub record Behaves (p : Program) (image : Fields) (bytes : List ℕ) (actions : List Action) (picks : List ℕ) : Type 0 where
+  pub within : (n : ℕ) → IsWithin bytes (runs image (bytes_to_come bytes) actions picks n) (mean p bytes [] n)
+  pub ends : (n : ℕ) → EndsRight bytes (runs image (bytes_to_come bytes) actions picks n) (mean p bytes [] n) (runs image (bytes_to_come bytes) actions picks n).stop
+  pub does : (n k : ℕ) → 100 * (1 + (mean p bytes [] k).work) ≤ n → HasDone (runs image (bytes_to_come bytes) actions picks n) (mean p bytes [] k)
+  pub fetches : (n : ℕ) → (runs image (bytes_to_come bytes) actions picks n).stop ≡ Going → choices_at (runs image (bytes_to_come bytes) actions picks n) ≡ 1
 
 -- where a word, read as an instruction, loads from, if it is a load
 abbrev pub word_loads : (regs : List ℕ) → ℕ → Option ℕ
 word_loads regs word = option_and_then (λ i. loads_from i regs) (decode word)
 
 -- No instruction of the run loads from an address that is closed to what stands at its place, whatever is picked.
-abbrev pub LoadsWhatIsOpen : Fields → (closed : (pc address : ℕ) → Bool) → (bytes picks : List ℕ) → Type 0
-LoadsWhatIsOpen image closed bytes picks =
-    (n a : ℕ) → let s = runs image (bytes_to_come bytes) picks n in
+abbrev pub LoadsWhatIsOpen : Fields → (closed : (pc address : ℕ) → Bool) → (bytes : List ℕ) → List Action → (picks : List ℕ) → Type 0
+LoadsWhatIsOpen image closed bytes actions picks =
+    (n a : ℕ) → let s = runs image (bytes_to_come bytes) actions picks n in
     s.stop ≡ Going → (word : ℕ) → Contains (choices s.room.held s.pc) word → word_loads s.regs word ≡ Some a → closed s.pc a ≡ false
 
--- It does so on each input of bytes, whatever is picked.
+-- It does so on each input of bytes, with any actions, whatever is picked.
 abbrev pub BehavesAlways : Program → Fields → Type 0
-BehavesAlways p image = (bytes picks : List ℕ) → All (λ b. b < 2 ^ 8) bytes → Behaves p image bytes picks
+BehavesAlways p image = (bytes : List ℕ) (actions : List Action) (picks : List ℕ) → All (λ b. b < 2 ^ 8) bytes → Behaves p image bytes actions picks

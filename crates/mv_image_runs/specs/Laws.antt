@@ -1,5 +1,6 @@
 -- What is proved of the run of an image.
 use Rattle.std.specs.Prelude.{ℕ, Bool, List}
+use Rattle.mv_ast.specs.declared.world.Action.{Action}
 use Rattle.mv_ast.specs.declared.program.Program.{Program}
 use Rattle.mv_image.specs.Spelling.{Fields}
 use Rattle.mv_call_code.specs.Convention.{Layout}
@@ -9,5 +10,5 @@ use Rattle.mv_image_runs.specs.Main.{HasStubs, RunsMain}
 -- Where the stubs stand in an image and its run does what main does, it does what the program means, and loads only what is open.
 abbrev pub ImagesBehave : Type 0
 ImagesBehave =
-    (attributed : List ℕ) (closed : (pc address : ℕ) → Bool) (p : Program) (image : Fields) (bytes picks : List ℕ) (y : Layout) →
-    HasStubs attributed image y → RunsMain attributed closed p image bytes picks y → Behaves p image bytes picks × LoadsWhatIsOpen image closed bytes picks
+    (attributed : List ℕ) (closed : (pc address : ℕ) → Bool) (p : Program) (image : Fields) (bytes : List ℕ) (actions : List Action) (picks : List ℕ) (y : Layout) →
+    HasStubs attributed image y → RunsMain attributed closed p image bytes actions picks y → Behaves p image bytes actions picks × LoadsWhatIsOpen image closed bytes actions picks

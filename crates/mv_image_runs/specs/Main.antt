@@ -1,5 +1,6 @@
 -- What main comes to, in code and on a run that has entered it.
 use Rattle.std.specs.Prelude.{ℕ, ◌≡◌, ◌+◌, ◌≤◌, Bool, List, [], length, None}
+use Rattle.mv_ast.specs.declared.world.Action.{Action}
 use Rattle.mv_ast.specs.declared.program.Program.{Program}
 use Rattle.mv_image.specs.Spelling.{Fields}
 use Rattle.mv_ir.specs.World.{World}
@@ -28,7 +29,7 @@ pub record HasStubs (attributed : List ℕ) (image : Fields) (y : Layout) : Type
 abbrev pub main_cost : ℕ
 main_cost = 44
 
-module _ (attributed : List ℕ) (closed : (pc address : ℕ) → Bool) (p : Program) (image : Fields) (bytes picks : List ℕ) (y : Layout) (first : World) where
+module _ (attributed : List ℕ) (closed : (pc address : ℕ) → Bool) (p : Program) (image : Fields) (bytes : List ℕ) (actions : List Action) (picks : List ℕ) (y : Layout) (first : World) where
   -- At a bound, with so much paid and asked for, a call of main comes to what the program means, and it returns a value where it returns; and after the
   -- three instructions of the start stub, the run does what that call does.
   pub record CallsMain (budget far k : ℕ) : Type 0 where
@@ -37,10 +38,10 @@ module _ (attributed : List ℕ) (closed : (pc address : ℕ) → Bool) (p : Pro
     pub reached : IsReached first call.end
     pub returns : (w : World) → call.end ≡ Returned None w → ⊥
     pub follows : (spare : ℕ) → 3 + (spare + main_cost + call.cost) ≤ budget → far ≤ 3 + k →
-        FollowsCall access y (machine_of attributed closed image (bytes_to_come bytes) picks) budget far spare k 3 return_address call.end
+        FollowsCall access y (machine_of attributed closed image (bytes_to_come bytes) actions picks) budget far spare k 3 return_address call.end
 
 -- The run calls main at every bound, whatever is paid and asked for, from a world that has the input.
-pub record RunsMain (attributed : List ℕ) (closed : (pc address : ℕ) → Bool) (p : Program) (image : Fields) (bytes picks : List ℕ) (y : Layout) : Type 0 where
+pub record RunsMain (attributed : List ℕ) (closed : (pc address : ℕ) → Bool) (p : Program) (image : Fields) (bytes : List ℕ) (actions : List Action) (picks : List ℕ) (y : Layout) : Type 0 where
   pub first : World
   pub input : first.taken + length first.input ≡ length bytes
-  pub calls : (budget far k : ℕ) → CallsMain attributed closed p image bytes picks y first budget far k
+  pub calls : (budget far k : ℕ) → CallsMain attributed closed p image bytes actions picks y first budget far k

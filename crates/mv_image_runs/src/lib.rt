@@ -1,11 +1,12 @@
 //! What the run of an image does, by what the program means.
 //!
 //! - `images_behave`: where the stubs stand and the run does what a call of `main` does, the run of the image does what
-//!   the program means (`Behaves`), on each input and whatever the fetches pick: after n instructions it has written,
-//!   logged and taken no more than the meaning has at bound n, and it has ended, by an exit or a trap and never by a
-//!   fault, only as that meaning has, with all its output; it has done all of the meaning at each bound at which 100
-//!   times one more than the work is at most n; and each of its fetches has one choice. And no instruction of it loads
-//!   from an address that is closed to its place (`LoadsWhatIsOpen`), where `main` keeps to that.
+//!   the program means that never polls (`Behaves`), on each input, whatever actions are handed in and whatever the
+//!   fetches pick: after n instructions it has written, logged and taken no more than the meaning has at bound n, and it
+//!   has ended, by an exit or a trap and never by a fault, only as that meaning has, with all its output; it has done all
+//!   of the meaning at each bound at which 100 times one more than the work is at most n; and each of its fetches has one
+//!   choice. And no instruction of it loads from an address that is closed to its place (`LoadsWhatIsOpen`), where `main`
+//!   keeps to that.
 #![tactic(auto)]
 
 ghost use Rattle.mv_image_runs.specs.Laws.{ImagesBehave};

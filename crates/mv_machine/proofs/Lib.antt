@@ -5,3 +5,7 @@ pub mod Walks
 pub mod Resumed
 pub mod Starts
 pub mod Plain
+pub mod Storing
+pub mod Telling
+pub mod Orders
+pub mod Leaving

@@ -2,7 +2,7 @@
 use Rattle.std.proofs.Common.{ℕ, ◌≡◌, ◌<◌, ◌≤◌, ◌+◌, add-one, ◌⊎◌, inl, inr, List, [], ◌∷◌, ◌++◌, length, slice_index, Option, Some, None, option_map, Ok, refl, sym, ap, ap₂, ◌∙◌, subst, arith, append_assoc, append-nil, mod-eq_of_lt}
 use Rattle.std.proofs.lemmas.List.{get_or_append_left, get_or_at, length-append}
 use Rattle.std.proofs.lemmas.Bool.{cases_lt}
-use Rattle.mv_ast.specs.declared.world.Binding.{Binding}
+use Rattle.mv_ast.specs.declared.world.Event.{Event}
 use Rattle.mv_fetch.specs.Held.{choices}
 use Rattle.mv_rv32.specs.Stepping.{picked_step}
 use Rattle.mv_io.specs.Outside.{Takes}
@@ -42,31 +42,45 @@ read (Some old) left' None later t h =
 
 -- ---- one move
 
-pub moves_quietly : (f : State → State) (x y : Seen) (stop : Stop) → y.left ≡ x.left → y.written ≡ x.written → ((bindings : List Binding) (input : List (Option ℕ)) (output : List ℕ) → f (shown x bindings Going input output) ≡ shown y bindings stop input output) → Moves f x y stop
-moves_quietly f x y stop l w e =
-    ([], w ∙ nothing_written x.written, λ later tells. (later, subst (λ o. Tells o later) l tells, λ b out. (tt, e b later out ∙ ap (λ o. shown y b stop later o) (sym (append-nil out)))))
+pub moves_telling : (f : State → State) (x y : Seen) (stop : Stop) (Told : List Event → Type 0) (news : List Event) → y.left ≡ x.left → y.written ≡ x.written → Told news → ((input : List (Option ℕ)) (output : List ℕ) (log : List Event) → f (shown x Going input output log) ≡ shown y stop input output (log ++ news)) → Moves f x y stop Told
+moves_telling f x y stop Told news l w told e =
+    ([], news, w ∙ nothing_written x.written, told, λ later tells. (later, subst (λ o. Tells o later) l tells, λ out log. (tt, e later out log ∙ ap (λ o. shown y stop later o (log ++ news)) (sym (append-nil out)))))
 
-pub moves_reading : (f : State → State) (x y : Seen) (byte : Option ℕ) → Takes {E = Failed} x.left y.left (Ok byte) → y.written ≡ x.written → ((bindings : List Binding) (input : List (Option ℕ)) (output : List ℕ) → next_read input ≡ byte → f (shown x bindings Going input output) ≡ shown y bindings Going (later_reads input) output) → Moves f x y Going
-moves_reading f x y byte takes w e =
-    ([], w ∙ nothing_written x.written, λ later tells. let r = read x.left y.left byte later takes tells in (r.input, r.tells, λ b out. (tt, e b r.input out r.next ∙ ap₂ (λ i o. shown y b Going i o) r.rest (sym (append-nil out)))))
+pub moves_quietly : (f : State → State) (x y : Seen) (stop : Stop) (Told : List Event → Type 0) → y.left ≡ x.left → y.written ≡ x.written → Told [] → ((input : List (Option ℕ)) (output : List ℕ) (log : List Event) → f (shown x Going input output log) ≡ shown y stop input output log) → Moves f x y stop Told
+moves_quietly f x y stop Told l w quiet e =
+    moves_telling f x y stop Told [] l w quiet (λ input output log. e input output log ∙ ap (λ all. shown y stop input output all) (sym (append-nil log)))
 
-pub moves_writing : (f : State → State) (x y : Seen) (byte : ℕ) → y.left ≡ x.left → y.written ≡ option_map (λ before. before ++ byte ∷ []) x.written → ((bindings : List Binding) (input : List (Option ℕ)) (output : List ℕ) → f (shown x bindings Going input output) ≡ shown y bindings Going input (output ++ byte ∷ [])) → Moves f x y Going
-moves_writing f x y byte l w e =
-    (byte ∷ [], w, λ later tells. (later, subst (λ o. Tells o later) l tells, λ b out. (tt, e b later out)))
+pub moves_reading : (f : State → State) (x y : Seen) (byte : Option ℕ) (Told : List Event → Type 0) → Takes {E = Failed} x.left y.left (Ok byte) → y.written ≡ x.written → Told [] → ((input : List (Option ℕ)) (output : List ℕ) (log : List Event) → next_read input ≡ byte → f (shown x Going input output log) ≡ shown y Going (later_reads input) output log) → Moves f x y Going Told
+moves_reading f x y byte Told takes w quiet e = (
+  [],
+  [],
+  w ∙ nothing_written x.written,
+  quiet,
+  λ later tells. let r = read x.left y.left byte later takes tells in (
+    r.input,
+    r.tells,
+    λ out log.
+        (tt, e r.input out log r.next ∙ ap₂ (λ i o. shown y Going i o log) r.rest (sym (append-nil out)) ∙ ap (λ all. shown y Going later (out ++ []) all) (sym (append-nil log))),
+  ),
+)
+
+pub moves_writing : (f : State → State) (x y : Seen) (byte : ℕ) (Told : List Event → Type 0) → y.left ≡ x.left → y.written ≡ option_map (λ before. before ++ byte ∷ []) x.written → Told [] → ((input : List (Option ℕ)) (output : List ℕ) (log : List Event) → f (shown x Going input output log) ≡ shown y Going input (output ++ byte ∷ []) log) → Moves f x y Going Told
+moves_writing f x y byte Told l w quiet e =
+    (byte ∷ [], [], w, quiet, λ later tells. (later, subst (λ o. Tells o later) l tells, λ out log. (tt, e later out log ∙ ap (λ all. shown y Going later (out ++ byte ∷ []) all) (sym (append-nil log)))))
 
 -- the same of a function that does the same
-pub moves_as : (f g : State → State) (x y : Seen) (stop : Stop) → ((bindings : List Binding) (input : List (Option ℕ)) (output : List ℕ) → g (shown x bindings Going input output) ≡ f (shown x bindings Going input output)) → Moves f x y stop → Moves g x y stop
-moves_as f g x y stop e m =
-    (m.0, m.1, λ later tells. let t = m.2 later tells in (t.0, t.1, λ b out. (tt, e b t.0 out ∙ (t.2 b out).1)))
+pub moves_as : (f g : State → State) (x y : Seen) (stop : Stop) (Told : List Event → Type 0) → ((input : List (Option ℕ)) (output : List ℕ) (log : List Event) → g (shown x Going input output log) ≡ f (shown x Going input output log)) → Moves f x y stop Told → Moves g x y stop Told
+moves_as f g x y stop Told e m =
+    (m.0, m.1, m.2, m.3, λ later tells. let t = m.4 later tells in (t.0, t.1, λ out log. (tt, e t.0 out log ∙ (t.2 out log).1)))
 
 -- the fetch of a pick that is one of the choices
-pub fetched : (x : Seen) (bindings : List Binding) (stop : Stop) (input : List (Option ℕ)) (output : List ℕ) (pick : ℕ) → pick < length (choices x.room.held x.pc) → fetched_step (shown x bindings stop input output) pick ≡ picked_step x.room pick x.regs x.pc
+pub fetched : (x : Seen) (stop : Stop) (input : List (Option ℕ)) (output : List ℕ) (log : List Event) (pick : ℕ) → pick < length (choices x.room.held x.pc) → fetched_step (shown x stop input output log) pick ≡ picked_step x.room pick x.regs x.pc
 unfolding fetched_step choices_at
-fetched x bindings stop input output pick lt = ap (λ p. picked_step x.room p x.regs x.pc) (mod-eq_of_lt lt)
+fetched x stop input output log pick lt = ap (λ p. picked_step x.room p x.regs x.pc) (mod-eq_of_lt lt)
 
-pub count_is : (x : Seen) (bindings : List Binding) (stop : Stop) (input : List (Option ℕ)) (output : List ℕ) → choices_at (shown x bindings stop input output) ≡ length (choices x.room.held x.pc)
+pub count_is : (x : Seen) (stop : Stop) (input : List (Option ℕ)) (output : List ℕ) (log : List Event) → choices_at (shown x stop input output log) ≡ length (choices x.room.held x.pc)
 unfolding choices_at
-count_is x bindings stop input output = refl
+count_is x stop input output log = refl
 
 -- ---- one more move
 
@@ -97,28 +111,35 @@ under_more (Some w) v way' s picks pick count n len is follows c under = λ j lt
 abbrev pub SoFar : Option Way → (picks : List ℕ) (n : ℕ) → State → Type 0
 SoFar way picks n s = Under way s picks × (executed s picks n ≡ n)
 
-pub meets_more : (x y z : Seen) (stop : Stop) (way v way' : Option Way) (picks : List ℕ) (pick n : ℕ) → length picks ≡ n → v ≡ option_map (λ w. way_after w n) way → Follows v way' (length (choices y.room.held y.pc)) pick → Meets (SoFar way picks n) (λ s. runs_from s picks n) x y Going → Moves (λ s. turn s pick) y z stop → Meets (SoFar way (picks ++ pick ∷ []) (n + 1)) (λ s. runs_from s (picks ++ pick ∷ []) (n + 1)) x z stop
-meets_more x y z stop way v way' picks pick n len is follows m t =
+-- what was told so far and what was told then
+abbrev pub Joins : (Before Behind Told : List Event → Type 0) → Type 0
+Joins Before Behind Told = (xs ys : List Event) → Before xs → Behind ys → Told (xs ++ ys)
+
+pub meets_more : (x y z : Seen) (stop : Stop) (way v way' : Option Way) (Before Behind Told : List Event → Type 0) → Joins Before Behind Told → (picks : List ℕ) (pick n : ℕ) → length picks ≡ n → v ≡ option_map (λ w. way_after w n) way → Follows v way' (length (choices y.room.held y.pc)) pick → Meets (SoFar way picks n) (λ s. runs_from s picks n) x y Going Before → Moves (λ s. turn s pick) y z stop Behind → Meets (SoFar way (picks ++ pick ∷ []) (n + 1)) (λ s. runs_from s (picks ++ pick ∷ []) (n + 1)) x z stop Told
+meets_more x y z stop way v way' Before Behind Told joins picks pick n len is follows m t =
     let all : List ℕ = picks ++ pick ∷ [] in
     let le : n ≤ length picks = omega (arith, len) in (
       m.0 ++ t.0,
-      written_then x.written y.written z.written m.0 t.0 m.1 t.1,
+      m.1 ++ t.1,
+      written_then x.written y.written z.written m.0 t.0 m.2 t.2,
+      joins m.1 t.1 m.3 t.3,
       λ later tells.
-          let mid = t.2 later tells in
-          let start = m.2 mid.0 mid.1 in (
+          let mid = t.4 later tells in
+          let start = m.4 mid.0 mid.1 in (
             start.0,
             start.1,
-            λ b o.
-                let s = shown x b Going start.0 o in
-                let here = start.2 b o in
-                let at : runs_from s all n ≡ shown y b Going mid.0 (o ++ m.0) = runs_append s picks (pick ∷ []) n le ∙ here.1 in
-                let count : choices_at (runs_from s picks n) ≡ length (choices y.room.held y.pc) = ap choices_at here.1 ∙ count_is y b Going mid.0 (o ++ m.0) in
+            λ o log.
+                let s = shown x Going start.0 o log in
+                let here = start.2 o log in
+                let at : runs_from s all n ≡ shown y Going mid.0 (o ++ m.0) (log ++ m.1) = runs_append s picks (pick ∷ []) n le ∙ here.1 in
+                let count : choices_at (runs_from s picks n) ≡ length (choices y.room.held y.pc) = ap choices_at here.1 ∙ count_is y Going mid.0 (o ++ m.0) (log ++ m.1) in
                 let one : counts_as (runs_from s all n).stop ≡ 1 = ap (λ (e : State). counts_as e.stop) at in (
                   (
                     under_more way v way' s picks pick (length (choices y.room.held y.pc)) n len is follows count here.0.0,
                     omega (arith, executed_more s all n, executed_append s picks (pick ∷ []) n le, here.0.1, one),
                   ),
-                  runs_more s all n ∙ ap₂ turn at (get_or_at picks pick [] 0 n len) ∙ (mid.2 b (o ++ m.0)).1 ∙ ap (λ (out : List ℕ). shown z b stop later out) (append_assoc o m.0 t.0),
+                  runs_more s all n ∙ ap₂ turn at (get_or_at picks pick [] 0 n len) ∙ (mid.2 (o ++ m.0) (log ++ m.1)).1
+                      ∙ ap₂ (λ (out : List ℕ) (events : List Event). shown z stop later out events) (append_assoc o m.0 t.0) (append_assoc log m.1 t.1),
                 ),
           ),
     )

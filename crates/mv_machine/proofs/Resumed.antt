@@ -1,7 +1,7 @@
 -- From a walk over what is seen to a call of `run`.
-use Rattle.std.proofs.Common.{ℕ, ◌≡◌, ◌<◌, ◌+◌, ◌-◌, ◌%◌, mod-eq_of_lt, inl, inr, List, [], ◌∷◌, ◌++◌, length, slice_index, slice_get, Option, Some, None, option_map, unwrap_or, IfSome, IsSomeAnd, refl, sym, ap, ap₂, ◌∙◌, subst, arith}
+use Rattle.std.proofs.Common.{ℕ, ◌≡◌, ◌<◌, ◌+◌, ◌-◌, ◌%◌, mod-eq_of_lt, inl, inr, List, [], ◌∷◌, ◌++◌, length, slice_index, slice_get, Option, Some, None, option_map, unwrap_or, IfSome, IsSomeAnd, refl, sym, ap, ap₂, ◌∙◌, subst, arith, append-nil}
 use Rattle.std.proofs.lemmas.List.{length-append, get_or_at, nil_from_length}
-use Rattle.mv_ast.specs.declared.world.Binding.{Binding}
+use Rattle.mv_ast.specs.declared.world.Action.{Action}
 use Rattle.mv_ast.specs.declared.world.Event.{Event}
 use Rattle.mv_isa.specs.Execution.{Faults, reg, step}
 use Rattle.mv_isa.specs.declared.instr.Cause.{Cause}
@@ -15,27 +15,30 @@ use Rattle.mv_machine.specs.Runs.{Stop, Going, Exit, Trap, Fault, State, Request
 use Rattle.mv_machine.specs.Snapshots.{Snapshot, resumed, Tells, Under, Asks, Reached, Whole, Broken, Answered, WantsMemory, Ran, Unless, last_of}
 use Rattle.mv_machine.specs.Moves.{Seen, shown, Meets, Moves, Called, Wanting, Turns, Goes, Walked, FaultAt}
 use Rattle.mv_machine.proofs.Turns.{turn_by, turn_faults, runs_more, executed_more, runs_over, executed_over, runs_append, IsOver}
-use Rattle.mv_machine.proofs.Moved.{SoFar, way_more, under_more, meets_more}
+use Rattle.mv_machine.proofs.Moved.{SoFar, way_more, under_more, Joins, meets_more}
 
 -- what is seen of a machine
 pub record IsSeen (m : Snapshot) (x : Seen) : Type 0 where
+  pub image : m.image ≡ x.image
   pub regs : m.regs ≡ x.regs
   pub pc : m.pc ≡ x.pc
   pub room : m.room ≡ x.room
+  pub bindings : m.bindings ≡ x.bindings
 
-resumed_is : (m : Snapshot) (x : Seen) (input : List (Option ℕ)) → IsSeen m x → shown x m.bindings Going input [] ≡ resumed m input
+resumed_is : (m : Snapshot) (x : Seen) (input : List (Option ℕ)) → IsSeen m x → shown x Going input [] [] ≡ resumed m input x.actions
 unfolding resumed
-resumed_is m x input i = rw (i.regs, i.pc, i.room) refl
+resumed_is m x input i = rw (i.image, i.regs, i.pc, i.room, i.bindings) refl
 
-reached : (e : State) (y : Seen) (bindings : List Binding) (stop : Stop) (is : Snapshot) (later : List (Option ℕ)) (more : List ℕ) (written : Option (List ℕ)) (Told : List Event → Type 0) → IsSeen is y → is.bindings ≡ bindings → y.written ≡ option_map (λ before. before ++ more) written → Told [] → e ≡ shown y bindings stop later more → Reached e stop is later written y.written Told
-reached e y bindings stop is later more written Told i b w quiet at = record {
+reached : (e : State) (y : Seen) (stop : Stop) (is : Snapshot) (later : List (Option ℕ)) (more : List ℕ) (news : List Event) (written : Option (List ℕ)) (Told : List Event → Type 0) → IsSeen is y → y.written ≡ option_map (λ before. before ++ more) written → Told news → e ≡ shown y stop later more news → Reached e stop is later written y.written Told
+reached e y stop is later more news written Told i w told at = record {
+  image = i.image ∙ sym (ap (λ (s : State). s.image) at);
   regs = i.regs ∙ sym (ap (λ (s : State). s.regs) at);
   pc = i.pc ∙ sym (ap (λ (s : State). s.pc) at);
   memory = i.room ∙ sym (ap (λ (s : State). s.room) at);
-  bindings = b ∙ sym (ap (λ (s : State). s.bindings) at);
+  bindings = i.bindings ∙ sym (ap (λ (s : State). s.bindings) at);
   input = ap (λ (s : State). s.input) at;
   output = w ∙ ap (λ (out : List ℕ). option_map (λ before. before ++ out) written) (sym (ap (λ (s : State). s.output) at));
-  told = subst Told (sym (ap (λ (s : State). s.log) at)) quiet;
+  told = subst Told (sym (ap (λ (s : State). s.log) at)) told;
   stopped = ap (λ (s : State). s.stop) at;
 }
 
@@ -72,11 +75,11 @@ some_input None = ([], tt)
 some_input (Some bytes) = (bytes_to_come bytes, refl)
 
 -- an instruction that faults leaves pc and memory
-fault_stays : (x y : Seen) (pick : ℕ) (why : Cause) → Moves (λ s. turn s pick) x y (Fault why) → (y.pc ≡ x.pc) × (y.room ≡ x.room)
-fault_stays x y pick why m =
+fault_stays : (x y : Seen) (pick : ℕ) (why : Cause) (Told : List Event → Type 0) → Moves (λ s. turn s pick) x y (Fault why) Told → (y.pc ≡ x.pc) × (y.room ≡ x.room)
+fault_stays x y pick why Told m =
     let later = some_input y.left in
-    let t = m.2 later.0 later.1 in
-    let s : State = shown x [] Going t.0 [] in
+    let t = m.4 later.0 later.1 in
+    let s : State = shown x Going t.0 [] [] in
     let at = (t.2 [] []).1 in
     let same : turn s pick ≡ stopped s (Fault why) = turn_faults s pick why refl (ap (λ (e : State). e.stop) at) in
     (ap (λ (e : State). e.pc) (sym at ∙ same), ap (λ (e : State). e.room) (sym at ∙ same))
@@ -85,21 +88,27 @@ unless : (o : Option Stopped) (X : Type 0) → X → Unless o X
 unless None X h = h
 unless (Some last) X h = tt
 
-module _ (was is : Snapshot) (x y : Seen) (a : IsSeen was x) (b : IsSeen is y) (same : is.bindings ≡ was.bindings) (rows : is.switches ≡ was.switches) (way way' : Option Way) (A B : Type 0) (Told : List Event → Type 0) (quiet : Told []) (steps : ℕ) where
+module _ (was is : Snapshot) (x y : Seen) (a : IsSeen was x) (b : IsSeen is y) (rows : is.image ≡ was.image) (way way' : Option Way) (A B : Type 0) {P : Type 0} (Tell : P → P → List Event → Type 0) (joins : (k l m : P) → Joins (Tell k l) (Tell l m) (Tell k m)) (p q : P) (steps : ℕ) where
+  abbrev Told : List Event → Type 0
+  Told = Tell p q
+
   abbrev At : List (Option ℕ) → State → Stop → Type 0
   At later e stop = Reached e stop is later x.written y.written Told
 
-  from_meets : (f : State → State) (P : State → Type 0) (stop : Stop) (Q : List (Option ℕ) → State → Type 0) → Meets P f x y stop → ((later : List (Option ℕ)) (s : State) → P s → Reached (f s) stop is later x.written y.written Told → Q later s) → (later : List (Option ℕ)) → Tells y.left later → (input : List (Option ℕ)) × Tells x.left input × Q later (resumed was input)
+  abbrev Runs : Stopped → Type 0
+  Runs r = Ran steps r was is x.actions x.left y.left x.written y.written way way' A B Told
+
+  from_meets : (f : State → State) (P : State → Type 0) (stop : Stop) (Q : List (Option ℕ) → State → Type 0) → Meets P f x y stop Told → ((later : List (Option ℕ)) (s : State) → P s → Reached (f s) stop is later x.written y.written Told → Q later s) → (later : List (Option ℕ)) → Tells y.left later → (input : List (Option ℕ)) × Tells x.left input × Q later (resumed was input x.actions)
   from_meets f P stop Q m q later tells =
-      let t = m.2 later tells in
-      let s : State = shown x was.bindings Going t.0 [] in
-      let here = t.2 was.bindings [] in
-      (t.0, t.1, subst (λ (e : State). Q later e) (resumed_is was x t.0 a) (q later s here.0 (reached (f s) y was.bindings stop is later m.0 x.written Told b same m.1 quiet here.1)))
+      let t = m.4 later tells in
+      let s : State = shown x Going t.0 [] [] in
+      let here = t.2 [] [] in
+      (t.0, t.1, subst (λ (e : State). Q later e) (resumed_is was x t.0 a) (q later s here.0 (reached (f s) y stop is later m.0 m.1 x.written Told b m.2 m.3 here.1)))
 
   -- the steps were used up
-  pub all_steps : Goes steps x y way way' → Ran steps answer.Steps was is x.left y.left x.written y.written way way' A B Told
+  pub all_steps : Goes steps x y way way' Told → Runs answer.Steps
   all_steps g = record {
-    switches = rows;
+    image = rows;
     picks = g.0;
     way_is = g.2 ∙ ap (λ (n : ℕ). option_map (λ w. way_after w n) way) (sym g.1);
     run = from_meets (λ s. runs_from s g.0 steps) (SoFar way g.0 steps) Going (λ later s. Under way s g.0 × Answered answer.Steps steps s g.0 (At later) A B) g.3
@@ -107,7 +116,7 @@ module _ (was is : Snapshot) (x y : Seen) (a : IsSeen was x) (b : IsSeen is y) (
   }
 
   -- an instruction ended the run
-  module _ (n : ℕ) (mid : Seen) (v : Option Way) (lt : n < steps) (g : Goes n x mid way v) (pick : ℕ) (below : pick < length (choices mid.room.held mid.pc)) (follows : Follows v way' (length (choices mid.room.held mid.pc)) pick) where
+  module _ (n : ℕ) (mid : Seen) (l : P) (v : Option Way) (lt : n < steps) (g : Goes n x mid way v (Tell p l)) (pick : ℕ) (below : pick < length (choices mid.room.held mid.pc)) (follows : Follows v way' (length (choices mid.room.held mid.pc)) pick) where
     abbrev all : List ℕ
     all = g.0 ++ pick ∷ []
 
@@ -133,37 +142,41 @@ module _ (was is : Snapshot) (x y : Seen) (a : IsSeen was x) (b : IsSeen is y) (
       picked = executed_to_end s stop over r.stopped ∙ p.1 ∙ sym len;
     }
 
-    ended : (stop : Stop) (r : Stopped) → IsOver stop → Moves (λ s. turn s pick) mid y stop → ((later : List (Option ℕ)) (s : State) → Whole s all steps (At later) stop → Answered r steps s all (At later) A B) → Ran steps r was is x.left y.left x.written y.written way way' A B Told
+    ended : (stop : Stop) (r : Stopped) → IsOver stop → Moves (λ s. turn s pick) mid y stop (Tell l q) → ((later : List (Option ℕ)) (s : State) → Whole s all steps (At later) stop → Answered r steps s all (At later) A B) → Runs r
     ended stop r over t answers = record {
-      switches = rows;
+      image = rows;
       picks = all;
       way_is = way_all;
       run = from_meets (λ s. runs_from s all (n + 1)) (SoFar way all (n + 1)) stop (λ later s. Under way s all × Answered r steps s all (At later) A B)
-          (meets_more x mid y stop way v way' g.0 pick n g.1 g.2 follows g.3 t)
+          (meets_more x mid y stop way v way' (Tell p l) (Tell l q) Told (joins p l q) g.0 pick n g.1 g.2 follows g.3 t)
           (λ later s p e. (p.0, answers later s (whole stop over later s p e)));
     }
 
-    pub ended_at : (status : ℕ) → Moves (λ s. turn s pick) mid y (Exit status) → Ran steps (answer.Ended status) was is x.left y.left x.written y.written way way' A B Told
+    pub ended_at : (status : ℕ) → Moves (λ s. turn s pick) mid y (Exit status) (Tell l q) → Runs (answer.Ended status)
     ended_at status t = ended (Exit status) (answer.Ended status) tt t (λ later s w. w)
 
-    pub trapped_at : (code : ℕ) → Moves (λ s. turn s pick) mid y (Trap code) → Ran steps (answer.Trapped code) was is x.left y.left x.written y.written way way' A B Told
+    pub trapped_at : (code : ℕ) → Moves (λ s. turn s pick) mid y (Trap code) (Tell l q) → Runs (answer.Trapped code)
     trapped_at code t = ended (Trap code) (answer.Trapped code) tt t (λ later s w. w)
 
-    pub fault_at : (pc : ℕ) (why : Cause) → pc ≡ y.pc → Moves (λ s. turn s pick) mid y (Fault why) → Ran steps (answer.Fault pc why) was is x.left y.left x.written y.written way way' A B Told
+    pub fault_at : (pc : ℕ) (why : Cause) → pc ≡ y.pc → Moves (λ s. turn s pick) mid y (Fault why) (Tell l q) → Runs (answer.Fault pc why)
     fault_at pc why e t = ended (Fault why) (answer.Fault pc why) tt t (λ later s w.
         let end = runs_from s all steps in
-        let still = fault_stays mid y pick why t in
+        let still = fault_stays mid y pick why (Tell l q) t in
         let count : choices_at end ≡ length (choices mid.room.held mid.pc) = choices_same end mid (sym w.reached.pc ∙ b.pc ∙ still.0) (sym w.reached.memory ∙ b.room ∙ still.1) in
         record { reached = w.reached; place = sym w.reached.pc ∙ b.pc ∙ sym e; picked = omega (arith, w.picked, count, below) })
 
+    -- nothing more was told
+    still_told : Tell l q [] → Meets (SoFar way g.0 n) (λ s. runs_from s g.0 n) x mid Going Told
+    still_told quiet = (g.3.0, g.3.1, g.3.2, subst Told (append-nil g.3.1) (joins p l q g.3.1 [] g.3.3 quiet), g.3.4)
+
     -- an instruction was fetched and not carried out
-    broken : (r : Stopped) (Why : State → ℕ → Type 0) → y ≡ mid → ((e : State) → e.regs ≡ mid.regs → e.pc ≡ mid.pc → e.room ≡ mid.room → Why e pick) → ((later : List (Option ℕ)) (s : State) → Broken s all steps (At later) Why → Answered r steps s all (At later) A B) → Ran steps r was is x.left y.left x.written y.written way way' A B Told
-    broken r Why still why answers = record {
-      switches = rows;
+    broken : (r : Stopped) (Why : State → ℕ → Type 0) → y ≡ mid → Tell l q [] → ((e : State) → e.regs ≡ mid.regs → e.pc ≡ mid.pc → e.room ≡ mid.room → Why e pick) → ((later : List (Option ℕ)) (s : State) → Broken s all steps (At later) Why → Answered r steps s all (At later) A B) → Runs r
+    broken r Why still quiet why answers = record {
+      image = rows;
       picks = all;
       way_is = way_all;
       run = from_meets (λ s. runs_from s g.0 n) (SoFar way g.0 n) Going (λ later s. Under way s all × Answered r steps s all (At later) A B)
-          (subst (λ (z : Seen). Meets (SoFar way g.0 n) (λ s. runs_from s g.0 n) x z Going) (sym still) g.3)
+          (subst (λ (z : Seen). Meets (SoFar way g.0 n) (λ s. runs_from s g.0 n) x z Going Told) (sym still) (still_told quiet))
           (λ later s p e.
           let same_state : runs_from s all n ≡ runs_from s g.0 n = runs_append s g.0 (pick ∷ []) n (omega (arith, g.1)) in
           let regs : (runs_from s g.0 n).regs ≡ mid.regs = sym e.regs ∙ b.regs ∙ ap (λ (z : Seen). z.regs) still in
@@ -181,37 +194,41 @@ module _ (was is : Snapshot) (x y : Seen) (a : IsSeen was x) (b : IsSeen is y) (
           ));
     }
 
-    pub input_fault_at : y ≡ mid → Called mid pick Reads → A → Ran steps answer.InputFault was is x.left y.left x.written y.written way way' A B Told
-    input_fault_at still c rose = broken answer.InputFault (λ e p. Asks e p Reads × A) still (λ e regs pc room. (asks e mid pick Reads regs pc room below c, rose)) (λ later s w. w)
+    pub input_fault_at : y ≡ mid → Tell l q [] → Called mid pick Reads → A → Runs answer.InputFault
+    input_fault_at still quiet c rose = broken answer.InputFault (λ e p. Asks e p Reads × A) still quiet (λ e regs pc room. (asks e mid pick Reads regs pc room below c, rose)) (λ later s w. w)
 
-    pub output_fault_at : y ≡ mid → Called mid pick Writes → B → Ran steps answer.OutputFault was is x.left y.left x.written y.written way way' A B Told
-    output_fault_at still c rose = broken answer.OutputFault (λ e p. Asks e p Writes × B) still (λ e regs pc room. (asks e mid pick Writes regs pc room below c, rose)) (λ later s w. w)
+    pub output_fault_at : y ≡ mid → Tell l q [] → Called mid pick Writes → B → Runs answer.OutputFault
+    output_fault_at still quiet c rose = broken answer.OutputFault (λ e p. Asks e p Writes × B) still quiet (λ e regs pc room. (asks e mid pick Writes regs pc room below c, rose)) (λ later s w. w)
 
-    pub memory_at : y ≡ mid → Wanting mid pick → Ran steps answer.Memory was is x.left y.left x.written y.written way way' A B Told
-    memory_at still w = broken answer.Memory WantsMemory still (λ e regs pc room. wants e mid pick regs pc room below w) (λ later s h. h)
+    pub memory_at : y ≡ mid → Tell l q [] → Wanting mid pick → Runs answer.Memory
+    memory_at still quiet w = broken answer.Memory WantsMemory still quiet (λ e regs pc room. wants e mid pick regs pc room below w) (λ later s h. h)
 
   -- there was no word to fetch
-  module _ (n : ℕ) (mid : Seen) (v : Option Way) (lt : n < steps) (g : Goes n x mid way v) (none : length (choices mid.room.held mid.pc) ≡ 0) (still : y ≡ mid) (stays : way' ≡ v) where
-    no_step : (b : List Binding) (input : List (Option ℕ)) (output : List ℕ) (pick : ℕ) → fetched_step (shown mid b Going input output) pick ≡ Faults cause.Fetch
+  module _ (n : ℕ) (mid : Seen) (l : P) (v : Option Way) (lt : n < steps) (g : Goes n x mid way v (Tell p l)) (none : length (choices mid.room.held mid.pc) ≡ 0) (still : y ≡ mid) (quiet : Tell l q []) (stays : way' ≡ v) where
+    no_step : (input : List (Option ℕ)) (output : List ℕ) (log : List Event) (pick : ℕ) → fetched_step (shown mid Going input output log) pick ≡ Faults cause.Fetch
     unfolding fetched_step
-    no_step b input output pick = unfetched mid.room (pick % choices_at (shown mid b Going input output)) mid.regs mid.pc none
+    no_step input output log pick = unfetched mid.room (pick % choices_at (shown mid Going input output log)) mid.regs mid.pc none
 
-    one_more : (b : List Binding) (input : List (Option ℕ)) (output : List ℕ) (pick : ℕ) → turn (shown mid b Going input output) pick ≡ shown mid b (Fault cause.Fetch) input output
-    one_more b input output pick = turn_by (shown mid b Going input output) pick (Faults cause.Fetch) refl (no_step b input output pick)
+    one_more : (input : List (Option ℕ)) (output : List ℕ) (log : List Event) (pick : ℕ) → turn (shown mid Going input output log) pick ≡ shown mid (Fault cause.Fetch) input output log
+    one_more input output log pick = turn_by (shown mid Going input output log) pick (Faults cause.Fetch) refl (no_step input output log pick)
 
-    to_fault : Meets (SoFar way g.0 (n + 1)) (λ s. runs_from s g.0 (n + 1)) x mid (Fault cause.Fetch)
+    to_fault : Meets (SoFar way g.0 (n + 1)) (λ s. runs_from s g.0 (n + 1)) x mid (Fault cause.Fetch) Told
     to_fault =
         let m = g.3 in (
           m.0,
           m.1,
-          λ later tells. let t = m.2 later tells in (
+          m.2,
+          subst Told (append-nil m.1) (joins p l q m.1 [] m.3 quiet),
+          λ later tells. let t = m.4 later tells in (
             t.0,
             t.1,
-            λ b o.
-                let s = shown x b Going t.0 o in
-                let here = t.2 b o in
-                let one : counts_as (runs_from s g.0 n).stop ≡ 1 = ap (λ (e : State). counts_as e.stop) here.1 in
-                ((here.0.0, omega (arith, executed_more s g.0 n, here.0.1, one)), runs_more s g.0 n ∙ ap (λ (e : State). turn e (slice_index g.0 n)) here.1 ∙ one_more b later (o ++ m.0) (slice_index g.0 n)),
+            λ o log.
+                let s = shown x Going t.0 o log in
+                let here = t.2 o log in
+                let one : counts_as (runs_from s g.0 n).stop ≡ 1 = ap (λ (e : State). counts_as e.stop) here.1 in (
+                  (here.0.0, omega (arith, executed_more s g.0 n, here.0.1, one)),
+                  runs_more s g.0 n ∙ ap (λ (e : State). turn e (slice_index g.0 n)) here.1 ∙ one_more later (o ++ m.0) (log ++ m.1) (slice_index g.0 n),
+                ),
           ),
         )
 
@@ -227,13 +244,13 @@ module _ (was is : Snapshot) (x y : Seen) (a : IsSeen was x) (b : IsSeen is y) (
     executed_to_last : (s : State) → (runs_from s g.0 (n + 1)).stop ≡ Fault cause.Fetch → executed s g.0 steps ≡ executed s g.0 (n + 1)
     executed_to_last s e = ap (λ (i : ℕ). executed s g.0 i) rest ∙ executed_over s g.0 (n + 1) (steps - (n + 1)) (over s e)
 
-    pub unfetched_at : Ran steps (answer.Fault mid.pc cause.Fetch) was is x.left y.left x.written y.written way way' A B Told
+    pub unfetched_at : Runs (answer.Fault mid.pc cause.Fetch)
     unfetched_at = record {
-      switches = rows;
+      image = rows;
       picks = g.0;
       way_is = stays ∙ g.2 ∙ ap (λ (k : ℕ). option_map (λ w. way_after w k) way) (sym g.1);
       run = from_meets (λ s. runs_from s g.0 (n + 1)) (SoFar way g.0 (n + 1)) (Fault cause.Fetch) (λ later s. Under way s g.0 × Answered (answer.Fault mid.pc cause.Fetch) steps s g.0 (At later) A B)
-          (subst (λ (z : Seen). Meets (SoFar way g.0 (n + 1)) (λ s. runs_from s g.0 (n + 1)) x z (Fault cause.Fetch)) (sym still) to_fault)
+          (subst (λ (z : Seen). Meets (SoFar way g.0 (n + 1)) (λ s. runs_from s g.0 (n + 1)) x z (Fault cause.Fetch) Told) (sym still) to_fault)
           (λ later s p e.
           let last = to_last s e.stopped in
           let end = runs_from s g.0 steps in
@@ -249,39 +266,41 @@ module _ (was is : Snapshot) (x y : Seen) (a : IsSeen was x) (b : IsSeen is y) (
           ));
     }
 
-  from_turn : (n : ℕ) (mid : Seen) (v : Option Way) (r : Stopped) → n < steps → Goes n x mid way v → FaultAt r y.pc → Turns (Some r) mid y v way' A B → Ran steps r was is x.left y.left x.written y.written way way' A B Told
-  from_turn n mid v r lt g f (inl t) =
+  from_turn : (n : ℕ) (mid : Seen) (l : P) (v : Option Way) (r : Stopped) → n < steps → Goes n x mid way v (Tell p l) → FaultAt r y.pc → Turns (Some r) mid y v way' A B (Tell l q) → Runs r
+  from_turn n mid l v r lt g f (inl t) =
       let is_fault : r ≡ answer.Fault mid.pc cause.Fetch = ap (λ (o : Option Stopped). unwrap_or o answer.Steps) t.1 in
-      subst (λ (q : Stopped). Ran steps q was is x.left y.left x.written y.written way way' A B Told) (sym is_fault) (unfetched_at n mid v lt g t.0 t.2 t.3)
-  from_turn n mid v (answer.Ended status) lt g f (inr t) = ended_at n mid v lt g t.0 t.1 t.2 status t.3
-  from_turn n mid v (answer.Trapped code) lt g f (inr t) = trapped_at n mid v lt g t.0 t.1 t.2 code t.3
-  from_turn n mid v answer.Steps lt g f (inr t) = absurd t.3
-  from_turn n mid v answer.InputFault lt g f (inr t) = input_fault_at n mid v lt g t.0 t.1 t.2 t.3.0 t.3.1 t.3.2
-  from_turn n mid v answer.OutputFault lt g f (inr t) = output_fault_at n mid v lt g t.0 t.1 t.2 t.3.0 t.3.1 t.3.2
-  from_turn n mid v (answer.Fault pc why) lt g f (inr t) = fault_at n mid v lt g t.0 t.1 t.2 pc why f t.3
-  from_turn n mid v answer.Memory lt g f (inr t) = memory_at n mid v lt g t.0 t.1 t.2 t.3.0 t.3.1
+      subst (λ (o : Stopped). Runs o) (sym is_fault) (unfetched_at n mid l v lt g t.0 t.2 t.3 t.4)
+  from_turn n mid l v (answer.Ended status) lt g f (inr t) = ended_at n mid l v lt g t.0 t.1 t.2 status t.3
+  from_turn n mid l v (answer.Trapped code) lt g f (inr t) = trapped_at n mid l v lt g t.0 t.1 t.2 code t.3
+  from_turn n mid l v answer.Steps lt g f (inr t) = absurd t.3
+  from_turn n mid l v answer.InputFault lt g f (inr t) = input_fault_at n mid l v lt g t.0 t.1 t.2 t.3.0 t.3.1 t.3.2 t.3.3
+  from_turn n mid l v answer.OutputFault lt g f (inr t) = output_fault_at n mid l v lt g t.0 t.1 t.2 t.3.0 t.3.1 t.3.2 t.3.3
+  from_turn n mid l v (answer.Fault pc why) lt g f (inr t) = fault_at n mid l v lt g t.0 t.1 t.2 pc why f t.3
+  from_turn n mid l v answer.Memory lt g f (inr t) = memory_at n mid l v lt g t.0 t.1 t.2 t.3.0 t.3.1 t.3.2
 
-  walked : (r : Option Stopped) → Walked steps r x y way way' A B → IfSome r (λ stopped. FaultAt stopped y.pc) → Ran steps (unwrap_or r answer.Steps) was is x.left y.left x.written y.written way way' A B Told
+  walked : (r : Option Stopped) → Walked Tell p q steps r x y way way' A B → IfSome r (λ stopped. FaultAt stopped y.pc) → Runs (unwrap_or r answer.Steps)
   walked None w f = all_steps w
-  walked (Some r) w f = from_turn w.0 w.1 w.2 r w.3 w.4 f w.5
+  walked (Some r) w f = from_turn w.0 w.1 w.2 w.3 r w.4 w.5 f w.6
 
-  pub ran : (r : Option Stopped) (result : Stopped) (last : Option Stopped) → result ≡ unwrap_or r answer.Steps → Walked steps r x y way way' A B → IfSome r (λ stopped. FaultAt stopped y.pc) → Unless last (Ran steps result was is x.left y.left x.written y.written way way' A B Told)
-  ran r result last e w f = unless last _ (subst (λ (q : Stopped). Ran steps q was is x.left y.left x.written y.written way way' A B Told) (sym e) (walked r w f))
+  pub ran : (actions : List Action) → x.actions ≡ actions → (r : Option Stopped) (result : Stopped) (last : Option Stopped) → result ≡ unwrap_or r answer.Steps → Walked Tell p q steps r x y way way' A B → IfSome r (λ stopped. FaultAt stopped y.pc)
+      → Unless last (Ran steps result was is actions x.left y.left x.written y.written way way' A B Told)
+  ran actions handed r result last e w f = unless last _
+      (subst (λ (all : List Action). Ran steps result was is all x.left y.left x.written y.written way way' A B Told) handed (subst (λ (o : Stopped). Runs o) (sym e) (walked r w f)))
 
 abbrev is_fault : Option Stopped → Type 0
 is_fault (Some (answer.Fault pc why)) = Unit {0}
 is_fault _ = ⊥
 
-not_steps : (x y : Seen) (way way' : Option Way) (A B : Type 0) → Turns (Some answer.Steps) x y way way' A B → ⊥
-not_steps x y way way' A B (inl t) = subst (λ (r : Option Stopped). is_fault r) (sym t.1) tt
-not_steps x y way way' A B (inr t) = t.3
+not_steps : (x y : Seen) (way way' : Option Way) (A B : Type 0) (Told : List Event → Type 0) → Turns (Some answer.Steps) x y way way' A B Told → ⊥
+not_steps x y way way' A B Told (inl t) = subst (λ (r : Option Stopped). is_fault r) (sym t.1) tt
+not_steps x y way way' A B Told (inr t) = t.3
 
-pub last_is : (steps : ℕ) (x y : Seen) (way way' : Option Way) (A B : Type 0) (r : Option Stopped) → Walked steps r x y way way' A B → r ≡ last_of (unwrap_or r answer.Steps)
-last_is steps x y way way' A B None w = refl
-last_is steps x y way way' A B (Some (answer.Ended status)) w = refl
-last_is steps x y way way' A B (Some (answer.Trapped code)) w = refl
-last_is steps x y way way' A B (Some answer.Steps) w = absurd (not_steps w.1 y w.2 way' A B w.5)
-last_is steps x y way way' A B (Some answer.InputFault) w = refl
-last_is steps x y way way' A B (Some answer.OutputFault) w = refl
-last_is steps x y way way' A B (Some (answer.Fault pc why)) w = refl
-last_is steps x y way way' A B (Some answer.Memory) w = refl
+pub last_is : {P : Type 0} (Tell : P → P → List Event → Type 0) (p q : P) (steps : ℕ) (x y : Seen) (way way' : Option Way) (A B : Type 0) (r : Option Stopped) → Walked Tell p q steps r x y way way' A B → r ≡ last_of (unwrap_or r answer.Steps)
+last_is Tell p q steps x y way way' A B None w = refl
+last_is Tell p q steps x y way way' A B (Some (answer.Ended status)) w = refl
+last_is Tell p q steps x y way way' A B (Some (answer.Trapped code)) w = refl
+last_is Tell p q steps x y way way' A B (Some answer.Steps) w = absurd (not_steps w.1 y w.3 way' A B (Tell w.2 q) w.6)
+last_is Tell p q steps x y way way' A B (Some answer.InputFault) w = refl
+last_is Tell p q steps x y way way' A B (Some answer.OutputFault) w = refl
+last_is Tell p q steps x y way way' A B (Some (answer.Fault pc why)) w = refl
+last_is Tell p q steps x y way way' A B (Some answer.Memory) w = refl

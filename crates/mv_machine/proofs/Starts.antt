@@ -1,25 +1,39 @@
 -- The start of a machine.
 use Rattle.std.proofs.Common.{ℕ, ◌≡◌, ◌+◌, ◌*◌, List, [], length, replicate, Option, None, refl, ap, ap₂, ◌∙◌}
+use Rattle.mv_ast.specs.declared.world.Action.{Action}
 use Rattle.mv_ast.specs.declared.world.Binding.{Binding}
 use Rattle.mv_ast.specs.Plans.{free}
-use Rattle.mv_descriptors.specs.declared.rows.SwitchRow.{SwitchRow}
 use Rattle.mv_fetch.specs.Held.{Held, Room, first as first_memory}
+use Rattle.mv_descriptors.specs.declared.rows.SwitchRow.{SwitchRow}
+use Rattle.mv_descriptors.specs.declared.rows.FunctionRow.{FunctionRow}
+use Rattle.mv_descriptors.specs.declared.rows.VariantRow.{VariantRow}
+use Rattle.mv_descriptors.specs.declared.rows.GuardRow.{GuardRow}
+use Rattle.mv_descriptors.specs.declared.rows.SiteRow.{SiteRow}
 use Rattle.mv_image.specs.Spelling.{Fields}
-use Rattle.mv_machine.specs.Runs.{first, patchable}
+use Rattle.mv_image.specs.Format.{FitsFormat}
+use Rattle.mv_patch.specs.Tables.{patchable}
+use Rattle.mv_machine.specs.Runs.{first}
 use Rattle.mv_machine.specs.Snapshots.{Snapshot, kept, resumed}
 
-abbrev snapshot : (switches : List SwitchRow) (pc : ℕ) (held : Held) (spare reserve : ℕ) (bindings : List Binding) → Snapshot
-snapshot switches pc held spare reserve bindings = record { switches = switches; regs = replicate 32 0; pc = pc; room = record { held = held; spare = spare; reserve = reserve }; bindings = bindings; last = None }
+abbrev snapshot : (image : Fields) (pc : ℕ) (held : Held) (spare reserve : ℕ) (bindings : List Binding) → Snapshot
+snapshot image pc held spare reserve bindings = record { image = image; regs = replicate 32 0; pc = pc; room = record { held = held; spare = spare; reserve = reserve }; bindings = bindings; last = None }
 
-pub started : (image : Fields) (switches : List SwitchRow) (pc : ℕ) (room : Room) (bindings : List Binding) (count n : ℕ) → switches ≡ image.switches → pc ≡ image.entry → room.held ≡ first_memory image.text image.globals → room.spare ≡ n → room.reserve ≡ n → n ≡ length image.functions + 2 * length image.sites → bindings ≡ replicate count free → count ≡ length image.functions → snapshot switches pc room.held room.spare room.reserve bindings ≡ kept image.switches (first image []) None
+pub started : (image same : Fields) (pc : ℕ) (room : Room) (bindings : List Binding) (count n : ℕ) → same ≡ image → pc ≡ image.entry → room.held ≡ first_memory image.text image.globals → room.spare ≡ n → room.reserve ≡ n → n ≡ length image.functions + 2 * length image.sites → bindings ≡ replicate count free → count ≡ length image.functions
+    → snapshot same pc room.held room.spare room.reserve bindings ≡ kept (first image [] []) None
 unfolding kept first patchable
-started image switches pc room bindings count n w p h s r e b c =
-    ap (λ (l : List SwitchRow). snapshot l pc room.held room.spare room.reserve bindings) w
-    ∙ ap₂ (λ (q : ℕ) (m : Held). snapshot image.switches q m room.spare room.reserve bindings) p h
-    ∙ ap₂ (λ (k l : ℕ). snapshot image.switches image.entry (first_memory image.text image.globals) k l bindings) (s ∙ e) (r ∙ e)
-    ∙ ap (λ (l : List Binding). snapshot image.switches image.entry (first_memory image.text image.globals) (patchable image) (patchable image) l) (b ∙ ap (λ (k : ℕ). replicate k free) c)
+started image same pc room bindings count n w p h s r e b c =
+    ap (λ (i : Fields). snapshot i pc room.held room.spare room.reserve bindings) w
+    ∙ ap₂ (λ (q : ℕ) (m : Held). snapshot image q m room.spare room.reserve bindings) p h
+    ∙ ap₂ (λ (k l : ℕ). snapshot image image.entry (first_memory image.text image.globals) k l bindings) (s ∙ e) (r ∙ e)
+    ∙ ap (λ (l : List Binding). snapshot image image.entry (first_memory image.text image.globals) (patchable image) (patchable image) l) (b ∙ ap (λ (k : ℕ). replicate k free) c)
+
+-- parts that are an image's fit the format
+pub copied_fits : (image : Fields) (entry : ℕ) (text globals : List ℕ) (switches : List SwitchRow) (functions : List FunctionRow) (variants : List VariantRow) (guards : List GuardRow) (sites : List SiteRow) (names : List (List ℕ))
+    → entry ≡ image.entry → text ≡ image.text → globals ≡ image.globals → switches ≡ image.switches → functions ≡ image.functions → variants ≡ image.variants → guards ≡ image.guards → sites ≡ image.sites → names ≡ image.names
+    → FitsFormat image → FitsFormat (record { entry = entry; text = text; globals = globals; switches = switches; functions = functions; variants = variants; guards = guards; sites = sites; names = names })
+copied_fits image entry text globals switches functions variants guards sites names e t g s f v u w n fits = rw (e, t, g, s, f, v, u, w, n) fits
 
 -- a run of a machine that has just been started is the run of its image
-pub first_state : (image : Fields) (input : List (Option ℕ)) → resumed (kept image.switches (first image []) None) input ≡ first image input
+pub first_state : (image : Fields) (input : List (Option ℕ)) (actions : List Action) → resumed (kept (first image [] []) None) input actions ≡ first image input actions
 unfolding resumed kept first
-first_state image input = refl
+first_state image input actions = refl

@@ -1,10 +1,14 @@
 -- How a run grows by one instruction, and that nothing follows its end.
-use Rattle.std.proofs.Common.{ℕ, zero, suc, ◌≡◌, ◌≤◌, ◌+◌, add-one, List, ◌++◌, length, slice_index, refl, sym, ap, ap₂, ◌∙◌, subst, arith}
+use Rattle.std.proofs.Common.{ℕ, zero, suc, Bool, true, false, if◌then◌else◌, nat_eq, [], ◌∷◌, ◌≡◌, ◌≤◌, ◌+◌, ◌-◌, ◌^◌, add-one, List, ◌++◌, length, slice_index, refl, sym, ap, ap₂, ◌∙◌, subst, arith}
 use Rattle.std.proofs.lemmas.List.{get_or_append_left}
+use Rattle.mv_ast.specs.declared.world.Action.{Action}
+use Rattle.mv_ast.specs.declared.world.Action.TheVariants.{Skip, Flip}
+use Rattle.mv_isa.specs.declared.instr.Cause.TheVariants as cause
 use Rattle.mv_isa.specs.Execution.{Outcome, Goes, Calls, Faults, reg}
 use Rattle.mv_isa.specs.declared.instr.Cause.{Cause}
 use Rattle.mv_fetch.specs.Held.{Room}
-use Rattle.mv_machine.specs.Runs.{Stop, Going, Exit, Trap, Fault, Request, Exits, Reads, Writes, Traps, Unknown, request_of, environment_call, answered, stopped, State, where_going, after, fetched_step, turn, runs_from, executed, counts_as}
+use Rattle.mv_patch.specs.Orders.{is_known_order}
+use Rattle.mv_machine.specs.Runs.{Stop, Going, Exit, Trap, Fault, Request, Exits, Reads, Writes, Traps, Plans, Polls, Unknown, request_of, environment_call, argument, answered, stopped, live_frames, refused, ordered, planned, act, acted, polled, State, where_going, after, fetched_step, turn, runs_from, executed, counts_as}
 
 -- after no instruction
 pub runs_none : (s : State) (picks : List ℕ) → runs_from s picks 0 ≡ s
@@ -35,12 +39,42 @@ IsFault (Fault why) = Unit {0}
 is_fault : (why : Cause) (stop : Stop) → stop ≡ Fault why → IsFault stop
 is_fault why stop e = subst (λ t. IsFault t) (sym e) tt
 
+either_goes : (b : Bool) (x y : State) → x.stop ≡ Going → y.stop ≡ Going → (if b then x else y).stop ≡ Going
+either_goes true x y h k = h
+either_goes false x y h k = k
+
+act_goes : (action : Action) (s : State) → s.stop ≡ Going → (act action s).stop ≡ Going
+unfolding answered
+act_goes Skip s going = going
+act_goes (Flip switch value) s going = going
+
+acted_goes : (s : State) (actions : List Action) → s.stop ≡ Going → (acted s actions).stop ≡ Going
+unfolding answered
+acted_goes s [] going = going
+acted_goes s (action ∷ later) going = act_goes action (record s { actions = later }) going
+
+polled_goes : (s : State) → s.stop ≡ Going → (polled s).stop ≡ Going
+unfolding polled answered
+polled_goes s going = either_goes (nat_eq (live_frames s) 0) (acted s s.actions) (refused s 0) (acted_goes s s.actions going) going
+
+known_or_fault : (known : Bool) (x s : State) (why : Cause) → x.stop ≡ Going → (if known then x else stopped s (Fault cause.Call)).stop ≡ Fault why → (if known then x else stopped s (Fault cause.Call)) ≡ stopped s (Fault why)
+known_or_fault true x s why going e = absurd (is_fault why Going (sym going ∙ e))
+known_or_fault false x s why going e = ap (λ (stop : Stop). stopped s stop) e
+
+planned_faults : (s : State) (code index : ℕ) (why : Cause) → s.stop ≡ Going → (planned s code index).stop ≡ Fault why → planned s code index ≡ stopped s (Fault why)
+unfolding planned answered
+planned_faults s code index why going e =
+    known_or_fault (is_known_order s.image code index) (if nat_eq (live_frames s) 0 then ordered s code index else refused s (2 ^ 32 - 1)) s why
+    (either_goes (nat_eq (live_frames s) 0) (ordered s code index) (refused s (2 ^ 32 - 1)) going going) e
+
 call_faults : (request : Request) (s : State) (why : Cause) → s.stop ≡ Going → (environment_call request s).stop ≡ Fault why → environment_call request s ≡ stopped s (Fault why)
 unfolding answered
 call_faults Exits s why going e = absurd (is_fault why _ e)
 call_faults Reads s why going e = absurd (is_fault why Going (sym going ∙ e))
 call_faults Writes s why going e = absurd (is_fault why Going (sym going ∙ e))
 call_faults Traps s why going e = ap (λ (stop : Stop). stopped s stop) e
+call_faults Plans s why going e = planned_faults s (argument s) (reg s.regs 11) why going e
+call_faults Polls s why going e = absurd (is_fault why Going (sym (polled_goes s going) ∙ e))
 call_faults Unknown s why going e = ap (λ (stop : Stop). stopped s stop) e
 
 after_faults : (outcome : Outcome Room) (s : State) (why : Cause) → s.stop ≡ Going → (after outcome s).stop ≡ Fault why → after outcome s ≡ stopped s (Fault why)

@@ -2,6 +2,7 @@
 use Rattle.std.proofs.Common.{ℕ, ◌≡◌, ◌<◌, ◌≤◌, ◌+◌, inl, inr, List, [], ◌∷◌, ◌++◌, length, Option, Some, None, option_map, unwrap_or, slice_get, option_and_then, IsSomeAnd, refl, sym, ap, ap₂, ◌∙◌, subst, arith, append-nil}
 use Rattle.std.proofs.lemmas.List.{length-append}
 use Rattle.std.proofs.lemmas.Option.{none-some}
+use Rattle.mv_ast.specs.declared.world.Event.{Event}
 use Rattle.mv_isa.specs.declared.instr.Cause.{Cause}
 use Rattle.mv_isa.specs.Execution.{Goes as GoesTo, Calls, Faults, reg, step}
 use Rattle.mv_fetch.specs.Held.{Room, IsInText, choices, only}
@@ -13,9 +14,9 @@ use Rattle.mv_machine.specs.declared.machine.Stopped.{Stopped}
 use Rattle.mv_machine.specs.declared.machine.Stopped.TheVariants as answer
 use Rattle.mv_machine.specs.Runs.{Stop, Going, Fault, State, Reads, Writes, request_of, environment_call, turn, executed}
 use Rattle.mv_machine.specs.Snapshots.{Under}
-use Rattle.mv_machine.specs.Moves.{Seen, seen, shown, Moves, Outcomes, Called, Wanting, Fetched, Turns, Goes}
+use Rattle.mv_machine.specs.Moves.{Seen, shown, Moves, Outcomes, FromCall, Called, Wanting, Fetched, Turns, Goes}
 use Rattle.mv_machine.proofs.Turns.{turn_by, runs_none}
-use Rattle.mv_machine.proofs.Moved.{nothing_written, moves_quietly, moves_as, fetched, way_more, meets_more}
+use Rattle.mv_machine.proofs.Moved.{nothing_written, moves_quietly, moves_as, fetched, way_more, Joins, meets_more}
 
 pub outcomes_map : {m n : Stop → Type 0} {i j o p w v : Type 0} (r : Option Stopped) → ((s : Stop) → m s → n s) → (i → j) → (o → p) → (w → v) → Outcomes r m i o w → Outcomes r n j p v
 outcomes_map None f a b d h = f _ h
@@ -29,29 +30,30 @@ outcomes_map (Some answer.Memory) f a b d h = d h
 
 -- ---- one instruction
 
-pub steps_on : (x : Seen) (hart' : Hart) (room' : Room) (pick : ℕ) → pick < length (choices x.room.held x.pc) → picked_step x.room pick x.regs x.pc ≡ GoesTo hart'.regs hart'.pc room' → Moves (λ s. turn s pick) x (seen hart' room' x.left x.written) Going
-steps_on x hart' room' pick lt e =
-    moves_quietly (λ s. turn s pick) x (seen hart' room' x.left x.written) Going refl refl
-    (λ b i o. turn_by (shown x b Going i o) pick (GoesTo hart'.regs hart'.pc room') refl (fetched x b Going i o pick lt ∙ e))
+-- an engine with another hart and another memory
+abbrev pub stepped : Seen → Hart → Room → Seen
+stepped x hart room = record x { regs = hart.regs; pc = hart.pc; room = room }
 
-pub faults : (x y : Seen) (why : Cause) (pick : ℕ) → y ≡ x → pick < length (choices x.room.held x.pc) → picked_step x.room pick x.regs x.pc ≡ Faults why → Moves (λ s. turn s pick) x y (Fault why)
-faults x y why pick same lt e = subst (λ z. Moves (λ s. turn s pick) x z (Fault why)) (sym same)
-    (moves_quietly (λ s. turn s pick) x x (Fault why) refl refl
-    (λ b i o. turn_by (shown x b Going i o) pick (Faults why) refl (fetched x b Going i o pick lt ∙ e)))
+pub steps_on : (x : Seen) (hart' : Hart) (room' : Room) (pick : ℕ) (Told : List Event → Type 0) → Told [] → pick < length (choices x.room.held x.pc) → picked_step x.room pick x.regs x.pc ≡ GoesTo hart'.regs hart'.pc room' → Moves (λ s. turn s pick) x (stepped x hart' room') Going Told
+steps_on x hart' room' pick Told quiet lt e =
+    moves_quietly (λ s. turn s pick) x (stepped x hart' room') Going Told refl refl quiet
+    (λ i o l. turn_by (shown x Going i o l) pick (GoesTo hart'.regs hart'.pc room') refl (fetched x Going i o l pick lt ∙ e))
 
-abbrev pub FromCall : Option Stopped → Seen → Seen → Type 0 → Type 0 → Type 0
-FromCall r z y A B = Outcomes r (Moves (environment_call (request_of (reg z.regs 17))) z y) ((y ≡ z) × (request_of (reg z.regs 17) ≡ Reads) × A) ((y ≡ z) × (request_of (reg z.regs 17) ≡ Writes) × B) ⊥
+pub faults : (x y : Seen) (why : Cause) (pick : ℕ) (Told : List Event → Type 0) → Told [] → y ≡ x → pick < length (choices x.room.held x.pc) → picked_step x.room pick x.regs x.pc ≡ Faults why → Moves (λ s. turn s pick) x y (Fault why) Told
+faults x y why pick Told quiet same lt e = subst (λ z. Moves (λ s. turn s pick) x z (Fault why) Told) (sym same)
+    (moves_quietly (λ s. turn s pick) x x (Fault why) Told refl refl quiet
+    (λ i o l. turn_by (shown x Going i o l) pick (Faults why) refl (fetched x Going i o l pick lt ∙ e)))
 
-pub calls : (r : Option Stopped) (x z y : Seen) (pick : ℕ) (A B W : Type 0) → z ≡ x → pick < length (choices x.room.held x.pc) → picked_step x.room pick x.regs x.pc ≡ Calls → FromCall r z y A B → Outcomes r (Moves (λ s. turn s pick) x y) ((y ≡ x) × Called x pick Reads × A) ((y ≡ x) × Called x pick Writes × B) W
-calls r x z y pick A B W same lt e h = outcomes_map r
-    (λ stop m. moves_as (environment_call (request_of (reg x.regs 17))) (λ s. turn s pick) x y stop (λ b i o. turn_by (shown x b Going i o) pick Calls refl (fetched x b Going i o pick lt ∙ e)) m)
-    (λ i. (i.0, (e, i.1), i.2))
-    (λ o. (o.0, (e, o.1), o.2))
+pub same_stepped : (x : Seen) (hart hart' : Hart) (room room' : Room) → hart' ≡ hart → room' ≡ room → stepped x hart' room' ≡ stepped x hart room
+same_stepped x hart hart' room room' h r = ap₂ (λ (g : Hart) (m : Room). stepped x g m) h r
+
+pub calls : (r : Option Stopped) (x z y : Seen) (pick : ℕ) (A B W : Type 0) (Told : List Event → Type 0) → z ≡ x → pick < length (choices x.room.held x.pc) → picked_step x.room pick x.regs x.pc ≡ Calls → FromCall r z y A B Told → Outcomes r (λ stop. Moves (λ s. turn s pick) x y stop Told) ((y ≡ x) × Told [] × Called x pick Reads × A) ((y ≡ x) × Told [] × Called x pick Writes × B) W
+calls r x z y pick A B W Told same lt e h = outcomes_map r
+    (λ stop m. moves_as (environment_call (request_of (reg x.regs 17))) (λ s. turn s pick) x y stop Told (λ i o l. turn_by (shown x Going i o l) pick Calls refl (fetched x Going i o l pick lt ∙ e)) m)
+    (λ i. (i.0, i.1, (e, i.2), i.3))
+    (λ o. (o.0, o.1, (e, o.2), o.3))
     (λ w. absurd w)
-    (subst (λ (u : Seen). FromCall r u y A B) same h)
-
-pub same_seen : (hart hart' : Hart) (room room' : Room) (left written : Option (List ℕ)) → hart' ≡ hart → room' ≡ room → seen hart' room' left written ≡ seen hart room left written
-same_seen hart hart' room room' left written h r = ap₂ (λ (g : Hart) (m : Room). seen g m left written) h r
+    (subst (λ (u : Seen). FromCall r u y A B Told) same h)
 
 -- ---- so many
 
@@ -68,38 +70,46 @@ unfolding way_after
 way_none None = refl
 way_none (Some w) = refl
 
-pub goes_none : (x : Seen) (way : Option Way) → Goes 0 x x way way
-goes_none x way = (
+pub goes_none : (x : Seen) (way : Option Way) (Told : List Event → Type 0) → Told [] → Goes 0 x x way way Told
+goes_none x way Told quiet = (
   [],
   refl,
   way_none way,
   (
     [],
+    [],
     nothing_written x.written,
+    quiet,
     λ later tells. (
       later,
       tells,
-      λ b o.
-          ((under_none way (shown x b Going later o), executed_none (shown x b Going later o) []), runs_none (shown x b Going later o) [] ∙ ap (λ (out : List ℕ). shown x b Going later out) (sym (append-nil o))),
+      λ o log. (
+        (under_none way (shown x Going later o log), executed_none (shown x Going later o log) []),
+        runs_none (shown x Going later o log) [] ∙ ap₂ (λ (out : List ℕ) (events : List Event). shown x Going later out events) (sym (append-nil o)) (sym (append-nil log)),
+      ),
     ),
   ),
 )
 
-pub goes_more : (n : ℕ) (x y z : Seen) (way v way' : Option Way) (A B : Type 0) → Goes n x y way v → Turns None y z v way' A B → Goes (n + 1) x z way way'
-goes_more n x y z way v way' A B g (inl t) = absurd (none-some _ t.1)
-goes_more n x y z way v way' A B g (inr t) =
-    (g.0 ++ t.0 ∷ [], omega (arith, length-append g.0 (t.0 ∷ []), g.1), way_more way v way' _ t.0 n g.2 t.2, meets_more x y z Going way v way' g.0 t.0 n g.1 g.2 t.2 g.3 t.3)
+pub goes_more : (n : ℕ) (x y z : Seen) (way v way' : Option Way) (A B : Type 0) (Before Behind Told : List Event → Type 0) → Joins Before Behind Told → Goes n x y way v Before → Turns None y z v way' A B Behind → Goes (n + 1) x z way way' Told
+goes_more n x y z way v way' A B Before Behind Told joins g (inl t) = absurd (none-some _ t.1)
+goes_more n x y z way v way' A B Before Behind Told joins g (inr t) = (
+  g.0 ++ t.0 ∷ [],
+  omega (arith, length-append g.0 (t.0 ∷ []), g.1),
+  way_more way v way' _ t.0 n g.2 t.2,
+  meets_more x y z Going way v way' Before Behind Told joins g.0 t.0 n g.1 g.2 t.2 g.3 t.3,
+)
 
 pub rose_later : (a b c : ℕ) → a ≤ b → Rose b c → Rose a c
 rose_later a b c h r = omega arith
 
 -- the causes at the outside, seen from an earlier time
-pub turns_since : (r : Option Stopped) (x y : Seen) (way way' : Option Way) (A B A' B' : Type 0) → (A → A') → (B → B') → Turns r x y way way' A B → Turns r x y way way' A' B'
-turns_since r x y way way' A B A' B' f k (inl t) = inl t
-turns_since r x y way way' A B A' B' f k (inr t) = inr (t.0, t.1, t.2, outcomes_map r (λ stop m. m) (λ i. (i.0, i.1, f i.2)) (λ o. (o.0, o.1, k o.2)) (λ w. w) t.3)
+pub turns_since : (r : Option Stopped) (x y : Seen) (way way' : Option Way) (A B A' B' : Type 0) (Told : List Event → Type 0) → (A → A') → (B → B') → Turns r x y way way' A B Told → Turns r x y way way' A' B' Told
+turns_since r x y way way' A B A' B' Told f k (inl t) = inl t
+turns_since r x y way way' A B A' B' Told f k (inr t) = inr (t.0, t.1, t.2, outcomes_map r (λ stop m. m) (λ i. (i.0, i.1, i.2, f i.3)) (λ o. (o.0, o.1, o.2, k o.3)) (λ w. w) t.3)
 
-pub goes_at : (x y : Seen) (way way' : Option Way) (n m : ℕ) → n ≡ m → Goes n x y way way' → Goes m x y way way'
-goes_at x y way way' n m e g = subst (λ k. Goes k x y way way') e g
+pub goes_at : (x y : Seen) (way way' : Option Way) (Told : List Event → Type 0) (n m : ℕ) → n ≡ m → Goes n x y way way' Told → Goes m x y way way' Told
+goes_at x y way way' Told n m e g = subst (λ k. Goes k x y way way' Told) e g
 
 -- ---- a step with the word that was fetched
 

@@ -1,4 +1,6 @@
 pub mod Runs
+pub mod Commits
+pub mod Engines
 pub mod Snapshots
 pub mod Moves
 pub mod Actions

@@ -2,44 +2,71 @@
 use Rattle.std.specs.Prelude.{ℕ, ◌≡◌, ◌%◌, ◌^◌, ◌<◌, ◌⊎◌, ◌∷◌, List, [], ◌++◌, length, slice_get, Option, Some, None, option_map, IsSomeAnd, Ok}
 use Rattle.mv_num.specs.Words.{add}
 use Rattle.mv_ast.specs.declared.world.Binding.{Binding}
+use Rattle.mv_ast.specs.declared.world.Action.{Action}
+use Rattle.mv_ast.specs.declared.world.Event.{Event}
+use Rattle.mv_image.specs.Spelling.{Fields}
 use Rattle.mv_isa.specs.declared.instr.Cause.TheVariants as cause
 use Rattle.mv_isa.specs.Execution.{put, reg, Calls}
 use Rattle.mv_fetch.specs.Held.{Room, IsInText, choices}
 use Rattle.mv_rv32.specs.Stepping.{picked_step, picked_target, IsCarriedOut}
 use Rattle.mv_rv32.specs.declared.hart.Hart.{Hart}
+use Rattle.mv_machine.specs.declared.engine.Engine.{Engine}
 use Rattle.mv_io.specs.Outside.{Takes}
 use Rattle.mv_io.specs.declared.outside.Failed.{Failed}
 use Rattle.mv_probe.specs.Ways.{Way, Follows, way_after}
 use Rattle.mv_machine.specs.declared.machine.Stopped.{Stopped}
 use Rattle.mv_machine.specs.declared.machine.Stopped.TheVariants as answer
-use Rattle.mv_machine.specs.Runs.{State, Stop, Going, Exit, Trap, Fault, Request, Reads, Writes, request_of, word_read, turn, runs_from, executed}
+use Rattle.mv_machine.specs.Runs.{State, Stop, Going, Exit, Trap, Fault, Request, Reads, Writes, request_of, environment_call, word_read, turn, runs_from, executed}
 use Rattle.mv_machine.specs.Snapshots.{Tells, Under}
 
--- the hart and the memory, and what the source and the sink tell
+-- the engine of a machine, the actions that are left, and what the source and the sink tell
 pub record Seen : Type 0 where
+  pub image : Fields
   pub regs : List ℕ
   pub pc : ℕ
   pub room : Room
+  pub bindings : List Binding
+  pub actions : List Action
   pub left : Option (List ℕ)
   pub written : Option (List ℕ)
 
-abbrev pub seen : Hart → Room → (left written : Option (List ℕ)) → Seen
-seen hart room left written = record { regs = hart.regs; pc = hart.pc; room = room; left = left; written = written }
+abbrev pub seen : Engine → List Action → (left written : Option (List ℕ)) → Seen
+seen engine actions left written = record {
+  image = engine.image;
+  regs = engine.hart.regs;
+  pc = engine.hart.pc;
+  room = engine.memory;
+  bindings = engine.bindings;
+  actions = actions;
+  left = left;
+  written = written;
+}
 
 -- the state of which that is seen
-abbrev pub shown : Seen → List Binding → Stop → (input : List (Option ℕ)) → (output : List ℕ) → State
-shown x bindings stop input output = record { regs = x.regs; pc = x.pc; room = x.room; bindings = bindings; input = input; output = output; log = []; stop = stop }
+abbrev pub shown : Seen → Stop → (input : List (Option ℕ)) → (output : List ℕ) → (log : List Event) → State
+shown x stop input output log = record {
+  image = x.image;
+  regs = x.regs;
+  pc = x.pc;
+  room = x.room;
+  bindings = x.bindings;
+  input = input;
+  actions = x.actions;
+  output = output;
+  log = log;
+  stop = stop;
+}
 
--- one more piece of output stands in the sink, and whatever is still to come, the function takes a state of the first kind with a fitting input to
--- the one of the second kind; and P holds of the first
-abbrev pub Meets : (State → Type 0) → (State → State) → Seen → Seen → Stop → Type 0
-Meets P f x y stop =
-    (more : List ℕ) × (y.written ≡ option_map (λ before. before ++ more) x.written)
+-- one more piece of output stands in the sink, the probes were told some events, and whatever is still to come, the function takes a state of the
+-- first kind with a fitting input to the one of the second kind; and P holds of the first
+abbrev pub Meets : (State → Type 0) → (State → State) → Seen → Seen → Stop → (Told : List Event → Type 0) → Type 0
+Meets P f x y stop Told =
+    (more : List ℕ) × (news : List Event) × (y.written ≡ option_map (λ before. before ++ more) x.written) × Told news
     × ((later : List (Option ℕ)) → Tells y.left later → (input : List (Option ℕ)) × Tells x.left input
-    × ((bindings : List Binding) (output : List ℕ) → P (shown x bindings Going input output) × (f (shown x bindings Going input output) ≡ shown y bindings stop later (output ++ more))))
+    × ((output : List ℕ) (log : List Event) → P (shown x Going input output log) × (f (shown x Going input output log) ≡ shown y stop later (output ++ more) (log ++ news))))
 
-abbrev pub Moves : (State → State) → Seen → Seen → Stop → Type 0
-Moves f x y stop = Meets (λ s. Unit {0}) f x y stop
+abbrev pub Moves : (State → State) → Seen → Seen → Stop → (Told : List Event → Type 0) → Type 0
+Moves f x y stop Told = Meets (λ s. Unit {0}) f x y stop Told
 
 -- a read that did not fail
 abbrev pub Gets : Hart → Hart → (left left' : Option (List ℕ)) → Type 0
@@ -61,6 +88,18 @@ Outcomes (Some answer.InputFault) moves input output memory = input
 Outcomes (Some answer.OutputFault) moves input output memory = output
 Outcomes (Some (answer.Fault pc why)) moves input output memory = moves (Fault why)
 Outcomes (Some answer.Memory) moves input output memory = memory
+
+-- A call of the environment: what it does where it goes on or stops the run. Where a read or a write failed, nothing changed.
+abbrev pub FromCall : Option Stopped → Seen → Seen → (input_rose output_rose : Type 0) → (Told : List Event → Type 0) → Type 0
+FromCall result x y input_rose output_rose Told =
+    let request = request_of (reg x.regs 17) in
+    Outcomes result (λ stop. Moves (environment_call request) x y stop Told) ((y ≡ x) × Told [] × (request ≡ Reads) × input_rose) ((y ≡ x) × Told [] × (request ≡ Writes) × output_rose) ⊥
+
+-- a call that neither reads nor writes does what a function does to a state, with some events
+abbrev pub Does : (State → State) → Engine → List Action → Engine → List Action → Stop → List Event → Type 0
+Does f engine actions engine' actions' stop news =
+    (left written : Option (List ℕ)) (input : List (Option ℕ)) (output : List ℕ) (log : List Event) →
+    f (shown (seen engine actions left written) Going input output log) ≡ shown (seen engine' actions' left written) stop input output (log ++ news)
 
 -- an answer that is a stop of the definition
 abbrev pub IsStop : Stopped → Stop → Type 0
@@ -87,24 +126,26 @@ abbrev pub Wanting : Seen → (pick : ℕ) → Type 0
 Wanting x pick = IsSomeAnd (picked_target x.room pick x.regs x.pc) IsInText × (x.room.spare ≡ 0) × IsCarriedOut (picked_step x.room pick x.regs x.pc)
 
 -- one instruction: no fetch there, or the one that the oracle picks
-abbrev pub Turns : Option Stopped → Seen → Seen → Option Way → Option Way → (input_rose output_rose : Type 0) → Type 0
-Turns result x y way way' input_rose output_rose =
+abbrev pub Turns : Option Stopped → Seen → Seen → Option Way → Option Way → (input_rose output_rose : Type 0) → (Told : List Event → Type 0) → Type 0
+Turns result x y way way' input_rose output_rose Told =
     let count = length (choices x.room.held x.pc) in
-    ((count ≡ 0) × (result ≡ Some (answer.Fault x.pc cause.Fetch)) × (y ≡ x) × (way' ≡ way))
+    ((count ≡ 0) × (result ≡ Some (answer.Fault x.pc cause.Fetch)) × (y ≡ x) × Told [] × (way' ≡ way))
     ⊎ ((pick : ℕ) × (pick < count) × Follows way way' count pick
-    × Outcomes result (Moves (λ s. turn s pick) x y) ((y ≡ x) × Called x pick Reads × input_rose) ((y ≡ x) × Called x pick Writes × output_rose) ((y ≡ x) × Wanting x pick))
+    × Outcomes result (λ stop. Moves (λ s. turn s pick) x y stop Told) ((y ≡ x) × Told [] × Called x pick Reads × input_rose) ((y ≡ x) × Told [] × Called x pick Writes × output_rose) ((y ≡ x) × Told [] × Wanting x pick))
 
 -- so many instructions, none of which ended the run
-abbrev pub Goes : (n : ℕ) → Seen → Seen → Option Way → Option Way → Type 0
-Goes n x y way way' =
+abbrev pub Goes : (n : ℕ) → Seen → Seen → Option Way → Option Way → (Told : List Event → Type 0) → Type 0
+Goes n x y way way' Told =
     (picks : List ℕ) × (length picks ≡ n) × (way' ≡ option_map (λ w. way_after w n) way)
-    × Meets (λ s. Under way s picks × (executed s picks n ≡ n)) (λ s. runs_from s picks n) x y Going
+    × Meets (λ s. Under way s picks × (executed s picks n ≡ n)) (λ s. runs_from s picks n) x y Going Told
 
--- a walk of at most so many instructions: all of them, or some and then one that stopped it
-abbrev pub Walked : (steps : ℕ) → Option Stopped → Seen → Seen → Option Way → Option Way → (input_rose output_rose : Type 0) → Type 0
-Walked steps None x y way way' input_rose output_rose = Goes steps x y way way'
-Walked steps (Some stopped) x y way way' input_rose output_rose =
-    (n : ℕ) × (mid : Seen) × (v : Option Way) × (n < steps) × Goes n x mid way v × Turns (Some stopped) mid y v way' input_rose output_rose
+-- A walk of at most so many instructions: all of them, or some and then one that stopped it. `Told p q events`: probes that were p are q behind
+-- these events.
+abbrev pub Walked : {P : Type 0} → (Told : P → P → List Event → Type 0) → (p q : P) → (steps : ℕ) → Option Stopped → Seen → Seen → Option Way → Option Way → (input_rose output_rose : Type 0) → Type 0
+Walked Told p q steps None x y way way' input_rose output_rose = Goes steps x y way way' (Told p q)
+Walked {P} Told p q steps (Some stopped) x y way way' input_rose output_rose =
+    (n : ℕ) × (mid : Seen) × (probes : P) × (v : Option Way)
+    × (n < steps) × Goes n x mid way v (Told p probes) × Turns (Some stopped) mid y v way' input_rose output_rose (Told probes q)
 
 -- a fault is told with its place
 abbrev pub FaultAt : Stopped → ℕ → Type 0

@@ -1,16 +1,23 @@
 -- The run of a machine as a definition. `turn` is one instruction, `runs_from` is so many of them from any state, and `runs` is so many of an
--- image from its start. All of them are functions: of the image, the input, the picks of the fetches and the number of instructions.
-use Rattle.std.specs.Prelude.{ℕ, zero, suc, ◌+◌, ◌*◌, ◌-◌, ◌%◌, ◌^◌, cond, eqb, ltb, List, [], ◌∷◌, ◌++◌, length, map, replicate, slice_index, Option, Some, None}
+-- image from its start. All of them are functions: of the image, the input, the operator's actions, the picks of the fetches and the number of
+-- instructions.
+use Rattle.std.specs.Prelude.{ℕ, zero, suc, ◌+◌, ◌-◌, ◌%◌, ◌^◌, cond, eqb, ltb, if◌then◌else◌, nat_eq, List, [], ◌∷◌, ◌++◌, length, map, replicate, slice_get, slice_index, Option, Some, None, unwrap_or}
 use Rattle.mv_num.specs.Words.{add}
 use Rattle.mv_ast.specs.declared.world.Binding.{Binding}
 use Rattle.mv_ast.specs.declared.world.Event.{Event}
-use Rattle.mv_ast.specs.Plans.{free}
+use Rattle.mv_ast.specs.declared.world.Action.{Action}
+use Rattle.mv_ast.specs.declared.world.Action.TheVariants.{Skip, Flip}
+use Rattle.mv_ast.specs.Plans.{events_from}
+use Rattle.mv_descriptors.specs.declared.rows.SwitchRow.{SwitchRow}
 use Rattle.mv_isa.specs.declared.instr.Cause.{Cause}
 use Rattle.mv_isa.specs.declared.instr.Cause.TheVariants as cause
 use Rattle.mv_isa.specs.Execution.{Outcome, Goes, Calls, Faults, reg, put}
 use Rattle.mv_fetch.specs.Held.{Room, first as first_memory, choices}
-use Rattle.mv_rv32.specs.Stepping.{picked_step}
+use Rattle.mv_rv32.specs.Stepping.{access, picked_step}
 use Rattle.mv_image.specs.Spelling.{Fields}
+use Rattle.mv_patch.specs.Tables.{patchable}
+use Rattle.mv_patch.specs.declared.prepared.Pair.{Pair}
+use Rattle.mv_patch.specs.Orders.{Planned, is_known_order, first_bindings, plan_of}
 
 -- how a run stands: it goes on, or an instruction ended it
 pub data Stop : Type 0 where
@@ -21,6 +28,7 @@ pub data Stop : Type 0 where
 
 -- the machine and its outside
 pub record State : Type 0 where
+  pub image : Fields
   pub regs : List ℕ
   pub pc : ℕ
   -- the words of memory, and of text also those that a fetch may still give
@@ -28,6 +36,8 @@ pub record State : Type 0 where
   pub bindings : List Binding
   -- what the reads to come are answered: a byte or the end of the input, and the end where the list is used up
   pub input : List (Option ℕ)
+  -- what the operator does at the polls to come, and nothing where the list is used up
+  pub actions : List Action
   -- the bytes that were written
   pub output : List ℕ
   pub log : List Event
@@ -44,10 +54,12 @@ pub data Request : Type 0 where
   Reads : Request
   Writes : Request
   Traps : Request
+  Plans : Request
+  Polls : Request
   Unknown : Request
 
 unfoldable pub request_of : ℕ → Request
-request_of a7 = cond (eqb a7 0) Exits (cond (eqb a7 1) Reads (cond (eqb a7 2) Writes (cond (eqb a7 3) Traps Unknown)))
+request_of a7 = cond (eqb a7 0) Exits (cond (eqb a7 1) Reads (cond (eqb a7 2) Writes (cond (eqb a7 3) Traps (cond (eqb a7 4) Plans (cond (eqb a7 5) Polls Unknown)))))
 
 abbrev pub argument : State → ℕ
 argument s = reg s.regs 10
@@ -76,11 +88,91 @@ later_reads (answer ∷ later) = later
 unfoldable pub trap_of : ℕ → Stop
 trap_of code = cond (eqb code 0) (Fault cause.Call) (cond (ltb code 5) (Trap code) (Fault cause.Call))
 
+-- ---- plans: a commit or a revert by the words of data, as pairs of an address of text and the word that is to come there
+
+-- how many frames of attributed functions are live
+abbrev pub live_frames : State → ℕ
+live_frames s = reg s.regs 26
+
+-- The environment stores words as SW does. Nothing is stored outside the regions.
+
+abbrev pub stored_word : Room → (address word : ℕ) → Room
+stored_word room address word = unwrap_or (access.store room address 4 word) room
+
+unfoldable pub stored_words : Room → (address : ℕ) → List ℕ → Room
+stored_words room address [] = room
+stored_words room address (word ∷ words) = stored_words (stored_word room address word) (address + 4) words
+
+-- the plan area: how many pairs there are, then address and word of each
+
+abbrev pub plan_area : ℕ
+plan_area = 0x0040_0000
+
+unfoldable pub spelled_pairs : List Pair → List ℕ
+spelled_pairs [] = []
+spelled_pairs (pair ∷ pairs) = pair.address ∷ pair.word ∷ spelled_pairs pairs
+
+abbrev pub with_plan : Room → List Pair → Room
+with_plan room pairs = stored_words room plan_area (length pairs ∷ spelled_pairs pairs)
+
+-- the answer to a call that changes nothing: no pairs
+abbrev pub refused : State → (answer : ℕ) → State
+refused s answer = record (answered s answer) { room = with_plan s.room [] }
+
+-- The pairs are in the plan area; text is as it was. The bindings are the new ones, and there is an event for each that differs.
+abbrev pub carried_out : State → Planned → (answer : ℕ) → State
+carried_out s plan answer = record (answered s answer) {
+  room = with_plan s.room plan.pairs;
+  bindings = plan.bound;
+  log = s.log ++ events_from 0 s.bindings plan.bound;
+}
+
+abbrev pub ordered : State → (code index : ℕ) → State
+ordered s code index = let plan = plan_of s.image s.room.held s.bindings code index in carried_out s plan plan.answer
+
+-- with live frames an order changes nothing and is answered -1; one that is unknown is a fault
+unfoldable pub planned : State → (code index : ℕ) → State
+planned s code index =
+    if is_known_order s.image code index then (if nat_eq (live_frames s) 0 then ordered s code index else refused s (2 ^ 32 - 1)) else stopped s (Fault cause.Call)
+
+-- ---- polls
+
+-- a value is stored in the word of a switch, and nothing where there is no such switch
+
+abbrev pub with_word_of : Room → (value : ℕ) → Option SwitchRow → Room
+with_word_of room value None = room
+with_word_of room value (Some row) = stored_word room row.address value
+
+abbrev pub with_value : Fields → Room → (switch value : ℕ) → Room
+with_value image room switch value = with_word_of room value (slice_get image.switches switch)
+
+-- the value is stored in the switch, and all functions are committed
+abbrev pub flipped : State → (switch value : ℕ) → State
+flipped s switch value =
+    let room = with_value s.image s.room switch value in carried_out (record s { room = room }) (plan_of s.image room.held s.bindings 0 0) 1
+
+abbrev pub act : Action → State → State
+act Skip s = refused s 0
+act (Flip switch value) s = flipped s switch value
+
+-- the next action is taken
+abbrev pub acted : State → List Action → State
+acted s [] = refused s 0
+acted s (action ∷ later) = act action (record s { actions = later })
+
+-- with live frames a poll takes nothing
+unfoldable pub polled : State → State
+polled s = if nat_eq (live_frames s) 0 then acted s s.actions else refused s 0
+
+-- ---- all calls
+
 abbrev pub environment_call : Request → State → State
 environment_call Exits s = stopped s (Exit (argument s % 2 ^ 8))
 environment_call Reads s = record (answered s (word_read (next_read s.input))) { input = later_reads s.input }
 environment_call Writes s = record (answered s (argument s % 2 ^ 8)) { output = s.output ++ argument s % 2 ^ 8 ∷ [] }
 environment_call Traps s = stopped s (trap_of (argument s))
+environment_call Plans s = planned s (argument s) (reg s.regs 11)
+environment_call Polls s = polled s
 environment_call Unknown s = stopped s (Fault cause.Call)
 
 -- ---- one instruction
@@ -129,22 +221,20 @@ executed s picks (suc n) = executed s picks n + counts_as (runs_from s picks n).
 
 -- ---- the start
 
--- how many words of text a plan of an image can change: the entry of each function and the two words of each call site
-unfoldable pub patchable : Fields → ℕ
-patchable image = length image.functions + 2 * length image.sites
-
 -- the registers hold 0, all functions are free, and each word of text has itself as its one choice
-unfoldable pub first : Fields → (input : List (Option ℕ)) → State
-first image input = record {
+unfoldable pub first : Fields → (input : List (Option ℕ)) → List Action → State
+first image input actions = record {
+  image = image;
   regs = replicate 32 0;
   pc = image.entry;
   room = record { held = first_memory image.text image.globals; spare = patchable image; reserve = patchable image };
-  bindings = replicate (length image.functions) free;
+  bindings = first_bindings image;
   input = input;
+  actions = actions;
   output = [];
   log = [];
   stop = Going;
 }
 
-abbrev pub runs : Fields → (input : List (Option ℕ)) → (picks : List ℕ) → (n : ℕ) → State
-runs image input picks n = runs_from (first image input) picks n
+abbrev pub runs : Fields → (input : List (Option ℕ)) → List Action → (picks : List ℕ) → (n : ℕ) → State
+runs image input actions picks n = runs_from (first image input actions) picks n

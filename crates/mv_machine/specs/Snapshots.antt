@@ -2,7 +2,8 @@
 use Rattle.std.specs.Prelude.{ℕ, ◌≡◌, ◌+◌, ◌-◌, ◌<◌, List, [], ◌++◌, length, slice_index, Option, Some, None, option_map, IfSome, IsSomeAnd, ◌%◌}
 use Rattle.mv_ast.specs.declared.world.Binding.{Binding}
 use Rattle.mv_ast.specs.declared.world.Event.{Event}
-use Rattle.mv_descriptors.specs.declared.rows.SwitchRow.{SwitchRow}
+use Rattle.mv_ast.specs.declared.world.Action.{Action}
+use Rattle.mv_image.specs.Spelling.{Fields}
 use Rattle.mv_isa.specs.Execution.{Calls, reg}
 use Rattle.mv_isa.specs.declared.instr.Cause.{Cause}
 use Rattle.mv_fetch.specs.Held.{Room, IsInText}
@@ -12,22 +13,22 @@ use Rattle.mv_machine.specs.declared.machine.Stopped.{Stopped}
 use Rattle.mv_machine.specs.declared.machine.Stopped.TheVariants as answer
 use Rattle.mv_machine.specs.Runs.{State, Stop, Going, Exit, Trap, Fault, Request, Reads, Writes, request_of, bytes_to_come, choices_at, fetched_step, runs_from, executed}
 
--- the switch rows of its image, registers, pc, memory, bindings, and the answer of the run where it has ended
+-- its image, registers, pc, memory, bindings, and the answer of the run where it has ended
 pub record Snapshot : Type 0 where
-  pub switches : List SwitchRow
+  pub image : Fields
   pub regs : List ℕ
   pub pc : ℕ
   pub room : Room
   pub bindings : List Binding
   pub last : Option Stopped
 
--- a state as a machine of an image with these switches keeps it
-unfoldable pub kept : List SwitchRow → State → Option Stopped → Snapshot
-kept switches s last = record { switches = switches; regs = s.regs; pc = s.pc; room = s.room; bindings = s.bindings; last = last }
+-- a state as a machine keeps it
+unfoldable pub kept : State → Option Stopped → Snapshot
+kept s last = record { image = s.image; regs = s.regs; pc = s.pc; room = s.room; bindings = s.bindings; last = last }
 
--- the state from which a call of `run` goes on; the output and the log are those of this call
-unfoldable pub resumed : Snapshot → (input : List (Option ℕ)) → State
-resumed m input = record { regs = m.regs; pc = m.pc; room = m.room; bindings = m.bindings; input = input; output = []; log = []; stop = Going }
+-- the state from which a call of `run` goes on; the actions, the output and the log are those of this call
+unfoldable pub resumed : Snapshot → (input : List (Option ℕ)) → List Action → State
+resumed m input actions = record { image = m.image; regs = m.regs; pc = m.pc; room = m.room; bindings = m.bindings; input = input; actions = actions; output = []; log = []; stop = Going }
 
 -- a source that tells what is left answers each of these bytes and then the end; one that tells nothing may answer anything
 abbrev pub Tells : (left : Option (List ℕ)) → (input : List (Option ℕ)) → Type 0
@@ -49,6 +50,7 @@ WantsMemory s pick = IsSomeAnd (picked_target s.room (pick % choices_at s) s.reg
 
 -- the state that a call of `run` reached, what is left in the machine, the source and the sink, and that each probe was told the log
 pub record Reached (s : State) (stop : Stop) (is : Snapshot) (later : List (Option ℕ)) (written written' : Option (List ℕ)) (Told : List Event → Type 0) : Type 0 where
+  pub image : is.image ≡ s.image
   pub regs : is.regs ≡ s.regs
   pub pc : is.pc ≡ s.pc
   pub memory : is.room ≡ s.room
@@ -91,12 +93,12 @@ Answered answer.Memory steps s picks at input_rose output_rose = Broken s picks 
 -- What a call of `run` does on a machine that has not ended: there are picks, those of the oracle's way where it tells one, and an input, that of
 -- the source where it tells what is left, with which the run is the defined one. Whatever a source that tells nothing gives later, the input
 -- goes on with it.
-pub record Ran (steps : ℕ) (answer : Stopped) (was is : Snapshot) (left left' written written' : Option (List ℕ)) (way way' : Option Way) (input_rose output_rose : Type 0) (Told : List Event → Type 0) : Type 0 where
-  pub switches : is.switches ≡ was.switches
+pub record Ran (steps : ℕ) (answer : Stopped) (was is : Snapshot) (actions : List Action) (left left' written written' : Option (List ℕ)) (way way' : Option Way) (input_rose output_rose : Type 0) (Told : List Event → Type 0) : Type 0 where
+  pub image : is.image ≡ was.image
   pub picks : List ℕ
   pub way_is : way' ≡ option_map (λ w. way_after w (length picks)) way
   pub run : (later : List (Option ℕ)) → Tells left' later → (input : List (Option ℕ)) × Tells left input
-      × (Under way (resumed was input) picks × Answered answer steps (resumed was input) picks (λ e stop. Reached e stop is later written written' Told) input_rose output_rose)
+      × (Under way (resumed was input actions) picks × Answered answer steps (resumed was input actions) picks (λ e stop. Reached e stop is later written written' Told) input_rose output_rose)
 
 -- the call goes on only where the run has not ended before
 abbrev pub Unless : Option Stopped → Type 0 → Type 0

@@ -1,43 +1,21 @@
 //! Environment calls.
 
-ghost use Rattle.std.specs.Prelude.{ℕ, ◌≡◌, ◌≤◌, List, Option, OnOk, OnErr, IfSome};
-ghost use Rattle.mv_fetch.specs.Held.{Room};
-ghost use Rattle.mv_isa.specs.Execution.{reg, put};
-ghost use Rattle.mv_num.specs.Words.{add};
-ghost use Rattle.mv_io.specs.Outside.{Rose, Appends};
-ghost use Rattle.mv_machine.specs.Runs.{Reads, Writes, request_of, environment_call, trap_of};
-ghost use Rattle.mv_machine.specs.Moves.{Gets, Puts, Outcomes, Moves, seen, FaultAt, IsStop};
+ghost use Rattle.std.specs.Prelude.{◌≡◌, ◌≤◌, [], All, OnOk, OnErr, IfSome};
+ghost use Rattle.mv_isa.specs.Execution.{reg};
+ghost use Rattle.mv_io.specs.Outside.{Rose};
+ghost use Rattle.mv_probe.specs.Hearing.{hearing, IsPatient, object_at, Becomes};
+ghost use Rattle.mv_probe.specs.Fates.{Fates};
+ghost use Rattle.mv_machine.specs.Runs.{trap_of};
+ghost use Rattle.mv_machine.specs.Moves.{Gets, Puts, FromCall, seen, FaultAt, IsStop};
 
+use crate::engine::Engine;
 use crate::machine::Stopped;
+use crate::operator::Operator;
+use crate::patching::{order, poll};
+use crate::registers::{answer, argument, number};
 use mv_io::{Failed, Sink, Source};
-use mv_num::word;
+use mv_probe::Probe;
 use mv_rv32::{Cause, Hart};
-
-// Puts an answer into a0, and goes behind the call.
-#[tactic(auto, unfolding(mv_isa::specs::Execution::put))]
-fn answer(hart: &mut Hart, value: u32)
-    ensures regs { hart.new.regs ≡ put hart.old.regs 10 value }
-    ensures pc { hart.new.pc ≡ add hart.old.pc 4 }
-{
-    hart.regs[10] = value;
-    hart.pc = word::add(hart.pc, 4);
-}
-
-// What a0 holds, the argument of a call.
-#[tactic(auto, unfolding(mv_isa::specs::Execution::reg))]
-fn argument(hart: &Hart) -> u32
-    ensures { result ≡ reg hart.now.regs 10 }
-{
-    hart.regs[10]
-}
-
-// What a7 holds, the number of a call.
-#[tactic(auto, unfolding(mv_isa::specs::Execution::reg))]
-fn number(hart: &Hart) -> u32
-    ensures { result ≡ reg hart.now.regs 17 }
-{
-    hart.regs[17]
-}
 
 // Takes a byte of the input into a0, and all ones at its end.
 fn getchar<I: Source>(hart: &mut Hart, source: &mut I) -> Result<(), Failed>
@@ -83,37 +61,47 @@ fn trap(hart: &Hart) -> Stopped
 
 /// The environment call that stands at pc, and the answer of the run where it doesn't go on.
 pub(crate) fn call<I: Source, O: Sink>(
-    hart: &mut Hart,
+    engine: &mut Engine,
+    operator: &mut Operator,
     source: &mut I,
     sink: &mut O,
+    probes: &mut Vec<Box<dyn Probe>>,
 ) -> Option<Stopped>
-    ensures place { IfSome result (λ stopped. FaultAt stopped hart.new.pc) }
+    requires { All (λ probe. IsPatient (hearing (told probe) (patience probe))) probes.old.items }
+    ensures place { IfSome result (λ stopped. FaultAt stopped engine.new.hart.pc) }
+    ensures quiet { engine.old.image.functions ≡ [] → probes.new ≡ probes.old }
+    ensures image { engine.new.image ≡ engine.old.image }
     ensures input { I.faults source.old ≤ I.faults source.new }
     ensures output { O.faults sink.old ≤ O.faults sink.new }
-    ensures moves { (room : Room) → Outcomes result
-        (Moves (environment_call (request_of (reg hart.old.regs 17))) (seen hart.old room (I.left source.old) (O.written sink.old)) (seen hart.new room (I.left source.new) (O.written sink.new)))
-        ((seen hart.new room (I.left source.new) (O.written sink.new) ≡ seen hart.old room (I.left source.old) (O.written sink.old)) × (request_of (reg hart.old.regs 17) ≡ Reads) × Rose (I.faults source.old) (I.faults source.new))
-        ((seen hart.new room (I.left source.new) (O.written sink.new) ≡ seen hart.old room (I.left source.old) (O.written sink.old)) × (request_of (reg hart.old.regs 17) ≡ Writes) × Rose (O.faults sink.old) (O.faults sink.new))
-        ⊥ }
+    ensures moves { FromCall result (seen engine.old operator.old (I.left source.old) (O.written sink.old)) (seen engine.new operator.new (I.left source.new) (O.written sink.new))
+        (Rose (I.faults source.old) (I.faults source.new)) (Rose (O.faults sink.old) (O.faults sink.new))
+        (λ events. Fates (Becomes (λ probe. object_at probe.ptr probe.vtable) (λ probe. hearing (told probe) (patience probe)) events) probes.old.items probes.new.items) }
 {
-    let number = number(hart);
+    let number = number(&engine.hart);
     if number == 0 {
-        return Some(Stopped::Ended((argument(hart) % 0x100) as u8));
+        return Some(Stopped::Ended((argument(&engine.hart) % 0x100) as u8));
     }
     if number == 1 {
-        return match getchar(hart, source) {
+        return match getchar(&mut engine.hart, source) {
             Ok(()) => None,
             Err(_) => Some(Stopped::InputFault),
         };
     }
     if number == 2 {
-        return match putchar(hart, sink) {
+        return match putchar(&mut engine.hart, sink) {
             Ok(()) => None,
             Err(_) => Some(Stopped::OutputFault),
         };
     }
     if number == 3 {
-        return Some(trap(hart));
+        return Some(trap(&engine.hart));
     }
-    Some(Stopped::Fault(hart.pc, Cause::Call))
+    if number == 4 {
+        return order(engine, probes);
+    }
+    if number == 5 {
+        poll(engine, operator, probes);
+        return None;
+    }
+    Some(Stopped::Fault(engine.hart.pc, Cause::Call))
 }

@@ -7,15 +7,23 @@
 //!   comes where that many were executed and none ended the run. After a failed read or write the state is the one before
 //!   that call, which is a read or a write, and the count of the source's or the sink's faults rose; neither count ever
 //!   falls. A machine that has ended gives its answer again and does nothing. Each probe that is left was told the log of
-//!   the state. `bindings` and `word` are the state's.
-//! - Not built yet: the environment calls of commits and polls, which are the fault `call` so far. So the probes are left
-//!   as they were, a clause says, and no action is taken.
+//!   the state, in order, up to the event at which it left. `bindings` and `word` are the state's.
+//! - An order and a poll are part of that definition: with a live frame they change nothing; else the plan of
+//!   `mv_patch` is in the plan area, the bindings are its own, and the log has an event for each that differs. Text is
+//!   stored by the program alone. On an image without attributed functions the probes are left as they were, a clause
+//!   says.
+//! - `specs/Commits.antt` says which commit is under way in a run. It is a definition for the laws above.
 //! - Only tested: that each pick is told the address of its instruction; two images that store over their own words under
 //!   three oracles, seven faults with their places, and an echo whose read or write fails (`mv_machine_cases`).
 #![tactic(auto)]
 
 mod call;
+mod engine;
 mod machine;
+mod operator;
+mod patching;
+mod plans;
+mod registers;
 mod turning;
 
 pub use machine::{Machine, Stopped};

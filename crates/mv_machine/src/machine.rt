@@ -11,14 +11,16 @@ ghost use Rattle.mv_machine.specs.Actions.{fits};
 ghost use Rattle.mv_machine.specs.Runs.{first};
 ghost use Rattle.mv_machine.specs.Snapshots.{kept, Ran, Unless, last_of};
 
+use crate::engine::{Engine, copied};
+use crate::operator::Operator;
 use crate::turning::walk;
 use mv_ast::world::{Action, Binding};
-use mv_descriptors::SwitchRow;
 use mv_fetch::Memory;
 use mv_image::Image;
 use mv_image::facts::within_limits;
 use mv_io::{Sink, Source};
 use mv_num::list::List;
+use mv_patch::Plan;
 use mv_probe::{FetchOracle, Probe};
 use mv_rv32::{Cause, Hart};
 use std::alloc::{AllocError, Global};
@@ -43,27 +45,17 @@ pub enum Stopped {
     Memory,
 }
 
-// What a function is bound to at the start.
-const FREE: Binding = Binding {
-    bound: false,
-    count: 0,
-    values: [0; 6],
-};
-
-// So many functions that are free.
+// Functions that are all free, so many.
 fn all_free(alloc: Global, count: usize) -> Result<List<Binding>, AllocError>
     ensures { IfOk result (λ bindings. bindings ≡ replicate count free) }
 {
-    Ok(List::from_vec(vec![in alloc; FREE; count]?))
+    Ok(List::from_vec(vec![in alloc; Binding::free(); count]?))
 }
 
-/// The switches of an image, a hart, its memory and the bindings of the attributed functions, and the last answer where a run has ended.
+/// An image, a hart, its memory and the bindings of the attributed functions, and the last answer where a run has ended.
 #[derive(Drop)]
 pub struct Machine {
-    switches: List<SwitchRow>,
-    hart: Hart,
-    memory: Memory,
-    bindings: List<Binding>,
+    engine: Engine,
     last: Option<Stopped>,
 }
 
@@ -72,31 +64,33 @@ impl Model for Machine {
 
     ghost Value = { Snapshot };
 
-    ghost view = { λ m. record { switches = m.switches; regs = m.hart.regs; pc = m.hart.pc; room = m.memory; bindings = m.bindings; last = m.last } };
+    ghost view = { λ m. record { image = m.engine.image; regs = m.engine.hart.regs; pc = m.engine.hart.pc; room = m.engine.memory; bindings = m.engine.bindings; last = m.last } };
 }
 
 impl Machine {
     /// The machine of an image before its first instruction. From here on memory can be wanting only where a program stores into its text more
     /// often between two FENCE.I than a plan of the image would.
     pub fn start(alloc: Global, image: &Image) -> Result<Machine, AllocError>
-        ensures { IfOk result (λ machine. machine ≡ kept image.now.switches (first image.now []) None) }
+        ensures { IfOk result (λ machine. machine ≡ kept (first image.now [] []) None) }
     {
         within_limits(image);
         let patchable = image.functions().len() + 2 * image.sites().len();
-        Ok(Machine {
-            switches: image.switches().copied(alloc)?,
+        let engine = Engine {
+            image: copied(alloc, image)?,
             hart: Hart {
                 regs: [0; 32],
                 pc: image.entry(),
             },
             memory: Memory::new(alloc, image.text(), image.globals(), patchable as u32)?,
             bindings: all_free(alloc, image.functions().len())?,
-            last: None,
-        })
+            plan: Plan::new(alloc, image)?,
+        };
+        Ok(Machine { engine, last: None })
     }
 
     /// Runs so many instructions, or up to the one that ends the run. After `Steps` a further call goes on; after any other answer it gives
-    /// this answer again and does nothing. No environment call commits yet: no probe is told anything, and no action is taken.
+    /// this answer again and does nothing. A poll takes the next of the actions. Each probe is told each changed binding at the environment call
+    /// that changes it, until it leaves.
     pub fn run<I: Source, O: Sink>(
         &mut self,
         steps: u64,
@@ -107,28 +101,30 @@ impl Machine {
         actions: &[Action],
     ) -> Stopped
         requires patient { All (λ probe. IsPatient (hearing (told probe) (patience probe))) probes.old.items }
-        requires fit { All (λ action. IsTrue (fits self.old.switches action)) actions.now }
+        requires fit { All (λ action. IsTrue (fits self.old.image.switches action)) actions.now }
 
-        ensures runs { Unless self.old.last (Ran steps result self.old self.new
+        ensures runs { Unless self.old.last (Ran steps result self.old self.new actions.now
             (I.left source.old) (I.left source.new) (O.written sink.old) (O.written sink.new) (way oracle.old) (way oracle.new)
             (Rose (I.faults source.old) (I.faults source.new)) (Rose (O.faults sink.old) (O.faults sink.new))
             (λ events. Fates (Becomes (λ probe. object_at probe.ptr probe.vtable) (λ probe. hearing (told probe) (patience probe)) events) probes.old.items probes.new.items)) }
+        ensures quiet { self.old.image.functions ≡ [] → probes.new ≡ probes.old }
         ensures last { self.old.last ≡ None → self.new.last ≡ last_of result }
         ensures again { (last : Stopped) → self.old.last ≡ Some last → (result ≡ last) × (self.new ≡ self.old) × (source.new ≡ source.old) × (sink.new ≡ sink.old) × (way oracle.new ≡ way oracle.old) }
-        ensures quiet { probes.new ≡ probes.old }
         ensures input { I.faults source.old ≤ I.faults source.new }
         ensures output { O.faults sink.old ≤ O.faults sink.new }
     {
         if let Some(last) = self.last {
             return last;
         }
+        let mut operator = Operator::new(actions);
         self.last = walk(
-            &mut self.hart,
-            &mut self.memory,
+            &mut self.engine,
+            &mut operator,
             steps,
             source,
             sink,
             oracle,
+            probes,
         );
         self.last.unwrap_or(Stopped::Steps)
     }
@@ -137,13 +133,13 @@ impl Machine {
     pub fn bindings(&self) -> &List<Binding>
         ensures { result.now ≡ self.now.bindings }
     {
-        &self.bindings
+        &self.engine.bindings
     }
 
     /// The present word at an address, and none outside the regions of memory or where the address is no multiple of 4.
     pub fn word(&self, address: u32) -> Option<u32>
         ensures { result ≡ result_ok (load self.now.room.held address 4) }
     {
-        self.memory.load(address, 4).ok()
+        self.engine.memory.load(address, 4).ok()
     }
 }

@@ -10,7 +10,7 @@ use Rattle.mv_image.specs.Spelling.{Fields}
 use Rattle.mv_image.specs.Jumps.{nop, jump}
 use Rattle.mv_image.specs.Patched.{Bindings, at_entry, at_site, after_site, entry_at, site_at, site_before, word_by, word_under}
 use Rattle.mv_ir.specs.World.{World}
-use Rattle.mv_machine_runs.specs.Calm.{values_of}
+use Rattle.mv_patch.specs.Orders.{values_of}
 use Rattle.mv_machine_runs.specs.MachineRuns.{image_word, bound_word}
 use Rattle.mv_machine_runs.specs.Bound.{AtEntry, AtSite, BindingsShow}
 use Rattle.mv_machine_runs.proofs.Jumps.{jump_stands, nop_stands}

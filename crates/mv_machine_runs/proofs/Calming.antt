@@ -10,7 +10,8 @@ use Rattle.mv_image.specs.Patched.{text_of}
 use Rattle.mv_ir.specs.World.{World}
 use Rattle.mv_machine.specs.Runs.{Stop, Going, Exit, Trap, Fault, bytes_to_come}
 use Rattle.mv_narrow_runs.specs.Narrowed.{same_bindings}
-use Rattle.mv_machine_runs.specs.Calm.{Rest, stack_words, IsCalm, values_of, is_going, all_empty, gives_bytes, is_same_event, same_events, is_calm_text, is_world_outside, is_calm}
+use Rattle.mv_machine_runs.specs.Calm.{Rest, stack_words, IsCalm, is_going, all_empty, gives_bytes, is_same_event, same_events, is_calm_text, is_world_outside, is_calm}
+use Rattle.mv_patch.specs.Orders.{values_of}
 use Rattle.mv_machine_runs.proofs.Memory.{KeepsText}
 
 -- ---- what each test tells

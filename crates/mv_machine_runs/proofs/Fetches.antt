@@ -11,7 +11,8 @@ use Rattle.mv_isa.specs.Execution.{step}
 use Rattle.mv_ir.specs.World.{World}
 use Rattle.mv_rv32.specs.Stepping.{access, picked_step}
 use Rattle.mv_machine.specs.Runs.{State, fetched_step, choices_at}
-use Rattle.mv_machine_runs.specs.Calm.{Rest, IsCalm, values_of}
+use Rattle.mv_machine_runs.specs.Calm.{Rest, IsCalm}
+use Rattle.mv_patch.specs.Orders.{values_of}
 use Rattle.mv_machine_runs.specs.MachineRuns.{may_be_patched, word_at, image_word, unpatched_word, bound_word}
 use Rattle.mv_machine_runs.specs.Assembled.{IsFreeAt}
 use Rattle.mv_machine_runs.proofs.Memory.{InText, text_at as lies_in_text}

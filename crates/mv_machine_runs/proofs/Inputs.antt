@@ -2,10 +2,12 @@
 use Rattle.std.proofs.Common.{◌≡◌, ℕ, zero, suc, List, [], ◌∷◌, slice_index, Option, refl, sym, subst}
 use Rattle.std.specs.List.{All}
 use Rattle.std.proofs.lemmas.List.Elements.{All-tail}
+use Rattle.mv_ast.specs.declared.world.Action.{Action}
 use Rattle.mv_isa.specs.Execution.{Outcome, Goes, Calls, Faults, reg}
 use Rattle.mv_fetch.specs.Held.{Room}
 use Rattle.mv_image.specs.Spelling.{Fields}
-use Rattle.mv_machine.specs.Runs.{State, Stop, Going, Exit, Trap, Fault, Request, Exits, Reads, Writes, Traps, Unknown, request_of, later_reads, answered, environment_call, fetched_step, after, where_going, turn, runs_from, first, runs}
+use Rattle.mv_machine.proofs.Leaving.{Leaves as EachLeaves, planned_leaves, polled_leaves}
+use Rattle.mv_machine.specs.Runs.{State, Stop, Going, Exit, Trap, Fault, Request, Exits, Reads, Writes, Traps, Plans, Polls, Unknown, request_of, argument, later_reads, answered, environment_call, fetched_step, after, where_going, turn, runs_from, first, runs}
 use Rattle.mv_machine_runs.specs.Laws.{IsByteOrEnd}
 
 abbrev GivesBytes : State → Type 0
@@ -15,12 +17,18 @@ later_bytes : (input : List (Option ℕ)) → All IsByteOrEnd input → All IsBy
 later_bytes [] h = h
 later_bytes (answer ∷ later) h = All-tail IsByteOrEnd answer later h
 
+plan_bytes : (s : State) → GivesBytes s → EachLeaves GivesBytes s
+unfolding answered
+plan_bytes s h = record { refuses = λ actions answer. h; carries = λ room actions plan answer. h; faults = h }
+
 call_bytes : (request : Request) (s : State) → GivesBytes s → GivesBytes (environment_call request s)
 unfolding answered
 call_bytes Exits s h = h
 call_bytes Reads s h = later_bytes s.input h
 call_bytes Writes s h = h
 call_bytes Traps s h = h
+call_bytes Plans s h = planned_leaves GivesBytes s (argument s) (reg s.regs 11) (plan_bytes s h)
+call_bytes Polls s h = polled_leaves GivesBytes s (plan_bytes s h)
 call_bytes Unknown s h = h
 
 after_bytes : (outcome : Outcome Room) (s : State) → GivesBytes s → GivesBytes (after outcome s)
@@ -43,9 +51,9 @@ unfolding runs_from
 bytes_left s picks zero h = h
 bytes_left s picks (suc n) h = turn_bytes (runs_from s picks n) (slice_index picks n) (bytes_left s picks n h)
 
-first_input : (image : Fields) (input : List (Option ℕ)) → (first image input).input ≡ input
+first_input : (image : Fields) (input : List (Option ℕ)) (actions : List Action) → (first image input actions).input ≡ input
 unfolding first
-first_input image input = refl
+first_input image input actions = refl
 
-pub run_bytes : (image : Fields) (input : List (Option ℕ)) (picks : List ℕ) (n : ℕ) → All IsByteOrEnd input → All IsByteOrEnd (runs image input picks n).input
-run_bytes image input picks n h = bytes_left (first image input) picks n (subst (All IsByteOrEnd) (sym (first_input image input)) h)
+pub run_bytes : (image : Fields) (input : List (Option ℕ)) (actions : List Action) (picks : List ℕ) (n : ℕ) → All IsByteOrEnd input → All IsByteOrEnd (runs image input actions picks n).input
+run_bytes image input actions picks n h = bytes_left (first image input actions) picks n (subst (All IsByteOrEnd) (sym (first_input image input actions)) h)

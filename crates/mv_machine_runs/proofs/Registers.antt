@@ -1,17 +1,19 @@
 -- A run has 32 registers.
 use Rattle.std.proofs.Common.{◌≡◌, ℕ, zero, suc, ◌%◌, Bool, true, false, cond, eqb, List, length, slice_get, slice_index, Option, Some, None, ℤ, refl, ◌∙◌, length-set}
 use Rattle.std.proofs.lemmas.Bool.{ne_eqb}
+use Rattle.mv_ast.specs.declared.world.Action.{Action}
 use Rattle.mv_num.specs.declared.kind.Kind.{Kind}
 use Rattle.mv_num.specs.Words.{add, word_of}
 use Rattle.mv_isa.specs.declared.instr.Cause.TheVariants as cause
 use Rattle.mv_isa.specs.declared.instr.Instr.{Instr}
 use Rattle.mv_isa.specs.declared.instr.Instr.TheVariants.{Lui, Auipc, Jal, Jalr, Beq, Bne, Blt, Bge, Bltu, Bgeu, Lb, Lh, Lw, Lbu, Lhu, Sb, Sh, Sw, Addi, Slti, Sltiu, Xori, Ori, Andi, Slli, Srli, Srai, Add, Sub, Sll, Slt, Sltu, Xor, Srl, Sra, Or, And, Mul, Mulh, Mulhsu, Mulhu, Div, Divu, Rem, Remu, Fence, FenceI, Ecall, Ebreak}
 use Rattle.mv_isa.specs.Encoding.{decode}
-use Rattle.mv_isa.specs.Execution.{Outcome, Goes, Calls, Faults, put, sets, jumps, branches, loaded, stored, loads, stores, execute, decoded, step}
+use Rattle.mv_isa.specs.Execution.{Outcome, Goes, Calls, Faults, reg, put, sets, jumps, branches, loaded, stored, loads, stores, execute, decoded, step}
 use Rattle.mv_fetch.specs.Held.{Room, choices}
 use Rattle.mv_rv32.specs.Stepping.{access, picked_step}
 use Rattle.mv_image.specs.Spelling.{Fields}
-use Rattle.mv_machine.specs.Runs.{State, Stop, Going, Exit, Trap, Fault, Request, Exits, Reads, Writes, Traps, Unknown, request_of, answered, environment_call, fetched_step, choices_at, after, where_going, turn, runs_from, first, runs}
+use Rattle.mv_machine.proofs.Leaving.{Leaves as EachLeaves, planned_leaves, polled_leaves}
+use Rattle.mv_machine.specs.Runs.{State, Stop, Going, Exit, Trap, Fault, Request, Exits, Reads, Writes, Traps, Plans, Polls, Unknown, request_of, argument, answered, environment_call, fetched_step, choices_at, after, where_going, turn, runs_from, first, runs}
 
 put_length : (regs : List ℕ) (rd value : ℕ) → length (put regs rd value) ≡ length regs
 unfolding put
@@ -110,12 +112,18 @@ fetched_keeps : (s : State) (pick : ℕ) → Keeps (length s.regs) (fetched_step
 unfolding fetched_step picked_step
 fetched_keeps s pick = step_keeps (slice_get (choices s.room.held s.pc) (pick % choices_at s)) s.regs s.pc s.room
 
+plan_keeps : (s : State) → EachLeaves (λ (t : State). length t.regs ≡ length s.regs) s
+unfolding answered
+plan_keeps s = record { refuses = λ actions answer. put_length s.regs 10 answer; carries = λ room actions plan answer. put_length s.regs 10 answer; faults = refl }
+
 call_keeps : (request : Request) (s : State) → length (environment_call request s).regs ≡ length s.regs
 unfolding answered
 call_keeps Exits s = refl
 call_keeps Reads s = put_length s.regs 10 _
 call_keeps Writes s = put_length s.regs 10 _
 call_keeps Traps s = refl
+call_keeps Plans s = planned_leaves (λ (t : State). length t.regs ≡ length s.regs) s (argument s) (reg s.regs 11) (plan_keeps s)
+call_keeps Polls s = polled_leaves (λ (t : State). length t.regs ≡ length s.regs) s (plan_keeps s)
 call_keeps Unknown s = refl
 
 after_keeps : (outcome : Outcome Room) (s : State) → Keeps (length s.regs) outcome → length (after outcome s).regs ≡ length s.regs
@@ -138,9 +146,9 @@ unfolding runs_from
 runs_keep s picks zero = refl
 runs_keep s picks (suc n) = turn_keeps (runs_from s picks n) (slice_index picks n) ∙ runs_keep s picks n
 
-first_registers : (image : Fields) (input : List (Option ℕ)) → length (first image input).regs ≡ 32
+first_registers : (image : Fields) (input : List (Option ℕ)) (actions : List Action) → length (first image input actions).regs ≡ 32
 unfolding first
-first_registers image input = refl
+first_registers image input actions = refl
 
-pub run_registers : (image : Fields) (input : List (Option ℕ)) (picks : List ℕ) (n : ℕ) → length (runs image input picks n).regs ≡ 32
-run_registers image input picks n = runs_keep (first image input) picks n ∙ first_registers image input
+pub run_registers : (image : Fields) (input : List (Option ℕ)) (actions : List Action) (picks : List ℕ) (n : ℕ) → length (runs image input actions picks n).regs ≡ 32
+run_registers image input actions picks n = runs_keep (first image input actions) picks n ∙ first_registers image input actions

@@ -3,6 +3,7 @@ use Rattle.std.proofs.Common.{◌≡◌, ◌≢◌, inl, inr, ⊎_elim, ℕ, ◌
 use Rattle.std.specs.List.{All}
 use Rattle.std.proofs.lemmas.List.Elements.{All-head}
 use Rattle.std.proofs.lemmas.Bool.{cases_eq}
+use Rattle.mv_ast.specs.declared.world.Action.{Action}
 use Rattle.mv_ast.specs.declared.program.Program.{Program}
 use Rattle.mv_ast.specs.declared.program.Known.TheVariants.{Getchar, Putchar, Poll, Plan}
 use Rattle.mv_num.specs.Words.{add}
@@ -66,12 +67,12 @@ not_saved q (inl h) e = omega (arith, h, e)
 not_saved q (inr (inl h)) e = omega (arith, h, e)
 not_saved q (inr (inr h)) e = omega (arith, h.0, e)
 
-module _ (attributed : List ℕ) (closed : (pc address : ℕ) → Bool) (image : Fields) (input : List (Option ℕ)) (picks : List ℕ) (bytes : All IsByteOrEnd input) (y : Layout) (budget far : ℕ) where
+module _ (attributed : List ℕ) (closed : (pc address : ℕ) → Bool) (image : Fields) (input : List (Option ℕ)) (actions : List Action) (picks : List ℕ) (bytes : All IsByteOrEnd input) (y : Layout) (budget far : ℕ) where
   abbrev machine : Machine Rest
-  machine = machine_of attributed closed image input picks
+  machine = machine_of attributed closed image input actions picks
 
   abbrev run : ℕ → Spot Rest
-  run = run_of image input picks
+  run = run_of image input actions picks
 
   abbrev St : ℕ → World → ℕ → Type 0
   St = Stands access y machine budget far
@@ -130,7 +131,7 @@ module _ (attributed : List ℕ) (closed : (pc address : ℕ) → Bool) (image :
     returned spare bound cost paid asked =
         (i + 1, record { stands = stands_next; kept = set_back; paid = omega (arith, paid); asked = omega (arith, asked) }, value_there)
 
-  at_call : (number pc i : ℕ) (w : World) → St pc w i → unpatched_word image pc ≡ Some (encode Ecall) → reg (run i).regs 17 ≡ number → AtCall image input picks number i (outside w)
+  at_call : (number pc i : ℕ) (w : World) → St pc w i → unpatched_word image pc ≡ Some (encode Ecall) → reg (run i).regs 17 ≡ number → AtCall image input actions picks number i (outside w)
   at_call number pc i w h at_word asks = record {
     calm = calm_told image (outside w) (run i).memory h.calm;
     calls = is_call (unpatched_word image (run i).pc) (run i).regs (run i).pc (run i).memory (ap (unpatched_word image) h.at ∙ at_word);
@@ -138,14 +139,14 @@ module _ (attributed : List ℕ) (closed : (pc address : ℕ) → Bool) (image :
   }
 
   module _ (numbers : List ℕ) (p : Program) where
-    answers : CallsAreAnswered image input picks closed
-    answers = answered_calls image input picks closed
+    answers : CallsAreAnswered image input actions picks closed
+    answers = answered_calls image input actions picks closed
 
     byte_served : (args : List ℕ) (pc i : ℕ) → unpatched_word image pc ≡ Some (encode Ecall) → Serves access y machine budget far (setting_of numbers p) 1 pc (pc + 4) Getchar args i
     byte_served args pc i at_word spare bound w h asks paid asked =
         let at = at_call 1 pc i w h at_word asks.number in
         let input_is : (run i).memory.input ≡ bytes_to_come w.input = at.calm.input in
-        let left = subst (All IsByteOrEnd) input_is (run_bytes image input picks i bytes) in
+        let left = subst (All IsByteOrEnd) input_is (run_bytes image input actions picks i bytes) in
         returned (next_byte w.input (outside w)) (next_byte w.input w) w pc i
         (record { value = same_byte w.input w; world = same_world w.input w; globals = same_globals w.input w; small = byte_fits w.input w left })
         h at_word (answers.reads i (outside w) at) (answers.sound 1 i (outside w) at) spare bound (next_byte w.input w).cost paid asked

@@ -5,7 +5,7 @@ use Rattle.mv_ast.specs.declared.world.Binding.{Binding}
 use Rattle.mv_image.specs.Patched.{variant_under}
 use Rattle.mv_fit_worlds.specs.Functions.{IsBoundIn}
 use Rattle.mv_machine_runs.specs.Bound.{AtSite, bound_variant}
-use Rattle.mv_machine_runs.specs.Calm.{bound_values, values_of}
+use Rattle.mv_patch.specs.Orders.{bound_values, values_of}
 use Rattle.mv_machine_runs.specs.Shown.{BindingsHaveValues, FreeFunctionsShow, BoundFunctionsShow, IsSiteOf}
 use Rattle.mv_machine_runs.specs.Under.{bound_world}
 use Rattle.mv_machine_runs.proofs.Bound.{bindings_show}

@@ -1,6 +1,7 @@
 -- A run begins in calm.
 use Rattle.std.proofs.Common.{◌≡◌, ℕ, zero, suc, ◌+◌, true, List, [], ◌∷◌, length, replicate, None, refl, sym, ap, ap₂, ◌∙◌}
 use Rattle.std.proofs.lemmas.List.{length-replicate}
+use Rattle.mv_ast.specs.declared.world.Action.{Action}
 use Rattle.mv_ast.specs.Plans.{free}
 use Rattle.mv_fetch.specs.Held.{older_at, zeros, first as first_memory}
 use Rattle.mv_image.specs.Spelling.{Fields}
@@ -8,7 +9,8 @@ use Rattle.mv_image.specs.Patched.{Bindings, words_under, text_of}
 use Rattle.mv_ir.specs.World.{World}
 use Rattle.mv_machine.specs.Runs.{bytes_to_come, first, runs}
 use Rattle.mv_machine.proofs.Turns.{runs_none}
-use Rattle.mv_machine_runs.specs.Calm.{stack_words, IsCalm, values_of, is_calm}
+use Rattle.mv_machine_runs.specs.Calm.{stack_words, IsCalm, is_calm}
+use Rattle.mv_patch.specs.Orders.{values_of}
 use Rattle.mv_machine_runs.specs.MachineRuns.{rest_of}
 use Rattle.mv_machine_runs.specs.Laws.{IsFirst}
 use Rattle.mv_machine_runs.proofs.Calming.{calm_tested}
@@ -43,9 +45,9 @@ zeros_count : (n : ℕ) → length (zeros n) ≡ n
 unfolding zeros
 zeros_count n = length-replicate n 0
 
-first_calm : (image : Fields) (input : List ℕ) (w : World) → IsFirst image input w → IsCalm image w (rest_of (first image (bytes_to_come input)))
+first_calm : (image : Fields) (input : List ℕ) (actions : List Action) (w : World) → IsFirst image input w → IsCalm image w (rest_of (first image (bytes_to_come input) actions))
 unfolding first first_memory
-first_calm image input w h = record {
+first_calm image input actions w h = record {
   goes_on = refl;
   text = sym (free_text image (values_of (replicate (length image.functions) free)) (none_bound (length image.functions)));
   no_older = none_older (length image.text);
@@ -56,7 +58,7 @@ first_calm image input w h = record {
   log = sym h.log;
 }
 
-pub run_begins : (image : Fields) (input picks : List ℕ) (w : World) → IsFirst image input w → is_calm image w (rest_of (runs image (bytes_to_come input) picks 0)) ≡ true
-run_begins image input picks w h =
-    let start = first image (bytes_to_come input) in
-    ap (λ s. is_calm image w (rest_of s)) (runs_none start picks) ∙ calm_tested image w (rest_of start) (first_calm image input w h)
+pub run_begins : (image : Fields) (input : List ℕ) (actions : List Action) (picks : List ℕ) (w : World) → IsFirst image input w → is_calm image w (rest_of (runs image (bytes_to_come input) actions picks 0)) ≡ true
+run_begins image input actions picks w h =
+    let start = first image (bytes_to_come input) actions in
+    ap (λ s. is_calm image w (rest_of s)) (runs_none start picks) ∙ calm_tested image w (rest_of start) (first_calm image input actions w h)

@@ -1,6 +1,7 @@
 -- The machine under some bindings runs code.
 use Rattle.std.proofs.Common.{◌≡◌, ℕ, ◌<◌, ◌≤◌, Bool, true, leb, ltb, List, Option, Some, refl, sym, ap, subst, ◌∙◌}
 use Rattle.std.proofs.lemmas.Bool.{and_parts, and_from, leb-true, ltb-true}
+use Rattle.mv_ast.specs.declared.world.Action.{Action}
 use Rattle.mv_ast.specs.declared.world.Binding.{Binding}
 use Rattle.mv_image.specs.Spelling.{Fields}
 use Rattle.mv_isa.specs.Execution.{Goes, step}
@@ -30,16 +31,16 @@ same_words : (image : Fields) (w : World) (a : ℕ) → bound_word image w a ≡
 unfolding bound_word
 same_words image w a = refl
 
-module _ (attributed : List ℕ) (closed : (pc address : ℕ) → Bool) (image : Fields) (input : List (Option ℕ)) (picks : List ℕ) (bs : List Binding) (from to : ℕ) (s : Site) (out : OwnOutsideText s)
+module _ (attributed : List ℕ) (closed : (pc address : ℕ) → Bool) (image : Fields) (input : List (Option ℕ)) (actions : List Action) (picks : List ℕ) (bs : List Binding) (from to : ℕ) (s : Site) (out : OwnOutsideText s)
     (free : IsOpen closed from to s.reach) where
   abbrev machine : Machine Rest
-  machine = machine_of attributed closed image input picks
+  machine = machine_of attributed closed image input actions picks
 
   abbrev under : Machine Rest
   under = alone (narrow.under machine (words_under image) bs) from to
 
-  taken : StepsAreTaken image input picks s
-  taken = steps_are_taken image input picks s out
+  taken : StepsAreTaken image input actions picks s
+  taken = steps_are_taken image input actions picks s out
 
   -- the word of the part of text, which stands there under the bindings, and its step
   record Shown (i : ℕ) (w : World) (next : Spot Rest) : Type 0 where
@@ -48,7 +49,7 @@ module _ (attributed : List ℕ) (closed : (pc address : ℕ) → Bool) (image :
     above : from ≤ (machine.run i).pc
     below : (machine.run i).pc < to
     step_on : step (limited access s) (Some word) (machine.run i).regs (machine.run i).pc (machine.run i).memory ≡ Goes next.regs next.pc next.memory
-    leads : LeadsUnder image input picks s i (outside w) next
+    leads : LeadsUnder image input actions picks s i (outside w) next
 
   shown : (i : ℕ) (w : World) (next : Spot Rest) → LeadsOn access s under i w next → Shown i w next
   shown i w next h =
@@ -79,7 +80,7 @@ module _ (attributed : List ℕ) (closed : (pc address : ℕ) → Bool) (image :
 
   runs_under : IsRun access s under
   runs_under = record {
-    registers = run_registers image input picks;
+    registers = run_registers image input actions picks;
     goes = λ i w next h. taken.goes i (outside w) next (shown i w next h).leads;
     sound = sound_there;
     stays = λ i w next h.
@@ -88,4 +89,4 @@ module _ (attributed : List ℕ) (closed : (pc address : ℕ) → Bool) (image :
   }
 
 pub runs_are_under : RunsAreRunsUnder
-runs_are_under attributed closed image input picks bs from to s out free = runs_under attributed closed image input picks bs from to s out free
+runs_are_under attributed closed image input actions picks bs from to s out free = runs_under attributed closed image input actions picks bs from to s out free

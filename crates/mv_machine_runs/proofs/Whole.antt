@@ -1,6 +1,7 @@
 -- The globals and the stack of a program in the machine's memory.
 use Rattle.std.proofs.Common.{◌≡◌, Bool, ⊎_elim, inl, inr, ℕ, ◌+◌, ◌*◌, ◌^◌, ◌<◌, ◌≤◌, true, List, [], slice_get, Option, Some, None, option_and_then, sym, ap, arith}
 use Rattle.std.proofs.lemmas.Bool.{cases_lt, cases_order}
+use Rattle.mv_ast.specs.declared.world.Action.{Action}
 use Rattle.mv_image.specs.Spelling.{Fields}
 use Rattle.mv_image.specs.Patched.{site_at}
 use Rattle.mv_descriptors.specs.declared.rows.SiteRow.{SiteRow}
@@ -74,8 +75,8 @@ module _ (y : Layout) (h : IsSetOut y) where
       let low = stack.0 in let high = stack.1 in let begin = h.stack_begins in let end = h.stack_ends in
       stack_loads m b (omega (arith, low, begin)) (omega (arith, high, end)) stack.2 (calm_told image w m calm).stack
 
-  pub memory : (attributed : List ℕ) (closed : (pc address : ℕ) → Bool) (image : Fields) (input : List (Option ℕ)) (picks : List ℕ) → IsMemory access y (machine_of attributed closed image input picks)
-  memory attributed closed image input picks = record {
+  pub memory : (attributed : List ℕ) (closed : (pc address : ℕ) → Bool) (image : Fields) (input : List (Option ℕ)) (actions : List Action) (picks : List ℕ) → IsMemory access y (machine_of attributed closed image input actions picks)
+  memory attributed closed image input actions picks = record {
     stores = λ m b v w word lt loads. kept m b v w lt loads;
     words = λ m b w word loads. load_word m b w loads;
     stack = stack_there image;

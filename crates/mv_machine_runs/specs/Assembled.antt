@@ -6,7 +6,7 @@ use Rattle.mv_isa.specs.Code.{StandsOnce, line_at}
 use Rattle.mv_image.specs.Spelling.{Fields}
 use Rattle.mv_image.specs.Patched.{ShowsAt}
 use Rattle.mv_ir.specs.World.{World}
-use Rattle.mv_machine_runs.specs.Calm.{values_of}
+use Rattle.mv_patch.specs.Orders.{values_of}
 use Rattle.mv_machine_runs.specs.MachineRuns.{may_be_patched, called_at}
 
 -- an image's text has words from an address on

@@ -8,7 +8,7 @@ use Rattle.mv_isa.specs.Standing.{InstrStands, SlotStands}
 use Rattle.mv_image.specs.Spelling.{Fields}
 use Rattle.mv_image.specs.Patched.{variant_under, entry_at, site_at}
 use Rattle.mv_ir.specs.World.{World}
-use Rattle.mv_machine_runs.specs.Calm.{values_of}
+use Rattle.mv_patch.specs.Orders.{values_of}
 use Rattle.mv_machine_runs.specs.MachineRuns.{image_word, bound_word}
 
 module _ (image : Fields) (w : World) where

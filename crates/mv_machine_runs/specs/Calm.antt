@@ -1,11 +1,12 @@
 -- When the machine is, apart from registers, pc and the words of data and stack, as a world says.
-use Rattle.std.specs.Prelude.{ℕ, ◌≡◌, Bool, true, false, ◌&&◌, List, [], ◌∷◌, length, take, slice_get, Option, Some, None, option_and_then, if◌then◌else◌, nat_eq}
+use Rattle.std.specs.Prelude.{ℕ, ◌≡◌, Bool, true, false, ◌&&◌, List, [], ◌∷◌, length, Option, Some, None, nat_eq}
 use Rattle.mv_ast.specs.declared.world.Binding.{Binding}
 use Rattle.mv_ast.specs.declared.world.Event.{Event}
 use Rattle.mv_ast.specs.Plans.{same_words, is_same_binding}
 use Rattle.mv_fetch.specs.Held.{Room, older_at}
 use Rattle.mv_image.specs.Spelling.{Fields}
-use Rattle.mv_image.specs.Patched.{Bindings, text_of}
+use Rattle.mv_image.specs.Patched.{text_of}
+use Rattle.mv_patch.specs.Orders.{values_of}
 use Rattle.mv_ir.specs.World.{World}
 use Rattle.mv_narrow_runs.specs.Narrowed.{same_bindings}
 use Rattle.mv_machine.specs.Runs.{Stop, Going, Exit, Trap, Fault, bytes_to_come}
@@ -18,13 +19,6 @@ pub record Rest : Type 0 where
   pub output : List ℕ
   pub log : List Event
   pub stop : Stop
-
--- the values that a function's switches are bound to, none where it is free
-abbrev pub bound_values : Binding → Option (List ℕ)
-bound_values b = if b.bound then Some (take b.count b.values) else None
-
-abbrev pub values_of : List Binding → Bindings
-values_of bindings function = option_and_then bound_values (slice_get bindings function)
 
 -- how many words the stack has
 abbrev pub stack_words : ℕ

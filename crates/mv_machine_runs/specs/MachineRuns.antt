@@ -1,5 +1,6 @@
 -- The machine as a run on which code stands. Its text has what is never patched, and the sites as slots; what stands under bindings is told apart.
 use Rattle.std.specs.Prelude.{ℕ, ◌-◌, ◌/◌, ◌%◌, Bool, true, not, ◌&&◌, ◌||◌, cond, eqb, ltb, List, [], ◌∷◌, length, slice_get, is_some, Option, Some, None, option_map, option_and_then}
+use Rattle.mv_ast.specs.declared.world.Action.{Action}
 use Rattle.mv_isa.specs.Encoding.{decode}
 use Rattle.mv_isa.specs.Execution.{Access}
 use Rattle.mv_fetch.specs.Held.{Room, choices}
@@ -12,7 +13,8 @@ use Rattle.mv_machine.specs.Runs.{State, runs}
 use Rattle.mv_flow_code.specs.Placed.{Text}
 use Rattle.mv_flow_code.specs.Runs.{Spot, Machine}
 use Rattle.mv_function_code.specs.Loads.{loads_from}
-use Rattle.mv_machine_runs.specs.Calm.{Rest, values_of, is_calm}
+use Rattle.mv_machine_runs.specs.Calm.{Rest, is_calm}
+use Rattle.mv_patch.specs.Orders.{values_of}
 
 abbrev pub with_room : Rest → Room → Rest
 with_room m room = record m { room = room }
@@ -78,13 +80,13 @@ abbrev pub is_sound : (closed : (pc address : ℕ) → Bool) → Spot Rest → B
 is_sound closed spot = has_one_choice spot && are_open (closed spot.pc) spot.regs (choices spot.memory.room.held spot.pc)
 
 -- the run of an image on an input, by any picks of the fetches
-abbrev pub run_of : Fields → (input : List (Option ℕ)) → (picks : List ℕ) → ℕ → Spot Rest
-run_of image input picks n = spot_of (runs image input picks n)
+abbrev pub run_of : Fields → (input : List (Option ℕ)) → List Action → (picks : List ℕ) → ℕ → Spot Rest
+run_of image input actions picks n = spot_of (runs image input actions picks n)
 
-abbrev pub machine_of : (attributed : List ℕ) → (closed : (pc address : ℕ) → Bool) → Fields → (input : List (Option ℕ)) → (picks : List ℕ) → Machine Rest
-machine_of attributed closed image input picks = record {
+abbrev pub machine_of : (attributed : List ℕ) → (closed : (pc address : ℕ) → Bool) → Fields → (input : List (Option ℕ)) → List Action → (picks : List ℕ) → Machine Rest
+machine_of attributed closed image input actions picks = record {
   text = machine_text attributed image;
   is_calm = is_calm image;
   is_sound = is_sound closed;
-  run = run_of image input picks;
+  run = run_of image input actions picks;
 }

@@ -11,7 +11,7 @@ use Rattle.mv_asm.specs.Outcome.{AreWordsUnder}
 use Rattle.mv_image.specs.Spelling.{Fields}
 use Rattle.mv_image.specs.Patched.{ShowsAt, variant_under, entry_at, site_at}
 use Rattle.mv_fit_worlds.specs.Functions.{IsFreeIn, IsBoundIn}
-use Rattle.mv_machine_runs.specs.Calm.{values_of}
+use Rattle.mv_patch.specs.Orders.{values_of}
 use Rattle.mv_machine_runs.specs.MachineRuns.{image_word}
 use Rattle.mv_machine_runs.specs.Assembled.{HasWords}
 use Rattle.mv_machine_runs.specs.Under.{words_under}

@@ -1,8 +1,8 @@
 //! The machine runs the code of frames: its runs between two instructions, its text, its memory and its environment calls.
 //!
-//! - `runs_are_runs`: for every image, input and picks of the fetches, the run of `mv_machine`'s definition is one on
-//!   which code runs (`IsRun`), for every frame whose own words lie in the data and the stack, and that loads from no
-//!   closed address. Which addresses are closed to what stands at a place is for the caller to say.
+//! - `runs_are_runs`: for every image, input, actions and picks of the fetches, the run of `mv_machine`'s definition is
+//!   one on which code runs (`IsRun`), for every frame whose own words lie in the data and the stack, and that loads from
+//!   no closed address. Which addresses are closed to what stands at a place is for the caller to say.
 //!   `runs_are_runs_alone`: so it is where only a part of text stands, for frames that load from no address that is
 //!   closed there. Its text is the image's words but for the entries of functions and the words of sites; its slots are
 //!   the sites. `is_calm` tests that the run goes on, that text is the image's under the world's bindings and no fetch

@@ -7,7 +7,9 @@ use Rattle.mv_fetch.specs.Held.{Room}
 use Rattle.mv_image.specs.Spelling.{Fields}
 use Rattle.mv_image_runs.specs.Behaves.{taken_of}
 use Rattle.mv_isa.specs.Execution.{Outcome, Goes, Calls, Faults, reg}
-use Rattle.mv_machine.specs.Runs.{State, Stop, Going, Exit, Trap, Fault, Request, Exits, Reads, Writes, Traps, Unknown, request_of, later_reads, bytes_to_come, answered, environment_call, fetched_step, after, where_going, turn, runs_from, first, runs}
+use Rattle.mv_ast.specs.declared.world.Action.{Action}
+use Rattle.mv_machine.proofs.Leaving.{Leaves as EachLeaves, planned_leaves, polled_leaves}
+use Rattle.mv_machine.specs.Runs.{State, Stop, Going, Exit, Trap, Fault, Request, Exits, Reads, Writes, Traps, Plans, Polls, Unknown, request_of, argument, later_reads, bytes_to_come, answered, environment_call, fetched_step, after, where_going, turn, runs_from, first, runs}
 use Rattle.mv_machine.specs.Snapshots.{Tells}
 
 -- ---- a part is taken from the front
@@ -22,12 +24,18 @@ read_leaves : (input : List (Option ℕ)) → Leaves input (later_reads input)
 read_leaves [] = ([], refl)
 read_leaves (answer ∷ later) = (answer ∷ [], refl)
 
+plan_leaves : (s : State) → EachLeaves (λ (t : State). Leaves s.input t.input) s
+unfolding answered
+plan_leaves s = record { refuses = λ actions answer. ([], refl); carries = λ room actions plan answer. ([], refl); faults = ([], refl) }
+
 call_leaves : (request : Request) (s : State) → Leaves s.input (environment_call request s).input
 unfolding answered
 call_leaves Exits s = ([], refl)
 call_leaves Reads s = read_leaves s.input
 call_leaves Writes s = ([], refl)
 call_leaves Traps s = ([], refl)
+call_leaves Plans s = planned_leaves (λ (t : State). Leaves s.input t.input) s (argument s) (reg s.regs 11) (plan_leaves s)
+call_leaves Polls s = polled_leaves (λ (t : State). Leaves s.input t.input) s (plan_leaves s)
 call_leaves Unknown s = ([], refl)
 
 after_leaves : (outcome : Outcome Room) (s : State) → Leaves s.input (after outcome s).input
@@ -52,9 +60,9 @@ run_leaves s picks (suc n) =
     let before = runs_from s picks n in
     leaves_both s.input before.input (turn before (slice_index picks n)).input (run_leaves s picks n) (turn_leaves before (slice_index picks n))
 
-pub runs_leave : (image : Fields) (input : List (Option ℕ)) (picks : List ℕ) (n : ℕ) → Leaves input (runs image input picks n).input
+pub runs_leave : (image : Fields) (input : List (Option ℕ)) (actions : List Action) (picks : List ℕ) (n : ℕ) → Leaves input (runs image input actions picks n).input
 unfolding first
-runs_leave image input picks n = run_leaves (first image input) picks n
+runs_leave image input actions picks n = run_leaves (first image input actions) picks n
 
 -- ---- of bytes
 

@@ -16,7 +16,7 @@
 //! An error is want of memory before the first instruction, with all as before.
 #![tactic(auto)]
 
-ghost use Rattle.std.specs.Prelude.{◌≡◌, All, IsTrue};
+ghost use Rattle.std.specs.Prelude.{◌≡◌, [], All, IsTrue};
 ghost use Rattle.mv_machine.specs.Actions.{fits};
 ghost use Rattle.mv_probe.specs.Hearing.{hearing, IsPatient};
 ghost use Rattle.mv_refine.specs.Environment.{environment, reading, writing};
@@ -33,7 +33,7 @@ use mv_probe::{FetchOracle, Probe};
 use std::alloc::{AllocError, Global};
 
 /// Runs the image of a program for at most so many instructions. An error is want of memory for the machine, before the first instruction.
-/// The programs that are built neither commit nor poll: no probe is told anything, and no action is taken.
+/// An image without attributed functions tells no probe anything.
 pub fn execute<I: Source, O: Sink>(
     alloc: Global,
     built: &Built,
@@ -46,10 +46,10 @@ pub fn execute<I: Source, O: Sink>(
 ) -> Result<Execution, AllocError>
     requires patient { All (λ probe. IsPatient (hearing (told probe) (patience probe))) probes.old.items }
     requires fit { All (λ action. IsTrue (fits built.now.image.switches action)) actions.now }
-    ensures executes { Executes built.now steps
+    ensures executes { Executes built.now actions.now steps
         (environment (reading (I.left source.old) (I.faults source.old)) (writing (O.written sink.old) (O.faults sink.old)) (way oracle.old))
         (environment (reading (I.left source.new) (I.faults source.new)) (writing (O.written sink.new) (O.faults sink.new)) (way oracle.new)) result }
-    ensures quiet { probes.new ≡ probes.old }
+    ensures quiet { built.now.image.functions ≡ [] → probes.new ≡ probes.old }
 {
     let mut machine = Machine::start(alloc, &built.image)?;
     let stopped = machine.run(steps, source, sink, oracle, probes, actions);

@@ -1,6 +1,7 @@
 -- A run that begins at the start stub comes to main.
 use Rattle.std.proofs.Common.{◌≡◌, ℕ, zero, suc, Bool, true, false, cond, eqb, List, replicate, pos, refl, sym, ap, ◌∙◌, subst, arith}
 use Rattle.std.specs.Prelude.{slice_index}
+use Rattle.mv_ast.specs.declared.world.Action.{Action}
 use Rattle.mv_num.specs.Words.{shl}
 use Rattle.mv_isa.specs.declared.instr.Instr.TheVariants.{Lui, Addi}
 use Rattle.mv_isa.specs.Execution.{reg, put, upper}
@@ -41,17 +42,17 @@ zeros : (n q : ℕ) → reg (replicate n 0) q ≡ 0
 unfolding reg
 zeros n q = ap (cond (eqb q 0) 0) (zero_at n q) ∙ either_way (eqb q 0) 0
 
-first_zero : (image : Fields) (bytes : List ℕ) (q : ℕ) → reg (first image (bytes_to_come bytes)).regs q ≡ 0
+first_zero : (image : Fields) (bytes : List ℕ) (actions : List Action) (q : ℕ) → reg (first image (bytes_to_come bytes) actions).regs q ≡ 0
 unfolding first
-first_zero image bytes q = zeros 32 q
+first_zero image bytes actions q = zeros 32 q
 
-first_entry : (image : Fields) (bytes : List ℕ) → (first image (bytes_to_come bytes)).pc ≡ image.entry
+first_entry : (image : Fields) (bytes : List ℕ) (actions : List Action) → (first image (bytes_to_come bytes) actions).pc ≡ image.entry
 unfolding first
-first_entry image bytes = refl
+first_entry image bytes actions = refl
 
-first_data : (image : Fields) (bytes : List ℕ) → (first image (bytes_to_come bytes)).room.held.globals ≡ image.globals
+first_data : (image : Fields) (bytes : List ℕ) (actions : List Action) → (first image (bytes_to_come bytes) actions).room.held.globals ≡ image.globals
 unfolding first first_memory
-first_data image bytes = refl
+first_data image bytes actions = refl
 
 stack_is : upper (pos 0x400) ≡ stack_end
 unfolding upper shl
@@ -60,22 +61,22 @@ stack_is = ap (λ (n : ℕ). shl n 12) (word_of_pos 0x400 (omega arith))
 -- ---- the walk
 
 module _ (tested : CalmIsTested) (are_runs : RunsAreRuns) (begin_in_calm : RunsBeginInCalm)
-    (attributed : List ℕ) (closed : (pc address : ℕ) → Bool) (image : Fields) (bytes picks : List ℕ) (y : Layout) (budget far : ℕ) (w : World)
+    (attributed : List ℕ) (closed : (pc address : ℕ) → Bool) (image : Fields) (bytes : List ℕ) (actions : List Action) (picks : List ℕ) (y : Layout) (budget far : ℕ) (w : World)
     (begins : IsFirst image bytes w) (held : HoldsData y image w) (entry_is : image.entry ≡ start_address)
     (place entry : ℕ → ℕ) (main_label end : ℕ) (p : Placed (machine_text attributed image) place entry (start_lines main_label) start_address end) where
   abbrev machine : Machine Rest
-  machine = machine_of attributed closed image (bytes_to_come bytes) picks
+  machine = machine_of attributed closed image (bytes_to_come bytes) actions picks
 
   ok : IsRun access (no_frame entry) machine
-  ok = walked.ok tested are_runs attributed closed image (bytes_to_come bytes) picks place entry
+  ok = walked.ok tested are_runs attributed closed image (bytes_to_come bytes) actions picks place entry
 
   abbrev At' : ℕ → List ℕ → Rest → ℕ → Type 0
-  At' = At tested are_runs attributed closed image (bytes_to_come bytes) picks place entry w
+  At' = At tested are_runs attributed closed image (bytes_to_come bytes) actions picks place entry w
 
   abbrev start : State
-  start = first image (bytes_to_come bytes)
+  start = first image (bytes_to_come bytes) actions
 
-  none : runs image (bytes_to_come bytes) picks 0 ≡ start
+  none : runs image (bytes_to_come bytes) actions picks 0 ≡ start
   none = runs_none start picks
 
   abbrev m : Rest
@@ -85,15 +86,15 @@ module _ (tested : CalmIsTested) (are_runs : RunsAreRuns) (begin_in_calm : RunsB
   regs0 = (machine.run 0).regs
 
   zero0 : (q : ℕ) → reg regs0 q ≡ 0
-  zero0 q = ap (λ (s : State). reg s.regs q) none ∙ first_zero image bytes q
+  zero0 q = ap (λ (s : State). reg s.regs q) none ∙ first_zero image bytes actions q
 
   are0 : AreRegisters regs0
   are0 = record { count = ok.registers 0; words = λ q. let e = zero0 q in omega (arith, e) }
 
   at0 : At' start_address regs0 m 0
   at0 = record {
-    is = ap (λ (a : ℕ). record (machine.run 0) { pc = a }) (ap (λ (s : State). s.pc) none ∙ first_entry image bytes ∙ entry_is);
-    calm = begin_in_calm attributed closed image bytes picks (no_frame entry) w begins;
+    is = ap (λ (a : ℕ). record (machine.run 0) { pc = a }) (ap (λ (s : State). s.pc) none ∙ first_entry image bytes actions ∙ entry_is);
+    calm = begin_in_calm attributed closed image bytes actions picks (no_frame entry) w begins;
     sound = λ t lt. absurd (omega (arith, lt));
   }
 
@@ -101,8 +102,8 @@ module _ (tested : CalmIsTested) (are_runs : RunsAreRuns) (begin_in_calm : RunsB
   regs1 = put regs0 stack_register stack_end
 
   at1 : At' p.0 regs1 m 1
-  at1 = sets tested are_runs attributed closed image (bytes_to_come bytes) picks place entry (Lui stack_register (pos 0x400)) w start_address p.0 0 regs0 regs1 m
-      (lui_sets (own tested are_runs attributed closed image (bytes_to_come bytes) picks place entry) m stack_register (pos 0x400) regs0 stack_end stack_is) p.1 at0
+  at1 = sets tested are_runs attributed closed image (bytes_to_come bytes) actions picks place entry (Lui stack_register (pos 0x400)) w start_address p.0 0 regs0 regs1 m
+      (lui_sets (own tested are_runs attributed closed image (bytes_to_come bytes) actions picks place entry) m stack_register (pos 0x400) regs0 stack_end stack_is) p.1 at0
 
   are1 : AreRegisters regs1
   are1 = put_registers regs0 stack_register stack_end are0 (omega arith) (omega arith) (omega arith)
@@ -111,8 +112,8 @@ module _ (tested : CalmIsTested) (are_runs : RunsAreRuns) (begin_in_calm : RunsB
   regs2 = put regs1 left_register depth_limit
 
   at2 : At' p.2.0 regs2 m 2
-  at2 = sets tested are_runs attributed closed image (bytes_to_come bytes) picks place entry (Addi left_register 0 (pos depth_limit)) w p.0 p.2.0 1 regs1 regs2 m
-      (number_sets tested are_runs attributed closed image (bytes_to_come bytes) picks place entry left_register depth_limit regs1 m (omega arith)) p.2.1 at1
+  at2 = sets tested are_runs attributed closed image (bytes_to_come bytes) actions picks place entry (Addi left_register 0 (pos depth_limit)) w p.0 p.2.0 1 regs1 regs2 m
+      (number_sets tested are_runs attributed closed image (bytes_to_come bytes) actions picks place entry left_register depth_limit regs1 m (omega arith)) p.2.1 at1
 
   are2 : AreRegisters regs2
   are2 = put_registers regs1 left_register depth_limit are1 (omega arith) (omega arith) (omega arith)
@@ -127,7 +128,7 @@ module _ (tested : CalmIsTested) (are_runs : RunsAreRuns) (begin_in_calm : RunsB
   regs3 = put regs2 link_register p.2.2.0
 
   at3 : At' (place main_label) regs3 m 3
-  at3 = jumps tested are_runs attributed closed image (bytes_to_come bytes) picks place entry link_register main_label w p.2.0 p.2.2.0 2 regs2 m p.2.2.1 at2
+  at3 = jumps tested are_runs attributed closed image (bytes_to_come bytes) actions picks place entry link_register main_label w p.2.0 p.2.2.0 2 regs2 m p.2.2.1 at2
 
   are3 : AreRegisters regs3
   are3 = put_registers regs2 link_register p.2.2.0 are2 (omega arith) (omega arith) (omega (arith, behind))
@@ -143,7 +144,7 @@ module _ (tested : CalmIsTested) (are_runs : RunsAreRuns) (begin_in_calm : RunsB
   holds q v e = subst (λ (x : Spot Rest). reg x.regs q ≡ v) (sym at3.is) e
 
   globals0 : HoldsGlobals access y machine budget far w m
-  globals0 = data_held y image w held m (ap (λ (s : State). s.room.held.globals) none ∙ first_data image bytes) machine budget far
+  globals0 = data_held y image w held m (ap (λ (s : State). s.room.held.globals) none ∙ first_data image bytes actions) machine budget far
 
   stands : Stands access y machine budget far (place main_label) w 3
   stands = record {

@@ -1,5 +1,6 @@
 -- Lines of stubs that a run walks.
 use Rattle.std.proofs.Common.{◌≡◌, inl, ℕ, ◌+◌, ◌^◌, ◌<◌, Bool, false, true, List, length, pos, Option, refl, sym, ap, ◌∙◌, subst, arith}
+use Rattle.mv_ast.specs.declared.world.Action.{Action}
 use Rattle.mv_num.specs.Words.{add}
 use Rattle.mv_isa.specs.declared.instr.Instr.{Instr}
 use Rattle.mv_isa.specs.declared.instr.Instr.TheVariants.{Addi, Ecall}
@@ -83,15 +84,15 @@ unfolding execute
 call_is regs pc m = refl
 
 module _ (tested : CalmIsTested) (are_runs : RunsAreRuns)
-    (attributed : List ℕ) (closed : (pc address : ℕ) → Bool) (image : Fields) (input : List (Option ℕ)) (picks : List ℕ) (place entry : ℕ → ℕ) where
+    (attributed : List ℕ) (closed : (pc address : ℕ) → Bool) (image : Fields) (input : List (Option ℕ)) (actions : List Action) (picks : List ℕ) (place entry : ℕ → ℕ) where
   abbrev pub machine : Machine Rest
-  machine = machine_of attributed closed image input picks
+  machine = machine_of attributed closed image input actions picks
 
   abbrev pub run : ℕ → Spot Rest
   run = machine.run
 
   pub ok : IsRun access (no_frame entry) machine
-  ok = are_runs attributed closed image input picks (no_frame entry) (none_inside entry) (λ pc a may. absurd cc)
+  ok = are_runs attributed closed image input actions picks (no_frame entry) (none_inside entry) (λ pc a may. absurd cc)
 
   -- it loads nothing
   abbrev pub own : Access Rest
@@ -104,7 +105,7 @@ module _ (tested : CalmIsTested) (are_runs : RunsAreRuns)
   abbrev pub One : ℕ → ℕ → Line → Type 0
   One = IsPlaced (machine_text attributed image) place entry
 
-  pub comes : (pc i : ℕ) (w : World) → ComesTo closed image input picks pc w i → At w pc (run i).regs (run i).memory i
+  pub comes : (pc i : ℕ) (w : World) → ComesTo closed image input actions picks pc w i → At w pc (run i).regs (run i).memory i
   comes pc i w h = record {
     is = ap (λ (a : ℕ). record (run i) { pc = a }) h.at;
     calm = (tested image (outside w) (run i).memory).1 (calm_outside image w (run i).memory h.calm);
@@ -140,7 +141,7 @@ module _ (tested : CalmIsTested) (are_runs : RunsAreRuns)
 
   -- one instruction on, the run stands at an environment call, with the argument that it had
   pub record Requests (number : ℕ) (w : World) (regs : List ℕ) (t : ℕ) : Type 0 where
-    pub call : AtCall image input picks number (t + 1) w
+    pub call : AtCall image input actions picks number (t + 1) w
     pub argument : reg (run (t + 1)).regs 10 ≡ reg regs 10
     pub sound : (s : ℕ) → s < t + 1 → machine.is_sound (run s) ≡ true
 

@@ -1,8 +1,9 @@
 -- From the parts of a command to what comes of its text.
-use Rattle.std.proofs.Common.{ℕ, ◌≡◌, List, sym, subst, Option, Some, None}
+use Rattle.std.proofs.Common.{ℕ, ◌≡◌, List, [], sym, ap, subst, Option, Some, None}
 use Rattle.std.specs.Prelude.{Result, Vec, Ok}
 use Rattle.std.specs.declared.alloc.Global.{Global}
 use Rattle.mv_ast.specs.declared.program.Program.{Program}
+use Rattle.mv_image.specs.Spelling.{Fields}
 use Rattle.mv_io.specs.Shelves.{Files, Loads}
 use Rattle.mv_front.specs.Verdicts.{IsProgram}
 use Rattle.mv_front.specs.Verdicts as front
@@ -37,7 +38,7 @@ module _ (before after : Environment) (text : List ℕ) where
   not_built steps status e same is unused = subst (λ s. Done (Run steps) s) (sym same) (no_image_by steps e is unused)
 
   pub run_done : (steps : ℕ) (status : Status) (built : Built) (e : Execution) → status ≡ status_of_stop e.stopped → IsBuiltFrom text built →
-      IsExecution built steps before after e → Done (Run steps) status
+      IsExecution built [] steps before after e → Done (Run steps) status
   run_done steps status built e same is execution = subst (λ s. Done (Run steps) s) (sym same) (ran steps built e is execution)
 
   no_program_by : (bound : ℕ) (e : FrontError) → front.IsCause text e → after ≡ before → Done (Eval bound) (status_of_error e)
@@ -50,6 +51,10 @@ module _ (before after : Environment) (text : List ℕ) where
   pub evaluation_done : (bound : ℕ) (status : Status) (p : Program) (result : Result End EvalError) → status ≡ status_of_evaluation result → IsProgram text p →
       Evaluates p bound before.input.left (Took before after) (Wrote before after) (ReadFailed before after) (WriteFailed before after) result → Done (Eval bound) status
   evaluation_done bound status p result same is evaluates = subst (λ s. Done (Eval bound) s) (sym same) (evaluated bound p result is evaluates)
+
+-- the image of a text has no attributed functions
+pub no_functions : (text : List ℕ) (built : Built) → IsBuiltFrom text built → built.image.functions ≡ []
+no_functions text built is = ap (λ (i : Fields). i.functions) is.made.linked.image_is
 
 -- ---- from the parts of a command to the command
 

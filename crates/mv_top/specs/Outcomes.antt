@@ -80,7 +80,7 @@ module _ (before after : Environment) (text : List ℕ) where
     -- there was no memory to read it as a program, or to compile and load that
     unread : (task : Task) → after ≡ before → Does task Memory
     no_image : (steps : ℕ) (r : Refusal) → HasNoImage text r → after ≡ before → Does (Run steps) (Refused r)
-    ran : (steps : ℕ) (built : Built) (e : Execution) → IsBuiltFrom text built → IsExecution built steps before after e →
+    ran : (steps : ℕ) (built : Built) (e : Execution) → IsBuiltFrom text built → IsExecution built [] steps before after e →
         Does (Run steps) (status_of_stop e.stopped)
     no_program : (bound : ℕ) (r : Refusal) → IsRefused text r → after ≡ before → Does (Eval bound) (Refused r)
     evaluated : (bound : ℕ) (p : Program) (result : Result End EvalError) → IsProgram text p →

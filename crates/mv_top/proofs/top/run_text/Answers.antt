@@ -1,5 +1,5 @@
 use Rattle.std.proofs.Common.{refl}
-use Rattle.mv_top.proofs.Texts.{not_built, run_done}
+use Rattle.mv_top.proofs.Texts.{not_built, run_done, no_functions}
 use Rattle.mv_top.specs.Outcomes.{unread}
 use Rattle.mv_top.specs.declared.command.Task.TheVariants.{Run}
 use Rattle.mv_top.proofs.top.run_text.Goals as goal
@@ -14,3 +14,9 @@ returns-in-Ok-execute-clause-does g c =
 
 pub returns-clause-does : goal.returns-clause-does
 returns-clause-does g c = unread (Run c.args.steps) c.in-Err-execute.ensures.executes
+
+pub returns-in-Ok-execute-clause-quiet : goal.returns-in-Ok-execute-clause-quiet
+returns-in-Ok-execute-clause-quiet g c = c.execute.ensures.quiet (no_functions c.args.text.now c.in-Ok.built c.in-Ok.ensures.built)
+
+pub returns-clause-quiet : goal.returns-clause-quiet
+returns-clause-quiet g c = c.execute.ensures.quiet (no_functions c.args.text.now c.in-Ok.built c.in-Ok.ensures.built)

@@ -1,5 +1,7 @@
-use Rattle.std.proofs.Common.{refl, sym, ap}
-use Rattle.mv_probe.proofs.Logs.{told_nothing}
+use Rattle.std.proofs.Common.{refl, sym, ap, ◌∙◌}
+use Rattle.mv_probe.specs.Hearing.{hearing, object_at, Becomes}
+use Rattle.mv_probe.specs.Fates.{Fates}
+use Rattle.mv_probe.proofs.Logs.{told_then}
 use Rattle.mv_machine.specs.Snapshots.{Snapshot}
 use Rattle.mv_machine.specs.Moves.{seen}
 use Rattle.mv_machine.proofs.Resumed.{ran}
@@ -8,12 +10,19 @@ use Rattle.mv_machine.proofs.machine.Machine.run.Goals as goal
 pub returns-clause-runs : goal.returns-clause-runs
 returns-clause-runs g c =
     let was = c.args.self.now in
-    let is : Snapshot = record { switches = c.self.inside.switches; regs = c.walk-self-inside.new.hart.regs; pc = c.walk-self-inside.new.hart.pc; room = c.walk-self-inside.new.memory; bindings = c.self.inside.bindings; last = c.walk-self-inside.result } in
-    let x = seen c.self.inside.hart c.self.inside.memory (g.I.Source.left c.args.source.now) (g.O.Sink.written c.args.sink.now) in
-    let y = seen c.walk-self-inside.new.hart c.walk-self-inside.new.memory (g.I.Source.left c.walk-self-inside.new.source) (g.O.Sink.written c.walk-self-inside.new.sink) in
-    ran was is x y
-    (record { regs = sym (ap (λ (m : Snapshot). m.regs) c.self.view_is); pc = sym (ap (λ (m : Snapshot). m.pc) c.self.view_is); room = sym (ap (λ (m : Snapshot). m.room) c.self.view_is) })
-    (record { regs = refl; pc = refl; room = refl })
-    (ap (λ (m : Snapshot). m.bindings) c.self.view_is)
-    (ap (λ (m : Snapshot). m.switches) c.self.view_is)
-    _ _ _ _ _ (told_nothing _ _ c.args.probes.now.items c.requires.patient) c.args.steps c.walk-self-inside.result c.unwrap_or.result was.last c.unwrap_or.ensures c.walk-self-inside.ensures.walked c.walk-self-inside.ensures.place
+    let walk = c.walk-self-inside in
+    let e = walk.new.engine in
+    let is : Snapshot = record { image = e.image; regs = e.hart.regs; pc = e.hart.pc; room = e.memory; bindings = e.bindings; last = walk.result } in
+    ran was is (seen c.self.inside.engine c.new-operator.result (g.I.Source.left c.args.source.now) (g.O.Sink.written c.args.sink.now)) (seen e walk.new.operator (g.I.Source.left walk.new.source) (g.O.Sink.written walk.new.sink))
+    (record {
+      image = sym (ap (λ (m : Snapshot). m.image) c.self.view_is);
+      regs = sym (ap (λ (m : Snapshot). m.regs) c.self.view_is);
+      pc = sym (ap (λ (m : Snapshot). m.pc) c.self.view_is);
+      room = sym (ap (λ (m : Snapshot). m.room) c.self.view_is);
+      bindings = sym (ap (λ (m : Snapshot). m.bindings) c.self.view_is);
+    })
+    (record { image = refl; regs = refl; pc = refl; room = refl; bindings = refl })
+    (walk.ensures.image ∙ ap (λ (m : Snapshot). m.image) c.self.view_is)
+    _ _ _ _
+    (λ before now events. Fates (Becomes (λ probe. object_at probe.ptr probe.vtable) (λ probe. hearing ((goal.Probe-dyn g (probe.vtable, probe.value)).told probe.value) ((goal.Probe-dyn g (probe.vtable, probe.value)).patience probe.value)) events) before now)
+    (λ k l m xs ys before behind. told_then _ _ xs ys k l m before behind) c.args.probes.now.items walk.new.probes.items c.args.steps c.args.actions.now c.new-operator.ensures walk.result c.unwrap_or.result was.last c.unwrap_or.ensures walk.ensures.walked walk.ensures.place

@@ -6,7 +6,7 @@ use Rattle.mv_machine.proofs.machine.Machine.start.Goals as goal
 pub returns : goal.returns
 returns c =
     started c.args.image.now c.in_ok-copied.field-0 c.entry.result c.in_ok-new.field-0 c.in_ok-all_free.field-0 c.len-3.result (c.len.result + 2 * c.len-2.result)
-    (c.in_ok-copied.ensures ∙ c.switches.ensures)
+    c.in_ok-copied.ensures
     c.entry.ensures.value
     (c.in_ok-new.ensures.held ∙ ap₂ (λ a b. first_memory a b) c.text.ensures.value c.globals.ensures)
     c.in_ok-new.ensures.spare

@@ -1,0 +1,4 @@
+pub mod Bindings
+pub mod Changes
+pub mod Listing
+pub mod Numbers

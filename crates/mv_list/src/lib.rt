@@ -1,0 +1,23 @@
+//! What is printed of an image: its tables, what its functions are bound to, and the words of its text that were changed.
+//!
+//! - `listing`, `bindings` and `patched` give exactly the texts that `specs/Listing.antt`, `specs/Bindings.antt` and
+//!   `specs/Changes.antt` say. They ask nothing of what is handed in: a function without a binding counts as free, and a
+//!   word that a machine doesn't hold as 0.
+//! - `patched` sets beside the image's text what loads give. `loads_give_the_text`: where the text of a memory consists of
+//!   words of 32 bits, that is the text.
+//! - Only tested: one listing of two switches, of which one is signed, and two functions, of which one has no switches;
+//!   bindings of these; a word that a run stores over (`mv_list_cases`).
+#![tactic(auto)]
+
+mod bound;
+mod changed;
+mod functions;
+mod lines;
+mod names;
+mod numbers;
+mod parts;
+mod switches;
+
+pub use bound::bindings;
+pub use changed::{loads_give_the_text, patched};
+pub use lines::listing;

@@ -1,0 +1,35 @@
+-- What a machine keeps of itself between two instructions.
+use Rattle.std.specs.Prelude.{ℕ, ◌≡◌, ◌≤◌, List, [], ◌∷◌, length, Option, Some, None, if◌then◌else◌}
+use Rattle.mv_ast.specs.declared.world.Binding.{Binding}
+use Rattle.mv_ast.specs.declared.world.Action.{Action}
+use Rattle.mv_ast.specs.declared.world.Event.{Event}
+use Rattle.mv_ast.specs.Plans.{is_same_binding}
+use Rattle.mv_image.specs.Spelling.{Fields}
+use Rattle.mv_patch.specs.Tables.{patchable}
+use Rattle.mv_patch.specs.Orders.{Prepared}
+use Rattle.mv_patch.specs.declared.order.Order.{Order}
+use Rattle.mv_patch.specs.declared.order.Order.TheVariants.{CommitAll, RevertAll, CommitFunction, RevertFunction, CommitRefs, RevertRefs}
+
+-- Each function of the image has a binding, in the plan too, which has room for each pair that the image can have.
+pub record IsReady (image : Fields) (bound : List Binding) (plan : Prepared) : Type 0 where
+  pub count : length bound ≡ length image.functions
+  pub planned : length plan.planned.bound ≡ length image.functions
+  pub reserved : patchable image ≤ plan.room
+
+-- the first of the actions that are left is taken, where there is one
+abbrev pub Taken : Option Action → (was is : List Action) → Type 0
+Taken None was is = (was ≡ []) × (is ≡ [])
+Taken (Some action) was is = was ≡ action ∷ is
+
+-- an order has this code, and where it is of a function or a switch this index
+abbrev pub IsAsked : (code index : ℕ) → Order → Type 0
+IsAsked code index CommitAll = code ≡ 0
+IsAsked code index RevertAll = code ≡ 1
+IsAsked code index (CommitFunction f) = (code ≡ 2) × (f ≡ index)
+IsAsked code index (RevertFunction f) = (code ≡ 3) × (f ≡ index)
+IsAsked code index (CommitRefs s) = (code ≡ 4) × (s ≡ index)
+IsAsked code index (RevertRefs s) = (code ≡ 5) × (s ≡ index)
+
+-- the event of a function whose binding differs, and none where it is the same
+abbrev pub change : (function : ℕ) → (old new : Binding) → List Event
+change function old new = if is_same_binding old new then [] else record { function = function; binding = new } ∷ []

@@ -1,0 +1,64 @@
+-- A function whose lowering is renamed and selected has code.
+use Rattle.std.proofs.Common.{◌≡◌, ℕ, ◌<◌, ◌≤◌, min, Bool, slice_get, ap, ◌∙◌, subst, arith}
+use Rattle.mv_ast.specs.declared.program.Program.{Program}
+use Rattle.mv_ast.specs.declared.program.Function.{Function}
+use Rattle.mv_ast.specs.Counts.{is_attributed}
+use Rattle.mv_isa.specs.declared.labelled.Labelled.{Labelled}
+use Rattle.mv_ir.specs.declared.body.Body.{Body}
+use Rattle.mv_ir.specs.Live.{most_intervals}
+use Rattle.mv_ir.specs.Measures.{deepest}
+use Rattle.mv_ir.specs.WellFormed as ir
+use Rattle.mv_lowering.specs.Functions.{lower_function}
+use Rattle.mv_lowered_forms.specs.Law.{LoweredAreShallow, LoweredAreWellFormed}
+use Rattle.mv_lowered_programs.specs.WellFormed.{IsWellFormed}
+use Rattle.mv_call_code.specs.Convention.{frame_limit}
+use Rattle.mv_function_code.specs.FunctionCode.{frame_bytes}
+use Rattle.mv_selected_bodies.specs.SelectedBodies.{HasWords}
+use Rattle.mv_select.specs.declared.error.SelectError.{SelectError}
+use Rattle.mv_select.specs.declared.error.SelectError.TheVariants.{Frame, Memory}
+use Rattle.mv_select.specs.Selected as selecting
+use Rattle.mv_select.specs.Selected.{IsSuitable, IsSelected, OnFrame}
+use Rattle.mv_parts.specs.Codes.{IsGeneric, HasCode, PassesFrame, frame_size, greatest_count}
+
+module _ (shallow : LoweredAreShallow) (formed : LoweredAreWellFormed) (p : Program) (well : IsWellFormed p) (f : ℕ) (body : Body) (generic : IsGeneric p f body)
+    (words : HasWords body.code) where
+  abbrev g : Function
+  g = generic.function
+
+  abbrev lowered : Body
+  lowered = lower_function p g
+
+  frame_is : frame_bytes body.temps body.arrays ≡ frame_size p g
+  frame_is = ap (λ t. frame_bytes t body.arrays) generic.renamed.temps ∙ ap (λ (b : Body). frame_bytes (most_intervals lowered) b.arrays) generic.renamed.changes
+
+  formed_body : ir.IsWellFormed body
+  formed_body = generic.renamed.well_formed (formed p f g (record { formed = well; there = generic.there }))
+
+  shallow_body : deepest body.code ≤ 4
+  shallow_body = let few = shallow p g in omega (arith, generic.renamed.deepest, few)
+
+  pub suitable : IsSuitable body
+  suitable = record { formed = formed_body; shallow = shallow_body; orders = words.orders }
+
+  pub passes : (named bytes : ℕ) → selecting.PassesFrame f body named bytes → PassesFrame p f named bytes
+  passes named bytes h = record {
+    function = g;
+    there = generic.there;
+    past = subst (λ n. frame_limit < n) frame_is h.past;
+    is_function = h.is_function;
+    count = h.count ∙ ap (λ n. min n greatest_count) frame_is;
+  }
+
+  pub refused : (e : SelectError) → OnFrame e (selecting.PassesFrame f body) → OnFrame e (PassesFrame p f)
+  refused (Frame named bytes) h = passes named bytes h
+  refused (Memory e) h = tt
+
+  pub has_code : (attributed : Bool) → attributed ≡ is_attributed (slice_get p.functions f) → (code : Labelled) → IsSelected attributed body code → HasCode p f body code
+  has_code attributed is code selected =
+      let own : attributed ≡ g.attributed = is ∙ ap is_attributed generic.there in
+      record {
+        function = g;
+        there = generic.there;
+        is_code = record { suitable = suitable; selected = subst (λ b. IsSelected b body code) own selected };
+        frame = subst (λ n. n ≤ frame_limit) frame_is selected.frame;
+      }

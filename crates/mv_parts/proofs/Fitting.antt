@@ -1,0 +1,49 @@
+-- The variants of functions with small frames are bodies that code can be selected for.
+use Rattle.std.proofs.Common.{arith, ◌≡◌, ℕ, ◌+◌, ◌*◌, ◌≤◌, All, List, Some, length, slice_get, sym, ap, ◌∙◌}
+use Rattle.std.specs.Prelude.{◌/◌}
+use Rattle.std.specs.List.{zip}
+use Rattle.std.proofs.lemmas.Option.{slice_get_within}
+use Rattle.mv_ast.specs.declared.program.Program.{Program}
+use Rattle.mv_ast.specs.declared.program.Function.{Function}
+use Rattle.mv_ir.specs.declared.body.Body.{Body}
+use Rattle.mv_ir.specs.Live.{most_intervals}
+use Rattle.mv_ir.specs.Measures.{total}
+use Rattle.mv_lowering.specs.Functions.{lower_function}
+use Rattle.mv_lowered_forms.specs.Law.{LoweredAreShallow, LoweredAreWellFormed}
+use Rattle.mv_lowered_programs.specs.WellFormed.{IsWellFormed}
+use Rattle.mv_function_code.specs.FunctionCode.{arrays_start, frame_bytes}
+use Rattle.mv_bound_bodies.specs.Led.{BodiesAreMade}
+use Rattle.mv_bound_bodies.specs.Meant.{IsVariantOf, MadeAreVariants}
+use Rattle.mv_bound_bodies.specs.Switches.{domains_in}
+use Rattle.mv_variants.specs.declared.variant.Variant.{Variant}
+use Rattle.mv_variants.specs.Domains.{switch_kind}
+use Rattle.mv_variants.specs.Variants.{AreVariants}
+use Rattle.mv_parts.specs.Codes.{FramesFit}
+use Rattle.mv_parts.specs.Parts.{FitsVariant}
+use Rattle.mv_parts.proofs.Lists.{all_by_index, map_at}
+
+frame_less : (n m size : ℕ) → n ≤ m → 16 * ((arrays_start n + size + 3) / 4) ≤ 16 * ((arrays_start m + size + 3) / 4)
+frame_less n m size le = omega arith
+
+module _ (made : MadeAreVariants) (came : BodiesAreMade) (shallow : LoweredAreShallow) (well : LoweredAreWellFormed) (p : Program) (formed : IsWellFormed p)
+    (frames : FramesFit p (length p.functions)) (f : ℕ) (g : Function) (there : slice_get p.functions f ≡ Some g) (variants : List Variant) (are : AreVariants p g variants) where
+  abbrev lowered : Body
+  lowered = lower_function p g
+
+  fits : (i : ℕ) (v : Variant) → slice_get variants i ≡ Some v → FitsVariant v
+  fits i v is =
+      let kept : slice_get are.merged.bodies i ≡ Some v.body = ap (λ xs. slice_get xs i) (sym are.grouped.bodies) ∙ map_at (λ (x : Variant). x.body) variants i v is in
+      let from = came (domains_in p (switch_kind p) g) are.rows are.merged are.is_merged lowered are.made i v.body kept in
+      let variant : IsVariantOf (zip lowered.switches from.0.assignment.values) lowered v.body = made (zip lowered.switches from.0.assignment.values) lowered v.body from.2 in
+      let few = shallow p g in
+      let less = frame_less v.body.temps (most_intervals lowered) (total lowered.arrays) variant.temps in
+      let same : frame_bytes v.body.temps v.body.arrays ≡ frame_bytes v.body.temps lowered.arrays = ap (frame_bytes v.body.temps) variant.sizes in
+      let own = frames f g (slice_get_within p.functions f g there) there in
+      record {
+        formed = variant.well_formed (well p f g (record { formed = formed; there = there }));
+        shallow = omega (arith, variant.deepest, few);
+        frame = omega (arith, less, same, own);
+      }
+
+  pub variants_fit : All FitsVariant variants
+  variants_fit = all_by_index FitsVariant variants fits

@@ -1,0 +1,113 @@
+-- The bodies of functions and their code, one by one.
+use Rattle.std.proofs.Common.{◌≡◌, ℕ, ◌<◌, ◌≤◌, List, [], ◌∷◌, ◌++◌, Some, length, map, slice_get, get_or, sym, ◌∙◌, ap, subst, arith}
+use Rattle.std.proofs.lemmas.List.{length-map}
+use Rattle.std.proofs.lemmas.Option.{slice_get-get_or}
+use Rattle.mv_ast.specs.declared.program.Program.{Program}
+use Rattle.mv_ast.specs.declared.program.Function.{Function}
+use Rattle.mv_isa.specs.declared.labelled.Labelled.{Labelled}
+use Rattle.mv_ir.specs.declared.body.Body.{Body}
+use Rattle.mv_ir.specs.Live.{IsWhole, HasTemps}
+use Rattle.mv_call_code.specs.Convention.{frame_limit}
+use Rattle.mv_lowering.specs.Functions.{lower_function}
+use Rattle.mv_lowered_forms.specs.Law.{LoweredAreWhole, LoweredAreWellFormed}
+use Rattle.mv_lowered_programs.specs.WellFormed.{IsWellFormed}
+use Rattle.mv_regalloc.specs.Intervals.{IsRenamed}
+use Rattle.mv_select.specs.declared.error.SelectError.{SelectError}
+use Rattle.mv_select.specs.declared.error.SelectError.TheVariants.{Frame, Memory}
+use Rattle.mv_select.specs.Selected.{OnFrame}
+use Rattle.mv_parts.specs.Codes.{AreGenerics, IsGeneric, HasCode, FramesFit, PassesFrame, PassesFirstFrame, frame_size}
+use Rattle.mv_parts.proofs.Lists.{some_at, some_same, each_push, map_at}
+
+-- ---- bodies
+
+-- a body is what the function with a number is lowered to
+pub record IsLowered (p : Program) (f : ℕ) (body : Body) : Type 0 where
+  pub function : Function
+  pub there : slice_get p.functions f ≡ Some function
+  pub is : body ≡ lower_function p function
+
+module _ (p : Program) where
+  pub lowered_at : (bodies : List Body) (i : ℕ) (body : Body) → bodies ≡ map (lower_function p) p.functions → i < length bodies → body ≡ get_or bodies i body → IsLowered p i body
+  lowered_at bodies i body e below is =
+      let long = ap length e ∙ length-map p.functions (lower_function p) in
+      let g = some_at p.functions i (omega (arith, below, long)) in
+      let here : slice_get bodies i ≡ Some body = slice_get-get_or bodies i body below ∙ ap Some (sym is) in
+      let there : slice_get bodies i ≡ Some (lower_function p g.0) = ap (λ xs. slice_get xs i) e ∙ map_at (lower_function p) p.functions i g.0 g.1 in
+      record { function = g.0; there = g.1; is = some_same body (lower_function p g.0) (sym here ∙ there) }
+
+  pub whole_at : LoweredAreWhole → IsWellFormed p → (i : ℕ) (body : Body) → IsLowered p i body → IsWhole body
+  whole_at whole formed i body h = subst IsWhole (sym h.is) (whole p i h.function (record { formed = formed; there = h.there }))
+
+  pub temps_at : LoweredAreWellFormed → IsWellFormed p → (i : ℕ) (body : Body) → IsLowered p i body → HasTemps body
+  temps_at well formed i body h = subst HasTemps (sym h.is) (well p i h.function (record { formed = formed; there = h.there })).temps
+
+  -- each of some bodies is that of its function
+  abbrev pub EachRenamed : List Body → Type 0
+  EachRenamed bodies = (f : ℕ) (g : Function) (body : Body) → slice_get p.functions f ≡ Some g → slice_get bodies f ≡ Some body → IsRenamed (lower_function p g) body
+
+  pub renamed_push : (bodies : List Body) → EachRenamed bodies → (i : ℕ) → length bodies ≡ i → (body other : Body) → IsLowered p i body → IsRenamed body other →
+      EachRenamed (bodies ++ other ∷ [])
+  renamed_push bodies each i count body other lowered renamed f g b there is = each_push P bodies other before last f b is g there
+    where
+      P : ℕ → Body → Type 0
+      P k y = (h : Function) → slice_get p.functions k ≡ Some h → IsRenamed (lower_function p h) y
+
+      before : (k : ℕ) (y : Body) → slice_get bodies k ≡ Some y → P k y
+      before k y at h here = each k h y here at
+
+      last : P (length bodies) other
+      last h here =
+          let same = some_same lowered.function h (sym lowered.there ∙ (ap (λ k. slice_get p.functions k) (sym count) ∙ here)) in
+          subst (λ (x : Function). IsRenamed (lower_function p x) other) same (subst (λ x. IsRenamed x other) lowered.is renamed)
+
+  -- ---- code
+
+  pub generic_at : (bodies : List Body) → AreGenerics p bodies → (i : ℕ) (body : Body) → i < length bodies → body ≡ get_or bodies i body → IsGeneric p i body
+  generic_at bodies are i body below is =
+      let g = some_at p.functions i (omega (arith, below, are.one_each)) in
+      let here = slice_get-get_or bodies i body below ∙ ap Some (sym is) in
+      record { function = g.0; there = g.1; renamed = are.each i g.0 body g.1 here }
+
+  module _ (bodies : List Body) where
+    -- each of some code is that of its body
+    abbrev pub EachCode : List Labelled → Type 0
+    EachCode codes = (f : ℕ) (body : Body) (code : Labelled) → slice_get bodies f ≡ Some body → slice_get codes f ≡ Some code → HasCode p f body code
+
+    pub code_push : (codes : List Labelled) → EachCode codes → (i : ℕ) → length codes ≡ i → i < length bodies → (body : Body) → body ≡ get_or bodies i body →
+        (code : Labelled) → HasCode p i body code → EachCode (codes ++ code ∷ [])
+    code_push codes each i count below body is code has f b c there at = each_push P codes code before last f c at b there
+      where
+        P : ℕ → Labelled → Type 0
+        P k y = (x : Body) → slice_get bodies k ≡ Some x → HasCode p k x y
+
+        before : (k : ℕ) (y : Labelled) → slice_get codes k ≡ Some y → P k y
+        before k y here x with_body = each k x y with_body here
+
+        body_is : slice_get bodies i ≡ Some body
+        body_is = slice_get-get_or bodies i body below ∙ ap Some (sym is)
+
+        last : P (length codes) code
+        last x with_body =
+            let same = some_same body x (sym body_is ∙ (ap (λ k. slice_get bodies k) (sym count) ∙ with_body)) in
+            subst (λ (z : Body). HasCode p (length codes) z code) same (subst (λ k. HasCode p k body code) (sym count) has)
+
+    -- the functions that have code have frames that are small enough
+    pub frames_before : (codes : List Labelled) → EachCode codes → (n : ℕ) → length codes ≡ n → n ≤ length bodies → FramesFit p n
+    frames_before codes each n count within f g below there =
+        let body = some_at bodies f (omega (arith, below, within)) in
+        let code = some_at codes f (omega (arith, count, below)) in
+        let has = each f body.0 code.0 body.1 code.1 in
+        subst (λ (k : Function). frame_size p k ≤ frame_limit) (some_same has.function g (sym has.there ∙ there)) has.frame
+
+  -- ---- refusals
+
+  -- a frame that is too large behind those that aren't
+  first_frame : (f named bytes : ℕ) → FramesFit p f → PassesFrame p f named bytes → PassesFirstFrame p named bytes
+  first_frame f named bytes fit h = record {
+    before = subst (FramesFit p) (sym h.is_function) fit;
+    first = subst (λ k. PassesFrame p k named bytes) (sym h.is_function) h;
+  }
+
+  pub frame_refused : (f : ℕ) (e : SelectError) → FramesFit p f → OnFrame e (PassesFrame p f) → OnFrame e (PassesFirstFrame p)
+  frame_refused f (Frame named bytes) fit h = first_frame f named bytes fit h
+  frame_refused f (Memory e) fit h = tt

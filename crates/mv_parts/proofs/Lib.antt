@@ -1,0 +1,17 @@
+pub mod Lists
+pub mod Functions
+pub mod Compiling
+pub mod Numbers
+pub mod PartSwitches
+pub mod Fitting
+pub mod Tables
+pub mod LinkedLists
+pub mod LinkedNumbers
+pub mod LinkedNames
+pub mod LinkedSwitches
+pub mod LinkedCode
+pub mod LinkedVariants
+pub mod LinkedParts
+pub mod LinkedTables
+pub mod LinkedCounts
+pub mod CountsOfParts

@@ -1,0 +1,44 @@
+-- What holds of the code of a well-formed program, and of what is linked of it.
+use Rattle.std.specs.Prelude.{ℕ, ◌≡◌, ◌+◌, ◌*◌, ◌<◌, ◌≤◌, List, length}
+use Rattle.mv_ast.specs.declared.program.Program.{Program}
+use Rattle.mv_ast.specs.Counts.{patchable}
+use Rattle.mv_isa.specs.Code.{text_start}
+use Rattle.mv_asm.specs.Outcome.{PassesText}
+use Rattle.mv_ir.specs.declared.body.Body.{Body}
+use Rattle.mv_lowered_programs.specs.WellFormed.{IsWellFormed}
+use Rattle.mv_source_facts.specs.Facts.{HasTableFacts}
+use Rattle.mv_linker.specs.declared.parts.Parts.{Parts}
+use Rattle.mv_linker.specs.Linked.{linked_lines}
+use Rattle.mv_linker.specs.Tables.{site_count}
+use Rattle.mv_first_data.specs.FirstData.{data_words, first_data}
+use Rattle.mv_code_sizes.specs.Texts as source
+use Rattle.mv_variants.specs.declared.variant.Variant.{Variant}
+use Rattle.mv_parts.specs.Counts.{HaveFewLabels}
+use Rattle.mv_parts.specs.Parts.{AreCodesOf, ArePartsOf}
+use Rattle.mv_parts.specs.Switches.{HasSwitches, part_switches}
+
+-- its switches are globals, and the words of its data have numbers
+abbrev pub SwitchesAreThere : Type 0
+SwitchesAreThere = (p : Program) → IsWellFormed p → HasSwitches p
+
+-- The code of a program whose tables can be made, with its switches and the first words of its globals, can be linked where there are numbers for all labels.
+abbrev pub PartsCanBeLinked : Type 0
+PartsCanBeLinked =
+    (p : Program) → IsWellFormed p → HasTableFacts p → (bodies : List Body) (tables : List (List Variant)) (parts : Parts) →
+    AreCodesOf p bodies tables parts.functions parts.attributed → parts.switches ≡ part_switches p → parts.main ≡ p.main → parts.globals ≡ first_data p →
+    HaveFewLabels parts → ArePartsOf p bodies tables parts
+
+-- there are as many words of data as all globals have
+abbrev pub DataIsCounted : Type 0
+DataIsCounted = (p : Program) → IsWellFormed p → length (first_data p) ≡ data_words p
+
+-- Counts over the source bound what is linked: its sites, the places that a plan patches, and its text where that is too long.
+pub record IsCounted (p : Program) (parts : Parts) : Type 0 where
+  pub sites : site_count parts ≤ source.site_count p
+  pub places : length parts.attributed + 2 * site_count parts ≤ patchable p
+  pub text : (words : ℕ) → PassesText text_start (linked_lines parts) words → 131072 < source.text_count p
+
+abbrev pub PartsAreCounted : Type 0
+PartsAreCounted =
+    (p : Program) → IsWellFormed p → (bodies : List Body) (tables : List (List Variant)) (parts : Parts) →
+    AreCodesOf p bodies tables parts.functions parts.attributed → IsCounted p parts

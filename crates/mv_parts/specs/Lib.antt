@@ -1,0 +1,6 @@
+pub mod Numbers
+pub mod Codes
+pub mod Switches
+pub mod Parts
+pub mod Counts
+pub mod Laws

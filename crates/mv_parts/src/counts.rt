@@ -1,0 +1,83 @@
+//! How many sites and labels the code of parts has.
+
+ghost use Rattle.std.specs.Prelude.{◌≡◌, ◌+◌, ◌↔◌, sum_by, IsTrue};
+ghost use Rattle.mv_linker.specs.Tables.{site_count};
+ghost use Rattle.mv_parts.specs.Counts.{up_to_greatest, count_in, count_in_variant, count_in_function, count_in_parts, HaveFewLabels};
+
+use mv_isa::labelled::Labelled;
+use mv_linker::{PartFunction, PartVariant, Parts, slot_count};
+
+/// The labels of all code stay below those of the stubs, of which this is the least.
+const STUBS: u64 = 4_294_967_290;
+
+/// What is counted of code.
+#[derive(Clone, Copy, Debug, Drop)]
+pub enum Counted {
+    /// Its slots.
+    Sites,
+    /// Its own labels, and the one of its entry.
+    Labels,
+}
+
+/// How many sites there are in the code of parts, as far as a `u64` goes.
+pub fn site_count(parts: &Parts) -> u64
+    ensures { result ≡ up_to_greatest (site_count parts.now) }
+{
+    in_parts(Counted::Sites, parts)
+}
+
+/// Whether there are numbers for all labels of parts.
+pub fn labels_fit(parts: &Parts) -> bool
+    ensures { IsTrue result ↔ HaveFewLabels parts.now }
+{
+    in_parts(Counted::Labels, parts) < STUBS
+}
+
+fn in_parts(what: Counted, parts: &Parts) -> u64
+    ensures { result ≡ up_to_greatest (count_in_parts what parts.now) }
+{
+    let own = in_codes(what, 0, parts.functions.as_slice());
+    in_functions(what, own, parts.attributed.as_slice())
+}
+
+// In some code, and a count.
+fn in_codes(what: Counted, count: u64, codes: &[Labelled]) -> u64
+    ensures { result ≡ up_to_greatest (count + sum_by (count_in what) codes.now) }
+{
+    let mut count = count;
+    for code in codes {
+        count = count.saturating_add(in_code(what, code));
+    }
+    count
+}
+
+// In the variants of some functions, and a count.
+fn in_functions(what: Counted, count: u64, attributed: &[PartFunction]) -> u64
+    ensures { result ≡ up_to_greatest (count + sum_by (count_in_function what) attributed.now) }
+{
+    let mut count = count;
+    for function in attributed {
+        count = in_variants(what, count, function.variants.as_slice());
+    }
+    count
+}
+
+// In some variants, and a count.
+fn in_variants(what: Counted, count: u64, variants: &[PartVariant]) -> u64
+    ensures { result ≡ up_to_greatest (count + sum_by (count_in_variant what) variants.now) }
+{
+    let mut count = count;
+    for variant in variants {
+        count = count.saturating_add(in_code(what, &variant.code));
+    }
+    count
+}
+
+fn in_code(what: Counted, code: &Labelled) -> u64
+    ensures { result ≡ count_in what code.now }
+{
+    match what {
+        Counted::Sites => slot_count(code.items.as_slice()) as u64,
+        Counted::Labels => u64::from(code.labels) + 1,
+    }
+}

@@ -1,0 +1,31 @@
+ghost use Rattle.mv_parts.specs.Laws.{SwitchesAreThere, DataIsCounted, PartsCanBeLinked, PartsAreCounted};
+
+use mv_bound_bodies::{made_bodies_are_variants, rows_lead_to_variants, variants_can_be_selected};
+use mv_code_sizes::code_is_short;
+use mv_first_data::data_law;
+use mv_lowered_names::{lowered_names_are_there, renaming_keeps_names};
+use mv_named_lines::lines_are_named;
+use mv_select::selection_law;
+
+/// The code of a well-formed program can be linked, and counts over the source bound it. The call does nothing: its contract is the law.
+///
+/// `switches`: its switches are globals, and the words of its data have numbers. `data`: there are as many of these as its globals have. `parts`: where its
+/// tables can be made and there are numbers for all labels, its code, its switches and its data are what the linker asks for. `counts`: it has no more slots
+/// than the calls of attributed functions, once and once more for each assignment; with the entries a plan can patch these; and where its text passes the
+/// limit, so does the count over the source.
+pub fn parts_law()
+    ensures switches { SwitchesAreThere }
+    ensures data { DataIsCounted }
+    ensures parts { PartsCanBeLinked }
+    ensures counts { PartsAreCounted }
+{
+    code_is_short();
+    data_law();
+    lines_are_named();
+    lowered_names_are_there();
+    made_bodies_are_variants();
+    renaming_keeps_names();
+    rows_lead_to_variants();
+    selection_law();
+    variants_can_be_selected();
+}
