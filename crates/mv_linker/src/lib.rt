@@ -19,7 +19,7 @@
 //!   (`sites`).
 //! - Only tested: the words of two functions and a variant behind the stubs, by outside assemblers, with data that names
 //!   a function, and their sites; the limits of text and data at their value and one above, with the texts of these
-//!   refusals.
+//!   refusals (`mv_linker_cases`).
 #![tactic(auto)]
 
 mod error;
@@ -35,6 +35,3 @@ pub use laws::linking_law;
 pub use linking::link;
 pub use parts::{Datum, PartFunction, PartSwitch, PartVariant, Parts};
 pub use sites::slot_count;
-
-#[cfg(test)]
-mod tests;

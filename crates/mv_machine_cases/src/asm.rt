@@ -1,5 +1,7 @@
+//! Rows of code that is assembled.
+
 ghost use Rattle.std.specs.Prelude.{◌≡◌, true};
-ghost use Rattle.mv_isa.specs.Code.{CodeFits, LineFits, StandsOnce, TargetStands, is_label};
+ghost use Rattle.mv_isa.specs.Code.{CodeFits, IsTextAddress, LineFits, StandsOnce, TargetStands, is_label};
 
 use mv_asm::error::AsmError;
 use mv_asm::{assemble, place};
@@ -7,16 +9,73 @@ use mv_isa::Instr;
 use mv_isa::labelled::{Labelled, Line};
 use mv_num::list::List;
 use std::alloc::{AllocError, Global};
-use std::test::Fail;
+use std::io;
 
-/// What code comes to, in short.
-#[derive(Debug, Drop, PartialEq, Eq)]
-enum Outcome {
-    Words(Vec<u32>),
-    TextLimit(u64),
-    Memory,
-    /// It may not be assembled.
-    Unfit,
+/// The most words or addresses that are all printed.
+const SHOWN: usize = 20;
+
+/// The number at a place of a list with commas.
+fn number_at(fields: &str, place: usize) -> Option<u32> {
+    fields.split(',').nth(place)?.parse::<u32>().ok()
+}
+
+fn register_at(fields: &str, place: usize) -> Option<u8> {
+    fields.split(',').nth(place)?.parse::<u8>().ok()
+}
+
+/// ADDI with its two registers and its number.
+fn addi(fields: &str) -> Option<Line> {
+    Some(Line::Word(Instr::Addi {
+        rd: register_at(fields, 0)?,
+        rs1: register_at(fields, 1)?,
+        imm: fields.split(',').nth(2)?.parse::<i32>().ok()?,
+    }))
+}
+
+fn branch(fields: &str) -> Option<Line> {
+    Some(Line::Branch(
+        register_at(fields, 0)?,
+        register_at(fields, 1)?,
+        register_at(fields, 2)?,
+        number_at(fields, 3)?,
+    ))
+}
+
+/// An item of code: its kind, and its fields with commas between.
+fn line_of(item: &str) -> Option<Line> {
+    let (kind, fields) = item.split_once(' ')?;
+    match kind {
+        "addi" => addi(fields),
+        "label" => Some(Line::Label(number_at(fields, 0)?)),
+        "jump" => Some(Line::Jump(register_at(fields, 0)?, number_at(fields, 1)?)),
+        "branch" => branch(fields),
+        "entry" => Some(Line::Entry(register_at(fields, 0)?, number_at(fields, 1)?)),
+        "slot" => Some(Line::Slot(number_at(fields, 0)?)),
+        _ => None,
+    }
+}
+
+/// Puts an item behind others, so many times where `N*` stands before it; one that is malformed not at all.
+fn push_item(lines: &mut List<Line>, item: &str) -> Result<(), AllocError> {
+    let (times, item) = item.split_once('*').unwrap_or(("1", item));
+    let Some(line) = line_of(item) else {
+        return Ok(());
+    };
+    for _ in 0..times.parse::<u32>().unwrap_or(0) {
+        lines.push(line)?;
+    }
+    Ok(())
+}
+
+fn code_of(alloc: Global, items: &str) -> Result<Labelled, AllocError> {
+    let mut lines = List::new(alloc);
+    for item in items.split("; ") {
+        push_item(&mut lines, item)?;
+    }
+    Ok(Labelled {
+        items: lines,
+        labels: 8,
+    })
 }
 
 /// Whether an item's fields fit; of instructions it knows ADDI alone.
@@ -81,154 +140,49 @@ fn fits(lines: &[Line]) -> bool
     true
 }
 
-fn assembled(alloc: Global, lines: &[Line], base: u32) -> Result<Outcome, AllocError> {
-    let code = Labelled {
-        items: List::from_vec(Vec::from_slice(alloc, lines)?),
-        labels: 8,
-    };
-    if !fits(code.items.as_slice()) || base < 0x1000 || base >= 0x8_1000 || base % 4 != 0 {
-        return Ok(Outcome::Unfit);
-    }
-    Ok(match assemble(alloc, &code, base) {
-        Ok(words) => Outcome::Words(words.into_vec()),
-        Err(AsmError::TextLimit(count)) => Outcome::TextLimit(count),
-        Err(AsmError::Memory(_)) => Outcome::Memory,
-    })
-}
-
-const NOP: Line = Line::Word(Instr::Addi {
-    rd: 0,
-    rs1: 0,
-    imm: 0,
-});
-
-/// BEQ of a0 and a1 over NOPs on to its label, or BLTU back to it.
-fn branch_over(alloc: Global, nops: usize, back: bool) -> Result<Vec<Line>, AllocError> {
-    let mut lines = Vec::new(alloc);
-    lines.push(if back {
-        Line::Label(0)
-    } else {
-        Line::Branch(0, 10, 11, 0)
-    })?;
-    for _ in 0..nops {
-        lines.push(NOP)?;
-    }
-    lines.push(if back {
-        Line::Branch(6, 10, 11, 0)
-    } else {
-        Line::Label(0)
-    })?;
-    Ok(lines)
-}
-
-/// The reach of a branch: NOPs, whether the branch leads back over them, how many words there are, and those of the
-/// branch, as GNU as 2.40 has them (`riscv64-linux-gnu-as -march=rv32im -mno-relax`, with `.rept` for the NOPs).
-const REACHES: [(usize, bool, usize, &[u32]); 4] = [
-    (1022, false, 1023, &[0x7eb5_0ee3]),
-    (1023, false, 1025, &[0x00b5_1463, 0x0000_106f]),
-    (1024, true, 1025, &[0x80b5_6063]),
-    (1025, true, 1027, &[0x00b5_7463, 0xff9f_e06f]),
-];
-
-#[test]
-fn reach_of_branches(rt: HostRuntime) -> Result<(), Fail> {
-    for (nops, back, count, branch) in REACHES {
-        let lines = branch_over(rt.alloc(), nops, back)?;
-        let holds = match assembled(rt.alloc(), &lines, 0x1000)? {
-            Outcome::Words(words) => {
-                words.len() == count
-                    && if back {
-                        words.ends_with(branch)
-                    } else {
-                        words.starts_with(branch)
-                    }
-            }
-            _ => false,
-        };
-        assert!(rt; holds, "over {nops}");
+/// Prints numbers, of many the first two and the last two alone.
+fn print_numbers(rt: &HostRuntime, numbers: &[u32]) -> io::Result<()> {
+    let many = numbers.len() > SHOWN;
+    for (place, number) in numbers.iter().enumerate() {
+        if !many || place < 2 || place + 2 >= numbers.len() {
+            print!(rt; " {number:08x}")?;
+        }
     }
     Ok(())
 }
 
-/// A function with its labels: 0 at its start, 1 and 2 inside, 3 at its end, and 4 at another function.
-const LINES: [Line; 19] = [
-    Line::Label(0),
-    Line::Word(Instr::Addi {
-        rd: 2,
-        rs1: 2,
-        imm: -16,
-    }),
-    Line::Branch(0, 10, 0, 3),
-    Line::Label(1),
-    Line::Entry(11, 3),
-    Line::Branch(1, 11, 10, 2),
-    Line::Slot(4),
-    Line::Jump(0, 1),
-    Line::Label(2),
-    Line::Branch(4, 5, 6, 1),
-    Line::Branch(5, 5, 6, 3),
-    Line::Branch(6, 9, 17, 2),
-    Line::Branch(7, 31, 27, 0),
-    Line::Jump(5, 3),
-    Line::Label(3),
-    Line::Word(Instr::Addi {
-        rd: 2,
-        rs1: 2,
-        imm: 16,
-    }),
-    Line::Jump(0, 0),
-    Line::Label(4),
-    Line::Word(Instr::Addi {
-        rd: 10,
-        rs1: 10,
-        imm: -1,
-    }),
-];
-
-/// Its words at 0x27e0, by GNU as 2.40 and `riscv64-linux-gnu-ld -m elf32lriscv --no-relax -Ttext=0x27e0`. There the low half
-/// of label 3's address is negative.
-const WORDS: [u32; 16] = [
-    0xff01_0113,
-    0x0205_0863,
-    0x0000_35b7,
-    0x8145_8593,
-    0x00a5_9863,
-    0x0280_00ef,
-    0x0000_0013,
-    0xfedf_f06f,
-    0xfe62_c4e3,
-    0x0062_d863,
-    0xff14_ece3,
-    0xfdbf_fae3,
-    0x0040_02ef,
-    0x0101_0113,
-    0xfc9f_f06f,
-    0xfff5_0513,
-];
-
-#[test]
-fn words_of_another_assembler(rt: HostRuntime) -> Result<(), Fail> {
-    let words = Vec::from_slice(rt.alloc(), &WORDS)?;
-    assert!(rt; assembled(rt.alloc(), &LINES, 0x27e0)? == Outcome::Words(words));
-    Ok(())
+/// Prints the words of code that fits, and the addresses of its items.
+fn print_assembled(rt: &HostRuntime, code: &Labelled, base: u32) -> io::Result<()>
+    requires code { CodeFits code.now.items }
+    requires base { IsTextAddress base }
+{
+    match assemble(rt.alloc(), code, base) {
+        Ok(words) => {
+            print!(rt; "{} words", words.len())?;
+            print_numbers(rt, words.as_slice())?;
+        }
+        Err(AsmError::TextLimit(count)) => return println!(rt;
+            "{count} words pass the end of text"
+        ),
+        Err(AsmError::Memory(error)) => return println!(rt; "{error}"),
+    }
+    match place(rt.alloc(), code, base) {
+        Ok(placed) => {
+            print!(rt; " at")?;
+            print_numbers(rt, placed.addresses.as_slice())?;
+        }
+        Err(_) => print!(rt; " at no place")?,
+    }
+    println!(rt; "")
 }
 
-#[test]
-fn end_of_text(rt: HostRuntime) -> Result<(), Fail> {
-    let one = vec![in rt.alloc(); 0x0000_0013; 1]?;
-    assert!(rt; assembled(rt.alloc(), &[NOP], 0x8_0ffc)? == Outcome::Words(one));
-    assert!(rt; assembled(rt.alloc(), &[NOP, NOP], 0x8_0ffc)? == Outcome::TextLimit(2));
-    Ok(())
-}
-
-#[test]
-fn addresses_of_items(rt: HostRuntime) -> Result<(), Fail> {
-    let code = Labelled {
-        items: List::from_vec(Vec::from_slice(rt.alloc(), &[Line::Slot(0), Line::Label(0), NOP])?),
-        labels: 1,
-    };
-    assert!(rt; fits(code.items.as_slice()));
-    let placed = place(rt.alloc(), &code, 0x1000)?;
-    assert!(rt; placed.addresses.as_slice() == [0x1000, 0x1008, 0x1008, 0x100c].as_slice());
-    Ok(())
+/// Assembles the items of a row behind its base.
+pub(crate) fn show_assembled(rt: &HostRuntime, row: &str) -> io::Result<()> {
+    let (base, items) = row.split_once(' ').unwrap_or(("", row));
+    let base = u32::from_str_radix(base, 16).unwrap_or(0);
+    let code = code_of(rt.alloc(), items)?;
+    if base < 0x1000 || base >= 0x8_1000 || base % 4 != 0 || !fits(code.items.as_slice()) {
+        return println!(rt; "unfit");
+    }
+    print_assembled(rt, &code, base)
 }

@@ -9,7 +9,7 @@ use Rattle.mv_linker.specs.declared.parts.Parts.{Parts}
 use Rattle.mv_linker.specs.declared.parts.Datum.TheVariants.{Number}
 use Rattle.mv_linker.specs.Linked.{NamesAreThere, IsFunction, IsDatum, AreParts}
 use Rattle.mv_linker.specs.Tables.{CallsAmong, FitsPartSwitch, FitsPartFunction, FitTables}
-use Rattle.mv_linker.proofs.tests.long_parts.Goals as goal
+use Rattle.mv_linker_cases.proofs.long_parts.Goals as goal
 
 abbrev long : ℕ → Labelled
 long n = record { items = replicate n (Word (Addi 0 0 (pos 0))); labels = 0 }

@@ -16,7 +16,7 @@ use Rattle.mv_linker.specs.declared.parts.PartVariant.{PartVariant}
 use Rattle.mv_linker.specs.declared.parts.Datum.TheVariants.{Number, Function}
 use Rattle.mv_linker.specs.Linked.{NamesAreThere, IsFunction, IsDatum, AreParts}
 use Rattle.mv_linker.specs.Tables.{BeginsWithWords, CallsAmong, IsName, IsRange, FitsPartSwitch, FitsPartFunction, FitsPartVariant, FitTables}
-use Rattle.mv_linker.proofs.tests.two_functions.Goals as goal
+use Rattle.mv_linker_cases.proofs.two_functions.Goals as goal
 
 abbrev called : Labelled
 called = record { items = Branch 1 10 0 0 ∷ Jump 0 4294967290 ∷ Label 0 ∷ Word (Jalr 0 1 (pos 0)) ∷ []; labels = 1 }

@@ -1,5 +1,0 @@
-//! An image with tables, and the plans of orders on it.
-#![tactic(auto)]
-
-#[cfg(test)]
-mod orders;
