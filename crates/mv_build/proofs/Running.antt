@@ -1,5 +1,5 @@
 -- The image of a program without attributed functions, commits, reverts and polls is one whose run does what the program means.
-use Rattle.std.proofs.Common.{◌≡◌, ⊎_elim, ℕ, ◌<◌, ◌≤◌, false, List, [], ◌∷◌, Some, length, map, slice_get, All, refl, sym, ap, ap₂, ◌∙◌, subst, ◌++◌, arith}
+use Rattle.std.proofs.Common.{◌≡◌, ⊎_elim, ℕ, ◌<◌, ◌≤◌, false, List, Some, length, map, slice_get, All, sym, ap, ap₂, ◌∙◌, subst, ◌++◌, arith}
 use Rattle.std.proofs.lemmas.List.{length-map}
 use Rattle.std.proofs.lemmas.List.Elements.{All-weaker}
 use Rattle.std.proofs.lemmas.Option.{slice_get_within}
@@ -11,31 +11,22 @@ use Rattle.mv_ast.specs.declared.program.CType.TheVariants.{Void, Scalar, Pointe
 use Rattle.mv_ast.specs.Counts.{words_of_size}
 use Rattle.mv_ast.specs.Plans.{attributed_functions}
 use Rattle.mv_isa.specs.declared.labelled.Labelled.{Labelled}
-use Rattle.mv_isa.specs.Code.{label_address, text_start}
 use Rattle.mv_ir.specs.declared.body.Body.{Body}
 use Rattle.mv_numbering.specs.Typing.{IsFirstValue}
 use Rattle.mv_source_calls.specs.Bindings.{NeverRebinds}
 use Rattle.mv_lowering.specs.Functions.{lower_function}
-use Rattle.mv_lowered_programs.specs.WellFormed.{IsWellFormed}
 use Rattle.mv_lowered_names.specs.Laws.{FunctionsAreThere, OnlyInputAndOutput, NamesTheSame, RenamingKeepsNames}
 use Rattle.mv_regalloc.specs.Intervals.{IsRenamed}
 use Rattle.mv_call_code.specs.Environment.{IsDirect}
-use Rattle.mv_flow_code.specs.Labels.{functions}
-use Rattle.mv_selected_bodies.specs.SelectedBodies.{HasWords, knowns}
+use Rattle.mv_selected_bodies.specs.SelectedBodies.{HasWords}
 use Rattle.mv_image.specs.Spelling.{Fields}
 use Rattle.mv_image_runs.specs.Behaves.{BehavesAlways}
-use Rattle.mv_source_facts.specs.Facts.{HasTableFacts}
 use Rattle.mv_linker.specs.declared.parts.Parts.{Parts}
 use Rattle.mv_linker.specs.declared.parts.PartFunction.{PartFunction}
-use Rattle.mv_linker.specs.declared.parts.Datum.{Datum}
-use Rattle.mv_linker.specs.Linked.{linked_lines}
-use Rattle.mv_linker.specs.Tables.{function_row}
-use Rattle.mv_linker.specs.Outcome.{datum_word, IsLinked}
-use Rattle.mv_first_data.specs.FirstData.{first_data}
+use Rattle.mv_linker.specs.Outcome.{datum_word}
 use Rattle.mv_first_data.specs.Laws.{IsFirstValueAmong, HasFirstValues, WordsAreFirst}
 use Rattle.mv_built_programs.specs.Built.{AreFirstWords, HasWordsOfGlobals, IsBuilt, IsCompiled, IsCompiledTo, IsUnattributed}
 use Rattle.mv_built_programs.specs.Laws.{BuiltProgramsBehave}
-use Rattle.mv_built_programs.proofs.Plain.{none_attributed}
 use Rattle.mv_variants.specs.declared.variant.Variant.{Variant}
 use Rattle.mv_parts.specs.Codes.{HasCode, IsCodeOf}
 use Rattle.mv_parts.specs.Parts.{ArePartsOf}
@@ -54,22 +45,6 @@ first_value p (Pointer s) v h =
 first_values : (p : Program) → All (λ (g : Global). All (IsFirstValue p g.ctype) g.first) p.globals → HasFirstValues p
 first_values p = All-weaker (λ (g : Global). All (IsFirstValue p g.ctype) g.first) (λ (g : Global). All (IsFirstValueAmong (length p.functions) g.ctype) g.first)
     (λ g. All-weaker (IsFirstValue p g.ctype) (IsFirstValueAmong (length p.functions) g.ctype) (first_value p g.ctype) g.first) p.globals
-
--- ---- no function of a program is attributed
-
-no_parts : (attributed : List PartFunction) → length attributed ≡ 0 → attributed ≡ []
-no_parts [] e = refl
-no_parts (a ∷ rest) e = absurd (omega (arith, e))
-
--- so its image has none in its tables
-pub none_in_tables : (p : Program) (bodies : List Body) (tables : List (List Variant)) (parts : Parts) → ArePartsOf p bodies tables parts → (image : Fields) → IsLinked parts image →
-    IsUnattributed p → image.functions ≡ []
-none_in_tables p bodies tables parts are image linked unattributed =
-    let count : length parts.attributed ≡ 0 =
-    sym (length-map parts.attributed (λ (a : PartFunction). a.function)) ∙ ap length are.codes.variants.numbers ∙ as_many 0 p.functions
-    ∙ ap length (none_attributed p.functions unattributed) in
-    ap (λ (i : Fields). i.functions) linked.image_is
-    ∙ ap (map (function_row (label_address text_start (linked_lines parts) linked.sizing))) (no_parts parts.attributed count)
 
 -- ---- a program's code
 

@@ -19,7 +19,6 @@ use Rattle.mv_bound_bodies.specs.Switches.{HasSwitches, HaveKinds}
 use Rattle.mv_bound_bodies.specs.Tables.{HaveVariants, HasTables}
 use Rattle.mv_isa.specs.Code.{address, label_address, text_start}
 use Rattle.mv_linker.specs.declared.parts.Parts.{Parts}
-use Rattle.mv_linker.specs.declared.parts.PartSwitch.{PartSwitch}
 use Rattle.mv_linker.specs.declared.parts.PartFunction.{PartFunction}
 use Rattle.mv_linker.specs.declared.parts.PartVariant.{PartVariant}
 use Rattle.mv_linker.specs.Linked.{function_variants, linked_lines}

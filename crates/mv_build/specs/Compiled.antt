@@ -1,5 +1,5 @@
 -- What the steps from a program to its image give.
-use Rattle.std.specs.Prelude.{ℕ, ◌≡◌, ◌<◌, ◌≤◌, ◌^◌, List, [], length, All}
+use Rattle.std.specs.Prelude.{◌≡◌, ◌<◌, ◌≤◌, ◌^◌, List, [], length, All}
 use Rattle.mv_ast.specs.declared.program.Program.{Program}
 use Rattle.mv_ir.specs.declared.body.Body.{Body}
 use Rattle.mv_isa.specs.declared.labelled.Labelled.{Labelled}

@@ -1,6 +1,5 @@
 -- A limit that is passed passes its count.
 use Rattle.std.proofs.Common.{arith}
-use Rattle.mv_ast.specs.declared.program.Program.{Program}
 use Rattle.mv_front.specs.declared.refusal.Refusal.{Refusal}
 use Rattle.mv_checked_programs.specs.Checked.{ProgramsOfTextsAreWellFormed}
 use Rattle.mv_code_sizes.specs.Sizes.{LoweredFramesPass}
