@@ -101,23 +101,15 @@ fn run_text<I: Source, O: Sink>(
     out: &mut O,
     oracle: &mut Box<dyn FetchOracle>,
 ) -> Status
-    ensures does { Does (environment (reading (I.left input.old) (I.faults input.old)) (writing (O.written out.old) (O.faults out.old)) (way oracle.old))
+    ensures { Does (environment (reading (I.left input.old) (I.faults input.old)) (writing (O.written out.old) (O.faults out.old)) (way oracle.old))
         (environment (reading (I.left input.new) (I.faults input.new)) (writing (O.written out.new) (O.faults out.new)) (way oracle.new)) text.now (Task.Run steps) result }
 {
     let built = match runnable(alloc, text) {
         Ok(built) => built,
         Err(error) => return status_of_build(error),
     };
-    match execute(
-        alloc,
-        &built,
-        steps,
-        input,
-        out,
-        oracle,
-        &mut Vec::new(alloc),
-        &[],
-    ) {
+    let mut probes = Vec::new(alloc);
+    match execute(alloc, &built, steps, input, out, oracle, &mut probes, &[]) {
         Ok(execution) => status_of_stop(execution.stopped),
         Err(_) => Status::Memory,
     }

@@ -19,7 +19,7 @@ returns-in-Err-Memory-clause-comes g c = unloaded c.in-Some.field-0.file.now c.i
 pub returns-in-Run-clause-comes : goal.returns-in-Run-clause-comes
 returns-in-Run-clause-comes g c =
     loaded _ _ _ c.in-Some.field-0.file.now c.in-Some.field-0.task (Run c.in-Run.steps) c.run_text.result c.in-Some.ensures c.in-Run.is c.in-Ok.text
-    c.in-Ok.ensures.bytes c.as_slice.result.now c.as_slice.ensures.value c.run_text.ensures.does
+    c.in-Ok.ensures.bytes c.as_slice.result.now c.as_slice.ensures.value c.run_text.ensures
 
 pub returns-clause-comes : goal.returns-clause-comes
 returns-clause-comes g c =
