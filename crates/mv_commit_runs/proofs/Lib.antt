@@ -1,0 +1,10 @@
+pub mod Known
+pub mod Areas
+pub mod Instrs
+pub mod PlanWords
+pub mod Stands
+pub mod Fetched
+pub mod Steps
+pub mod Loop
+pub mod Quiet
+pub mod Served

@@ -1,0 +1,5 @@
+pub mod Watch
+pub mod Storing
+pub mod Watched
+pub mod Served
+pub mod Laws
