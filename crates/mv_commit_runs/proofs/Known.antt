@@ -1,10 +1,11 @@
 -- What is known of text between two bindings, as one premise.
 use Rattle.mv_patch.specs.Laws.{PairsAreDifferences, TablesTellPairs}
 use Rattle.mv_text_between.specs.Laws.{TextIsBetween, BetweenIsTested, PairsAreInRange, RoomsAreWhole, TextsOfImages, StoresFindRoom}
-use Rattle.mv_machine_runs.specs.Laws.{CalmIsTested, TextsAreFound}
+use Rattle.mv_machine_runs.specs.Laws.{CalmIsTested, RunsAreRuns, TextsAreFound}
 
 pub record Known : Type 0 where
   pub calms : CalmIsTested
+  pub runs : RunsAreRuns
   pub found : TextsAreFound
   pub between : TextIsBetween
   pub tested : BetweenIsTested

@@ -8,3 +8,6 @@ pub mod Steps
 pub mod Loop
 pub mod Quiet
 pub mod Served
+pub mod Beside
+pub mod Unbarred
+pub mod Watched

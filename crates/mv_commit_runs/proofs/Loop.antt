@@ -26,9 +26,8 @@ use Rattle.mv_text_between.specs.Between.{IsSettled, IsStored}
 use Rattle.mv_text_between.specs.Laws.{TextIsBetween, BetweenIsTested, PairsAreInRange}
 use Rattle.mv_commit_runs.specs.Watch.{into_text, is_sound}
 use Rattle.mv_commit_runs.specs.Served.{IsPlanOpen}
-use Rattle.mv_commit_runs.specs.Storing.{written_plan, IsOther, run, Sound, pairs, Planned, Storing, AtLoop, Committed}
-use Rattle.mv_commit_runs.proofs.Areas.{plan_load}
-use Rattle.mv_commit_runs.proofs.PlanWords.{plan_count, plan_address, plan_word}
+use Rattle.mv_commit_runs.specs.Storing.{HasPlan, IsOther, run, Sound, pairs, Planned, Storing, AtLoop, Committed}
+use Rattle.mv_commit_runs.proofs.PlanWords.{plan_address, plan_word}
 use Rattle.mv_commit_runs.proofs.Instrs.{add_pos, lui_goes, lw_goes, sw_goes, addi_goes, less_goes, stays_goes, leaves_goes, back_goes, fence_goes}
 use Rattle.mv_commit_runs.proofs.Stands.{StubStands}
 use Rattle.mv_commit_runs.proofs.Steps.{stored, mid_sound, mid_goes, mid_under, steps}
@@ -112,8 +111,8 @@ module _ (between : TextIsBetween) (tested : BetweenIsTested) (differ : PairsAre
       (subst (All IsInRange) (sym (append_assoc before done (pair ∷ later) ∙ ap (λ ps. before ++ ps) q ∙ planned.joined)) (ranges (texts old) (texts new) are))
 
   -- what is still there of the plan area
-  plan_is : (done left : List Pair) → done ++ left ≡ coming → (room done).held.plan ≡ written_plan coming planned.behind
-  plan_is done left q = (is_stored done left q).plan ∙ planned.plan
+  plan_is : (done left : List Pair) → done ++ left ≡ coming → HasPlan (room done) coming
+  plan_is done left q k word there = (is_stored done left q).loads (plan_area + 4 * k) 4 (omega arith) ∙ planned.plan k word there
 
   few_done : (done later : List Pair) (pair : Pair) → done ++ pair ∷ later ≡ coming → length done < 65535
   few_done done later pair q = omega (arith, ap length q, length-append done (pair ∷ later), few_coming)
@@ -121,18 +120,12 @@ module _ (between : TextIsBetween) (tested : BetweenIsTested) (differ : PairsAre
   address_loads : (done later : List Pair) (pair : Pair) → done ++ pair ∷ later ≡ coming → access.load (room done) (0x0040_0000 + 8 * length done + 4) 4 ≡ Some pair.address
   address_loads done later pair q =
       let at : 0x0040_0000 + 8 * length done + 4 ≡ 0x0040_0000 + 4 * (1 + 2 * length done) = omega arith in
-      let few = few_done done later pair q in
-      ap (λ a. access.load (room done) a 4) at
-      ∙ plan_load (room done) (1 + 2 * length done) pair.address (omega (arith, few)) (pair_fits done later pair q).address
-      (ap (λ ws. slice_get ws (1 + 2 * length done)) (plan_is done (pair ∷ later) q) ∙ plan_address planned.behind coming done later pair q)
+      ap (λ a. access.load (room done) a 4) at ∙ plan_is done (pair ∷ later) q (1 + 2 * length done) pair.address (plan_address coming done later pair q)
 
   word_loads : (done later : List Pair) (pair : Pair) → done ++ pair ∷ later ≡ coming → access.load (room done) (0x0040_0000 + 8 * length done + 8) 4 ≡ Some pair.word
   word_loads done later pair q =
       let at : 0x0040_0000 + 8 * length done + 8 ≡ 0x0040_0000 + 4 * (2 + 2 * length done) = omega arith in
-      let few = few_done done later pair q in
-      ap (λ a. access.load (room done) a 4) at
-      ∙ plan_load (room done) (2 + 2 * length done) pair.word (omega (arith, few)) (pair_fits done later pair q).word
-      (ap (λ ws. slice_get ws (2 + 2 * length done)) (plan_is done (pair ∷ later) q) ∙ plan_word planned.behind coming done later pair q)
+      ap (λ a. access.load (room done) a 4) at ∙ plan_is done (pair ∷ later) q (2 + 2 * length done) pair.word (plan_word coming done later pair q)
 
   around : (done left : List Pair) (pair : Pair) (i : ℕ) → Loop (b + 4 * 3) done (pair ∷ left) i → Loop (b + 4 * 3) (done ++ pair ∷ []) left (i + 7)
   around done left pair i h =
@@ -248,8 +241,7 @@ module _ (between : TextIsBetween) (tested : BetweenIsTested) (differ : PairsAre
       let n1 = c1.registers.count in
       let p1 : reg r1 5 ≡ 0x0040_0000 = put_same r0 5 0x0040_0000 (omega arith) (omega (arith, many)) in
       let counted : access.load (room []) (0x0040_0000 + 4 * 0) 4 ≡ Some (length coming) =
-      plan_load (room []) 0 (length coming) (omega arith) (omega (arith, few))
-      (ap (λ ws. slice_get ws 0) (plan_is [] coming refl) ∙ plan_count coming planned.behind) in
+      plan_is [] coming refl 0 (length coming) refl in
       let c2 : In (b + 4 * 3) [] coming r2 (start + 1 + 1) =
       sets 2 6 (length coming) (Lw 6 5 (pos 0)) [] coming r1 (start + 1) (omega arith) refl (inr (inl refl)) (omega (arith, few))
       (lw_goes access (room []) r1 (b + 4 * 2) (small 2 (omega arith)) 6 5 0 (0x0040_0000 + 4 * 0) (length coming) (omega (arith, p1)) (omega arith) counted) (load_open 2 6 5 0 r1 (omega arith) (omega (arith, p1)) (omega (arith, p1))) refl (λ s u. refl) c1 in

@@ -35,7 +35,7 @@ use Rattle.mv_text_between.specs.Stores.{stored_all, AreTexts}
 use Rattle.mv_text_between.specs.Between.{IsSettled, is_between, IsStored}
 use Rattle.mv_text_between.specs.Laws.{IsNeverPatched}
 use Rattle.mv_commit_runs.specs.Watch.{texts_of, into_text, is_sound}
-use Rattle.mv_commit_runs.specs.Storing.{written_plan, Planned, opened, Committed}
+use Rattle.mv_commit_runs.specs.Storing.{HasPlan, Planned, opened, Committed}
 use Rattle.mv_commit_runs.specs.Watched.{watched, IsQuiet}
 use Rattle.mv_commit_runs.specs.Served.{at, under, SoundAt, QuietAt, IsPlanOpen, AtStub, IsBack}
 use Rattle.mv_commit_runs.specs.Laws.{StubServes}
@@ -258,8 +258,7 @@ module _ (known : Known) (closed : (pc address : ℕ) → Bool) (image : Fields)
           settled = record { text = p.text ∙ s.text; older = p.older ∙ s.older; spare = p.spare ∙ s.spare ∙ sym p.reserve };
           joined = refl;
           room = refl;
-          behind = p.behind;
-          plan = p.plan ∙ ap (λ bs. written_plan (plan_between image bs after.bindings) p.behind) h.quiet.calm.bindings;
+          plan = subst (λ bs. HasPlan (S (i + 1)).room (plan_between image bs after.bindings)) h.quiet.calm.bindings p.plan;
           few = omega (arith, few, few_patchable image rules);
           reserved = omega (arith, few, p.reserve, h.quiet.reserve);
           registers = subst AreRegisters (sym p.regs) (put_registers (S i).regs 10 answer h.registers (omega arith) (omega arith) h.word);

@@ -14,7 +14,7 @@ use Rattle.mv_call_code.specs.Convention.{IsTarget}
 use Rattle.mv_machine_runs.specs.Layout.{IsOutsideText}
 use Rattle.mv_machine_runs.specs.MachineRuns.{spot_of}
 use Rattle.mv_commit_runs.specs.Watch.{texts_of, is_sound}
-use Rattle.mv_commit_runs.specs.Storing.{written_plan}
+use Rattle.mv_commit_runs.specs.Storing.{HasPlan}
 use Rattle.mv_commit_runs.specs.Watched.{watched, IsQuiet}
 
 -- What a call for a plan leaves, of a state in which it is made, with an answer and the world afterwards: the new bindings, and the pairs in the plan
@@ -28,8 +28,7 @@ pub record IsPlanned (image : Fields) (after : World) (answer : ℕ) (now next :
   pub stack : next.room.held.stack ≡ now.room.held.stack
   pub spare : next.room.spare ≡ now.room.spare
   pub reserve : next.room.reserve ≡ now.room.reserve
-  pub behind : List ℕ
-  pub plan : next.room.held.plan ≡ written_plan (plan_between image now.bindings after.bindings) behind
+  pub plan : HasPlan next.room (plan_between image now.bindings after.bindings)
   pub size : length next.room.held.plan ≡ length now.room.held.plan
   pub bindings : next.bindings ≡ after.bindings
   pub input : next.input ≡ bytes_to_come after.input

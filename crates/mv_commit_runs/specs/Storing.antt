@@ -1,5 +1,5 @@
 -- A run in the stub of commits, behind the call for a plan.
-use Rattle.std.specs.Prelude.{ℕ, ◌≡◌, ◌≢◌, ◌+◌, ◌*◌, ◌<◌, ◌≤◌, Bool, true, List, [], ◌∷◌, ◌++◌, length, Option, Some, None}
+use Rattle.std.specs.Prelude.{ℕ, ◌≡◌, ◌≢◌, ◌+◌, ◌*◌, ◌<◌, ◌≤◌, Bool, true, List, [], ◌∷◌, ◌++◌, length, slice_get, Option, Some, None}
 use Rattle.mv_ast.specs.declared.world.Binding.{Binding}
 use Rattle.mv_isa.specs.Execution.{reg}
 use Rattle.mv_fetch.specs.Held.{Room}
@@ -14,9 +14,13 @@ use Rattle.mv_text_between.specs.Stores.{stored_all}
 use Rattle.mv_text_between.specs.Between.{IsSettled}
 use Rattle.mv_commit_runs.specs.Watch.{is_sound}
 
--- the words of a plan: the count, then address and word of each pair, then what stands behind
-unfoldable pub written_plan : List Pair → (behind : List ℕ) → List ℕ
-written_plan pairs behind = length pairs ∷ spelled_pairs pairs ++ behind
+-- the words of a plan: the count, then address and word of each pair
+abbrev pub spelled_plan : List Pair → List ℕ
+spelled_plan pairs = length pairs ∷ spelled_pairs pairs
+
+-- they are loaded from the plan area
+abbrev pub HasPlan : Room → List Pair → Type 0
+HasPlan room pairs = (k word : ℕ) → slice_get (spelled_plan pairs) k ≡ Some word → access.load room (plan_area + 4 * k) 4 ≡ Some word
 
 -- the registers that the stub changes, behind the call: t0 to t3
 abbrev pub IsOther : ℕ → Type 0
@@ -53,8 +57,7 @@ module _ (closed : (pc address : ℕ) → Bool) (texts : List Binding → List �
       pub joined : before ++ coming ≡ pairs
       pub room : (run start).room ≡ stored_all begun before
       pub settled : IsSettled (texts old) begun
-      pub behind : List ℕ
-      pub plan : begun.held.plan ≡ written_plan coming behind
+      pub plan : HasPlan begun coming
       pub few : length pairs < 65536
       pub reserved : length pairs ≤ begun.reserve
       pub registers : AreRegisters (run start).regs

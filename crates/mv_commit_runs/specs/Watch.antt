@@ -28,6 +28,10 @@ into_text (Some a) = not (ltb a 0x1000) && ltb a 0x0010_0000
 abbrev pub not_wanting : Spot Rest → Bool
 not_wanting spot = not (into_text (picked_target spot.memory.room 0 spot.regs spot.pc) && eqb spot.memory.room.spare 0)
 
+-- text is settled, and a store finds room
+abbrev pub keeps_text : (texts : List Binding → List ℕ) → Option (List Binding) → Spot Rest → Bool
+keeps_text texts under spot = is_settled texts under spot.memory && not_wanting spot
+
 -- What a fetch gives doesn't depend on the pick and loads nothing that is closed there, text is settled, and a store finds room.
 unfoldable pub is_sound : (closed : (pc address : ℕ) → Bool) → (texts : List Binding → List ℕ) → Option (List Binding) → Spot Rest → Bool
-is_sound closed texts under spot = runs.is_sound closed spot && (is_settled texts under spot.memory && not_wanting spot)
+is_sound closed texts under spot = runs.is_sound closed spot && keeps_text texts under spot

@@ -1,14 +1,18 @@
-ghost use Rattle.mv_commit_runs.specs.Laws.{QuietIsTested, StubServes};
+//! What runs do while commits are made. The calls do nothing: their contracts are the laws.
 
-use mv_machine_runs::{calm_is_tested, texts_are_found};
+ghost use Rattle.mv_commit_runs.specs.Laws.{QuietIsTested, StubServes};
+ghost use Rattle.mv_commit_runs.specs.WatchedRuns.{WatchedRunsAreRuns, WatchedRunsAreRunsAlone, WatchedRunsAreRunsUnder, WatchedStepsAreTaken};
+
+use mv_machine_runs::{calm_is_tested, runs_are_runs, texts_are_found};
 use mv_patch::laws::{pairs_law, tables_law};
 use mv_text_between::{text_between_law, texts_of_images_law};
 
-/// The test of calm is true exactly where the machine is calm and no commit is under way. The call does nothing: its contract is the law.
+/// The test of calm is true exactly where the machine is calm and no commit is under way.
 pub fn quiet_is_tested()
     ensures { QuietIsTested }
 {
     calm_is_tested();
+    runs_are_runs();
     texts_are_found();
     text_between_law();
     texts_of_images_law();
@@ -21,6 +25,25 @@ pub fn stub_serves()
     ensures { StubServes }
 {
     calm_is_tested();
+    runs_are_runs();
+    texts_are_found();
+    text_between_law();
+    texts_of_images_law();
+    pairs_law();
+    tables_law();
+}
+
+/// The run whose memory tells the commit that is under way is one on which code runs, each instruction from a place with settled text and room for its
+/// store. `runs`: so it is for code that loads nothing that is closed anywhere. `alone`: for code that loads nothing that is closed to a part of text, over this
+/// part. `under`: over a part of the words that stand under some bindings. `steps`: from calm, the word that stands there under the bindings is executed.
+pub fn watched_runs_law()
+    ensures runs { WatchedRunsAreRuns }
+    ensures alone { WatchedRunsAreRunsAlone }
+    ensures under { WatchedRunsAreRunsUnder }
+    ensures steps { WatchedStepsAreTaken }
+{
+    calm_is_tested();
+    runs_are_runs();
     texts_are_found();
     text_between_law();
     texts_of_images_law();

@@ -6,4 +6,4 @@
 
 mod laws;
 
-pub use laws::{quiet_is_tested, stub_serves};
+pub use laws::{quiet_is_tested, stub_serves, watched_runs_law};

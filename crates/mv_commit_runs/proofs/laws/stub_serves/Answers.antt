@@ -4,6 +4,7 @@ use Rattle.mv_commit_runs.proofs.laws.stub_serves.Goals as goal
 pub returns : goal.returns
 returns c = lemmas.stub_serves (record {
   calms = c.calm_is_tested.ensures;
+  runs = c.runs_are_runs.ensures;
   found = c.texts_are_found.ensures;
   between = c.text_between_law.ensures.between;
   tested = c.text_between_law.ensures.tested;
