@@ -11,3 +11,12 @@ pub mod Served
 pub mod Beside
 pub mod Unbarred
 pub mod Watched
+pub mod Images
+pub mod Flips
+pub mod Planned
+pub mod Planning
+pub mod Tabled
+pub mod Orders
+pub mod Hosted
+pub mod Calls
+pub mod Tells

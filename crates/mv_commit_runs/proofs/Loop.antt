@@ -24,7 +24,7 @@ use Rattle.mv_machine_runs.specs.MachineRuns.{spot_of, opens}
 use Rattle.mv_text_between.specs.Stores.{stored_all, AreTexts, IsInRange}
 use Rattle.mv_text_between.specs.Between.{IsSettled, IsStored}
 use Rattle.mv_text_between.specs.Laws.{TextIsBetween, BetweenIsTested, PairsAreInRange}
-use Rattle.mv_commit_runs.specs.Watch.{into_text, is_sound}
+use Rattle.mv_commit_runs.specs.Watch.{into_text, are_elsewhere, is_sound}
 use Rattle.mv_commit_runs.specs.Served.{IsPlanOpen}
 use Rattle.mv_commit_runs.specs.Storing.{HasPlan, IsOther, run, Sound, pairs, Planned, Storing, AtLoop, Committed}
 use Rattle.mv_commit_runs.proofs.PlanWords.{plan_address, plan_word}
@@ -45,6 +45,7 @@ module _ (between : TextIsBetween) (tested : BetweenIsTested) (differ : PairsAre
     (closed : (pc address : ℕ) → Bool) (texts : List Binding → List ℕ) (first : State) (picks : List ℕ) (word : ℕ → Option ℕ) (old new : List Binding) (start : ℕ)
     (begun : Room) (before coming : List Pair) (are : AreTexts (texts old) (texts new)) (planned : Planned closed texts first picks old new start begun before coming)
     (plain : (done left : List Pair) → done ++ left ≡ coming → (a w : ℕ) → word a ≡ Some w → choices (stored_all begun (before ++ done)).held a ≡ w ∷ [])
+    (apart : (a w : ℕ) → word a ≡ Some w → are_elsewhere a (pairs closed texts first picks old new start begun before coming) ≡ true)
     (b : ℕ) (stub : StubStands word b) (free : IsPlanOpen closed b) where
   -- the room with so many pairs of the plan stored
   abbrev room : List Pair → Room
@@ -74,7 +75,7 @@ module _ (between : TextIsBetween) (tested : BetweenIsTested) (differ : PairsAre
       → done' ++ left' ≡ coming → AreRegisters regs' → ((q : ℕ) → IsOther q → reg regs' q ≡ reg regs q)
       → In (b + 4 * k) done left regs t → In (b + 4 * k') done' left' regs' (t + 1)
   line k k' to i done left done' left' regs regs' t here on goes unbarred wants quiet joined registers others h =
-      steps between tested differ closed texts first picks word old new start begun before coming are planned plain (b + 4 * k) (b + 4 * k') i done left done' left' regs regs' t
+      steps between tested differ closed texts first picks word old new start begun before coming are planned plain apart (b + 4 * k) (b + 4 * k') i done left done' left' regs regs' t
       (record { at = stub.each k i here; goes = goes ∙ ap (λ a. Goes regs' a (room done')) on; unbarred = unbarred; wants = wants; quiet = quiet })
       joined registers others h
 
@@ -264,16 +265,16 @@ module _ (between : TextIsBetween) (tested : BetweenIsTested) (differ : PairsAre
       let on : b + 4 * 10 + 4 ≡ b + 4 * 11 = omega arith in
       let goes : execute access FenceI regs (b + 4 * 10) (room coming) ≡ Goes regs (b + 4 * 11) (access.fence (room coming)) =
       fence_goes access (room coming) regs (b + 4 * 10) (small 10 (omega arith)) ∙ ap (λ a. Goes regs a (access.fence (room coming))) on in
-      let is = mid_goes between tested differ closed texts first picks word old new start begun before coming are planned plain (b + 4 * 10) (b + 4 * 11) FenceI coming [] regs regs (access.fence (room coming)) i at h.joined goes h.is in
+      let is = mid_goes between tested differ closed texts first picks word old new start begun before coming are planned plain apart (b + 4 * 10) (b + 4 * 11) FenceI coming [] regs regs (access.fence (room coming)) i at h.joined goes h.is in
       record {
         regs = regs;
         is = is ∙ ap (λ r. record (run closed texts first picks start) { regs = regs; pc = b + 4 * 11; room = access.fence r }) all_stored;
-        under = mid_under between tested differ closed texts first picks word old new start begun before coming are planned plain (b + 4 * 10) FenceI coming [] regs i at h.joined h.is;
+        under = mid_under between tested differ closed texts first picks word old new start begun before coming are planned plain apart (b + 4 * 10) FenceI coming [] regs i at h.joined h.is;
         settled = subst (λ (s : State). IsSettled (texts new) s.room) (sym is) ((is_stored coming [] h.joined).fenced refl);
         registers = h.registers;
         others = h.others;
         sound = before_next (Sound closed texts first picks) i h.sound
-            (ap₂ (λ u s. is_sound closed texts u (spot_of s)) h.under h.is ∙ mid_sound between tested differ closed texts first picks word old new start begun before coming are planned plain (b + 4 * 10) FenceI coming [] regs at h.joined refl refl);
+            (ap₂ (λ u s. is_sound closed texts u (spot_of s)) h.under h.is ∙ mid_sound between tested differ closed texts first picks word old new start begun before coming are planned plain apart (b + 4 * 10) FenceI coming [] regs at h.joined refl refl);
       }
 
   -- from behind the call to behind FENCE.I

@@ -1,7 +1,9 @@
 -- The stub on an image, from its call to its return.
-use Rattle.std.proofs.Common.{◌≡◌, ◌≢◌, ⊎_elim, ℕ, zero, suc, add-one, ◌+◌, ◌-◌, ◌*◌, ◌/◌, ◌%◌, ◌<◌, ◌≤◌, Bool, true, false, ◌&&◌, ◌||◌, not, cond, eqb, ltb, List, [], ◌∷◌, ◌++◌, length, replicate, slice_get, slice_index, is_some, Option, Some, None, pos, refl, sym, ap, ap₂, ◌∙◌, subst, arith}
+use Rattle.std.proofs.Common.{◌≡◌, ◌≢◌, inl, inr, ⊎_elim, ℕ, zero, suc, add-one, ◌+◌, ◌-◌, ◌*◌, ◌/◌, ◌%◌, ◌<◌, ◌≤◌, Bool, true, false, ◌&&◌, ◌||◌, not, cond, eqb, ltb, List, [], ◌∷◌, ◌++◌, length, replicate, slice_get, slice_index, is_some, Option, Some, None, pos, refl, sym, ap, ap₂, ◌∙◌, subst, arith}
 use Rattle.std.proofs.lemmas.List.{append-nil}
-use Rattle.std.proofs.lemmas.Bool.{and_from, cases_lt, lt-ltb, le-ltb, or_parts, eqb-true, ltb-true, ltb-false}
+use Rattle.std.specs.List.{All}
+use Rattle.std.proofs.lemmas.List.Elements.{All-head, All-tail}
+use Rattle.std.proofs.lemmas.Bool.{and_from, ne_eqb, cases_lt, lt-ltb, le-ltb, or_parts, eqb-true, ltb-true, ltb-false}
 use Rattle.mv_num.specs.Words.{add}
 use Rattle.mv_ast.specs.declared.world.Binding.{Binding}
 use Rattle.mv_descriptors.specs.declared.rows.SiteRow.{SiteRow}
@@ -14,7 +16,7 @@ use Rattle.mv_fetch.specs.Held.{Held, Room, region_of, words_of, present, older_
 use Rattle.mv_rv32.specs.Stepping.{access, target}
 use Rattle.mv_image.specs.Spelling.{Fields}
 use Rattle.mv_image.specs.Faults.{Rules}
-use Rattle.mv_image.specs.Patched.{entry_at, site_at, site_before}
+use Rattle.mv_image.specs.Patched.{Bindings, ShowsAt, entry_at, site_at, site_before}
 use Rattle.mv_image.proofs.Limits.{is_within}
 use Rattle.mv_patch.specs.declared.prepared.Pair.{Pair}
 use Rattle.mv_patch.specs.Orders.{values_of, plan_between}
@@ -34,7 +36,7 @@ use Rattle.mv_machine_runs.specs.MachineRuns as runs
 use Rattle.mv_text_between.specs.Stores.{stored_all, AreTexts}
 use Rattle.mv_text_between.specs.Between.{IsSettled, is_between, IsStored}
 use Rattle.mv_text_between.specs.Laws.{IsNeverPatched}
-use Rattle.mv_commit_runs.specs.Watch.{texts_of, into_text, is_sound}
+use Rattle.mv_commit_runs.specs.Watch.{texts_of, into_text, are_elsewhere, is_sound}
 use Rattle.mv_commit_runs.specs.Storing.{HasPlan, Planned, opened, Committed}
 use Rattle.mv_commit_runs.specs.Watched.{watched, IsQuiet}
 use Rattle.mv_commit_runs.specs.Served.{at, under, SoundAt, QuietAt, IsPlanOpen, AtStub, IsBack}
@@ -104,14 +106,18 @@ none_older (suc n) (suc k) = none_older n k
 pub record Unpatched (image : Fields) (a word : ℕ) : Type 0 where
   pub index : ℕ
   pub at : place index ≡ a
+  pub below : a < 0x0010_0000
   pub there : slice_get image.text index ≡ Some word
   pub never : IsNeverPatched image a
+
+none_some : {A : Type 0} {x : A} → None ≡ Some x → ⊥
+none_some e = cc
 
 none_is : {A : Type 0} (o : Option A) → is_some o ≡ false → o ≡ None
 none_is None h = refl
 none_is (Some x) h = absurd (cc)
 
-unpatched_told : (image : Fields) (a word : ℕ) → unpatched_word image a ≡ Some word → Unpatched image a word
+pub unpatched_told : (image : Fields) (a word : ℕ) → unpatched_word image a ≡ Some word → Unpatched image a word
 unfolding unpatched_word image_word
 unpatched_told image a word e = by_tests (may_be_patched image a) (eqb (a % 4) 0) (ltb a 0x1000) (ltb a 0x0010_0000) refl refl refl refl e
   where
@@ -129,9 +135,26 @@ unpatched_told image a word e = by_tests (may_be_patched image a) (eqb (a % 4) 0
         record {
           index = (a - 0x1000) / 4;
           at = omega (arith, even, from);
+          below = ltb-true a 0x0010_0000 u;
           there = k;
           never = record { no_entry = none_is (entry_at image a) p.0; no_site = none_is (site_at image a) r.0; no_site_before = none_is (site_before image a) r.1 };
         }
+
+-- nothing shows there
+never_shown : (image : Fields) (f a : ℕ) → IsNeverPatched image a → ShowsAt image f a → ⊥
+never_shown image f a never (inl e) = none_some (sym never.no_entry ∙ e)
+never_shown image f a never (inr (inl e)) = none_some (sym never.no_site ∙ e.1)
+never_shown image f a never (inr (inr e)) = none_some (sym never.no_site_before ∙ e.1)
+
+all_elsewhere : (image : Fields) (some other : Bindings) (a : ℕ) → IsNeverPatched image a → (pairs : List Pair)
+    → All (λ (pair : Pair). (f : ℕ) × (some f ≢ other f) × ShowsAt image f pair.address) pairs → are_elsewhere a pairs ≡ true
+all_elsewhere image some other a never [] h = refl
+all_elsewhere image some other a never (pair ∷ pairs) h =
+    let Shown : Pair → Type 0 = λ (pair : Pair). (f : ℕ) × (some f ≢ other f) × ShowsAt image f pair.address in
+    let here = All-head Shown pair pairs h in
+    and_from (not (eqb pair.address a)) (are_elsewhere a pairs)
+    (ap not (ne_eqb pair.address a (λ e. never_shown image here.0 a never (subst (ShowsAt image here.0) e here.2))))
+    (all_elsewhere image some other a never pairs (All-tail Shown pair pairs h))
 
 few_patchable : (image : Fields) → Rules image → patchable image < 65536
 unfolding patchable
@@ -163,6 +186,12 @@ module _ (known : Known) (closed : (pc address : ℕ) → Bool) (image : Fields)
       subst (λ b. choices (stored_all room done).held b ≡ w ∷ []) u.at
       ((known.images image rules (values_of old) (values_of new)).plain room settled done left q u.index w (subst (IsNeverPatched image) (sym u.at) u.never) u.there)
 
+  -- and a commit changes none of them
+  apart : (old new : List Binding) (a w : ℕ) → W a ≡ Some w → are_elsewhere a (plan_between image old new) ≡ true
+  apart old new a w h =
+      let u = unpatched_told image a w h in
+      all_elsewhere image (values_of old) (values_of new) a u.never (plan_between image old new) (known.images image rules (values_of old) (values_of new)).show
+
   quiet_one : (bs : List Binding) (room : Room) → IsSettled (texts_of image bs) room → (a w : ℕ) → W a ≡ Some w → choices room.held a ≡ w ∷ []
   unfolding stored_all
   quiet_one bs room settled a w h = stays bs bs room settled [] (plan_between image bs bs) refl a w h
@@ -187,7 +216,7 @@ module _ (known : Known) (closed : (pc address : ℕ) → Bool) (image : Fields)
       ap (λ u. is_sound closed (texts_of image) u (spot_of (S t))) h.quiet.under
       ∙ and_from _ _ (plainly_sound (S t) i h.stands.fields one closed unbarred)
       (and_from _ _ (ap (λ b. is_between (texts_of image b) (texts_of image b) (S t).room.held) bs ∙ quiet_between w.bindings (S t).room h.quiet.settled)
-      (ap (λ a. not (into_text a && eqb (S t).room.spare 0)) (target_is (S t) i h.stands.fields one) ∙ wants))
+      (and_from _ _ (ap (λ a. not (into_text a && eqb (S t).room.spare 0)) (target_is (S t) i h.stands.fields one) ∙ wants) refl))
 
   calm_goes : (w : World) (i : Instr) (t : ℕ) (regs' : List ℕ) (pc' : ℕ) (room' : Room) → Calmly w i t → execute access i (S t).regs (S t).pc (S t).room ≡ Goes regs' pc' room'
       → S (t + 1) ≡ record (S t) { regs = regs'; pc = pc'; room = room' }
@@ -271,10 +300,10 @@ module _ (known : Known) (closed : (pc address : ℕ) → Bool) (image : Fields)
         h.planned.pc ∙ ap (λ a. add a 4) h.here ∙ add_four pc (omega (arith, small.1))
 
     stored_on : Commits known.between known.tested known.differ known.ranges closed (texts_of image) first picks W w.bindings after.bindings (i + 1) (S (i + 1)).room [] the_pairs (are_texts w.bindings after.bindings)
-        behind (stays w.bindings after.bindings (S (i + 1)).room behind.settled) pc stub free
+        behind (stays w.bindings after.bindings (S (i + 1)).room behind.settled) (apart w.bindings after.bindings) pc stub free
     stored_on =
         commits known.between known.tested known.differ known.ranges closed (texts_of image) first picks W w.bindings after.bindings (i + 1) (S (i + 1)).room [] the_pairs (are_texts w.bindings after.bindings)
-        behind (stays w.bindings after.bindings (S (i + 1)).room behind.settled) pc stub free behind_at
+        behind (stays w.bindings after.bindings (S (i + 1)).room behind.settled) (apart w.bindings after.bindings) pc stub free behind_at
 
     abbrev j : ℕ
     j = stored_on.time

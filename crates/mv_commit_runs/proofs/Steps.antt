@@ -10,6 +10,7 @@ use Rattle.mv_fetch.specs.Held.{Room, choices}
 use Rattle.mv_rv32.specs.Stepping.{access, target}
 use Rattle.mv_patch.specs.declared.prepared.Pair.{Pair}
 use Rattle.mv_patch.specs.Laws.{PairsAreDifferences}
+use Rattle.mv_patch.specs.Pairs.{pairs_between}
 use Rattle.mv_machine.specs.Runs.{State, turn}
 use Rattle.mv_machine.specs.Commits.{after_instr, commit_after, commit_from, where_it_goes}
 use Rattle.mv_machine.proofs.Turns.{runs_more, turn_by}
@@ -21,7 +22,7 @@ use Rattle.mv_machine_runs.specs.MachineRuns as runs
 use Rattle.mv_text_between.specs.Stores.{stored_all, AreTexts}
 use Rattle.mv_text_between.specs.Between.{is_between, IsStored}
 use Rattle.mv_text_between.specs.Laws.{TextIsBetween, BetweenIsTested}
-use Rattle.mv_commit_runs.specs.Watch.{into_text, is_settled, is_sound}
+use Rattle.mv_commit_runs.specs.Watch.{into_text, is_settled, are_elsewhere, is_apart, is_sound}
 use Rattle.mv_commit_runs.specs.Storing.{IsOther, run, under_way, Sound, pairs, opened, Planned, Storing}
 use Rattle.mv_commit_runs.proofs.Fetched.{executes, instr_is, plainly_sound, target_is}
 
@@ -68,7 +69,15 @@ module _ (between : TextIsBetween) (tested : BetweenIsTested) (differ : PairsAre
           ap₂ (λ (a b : List ℕ). is_between a b (room done).held) (ap texts planned.bound ∙ sym same) (ap texts planned.bound) ∙ mid_between done left q
       by_pairs (p ∷ ps) e = ap (λ b. is_between (texts old) (texts b) (room done).held) planned.bound ∙ mid_between done left q
 
-  module _ (plain : (done left : List Pair) → done ++ left ≡ coming → (a w : ℕ) → word a ≡ Some w → choices (room done).held a ≡ w ∷ []) where
+  module _ (plain : (done left : List Pair) → done ++ left ≡ coming → (a w : ℕ) → word a ≡ Some w → choices (room done).held a ≡ w ∷ [])
+      (apart : (a w : ℕ) → word a ≡ Some w → are_elsewhere a the_pairs ≡ true) where
+    mid_apart : (pc w : ℕ) (done : List Pair) (regs : List ℕ) → word pc ≡ Some w → is_apart texts (begins the_pairs) (spot_of (mid pc done regs)) ≡ true
+    mid_apart pc w done regs there = by_pairs the_pairs refl
+      where
+        by_pairs : (ps : List Pair) → the_pairs ≡ ps → is_apart texts (begins ps) (spot_of (mid pc done regs)) ≡ true
+        by_pairs [] e = refl
+        by_pairs (p ∷ ps) e = ap (λ b. are_elsewhere pc (pairs_between (texts old) (texts b))) planned.bound ∙ apart pc w there
+
     pub mid_sound : (pc : ℕ) (i : Instr) (done left : List Pair) (regs : List ℕ) → InstrStands word pc i → done ++ left ≡ coming
         → opens (closed pc) (loads_from i regs) ≡ true → not (into_text (target i regs) && eqb (room done).spare 0) ≡ true → is_sound closed texts (begins the_pairs) (spot_of (mid pc done regs)) ≡ true
     unfolding is_sound
@@ -76,7 +85,7 @@ module _ (between : TextIsBetween) (tested : BetweenIsTested) (differ : PairsAre
         let one = plain done left q pc (encode i) at.word in
         let x = mid pc done regs in
         and_from _ _ (plainly_sound x i at.fields one closed unbarred) (and_from _ _ (mid_settled pc done left regs q)
-        (ap (λ t. not (into_text t && eqb (room done).spare 0)) (target_is x i at.fields one) ∙ wants))
+        (and_from _ _ (ap (λ t. not (into_text t && eqb (room done).spare 0)) (target_is x i at.fields one) ∙ wants) (mid_apart pc (encode i) done regs at.word)))
 
     -- ---- it goes on
 

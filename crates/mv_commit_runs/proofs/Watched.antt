@@ -353,7 +353,7 @@ module _ (known : Known) (image : Fields) (rules : Rules image) (input : List (O
       ap (λ u. keeps_text (texts_of image) u (plain_spot (at i))) l.quiet.under
       ∙ and_from _ _ (ap (λ b. is_between (texts_of image b) (texts_of image b) (S i).room.held) l.quiet.calm.bindings
       ∙ (known.tested t t (S i).room.held).1 ((known.rooms.same t (S i).room.held).1 (l.quiet.settled.text, l.quiet.settled.older)))
-      (ap (λ a. not (into_text a && eqb (S i).room.spare 0)) (target_is i w next l) ∙ finds_room i w next h l)
+      (and_from _ _ (ap (λ a. not (into_text a && eqb (S i).room.spare 0)) (target_is i w next l) ∙ finds_room i w next h l) refl)
 
   pub taken : WatchedStepsTaken image input actions picks s
   taken = record { goes = goes; one = one; keeps = keeps; stays = stays_quiet }

@@ -6,6 +6,7 @@ pub returns-clause-runs : goal.returns-clause-runs
 returns-clause-runs c = lemmas.watched_runs (record {
   calms = c.calm_is_tested.ensures;
   runs = c.runs_are_runs.ensures;
+  begins = c.runs_begin_in_calm.ensures;
   found = c.texts_are_found.ensures;
   between = c.text_between_law.ensures.between;
   tested = c.text_between_law.ensures.tested;
@@ -15,12 +16,15 @@ returns-clause-runs c = lemmas.watched_runs (record {
   finds = c.texts_of_images_law.ensures.room;
   differ = c.pairs_law.ensures.differences;
   tells = c.tables_law.ensures.pairs;
+  fits = c.fit_worlds_law.ensures.told;
+  keep_fit = c.fit_worlds_law.ensures.knowns;
 })
 
 pub returns-clause-alone : goal.returns-clause-alone
 returns-clause-alone c = lemmas.watched_alone (record {
   calms = c.calm_is_tested.ensures;
   runs = c.runs_are_runs.ensures;
+  begins = c.runs_begin_in_calm.ensures;
   found = c.texts_are_found.ensures;
   between = c.text_between_law.ensures.between;
   tested = c.text_between_law.ensures.tested;
@@ -30,12 +34,15 @@ returns-clause-alone c = lemmas.watched_alone (record {
   finds = c.texts_of_images_law.ensures.room;
   differ = c.pairs_law.ensures.differences;
   tells = c.tables_law.ensures.pairs;
+  fits = c.fit_worlds_law.ensures.told;
+  keep_fit = c.fit_worlds_law.ensures.knowns;
 })
 
 pub returns-clause-under : goal.returns-clause-under
 returns-clause-under c = lemmas.watched_under (record {
   calms = c.calm_is_tested.ensures;
   runs = c.runs_are_runs.ensures;
+  begins = c.runs_begin_in_calm.ensures;
   found = c.texts_are_found.ensures;
   between = c.text_between_law.ensures.between;
   tested = c.text_between_law.ensures.tested;
@@ -45,12 +52,15 @@ returns-clause-under c = lemmas.watched_under (record {
   finds = c.texts_of_images_law.ensures.room;
   differ = c.pairs_law.ensures.differences;
   tells = c.tables_law.ensures.pairs;
+  fits = c.fit_worlds_law.ensures.told;
+  keep_fit = c.fit_worlds_law.ensures.knowns;
 })
 
 pub returns-clause-steps : goal.returns-clause-steps
 returns-clause-steps c = lemmas.watched_steps (record {
   calms = c.calm_is_tested.ensures;
   runs = c.runs_are_runs.ensures;
+  begins = c.runs_begin_in_calm.ensures;
   found = c.texts_are_found.ensures;
   between = c.text_between_law.ensures.between;
   tested = c.text_between_law.ensures.tested;
@@ -60,4 +70,6 @@ returns-clause-steps c = lemmas.watched_steps (record {
   finds = c.texts_of_images_law.ensures.room;
   differ = c.pairs_law.ensures.differences;
   tells = c.tables_law.ensures.pairs;
+  fits = c.fit_worlds_law.ensures.told;
+  keep_fit = c.fit_worlds_law.ensures.knowns;
 })
