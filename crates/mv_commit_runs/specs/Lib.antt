@@ -1,0 +1,9 @@
+pub mod Watch
+pub mod Storing
+pub mod Watched
+pub mod WatchedRuns
+pub mod Served
+pub mod Tabled
+pub mod Hosted
+pub mod Tells
+pub mod Laws
