@@ -35,23 +35,26 @@ fn bytes_of(alloc: Global, text: &str) -> Result<Vec<u8>, AllocError> {
     bytes_of_words(alloc, &words)
 }
 
-fn binding_of(values: &str) -> Binding {
-    let mut binding = Binding::free();
-    if values == "free" {
-        return binding;
+fn binding_of(text: &str) -> Binding {
+    if text == "free" {
+        return Binding::free();
     }
-    binding.bound = true;
-    for value in values.split(',') {
-        let place = binding.count as usize;
+    let mut count: u32 = 0;
+    let mut values = [0; 6];
+    for value in text.split(',') {
         match u32::from_str_radix(value, 16) {
-            Ok(word) if place < 6 => {
-                binding.values[place] = word;
-                binding.count += 1;
+            Ok(word) if count < 6 => {
+                values[count as usize] = word;
+                count += 1;
             }
             _ => {}
         }
     }
-    binding
+    Binding {
+        bound: true,
+        count,
+        values,
+    }
 }
 
 fn bound(alloc: Global, image: &Image, row: &str) -> Result<Vec<u8>, AllocError> {
