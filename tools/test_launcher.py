@@ -233,7 +233,7 @@ class Launcher(unittest.TestCase):
     def interrupted(self, number, is_due, **how):
         """Sends a signal to a run once it is due, and sees that the run ends and leaves no file and no process."""
         with self.start("run", "a.c", **how) as run:
-            for _ in range(200):
+            for _ in range(1200):
                 if is_due():
                     break
                 time.sleep(0.05)
@@ -316,4 +316,8 @@ class Launcher(unittest.TestCase):
 
 
 if __name__ == "__main__":
+    # (where this runs in the background, some of these are ignored)
+    signal.signal(signal.SIGINT, signal.default_int_handler)
+    for number in (signal.SIGTERM, signal.SIGHUP):
+        signal.signal(number, signal.SIG_DFL)
     unittest.main()
