@@ -1,0 +1,11 @@
+use Rattle.mv_slot_counts.proofs.Calls.{marked_slots, attributed_slots, source_slots}
+use Rattle.mv_slot_counts.proofs.each_call_has_a_slot.Goals as goal
+
+pub returns-clause-marked : goal.returns-clause-marked
+returns-clause-marked c = marked_slots c.slots_are_counted.ensures.code
+
+pub returns-clause-attributed : goal.returns-clause-attributed
+returns-clause-attributed c = attributed_slots c.slots_are_counted.ensures.code
+
+pub returns-clause-source : goal.returns-clause-source
+returns-clause-source c = source_slots c.slots_are_counted.ensures.code c.lowered_forms_are_right.ensures.calls
