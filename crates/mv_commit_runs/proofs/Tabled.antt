@@ -24,7 +24,7 @@ use Rattle.mv_image.specs.Patched.{fitting_variant}
 use Rattle.mv_image.proofs.Limits.{is_within}
 use Rattle.mv_patch.specs.Orders.{word_in, words_now, bound_now, is_ordered, next_binding, ordered_rows, bound_rows, bindings_after, answer_after, is_known_order}
 use Rattle.mv_ir.specs.World.{World}
-use Rattle.mv_machine.specs.Runs.{stored_word, with_word_of, with_value}
+use Rattle.mv_machine.specs.Runs.{with_word_of, with_value}
 use Rattle.mv_flow_code.specs.Runs.{Machine}
 use Rattle.mv_call_code.specs.Convention.{Layout, HoldsGlobals}
 use Rattle.mv_function_code.specs.Functions.{IsWord, Kept}

@@ -6,7 +6,6 @@ use Rattle.mv_fetch.specs.Held.{IsInText, region_of, choices}
 use Rattle.mv_rv32.specs.Stepping.{picked_target}
 use Rattle.mv_machine.specs.Runs.{choices_at}
 use Rattle.mv_machine_runs.specs.MachineRuns.{spot_of}
-use Rattle.mv_machine_runs.specs.MachineRuns as runs
 use Rattle.mv_commit_runs.specs.Watch.{into_text, are_elsewhere, is_apart, is_sound}
 use Rattle.mv_commit_runs.specs.Tells.{SoundPlacesTell}
 use Rattle.std.specs.List.{All}
