@@ -1,5 +1,5 @@
 -- The machine serves `getchar` and `putchar`.
-use Rattle.std.proofs.Common.{◌≡◌, ◌≢◌, inl, inr, ℕ, zero, suc, ◌+◌, ◌*◌, ◌%◌, ◌^◌, ◌<◌, ◌≤◌, Bool, true, false, cond, List, [], ◌∷◌, ◌++◌, length, slice_index, slice_index_or, Option, Some, None, refl, sym, ap, ap₂, ◌∙◌, subst, arith}
+use Rattle.std.proofs.Common.{◌≡◌, ◌≢◌, inl, inr, ℕ, zero, suc, ◌+◌, ◌*◌, ◌%◌, ◌^◌, ◌<◌, ◌≤◌, Bool, false, cond, List, [], ◌∷◌, ◌++◌, length, slice_index, slice_index_or, Option, Some, None, refl, sym, ap, ◌∙◌, subst, arith}
 use Rattle.std.specs.List.{All}
 use Rattle.std.proofs.lemmas.List.Elements.{All-head, All-tail}
 use Rattle.mv_num.specs.Words.{add}
@@ -10,7 +10,6 @@ use Rattle.mv_ast.specs.declared.world.Binding.{Binding}
 use Rattle.mv_isa.specs.declared.instr.Instr.TheVariants.{Ecall}
 use Rattle.mv_isa.specs.Encoding.{encode}
 use Rattle.mv_isa.specs.Execution.{Outcome, Goes, Calls, Faults, reg, put}
-use Rattle.mv_isa.specs.Standing.{InstrStands}
 use Rattle.mv_fetch.specs.Held.{Room}
 use Rattle.mv_image.specs.Spelling.{Fields}
 use Rattle.mv_image.specs.Faults.{Rules}
@@ -33,7 +32,7 @@ use Rattle.mv_machine_runs.specs.MachineRuns.{rest_of, unpatched_word}
 use Rattle.mv_machine_runs.specs.Laws.{IsByteOrEnd}
 use Rattle.mv_text_between.specs.Between.{IsSettled}
 use Rattle.mv_commit_runs.specs.Watch.{texts_of}
-use Rattle.mv_commit_runs.specs.Watched.{Watched, access, watched, IsQuiet, is_quiet, spot_at, watched_machine}
+use Rattle.mv_commit_runs.specs.Watched.{Watched, access, watched, IsQuiet, spot_at, watched_machine}
 use Rattle.mv_commit_runs.specs.Served.{SoundAt}
 use Rattle.mv_commit_runs.specs.Hosted.{WatchedCallsAreServed}
 use Rattle.mv_commit_runs.proofs.Known.{Known}

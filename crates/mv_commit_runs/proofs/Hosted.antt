@@ -1,5 +1,5 @@
 -- The machine begins in calm, and its memory has words.
-use Rattle.std.proofs.Common.{◌≡◌, ◌≢◌, ℕ, ◌^◌, ◌<◌, Bool, true, false, List, [], length, replicate, option_map, Option, Some, None, refl, sym, ap, ◌∙◌, subst}
+use Rattle.std.proofs.Common.{◌≡◌, ℕ, false, List, [], length, option_map, Option, Some, None, refl, sym, ap, ◌∙◌, subst}
 use Rattle.std.proofs.lemmas.List.{length-replicate}
 use Rattle.mv_ast.specs.declared.world.Action.{Action}
 use Rattle.mv_fetch.specs.Held.{Room, zeros, fence, first as first_memory}
@@ -9,21 +9,20 @@ use Rattle.mv_image.specs.Patched.{text_of}
 use Rattle.mv_patch.specs.Orders.{values_of}
 use Rattle.mv_patch.specs.Tables.{patchable}
 use Rattle.mv_ir.specs.World.{World}
-use Rattle.mv_machine.specs.Runs.{State, bytes_to_come, first, runs_from}
+use Rattle.mv_machine.specs.Runs.{bytes_to_come, first, runs_from}
 use Rattle.mv_machine.specs.Commits.{commit_from}
 use Rattle.mv_flow_code.specs.Runs.{outside}
 use Rattle.mv_call_code.specs.Convention.{Layout}
 use Rattle.mv_statement_code.specs.Frames.{Site}
-use Rattle.mv_function_code.specs.Functions.{IsWord, IsStack, Kept}
+use Rattle.mv_function_code.specs.Functions.{Kept}
 use Rattle.mv_machine_runs.specs.Calm.{Rest, IsCalm}
 use Rattle.mv_machine_runs.specs.Laws.{IsFirst}
-use Rattle.mv_machine_runs.specs.Layout.{IsSetOut}
 use Rattle.mv_machine_runs.specs.MachineRuns as runs
 use Rattle.mv_machine_runs.specs.MachineRuns.{with_room, rest_of}
 use Rattle.mv_machine_runs.proofs.Whole as whole
-use Rattle.mv_text_between.specs.Between.{IsWhole, IsSettled}
+use Rattle.mv_text_between.specs.Between.{IsWhole}
 use Rattle.mv_commit_runs.specs.Watch.{texts_of}
-use Rattle.mv_commit_runs.specs.Watched.{Watched, access, watched, put_room, plan_words, is_quiet, spot_at}
+use Rattle.mv_commit_runs.specs.Watched.{Watched, access, watched, put_room, plan_words}
 use Rattle.mv_commit_runs.specs.Hosted.{WatchedRunsBegin, WatchedMemory}
 use Rattle.mv_commit_runs.proofs.Known.{Known}
 use Rattle.mv_commit_runs.proofs.Quiet.{quiet_told, quiet_tested}

@@ -19,4 +19,5 @@ pub mod Tabled
 pub mod Orders
 pub mod Hosted
 pub mod Calls
+pub mod Ends
 pub mod Tells

@@ -3,7 +3,7 @@ use Rattle.std.specs.List.{All}
 use Rattle.std.proofs.lemmas.List.Elements.{All-head}
 use Rattle.std.proofs.lemmas.Bool.{and_parts, and_from}
 use Rattle.std.proofs.lemmas.Option.{slice_get_within}
-use Rattle.std.proofs.Common.{◌≡◌, ◌≢◌, ◌⊎◌, inl, inr, ℕ, ◌+◌, ◌*◌, ◌<◌, ◌≤◌, ◌^◌, Bool, true, List, [], ◌∷◌, length, slice_get, Option, Some, None, refl, sym, ap, ap₂, ◌∙◌, subst, arith}
+use Rattle.std.proofs.Common.{◌≡◌, ◌≢◌, ◌⊎◌, inl, inr, ℕ, ◌+◌, ◌*◌, ◌<◌, ◌≤◌, ◌^◌, Bool, true, List, ◌∷◌, length, slice_get, Option, Some, None, refl, sym, ap, ap₂, ◌∙◌, subst, arith}
 use Rattle.mv_ast.specs.declared.program.Known.{Known}
 use Rattle.mv_ast.specs.declared.program.Known.TheVariants.{Getchar, Putchar, Poll, Plan}
 use Rattle.mv_ast.specs.declared.program.Program.{Program}
@@ -28,7 +28,7 @@ use Rattle.mv_ir.specs.Programs.{setting_of}
 use Rattle.mv_ir.specs.KnownFunctions.{known_answer, seen, seen_from}
 use Rattle.mv_linker.specs.Linked.{commit_lines}
 use Rattle.mv_fit_worlds.specs.Fit.{IsFit, is_fit}
-use Rattle.mv_machine.specs.Runs.{State, Request, Plans, Polls, first as first_state, runs_from, request_of, environment_call, planned, polled}
+use Rattle.mv_machine.specs.Runs.{State, first as first_state, runs_from, request_of, environment_call, planned, polled}
 use Rattle.mv_machine.specs.Commits.{commit_from}
 use Rattle.mv_machine.proofs.Calls.{request_plans, request_polls}
 use Rattle.mv_statement_code.specs.StatementCode.{first}
@@ -45,7 +45,7 @@ use Rattle.mv_commit_runs.specs.Served.{IsPlanned, IsPlanOpen, AtStub, IsBack}
 use Rattle.mv_commit_runs.specs.Tabled.{IsOfWord, IsTabled, TabledOrdersAreServed}
 use Rattle.mv_commit_runs.proofs.Known.{Known as Laws}
 use Rattle.mv_commit_runs.proofs.Images.{run_image, run_actions}
-use Rattle.mv_commit_runs.proofs.Planning.{FlipAgrees, Gives, plan_gives, poll_gives}
+use Rattle.mv_commit_runs.proofs.Planning.{plan_gives, poll_gives}
 use Rattle.mv_commit_runs.proofs.Quiet.{quiet_told, quiet_tested}
 use Rattle.mv_commit_runs.proofs.Served.{Calmly, calm_calls, loads_stack, stub_serves}
 use Rattle.mv_commit_runs.proofs.Stands.{stub_stands}

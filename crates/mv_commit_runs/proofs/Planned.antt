@@ -1,5 +1,5 @@
 -- What calls for plans and polls leave: the plan of what they do, in the plan area.
-use Rattle.std.proofs.Common.{◌≡◌, ℕ, ◌+◌, ◌-◌, ◌*◌, ◌^◌, ◌<◌, ◌≤◌, cond, eqb, List, [], ◌∷◌, length, Option, Some, refl, sym, ap, ap₂, ◌∙◌, subst, arith, eq-eqb}
+use Rattle.std.proofs.Common.{◌≡◌, ℕ, ◌+◌, ◌*◌, cond, List, [], ◌∷◌, length, Option, refl, sym, ap, ◌∙◌, subst, arith, eq-eqb}
 use Rattle.mv_num.specs.Words.{add}
 use Rattle.mv_ast.specs.declared.world.Binding.{Binding}
 use Rattle.mv_isa.specs.Execution.{put}
@@ -17,7 +17,7 @@ use Rattle.mv_commit_runs.specs.Storing.{spelled_plan, HasPlan}
 use Rattle.mv_commit_runs.specs.Watched.{watched, plan_words, IsQuiet}
 use Rattle.mv_commit_runs.specs.Served.{IsPlanned}
 use Rattle.mv_commit_runs.proofs.Known.{Known}
-use Rattle.mv_commit_runs.proofs.Areas.{KeepsOthers, Writes, writes}
+use Rattle.mv_commit_runs.proofs.Areas.{Writes, writes}
 use Rattle.mv_commit_runs.proofs.PlanWords.{pairs_size, plan_small}
 
 -- a text has no differences from itself

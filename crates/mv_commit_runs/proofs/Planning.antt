@@ -1,7 +1,5 @@
 -- The call for a plan is answered by the plan of its order, and a poll by that of its action.
-use Rattle.std.specs.List.{All}
-use Rattle.std.proofs.lemmas.List.Elements.{All-head}
-use Rattle.std.proofs.Common.{◌≡◌, ℕ, ◌+◌, ◌-◌, ◌*◌, ◌^◌, ◌<◌, ◌≤◌, Bool, true, false, cond, eqb, nat_eq, if◌then◌else◌, List, [], ◌∷◌, ◌++◌, length, slice_index, slice_index_or, Option, Some, None, refl, sym, ap, ap₂, ◌∙◌, subst, arith}
+use Rattle.std.proofs.Common.{◌≡◌, ℕ, ◌+◌, ◌-◌, ◌*◌, ◌^◌, ◌<◌, ◌≤◌, Bool, true, false, cond, eqb, List, [], ◌∷◌, ◌++◌, length, slice_index, slice_index_or, Option, Some, refl, sym, ap, ap₂, ◌∙◌, subst, arith}
 use Rattle.mv_ast.specs.declared.program.Program.{Program}
 use Rattle.mv_ast.specs.declared.world.Action.{Action}
 use Rattle.mv_ast.specs.declared.world.Action.TheVariants.{Skip, Flip}
@@ -19,12 +17,11 @@ use Rattle.mv_patch.specs.Orders.{values_of, plan_between, plan_of, bindings_aft
 use Rattle.mv_patch.specs.Tables.{patchable}
 use Rattle.mv_ir.specs.World.{World}
 use Rattle.mv_ir.specs.KnownFunctions.{seen, seen_from, patch_cost}
-use Rattle.mv_machine.specs.Runs.{State, Fault, answered, stopped, refused, carried_out, ordered, planned, act, acted, polled, with_plan, with_value}
+use Rattle.mv_machine.specs.Runs.{State, Fault, answered, stopped, refused, carried_out, ordered, planned, act, acted, polled, with_value}
 use Rattle.mv_flow_code.specs.Runs.{Machine}
 use Rattle.mv_call_code.specs.Convention.{Layout, HoldsGlobals}
 use Rattle.mv_call_code.specs.Environment.{stub_cost}
 use Rattle.mv_machine_runs.specs.Layout.{IsSetOut}
-use Rattle.mv_commit_runs.specs.Watch.{texts_of}
 use Rattle.mv_commit_runs.specs.Watched.{Watched, access, watched, put_room, IsQuiet}
 use Rattle.mv_commit_runs.specs.Served.{IsPlanned}
 use Rattle.mv_commit_runs.proofs.Known.{Known}

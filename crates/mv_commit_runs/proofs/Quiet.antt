@@ -1,5 +1,5 @@
 -- The test of calm.
-use Rattle.std.proofs.Common.{◌≡◌, ℕ, Bool, true, false, ◌&&◌, eqb, List, [], ◌∷◌, length, Option, Some, None, refl, ap, ap₂, eq-eqb, ◌∙◌}
+use Rattle.std.proofs.Common.{◌≡◌, true, eqb, List, [], ◌∷◌, Option, Some, None, refl, ap, ap₂, eq-eqb, ◌∙◌}
 use Rattle.std.proofs.lemmas.Bool.{and_parts, and_from, eqb-true}
 use Rattle.mv_ast.specs.declared.world.Action.{Action}
 use Rattle.mv_ast.specs.declared.world.Action.TheVariants.{Skip, Flip}

@@ -6,7 +6,6 @@ use Rattle.std.proofs.lemmas.List.Elements.{All-head, All-tail}
 use Rattle.std.proofs.lemmas.Bool.{and_from, ne_eqb, cases_lt, lt-ltb, le-ltb, or_parts, eqb-true, ltb-true, ltb-false}
 use Rattle.mv_num.specs.Words.{add}
 use Rattle.mv_ast.specs.declared.world.Binding.{Binding}
-use Rattle.mv_descriptors.specs.declared.rows.SiteRow.{SiteRow}
 use Rattle.mv_isa.specs.declared.instr.Instr.{Instr}
 use Rattle.mv_isa.specs.declared.instr.Instr.TheVariants.{Jalr, Ecall}
 use Rattle.mv_isa.specs.Encoding.{encode}

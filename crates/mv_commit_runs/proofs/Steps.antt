@@ -18,7 +18,6 @@ use Rattle.mv_tree_code.specs.View.{AreRegisters}
 use Rattle.mv_flow_code.proofs.Walk.{before_next}
 use Rattle.mv_function_code.specs.Loads.{loads_from}
 use Rattle.mv_machine_runs.specs.MachineRuns.{spot_of, rest_of, opens}
-use Rattle.mv_machine_runs.specs.MachineRuns as runs
 use Rattle.mv_text_between.specs.Stores.{stored_all, AreTexts}
 use Rattle.mv_text_between.specs.Between.{is_between, IsStored}
 use Rattle.mv_text_between.specs.Laws.{TextIsBetween, BetweenIsTested}

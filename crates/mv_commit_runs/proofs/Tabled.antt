@@ -3,14 +3,13 @@ use Rattle.std.proofs.Common.{◌≡◌, ◌≢◌, inr, ℕ, zero, suc, ◌+◌
 use Rattle.std.specs.List.{All}
 use Rattle.std.specs.Result.{result_ok}
 use Rattle.std.proofs.lemmas.Option.{unwrap_or-slice_get}
-use Rattle.std.proofs.lemmas.List.Elements.{All-head, All-tail}
-use Rattle.mv_num.specs.Bytes.{AreWords}
+use Rattle.std.proofs.lemmas.List.Elements.{All-nil, All-cons, All-head, All-tail}
 use Rattle.mv_ast.specs.declared.program.Program.{Program}
 use Rattle.mv_ast.specs.declared.program.Function.{Function}
 use Rattle.mv_ast.specs.declared.program.Switch.{Switch}
 use Rattle.mv_ast.specs.declared.world.Binding.{Binding}
 use Rattle.mv_ast.specs.Plans as source
-use Rattle.mv_ast.specs.Plans.{attributed_functions, switch_words, switch_global, word_at, words_or_none, committed, is_addressed, is_among, is_commit, ordered_from, bound_from, bound_to, free, global_or_none}
+use Rattle.mv_ast.specs.Plans.{attributed_functions, switch_words, switch_global, word_at, words_or_none, committed, all_in_domain, is_addressed, is_among, is_commit, ordered_from, bound_from, bound_to, free, global_or_none}
 use Rattle.mv_descriptors.specs.declared.rows.SwitchRow.{SwitchRow}
 use Rattle.mv_descriptors.specs.declared.rows.FunctionRow.{FunctionRow}
 use Rattle.mv_fetch.specs.declared.memory.AccessError.TheVariants.{Misaligned}
@@ -24,7 +23,8 @@ use Rattle.mv_image.specs.Patched.{fitting_variant}
 use Rattle.mv_image.proofs.Limits.{is_within}
 use Rattle.mv_patch.specs.Orders.{word_in, words_now, bound_now, is_ordered, next_binding, ordered_rows, bound_rows, bindings_after, answer_after, is_known_order}
 use Rattle.mv_ir.specs.World.{World}
-use Rattle.mv_machine.specs.Runs.{stored_word, with_word_of, with_value}
+use Rattle.mv_machine.specs.Runs.{with_word_of, with_value}
+use Rattle.mv_fit_worlds.proofs.Combining.{combination_in, in_combination}
 use Rattle.mv_flow_code.specs.Runs.{Machine}
 use Rattle.mv_call_code.specs.Convention.{Layout, HoldsGlobals}
 use Rattle.mv_function_code.specs.Functions.{IsWord, Kept}
@@ -83,10 +83,25 @@ module _ (p : Program) (y : Layout) (image : Fields) (tabled : IsTabled p y imag
   words_count [] = refl
   words_count (s ∷ ss) = ap suc (words_count ss)
 
-  words_small : (ss : List ℕ) → All (λ (s : ℕ). s < length p.switches) ss → AreWords (switch_words p w.globals ss)
-  words_small [] h i = omega arith
-  words_small (s ∷ ss) h zero = (word_is s (All-head (λ (s : ℕ). s < length p.switches) s ss h)).1
-  words_small (s ∷ ss) h (suc i) = words_small ss (All-tail (λ (s : ℕ). s < length p.switches) s ss h) i
+  words_small : (ss : List ℕ) → All (λ (s : ℕ). s < length p.switches) ss → All (λ v. v < 2 ^ 32) (switch_words p w.globals ss)
+  words_small [] h = All-nil (λ v. v < 2 ^ 32)
+  words_small (s ∷ ss) h =
+      All-cons (λ v. v < 2 ^ 32) (word_at w.globals (switch_global p s) 0) (switch_words p w.globals ss) (word_is s (All-head (λ (s : ℕ). s < length p.switches) s ss h)).1
+      (words_small ss (All-tail (λ (s : ℕ). s < length p.switches) s ss h))
+
+  -- a variant of a function fits the words of its switches where each is in its domain
+  fits_them : (n : ℕ) (g : Function) → slice_get (attributed_functions p) n ≡ Some g
+      → is_some (fitting_variant image n (switch_words p w.globals g.switches)) ≡ all_in_domain p g.switches (switch_words p w.globals g.switches)
+  fits_them n g f = by_test (all_in_domain p g.switches (switch_words p w.globals g.switches)) refl
+    where
+      value : ℕ → ℕ
+      value s = word_at w.globals (switch_global p s) 0
+
+      by_test : (b : Bool) → all_in_domain p g.switches (switch_words p w.globals g.switches) ≡ b → is_some (fitting_variant image n (switch_words p w.globals g.switches)) ≡ b
+      by_test true e = tabled.combinations n g (switch_words p w.globals g.switches) f (combination_in p value g.switches e)
+      by_test false e =
+          ap is_some (tabled.others n g (switch_words p w.globals g.switches) f (words_count g.switches) (words_small g.switches (tabled.there n g f))
+          (λ c. let wrong : true ≡ false = sym (in_combination p value g.switches c) ∙ e in cc))
 
   -- ---- functions
 
@@ -101,7 +116,7 @@ module _ (p : Program) (y : Layout) (image : Fields) (tabled : IsTabled p y imag
       let vs = switch_words p w.globals g.switches in
       let there = tabled.there n g f in
       let words : words_now image held row ≡ vs = ap (map (λ (s : ℕ). word_in held (slice_get image.switches s))) same ∙ words_are g.switches there in
-      let fits = tabled.fits n g vs f (words_count g.switches) (words_small g.switches there) in
+      let fits = fits_them n g f in
       record {
         switches = same;
         bound = ap (λ (us : List ℕ). cond (is_some (fitting_variant image n us)) (bound_to us) free) words ∙ ap (λ b. cond b (bound_to vs) free) fits;

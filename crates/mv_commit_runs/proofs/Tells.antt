@@ -6,7 +6,6 @@ use Rattle.mv_fetch.specs.Held.{IsInText, region_of, choices}
 use Rattle.mv_rv32.specs.Stepping.{picked_target}
 use Rattle.mv_machine.specs.Runs.{choices_at}
 use Rattle.mv_machine_runs.specs.MachineRuns.{spot_of}
-use Rattle.mv_machine_runs.specs.MachineRuns as runs
 use Rattle.mv_commit_runs.specs.Watch.{into_text, are_elsewhere, is_apart, is_sound}
 use Rattle.mv_commit_runs.specs.Tells.{SoundPlacesTell}
 use Rattle.std.specs.List.{All}
@@ -64,6 +63,10 @@ apart_told texts (Some other) s h old e =
     let same : other ≡ old = cc in
     subst (λ bs. All (λ (pair : Pair). pair.address ≢ s.pc) (pairs_between (texts bs) (texts s.bindings))) same (elsewhere_told s.pc (pairs_between (texts other) (texts s.bindings)) h)
 
+-- a pick of the only choice
+zero_of : (n pick : ℕ) → n ≡ 1 → pick % n ≡ 0
+zero_of n pick e = omega (arith, e)
+
 pub sound_tells : SoundPlacesTell
 unfolding is_sound choices_at
 sound_tells closed texts under s h =
@@ -76,7 +79,7 @@ sound_tells closed texts under s h =
       unbarred = p.0;
       settled = q.0;
       roomy = λ pick w.
-          let z : pick % length (choices s.room.held s.pc) ≡ 0 = omega (arith, one) in
+          let z : pick % length (choices s.room.held s.pc) ≡ 0 = zero_of (length (choices s.room.held s.pc)) pick one in
           wants_not (picked_target s.room 0 s.regs s.pc) s.room.spare r.0 (subst (λ k. IsSomeAnd (picked_target s.room k s.regs s.pc) IsInText) z w.0) w.1;
       apart = apart_told texts under s r.1;
     }

@@ -5,8 +5,6 @@ use Rattle.std.specs.Result.{result_ok}
 use Rattle.std.proofs.lemmas.Bool.{and_parts, and_from, eqb-true, ltb-true, ltb-false, leb-true, ne_eqb, cases_lt, lt-ltb, le-ltb}
 use Rattle.std.proofs.lemmas.Option.{slice_get_within, get_or_from_slice_get, slice_get-get_or}
 use Rattle.mv_num.specs.Words.{add, word_of}
-use Rattle.mv_num.specs.declared.kind.Kind.{Kind}
-use Rattle.mv_num.specs.declared.kind.Kind.TheVariants as kind
 use Rattle.mv_ast.specs.declared.world.Action.{Action}
 use Rattle.mv_ast.specs.declared.world.Binding.{Binding}
 use Rattle.mv_isa.specs.declared.instr.Instr.{Instr}
@@ -23,7 +21,7 @@ use Rattle.mv_image.specs.Patched.{word_under}
 use Rattle.mv_image.proofs.PatchLaws.{text_size, text_at}
 use Rattle.mv_patch.specs.Orders.{values_of}
 use Rattle.mv_ir.specs.World.{World}
-use Rattle.mv_machine.specs.Runs.{State, first, runs_from, turn, choices_at, fetched_step}
+use Rattle.mv_machine.specs.Runs.{State, first, runs_from, choices_at, fetched_step}
 use Rattle.mv_machine.specs.Commits.{after_instr, commit_from, where_it_goes}
 use Rattle.mv_machine.proofs.Turns.{runs_more, turn_by}
 use Rattle.mv_statement_code.specs.Frames.{Site, address}
@@ -31,7 +29,6 @@ use Rattle.mv_statement_code.specs.Leads.{Writes, limited}
 use Rattle.mv_flow_code.specs.Placed.{Text}
 use Rattle.mv_flow_code.specs.Runs.{Spot, Machine, outside, LeadsOn, IsRun}
 use Rattle.mv_flow_code.proofs.Reading.{step_over}
-use Rattle.mv_function_code.specs.Loads.{loads_from}
 use Rattle.mv_function_code.specs.Functions.{part}
 use Rattle.mv_narrow_runs.specs.Narrowed.{narrowed, has_bindings, words_alone}
 use Rattle.mv_narrow_runs.proofs.Bindings.{bindings_are_told}

@@ -5,5 +5,6 @@ pub mod WatchedRuns
 pub mod Served
 pub mod Tabled
 pub mod Hosted
+pub mod Ends
 pub mod Tells
 pub mod Laws

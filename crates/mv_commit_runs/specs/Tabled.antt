@@ -1,7 +1,6 @@
 -- The tables of an image are a program's, and so the stub serves the program's orders and polls.
-use Rattle.std.specs.Prelude.{ℕ, ◌≡◌, ◌<◌, ◌≤◌, ◌^◌, Bool, true, List, length, take, is_some, slice_get, Option, Some}
+use Rattle.std.specs.Prelude.{ℕ, ◌≡◌, ◌<◌, ◌≤◌, ◌^◌, Bool, true, List, length, map, take, is_some, slice_get, Option, Some, None}
 use Rattle.std.specs.List.{All}
-use Rattle.mv_num.specs.Bytes.{AreWords}
 use Rattle.mv_ast.specs.declared.program.Program.{Program}
 use Rattle.mv_ast.specs.declared.program.Function.{Function}
 use Rattle.mv_ast.specs.declared.program.Switch.{Switch}
@@ -9,7 +8,7 @@ use Rattle.mv_ast.specs.declared.program.Known.TheVariants.{Plan}
 use Rattle.mv_ast.specs.declared.world.Action.{Action}
 use Rattle.mv_ast.specs.declared.world.Action.TheVariants.{Skip, Flip}
 use Rattle.mv_ast.specs.Counts as counts
-use Rattle.mv_ast.specs.Plans.{attributed_functions, all_in_domain}
+use Rattle.mv_ast.specs.Plans.{attributed_functions, switch_domain}
 use Rattle.mv_descriptors.specs.declared.rows.SwitchRow.{SwitchRow}
 use Rattle.mv_descriptors.specs.declared.rows.FunctionRow.{FunctionRow}
 use Rattle.mv_image.specs.Spelling.{Fields}
@@ -17,6 +16,7 @@ use Rattle.mv_image.specs.Faults.{Rules}
 use Rattle.mv_image.specs.Patched.{fitting_variant}
 use Rattle.mv_patch.specs.Orders.{is_known_order}
 use Rattle.mv_patch.specs.Tables.{patchable}
+use Rattle.mv_ir.specs.Combinations.{IsCombination}
 use Rattle.mv_ir.specs.Programs.{setting_of}
 use Rattle.mv_linker.specs.Linked.{commit_lines}
 use Rattle.mv_fit_worlds.specs.Fit.{is_fit}
@@ -34,8 +34,8 @@ abbrev pub IsOfWord : Action → Type 0
 IsOfWord Skip = Unit {0}
 IsOfWord (Flip switch value) = value < 2 ^ 32
 
--- Rows of switches and of functions stand in the program's order; a function's row holds of words, one for each of its switches, exactly where each is in
--- its domain.
+-- Rows of switches and of functions stand in the program's order; some variant of a function fits words, one for each of its switches, exactly where they are
+-- a combination of the domains.
 pub record IsTabled (p : Program) (y : Layout) (image : Fields) : Type 0 where
   pub switches : length image.switches ≡ length p.switches
   pub switch : (n : ℕ) (s : Switch) (row : SwitchRow) → slice_get p.switches n ≡ Some s → slice_get image.switches n ≡ Some row → row.address ≡ y.place s.global
@@ -43,8 +43,10 @@ pub record IsTabled (p : Program) (y : Layout) (image : Fields) : Type 0 where
   pub functions : length image.functions ≡ length (attributed_functions p)
   pub function : (n : ℕ) (g : Function) (row : FunctionRow) → slice_get (attributed_functions p) n ≡ Some g → slice_get image.functions n ≡ Some row → take row.count row.switches ≡ g.switches
   pub there : (n : ℕ) (g : Function) → slice_get (attributed_functions p) n ≡ Some g → All (λ (s : ℕ). s < length p.switches) g.switches
-  pub fits : (n : ℕ) (g : Function) (vs : List ℕ) → slice_get (attributed_functions p) n ≡ Some g → length vs ≡ length g.switches → AreWords vs →
-      is_some (fitting_variant image n vs) ≡ all_in_domain p g.switches vs
+  pub combinations : (n : ℕ) (g : Function) (vs : List ℕ) → slice_get (attributed_functions p) n ≡ Some g → IsCombination (map (switch_domain p) g.switches) vs →
+      is_some (fitting_variant image n vs) ≡ true
+  pub others : (n : ℕ) (g : Function) (vs : List ℕ) → slice_get (attributed_functions p) n ≡ Some g → length vs ≡ length g.switches → All (λ v. v < 2 ^ 32) vs →
+      (IsCombination (map (switch_domain p) g.switches) vs → ⊥) → fitting_variant image n vs ≡ None
 
 -- Where such an image's text has the stub, it serves all orders and polls from worlds that fit, if each order that may be asked for is one that the machine
 -- knows.

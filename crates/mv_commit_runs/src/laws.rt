@@ -1,6 +1,7 @@
 //! What runs do while commits are made. The calls do nothing: their contracts are the laws.
 
 ghost use Rattle.mv_commit_runs.specs.Laws.{QuietIsTested, StubServes};
+ghost use Rattle.mv_commit_runs.specs.Ends.{WatchedExitIsRight, WatchedStartIsRight, WatchedTrapIsRight};
 ghost use Rattle.mv_commit_runs.specs.Hosted.{WatchedCallsAreServed, WatchedMemory, WatchedRunsBegin};
 ghost use Rattle.mv_commit_runs.specs.Tabled.{TabledOrdersAreServed};
 ghost use Rattle.mv_commit_runs.specs.Tells.{SoundPlacesTell};
@@ -9,6 +10,7 @@ ghost use Rattle.mv_commit_runs.specs.WatchedRuns.{WatchedRunsAreRuns, WatchedRu
 use mv_fit_worlds::fit_worlds_law;
 use mv_machine_runs::{calm_is_tested, runs_are_runs, runs_begin_in_calm, texts_are_found};
 use mv_patch::laws::{pairs_law, tables_law};
+use mv_stub_runs::{exit_is_right, start_is_right, trap_is_right};
 use mv_text_between::{text_between_law, texts_of_images_law};
 
 /// The test of calm is true exactly where the machine is calm and no commit is under way.
@@ -98,3 +100,24 @@ pub fn watched_machine_law()
 pub fn sound_places_tell()
     ensures { SoundPlacesTell }
 {}
+
+/// How that run starts and ends. `starts`: where the start stub stands at an image's entry, it is at `main` after three instructions. `exits` and `traps`: behind
+/// `main`, and at the stub of a trap, it ends. Each place on the way is sound.
+pub fn watched_ends_law()
+    ensures starts { WatchedStartIsRight }
+    ensures exits { WatchedExitIsRight }
+    ensures traps { WatchedTrapIsRight }
+{
+    calm_is_tested();
+    runs_are_runs();
+    runs_begin_in_calm();
+    texts_are_found();
+    text_between_law();
+    texts_of_images_law();
+    pairs_law();
+    tables_law();
+    fit_worlds_law();
+    start_is_right();
+    exit_is_right();
+    trap_is_right();
+}

@@ -19,12 +19,12 @@
 //!   says, from worlds that fit.
 //! - `watched_runs_law`: the run is one on which generated code runs, each instruction from a sound place, also over the
 //!   words that stand under bindings. `watched_machine_law`: it begins in calm, its memory has words, and it serves
-//!   `getchar` and `putchar`.
+//!   `getchar` and `putchar`. `watched_ends_law`: how it starts, exits and traps.
 #![tactic(auto)]
 
 mod laws;
 
 pub use laws::{
-    quiet_is_tested, sound_places_tell, stub_serves, tabled_orders_are_served, watched_machine_law,
-    watched_runs_law,
+    quiet_is_tested, sound_places_tell, stub_serves, tabled_orders_are_served, watched_ends_law,
+    watched_machine_law, watched_runs_law,
 };

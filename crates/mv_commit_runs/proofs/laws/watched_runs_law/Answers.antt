@@ -1,4 +1,3 @@
-use Rattle.mv_commit_runs.proofs.Known.{Known}
 use Rattle.mv_commit_runs.proofs.Watched as lemmas
 use Rattle.mv_commit_runs.proofs.laws.watched_runs_law.Goals as goal
 
