@@ -1,26 +1,54 @@
 -- The laws of the crates below that the law on built programs stands on.
+use Rattle.mv_image.specs.Format.{RulesAreTables}
 use Rattle.mv_ir_ends.specs.Reached.{EndsAreReached}
-use Rattle.mv_selected_bodies.specs.SelectedBodies.{CodeIsTheSame, BodiesAreFunctions}
-use Rattle.mv_machine_runs.specs.Calm.{Rest}
-use Rattle.mv_machine_runs.specs.Laws.{CodeIsPlaced, TextsAreFound, PackedIsLaidOut}
-use Rattle.mv_stub_runs.specs.Laws.{StartIsRight}
+use Rattle.mv_selected_bodies.specs.SelectedBodies.{BodiesAreFunctions}
+use Rattle.mv_machine_runs.specs.Laws.{PackedIsLaidOut}
+use Rattle.mv_machine_runs.specs.Shown.{FreeFunctionsShow, BoundFunctionsShow}
+use Rattle.mv_commit_runs.specs.Ends.{WatchedStartIsRight}
+use Rattle.mv_commit_runs.specs.Hosted.{WatchedCallsAreServed, WatchedMemory}
+use Rattle.mv_commit_runs.specs.Tabled.{TabledOrdersAreServed}
+use Rattle.mv_commit_runs.specs.Watched.{Watched}
+use Rattle.mv_commit_runs.specs.WatchedRuns.{WatchedRunsAreRunsAlone, WatchedRunsAreRunsUnder}
 use Rattle.mv_image_runs.specs.Laws.{ImagesBehave}
 use Rattle.mv_program_runs.specs.Laws.{MainFollowsOpenly}
-use Rattle.mv_linker.specs.Laws.{LinesFit, StubsStand, FunctionsStand, UnattributedPartsArePlain}
-use Rattle.mv_first_data.specs.Laws.{SizesAreCounts}
+use Rattle.mv_first_data.specs.Laws.{SizesAreCounts, WordsAreFirst}
+use Rattle.mv_parts.specs.Laws.{DataIsCounted}
+use Rattle.mv_linked_text.specs.Laws.{WordsAreThere, StubsStandInText, CodesAscend, PlainCodeStands, PatchedCodeStands, SlotsAreSites}
+use Rattle.mv_image_tables.specs.Laws.{AttributedAreTabled, RowsLeadToVariants, VariantsHaveRows, ImagesHaveTables}
+use Rattle.mv_program_bodies.specs.Laws.{FunctionsHaveOwnCode, VariantsHaveCode}
 
 pub record Laws : Type 0 where
-  pub lines_fit : LinesFit
-  pub stubs_stand : StubsStand
-  pub functions_stand : FunctionsStand
-  pub plain : UnattributedPartsArePlain
-  pub code_is_placed : CodeIsPlaced
-  pub texts_are_found : TextsAreFound
-  pub packed_is_laid_out : PackedIsLaidOut
-  pub code_is_the_same : CodeIsTheSame
+  -- text
+  pub words_there : WordsAreThere
+  pub stubs : StubsStandInText
+  pub codes_ascend : CodesAscend
+  pub plain : PlainCodeStands
+  pub patched : PatchedCodeStands
+  pub slots : SlotsAreSites
+  pub show_free : FreeFunctionsShow
+  pub show_bound : BoundFunctionsShow
+  -- tables
+  pub tabled : AttributedAreTabled
+  pub lead : RowsLeadToVariants
+  pub rows : VariantsHaveRows
+  pub tables : ImagesHaveTables
+  -- bodies
+  pub own_code : FunctionsHaveOwnCode
+  pub variant_code : VariantsHaveCode
   pub bodies_are_functions : BodiesAreFunctions
+  -- data
+  pub words_first : WordsAreFirst
   pub sizes_are_counts : SizesAreCounts
-  pub start_is_right : StartIsRight
+  pub data_is_counted : DataIsCounted
+  pub packed_is_laid_out : PackedIsLaidOut
+  pub typed : RulesAreTables
+  -- runs
+  pub runs_alone : WatchedRunsAreRunsAlone
+  pub runs_under : WatchedRunsAreRunsUnder
+  pub memory : WatchedMemory
+  pub calls : WatchedCallsAreServed
+  pub orders : TabledOrdersAreServed
+  pub starts : WatchedStartIsRight
   pub images_behave : ImagesBehave
-  pub main_follows : MainFollowsOpenly Rest
+  pub main_follows : MainFollowsOpenly Watched
   pub ends_are_reached : EndsAreReached

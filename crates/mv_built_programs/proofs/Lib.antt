@@ -1,13 +1,10 @@
-pub mod Rooms
-pub mod Renamed
-pub mod Numbers
-pub mod NoSlots
-pub mod Places
 pub mod Facts
-pub mod Plain
-pub mod Linked
-pub mod Host
+pub mod Listed
+pub mod Closed
+pub mod Watching
+pub mod Data
 pub mod Patched
+pub mod Standing
+pub mod Host
 pub mod Main
 pub mod Whole
-mod Closed

@@ -1,7 +1,7 @@
 -- What main does on the machine, of the laws on functions and on the source.
 use Rattle.mv_function_code.proofs.Alone.{functions_keep, later_keeps, main_keeps}
 use Rattle.mv_source_calls.specs.Laws.{BodiesAreRight, CallsKeepBindings, MainIsRight, MainEndsAlike}
-use Rattle.mv_machine_runs.specs.Calm.{Rest}
+use Rattle.mv_commit_runs.specs.Watched.{Watched}
 use Rattle.mv_program_runs.specs.Laws.{MainFollows, MainFollowsOpenly}
 use Rattle.mv_fit_worlds.specs.Laws.{FitIsTold, KnownsKeepFit, FirstIsFit, FunctionsAreFreeOrBound, FramesOfFree, FramesOfBound}
 use Rattle.mv_narrow_runs.proofs.Bindings.{bindings_are_told}
@@ -24,27 +24,27 @@ pub record Below : Type 0 where
   pub knowns : KnownsKeepFit
   pub first : FirstIsFit
 
-known : Below → Known Rest
+known : Below → Known Watched
 known b = record {
-  each = functions_keep Rest;
-  later = later_keeps Rest;
+  each = functions_keep Watched;
+  later = later_keeps Watched;
   right = b.right;
   bindings = b.bindings;
   free_or_bound = b.free_or_bound;
   frames_free = b.frames_free;
   frames_bound = b.frames_bound;
   told = bindings_are_told;
-  alike = narrow.alike Rest;
-  narrowed = narrow.runs Rest;
-  slots = narrow.slots Rest;
-  jumps = narrow.jumps Rest;
-  firsts = narrow.firsts Rest;
-  inlines = inline_answers Rest;
+  alike = narrow.alike Watched;
+  narrowed = narrow.runs Watched;
+  slots = narrow.slots Watched;
+  jumps = narrow.jumps Watched;
+  firsts = narrow.firsts Watched;
+  inlines = inline_answers Watched;
 }
 
-main_does : Below → MainFollows Rest
+main_does : Below → MainFollows Watched
 main_does b access y machine words closed budget far p numbers loaded numbering input actions fit back i target ra begins stands bound =
-    main_follows access y machine words closed budget far p numbers loaded (known b) (main_keeps Rest) b.right_main b.alike numbering input actions fit back i target ra begins stands bound
+    main_follows access y machine words closed budget far p numbers loaded (known b) (main_keeps Watched) b.right_main b.alike numbering input actions fit back i target ra begins stands bound
 
-pub follows : Below → MainFollowsOpenly Rest
-follows b = main_openly Rest b.told b.first (narrow.alike Rest) (hosts_narrowed Rest b.told b.knowns (narrow.alike Rest) (narrow.runs Rest)) (main_does b)
+pub follows : Below → MainFollowsOpenly Watched
+follows b = main_openly Watched b.told b.first (narrow.alike Watched) (hosts_narrowed Watched b.told b.knowns (narrow.alike Watched) (narrow.runs Watched)) (main_does b)

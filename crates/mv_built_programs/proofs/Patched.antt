@@ -27,7 +27,8 @@ use Rattle.mv_machine_runs.specs.MachineRuns.{machine_text, called_at}
 use Rattle.mv_machine_runs.specs.Shown.{FreeFunctionsShow, BoundFunctionsShow}
 use Rattle.mv_machine_runs.specs.Under.{words_under}
 use Rattle.mv_program_runs.specs.Hosts.{IsVariant, IsPatched, SlotShows}
-use Rattle.mv_built_programs.specs.Patched.{RowShows, HasEntry, HasRow, IsInTables, own_number, PatchedFunctionsStand}
+use Rattle.mv_image_tables.specs.Rows.{RowShows}
+use Rattle.mv_built_programs.specs.Patched.{HasEntry, HasRow, IsInTables, own_number, PatchedFunctionsStand}
 
 -- a combination has a value for each of at most 6 switches
 combination_length : (ds : List (List ℕ)) (vs : List ℕ) → IsCombination ds vs → length vs ≡ length ds

@@ -1,5 +1,5 @@
 -- An attributed function in an image with tables: where its entry, its sites and its variants stand.
-use Rattle.std.specs.Prelude.{ℕ, ◌≡◌, ◌+◌, ◌%◌, ◌<◌, ◌≤◌, Bool, true, List, [], map, length, slice_get, slice_index, Option, Some, None, pos, ◌-ℤ◌}
+use Rattle.std.specs.Prelude.{ℕ, ◌≡◌, ◌+◌, ◌%◌, ◌<◌, ◌≤◌, Bool, true, List, [], map, length, slice_get, Some, pos, ◌-ℤ◌}
 use Rattle.mv_ast.specs.declared.program.Program.{Program}
 use Rattle.mv_ast.specs.declared.program.Function.{Function}
 use Rattle.mv_ast.specs.Plans.{attributed_before, switch_domain}
@@ -9,7 +9,6 @@ use Rattle.mv_isa.specs.declared.instr.Instr.TheVariants.{Addi}
 use Rattle.mv_isa.specs.declared.labelled.Line.{Line}
 use Rattle.mv_isa.specs.declared.labelled.Line.TheVariants.{Word, Slot}
 use Rattle.mv_isa.specs.Code.{IsPlace, line_at, address, label_address}
-use Rattle.mv_isa.specs.Encoding.{encode, Fits}
 use Rattle.mv_asm.specs.Outcome.{AreWordsUnder}
 use Rattle.mv_image.specs.Spelling.{Fields}
 use Rattle.mv_image.specs.Patched.{ShowsAt, variant_under, entry_at}
@@ -26,17 +25,13 @@ use Rattle.mv_call_code.specs.Laws.{IsLinked}
 use Rattle.mv_function_code.specs.FunctionCode.{bytes_of, later_lines}
 use Rattle.mv_function_code.specs.Functions.{IsAmple, IsFunction, IsOpen, shape_of}
 use Rattle.mv_inline_bodies.specs.InlineOf.{inline_of}
+use Rattle.mv_image_tables.specs.Rows.{RowShows}
 use Rattle.mv_machine_runs.specs.Assembled.{HasWords}
 use Rattle.mv_machine_runs.specs.MachineRuns.{machine_text, image_word, called_at}
 use Rattle.mv_machine_runs.specs.Shown.{IsSiteOf}
 use Rattle.mv_machine_runs.specs.Under.{words_under}
-use Rattle.mv_program_runs.specs.Hosts.{IsVariant, IsPatched}
+use Rattle.mv_program_runs.specs.Hosts.{IsOpenIn, IsVariant, IsPatched}
 use Rattle.mv_statement_code.specs.Frames.{Reach}
-
--- what a variant's row has of its inline body
-abbrev pub RowShows : Option (Instr × Instr) → VariantRow → Type 0
-RowShows None row = row.inlined ≡ 0
-RowShows (Some both) row = (row.inlined ≡ 1) × Fits both.0 × Fits both.1 × (slice_index row.words 0 ≡ encode both.0) × (slice_index row.words 1 ≡ encode both.1)
 
 -- Code is assembled from a base, under a sizing.
 module _ (attributed : List ℕ) (image : Fields) (closed : (pc address : ℕ) → Bool) (base : ℕ) (lines : List Line) (sizing : List ℕ) (y : Layout) (p : Program) (numbers : List ℕ) (f : ℕ) (g : Function) where
@@ -91,7 +86,7 @@ module _ (attributed : List ℕ) (image : Fields) (closed : (pc address : ℕ) �
     pub linked : IsLinked y place
     pub is_attributed : ℕ → Bool
     pub next : ℕ
-    pub open_there : IsOpen closed (y.entry f + 4) next reach
+    pub open_there : IsOpenIn (machine_text attributed image) closed (y.entry f + 4) next reach
     pub later : Placed (machine_text attributed image) place y.entry (later_lines y.place y.size is_attributed (shape_of true body) body.code) (y.entry f + 4) next
     pub entry : HasEntry (bytes_of (shape_of true body))
     pub slots : (at : ℕ) → called_at attributed image at ≡ Some f → HasSlot at

@@ -1,32 +1,46 @@
 ghost use Rattle.mv_built_programs.specs.Laws.{BuiltProgramsBehave};
 ghost use Rattle.mv_built_programs.specs.Patched.{PatchedFunctionsStand};
 
+use mv_commit_runs::{
+    tabled_orders_are_served, watched_ends_law, watched_machine_law, watched_runs_law,
+};
 use mv_first_data::data_law;
 use mv_fit_worlds::{fit_frames_law, fit_worlds_law};
+use mv_image::facts::format_law;
 use mv_image_runs::images_behave;
+use mv_image_tables::{images_have_tables, rows_lead_on};
 use mv_ir_ends::ends_are_reached;
-use mv_linker::linking_law;
-use mv_machine_runs::{code_is_placed, functions_show, packed_is_laid_out, texts_are_found};
-use mv_selected_bodies::{bodies_are_functions, code_is_the_same};
+use mv_linked_text::linked_text_law;
+use mv_machine_runs::{functions_show, packed_is_laid_out};
+use mv_parts::parts_law;
+use mv_program_bodies::bodies_are_in_program;
+use mv_selected_bodies::bodies_are_functions;
 use mv_source_calls::{bodies_are_right, calls_keep_bindings, main_ends_alike, main_is_right};
-use mv_stub_runs::start_is_right;
 
-/// The run of an image that is built of a well-formed program without attributed functions does what the program means, on each
-/// input of bytes and by any picks of the fetches: `Behaves` of `mv_image_runs` says how. `IsBuilt` says what a compiler has to
-/// give: a body for each function that means what the function is lowered to, within the limits of selection; the code that is
-/// selected for it; the first words of the globals; and the image that is linked of them. And no instruction of a function's words
-/// loads a data word of a global that the function doesn't read. The call does nothing: its contract is the law.
+/// The run of an image that is built of a well-formed program does what the program means, on each input of bytes, with any actions
+/// of the operator that fit the program, and by any picks of the fetches: `Behaves` of `mv_image_runs` says how. `IsBuilt` says what
+/// a compiler has to give: a body for each function that means what the function is lowered to, and variants for each attributed
+/// one; the code that is selected for them; the first words of the globals; and the image that is linked of them, with its tables.
+/// And no instruction loads a data word of a global that is closed to what stands at its place (`closed`): a function's code loads
+/// from no global that the function doesn't read, and a variant, and its inline body at a site, from no switch of its function. The
+/// call does nothing: its contract is the law.
 pub fn built_programs_behave()
     ensures { BuiltProgramsBehave }
 {
-    linking_law();
-    code_is_placed();
-    texts_are_found();
-    packed_is_laid_out();
-    code_is_the_same();
+    linked_text_law();
+    functions_show();
+    rows_lead_on();
+    images_have_tables();
+    bodies_are_in_program();
     bodies_are_functions();
     data_law();
-    start_is_right();
+    parts_law();
+    packed_is_laid_out();
+    format_law();
+    watched_runs_law();
+    watched_machine_law();
+    tabled_orders_are_served();
+    watched_ends_law();
     images_behave();
     bodies_are_right();
     main_is_right();

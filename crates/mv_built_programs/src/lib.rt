@@ -3,13 +3,15 @@
 //! `specs/Built.antt` says what a compiler gives of a program, and `specs/Layouts.antt` where its functions and globals then
 //! stand.
 //!
-//! - `built_programs_behave`: the run of an image that is linked of the code of all functions of a well-formed program
-//!   without attributed functions, and of the first words of its globals, does what the program means (`Behaves`), on
-//!   each input of bytes, whatever actions are handed in and whatever the fetches pick. The code of each function is that
-//!   of a body that means what the lowered one means at no greater cost (`IsBuilt`). Assumed besides is that each global
-//!   has a word, which `good_globals_are_formed` gives of checked programs. And no instruction of a function's words
-//!   loads a data word of a global that the function doesn't read (`closed`). `build` of `mv_build` gives such images.
-//!   `patched_functions_stand`: where an image has an attributed function in its tables, with a row of a variant for each
+//! - `built_programs_behave`: the run of an image that is linked of the code of all functions of a well-formed program and of
+//!   the variants of its attributed ones, of the first words of its globals, and of tables, does what the program means
+//!   (`Behaves`), on each input of bytes, with any actions of the operator that fit the program, and whatever the fetches
+//!   pick; also while commits, reverts and polls rewrite its text. Assumed besides is that each global has a word, which
+//!   `good_globals_are_formed` gives of checked programs. `build` of `mv_build` gives such images.
+//! - And no instruction loads a data word of a global that is closed to what stands at its place (`specs/Closed.antt`): the
+//!   words of a function load from no global that the function doesn't read; those of a variant, and an inline body at a
+//!   site, besides from no switch of the variant's function.
+//! - `patched_functions_stand`: where an image has an attributed function in its tables, with a row of a variant for each
 //!   combination of its switches' values, its code stands on the machine as `programs_keep` asks.
 #![tactic(auto)]
 

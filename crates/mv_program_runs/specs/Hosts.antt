@@ -1,5 +1,5 @@
 -- What it is for the functions of a program to stand on a machine whose text changes with the bindings.
-use Rattle.std.specs.Prelude.{ℕ, ◌≡◌, ◌+◌, ◌<◌, Bool, true, false, List, [], map, length, slice_get, slice_index, Option, Some, None, pos, ◌-ℤ◌}
+use Rattle.std.specs.Prelude.{ℕ, ◌≡◌, ◌+◌, ◌<◌, ◌≤◌, Bool, true, false, List, [], map, length, slice_get, slice_index, Option, Some, None, pos, ◌-ℤ◌}
 use Rattle.std.specs.List.{zip}
 use Rattle.mv_ast.specs.declared.program.Program.{Program}
 use Rattle.mv_ast.specs.declared.program.Function.{Function}
@@ -34,6 +34,10 @@ use Rattle.mv_inline_bodies.specs.InlineOf.{inline_of}
 use Rattle.mv_narrow_runs.specs.Narrowed.{narrowed, under}
 use Rattle.mv_statement_code.specs.Frames.{Reach}
 
+-- What stands from one address to another in words that are never patched may load all that some code may: none of it is closed there.
+abbrev pub IsOpenIn : Text → (closed : (pc address : ℕ) → Bool) → (from to : ℕ) → Reach → Type 0
+IsOpenIn text closed from to reach = (pc a word : ℕ) → from ≤ pc → pc < to → text.word pc ≡ Some word → reach.may_load a ≡ true → closed pc a ≡ false
+
 -- A machine for a program: memory has the words of its globals, and the stack; code of every frame that stands in them runs where what it may load is
 -- open, also in the words that stand while some bindings hold; a function's number is the address of its entry; the known functions that may be asked for
 -- are served; wherever it is calm its bindings and the actions that are left fit; and slots are of attributed functions.
@@ -41,7 +45,7 @@ pub record IsHost {M : Type 0} (access : Access M) (y : Layout) (machine : Machi
   pub laid : IsLaid y
   pub memory : IsMemory access y machine
   pub sizes : (x : ℕ) → y.size x ≡ global_words p x
-  pub runs : (from to : ℕ) (reach : Reach) → IsOpen closed from to reach → RunsWithin access y (alone machine from to) reach
+  pub runs : (from to : ℕ) (reach : Reach) → IsOpenIn machine.text closed from to reach → RunsWithin access y (alone machine from to) reach
   pub runs_under : (bs : List Binding) (from to : ℕ) (reach : Reach) → IsOpen closed from to reach → RunsWithin access y (alone (under machine words bs) from to) reach
   pub entries : (f : ℕ) → f < length numbers → (slice_index numbers f ≡ y.entry f) × IsPlace (y.entry f)
   pub serves : ServesKnown access y machine budget far (setting_of numbers p)
@@ -53,7 +57,7 @@ pub record IsOpenHost {M : Type 0} (access : Access M) (y : Layout) (machine : M
   pub laid : IsLaid y
   pub memory : IsMemory access y machine
   pub sizes : (x : ℕ) → y.size x ≡ global_words p x
-  pub runs : (from to : ℕ) (reach : Reach) → IsOpen closed from to reach → RunsWithin access y (alone machine from to) reach
+  pub runs : (from to : ℕ) (reach : Reach) → IsOpenIn machine.text closed from to reach → RunsWithin access y (alone machine from to) reach
   pub runs_under : (bs : List Binding) (from to : ℕ) (reach : Reach) → IsOpen closed from to reach → RunsWithin access y (alone (under machine words bs) from to) reach
   pub entries : (f : ℕ) → f < length numbers → (slice_index numbers f ≡ y.entry f) × IsPlace (y.entry f)
   pub calls : ServesCalls access y machine budget far (setting_of numbers p)
@@ -81,7 +85,7 @@ module _ (y : Layout) (text : Text) (words : List Binding → ℕ → Option ℕ
     pub linked : IsLinked y place
     pub is_attributed : ℕ → Bool
     pub next : ℕ
-    pub open_there : IsOpen closed (y.entry f) next reach
+    pub open_there : IsOpenIn text closed (y.entry f) next reach
     pub placed : Placed text place y.entry (function_lines y.place y.size is_attributed (shape_of false body) body.code) (y.entry f) next
 
   -- Code for an attributed function under values of its switches stands at an address. It was selected from a body that means the same there, at no greater
@@ -99,7 +103,7 @@ module _ (y : Layout) (text : Text) (words : List Binding → ℕ → Option ℕ
     pub linked : IsLinked y place
     pub is_attributed : ℕ → Bool
     pub next : ℕ
-    pub open_there : IsOpen closed address next reach
+    pub open_there : IsOpenIn text closed address next reach
     pub placed : Placed text place y.entry (function_lines y.place y.size is_attributed (shape_of true body) body.code) address next
 
   -- the words of a slot of a function that is bound to a variant: a call of it, or its inline body
@@ -122,7 +126,7 @@ module _ (y : Layout) (text : Text) (words : List Binding → ℕ → Option ℕ
     pub linked : IsLinked y place
     pub is_attributed : ℕ → Bool
     pub next : ℕ
-    pub open_there : IsOpen closed (y.entry f + 4) next reach
+    pub open_there : IsOpenIn text closed (y.entry f + 4) next reach
     pub later : Placed text place y.entry (later_lines y.place y.size is_attributed (shape_of true body) body.code) (y.entry f + 4) next
     pub here : IsPlace (y.entry f)
     pub variants : (vs : List ℕ) → IsCombination (map (switch_domain p) g.switches) vs → IsVariant vs
