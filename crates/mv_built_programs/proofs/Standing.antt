@@ -102,38 +102,38 @@ module _ (laws : Laws) (p : Program) (image : Fields) (formed : IsWellFormed p) 
     abbrev code : Labelled
     code = own_code.0
 
-    abbrev o : IsOwnCode p y numbers g code
-    o = own_code.2
+    abbrev is_own : IsOwnCode p y numbers g code
+    is_own = own_code.2
 
     not_attributed : (n : ℕ) → IsAttributed parts n f → ⊥
     not_attributed n is = let yes : g.attributed ≡ true = is_one n f g is here in absurd (cc)
 
     placed : IsPlacedCode parts image sizing f code.items (at f)
-    placed = laws.plain parts image built.are.are built.are.fit built.linked f code ((follow laws p image formed have_words built).function f code own_code.1) o.written.labels not_attributed
+    placed = laws.plain parts image built.are.are built.are.fit built.linked f code ((follow laws p image formed have_words built).function f code own_code.1) is_own.written.labels not_attributed
 
-    in_program : IsInProgram y (setting_of numbers p) false [] o.body
-    in_program = subst (λ b. IsInProgram y (setting_of numbers p) b [] o.body) plain o.in_program
+    in_program : IsInProgram y (setting_of numbers p) false [] is_own.body
+    in_program = subst (λ b. IsInProgram y (setting_of numbers p) b [] is_own.body) plain is_own.in_program
 
-    written : IsWritten y false o.body code
-    written = subst (λ b. IsWritten y b o.body code) plain o.written
+    written : IsWritten y false is_own.body code
+    written = subst (λ b. IsWritten y b is_own.body code) plain is_own.written
 
     pub is_plain : IsPlain y words (words_under image) shut p numbers f g
     is_plain =
-        let fits = laws.bodies_are_functions y (setting_of numbers p) false [] o.body in_program in record {
-          body = o.body;
-          keeps = o.keeps;
-          params = o.params;
-          reach = reach_of y o.body;
+        let fits = laws.bodies_are_functions y (setting_of numbers p) false [] is_own.body in_program in record {
+          body = is_own.body;
+          keeps = is_own.keeps;
+          params = is_own.params;
+          reach = reach_of y is_own.body;
           ample = fits.1;
           is_fine = fits.0;
           fits = fits.2;
           place = placed.place;
           linked = linked_there f code.items (at f) placed;
-          is_attributed = is_marked o.body.marked;
+          is_attributed = is_marked is_own.body.marked;
           next = placed.next;
           open_there =
               code_open image parts sizing p (set_out laws p image formed have_words built) f (is_closed_to_function p g) (test_of_function p parts f g here) tests_are placed.next
-              (ascend laws p image formed have_words built) placed.before attributed o.body (function_reads p g o.body o.reads) (at f) (omega arith);
+              (ascend laws p image formed have_words built) placed.before attributed is_own.body (function_reads p g is_own.body is_own.reads) (at f) (omega arith);
           placed = subst (λ (items : List Line). Placed words placed.place at items (at f) placed.next) written.items placed.placed;
         }
 
@@ -143,14 +143,14 @@ module _ (laws : Laws) (p : Program) (image : Fields) (formed : IsWellFormed p) 
     abbrev n : ℕ
     n = attributed_before p.functions f
 
-    abbrev own_code : (code : Labelled) × (slice_get parts.functions f ≡ Some code) × IsOwnCode p y numbers g code
-    own_code = own laws p image formed have_words built f g here
+    abbrev generic_code : (code : Labelled) × (slice_get parts.functions f ≡ Some code) × IsOwnCode p y numbers g code
+    generic_code = own laws p image formed have_words built f g here
 
-    abbrev code : Labelled
-    code = own_code.0
+    abbrev generic : Labelled
+    generic = generic_code.0
 
-    abbrev o : IsOwnCode p y numbers g code
-    o = own_code.2
+    abbrev is_generic : IsOwnCode p y numbers g generic
+    is_generic = generic_code.2
 
     abbrev table : (variants : List Variant) × IsNth p built.tables n f g variants
     table = laws.tabled p built.bodies built.tables parts built.are f g here is
@@ -158,26 +158,26 @@ module _ (laws : Laws) (p : Program) (image : Fields) (formed : IsWellFormed p) 
     numbered_there : IsAttributed parts n f
     numbered_there = subst (λ (ns : List ℕ). slice_get ns n ≡ Some f) (sym numbers_are) table.1.number
 
-    in_program : IsInProgram y (setting_of numbers p) true [] o.body
-    in_program = subst (λ b. IsInProgram y (setting_of numbers p) b [] o.body) is o.in_program
+    generic_in_program : IsInProgram y (setting_of numbers p) true [] is_generic.body
+    generic_in_program = subst (λ b. IsInProgram y (setting_of numbers p) b [] is_generic.body) is is_generic.in_program
 
-    written : IsWritten y true o.body code
-    written = subst (λ b. IsWritten y b o.body code) is o.written
+    generic_written : IsWritten y true is_generic.body generic
+    generic_written = subst (λ b. IsWritten y b is_generic.body generic) is is_generic.written
 
     abbrev instr : Instr
-    instr = Addi 2 2 (pos 0 -ℤ pos (bytes_of (shape_of true o.body)))
+    instr = Addi 2 2 (pos 0 -ℤ pos (bytes_of (shape_of true is_generic.body)))
 
     abbrev rest : List Line
-    rest = later_lines y.place y.size (is_marked o.body.marked) (shape_of true o.body) o.body.code
+    rest = later_lines y.place y.size (is_marked is_generic.body.marked) (shape_of true is_generic.body) is_generic.body.code
 
     stands : IsPlacedCode parts image sizing f rest (at f + 4) × text.HasEntry parts image sizing n f instr
     stands =
-        laws.patched parts image built.are.are built.are.fit built.linked n f code instr rest numbered_there ((follow laws p image formed have_words built).function f code own_code.1) o.written.labels written.items
+        laws.patched parts image built.are.are built.are.fit built.linked n f generic instr rest numbered_there ((follow laws p image formed have_words built).function f generic generic_code.1) is_generic.written.labels generic_written.items
 
     abbrev later : IsPlacedCode parts image sizing f rest (at f + 4)
     later = stands.0
 
-    entry : HasEntry attributed image shut text_start (linked_lines parts) sizing y p numbers f g (bytes_of (shape_of true o.body))
+    entry : HasEntry attributed image shut text_start (linked_lines parts) sizing y p numbers f g (bytes_of (shape_of true is_generic.body))
     entry = let e = stands.1 in record { index = e.index; within = e.within; line = e.line; at_line = e.at_line; alone = e.alone; is_entry = e.is_entry; word = e.word; in_text = e.in_text; here = e.here }
 
     called : (a : ℕ) → called_at attributed image a ≡ Some f → text.HasSlot parts image sizing n f a
@@ -254,6 +254,7 @@ module _ (laws : Laws) (p : Program) (image : Fields) (formed : IsWellFormed p) 
           let counted = rows_count at parts.attributed n in omega (arith, rows, counted)
 
       row : HasRow attributed image shut text_start (linked_lines parts) sizing y p numbers f g vs variant
+      unfolding variant
       row =
           let r = laws.rows p formed built.bodies built.tables parts built.are image built.linked n f g table.0 table.1 vs led in record {
             row = r.row;
@@ -270,21 +271,21 @@ module _ (laws : Laws) (p : Program) (image : Fields) (formed : IsWellFormed p) 
 
     in_tables : IsInTables attributed image shut text_start (linked_lines parts) sizing y p numbers f g
     in_tables =
-        let fits = laws.bodies_are_functions y (setting_of numbers p) true [] o.body in_program in record {
-          body = o.body;
-          keeps = o.keeps;
-          params = o.params;
-          reach = reach_of y o.body;
+        let fits = laws.bodies_are_functions y (setting_of numbers p) true [] is_generic.body generic_in_program in record {
+          body = is_generic.body;
+          keeps = is_generic.keeps;
+          params = is_generic.params;
+          reach = reach_of y is_generic.body;
           ample = fits.1;
           is_fine = fits.0;
           fits = fits.2;
           place = later.place;
           linked = linked_there f rest (at f + 4) later;
-          is_attributed = is_marked o.body.marked;
+          is_attributed = is_marked is_generic.body.marked;
           next = later.next;
           open_there =
               code_open image parts sizing p (set_out laws p image formed have_words built) f (is_closed_to_function p g) (test_of_function p parts f g here) tests_are later.next
-              (ascend laws p image formed have_words built) later.before attributed o.body (function_reads p g o.body o.reads) (at f + 4) (omega arith);
+              (ascend laws p image formed have_words built) later.before attributed is_generic.body (function_reads p g is_generic.body is_generic.reads) (at f + 4) (omega arith);
           later = later.placed;
           entry = entry;
           slots = slot;
