@@ -1,9 +1,8 @@
 -- The codes of linked parts, each behind the label of its entry.
-use Rattle.std.proofs.Common.{◌≡◌, ℕ, zero, suc, ◌+◌, ◌<◌, ◌≤◌, inl, inr, List, [], ◌∷◌, true, false, Some, length, map, get_or, slice_get, slice_index, refl, sym, ap, ◌∙◌, subst, arith}
-use Rattle.std.specs.Prelude.{option_map}
+use Rattle.std.proofs.Common.{◌≡◌, ℕ, zero, suc, ◌+◌, ◌<◌, ◌≤◌, inl, inr, List, [], ◌∷◌, false, Some, length, map, get_or, slice_get, slice_index, refl, sym, ap, ◌∙◌, subst, arith}
 use Rattle.std.proofs.lemmas.Bool.{cases_lt}
 use Rattle.std.proofs.lemmas.List.{length-map, get_or-map}
-use Rattle.std.proofs.lemmas.Option.{slice_get_within, slice_get-get_or, slice_get-map, get_or_from_slice_get}
+use Rattle.std.proofs.lemmas.Option.{slice_get_within, slice_get-get_or, get_or_from_slice_get}
 use Rattle.mv_isa.specs.declared.instr.Instr.{Instr}
 use Rattle.mv_isa.specs.declared.labelled.Labelled.{Labelled}
 use Rattle.mv_isa.specs.declared.labelled.Line.{Line}
@@ -13,8 +12,7 @@ use Rattle.mv_isa.specs.Standing.{LineStands, word_at}
 use Rattle.mv_asm.specs.Outcome.{AreWordsUnder}
 use Rattle.mv_linker.specs.declared.parts.Parts.{Parts}
 use Rattle.mv_linker.specs.declared.parts.PartFunction.{PartFunction}
-use Rattle.mv_linker.specs.declared.parts.PartVariant.{PartVariant}
-use Rattle.mv_linker.specs.Linked.{codes, function_variants, variant_codes, relabelled, function_part, linked_lines, first_label, part_index, AreParts}
+use Rattle.mv_linker.specs.Linked.{codes, relabelled, linked_lines, first_label, part_index, AreParts}
 use Rattle.mv_linker.specs.Tables.{attributed_numbers, is_slot, BeginsWithWords, FitsPartFunction, FitTables}
 use Rattle.mv_linker.specs.Laws.{StandFrom, FunctionStands}
 use Rattle.mv_linker.proofs.Entered.{index_behind, relabelled_slot}
@@ -50,7 +48,7 @@ behind_first lines k line part stand = let within = stand.within in record {
   each = λ j lt. let next : k + 1 + j ≡ k + suc j = omega arith in ap (line_at lines) next ∙ stand.each (suc j) (omega (arith, lt));
 }
 
-has_line : (items : List Line) → 1 ≤ least_words (line_at items 0) → 0 < length items
+pub has_line : (items : List Line) → 1 ≤ least_words (line_at items 0) → 0 < length items
 has_line [] some = absurd (omega (arith, some))
 has_line (x ∷ items) some = omega arith
 

@@ -1,5 +1,5 @@
 -- Of a line that is no slot, and not the first of an attributed function's code, no word may be patched.
-use Rattle.std.proofs.Common.{◌≡◌, ℕ, ◌+◌, ◌%◌, ◌<◌, ◌≤◌, ◌||◌, true, false, is_some, List, Option, Some, None, length, slice_get, option_and_then, sym, ap, ◌∙◌, arith}
+use Rattle.std.proofs.Common.{◌≡◌, ℕ, ◌+◌, ◌<◌, ◌||◌, true, false, is_some, List, Option, Some, None, length, slice_get, option_and_then, sym, ap, ◌∙◌}
 use Rattle.mv_descriptors.specs.declared.rows.SiteRow.{SiteRow}
 use Rattle.mv_isa.specs.declared.labelled.Line.{Line}
 use Rattle.mv_isa.specs.declared.labelled.Line.TheVariants.{Word, Label, Jump, Branch, Entry, Slot}

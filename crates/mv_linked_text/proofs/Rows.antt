@@ -1,7 +1,7 @@
 -- What the rows of a linked image say of an address: it is the entry of an attributed function, or a word of a slot.
-use Rattle.std.proofs.Common.{◌≡◌, ℕ, zero, suc, ◌+◌, ◌<◌, ◌≤◌, inl, inr, Bool, true, false, cond, eqb, List, [], ◌∷◌, Option, Some, None, length, map, get_or, slice_get, refl, sym, ap, ◌∙◌, subst, arith, eq-eqb}
+use Rattle.std.proofs.Common.{◌≡◌, ℕ, zero, suc, ◌+◌, ◌<◌, Bool, true, false, cond, eqb, List, [], ◌∷◌, Option, Some, None, length, get_or, slice_get, refl, sym, ap, ◌∙◌, subst, arith, eq-eqb}
 use Rattle.std.specs.List.{find}
-use Rattle.std.proofs.lemmas.Bool.{cases_lt, eqb-true, ne_eqb}
+use Rattle.std.proofs.lemmas.Bool.{eqb-true, ne_eqb}
 use Rattle.std.proofs.lemmas.List.{length-map, get_or-map}
 use Rattle.std.proofs.lemmas.List.Quantifiers.{position-Some}
 use Rattle.mv_descriptors.specs.declared.rows.FunctionRow.{FunctionRow}
@@ -16,9 +16,9 @@ use Rattle.mv_linker.specs.Linked.{codes, linked_lines, part_index}
 use Rattle.mv_linker.specs.Tables.{function_row, sites_from, place_among, attributed_numbers, is_slot, CallsAmong}
 use Rattle.mv_linker.specs.Outcome.{image_with}
 use Rattle.mv_linker.proofs.Sited.{row_at, lines_call, among, site_is}
-use Rattle.mv_linked_text.proofs.Found.{none_of, position_at, found_told}
+use Rattle.mv_linked_text.proofs.Found.{position_at, found_told}
 use Rattle.mv_linked_text.proofs.Lines.{IsOf, one_line, begins, slot_size}
-use Rattle.mv_linked_text.proofs.Codes.{IsAssembled, IsBegun, no_function, own, number_is, number_within, own_is, attributed_begun, one_number, entry_of, first_no_slot, first_in}
+use Rattle.mv_linked_text.proofs.Codes.{IsAssembled, IsBegun, has_line, no_function, own, number_is, number_within, own_is, attributed_begun, one_number, entry_of, first_in}
 
 -- ---- a test that the site of some slot passes finds a site
 
@@ -108,15 +108,8 @@ module _ (parts : Parts) (sizing words : List ℕ) (s : IsAssembled parts sizing
   pub one_function : (n f m g : ℕ) → slice_get numbers n ≡ Some f → slice_get numbers m ≡ Some g → index f + 1 ≡ index g + 1 → f ≡ g
   one_function n f m g is other same =
       let b = begun m g other in
-      let some : 0 < length b.code.items = first_some_line g b in
+      let some = has_line b.code.items b.begins.some in
       first_in parts sizing words s f (begun n f is) g b.code b.found (omega (arith, same)) (omega (arith, same, some))
-    where
-      first_some_line : (g : ℕ) (b : IsBegun parts g) → 0 < length b.code.items
-      first_some_line g b = by b.code.items b.begins.some
-        where
-          by : (items : List Line) → 1 ≤ least_words (line_at items 0) → 0 < length items
-          by [] h = absurd (omega (arith, h))
-          by (x ∷ items) h = omega arith
 
   pub entry_found : (n f : ℕ) → slice_get numbers n ≡ Some f → entry_at image (entry f) ≡ Some n
   unfolding entry_at
@@ -151,14 +144,16 @@ module _ (parts : Parts) (sizing words : List ℕ) (s : IsAssembled parts sizing
   row_told test row e =
       let f = found_told test image.sites row e in
       let site = site_is at numbers lines 0 f.number f.within in
-      let same : 0 + site.index ≡ site.index = omega arith in
-      (record {
-        index = site.index;
-        function = site.function;
-        within = site.within;
-        line = site.line;
-        is = sym f.here ∙ site.row row ∙ ap (λ k. row_at at numbers k site.function) same;
-      }, f.passes)
+      let same : 0 + site.index ≡ site.index = omega arith in (
+        record {
+          index = site.index;
+          function = site.function;
+          within = site.within;
+          line = site.line;
+          is = sym f.here ∙ site.row row ∙ ap (λ k. row_at at numbers k site.function) same;
+        },
+        f.passes,
+      )
 
   -- the function of a slot is attributed
   pub called_among : (k f : ℕ) → k < length lines → line_at lines k ≡ Slot f → slice_get numbers (place_among numbers f) ≡ Some f
@@ -198,16 +193,18 @@ module _ (parts : Parts) (sizing words : List ℕ) (s : IsAssembled parts sizing
       let here : at slot.index + 4 ≡ a = ap (λ (r : SiteRow). r.address + 4) (sym slot.is) ∙ eqb-true (row.address + 4) a told.1 in
       record { slot = slot; of = subst (Of slot.index) here (second_of slot.index slot.function slot.within slot.line); here = here }
 
+  site_there : (k f : ℕ) → k < length lines → line_at lines k ≡ Slot f → site_at image (at k) ≡ None → ⊥
+  unfolding site_at
+  site_there k f below line none =
+      let first : 0 + k ≡ k = omega arith in
+      slot_found at numbers (λ (site : SiteRow). eqb site.address (at k)) lines 0 k f below line (eq-eqb (at (0 + k)) (at k) (ap at first)) none
+
   -- the site of a slot is found at it
   pub site_found : (k f : ℕ) → k < length lines → line_at lines k ≡ Slot f → site_at image (at k) ≡ Some (row_at at numbers k f)
   site_found k f below line = by (site_at image (at k)) refl
     where
-      none : site_at image (at k) ≡ None → ⊥
-      unfolding site_at
-      none e = slot_found at numbers (λ (site : SiteRow). eqb site.address (at k)) lines 0 k f below line (let same : at (0 + k) ≡ at k = let z : 0 + k ≡ k = omega arith in ap at z in eq-eqb (at (0 + k)) (at k) same) e
-
       by : (o : Option SiteRow) → site_at image (at k) ≡ o → o ≡ Some (row_at at numbers k f)
-      by None e = absurd (none e)
+      by None e = absurd (site_there k f below line e)
       by (Some row) e =
           let told = site_told (at k) row e in
           let slot = told.slot in

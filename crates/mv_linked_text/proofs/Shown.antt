@@ -8,7 +8,7 @@ use Rattle.mv_isa.specs.declared.labelled.Line.{Line}
 use Rattle.mv_isa.specs.declared.labelled.Line.TheVariants.{Word, Slot}
 use Rattle.mv_isa.specs.Encoding.{encode}
 use Rattle.mv_isa.specs.Code.{IsPlace, line_at, label_index, address, label_address, text_start}
-use Rattle.mv_isa.specs.Standing.{InstrStands, SlotStands, LineStands, word_at}
+use Rattle.mv_isa.specs.Standing.{SlotStands, LineStands, word_at}
 use Rattle.mv_image.specs.Spelling.{Fields}
 use Rattle.mv_image.specs.Patched.{ShowsAt, entry_at, site_at}
 use Rattle.mv_machine_runs.specs.MachineRuns.{image_word, called_at}
@@ -22,7 +22,7 @@ use Rattle.mv_linked_text.proofs.Facts.{Laws}
 use Rattle.mv_linked_text.proofs.Found.{none_of}
 use Rattle.mv_linked_text.proofs.Lines.{IsOf, one_line, slot_size}
 use Rattle.mv_linked_text.proofs.Codes.{IsAssembled, attributed_begun, one_number, behind_label, first_line, first_below, first_no_slot}
-use Rattle.mv_linked_text.proofs.Rows.{IsEntry, IsSite, IsBehindSite, IsRowOfSlot, entry_told, entry_found, one_function, site_told, before_told, site_found, called_among, slot_of, second_of}
+use Rattle.mv_linked_text.proofs.Rows.{IsRowOfSlot, entry_told, entry_found, one_function, site_told, before_told, site_found, called_among, slot_of, second_of}
 use Rattle.mv_linked_text.proofs.Kept.{NotFirst, no_entry, no_site, no_site_before}
 
 module _ (laws : Laws) (parts : Parts) (sizing words : List ℕ) (s : IsAssembled parts sizing words) where

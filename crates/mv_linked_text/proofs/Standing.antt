@@ -1,5 +1,5 @@
 -- Stubs and codes are placed in the text of a linked image.
-use Rattle.std.proofs.Common.{◌≡◌, ℕ, zero, suc, ◌+◌, ◌*◌, ◌-◌, ◌/◌, ◌<◌, ◌≤◌, false, List, [], ◌∷◌, Some, map, length, get_or, slice_get, All, refl, sym, ap, ◌∙◌, subst, arith}
+use Rattle.std.proofs.Common.{◌≡◌, ℕ, ◌+◌, ◌*◌, ◌-◌, ◌/◌, ◌<◌, ◌≤◌, List, [], ◌∷◌, Some, map, length, get_or, slice_get, All, refl, sym, ap, ◌∙◌, subst, arith}
 use Rattle.std.proofs.lemmas.List.{length-map, get_or-map}
 use Rattle.std.proofs.lemmas.List.Elements.{All-get_or, All-tail, All-from_recursion}
 use Rattle.std.proofs.lemmas.List.Sums.{sum_by_more_le}
@@ -15,15 +15,15 @@ use Rattle.mv_flow_code.specs.Placed.{Text, Placed}
 use Rattle.mv_machine_runs.specs.Assembled.{HasWords, IsOnlyLabel}
 use Rattle.mv_machine_runs.specs.MachineRuns.{machine_text}
 use Rattle.mv_linker.specs.declared.parts.Parts.{Parts}
-use Rattle.mv_linker.specs.Linked.{codes, IsFunction, NamesAreThere, relabelled, own, function_part, start_lines, trap_lines, commit_lines, commit_instrs, linked_lines, label_count, first_label, trap_label, commit_label, trap_index, commit_index, stub_count, part_index}
+use Rattle.mv_linker.specs.Linked.{codes, IsFunction, NamesAreThere, relabelled, start_lines, trap_lines, commit_lines, commit_instrs, linked_lines, first_label, trap_label, commit_label, trap_index, commit_index, stub_count, part_index}
 use Rattle.mv_linker.specs.Tables.{attributed_numbers}
-use Rattle.mv_linker.specs.Laws.{StandFrom, FunctionStands}
+use Rattle.mv_linker.specs.Laws.{StandFrom}
 use Rattle.mv_linker.specs.Outcome.{image_with}
 use Rattle.mv_linker.proofs.Entered.{index_behind}
 use Rattle.mv_linked_text.specs.Text.{StubsArePlaced, IsPlacedCode}
 use Rattle.mv_linked_text.proofs.Facts.{Laws}
 use Rattle.mv_linked_text.proofs.Lines.{word_size}
-use Rattle.mv_linked_text.proofs.Codes.{IsAssembled, IsBegun, attributed_begun, behind_first, stands, behind_label, lines_stand, first_line, first_below, ends_before, first_in}
+use Rattle.mv_linked_text.proofs.Codes.{IsAssembled, attributed_begun, behind_first, stands, behind_label, lines_stand, first_line, first_below, ends_before, first_in}
 use Rattle.mv_linked_text.proofs.Kept.{NotFirst, kept_as}
 use Rattle.mv_linked_text.proofs.Renamed.{own_place, lines_placed, own_stays, own_here}
 
@@ -84,15 +84,18 @@ module _ (laws : Laws) (parts : Parts) (sizing words : List ℕ) (s : IsAssemble
 
   -- ---- stubs
 
+  stubs_few : stub_count ≡ 34
+  stubs_few = refl
+
   stub_never : (k : ℕ) → k < stub_count → Never k
-  stub_never k below n f is same = omega (arith, below, same)
+  stub_never k below n f is same = omega (arith, below, same, stubs_few)
 
   module _ (k : ℕ) (part : List Line) (stand : StandFrom lines k part) (few : k + length part ≤ stub_count) (only : All (IsOnlyLabel lines) part) where
     stub_placed : IsHere part (at k) (at (k + length part))
     stub_placed = part_placed k part stand (λ j lt. stub_never (k + j) (omega (arith, lt, few))) (λ j lt. All-get_or (IsOnlyLabel lines) part j (Label 0) lt only)
 
     before_codes : (f : ℕ) → f < length (codes parts) → at (k + length part) ≤ entry f
-    before_codes f below = ends_before parts sizing words s (k + length part) f below (omega (arith, few))
+    before_codes f below = ends_before parts sizing words s (k + length part) f below (omega (arith, few, stubs_few))
 
   start_placed : IsHere (start_lines parts.main) (at 0) (at (0 + length (start_lines parts.main)))
   start_placed = stub_placed 0 (start_lines parts.main) (laws.stubs_stand parts s.are).0 (omega arith) (All-from_recursion (IsOnlyLabel lines) (start_lines parts.main) (tt, (tt, (tt, (tt, (tt, tt))))))
@@ -190,9 +193,9 @@ module _ (laws : Laws) (parts : Parts) (sizing words : List ℕ) (s : IsAssemble
         let part = map renamed items in
         let count : length part ≡ length items = length-map items renamed in
         let only : (j : ℕ) → j < length part → IsOnlyLabel lines (line_at part j) = λ j lt.
-            let below : j < length items = omega (arith, lt, count) in
-            subst (IsOnlyLabel lines) (sym (get_or-map renamed items j (Label 0) (Label 0) below))
-            (only_label (length parts.functions) (get_or items j (Label 0)) (All-get_or (NamesAreThere (length parts.functions) code) items j (Label 0) below names)) in
+        let below : j < length items = omega (arith, lt, count) in
+        subst (IsOnlyLabel lines) (sym (get_or-map renamed items j (Label 0) (Label 0) below))
+        (only_label (length parts.functions) (get_or items j (Label 0)) (All-get_or (NamesAreThere (length parts.functions) code) items j (Label 0) below names)) in
         record {
           place = own_place text entry entry first code.labels;
           traps = λ c. ap entry (own_stays first code.labels (trap_label c) (omega (arith, few_labels)));

@@ -1,12 +1,11 @@
 -- The laws on the text of linked images.
-use Rattle.std.proofs.Common.{◌≡◌, ℕ, ◌+◌, ◌<◌, List, Some, length, map, get_or, slice_get, sym, ap, ◌∙◌, subst, arith}
+use Rattle.std.proofs.Common.{◌≡◌, ℕ, ◌+◌, Some, length, get_or, slice_get, sym, ap, ◌∙◌, subst, arith}
 use Rattle.std.specs.Prelude.{option_map}
 use Rattle.std.proofs.lemmas.List.{length-append, get_or-append-add}
 use Rattle.std.proofs.lemmas.Option.{slice_get-map, slice_get-get_or, slice_get_within, get_or_from_slice_get}
-use Rattle.mv_isa.specs.declared.labelled.Labelled.{Labelled}
 use Rattle.mv_image.specs.Spelling.{Fields}
 use Rattle.mv_machine_runs.specs.MachineRuns.{called_at}
-use Rattle.mv_isa.specs.Code.{label_index, text_start}
+use Rattle.mv_isa.specs.Code.{label_index}
 use Rattle.mv_linker.specs.declared.parts.Parts.{Parts}
 use Rattle.mv_linker.specs.declared.parts.PartVariant.{PartVariant}
 use Rattle.mv_linker.specs.Linked.{AreParts, codes, linked_lines, function_variants, variant_codes}
@@ -14,7 +13,7 @@ use Rattle.mv_linker.specs.Tables.{FitTables, attributed_numbers}
 use Rattle.mv_linker.specs.Outcome.{IsLinked}
 use Rattle.mv_linker.proofs.Entered.{entry_before}
 use Rattle.mv_linker.proofs.Tabled.{function_code}
-use Rattle.mv_linked_text.specs.Text.{IsAttributed, StubsArePlaced, IsPlacedCode, HasEntry, HasSlot, label_place}
+use Rattle.mv_linked_text.specs.Text.{StubsArePlaced, IsPlacedCode, HasEntry, HasSlot, label_place}
 use Rattle.mv_linked_text.specs.Laws.{WordsAreThere, StubsStandInText, CodesAscend, PlainCodeStands, PatchedCodeStands, SlotsAreSites}
 use Rattle.mv_linked_text.proofs.Facts.{Laws}
 use Rattle.mv_linked_text.proofs.Codes.{IsAssembled, no_code, attributed_within}
@@ -59,9 +58,9 @@ module _ (laws : Laws) where
   patched_stands parts image are tables linked n f code instr rest is found labels items =
       let s = assembled parts image are tables linked in (
         subst (λ (i : Fields). IsPlacedCode parts i linked.sizing f rest (label_place parts linked.sizing f + 4)) (sym linked.image_is)
-        (later_placed laws parts linked.sizing linked.text s f code found labels instr rest items),
+            (later_placed laws parts linked.sizing linked.text s f code found labels instr rest items),
         subst (λ (i : Fields). HasEntry parts i linked.sizing n f instr) (sym linked.image_is)
-        (entry_shows laws parts linked.sizing linked.text s n f is code found instr rest items),
+            (entry_shows laws parts linked.sizing linked.text s n f is code found instr rest items),
       )
 
   pub slots_are_sites : SlotsAreSites
