@@ -1,11 +1,11 @@
 //! The text of a linked image with tables: where the stubs, the functions and their variants stand, and what bindings patch.
 //!
 //! - `linked_text_law`: the text of a linked image has the assembled words (`words`), with the start at its beginning and
-//!   the stubs of the traps and of commits at their labels (`stubs`). The
-//!   codes of functions and variants stand behind them, one behind the other (`codes`). The code of a function that isn't
-//!   attributed, and that of a variant, is `Placed` at its entry (`plain`); that of an attributed function behind its first
-//!   word, which alone of its words is patched, and with no other binding than its own (`patched`). The slots are the sites
-//!   of the functions that they call, and no other function shows there (`slots`).
+//!   the stubs of the traps and of commits at their labels (`stubs`). The codes of functions and variants stand behind
+//!   them, one behind the other (`codes`). The code of a function that isn't attributed, and that of a variant, is `Placed`
+//!   at its entry (`plain`); that of an attributed function behind its first word, in which its own binding shows and no
+//!   other (`patched`). Of all these words none is ever patched but those of slots. A slot is a site of the attributed
+//!   function that it calls, and no other shows there (`slots`).
 //! - A crate of one law, without a test.
 #![tactic(auto)]
 
