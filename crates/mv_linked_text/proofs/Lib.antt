@@ -1,0 +1,10 @@
+pub mod Found
+pub mod Lines
+pub mod Codes
+pub mod Rows
+pub mod Kept
+pub mod Renamed
+pub mod Facts
+pub mod Standing
+pub mod Shown
+pub mod Whole
