@@ -1,0 +1,6 @@
+mod Rooms
+mod Reads
+mod Places
+mod Facts
+mod Own
+mod Varied

@@ -1,0 +1,2 @@
+pub mod ProgramBodies
+pub mod Laws
