@@ -1,10 +1,12 @@
 -- The course of a run through main: it ends in a stub, or goes on at least as long as was asked for.
-use Rattle.std.proofs.Common.{◌≡◌, ◌⊎◌, inl, inr, ⊎_elim, ℕ, ◌+◌, ◌-◌, ◌*◌, ◌%◌, ◌^◌, ◌<◌, ◌≤◌, zero, suc, Bool, true, false, not, List, [], ◌∷◌, length, Contains, slice_index_or, Option, Some, None, refl, sym, ap, ◌∙◌, subst, arith}
-use Rattle.std.proofs.lemmas.Bool.{cases_lt, eqb-true, and_parts}
+use Rattle.std.proofs.Common.{◌≡◌, ◌⊎◌, inl, inr, ⊎_elim, ℕ, ◌+◌, ◌-◌, ◌*◌, ◌%◌, ◌^◌, ◌<◌, ◌≤◌, zero, suc, Bool, true, false, not, List, [], ◌∷◌, length, Contains, replicate, slice_index_or, Option, Some, None, refl, sym, ap, ◌∙◌, subst, arith}
+use Rattle.std.proofs.lemmas.Bool.{cases_lt, and_parts}
 use Rattle.std.proofs.lemmas.List.{length-map}
 use Rattle.mv_ast.specs.declared.world.Action.{Action}
+use Rattle.mv_ast.specs.declared.world.Binding.{Binding}
 use Rattle.mv_ast.specs.declared.program.Program.{Program}
 use Rattle.mv_fetch.specs.Held.{choices}
+use Rattle.mv_image.specs.Faults.{Rules}
 use Rattle.mv_image.specs.Spelling.{Fields}
 use Rattle.mv_ir.specs.World.{World}
 use Rattle.mv_ir.specs.Outcome.{End, Returned, Trapped, More, Stuck}
@@ -21,16 +23,22 @@ use Rattle.mv_meaning.specs.Meaning.{mean}
 use Rattle.mv_meaning.proofs.Growing.{Begins-refl}
 use Rattle.mv_flow_code.specs.Runs.{Machine, outside}
 use Rattle.mv_call_code.specs.Convention.{Layout, FollowsCall}
-use Rattle.mv_machine_runs.specs.Calm.{Rest, IsCalm, is_calm}
-use Rattle.mv_machine_runs.specs.Laws.{CalmIsTested}
-use Rattle.mv_machine_runs.specs.MachineRuns.{access, machine_of, rest_of, spot_of, has_one_choice, opens, are_open, is_sound}
-use Rattle.mv_stub_runs.specs.Ends.{HasStopped, EndsAfter}
-use Rattle.mv_stub_runs.specs.Laws.{ExitIsRight, TrapIsRight}
+use Rattle.mv_machine_runs.specs.MachineRuns.{rest_of, spot_of, has_one_choice, opens, are_open, is_sound}
+use Rattle.mv_stub_runs.specs.Ends.{HasStopped}
 use Rattle.mv_stub_runs.specs.Stubs.{return_address}
-use Rattle.mv_stub_runs.proofs.Walked.{calm_inside}
-use Rattle.mv_image_runs.specs.Behaves.{IsWithin, IsWhole, EndsRight, HasDone, Behaves, word_loads, LoadsWhatIsOpen}
+use Rattle.mv_text_between.specs.Between.{is_between}
+use Rattle.mv_text_between.specs.Laws.{BetweenIsTested, RoomsAreWhole}
+use Rattle.mv_commit_runs.specs.Ends.{EndsQuietly, WatchedExitIsRight, WatchedTrapIsRight}
+use Rattle.mv_commit_runs.specs.Laws.{QuietIsTested}
+use Rattle.mv_commit_runs.specs.Served.{SoundAt, QuietAt}
+use Rattle.mv_commit_runs.specs.Tells.{SoundTells, SoundPlacesTell}
+use Rattle.mv_commit_runs.specs.Watch.{texts_of, is_settled}
+use Rattle.mv_commit_runs.specs.Watched.{Watched, access, is_quiet, watched_machine}
+use Rattle.mv_commit_runs.proofs.Orders.{quiet_inside}
+use Rattle.mv_image_runs.specs.Behaves.{IsWithin, IsWhole, EndsRight, HasDone, IsTextSettled, IsTextChanging, commit_at, Behaves, word_loads, LoadsWhatIsOpen}
 use Rattle.mv_image_runs.specs.Main.{HasStubs, main_cost, RunsMain}
 use Rattle.mv_image_runs.proofs.Growing.{run_grew, going_before}
+use Rattle.mv_image_runs.proofs.Stopping.{none_behind, sound_behind}
 
 -- ---- how the meaning ends where code does
 
@@ -63,10 +71,6 @@ cost_is w cost Stuck = refl
 module _ (closed : (pc address : ℕ) → Bool) (s : State) (h : is_sound closed (spot_of s) ≡ true) where
   parts : (has_one_choice (spot_of s) ≡ true) × (are_open (closed s.pc) s.regs (choices s.room.held s.pc) ≡ true)
   parts = and_parts (has_one_choice (spot_of s)) (are_open (closed s.pc) s.regs (choices s.room.held s.pc)) h
-
-  one_choice : choices_at s ≡ 1
-  unfolding choices_at
-  one_choice = eqb-true (length (choices s.room.held s.pc)) 1 parts.0
 
   -- a load is from an open address
   opened : (o : Option ℕ) → opens (closed s.pc) o ≡ true → (a : ℕ) → o ≡ Some a → closed s.pc a ≡ false
@@ -131,27 +135,50 @@ module _ (bytes : List ℕ) where
       ended = λ more going. over (sym h.is ∙ going);
     }
 
-module _ (tested : CalmIsTested) (exit_right : ExitIsRight) (trap_right : TrapIsRight)
+-- ---- what a sound place tells of the text of an image
+
+module _ (tested : BetweenIsTested) (rooms : RoomsAreWhole) (closed : (pc address : ℕ) → Bool) (image : Fields) (s : State) where
+  settled_told : SoundTells closed (texts_of image) None s → IsTextSettled image s
+  settled_told told =
+      let text = texts_of image s.bindings in
+      let same = (rooms.same text s.room.held).0 ((tested text text s.room.held).0 told.settled) in
+      record { words = same.0; older = same.1 ∙ ap (λ (words : List ℕ). replicate (length words) []) (sym same.0) }
+
+  changing_told : (old : List Binding) → SoundTells closed (texts_of image) (Some old) s → IsTextChanging image old s
+  changing_told old told = record { words = (tested (texts_of image old) (texts_of image s.bindings) s.room.held).0 told.settled; apart = told.apart old refl }
+
+-- ---- the run of an image
+
+module _ (quiet_tested : QuietIsTested) (tells : SoundPlacesTell) (tested : BetweenIsTested) (rooms : RoomsAreWhole) (exit_right : WatchedExitIsRight) (trap_right : WatchedTrapIsRight)
     (attributed : List ℕ) (closed : (pc address : ℕ) → Bool) (p : Program) (image : Fields) (bytes : List ℕ) (actions : List Action) (picks : List ℕ) (y : Layout)
-    (stubs : HasStubs attributed image y) (main : RunsMain attributed closed p image bytes actions picks y) where
+    (rules : Rules image) (stubs : HasStubs attributed image y) (main : RunsMain attributed closed p image bytes actions picks y) where
   abbrev input : List (Option ℕ)
   input = bytes_to_come bytes
 
-  abbrev machine : Machine Rest
-  machine = machine_of attributed closed image input actions picks
+  abbrev start : State
+  start = first_state image input actions
+
+  abbrev machine : Machine Watched
+  machine = watched_machine attributed closed image input actions picks
 
   abbrev state : ℕ → State
   state n = runs image input actions picks n
 
+  abbrev under : ℕ → Option (List Binding)
+  under n = commit_at image bytes actions picks n
+
   abbrev IsSound : ℕ → Type 0
-  IsSound t = is_sound closed (spot_of (state t)) ≡ true
+  IsSound t = SoundAt closed image start picks t
+
+  abbrev IsQuietAt : World → ℕ → Type 0
+  IsQuietAt w t = QuietAt closed image start picks w t
 
   -- the run ends in a stub as a meaning does
   record Ended (m : Meant) (budget : ℕ) : Type 0 where
     world : World
     last : ℕ
     stop : Stop
-    ends : EndsAfter closed image input actions picks world last stop
+    ends : EndsQuietly closed image start picks world last stop
     soon : last ≤ budget + 2
     says : Says bytes m world
     over : stop ≡ Going → ⊥
@@ -161,15 +188,15 @@ module _ (tested : CalmIsTested) (exit_right : ExitIsRight) (trap_right : TrapIs
   record Late (m : Meant) (budget far : ℕ) : Type 0 where
     world : World
     time : ℕ
-    calm : IsCalm image world (rest_of (state time))
+    quiet : IsQuietAt world time
     sound : (t : ℕ) → t < time → IsSound t
     soon : time ≤ budget
     asked : far ≤ time
     says : Says bytes m world
     unfinished : m.«end» ≡ source.More
 
-  inside : (w : World) (t : ℕ) → is_calm image (outside w) (rest_of (state t)) ≡ true → IsCalm image w (rest_of (state t))
-  inside w t calm = calm_inside image w (rest_of (state t)) ((tested image (outside w) (rest_of (state t))).0 calm)
+  inside : (w : World) (t : ℕ) → is_quiet image (outside w) (machine.run t).memory ≡ true → IsQuietAt w t
+  inside w t calm = quiet_inside image w (machine.run t).memory ((quiet_tested image (outside w) (machine.run t).memory).0 calm)
 
   -- ---- what follows the call of main
 
@@ -180,12 +207,12 @@ module _ (tested : CalmIsTested) (exit_right : ExitIsRight) (trap_right : TrapIs
         let stands = f.1.stands in
         let paid = f.1.paid in
         let says = said bytes m (code.Exited (v % 256)) cost w x counts in
-        let ends = exit_right attributed closed image input actions picks stubs.place stubs.entry stubs.main_label stubs.start_ends stubs.start f.0 w
-        (record { at = stands.at; calm = inside w f.0 stands.calm; sound = stands.sound }) in record {
+        let ends = exit_right attributed closed image rules input actions picks stubs.place stubs.entry stubs.main_label stubs.start_ends stubs.start f.0 w
+        (record { here = stands.at; quiet = inside w f.0 stands.calm; sound = stands.sound }) in record {
           world = w;
           last = f.0 + 1;
           stop = Exit (v % 2 ^ 8);
-          ends = subst (λ (z : ℕ). EndsAfter closed image input actions picks w (f.0 + 1) (Exit (z % 2 ^ 8))) f.2 ends;
+          ends = subst (λ (z : ℕ). EndsQuietly closed image start picks w (f.0 + 1) (Exit (z % 2 ^ 8))) f.2 ends;
           soon = omega (arith, paid);
           says = says;
           over = λ e. cc;
@@ -201,8 +228,8 @@ module _ (tested : CalmIsTested) (exit_right : ExitIsRight) (trap_right : TrapIs
           world = w;
           last = f.0 + 2;
           stop = Trap c;
-          ends = trap_right attributed closed image input actions picks c ge le stubs.place stubs.entry (y.trap c) (stubs.trap_ends c) placed f.0 w
-              (record { at = f.1.at ∙ sym placed.1.label; calm = inside w f.0 f.1.calm; sound = f.1.sound });
+          ends = trap_right attributed closed image rules input actions picks c ge le stubs.place stubs.entry (y.trap c) (stubs.trap_ends c) placed f.0 w
+              (record { here = f.1.at ∙ sym placed.1.label; quiet = inside w f.0 f.1.calm; sound = f.1.sound });
           soon = omega (arith, paid);
           says = says;
           over = λ e. cc;
@@ -214,7 +241,7 @@ module _ (tested : CalmIsTested) (exit_right : ExitIsRight) (trap_right : TrapIs
     late w x counts f = record {
       world = w;
       time = f.0;
-      calm = inside w f.0 f.1.calm;
+      quiet = inside w f.0 f.1.calm;
       sound = f.1.sound;
       soon = f.1.paid;
       asked = f.1.asked;
@@ -231,7 +258,7 @@ module _ (tested : CalmIsTested) (exit_right : ExitIsRight) (trap_right : TrapIs
     goes Stuck x reached valued f = absurd (never_stuck m.«end» x.ending)
 
   abbrev meaning : ℕ → Meant
-  meaning k = mean p bytes [] k
+  meaning k = mean p bytes actions k
 
   -- what is left for main is enough for what its call costs
   abbrev main_budget : ℕ → ℕ
@@ -246,9 +273,10 @@ module _ (tested : CalmIsTested) (exit_right : ExitIsRight) (trap_right : TrapIs
 
   -- ---- before a calm time and at it
 
-  module _ (m : Meant) (w : World) (t : ℕ) (calm : IsCalm image w (rest_of (state t))) (says : Says bytes m w) where
+  module _ (m : Meant) (w : World) (t : ℕ) (quiet : IsQuietAt w t) (says : Says bytes m w) where
     calm_within : (n : ℕ) → n ≤ t → IsWithin bytes (state n) m
     calm_within n le =
+        let calm = quiet.calm in
         let g = run_grew (first_state image input actions) picks n t le in
         let fewer = g.input in
         let taken = says.taken in
@@ -259,10 +287,11 @@ module _ (tested : CalmIsTested) (exit_right : ExitIsRight) (trap_right : TrapIs
         }
 
     calm_going : (n : ℕ) → n ≤ t → (state n).stop ≡ Going
-    calm_going n le = going_before (first_state image input actions) picks n t le calm.goes_on
+    calm_going n le = going_before (first_state image input actions) picks n t le quiet.calm.goes_on
 
     calm_done : (n : ℕ) → t ≤ n → m.«end» ≡ source.More → HasDone (state n) m
     calm_done n le more =
+        let calm = quiet.calm in
         let g = run_grew (first_state image input actions) picks t n le in record {
           output = subst (λ o. Begins o (state n).output) (calm.output ∙ sym says.output) g.output;
           log = subst (λ o. Begins o (state n).log) (calm.log ∙ sym says.log) g.log;
@@ -281,11 +310,11 @@ module _ (tested : CalmIsTested) (exit_right : ExitIsRight) (trap_right : TrapIs
     ended_within : Ended (meaning n) budget → IsWithin bytes (state n) (meaning n)
     ended_within e = ⊎_elim
         (λ (lt : e.last < n). stopped_within bytes (meaning n) e.world e.stop (state n) (e.ends.stopped n lt) e.says)
-        (λ (le : n ≤ e.last). calm_within (meaning n) e.world e.last e.ends.calm e.says n le)
+        (λ (le : n ≤ e.last). calm_within (meaning n) e.world e.last e.ends.quiet e.says n le)
         (cases_lt e.last n)
 
     late_within : Late (meaning n) budget (n + 1) → IsWithin bytes (state n) (meaning n)
-    late_within l = let asked = l.asked in calm_within (meaning n) l.world l.time l.calm l.says n (omega (arith, asked))
+    late_within l = let asked = l.asked in calm_within (meaning n) l.world l.time l.quiet l.says n (omega (arith, asked))
 
     within : IsWithin bytes (state n) (meaning n)
     within = ⊎_elim ended_within late_within run_goes
@@ -293,32 +322,50 @@ module _ (tested : CalmIsTested) (exit_right : ExitIsRight) (trap_right : TrapIs
     abbrev Right : Stop → Type 0
     Right = EndsRight bytes (state n) (meaning n)
 
+    -- behind its end it doesn't go on
+    stops_behind : (e : Ended (meaning n) budget) → (state (e.last + 1)).stop ≡ Going → ⊥
+    stops_behind e going = e.over (sym (e.ends.stopped (e.last + 1) (omega arith)).is ∙ going)
+
     ended_right : Ended (meaning n) budget → Right (state n).stop
     ended_right e = ⊎_elim
         (λ (lt : e.last < n). let h = e.ends.stopped n lt in subst Right (sym h.is) (e.right (state n) h))
-        (λ (le : n ≤ e.last). subst Right (sym (calm_going (meaning n) e.world e.last e.ends.calm e.says n le)) tt)
+        (λ (le : n ≤ e.last). subst Right (sym (calm_going (meaning n) e.world e.last e.ends.quiet e.says n le)) tt)
         (cases_lt e.last n)
 
     late_right : Late (meaning n) budget (n + 1) → Right (state n).stop
-    late_right l = let asked = l.asked in subst Right (sym (calm_going (meaning n) l.world l.time l.calm l.says n (omega (arith, asked)))) tt
+    late_right l = let asked = l.asked in subst Right (sym (calm_going (meaning n) l.world l.time l.quiet l.says n (omega (arith, asked)))) tt
 
     right : Right (state n).stop
     right = ⊎_elim ended_right late_right run_goes
 
-    ended_sound : Ended (meaning n) budget → (state n).stop ≡ Going → IsSound n
-    ended_sound e going = ⊎_elim
-        (λ (lt : e.last < n). absurd (e.over (sym (e.ends.stopped n lt).is ∙ going)))
+    ended_sound : Ended (meaning n) budget → IsSound n
+    ended_sound e = ⊎_elim
+        (λ (lt : e.last < n).
+        sound_behind start picks e.last e.ends.quiet.calm.goes_on e.ends.quiet.under (stops_behind e) closed image (e.ends.sound e.last (omega arith)) n lt)
         (λ (le : n ≤ e.last). e.ends.sound n le)
         (cases_lt e.last n)
 
     late_sound : Late (meaning n) budget (n + 1) → IsSound n
     late_sound l = let asked = l.asked in l.sound n (omega (arith, asked))
 
-    sound : (state n).stop ≡ Going → IsSound n
-    sound going = ⊎_elim (λ (e : Ended (meaning n) budget). ended_sound e going) late_sound run_goes
+    sound : IsSound n
+    sound = ⊎_elim ended_sound late_sound run_goes
 
-    fetches : (state n).stop ≡ Going → choices_at (state n) ≡ 1
-    fetches going = one_choice closed (state n) (sound going)
+    told : SoundTells closed (texts_of image) (under n) (state n)
+    told = tells closed (texts_of image) (under n) (state n) sound
+
+    -- a run that has ended has no commit under way
+    ended_none : Ended (meaning n) budget → ((state n).stop ≡ Going → ⊥) → under n ≡ None
+    ended_none e over = ⊎_elim
+        (λ (lt : e.last < n). none_behind start picks e.last e.ends.quiet.calm.goes_on e.ends.quiet.under (stops_behind e) n lt)
+        (λ (le : n ≤ e.last). absurd (over (calm_going (meaning n) e.world e.last e.ends.quiet e.says n le)))
+        (cases_lt e.last n)
+
+    late_none : Late (meaning n) budget (n + 1) → ((state n).stop ≡ Going → ⊥) → under n ≡ None
+    late_none l over = let asked = l.asked in absurd (over (calm_going (meaning n) l.world l.time l.quiet l.says n (omega (arith, asked))))
+
+    none : ((state n).stop ≡ Going → ⊥) → under n ≡ None
+    none = ⊎_elim ended_none late_none run_goes
 
   -- ---- all that is meant is done in time
 
@@ -330,10 +377,25 @@ module _ (tested : CalmIsTested) (exit_right : ExitIsRight) (trap_right : TrapIs
           let soon = e.soon in stopped_done bytes (meaning k) e.world e.stop (state n) (e.ends.stopped n (omega (arith, soon, le))) e.says e.over
 
       late' : Late (meaning k) (n - 3) 0 → HasDone (state n) (meaning k)
-      late' l = let soon = l.soon in calm_done (meaning k) l.world l.time l.calm l.says n (omega (arith, soon)) l.unfinished
+      late' l = let soon = l.soon in calm_done (meaning k) l.world l.time l.quiet l.says n (omega (arith, soon)) l.unfinished
+
+  -- a sound place with the commit that is under way there
+  told_under : (n : ℕ) (u : Option (List Binding)) → under n ≡ u → SoundTells closed (texts_of image) u (state n)
+  told_under n u e = subst (λ v. SoundTells closed (texts_of image) v (state n)) e (told n)
 
   pub behaves : Behaves p image bytes actions picks × LoadsWhatIsOpen image closed bytes actions picks
   behaves = (
-    record { within = within; ends = right; does = done; fetches = fetches },
-    λ n a going word c is. loads_open closed (state n) (sound n going) (choices (state n).room.held (state n).pc) (parts closed (state n) (sound n going)).1 word c a is,
+    record {
+      within = within;
+      ends = right;
+      does = done;
+      fetches = λ n going. (told n).one;
+      settled = λ n e. settled_told tested rooms closed image (state n) (told_under n None e);
+      between = λ n old e. changing_told tested rooms closed image (state n) old (told_under n (Some old) e);
+      over = none;
+      roomy = λ n pick. (told n).roomy pick;
+    },
+    λ n a going word c is.
+        let plain = (told n).unbarred in
+        loads_open closed (state n) plain (choices (state n).room.held (state n).pc) (parts closed (state n) plain).1 word c a is,
   )

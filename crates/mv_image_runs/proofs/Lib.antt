@@ -1,2 +1,4 @@
 pub mod Growing
+pub mod Stopping
+pub mod Unchanged
 pub mod Courses

@@ -1,3 +1,4 @@
 pub mod Behaves
 pub mod Main
+pub mod Unchanged
 pub mod Laws

@@ -1,5 +1,5 @@
 -- What main comes to, in code and on a run that has entered it.
-use Rattle.std.specs.Prelude.{ℕ, ◌≡◌, ◌+◌, ◌≤◌, Bool, List, [], length, None}
+use Rattle.std.specs.Prelude.{ℕ, ◌≡◌, ◌+◌, ◌≤◌, Bool, List, length, None}
 use Rattle.mv_ast.specs.declared.world.Action.{Action}
 use Rattle.mv_ast.specs.declared.program.Program.{Program}
 use Rattle.mv_image.specs.Spelling.{Fields}
@@ -12,8 +12,9 @@ use Rattle.mv_machine.specs.Runs.{bytes_to_come}
 use Rattle.mv_meaning.specs.Meaning.{mean}
 use Rattle.mv_flow_code.specs.Placed.{Placed}
 use Rattle.mv_call_code.specs.Convention.{Layout, FollowsCall}
-use Rattle.mv_machine_runs.specs.MachineRuns.{access, machine_of, machine_text}
+use Rattle.mv_machine_runs.specs.MachineRuns.{machine_text}
 use Rattle.mv_stub_runs.specs.Stubs.{start_address, return_address, start_lines, trap_lines}
+use Rattle.mv_commit_runs.specs.Watched.{access, watched_machine}
 
 -- The stubs stand in the text of an image, those of traps where the layout has them.
 pub record HasStubs (attributed : List ℕ) (image : Fields) (y : Layout) : Type 0 where
@@ -30,15 +31,15 @@ abbrev pub main_cost : ℕ
 main_cost = 44
 
 module _ (attributed : List ℕ) (closed : (pc address : ℕ) → Bool) (p : Program) (image : Fields) (bytes : List ℕ) (actions : List Action) (picks : List ℕ) (y : Layout) (first : World) where
-  -- At a bound, with so much paid and asked for, a call of main comes to what the program means, and it returns a value where it returns; and after the
-  -- three instructions of the start stub, the run does what that call does.
+  -- At a bound, with so much paid and asked for, a call of main comes to what the program means with the actions, and it returns a value where it returns;
+  -- and after the three instructions of the start stub, the run, also while commits are made, does what that call does.
   pub record CallsMain (budget far k : ℕ) : Type 0 where
     pub call : Call
-    pub means : IsExecution (mean p bytes [] k) (execution_of first call.cost call.end)
+    pub means : IsExecution (mean p bytes actions k) (execution_of first call.cost call.end)
     pub reached : IsReached first call.end
     pub returns : (w : World) → call.end ≡ Returned None w → ⊥
     pub follows : (spare : ℕ) → 3 + (spare + main_cost + call.cost) ≤ budget → far ≤ 3 + k →
-        FollowsCall access y (machine_of attributed closed image (bytes_to_come bytes) actions picks) budget far spare k 3 return_address call.end
+        FollowsCall access y (watched_machine attributed closed image (bytes_to_come bytes) actions picks) budget far spare k 3 return_address call.end
 
 -- The run calls main at every bound, whatever is paid and asked for, from a world that has the input.
 pub record RunsMain (attributed : List ℕ) (closed : (pc address : ℕ) → Bool) (p : Program) (image : Fields) (bytes : List ℕ) (actions : List Action) (picks : List ℕ) (y : Layout) : Type 0 where
