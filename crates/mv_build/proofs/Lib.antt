@@ -1,7 +1,6 @@
 pub mod Lists
 pub mod Tabled
 pub mod Leading
-pub mod Running
 pub mod Limits
 pub mod Whole
 pub mod Verdicts

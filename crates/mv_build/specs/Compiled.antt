@@ -1,5 +1,5 @@
 -- What the steps from a program to its image give.
-use Rattle.std.specs.Prelude.{◌≡◌, ◌<◌, ◌≤◌, ◌^◌, List, [], length, All}
+use Rattle.std.specs.Prelude.{◌≡◌, ◌≤◌, List, [], length, All}
 use Rattle.mv_ast.specs.declared.program.Program.{Program}
 use Rattle.mv_ir.specs.declared.body.Body.{Body}
 use Rattle.mv_isa.specs.declared.labelled.Labelled.{Labelled}
@@ -16,6 +16,7 @@ use Rattle.mv_parts.specs.Counts.{HaveFewLabels}
 use Rattle.mv_parts.specs.Parts.{AreCodesOf, ArePartFunctions, AreTables}
 use Rattle.mv_parts.specs.Switches.{part_switches}
 use Rattle.mv_selected_bodies.specs.SelectedBodies.{HasWords}
+use Rattle.mv_image.specs.Faults.{Rules}
 use Rattle.mv_image.specs.Spelling.{Fields}
 use Rattle.mv_build.specs.declared.built.Built.{Built}
 use Rattle.mv_build.specs.declared.code.Coded.{Coded}
@@ -63,10 +64,10 @@ pub record IsWithinLimits (p : Program) (parts : Parts) : Type 0 where
   pub data_fits : data_words p ≤ data_limit
   pub labels : HaveFewLabels parts
 
--- the image that is linked of some parts, whose data are words
+-- the image that is linked of some parts, which keeps the rules of images
 pub record IsLinkedOf (parts : Parts) (image : Fields) : Type 0 where
   pub linked : IsLinked parts image
-  pub words : All (λ w. w < 2 ^ 32) image.globals
+  pub rules : Rules image
 
 -- where the data are few enough, and there are numbers for all labels
 pub record IsLinkedTo (p : Program) (parts : Parts) (image : Fields) : Type 0 where

@@ -1,6 +1,6 @@
 //! The image of a program's code.
 
-ghost use Rattle.std.specs.Prelude.{◌≡◌, ◌<◌, ◌^◌, length, All, IfErr, IfOk, OnOk};
+ghost use Rattle.std.specs.Prelude.{◌≡◌, length, IfErr, IfOk, OnOk};
 ghost use Rattle.mv_front.specs.Refusals.{counted};
 ghost use Rattle.mv_linker.specs.Linked.{AreParts};
 ghost use Rattle.mv_linker.specs.Tables.{FitTables};
@@ -103,15 +103,7 @@ fn linked(alloc: Global, parts: &Parts) -> Result<Image, BuildError>
     ensures err { IfErr result (λ e. OnRefusal e (IsLinkRefusal parts.now)) }
 {
     let image = link(alloc, parts)?;
-    are_words(image.globals().as_slice());
+    // An image keeps the rules of images, as each reading of its entry says.
+    let _entry = image.entry();
     Ok(image)
-}
-
-/// Words have 32 bits. The walk changes nothing; it is for the clause.
-fn are_words(words: &[u32])
-    ensures { All (λ w. w < 2 ^ 32) words.now }
-{
-    for word in words {
-        let _read = *word;
-    }
 }

@@ -6,8 +6,10 @@
 //!   what the function means at no greater cost; `variants` has for each attributed function its variants, and from each
 //!   assignment of its switches the tables lead to the one that means what the function means under it; its code stands
 //!   in the image, with its two inline words where its body has one of the five shapes. No two variants of a function are
-//!   equal, and the sites are exactly the slots. Where no function is attributed, and none commits, reverts or polls, the
-//!   image's run does what the program means (`Behaves`), on each input of bytes, whatever the fetches pick.
+//!   equal, and the sites are exactly the slots. The image's run does what the program means (`Behaves`), on each input
+//!   of bytes, with any actions of the operator that fit the program, and whatever the fetches pick, also while commits,
+//!   reverts and polls rewrite its text. No instruction of it that stands in a variant's words, or in an inline body at a
+//!   site, loads a switch of the variant's function (`LoadsOpenly`).
 //! - Each other answer has its cause, and each cause its answer unless memory is wanting: refusals 1 to 7 are those of
 //!   `mv_front`; 8 names the first function whose frame is above 2,032 bytes and its bytes, then 14 the sites above
 //!   16,384, then 13 the words of data above 262,144, then 9 the words of text above 131,072. A program that passes none
@@ -34,13 +36,11 @@ use crate::image::image_of;
 pub use built::Built;
 pub use error::BuildError;
 use mv_ast::program::Program;
-use mv_bound_bodies::{made_bodies_are_variants, rows_lead_to_variants};
 use mv_built_programs::built_programs_behave;
 use mv_checked_facts::programs_of_texts_have_table_facts;
 use mv_checked_programs::programs_of_texts_are_well_formed;
-use mv_first_data::data_law;
 use mv_front::{front, one_verdict};
-use mv_lowered_names::{lowered_names_are_there, renaming_keeps_names};
+use mv_image_tables::rows_lead_on;
 use mv_parts::parts_law;
 use std::alloc::Global;
 
@@ -79,11 +79,7 @@ pub fn compiled(alloc: Global, program: Program) -> Result<Built, BuildError>
     ensures err { IfErr result (λ e. OnRefusal e (spec.PassesLimit program)) }
 {
     parts_law();
-    rows_lead_to_variants();
-    made_bodies_are_variants();
-    lowered_names_are_there();
-    renaming_keeps_names();
-    data_law();
+    rows_lead_on();
     built_programs_behave();
     let Coded {
         generics,

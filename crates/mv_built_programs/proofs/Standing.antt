@@ -270,6 +270,7 @@ module _ (laws : Laws) (p : Program) (image : Fields) (formed : IsWellFormed p) 
           (ap (slice_get (attributed_functions p)) s.site.of ∙ attributed_at p.functions f g here is) v.body reads_open
 
     in_tables : IsInTables attributed image shut text_start (linked_lines parts) sizing y p numbers f g
+    unfolding variant
     in_tables =
         let fits = laws.bodies_are_functions y (setting_of numbers p) true [] is_generic.body generic_in_program in record {
           body = is_generic.body;

@@ -123,7 +123,7 @@ module _ (laws : Laws) (p : Program) (image : Fields) (formed : IsWellFormed p) 
     are = globals_are;
     sizes = size_counted;
     places = λ g lt. ap (λ (ns : List ℕ). 0x0010_0000 + 4 * sum (take g ns)) (sym (sizes_counted laws p image formed have_words built));
-    words = let words = (laws.typed image built.rules).0.words.globals in All-from_get_or (λ word. word < 2 ^ 32) image.globals 0 (λ i lt. words i lt);
+    words = let words = (laws.typed image built.rules).0.words.globals in All-from_get_or (λ word. word < 2 ^ 32) image.globals 0 (λ i lt. words i);
     room = let fits = built.linked.data_fits in
         let count : length image.globals ≡ length parts.globals = ap length data_is ∙ length-map parts.globals (linker.datum_word (address_of parts sizing)) in omega (arith, fits, count);
   }
