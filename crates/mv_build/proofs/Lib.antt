@@ -1,6 +1,3 @@
-pub mod Lists
-pub mod Tabled
-pub mod Leading
 pub mod Running
 pub mod Limits
 pub mod Whole

@@ -3,20 +3,18 @@ use Rattle.std.proofs.Common.{refl}
 use Rattle.mv_ast.specs.declared.program.Program.{Program}
 use Rattle.mv_image.specs.Spelling.{Fields}
 use Rattle.mv_lowered_names.specs.Laws.{FunctionsAreThere, OnlyInputAndOutput, RenamingKeepsNames}
-use Rattle.mv_bound_bodies.specs.Meant.{MadeAreVariants}
-use Rattle.mv_bound_bodies.specs.Switches.{FunctionsAreLed}
 use Rattle.mv_first_data.specs.Laws.{WordsAreFirst}
 use Rattle.mv_built_programs.specs.Laws.{BuiltProgramsBehave}
 use Rattle.mv_linker.specs.declared.parts.Parts.{Parts}
 use Rattle.mv_parts.specs.Laws.{PartsCanBeLinked}
 use Rattle.mv_parts.specs.Parts.{ArePartsOf}
+use Rattle.mv_image_tables.specs.Laws.{RowsLeadToVariants}
 use Rattle.mv_build.specs.declared.code.Coded.{Coded}
 use Rattle.mv_build.specs.Compiled.{IsCode, IsLinkedTo, IsSound, parts_of}
 use Rattle.mv_build.specs.Images.{IsImageOf}
-use Rattle.mv_build.proofs.Leading.{leads}
 use Rattle.mv_build.proofs.Running.{behaves}
 
-module _ (can_be_linked : PartsCanBeLinked) (functions_led : FunctionsAreLed) (made : MadeAreVariants) (functions_there : FunctionsAreThere) (only_direct : OnlyInputAndOutput)
+module _ (can_be_linked : PartsCanBeLinked) (leads : RowsLeadToVariants) (functions_there : FunctionsAreThere) (only_direct : OnlyInputAndOutput)
     (same_names : RenamingKeepsNames) (words_first : WordsAreFirst) (behave : BuiltProgramsBehave) (p : Program) (sound : IsSound p) (c : Coded) (code : IsCode p c) where
   abbrev parts : Parts
   parts = parts_of p c.functions c.attributed
@@ -30,7 +28,7 @@ module _ (can_be_linked : PartsCanBeLinked) (functions_led : FunctionsAreLed) (m
         are_parts = are;
         linked = to.of.linked;
         leads = λ n f g variants number there table.
-            leads functions_led made p sound.facts c.generics c.variants parts are image to.of.linked n f g variants (record { number = number; there = there; table = table });
+            leads p c.generics c.variants parts are image to.of.linked n f g variants (record { number = number; there = there; table = table });
         behaves = λ unattributed never.
             behaves functions_there only_direct same_names words_first behave p sound unattributed never c.generics c.variants parts are code.words image to.of;
       }

@@ -34,12 +34,12 @@ use crate::image::image_of;
 pub use built::Built;
 pub use error::BuildError;
 use mv_ast::program::Program;
-use mv_bound_bodies::{made_bodies_are_variants, rows_lead_to_variants};
 use mv_built_programs::built_programs_behave;
 use mv_checked_facts::programs_of_texts_have_table_facts;
 use mv_checked_programs::programs_of_texts_are_well_formed;
 use mv_first_data::data_law;
 use mv_front::{front, one_verdict};
+use mv_image_tables::rows_lead_on;
 use mv_lowered_names::{lowered_names_are_there, renaming_keeps_names};
 use mv_parts::parts_law;
 use std::alloc::Global;
@@ -79,8 +79,7 @@ pub fn compiled(alloc: Global, program: Program) -> Result<Built, BuildError>
     ensures err { IfErr result (λ e. OnRefusal e (spec.PassesLimit program)) }
 {
     parts_law();
-    rows_lead_to_variants();
-    made_bodies_are_variants();
+    rows_lead_on();
     lowered_names_are_there();
     renaming_keeps_names();
     data_law();

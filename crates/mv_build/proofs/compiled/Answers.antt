@@ -10,7 +10,7 @@ pub returns-clause-ok : goal.returns-clause-ok
 returns-clause-ok c =
     let names = c.lowered_names_are_there.ensures in record {
       program = refl;
-      image = image_is c.parts_law.ensures.parts c.rows_lead_to_variants.ensures.functions c.made_bodies_are_variants.ensures.all names.functions names.direct
+      image = image_is c.parts_law.ensures.parts c.rows_lead_on.ensures.leads names.functions names.direct
           c.renaming_keeps_names.ensures c.data_law.ensures.words c.built_programs_behave.ensures c.args.program c.requires c.in_ok-generics.field-0 c.in_ok-generics.ensures.ok
           c.in_ok-image.image c.in_ok-image.ensures.ok;
     }

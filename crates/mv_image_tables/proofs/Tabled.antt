@@ -22,7 +22,7 @@ use Rattle.mv_linker.specs.declared.parts.Parts.{Parts}
 use Rattle.mv_linker.specs.declared.parts.PartFunction.{PartFunction}
 use Rattle.mv_linker.specs.declared.parts.PartVariant.{PartVariant}
 use Rattle.mv_linker.specs.Linked.{function_variants, linked_lines}
-use Rattle.mv_linker.specs.Tables.{switch_row, function_row, variant_rows}
+use Rattle.mv_linker.specs.Tables.{switch_row, function_row, variant_rows, FitsPartFunction}
 use Rattle.mv_linker.specs.Tables as linker
 use Rattle.mv_linker.specs.Outcome.{image_with, IsLinked}
 use Rattle.mv_variants.specs.declared.variant.Variant.{Variant}
@@ -31,9 +31,10 @@ use Rattle.mv_variants.specs.Variants.{guards_of}
 use Rattle.mv_parts.specs.Numbers.{attributed_numbers}
 use Rattle.mv_parts.specs.Parts.{ArePartsOf, ArePartVariants, IsPartFunction}
 use Rattle.mv_parts.specs.Switches.{part_switch, part_switches}
-use Rattle.mv_parts.proofs.Lists.{map_at, some_at}
+use Rattle.mv_parts.proofs.Lists.{map_at, one_of_all, some_at}
 use Rattle.mv_parts.proofs.Numbers.{attributed_at}
-use Rattle.mv_build.proofs.Lists.{map_same}
+use Rattle.mv_image_tables.specs.Rows.{IsNth}
+use Rattle.mv_image_tables.proofs.Lists.{map_same}
 
 -- ---- the guard rows of variants that are linked
 
@@ -90,20 +91,27 @@ kinds_there p image rows (s ∷ switches) below = (one, kinds_there p image rows
 -- ---- of a program
 
 module _ (p : Program) (bodies : List Body) (tables : List (List Variant)) (parts : Parts) (are : ArePartsOf p bodies tables parts) where
-  pub record IsNth (n f : ℕ) (g : Function) (variants : List Variant) : Type 0 where
-    pub number : slice_get (attributed_numbers p) n ≡ Some f
-    pub there : slice_get p.functions f ≡ Some g
-    pub table : slice_get tables n ≡ Some variants
-
-  part_count : length parts.attributed ≡ length (attributed_numbers p)
+  pub part_count : length parts.attributed ≡ length (attributed_numbers p)
   part_count = sym (length-map parts.attributed (λ (a : PartFunction). a.function)) ∙ ap length are.codes.variants.numbers
 
-  part_at : (n f : ℕ) (g : Function) (variants : List Variant) → IsNth n f g variants → (a : PartFunction) → slice_get parts.attributed n ≡ Some a → IsPartFunction g f variants a
+  pub part_there : (n f : ℕ) → slice_get (attributed_numbers p) n ≡ Some f → (a : PartFunction) × (slice_get parts.attributed n ≡ Some a)
+  part_there n f number = let within = slice_get_within (attributed_numbers p) n f number in some_at parts.attributed n (omega (arith, part_count, within))
+
+  pub part_at : (n f : ℕ) (g : Function) (variants : List Variant) → IsNth p tables n f g variants → (a : PartFunction) → slice_get parts.attributed n ≡ Some a → IsPartFunction g f variants a
   part_at n f g variants nth a is = are.codes.variants.each n f g variants a nth.number nth.there nth.table is
 
   same_guards : (variants : List Variant) (vs : List PartVariant) → ArePartVariants variants vs → variant_guards vs ≡ guards_of variants
   same_guards variants vs h =
       map_same (λ (v : PartVariant). v.guards) (λ (v : Variant). v.guards) vs variants h.one_each (λ j part v is there. (h.each j v part there is).guards)
+
+  -- its switches are there
+  pub switches_there : (n f : ℕ) (g : Function) (variants : List Variant) → IsNth p tables n f g variants → (a : PartFunction) → slice_get parts.attributed n ≡ Some a →
+      All (λ s. s < length p.switches) g.switches
+  switches_there n f g variants nth a is =
+      let fit = one_of_all (FitsPartFunction parts) parts.attributed are.fit.functions n a is in
+      let count : length parts.switches ≡ length p.switches = ap length are.switches ∙ length-map p.switches (part_switch p) in
+      subst (λ (ss : List ℕ). All (λ s. s < length p.switches) ss) (part_at n f g variants nth a is).switches
+      (subst (λ m. All (λ s. s < m) a.switches) count fit.switches)
 
   number_at : (n : ℕ) (a : PartFunction) → slice_get parts.attributed n ≡ Some a → slice_get (attributed_numbers p) n ≡ Some a.function
   number_at n a is =
@@ -123,7 +131,7 @@ module _ (p : Program) (bodies : List Body) (tables : List (List Variant)) (part
   groups_are = map_same (λ (a : PartFunction). variant_guards a.variants) guards_of parts.attributed tables (part_count ∙ sym are.codes.are_tables.one_each) one_group
 
   module _ (image : Fields) (linked : IsLinked parts image) where
-    abbrev entry : ℕ → ℕ
+    abbrev pub entry : ℕ → ℕ
     entry = label_address text_start (linked_lines parts) linked.sizing
 
     abbrev at : ℕ → ℕ
@@ -135,7 +143,7 @@ module _ (p : Program) (bodies : List Body) (tables : List (List Variant)) (part
         let of_image = subst (λ (i : Fields). HasTables i (linked_groups parts.attributed)) (sym linked.image_is) own in
         subst (λ (gs : List (List (List GuardRow))). HasTables image gs) groups_are of_image
 
-    switch_rows : image.switches ≡ map switch_row (part_switches p)
+    pub switch_rows : image.switches ≡ map switch_row (part_switches p)
     switch_rows = ap (λ (i : Fields). i.switches) linked.image_is ∙ ap (map switch_row) are.switches
 
     -- the row of an attributed function, which names its switches
@@ -144,15 +152,13 @@ module _ (p : Program) (bodies : List Body) (tables : List (List Variant)) (part
       pub there : slice_get image.functions n ≡ Some row
       pub switches : HasSwitches image (switch_kind p) g row
 
-    part_there : (n f : ℕ) → slice_get (attributed_numbers p) n ≡ Some f → (a : PartFunction) × (slice_get parts.attributed n ≡ Some a)
-    part_there n f number = let within = slice_get_within (attributed_numbers p) n f number in some_at parts.attributed n (omega (arith, part_count, within))
-
-    pub own_row : (n f : ℕ) (g : Function) (variants : List Variant) → IsNth n f g variants → All (λ s. s < length p.switches) g.switches → HasOwnRow n g
-    own_row n f g variants nth below =
+    pub own_row : (n f : ℕ) (g : Function) (variants : List Variant) → IsNth p tables n f g variants → HasOwnRow n g
+    own_row n f g variants nth =
         let found = part_there n f nth.number in
         let a = found.0 in
         let part = part_at n f g variants nth a found.1 in
-        let functions = ap (λ (i : Fields). i.functions) linked.image_is in record {
+        let functions = ap (λ (i : Fields). i.functions) linked.image_is in
+        let below = switches_there n f g variants nth a found.1 in record {
           row = function_row entry a;
           there = subst (λ (rows : List FunctionRow). slice_get rows n ≡ Some (function_row entry a)) (sym functions) (map_at (function_row entry) parts.attributed n a found.1);
           switches = record {

@@ -1,12 +1,10 @@
 -- The rows of a program's image lead to the variants that mean what the functions mean.
-use Rattle.std.proofs.Common.{◌≡◌, ℕ, ◌<◌, true, List, Some, length, map, slice_get, All, sym, ap, ◌∙◌, subst, arith}
+use Rattle.std.proofs.Common.{◌≡◌, ℕ, List, Some, length, map, slice_get, sym, ap, ◌∙◌, subst, arith}
 use Rattle.std.specs.List.{zip}
 use Rattle.std.proofs.lemmas.List.{length-map}
 use Rattle.mv_ast.specs.declared.program.Program.{Program}
 use Rattle.mv_ast.specs.declared.program.Function.{Function}
-use Rattle.mv_ast.specs.Plans.{attributed_functions, attributed_before}
 use Rattle.mv_descriptors.specs.declared.rows.GuardRow.{GuardRow}
-use Rattle.mv_fit_worlds.proofs.Functions.{attributed_at}
 use Rattle.mv_image.specs.Spelling.{Fields}
 use Rattle.mv_ir.specs.declared.body.Body.{Body}
 use Rattle.mv_ir.specs.Combinations.{AllApart}
@@ -15,17 +13,16 @@ use Rattle.mv_bound_bodies.specs.Led.{IsLed}
 use Rattle.mv_bound_bodies.specs.Meant.{IsVariantOf, MadeAreVariants}
 use Rattle.mv_bound_bodies.specs.Switches.{LeadsFunction, FunctionsAreLed}
 use Rattle.mv_bound_bodies.specs.Rows as merged
-use Rattle.mv_source_facts.specs.Facts.{HasTableFacts, IsTableFunction}
 use Rattle.mv_linker.specs.declared.parts.Parts.{Parts}
 use Rattle.mv_linker.specs.Outcome.{IsLinked}
 use Rattle.mv_variants.specs.declared.variant.Variant.{Variant}
 use Rattle.mv_variants.specs.Domains.{switch_kind}
 use Rattle.mv_variants.specs.Variants.{AreVariants, bodies_of, guards_of}
 use Rattle.mv_parts.specs.Parts.{ArePartsOf}
-use Rattle.mv_build.specs.Images.{IsLedTo, LeadsToVariants}
-use Rattle.mv_parts.proofs.Lists.{map_at, one_of_all, some_at, some_same}
-use Rattle.mv_parts.proofs.Numbers as numbers
-use Rattle.mv_build.proofs.Tabled.{IsNth, groups, has_tables, own_row}
+use Rattle.mv_image_tables.specs.Leads.{IsLedTo, LeadsToVariants}
+use Rattle.mv_image_tables.specs.Rows.{IsNth}
+use Rattle.mv_parts.proofs.Lists.{map_at, some_at, some_same}
+use Rattle.mv_image_tables.proofs.Tabled.{groups, has_tables, own_row}
 
 -- one body of a function's variants is that of one of them
 module _ (p : Program) (g : Function) (image : Fields) (variants : List Variant) (n : ℕ) (bodies : List Body) (are : bodies_of variants ≡ bodies) (made : MadeAreVariants) where
@@ -45,17 +42,11 @@ module _ (p : Program) (g : Function) (image : Fields) (variants : List Variant)
             (made (zip (lower_function p g).switches vs) (lower_function p g) led.result led.made);
       }
 
-module _ (functions_led : FunctionsAreLed) (made : MadeAreVariants) (p : Program) (facts : HasTableFacts p) (bodies : List Body) (tables : List (List Variant)) (parts : Parts)
+module _ (functions_led : FunctionsAreLed) (made : MadeAreVariants) (p : Program) (bodies : List Body) (tables : List (List Variant)) (parts : Parts)
     (are : ArePartsOf p bodies tables parts) (image : Fields) (linked : IsLinked parts image) where
-  -- an attributed function's switches are there
-  switches_there : (f : ℕ) (g : Function) → slice_get p.functions f ≡ Some g → g.attributed ≡ true → All (λ s. s < length p.switches) g.switches
-  switches_there f g there is =
-      (one_of_all (IsTableFunction p) (attributed_functions p) facts.functions (attributed_before p.functions f) g (attributed_at p.functions f g there is)).there
-
-  leads_with : (n f : ℕ) (g : Function) (variants : List Variant) → IsNth p bodies tables parts are n f g variants → g.attributed ≡ true → AreVariants p g variants →
-      LeadsToVariants p g image variants n
-  leads_with n f g variants nth is v =
-      let own = own_row p bodies tables parts are image linked n f g variants nth (switches_there f g nth.there is) in
+  leads_with : (n f : ℕ) (g : Function) (variants : List Variant) → IsNth p tables n f g variants → AreVariants p g variants → LeadsToVariants p g image variants n
+  leads_with n f g variants nth v =
+      let own = own_row p bodies tables parts are image linked n f g variants nth in
       let table : slice_get (groups p bodies tables parts are) n ≡ Some (merged.groups v.merged) =
       subst (λ (gs : List (List GuardRow)). slice_get (map guards_of tables) n ≡ Some gs) v.grouped.guards (map_at guards_of tables n variants nth.table) in
       let led : LeadsFunction p g image v.merged.bodies n =
@@ -66,8 +57,5 @@ module _ (functions_led : FunctionsAreLed) (made : MadeAreVariants) (p : Program
         apart = subst AllApart (sym v.grouped.bodies) v.is_merged.apart;
       }
 
-  pub leads : (n f : ℕ) (g : Function) (variants : List Variant) → IsNth p bodies tables parts are n f g variants → LeadsToVariants p g image variants n
-  leads n f g variants nth =
-      let h = numbers.attributed_at p n f nth.number in
-      let same = some_same h.function g (sym h.there ∙ nth.there) in
-      leads_with n f g variants nth (ap (λ (x : Function). x.attributed) (sym same) ∙ h.attributed) (are.codes.are_tables.each n f variants nth.number nth.table g nth.there)
+  pub leads : (n f : ℕ) (g : Function) (variants : List Variant) → IsNth p tables n f g variants → LeadsToVariants p g image variants n
+  leads n f g variants nth = leads_with n f g variants nth (are.codes.are_tables.each n f variants nth.number nth.table g nth.there)

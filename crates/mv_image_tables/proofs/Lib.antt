@@ -1,0 +1,5 @@
+pub mod Lists
+pub mod Tabled
+pub mod Leading
+pub mod Rows
+pub mod Images
