@@ -1,3 +1,4 @@
+pub mod Running
 pub mod Limits
 pub mod Whole
 pub mod Verdicts

@@ -1,12 +1,20 @@
 -- The tables of the image that is linked of a program have what its orders and polls ask for.
-use Rattle.std.proofs.Common.{◌≡◌, ℕ, ◌+◌, ◌*◌, ◌<◌, ◌≤◌, Bool, true, false, ◌&&◌, ◌||◌, cond, nat_lt, List, Some, is_some, length, map, take, replicate, slice_get, All, refl, sym, ap, ap₂, ◌∙◌, subst, arith}
+use Rattle.std.proofs.Common.{◌≡◌, ℕ, ◌+◌, ◌*◌, ◌<◌, ◌≤◌, Bool, true, false, ◌&&◌, ◌||◌, cond, nat_lt, List, Option, Some, None, option_map, is_some, length, map, take, replicate, slice_get, All, refl, sym, ap, ap₂, ◌∙◌, subst, arith}
 use Rattle.std.specs.Prelude.{sum}
 use Rattle.std.proofs.lemmas.List.{length-map}
-use Rattle.std.proofs.lemmas.Option.{slice_get_within}
+use Rattle.std.proofs.lemmas.Option.{slice_get_within, slice_get-map}
+use Rattle.mv_num.specs.Kinds.{kind_number, is_value}
 use Rattle.mv_ast.specs.declared.program.Program.{Program}
 use Rattle.mv_ast.specs.declared.program.Function.{Function}
 use Rattle.mv_ast.specs.declared.program.Switch.{Switch}
 use Rattle.mv_ast.specs.declared.program.Known.TheVariants.{Plan}
+use Rattle.mv_ast.specs.declared.program.CType.{CType}
+use Rattle.mv_ast.specs.declared.program.CType.TheVariants.{Void, Scalar, Pointer}
+use Rattle.mv_ast.specs.declared.program.Global.{Global}
+use Rattle.mv_ast.specs.declared.world.Action.{Action}
+use Rattle.mv_ast.specs.declared.world.Action.TheVariants.{Skip, Flip}
+use Rattle.mv_ast.specs.Actions.{is_value_of, is_global_value, is_switch_value}
+use Rattle.mv_ast.specs.Actions as source
 use Rattle.mv_ast.specs.Counts as counts
 use Rattle.mv_ast.specs.Counts.{is_attributed, words_of_size}
 use Rattle.mv_ast.specs.Plans.{attributed_before, attributed_functions, free}
@@ -20,16 +28,19 @@ use Rattle.mv_lowered_programs.specs.Named.{known_is_there}
 use Rattle.mv_lowered_programs.specs.WellFormed.{IsWellFormed, IsWellFormedSwitch}
 use Rattle.mv_patch.specs.Orders.{is_known_order}
 use Rattle.mv_patch.specs.Tables.{patchable}
+use Rattle.mv_machine.specs.Actions as machine
+use Rattle.mv_machine.specs.Actions.{is_row_value}
 use Rattle.mv_call_code.specs.Convention.{Layout}
 use Rattle.mv_isa.specs.Code.{address, text_start}
 use Rattle.mv_linker.specs.declared.parts.Parts.{Parts}
 use Rattle.mv_linker.specs.Linked.{linked_lines}
 use Rattle.mv_linker.specs.Outcome.{IsLinked}
-use Rattle.mv_linker.specs.Tables.{data_start, switch_row, function_row}
+use Rattle.mv_linker.specs.Tables.{data_start, switch_row, function_row, FitsPartSwitch}
 use Rattle.mv_linker.specs.Tables as linker
 use Rattle.mv_linker.proofs.Sited.{site_length, slots_of_codes}
 use Rattle.mv_first_data.specs.FirstData.{global_sizes}
 use Rattle.mv_variants.specs.declared.variant.Variant.{Variant}
+use Rattle.mv_variants.specs.Domains.{integer_kind, kind_or_int}
 use Rattle.mv_parts.specs.Laws.{PartsAreCounted}
 use Rattle.mv_parts.specs.Numbers.{attributed_numbers}
 use Rattle.mv_parts.specs.Parts.{ArePartsOf}
@@ -76,6 +87,14 @@ same_orders p image functions switches code index is =
     let same = ap₂ (is_counted code index) functions switches in
     or_else (nat_lt code 2) (is_counted code index (length image.functions) (length image.switches)) (ap (cond (nat_lt code 2) true) same ∙ is)
 
+-- ---- values of switches
+
+-- a type that has a value is an integer type
+of_integer : (t : CType) (w v : ℕ) → is_value_of t w ≡ true → is_value (kind_number (integer_kind t)) v ≡ is_value_of t v
+of_integer Void w v e = absurd (let bad : ⊥ = cc in bad)
+of_integer (Scalar kind) w v e = refl
+of_integer (Pointer signature) w v e = absurd (let bad : ⊥ = cc in bad)
+
 -- ---- of a program
 
 module _ (leads : RowsLeadToVariants) (counted : PartsAreCounted) (p : Program) (formed : IsWellFormed p) (bodies : List Body) (tables : List (List Variant)) (parts : Parts)
@@ -119,6 +138,26 @@ module _ (leads : RowsLeadToVariants) (counted : PartsAreCounted) (p : Program) 
   one_word n s at =
       let h = one_of_all (IsWellFormedSwitch p) p.switches formed.switches n s at in ap words_of_global h.there ∙ ap words_of_size h.scalar
 
+  switch_fits : (s : ℕ) (x : Switch) → slice_get p.switches s ≡ Some x → FitsPartSwitch (length parts.globals) (part_switch p x)
+  switch_fits s x at =
+      one_of_all (FitsPartSwitch (length parts.globals)) (part_switches p) (subst (All (FitsPartSwitch (length parts.globals))) are.switches are.fit.switches) s (part_switch p x)
+      (map_at (part_switch p) p.switches s x at)
+
+  same_values : (s v : ℕ) (o : Option Switch) → slice_get p.switches s ≡ o → is_row_value (option_map switch_row (option_map (part_switch p) o)) v ≡ is_switch_value p o v
+  same_values s v None at = refl
+  same_values s v (Some x) at =
+      let h = one_of_all (IsWellFormedSwitch p) p.switches formed.switches s x at in
+      let some = (switch_fits s x at).some in
+      let one = some_at x.values 0 (omega (arith, some)) in
+      let is = one_of_all (λ w. is_value_of h.global.ctype w ≡ true) x.values h.values 0 one.0 one.1 in
+      subst (λ (o : Option Global). is_value (kind_number (kind_or_int o)) v ≡ is_global_value o v) (sym h.there) (of_integer h.global.ctype one.0 v is)
+
+  same_actions : (action : Action) → machine.fits image.switches action ≡ source.fits p action
+  same_actions Skip = refl
+  same_actions (Flip s v) =
+      let row = ap (λ (all : List SwitchRow). slice_get all s) rows ∙ slice_get-map switch_row (part_switches p) s ∙ ap (option_map switch_row) (slice_get-map (part_switch p) p.switches s) in
+      ap (λ (o : Option SwitchRow). is_row_value o v) row ∙ same_values s v (slice_get p.switches s) refl
+
   leads_at : (n : ℕ) (g : Function) (one : IsOne n g) → LeadsToVariants p g image one.variants n
   leads_at n g one = leads p bodies tables parts are image linked n one.f g one.variants one.nth
 
@@ -157,5 +196,6 @@ module _ (leads : RowsLeadToVariants) (counted : PartsAreCounted) (p : Program) 
     tabled = tabled;
     places = few_places;
     orders = same_orders p image functions_count switches_count;
+    fits = same_actions;
     bindings = λ numbers bytes actions. same_for_all free (attributed_functions p) ∙ ap (λ n. replicate n free) (sym functions_count);
   }

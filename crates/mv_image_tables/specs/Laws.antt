@@ -4,6 +4,7 @@ use Rattle.mv_ast.specs.declared.program.Program.{Program}
 use Rattle.mv_ast.specs.declared.program.Function.{Function}
 use Rattle.mv_ast.specs.declared.program.Known.TheVariants.{Plan}
 use Rattle.mv_ast.specs.declared.world.Action.{Action}
+use Rattle.mv_ast.specs.Actions as source
 use Rattle.mv_ast.specs.Counts as counts
 use Rattle.mv_ast.specs.Plans.{attributed_before}
 use Rattle.mv_ast.specs.Starts.{first_world_under}
@@ -14,6 +15,7 @@ use Rattle.mv_lowered_programs.specs.WellFormed.{IsWellFormed}
 use Rattle.mv_image.specs.Spelling.{Fields}
 use Rattle.mv_patch.specs.Orders.{is_known_order, first_bindings}
 use Rattle.mv_patch.specs.Tables.{patchable}
+use Rattle.mv_machine.specs.Actions as machine
 use Rattle.mv_call_code.specs.Convention.{Layout}
 use Rattle.mv_linker.specs.declared.parts.Parts.{Parts}
 use Rattle.mv_linker.specs.Outcome.{IsLinked}
@@ -49,12 +51,13 @@ VariantsHaveRows =
 -- ---- the whole
 
 -- Tables have of a program what serves its orders and polls: its switches and attributed functions in order; rows that lead from assignments and from no other
--- words; no more words that may be patched than are counted of the program; each order that is there is one that a machine knows; and the program and the
--- machine start with the same bindings.
+-- words; no more words that may be patched than are counted of the program; each order that is there is one that a machine knows; the same actions fit; and the
+-- program and the machine start with the same bindings.
 pub record HaveTables (p : Program) (image : Fields) : Type 0 where
   pub tabled : (y : Layout) → ((x : ℕ) → y.place x ≡ data_start + 4 * sum (take x (global_sizes p))) → ((x : ℕ) → y.size x ≡ global_words p x) → IsTabled p y image
   pub places : patchable image ≤ counts.patchable p
   pub orders : (code index : ℕ) → known_is_there p (Plan code index) ≡ true → is_known_order image code index ≡ true
+  pub fits : (action : Action) → machine.fits image.switches action ≡ source.fits p action
   pub bindings : (numbers bytes : List ℕ) (actions : List Action) → (first_world_under p numbers bytes actions).bindings ≡ first_bindings image
 
 abbrev pub ImagesHaveTables : Type 0

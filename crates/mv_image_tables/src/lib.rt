@@ -4,8 +4,8 @@
 //!   what the function means under it (`LeadsToVariants`), and from no other words anywhere. The row of that variant has
 //!   the address of its code, and its inline body (`HasRowOf`).
 //! - `images_have_tables`: the rows of switches and functions stand in the program's order, each order that a program
-//!   may give is one that the machine knows, a plan patches no more places than are counted over the source, and the
-//!   program and the machine start with the same bindings.
+//!   may give is one that the machine knows, a plan patches no more places than are counted over the source, the same
+//!   actions fit, and the program and the machine start with the same bindings.
 //! - A crate of laws, without a test.
 #![tactic(auto)]
 
