@@ -1,4 +1,3 @@
-pub mod Running
 pub mod Limits
 pub mod Whole
 pub mod Verdicts

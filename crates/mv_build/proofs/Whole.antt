@@ -2,8 +2,7 @@
 use Rattle.std.proofs.Common.{refl}
 use Rattle.mv_ast.specs.declared.program.Program.{Program}
 use Rattle.mv_image.specs.Spelling.{Fields}
-use Rattle.mv_lowered_names.specs.Laws.{FunctionsAreThere, OnlyInputAndOutput, RenamingKeepsNames}
-use Rattle.mv_first_data.specs.Laws.{WordsAreFirst}
+use Rattle.mv_built_programs.specs.Built.{IsBuilt}
 use Rattle.mv_built_programs.specs.Laws.{BuiltProgramsBehave}
 use Rattle.mv_linker.specs.declared.parts.Parts.{Parts}
 use Rattle.mv_parts.specs.Laws.{PartsCanBeLinked}
@@ -12,23 +11,26 @@ use Rattle.mv_image_tables.specs.Laws.{RowsLeadToVariants}
 use Rattle.mv_build.specs.declared.code.Coded.{Coded}
 use Rattle.mv_build.specs.Compiled.{IsCode, IsLinkedTo, IsSound, parts_of}
 use Rattle.mv_build.specs.Images.{IsImageOf}
-use Rattle.mv_build.proofs.Running.{behaves}
 
-module _ (can_be_linked : PartsCanBeLinked) (leads : RowsLeadToVariants) (functions_there : FunctionsAreThere) (only_direct : OnlyInputAndOutput)
-    (same_names : RenamingKeepsNames) (words_first : WordsAreFirst) (behave : BuiltProgramsBehave) (p : Program) (sound : IsSound p) (c : Coded) (code : IsCode p c) where
+module _ (can_be_linked : PartsCanBeLinked) (leads : RowsLeadToVariants) (behave : BuiltProgramsBehave) (p : Program) (sound : IsSound p) (c : Coded) (code : IsCode p c) (image : Fields)
+    (to : IsLinkedTo p (parts_of p c.functions c.attributed) image) where
   abbrev parts : Parts
   parts = parts_of p c.functions c.attributed
 
-  pub image_is : (image : Fields) → IsLinkedTo p parts image → IsImageOf p c.generics c.variants image
-  image_is image to =
-      let are : ArePartsOf p c.generics c.variants parts = can_be_linked p sound.formed sound.facts c.generics c.variants parts code.codes refl refl refl to.labels in record {
-        frames = code.frames;
-        data_fits = to.data_fits;
-        parts = parts;
-        are_parts = are;
-        linked = to.of.linked;
-        leads = λ n f g variants number there table.
-            leads p c.generics c.variants parts are image to.of.linked n f g variants (record { number = number; there = there; table = table });
-        behaves = λ unattributed never.
-            behaves functions_there only_direct same_names words_first behave p sound unattributed never c.generics c.variants parts are code.words image to.of;
-      }
+  are : ArePartsOf p c.generics c.variants parts
+  are = can_be_linked p sound.formed sound.facts c.generics c.variants parts code.codes refl refl refl to.labels
+
+  abbrev built : IsBuilt p image
+  built = record { bodies = c.generics; tables = c.variants; parts = parts; are = are; constants = code.words; linked = to.of.linked; rules = to.of.rules }
+
+  pub image_is : IsImageOf p c.generics c.variants image
+  image_is = record {
+    frames = code.frames;
+    data_fits = to.data_fits;
+    parts = parts;
+    are_parts = are;
+    linked = to.of.linked;
+    leads = λ n f g variants number there table. leads p c.generics c.variants parts are image to.of.linked n f g variants (record { number = number; there = there; table = table });
+    behaves = λ bytes actions picks are_bytes of_words fit. (behave p image sound.formed sound.facts.words built bytes actions picks are_bytes of_words fit).0;
+    loads = λ bytes actions picks are_bytes of_words fit. (behave p image sound.formed sound.facts.words built bytes actions picks are_bytes of_words fit).1;
+  }

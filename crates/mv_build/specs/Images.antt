@@ -1,9 +1,10 @@
 -- What the image of a program is.
-use Rattle.std.specs.Prelude.{ℕ, ◌≡◌, ◌≤◌, List, length, Some, slice_get}
+use Rattle.std.specs.Prelude.{ℕ, ◌≡◌, ◌≤◌, ◌<◌, ◌^◌, IsTrue, List, length, Some, slice_get, All}
 use Rattle.mv_ast.specs.declared.program.Program.{Program}
 use Rattle.mv_ast.specs.declared.program.Function.{Function}
+use Rattle.mv_ast.specs.declared.world.Action.{Action}
+use Rattle.mv_ast.specs.Actions.{fits}
 use Rattle.mv_ir.specs.declared.body.Body.{Body}
-use Rattle.mv_source_calls.specs.Bindings.{NeverRebinds}
 use Rattle.mv_variants.specs.declared.variant.Variant.{Variant}
 use Rattle.mv_image.specs.Spelling.{Fields}
 use Rattle.mv_linker.specs.declared.parts.Parts.{Parts}
@@ -12,9 +13,17 @@ use Rattle.mv_first_data.specs.FirstData.{data_words}
 use Rattle.mv_parts.specs.Codes.{FramesFit}
 use Rattle.mv_parts.specs.Numbers.{attributed_numbers}
 use Rattle.mv_parts.specs.Parts.{ArePartsOf}
+use Rattle.mv_commit_runs.specs.Tabled.{IsOfWord}
+use Rattle.mv_image_runs.specs.Behaves.{BehavesAlways, LoadsWhatIsOpen}
 use Rattle.mv_image_tables.specs.Leads.{LeadsToVariants}
-use Rattle.mv_image_runs.specs.Behaves.{BehavesAlways}
-use Rattle.mv_built_programs.specs.Built.{IsUnattributed}
+use Rattle.mv_built_programs.specs.Closed.{closed}
+
+-- On no input, with no actions whose values are words and that fit the program, and by no picks does an instruction load a data word that is closed to what
+-- stands at its place: of a global that the function doesn't read, or, in the words of a variant and in an inline body at a site, of a switch of its function.
+abbrev pub LoadsOpenly : Program → Parts → (sizing : List ℕ) → Fields → Type 0
+LoadsOpenly p parts sizing image =
+    (bytes : List ℕ) (actions : List Action) (picks : List ℕ) → All (λ b. b < 2 ^ 8) bytes → All IsOfWord actions → All (λ a. IsTrue (fits p a)) actions →
+    LoadsWhatIsOpen image (closed image parts sizing p) bytes actions picks
 
 -- The image of a program, of these bodies of its functions and these variants of its attributed ones: frames and data are within their limits; the image is
 -- linked of the code of the bodies and variants, of the first words of the globals, and of tables; the tables lead from each assignment of a function to

@@ -41,7 +41,6 @@ use mv_checked_facts::programs_of_texts_have_table_facts;
 use mv_checked_programs::programs_of_texts_are_well_formed;
 use mv_front::{front, one_verdict};
 use mv_image_tables::rows_lead_on;
-use mv_lowered_names::{lowered_names_are_there, renaming_keeps_names};
 use mv_parts::parts_law;
 use std::alloc::Global;
 
@@ -81,9 +80,6 @@ pub fn compiled(alloc: Global, program: Program) -> Result<Built, BuildError>
 {
     parts_law();
     rows_lead_on();
-    lowered_names_are_there();
-    renaming_keeps_names();
-    data_law();
     built_programs_behave();
     let Coded {
         generics,

@@ -7,10 +7,8 @@ image_of-requires-clause-coded c =
     let coded = c.in_ok-generics.field-0 in record { bodies = coded.generics; tables = coded.variants; codes = c.in_ok-generics.ensures.ok.codes }
 
 pub returns-clause-ok : goal.returns-clause-ok
-returns-clause-ok c =
-    let names = c.lowered_names_are_there.ensures in record {
-      program = refl;
-      image = image_is c.parts_law.ensures.parts c.rows_lead_on.ensures.leads names.functions names.direct
-          c.renaming_keeps_names.ensures c.data_law.ensures.words c.built_programs_behave.ensures c.args.program c.requires c.in_ok-generics.field-0 c.in_ok-generics.ensures.ok
-          c.in_ok-image.image c.in_ok-image.ensures.ok;
-    }
+returns-clause-ok c = record {
+  program = refl;
+  image = image_is c.parts_law.ensures.parts c.rows_lead_on.ensures.leads c.built_programs_behave.ensures c.args.program c.requires c.in_ok-generics.field-0 c.in_ok-generics.ensures.ok
+      c.in_ok-image.image c.in_ok-image.ensures.ok;
+}
