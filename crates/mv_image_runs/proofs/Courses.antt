@@ -14,7 +14,7 @@ use Rattle.mv_ir.specs.Programs as code
 use Rattle.mv_ir.specs.Programs.{Ending, executed, execution_of}
 use Rattle.mv_ir_ends.specs.Reached.{IsReached}
 use Rattle.mv_lowered_programs.specs.Laws.{IsExecution, ending_of}
-use Rattle.mv_machine.specs.Runs.{State, Stop, Going, Exit, Trap, bytes_to_come, choices_at, first as first_state, runs}
+use Rattle.mv_machine.specs.Runs.{State, Stop, Going, Exit, Trap, bytes_to_come, first as first_state, runs}
 use Rattle.mv_meaning.specs.declared.meant.End as meant
 use Rattle.mv_meaning.specs.declared.meant.End.TheVariants as source
 use Rattle.mv_meaning.specs.declared.meant.Meant.{Meant}
@@ -26,13 +26,12 @@ use Rattle.mv_call_code.specs.Convention.{Layout, FollowsCall}
 use Rattle.mv_machine_runs.specs.MachineRuns.{rest_of, spot_of, has_one_choice, opens, are_open, is_sound}
 use Rattle.mv_stub_runs.specs.Ends.{HasStopped}
 use Rattle.mv_stub_runs.specs.Stubs.{return_address}
-use Rattle.mv_text_between.specs.Between.{is_between}
 use Rattle.mv_text_between.specs.Laws.{BetweenIsTested, RoomsAreWhole}
 use Rattle.mv_commit_runs.specs.Ends.{EndsQuietly, WatchedExitIsRight, WatchedTrapIsRight}
 use Rattle.mv_commit_runs.specs.Laws.{QuietIsTested}
 use Rattle.mv_commit_runs.specs.Served.{SoundAt, QuietAt}
 use Rattle.mv_commit_runs.specs.Tells.{SoundTells, SoundPlacesTell}
-use Rattle.mv_commit_runs.specs.Watch.{texts_of, is_settled}
+use Rattle.mv_commit_runs.specs.Watch.{texts_of}
 use Rattle.mv_commit_runs.specs.Watched.{Watched, access, is_quiet, watched_machine}
 use Rattle.mv_commit_runs.proofs.Orders.{quiet_inside}
 use Rattle.mv_image_runs.specs.Behaves.{IsWithin, IsWhole, EndsRight, HasDone, IsTextSettled, IsTextChanging, commit_at, Behaves, word_loads, LoadsWhatIsOpen}

@@ -1,5 +1,5 @@
 -- An instruction that ends a run changes nothing but that, and no commit is under way behind it.
-use Rattle.std.proofs.Common.{◌≡◌, ℕ, zero, suc, add-one, ◌+◌, ◌-◌, ◌%◌, ◌<◌, Bool, true, false, cond, List, [], ◌∷◌, slice_get, slice_index, Option, Some, None, refl, sym, ap, ap₂, ◌∙◌, subst, arith}
+use Rattle.std.proofs.Common.{◌≡◌, ℕ, zero, suc, add-one, ◌+◌, ◌-◌, ◌%◌, ◌<◌, Bool, true, false, cond, List, slice_get, slice_index, Option, Some, None, refl, sym, ap, ap₂, ◌∙◌, subst, arith}
 use Rattle.std.specs.Prelude.{option_and_then}
 use Rattle.mv_ast.specs.declared.world.Binding.{Binding}
 use Rattle.mv_isa.specs.declared.instr.Instr.TheVariants.{Ecall}
@@ -100,7 +100,8 @@ commit_more first picks n = ap (commit_from first picks) (add-one n)
 stopped_sound : (closed : (pc address : ℕ) → Bool) (texts : List Binding → List ℕ) (under : Option (List Binding)) (s : State) (stop : Stop)
     → is_sound closed texts under (spot_of s) ≡ true → is_sound closed texts under (spot_of (stopped s stop)) ≡ true
 unfolding is_sound
-stopped_sound closed texts under s stop h = h
+stopped_sound closed texts None s stop h = h
+stopped_sound closed texts (Some old) s stop h = h
 
 -- A run goes on up to a time at which no commit is under way, and not behind it.
 module _ (first : State) (picks : List ℕ) (last : ℕ) (going : (runs_from first picks last).stop ≡ Going) (none : commit_from first picks last ≡ None)

@@ -1,5 +1,5 @@
 -- With a live frame calls for plans and polls change nothing; and with all functions free settled text is the image's.
-use Rattle.std.proofs.Common.{◌≡◌, ◌≢◌, ℕ, zero, suc, ◌%◌, ◌^◌, ◌-◌, Bool, true, false, cond, nat_eq, if◌then◌else◌, take, List, [], ◌∷◌, option_map, unwrap_or, Option, Some, None, refl, sym, ap, ◌∙◌, subst, arith}
+use Rattle.std.proofs.Common.{◌≡◌, ◌≢◌, ℕ, zero, suc, ◌^◌, ◌-◌, Bool, true, false, cond, nat_eq, if◌then◌else◌, take, List, [], ◌∷◌, option_map, unwrap_or, Option, Some, None, refl, sym, ap, ◌∙◌, subst}
 use Rattle.std.proofs.lemmas.Bool.{ne_eqb}
 use Rattle.std.proofs.lemmas.List.Elements.{All-head, All-tail}
 use Rattle.std.proofs.Math.Path.{fun_ext}
@@ -7,18 +7,15 @@ use Rattle.std.specs.List.{All}
 use Rattle.std.specs.Result.{result_ok}
 use Rattle.mv_ast.specs.declared.world.Binding.{Binding}
 use Rattle.mv_isa.specs.declared.instr.Cause.TheVariants as cause
-use Rattle.mv_isa.specs.declared.instr.Instr.TheVariants.{Ecall}
-use Rattle.mv_isa.specs.Execution.{Calls, reg}
+use Rattle.mv_isa.specs.Execution.{reg}
 use Rattle.mv_fetch.specs.Held.{Room, present, region_of, index_of, found, joined, store, with_word}
 use Rattle.mv_rv32.specs.Stepping.{access, with_held}
-use Rattle.mv_image.specs.Patched.{Bindings, all_free, text_of}
-use Rattle.mv_image.specs.Spelling.{Fields}
+use Rattle.mv_image.specs.Patched.{all_free, text_of}
 use Rattle.mv_image.proofs.PatchLaws.{free_text}
 use Rattle.mv_patch.specs.Orders.{is_known_order, plan_between, values_of}
 use Rattle.mv_machine.specs.Runs.{State, Stop, Going, Exit, Trap, Fault, Request, Exits, Reads, Writes, Traps, Plans, Polls, Unknown, request_of, argument, answered, stopped, live_frames, plan_area, stored_words, spelled_pairs, with_plan, refused, ordered, planned, acted, polled, environment_call, after, fetched_step, where_going, turn}
-use Rattle.mv_machine.specs.Commits.{opens, is_some_pair, fetched_instr, after_instr, where_it_goes, commit_after}
+use Rattle.mv_machine.specs.Commits.{opens, is_some_pair, fetched_instr, after_instr, where_it_goes}
 use Rattle.mv_commit_runs.proofs.Planned.{no_pairs}
-use Rattle.mv_image_runs.specs.Behaves.{IsTextSettled}
 use Rattle.mv_image_runs.specs.Unchanged.{IsForPlan, IsUnchanged, LiveFramesRefuse, FreeTextIsItsOwn}
 use Rattle.mv_image_runs.proofs.Stopping.{calls_where}
 
