@@ -1,5 +1,5 @@
 mod Rooms
-mod Reads
+mod ReadGlobals
 mod Places
 mod Facts
 mod Own

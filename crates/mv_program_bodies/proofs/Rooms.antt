@@ -39,7 +39,10 @@ module _ (y : Layout) where
 
   each_room : (is_named : ℕ → Bool) (from before : ℕ) (xs : List Global) → before + sum (map words_of xs) ≤ 262144 → HaveWords xs → Stand from before xs → All (IsRoom y) (rooms_from is_named from before xs)
   each_room is_named from before [] few some stand = All-nil (IsRoom y)
-  each_room is_named from before (x ∷ xs) few some stand = by (is_named from)
+  each_room is_named from before (x ∷ xs) few some stand =
+      by
+      (each_room is_named (suc from) (before + words_of x) xs (omega (arith, few, total)) (All-tail (λ (z : Global). 1 ≤ words_of_size z.size) x xs some) (next from before x xs stand))
+      (is_named from)
     where
       rest : List Room
       rest = rooms_from is_named (suc from) (before + words_of x) xs
@@ -65,13 +68,9 @@ module _ (y : Layout) where
           let sized : 0 < words_of x = omega (arith, one) in
           (address before (omega (arith, few, total)) ∙ sym here.place, sym here.words, sized)
 
-      later : All (IsRoom y) rest
-      later =
-          each_room is_named (suc from) (before + words_of x) xs (omega (arith, few, total)) (All-tail (λ (z : Global). 1 ≤ words_of_size z.size) x xs some) (next from before x xs stand)
-
-      by : (b : Bool) → All (IsRoom y) (cond b (first ∷ rest) rest)
-      by true = All-cons (IsRoom y) first rest is_room later
-      by false = later
+      by : All (IsRoom y) rest → (b : Bool) → All (IsRoom y) (cond b (first ∷ rest) rest)
+      by later true = All-cons (IsRoom y) first rest is_room later
+      by later false = later
 
 module _ (stand : RoomsStand) (p : Program) (y : Layout) (layout : IsLayoutOf p y) (some : HaveWords p.globals) (few : data_words p ≤ 262144) (is_named : ℕ → Bool) where
   stands : Stand y 0 0 p.globals

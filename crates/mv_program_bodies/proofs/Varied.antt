@@ -15,7 +15,7 @@ use Rattle.mv_lowering.specs.Functions.{lower_function}
 use Rattle.mv_flow_code.specs.Labels.{functions}
 use Rattle.mv_call_code.specs.Convention.{Layout}
 use Rattle.mv_selected_bodies.specs.SelectedBodies.{AreRooms, HasWords, IsInProgram, globals_read, knowns}
-use Rattle.mv_inline_bodies.specs.InlineOf.{encoded, inline_words}
+use Rattle.mv_inline_bodies.specs.InlineOf.{encoded}
 use Rattle.mv_merge.specs.declared.rows.Bound.{Bound}
 use Rattle.mv_bound_bodies.specs.Meant.{IsMadeUnder, IsVariantOf}
 use Rattle.mv_bound_bodies.specs.Names.{NamesNoMore}
@@ -37,7 +37,7 @@ use Rattle.mv_program_bodies.specs.ProgramBodies.{AreLaidOut, IsLinkedVariant, I
 use Rattle.mv_program_bodies.proofs.Facts.{VariantLaws}
 use Rattle.mv_program_bodies.proofs.Own.{functions_there, is_within, is_written, may_ask, of_program, rooms, words}
 use Rattle.mv_program_bodies.proofs.Places.{code_of_variant}
-use Rattle.mv_program_bodies.proofs.Reads.{among_all, not_found, reads_no_more}
+use Rattle.mv_program_bodies.proofs.ReadGlobals.{among_all, not_found, reads_no_more}
 
 contains_all : {A : Type 0} (P : A → Type 0) (xs ys : List A) → ((x : A) → Contains ys x → Contains xs x) → All P xs → All P ys
 contains_all P xs ys h all = All-weaker (Contains ys) P (λ x c. All-contains P xs x all (h x c)) ys (All-contains_itself ys)

@@ -1,5 +1,5 @@
 -- What a variant reads: no more than the function's lowered code, and none of its switches.
-use Rattle.std.proofs.Common.{◌≡◌, ℕ, Bool, true, false, cond, eqb, nat_eq, ◌||◌, List, [], ◌∷◌, ◌++◌, filter, Option, Some, None, All, Contains, refl, sym, ap, ◌∙◌, subst}
+use Rattle.std.proofs.Common.{◌≡◌, ℕ, Bool, true, false, cond, eqb, nat_eq, ◌||◌, List, [], ◌∷◌, filter, Some, None, All, Contains, refl, sym, ap, ◌∙◌, subst}
 use Rattle.std.specs.List.{zip}
 use Rattle.std.proofs.lemmas.Bool.{eq-eqb, eqb-true}
 use Rattle.std.proofs.lemmas.List.Elements.{All-nil, All-cons, All-head, All-tail, All-append, All-weaker, All-filter, All-contains, All-contains_itself, Contains-append_left, Contains-append_right}
@@ -16,11 +16,11 @@ use Rattle.mv_bound_bodies.specs.Meant.{IsMadeUnder}
 -- what holds of each element holds of what is among them
 pub among_all : (P : ℕ → Type 0) (xs : List ℕ) (x : ℕ) → All P xs → is_among x xs ≡ true → P x
 among_all P [] x all e = absurd (cc e)
-among_all P (k ∷ xs) x all e = by (nat_eq x k) refl e
+among_all P (k ∷ xs) x all e = by (among_all P xs x (All-tail P k xs all)) (nat_eq x k) refl e
   where
-    by : (b : Bool) → nat_eq x k ≡ b → (b || is_among x xs) ≡ true → P x
-    by true q h = subst P (sym (eqb-true x k q)) (All-head P k xs all)
-    by false q h = among_all P xs x (All-tail P k xs all) h
+    by : (is_among x xs ≡ true → P x) → (b : Bool) → nat_eq x k ≡ b → (b || is_among x xs) ≡ true → P x
+    by rest true q h = subst P (sym (eqb-true x k q)) (All-head P k xs all)
+    by rest false q h = rest h
 
 -- each element is among them
 all_among : (xs : List ℕ) → All (λ x. is_among x xs ≡ true) xs
@@ -37,12 +37,12 @@ all_among (k ∷ xs) =
 pub not_found : (globals values : List ℕ) (k : ℕ) → is_among k globals ≡ false → found (zip globals values) k ≡ None
 not_found [] values k e = refl
 not_found (s ∷ globals) [] k e = refl
-not_found (s ∷ globals) (v ∷ values) k e = by (nat_eq k s) (eqb s k) refl refl e
+not_found (s ∷ globals) (v ∷ values) k e = by (not_found globals values k) (nat_eq k s) (eqb s k) refl refl e
   where
-    by : (a b : Bool) → nat_eq k s ≡ a → eqb s k ≡ b → (a || is_among k globals) ≡ false → cond b (Some v) (found (zip globals values) k) ≡ None
-    by true b p q h = absurd (cc h)
-    by false true p q h = let one : false ≡ true = sym p ∙ eq-eqb k s (sym (eqb-true s k q)) in absurd (cc)
-    by false false p q h = not_found globals values k h
+    by : (is_among k globals ≡ false → found (zip globals values) k ≡ None) → (a b : Bool) → nat_eq k s ≡ a → eqb s k ≡ b → (a || is_among k globals) ≡ false → cond b (Some v) (found (zip globals values) k) ≡ None
+    by rest true b p q h = absurd (cc h)
+    by rest false true p q h = let one : false ≡ true = sym p ∙ eq-eqb k s (sym (eqb-true s k q)) in absurd (cc)
+    by rest false false p q h = rest h
 
 -- ---- what the passes leave
 
