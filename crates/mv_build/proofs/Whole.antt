@@ -7,12 +7,12 @@ use Rattle.mv_built_programs.specs.Laws.{BuiltProgramsBehave}
 use Rattle.mv_linker.specs.declared.parts.Parts.{Parts}
 use Rattle.mv_parts.specs.Laws.{PartsCanBeLinked}
 use Rattle.mv_parts.specs.Parts.{ArePartsOf}
-use Rattle.mv_image_tables.specs.Laws.{RowsLeadToVariants}
+use Rattle.mv_image_tables.specs.Laws.{ImagesHaveTables, RowsLeadToVariants}
 use Rattle.mv_build.specs.declared.code.Coded.{Coded}
 use Rattle.mv_build.specs.Compiled.{IsCode, IsLinkedTo, IsSound, parts_of}
 use Rattle.mv_build.specs.Images.{IsImageOf}
 
-module _ (can_be_linked : PartsCanBeLinked) (leads : RowsLeadToVariants) (behave : BuiltProgramsBehave) (p : Program) (sound : IsSound p) (c : Coded) (code : IsCode p c) (image : Fields)
+module _ (can_be_linked : PartsCanBeLinked) (leads : RowsLeadToVariants) (tabled : ImagesHaveTables) (behave : BuiltProgramsBehave) (p : Program) (sound : IsSound p) (c : Coded) (code : IsCode p c) (image : Fields)
     (to : IsLinkedTo p (parts_of p c.functions c.attributed) image) where
   abbrev parts : Parts
   parts = parts_of p c.functions c.attributed
@@ -33,4 +33,5 @@ module _ (can_be_linked : PartsCanBeLinked) (leads : RowsLeadToVariants) (behave
     leads = λ n f g variants number there table. leads p c.generics c.variants parts are image to.of.linked n f g variants (record { number = number; there = there; table = table });
     behaves = λ bytes actions picks are_bytes of_words fit. (behave p image sound.formed sound.facts.words built bytes actions picks are_bytes of_words fit).0;
     loads = λ bytes actions picks are_bytes of_words fit. (behave p image sound.formed sound.facts.words built bytes actions picks are_bytes of_words fit).1;
+    fits = (tabled p sound.formed c.generics c.variants parts are image to.of.linked).fits;
   }

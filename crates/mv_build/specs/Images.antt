@@ -3,7 +3,7 @@ use Rattle.std.specs.Prelude.{ℕ, ◌≡◌, ◌≤◌, ◌<◌, ◌^◌, IsTru
 use Rattle.mv_ast.specs.declared.program.Program.{Program}
 use Rattle.mv_ast.specs.declared.program.Function.{Function}
 use Rattle.mv_ast.specs.declared.world.Action.{Action}
-use Rattle.mv_ast.specs.Actions.{fits}
+use Rattle.mv_ast.specs.Actions as source
 use Rattle.mv_ir.specs.declared.body.Body.{Body}
 use Rattle.mv_variants.specs.declared.variant.Variant.{Variant}
 use Rattle.mv_image.specs.Spelling.{Fields}
@@ -14,6 +14,7 @@ use Rattle.mv_parts.specs.Codes.{FramesFit}
 use Rattle.mv_parts.specs.Numbers.{attributed_numbers}
 use Rattle.mv_parts.specs.Parts.{ArePartsOf}
 use Rattle.mv_commit_runs.specs.Tabled.{IsOfWord}
+use Rattle.mv_machine.specs.Actions as machine
 use Rattle.mv_image_runs.specs.Behaves.{BehavesAlways, LoadsWhatIsOpen}
 use Rattle.mv_image_tables.specs.Leads.{LeadsToVariants}
 use Rattle.mv_built_programs.specs.Closed.{closed}
@@ -22,13 +23,13 @@ use Rattle.mv_built_programs.specs.Closed.{closed}
 -- stands at its place: of a global that the function doesn't read, or, in the words of a variant and in an inline body at a site, of a switch of its function.
 abbrev pub LoadsOpenly : Program → Parts → (sizing : List ℕ) → Fields → Type 0
 LoadsOpenly p parts sizing image =
-    (bytes : List ℕ) (actions : List Action) (picks : List ℕ) → All (λ b. b < 2 ^ 8) bytes → All IsOfWord actions → All (λ a. IsTrue (fits p a)) actions →
+    (bytes : List ℕ) (actions : List Action) (picks : List ℕ) → All (λ b. b < 2 ^ 8) bytes → All IsOfWord actions → All (λ a. IsTrue (source.fits p a)) actions →
     LoadsWhatIsOpen image (closed image parts sizing p) bytes actions picks
 
 -- The image of a program, of these bodies of its functions and these variants of its attributed ones: frames and data are within their limits; the image is
 -- linked of the code of the bodies and variants, of the first words of the globals, and of tables; the tables lead from each assignment of a function to
 -- the variant that means what the function means under it. Its run does what the program means, on each input, with any actions that fit, also while commits
--- rewrite its text; and no instruction loads what is closed to its place.
+-- rewrite its text; no instruction loads what is closed to its place; and the same actions fit the image and the program.
 pub record IsImageOf (p : Program) (bodies : List Body) (tables : List (List Variant)) (image : Fields) : Type 0 where
   pub frames : FramesFit p (length p.functions)
   pub data_fits : data_words p ≤ data_limit
@@ -39,3 +40,4 @@ pub record IsImageOf (p : Program) (bodies : List Body) (tables : List (List Var
       slice_get tables n ≡ Some variants → LeadsToVariants p g image variants n
   pub behaves : BehavesAlways p image
   pub loads : LoadsOpenly p parts linked.sizing image
+  pub fits : (action : Action) → machine.fits image.switches action ≡ source.fits p action

@@ -40,7 +40,7 @@ use mv_built_programs::built_programs_behave;
 use mv_checked_facts::programs_of_texts_have_table_facts;
 use mv_checked_programs::programs_of_texts_are_well_formed;
 use mv_front::{front, one_verdict};
-use mv_image_tables::rows_lead_on;
+use mv_image_tables::{images_have_tables, rows_lead_on};
 use mv_parts::parts_law;
 use std::alloc::Global;
 
@@ -80,6 +80,7 @@ pub fn compiled(alloc: Global, program: Program) -> Result<Built, BuildError>
 {
     parts_law();
     rows_lead_on();
+    images_have_tables();
     built_programs_behave();
     let Coded {
         generics,
