@@ -18,18 +18,19 @@ use Rattle.mv_machine.specs.Actions as machine
 use Rattle.mv_image_runs.specs.Behaves.{BehavesAlways, LoadsWhatIsOpen}
 use Rattle.mv_image_tables.specs.Leads.{LeadsToVariants}
 use Rattle.mv_built_programs.specs.Closed.{closed}
+use Rattle.mv_built_programs.specs.Own.{LoadsNoOwnSwitch}
 
 -- On no input, with no actions whose values are words and that fit the program, and by no picks does an instruction load a data word that is closed to what
--- stands at its place: of a global that the function doesn't read, or, in the words of a variant and in an inline body at a site, of a switch of its function.
+-- stands at its place; and none that is code of a function's variants, in their words or at a site, loads a switch of the function.
 abbrev pub LoadsOpenly : Program → Parts → (sizing : List ℕ) → Fields → Type 0
 LoadsOpenly p parts sizing image =
     (bytes : List ℕ) (actions : List Action) (picks : List ℕ) → All (λ b. b < 2 ^ 8) bytes → All IsOfWord actions → All (λ a. IsTrue (source.fits p a)) actions →
-    LoadsWhatIsOpen image (closed image parts sizing p) bytes actions picks
+    LoadsWhatIsOpen image (closed image parts sizing p) bytes actions picks × LoadsNoOwnSwitch image bytes actions picks
 
 -- The image of a program, of these bodies of its functions and these variants of its attributed ones: frames and data are within their limits; the image is
 -- linked of the code of the bodies and variants, of the first words of the globals, and of tables; the tables lead from each assignment of a function to
 -- the variant that means what the function means under it. Its run does what the program means, on each input, with any actions that fit, also while commits
--- rewrite its text; no instruction loads what is closed to its place; and the same actions fit the image and the program.
+-- rewrite its text; no instruction loads what is closed to its place, as a variant's own switch; and the same actions fit the image and the program.
 pub record IsImageOf (p : Program) (bodies : List Body) (tables : List (List Variant)) (image : Fields) : Type 0 where
   pub frames : FramesFit p (length p.functions)
   pub data_fits : data_words p ≤ data_limit

@@ -6,5 +6,6 @@ pub mod Data
 pub mod Patched
 pub mod Standing
 pub mod Host
+pub mod Own
 pub mod Main
 pub mod Whole

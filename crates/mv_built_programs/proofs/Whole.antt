@@ -43,9 +43,11 @@ use Rattle.mv_built_programs.specs.Built.{HasWordsOfGlobals, IsBuilt}
 use Rattle.mv_built_programs.specs.Closed.{closed}
 use Rattle.mv_built_programs.specs.Layouts.{address_of, numbers_of, layout_of}
 use Rattle.mv_built_programs.specs.Laws.{BuiltProgramsBehave}
+use Rattle.mv_built_programs.specs.Own.{LoadsNoOwnSwitch}
 use Rattle.mv_built_programs.proofs.Data.{addresses, numbering, size_is, sizes_counted}
 use Rattle.mv_built_programs.proofs.Facts.{Laws}
 use Rattle.mv_built_programs.proofs.Host.{loaded, stubs, tables}
+use Rattle.mv_built_programs.proofs.Own.{no_own_switch}
 
 -- the run of a lowered program ends so, also where it has no main
 run_reached : EndsAreReached → (p : Program) (numbers : List ℕ) (codes : List Code) (main : Option Code) (bound : ℕ) (w : World) → IsReached w (call_of_main (setting_of numbers p) codes main bound w).end
@@ -162,8 +164,11 @@ module _ (laws : Laws) (p : Program) (image : Fields) (formed : IsWellFormed p) 
           follows = m.4;
         }
 
-  pub behaves : Behaves p image bytes actions picks × LoadsWhatIsOpen image shut bytes actions picks
+  behaves : Behaves p image bytes actions picks × LoadsWhatIsOpen image shut bytes actions picks
   behaves = laws.images_behave attributed shut p image bytes actions picks y built.rules has_stubs record { first = first; input = omega arith; calls = calls_main }
 
+  pub behaves_and_loads : Behaves p image bytes actions picks × LoadsWhatIsOpen image shut bytes actions picks × LoadsNoOwnSwitch image bytes actions picks
+  behaves_and_loads = (behaves.0, behaves.1, no_own_switch laws p image formed have_words built bytes actions picks behaves.1)
+
 pub built_behaves : Laws → BuiltProgramsBehave
-built_behaves laws p image formed have_words built bytes actions picks are_bytes of_words fit = behaves laws p image formed have_words built bytes actions picks are_bytes of_words fit
+built_behaves laws p image formed have_words built bytes actions picks are_bytes of_words fit = behaves_and_loads laws p image formed have_words built bytes actions picks are_bytes of_words fit

@@ -9,11 +9,13 @@ use Rattle.mv_commit_runs.specs.Tabled.{IsOfWord}
 use Rattle.mv_image_runs.specs.Behaves.{Behaves, LoadsWhatIsOpen}
 use Rattle.mv_built_programs.specs.Built.{HasWordsOfGlobals, IsBuilt}
 use Rattle.mv_built_programs.specs.Closed.{closed}
+use Rattle.mv_built_programs.specs.Own.{LoadsNoOwnSwitch}
 
 -- The run of an image that is built of a well-formed program does what the program means, on each input, with any actions of the operator whose values are words and that
--- fit the program, and by any picks of the fetches. And no instruction loads a data word of a global that is closed to what stands at its place.
+-- fit the program, and by any picks of the fetches. No instruction loads a data word of a global that is closed to what stands at its place: and so none that is
+-- code of a function's variants, in their words or at a site, loads a switch of the function.
 abbrev pub BuiltProgramsBehave : Type 0
 BuiltProgramsBehave =
     (p : Program) (image : Fields) → IsWellFormed p → HasWordsOfGlobals p → (built : IsBuilt p image) → (bytes : List ℕ) (actions : List Action) (picks : List ℕ) → All (λ b. b < 2 ^ 8) bytes →
     All IsOfWord actions → All (λ a. IsTrue (fits p a)) actions →
-    Behaves p image bytes actions picks × LoadsWhatIsOpen image (closed image built.parts built.linked.sizing p) bytes actions picks
+    Behaves p image bytes actions picks × LoadsWhatIsOpen image (closed image built.parts built.linked.sizing p) bytes actions picks × LoadsNoOwnSwitch image bytes actions picks
