@@ -90,6 +90,9 @@ aligned h pc word has = by (eqb (pc % 4) 0) refl has
         none : Contains [] word → ⊥
         none c = let lt = c.1 in omega (arith, lt)
 
+not_both : false ≡ true → ⊥
+not_both e = cc
+
 module _ (laws : Laws) (p : Program) (image : Fields) (formed : IsWellFormed p) (have_words : HasWordsOfGlobals p) (built : IsBuilt p image) where
   abbrev parts : Parts
   parts = built.parts
@@ -136,25 +139,25 @@ module _ (laws : Laws) (p : Program) (image : Fields) (formed : IsWellFormed p) 
       let place = tabled.switch o.number s.0 o.switch s.1 o.is_switch in
       let some = tabled.sizes o.number s.0 s.1 in
       let from = o.from in let to = o.to in
-      let data : is_data_of y x a ≡ true =
+      let inside : is_data_of y x a ≡ true =
       and_from (leb (y.place x) a) (ltb a (y.place x + 4 * y.size x)) (le-leb (y.place x) a (omega (arith, from, place))) (lt-ltb a (y.place x + 4 * y.size x) (omega (arith, to, place, some))) in
-      in_data y (is_closed_to_variant p g) x a (and_from (is_data_of y x a) (is_closed_to_variant p g x) data (first (is_among x (lower_function p g).switches) _ among)) (length p.globals) (a_global x some)
+      in_data y (is_closed_to_variant p g) x a (and_from (is_data_of y x a) (is_closed_to_variant p g x) inside (first (is_among x (lower_function p g).switches) _ among)) (length p.globals) (a_global x some)
 
   -- ---- code of its variants
 
   from_closed : (tests : List (ℕ → Bool)) (f k pc a : ℕ) (test : ℕ → Bool) → slice_get tests k ≡ Some test → is_word_of image parts sizing p (f + k) pc ≡ true →
       is_data_where image parts sizing p test a ≡ true → is_closed_from image parts sizing p f tests pc a ≡ true
-  from_closed [] f k pc a test e word data = absurd (cc e)
-  from_closed (t ∷ tests) f zero pc a test e word data =
+  from_closed [] f k pc a test e word holds = absurd (cc e)
+  from_closed (t ∷ tests) f zero pc a test e word holds =
       let same : t ≡ test = some_same t test e in
       let none : f + 0 ≡ f = omega arith in
       first (is_word_of image parts sizing p f pc && is_data_where image parts sizing p t a) (is_closed_from image parts sizing p (suc f) tests pc a)
       (and_from (is_word_of image parts sizing p f pc) (is_data_where image parts sizing p t a) (subst (λ z. is_word_of image parts sizing p z pc ≡ true) none word)
-      (subst (λ (u : ℕ → Bool). is_data_where image parts sizing p u a ≡ true) (sym same) data))
-  from_closed (t ∷ tests) f (suc k) pc a test e word data =
+      (subst (λ (u : ℕ → Bool). is_data_where image parts sizing p u a ≡ true) (sym same) holds))
+  from_closed (t ∷ tests) f (suc k) pc a test e word holds =
       let one : f + suc k ≡ suc f + k = omega arith in
       later (is_word_of image parts sizing p f pc && is_data_where image parts sizing p t a) (is_closed_from image parts sizing p (suc f) tests pc a)
-      (from_closed tests (suc f) k pc a test e (subst (λ z. is_word_of image parts sizing p z pc ≡ true) one word) data)
+      (from_closed tests (suc f) k pc a test e (subst (λ z. is_word_of image parts sizing p z pc ≡ true) one word) holds)
 
   module _ (n a pc : ℕ) (o : IsOwnSwitch image n a) where
     abbrev g : Function
@@ -213,29 +216,30 @@ module _ (laws : Laws) (p : Program) (image : Fields) (formed : IsWellFormed p) 
           ∙ ap (λ c. length parts.functions + c) (length-map (function_variants parts.attributed) (λ (w : PartVariant). w.code)
           ∙ sym (rows_many at (function_variants parts.attributed) (length parts.functions)) ∙ ap length (sym variants_are))
 
+      abbrev last : Bool
+      last = eqb (suc (length parts.functions + v.variant)) (length (codes parts))
+
+      abbrev below : Bool
+      below = ltb pc (at (suc (length parts.functions + v.variant)))
+
+      ends : (v.variant + 1 < length image.variants) ⊎ (length image.variants ≤ v.variant + 1) → (last || below) ≡ true
+      ends (inl more) =
+          let next = some_at image.variants (v.variant + 1) more in
+          let address = address_is (v.variant + 1) next.0 next.1 in
+          let same : length parts.functions + (v.variant + 1) ≡ suc (length parts.functions + v.variant) = omega arith in
+          let behind = v.ends next.0 next.1 in
+          later last below (lt-ltb pc (at (suc (length parts.functions + v.variant))) (subst (λ z. pc < z) (address ∙ ap at same) behind))
+      ends (inr end) =
+          let lt = slice_get_within image.variants v.variant v.row v.there in
+          let count = many in
+          first last below (eq-eqb (suc (length parts.functions + v.variant)) (length (codes parts)) (omega (arith, end, lt, count)))
+
       is_its_word : is_word_of image parts sizing p (length parts.functions + v.variant) pc ≡ true
       is_its_word =
-          and_from (leb (at (length parts.functions + v.variant)) pc) _
-          (le-leb (at (length parts.functions + v.variant)) pc (let begins = v.begins in let address = address_is v.variant v.row v.there in omega (arith, begins, address)))
+          let begins = v.begins in
+          let address = address_is v.variant v.row v.there in
+          and_from (leb (at (length parts.functions + v.variant)) pc) (last || below) (le-leb (at (length parts.functions + v.variant)) pc (omega (arith, begins, address)))
           (ends (cases_lt (v.variant + 1) (length image.variants)))
-        where
-          abbrev last : Bool
-          last = eqb (suc (length parts.functions + v.variant)) (length (codes parts))
-
-          abbrev below : Bool
-          below = ltb pc (at (suc (length parts.functions + v.variant)))
-
-          ends : (v.variant + 1 < length image.variants) ⊎ (length image.variants ≤ v.variant + 1) → (last || below) ≡ true
-          ends (inl more) =
-              let next = some_at image.variants (v.variant + 1) more in
-              let address = address_is (v.variant + 1) next.0 next.1 in
-              let same : length parts.functions + (v.variant + 1) ≡ suc (length parts.functions + v.variant) = omega arith in
-              let behind = v.ends next.0 next.1 in
-              later last below (lt-ltb pc (at (suc (length parts.functions + v.variant))) (subst (λ z. pc < z) (address ∙ ap at same) behind))
-          ends (inr end) =
-              let lt = slice_get_within image.variants v.variant v.row v.there in
-              let count = many in
-              first last below (eq-eqb (suc (length parts.functions + v.variant)) (length (codes parts)) (omega (arith, end, lt, count)))
 
       -- the function of its number is the n-th attributed one
       function_is : slice_get p.functions part.0.function ≡ Some g
@@ -259,21 +263,9 @@ module _ (laws : Laws) (p : Program) (image : Fields) (formed : IsWellFormed p) 
     beside_closed None None v = word_closed v
 
   pub no_own_switch : (bytes : List ℕ) (actions : List Action) (picks : List ℕ) → LoadsWhatIsOpen image shut bytes actions picks → LoadsNoOwnSwitch image bytes actions picks
-  no_own_switch bytes actions picks open t a going word has loads n code own = contradicted open_there closed_there
-    where
-      abbrev s : State
-      s = runs image (bytes_to_come bytes) actions picks t
-
-      open_there : closed image parts sizing p s.pc a ≡ false
-      open_there = open t a going word has loads
-
-      closed_there : closed image parts sizing p s.pc a ≡ true
-      closed_there =
-          and_from (eqb (s.pc % 4) 0) (is_closed_beside image parts sizing p (site_at image s.pc) (site_before image s.pc) s.pc a) (aligned s.room.held s.pc word has)
-          (beside_closed n a s.pc own (site_at image s.pc) (site_before image s.pc) code)
-
-      contradicted : closed image parts sizing p s.pc a ≡ false → closed image parts sizing p s.pc a ≡ true → ⊥
-      contradicted e h = wrong (sym e ∙ h)
-        where
-          wrong : false ≡ true → ⊥
-          wrong q = cc
+  no_own_switch bytes actions picks open t a going word has loads n code own =
+      let s : State = runs image (bytes_to_come bytes) actions picks t in
+      let closed_there : closed image parts sizing p s.pc a ≡ true =
+      and_from (eqb (s.pc % 4) 0) (is_closed_beside image parts sizing p (site_at image s.pc) (site_before image s.pc) s.pc a) (aligned s.room.held s.pc word has)
+      (beside_closed n a s.pc own (site_at image s.pc) (site_before image s.pc) code) in
+      not_both (sym (open t a going word has loads) ∙ closed_there)
