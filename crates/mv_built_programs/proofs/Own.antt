@@ -263,9 +263,9 @@ module _ (laws : Laws) (p : Program) (image : Fields) (formed : IsWellFormed p) 
     beside_closed None None v = word_closed v
 
   pub no_own_switch : (bytes : List ℕ) (actions : List Action) (picks : List ℕ) → LoadsWhatIsOpen image shut bytes actions picks → LoadsNoOwnSwitch image bytes actions picks
-  no_own_switch bytes actions picks open t a going word has loads n code own =
+  no_own_switch bytes actions picks opens t a going word has loads n code own =
       let s : State = runs image (bytes_to_come bytes) actions picks t in
       let closed_there : closed image parts sizing p s.pc a ≡ true =
       and_from (eqb (s.pc % 4) 0) (is_closed_beside image parts sizing p (site_at image s.pc) (site_before image s.pc) s.pc a) (aligned s.room.held s.pc word has)
       (beside_closed n a s.pc own (site_at image s.pc) (site_before image s.pc) code) in
-      not_both (sym (open t a going word has loads) ∙ closed_there)
+      not_both (sym (opens t a going word has loads) ∙ closed_there)
