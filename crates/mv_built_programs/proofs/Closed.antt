@@ -15,9 +15,8 @@ use Rattle.mv_selected_bodies.specs.SelectedBodies.{globals_read, is_in_globals,
 use Rattle.mv_call_code.specs.Convention.{Layout}
 use Rattle.mv_commit_runs.specs.Served.{IsPlanOpen}
 use Rattle.mv_function_code.specs.Functions.{IsOpen}
-use Rattle.mv_machine.specs.Runs.{plan_area}
 use Rattle.mv_machine_runs.specs.Layout.{IsSetOut}
-use Rattle.mv_machine_runs.specs.MachineRuns.{image_word, may_be_patched, unpatched_word, machine_text}
+use Rattle.mv_machine_runs.specs.MachineRuns.{image_word, unpatched_word, machine_text}
 use Rattle.mv_linker.specs.declared.parts.Parts.{Parts}
 use Rattle.mv_linker.specs.Linked.{codes}
 use Rattle.mv_program_runs.specs.Hosts.{IsOpenIn}

@@ -1,5 +1,5 @@
 -- The machine with a built image is a host for its program, and the program is loaded there.
-use Rattle.std.proofs.Common.{◌≡◌, ℕ, ◌<◌, ◌^◌, true, Bool, List, Option, Some, slice_get, All, refl, subst}
+use Rattle.std.proofs.Common.{◌≡◌, ℕ, ◌<◌, ◌^◌, true, Bool, List, Option, Some, slice_get, All, refl}
 use Rattle.std.proofs.lemmas.List.Elements.{All-map}
 use Rattle.mv_ast.specs.declared.world.Action.{Action}
 use Rattle.mv_ast.specs.declared.world.Binding.{Binding}

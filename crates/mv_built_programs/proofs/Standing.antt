@@ -38,7 +38,7 @@ use Rattle.mv_parts.proofs.Numbers as numbered
 use Rattle.mv_linked_text.specs.Text.{IsAttributed, IsPlacedCode}
 use Rattle.mv_linked_text.specs.Text as text
 use Rattle.mv_image_tables.specs.Leads.{IsLedTo}
-use Rattle.mv_image_tables.specs.Rows.{IsNth, HasRowOf}
+use Rattle.mv_image_tables.specs.Rows.{IsNth}
 use Rattle.mv_program_bodies.specs.ProgramBodies.{IsOwnCode, IsVariantAt, IsVariantCode, IsLinkedVariant, IsWritten, variant_number}
 use Rattle.mv_program_runs.specs.Hosts.{IsPlain, IsVariant, IsPatched, IsSelected}
 use Rattle.mv_built_programs.specs.Built.{HasWordsOfGlobals, IsBuilt}

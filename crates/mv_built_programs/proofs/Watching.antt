@@ -1,6 +1,5 @@
 -- On the machine that tells which commit is under way, code runs that may load what is open at the words that are never patched.
-use Rattle.std.proofs.Common.{◌≡◌, ℕ, ◌+◌, ◌<◌, ◌≤◌, Bool, true, false, ◌&&◌, not, cond, leb, ltb, List, [], ◌∷◌, Option, Some, None, is_some, option_and_then, refl, sym, ap, ap₂, ◌∙◌, subst}
-use Rattle.std.proofs.lemmas.Bool.{and_parts, and_from}
+use Rattle.std.proofs.Common.{◌≡◌, ℕ, Bool, true, false, ◌&&◌, not, cond, leb, ltb, List, [], ◌∷◌, Option, Some, None, is_some, option_and_then, refl, sym, ap, ap₂, ◌∙◌, subst}
 use Rattle.mv_ast.specs.declared.world.Action.{Action}
 use Rattle.mv_ast.specs.declared.world.Binding.{Binding}
 use Rattle.mv_isa.specs.Encoding.{decode}
@@ -10,7 +9,7 @@ use Rattle.mv_image.specs.Spelling.{Fields}
 use Rattle.mv_image.specs.Faults.{Rules}
 use Rattle.mv_ir.specs.World.{World}
 use Rattle.mv_machine.specs.Runs.{first}
-use Rattle.mv_statement_code.specs.Frames.{Reach, Site}
+use Rattle.mv_statement_code.specs.Frames.{Site}
 use Rattle.mv_statement_code.specs.Leads.{limited}
 use Rattle.mv_flow_code.specs.Runs.{Spot, Machine, LeadsOn, IsRun}
 use Rattle.mv_function_code.specs.Functions.{IsOpen, alone}

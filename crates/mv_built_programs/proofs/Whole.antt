@@ -1,5 +1,5 @@
 -- The run of a built image does what its program means.
-use Rattle.std.proofs.Common.{◌≡◌, ⊎_elim, ℕ, ◌+◌, ◌*◌, ◌<◌, ◌≤◌, ◌^◌, ◌%◌, Bool, List, [], Option, Some, None, map, take, sum, length, get_or, slice_get, All, refl, sym, ap, ◌∙◌, subst, arith}
+use Rattle.std.proofs.Common.{◌≡◌, ⊎_elim, ℕ, ◌+◌, ◌*◌, ◌<◌, ◌^◌, ◌%◌, Bool, List, [], Option, Some, None, map, take, sum, length, get_or, slice_get, All, refl, sym, ap, ◌∙◌, subst, arith}
 use Rattle.std.specs.Prelude.{IsTrue}
 use Rattle.std.specs.List.{flat_map}
 use Rattle.std.proofs.Math.ListN as lists
@@ -12,7 +12,6 @@ use Rattle.mv_ast.specs.declared.program.CType.{CType}
 use Rattle.mv_ast.specs.declared.program.CType.TheVariants.{Void, Scalar, Pointer}
 use Rattle.mv_ast.specs.declared.world.Action.{Action}
 use Rattle.mv_ast.specs.Actions.{fits}
-use Rattle.mv_ast.specs.Starts.{first_words_under}
 use Rattle.mv_numbering.specs.Typing.{IsFirstValue}
 use Rattle.mv_image.specs.Spelling.{Fields}
 use Rattle.mv_ir.specs.World.{World}
