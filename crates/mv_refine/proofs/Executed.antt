@@ -3,6 +3,7 @@ use Rattle.std.proofs.Common.{◌≡◌, inl, inr, ⊎_elim, ℕ, ◌^◌, ◌<�
 use Rattle.std.specs.Prelude.{All, IfSome}
 use Rattle.std.proofs.lemmas.Bool.{cases_lt}
 use Rattle.mv_ast.specs.declared.world.Action.{Action}
+use Rattle.mv_ast.specs.declared.world.Event.{Event}
 use Rattle.mv_ast.specs.declared.program.Program.{Program}
 use Rattle.mv_eval.specs.Evaluations.{meaning}
 use Rattle.mv_image.specs.Spelling.{Fields}
@@ -101,12 +102,12 @@ module _ (p : Program) (steps : ℕ) (before after : Environment) (bytes : List 
 
 -- ---- what a run of an image does that behaves as a program means
 
-module _ (p : Program) (image : Fields) (behaves : BehavesAlways p image) (actions : List Action) (steps : ℕ) (before after : Environment) (machine : Snapshot) where
+module _ (p : Program) (image : Fields) (behaves : BehavesAlways p image) (actions : List Action) (steps : ℕ) (before after : Environment) (Heard : List Event → Type 0) (machine : Snapshot) where
   module _ (bytes : List ℕ) (told : before.input.left ≡ Some bytes) (are : All (λ b. b < 2 ^ 8) bytes) where
     input_is : (input : List (Option ℕ)) → Tells before.input.left input → input ≡ bytes_to_come bytes
     input_is input tells = subst (λ (l : Option (List ℕ)). Tells l input) told tells
 
-    leaves : (input : List (Option ℕ)) (picks : List ℕ) (n : ℕ) → IsDone image actions before after machine input picks n → Leaves p image before after bytes actions picks steps (behaves bytes actions picks are) n
+    leaves : (input : List (Option ℕ)) (picks : List ℕ) (n : ℕ) → IsDone image actions before after Heard machine input picks n → Leaves p image before after bytes actions picks steps (behaves bytes actions picks are) n
     leaves input picks n done =
         let same = input_is input done.told in
         let taken : Took before after (take (taken_of bytes (runs image input actions picks n)) bytes) =
@@ -120,16 +121,16 @@ module _ (p : Program) (image : Fields) (behaves : BehavesAlways p image) (actio
         (runs image (bytes_to_come bytes) actions picks n).stop ≡ stop
     stop_at input picks n stop same stops = subst (λ (i : List (Option ℕ)). (runs image i actions picks n).stop ≡ stop) same stops
 
-    ends : (stop : Stop) → (s : Stands image actions before after machine stop steps) → EndsRight bytes (runs image (bytes_to_come bytes) actions s.picks steps) (meaning p steps bytes) stop
+    ends : (stop : Stop) → (s : Stands image actions before after Heard machine stop steps) → EndsRight bytes (runs image (bytes_to_come bytes) actions s.picks steps) (meaning p steps bytes) stop
     ends stop s = right p image before after bytes actions s.picks steps (behaves bytes actions s.picks are) stop (stop_at s.input s.picks steps stop (input_is s.input s.done.told) s.stops)
 
-    stuck_part : (Next : State → ℕ → Type 0) → StandsBefore image actions before after machine Next steps → (piece : List ℕ) × DoesPart before after bytes (meaning p steps bytes) piece
+    stuck_part : (Next : State → ℕ → Type 0) → StandsBefore image actions before after Heard machine Next steps → (piece : List ℕ) × DoesPart before after bytes (meaning p steps bytes) piece
     stuck_part Next s =
         let fewer = s.fewer in
         let b = behaves bytes actions s.picks are in
         (_, part p image before after bytes actions s.picks steps b s.count (omega (arith, fewer)) (leaves s.input s.picks s.count s.done))
 
-    does : (stopped : Stopped) → Runs image actions before after machine steps stopped → DoesOn p steps before after bytes stopped
+    does : (stopped : Stopped) → Runs image actions before after Heard machine steps stopped → DoesOn p steps before after bytes stopped
     does (answer.Ended status) r =
         let s = r.stands in
         all p image before after bytes actions s.picks steps (behaves bytes actions s.picks are) (Exit status) (source.Exit status) (leaves s.input s.picks steps s.done) (ends (Exit status) s)
@@ -150,7 +151,7 @@ module _ (p : Program) (image : Fields) (behaves : BehavesAlways p image) (actio
     does (answer.Fault pc why) r = ends (Fault why) r.0
     does answer.Memory r = stuck_part _ r
 
-  module _ (stopped : Stopped) (runs : Runs image actions before after machine steps stopped) where
+  module _ (stopped : Stopped) (runs : Runs image actions before after Heard machine steps stopped) where
     does_from : (l : Option (List ℕ)) → before.input.left ≡ l → DoesFrom p steps before after l stopped
     does_from None told = tt
     does_from (Some bytes) told = λ are. does bytes told are stopped runs

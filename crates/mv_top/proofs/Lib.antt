@@ -1,4 +1,3 @@
-pub mod Numerals
 pub mod Decisions
-pub mod Commands
+pub mod Fits
 pub mod Texts

@@ -1,7 +1,7 @@
 use Rattle.std.proofs.Common.{arith, refl}
 use Rattle.mv_front.proofs.Few.{few_functions}
 use Rattle.mv_top.proofs.Texts.{evaluation_done, not_evaluated}
-use Rattle.mv_top.proofs.top.eval_text.Goals as goal
+use Rattle.mv_top.proofs.texts.eval_text.Goals as goal
 
 pub eval-requires : goal.eval-requires
 eval-requires g c = omega (arith, few_functions c.in-Ok.program c.in-Ok.ensures.accepted.within)
