@@ -11,11 +11,12 @@ use Rattle.mv_refine.specs.Meant.{Does, Decides}
 use Rattle.mv_refine.specs.Run.{Runs}
 
 module _ (built : Built) (actions : List Action) (steps : ℕ) (before after : Environment) (Heard : List Event → Type 0) where
-  -- One run of the image is what was done. Where the image behaves as the program means, this is what the program means at that number as its bound.
+  -- One run of the image is what was done. Where the image behaves as the program means, whatever the actions are, this is what the program means at that
+  -- number as its bound.
   pub record IsExecution (e : Execution) : Type 0 where
     pub runs : Runs built.image actions before after Heard e.machine steps e.stopped
-    pub does : BehavesAlways built.program built.image → Does built.program steps before after e.stopped
-    pub decides : BehavesAlways built.program built.image → Decides built.program steps before after e.stopped
+    pub does : BehavesAlways built.program built.image → Does built.program [] steps before after Heard e.machine e.stopped
+    pub decides : BehavesAlways built.program built.image → Decides built.program [] steps before after e.stopped
 
   -- an execution, or want of memory before its first instruction, with all as before
   abbrev pub Executes : Result Execution AllocError → Type 0

@@ -80,11 +80,11 @@ status_of_answer More stopped is = absurd is
 
 module _ (before after : Environment) (no_input_fault : ReadFailed before after → ⊥) (no_output_fault : WriteFailed before after → ⊥) (text : List ℕ) where
   -- where a run has time enough for an end, it ends so
-  run_decided : (n : ℕ) (q : Program) (stopped : Stopped) → meant.Decides q n before after stopped → (bytes : List ℕ) → before.input.left ≡ Some bytes →
-      All (λ b. b < 2 ^ 8) bytes → (bound : ℕ) → IsEnough q bytes n bound → ((meaning q bound bytes).«end» ≡ More → ⊥) →
+  run_decided : (n : ℕ) (q : Program) (stopped : Stopped) → meant.Decides q [] n before after stopped → (bytes : List ℕ) → before.input.left ≡ Some bytes →
+      All (λ b. b < 2 ^ 8) bytes → (bound : ℕ) → IsEnough q [] bytes n bound → ((meaning q bound bytes).«end» ≡ More → ⊥) →
       Is (status_of_stop stopped) (status_of_end (meaning q bound bytes).«end»)
   run_decided n q stopped decides bytes told are bound enough ended =
-      let here : meant.DecidesFrom q n before after (Some bytes) stopped = subst (λ l. meant.DecidesFrom q n before after l stopped) told decides in
+      let here : meant.DecidesFrom q [] n before after (Some bytes) stopped = subst (λ l. meant.DecidesFrom q [] n before after l stopped) told decides in
       by_answer (here are no_input_fault no_output_fault bound enough ended)
     where
       by_answer : IsAnswer (meaning q bound bytes).«end» stopped ⊎ (stopped ≡ stop.Memory) → Is (status_of_stop stopped) (status_of_end (meaning q bound bytes).«end»)
@@ -116,7 +116,7 @@ module _ (before after : Environment) (no_input_fault : ReadFailed before after 
         limit_cause s (inr (n, first, same)) = absurd (operator.not_both p options.items actions n are first)
 
         run_ended : {lines : List ℕ} {status : Status} → RunDoes before after text Heard options lines status → IsCovered p → (bytes : List ℕ) → before.input.left ≡ Some bytes →
-            All (λ b. b < 2 ^ 8) bytes → (bound : ℕ) → IsEnough p bytes options.steps bound → ((meaning p bound bytes).«end» ≡ More → ⊥) →
+            All (λ b. b < 2 ^ 8) bytes → (bound : ℕ) → IsEnough p [] bytes options.steps bound → ((meaning p bound bytes).«end» ≡ More → ⊥) →
             IsWithinLimits status (status_of_end (meaning p bound bytes).«end») p
         run_ended (text_spec.unread unused) covered bytes told bound_ bound enough ended = inl (inr refl)
         run_ended (text_spec.not_run s none unused) covered bytes told bytes_are bound enough ended = inr (s, limit_cause s (limit_or_item text options.items p is s none), refl)
@@ -124,7 +124,7 @@ module _ (before after : Environment) (no_input_fault : ReadFailed before after 
             let one : b.program ≡ p = one_program text b.program p good.program is in
             let here : IsCovered b.program = subst IsCovered (sym one) covered in
             let behaves = good.image.behaves here.unattributed here.never_rebinds in
-            let decides : meant.Decides p options.steps before after x.stopped = subst (λ z. meant.Decides z options.steps before after x.stopped) one (is_one.decides behaves) in
+            let decides : meant.Decides p [] options.steps before after x.stopped = subst (λ z. meant.Decides z [] options.steps before after x.stopped) one (is_one.decides behaves) in
             inl (run_decided options.steps p x.stopped decides bytes told bytes_are bound enough ended)
 
   module _ (bound : ℕ) where
@@ -204,7 +204,7 @@ module _ (words : List (List ℕ)) (before after : Outside) (Heard : List Event 
         run_wrong_item before.environment after.environment quiet.input quiet.output text Heard options p is_program does item wrong
 
     ended_of : (options : RunOptions) → Read file text (Run options) lines status → IsCovered p → (actions : List Action) → IsActions p options.items actions → (bytes : List ℕ) →
-        before.environment.input.left ≡ Some bytes → All (λ b. b < 2 ^ 8) bytes → (bound : ℕ) → IsEnough p bytes options.steps bound →
+        before.environment.input.left ≡ Some bytes → All (λ b. b < 2 ^ 8) bytes → (bound : ℕ) → IsEnough p [] bytes options.steps bound →
         ((meaning p bound bytes).«end» ≡ More → ⊥) → IsWithinLimits status (status_of_end (meaning p bound bytes).«end») p
     ended_of options unloaded covered actions are bytes told bytes_are bound enough ended = inl (inr refl)
     ended_of options (read lines status does) covered actions are bytes told bytes_are bound enough ended =

@@ -1,6 +1,7 @@
 -- From the parts of a command to what comes of its text.
 use Rattle.std.proofs.Common.{ℕ, ◌≡◌, List, [], refl, sym, subst, Option, Some, None}
-use Rattle.std.specs.Prelude.{Result, Vec, Ok}
+use Rattle.std.specs.Prelude.{Result, Vec, Ok, Err}
+use Rattle.std.specs.declared.alloc.AllocError.{AllocError}
 use Rattle.std.specs.declared.alloc.Global.{Global}
 use Rattle.mv_ast.specs.declared.program.Program.{Program}
 use Rattle.mv_ast.specs.declared.world.Action.{Action}
@@ -28,12 +29,19 @@ use Rattle.mv_command.specs.declared.command.RunOptions.{RunOptions}
 use Rattle.mv_command.specs.declared.command.Task.{Task}
 use Rattle.mv_operator.specs.Operator.{IsFirstWrong}
 use Rattle.mv_top.specs.Lines.{asked_lines}
-use Rattle.mv_top.specs.Texts.{IsNotRun, IsCause, IsPrepared, EvalDoes, RunDoes, Does, Unused, unbuilt, wrong_item, no_action, not_run, ran, status_of_build, status_of_error, status_of_evaluation, status_of_stop}
+use Rattle.mv_top.specs.Texts.{IsNotRun, IsCause, IsPrepared, Performs, EvalDoes, RunDoes, Does, Unused, unbuilt, wrong_item, no_action, not_run, ran, status_of_build, status_of_error, status_of_evaluation, status_of_stop}
 use Rattle.mv_top.specs.Texts as spec
 use Rattle.mv_top.specs.Outcomes.{Holds, Outside, Comes, done}
+use Rattle.mv_top.specs.declared.notes.Performed.{Performed}
 use Rattle.mv_top.specs.declared.prepared.Prepared.{Prepared}
 use Rattle.mv_top.specs.declared.status.Status.{Status}
 use Rattle.mv_top.specs.declared.status.Status.TheVariants.{Memory}
+
+-- what comes of one thing and then of another
+pub performs_so : (Comes Gives : (lines : List ℕ) → Status → Type 0) → ((lines : List ℕ) (status : Status) → Comes lines status → Gives lines status) →
+    (result : Result Performed AllocError) → Performs Comes result → Performs Gives result
+performs_so Comes Gives so (Ok performed) h = so performed.lines.items performed.status h
+performs_so Comes Gives so (Err e) h = record { lines = h.lines; status = h.status; comes = so h.lines h.status h.comes }
 
 -- a status alone
 pub alone : (Comes : (lines : List ℕ) → Status → Type 0) (lines : List ℕ) (status due : Status) → lines ≡ [] → status ≡ due → Comes [] due → Comes lines status

@@ -107,7 +107,7 @@ pub record Decides (words : List (List ℕ)) (files : Option Files) (left : Opti
       IsFirstWrong p options.items item → IsWithinLimits result (Refused (no_action item)) p
   -- the run has time enough for a bound at which the meaning has ended
   pub ended : (file text bytes : List ℕ) (options : RunOptions) (bound : ℕ) (p : Program) (actions : List Action) → IsCommand words file (Run options) → Tells files file text →
-      IsProgram text p → IsCovered p → IsActions p options.items actions → left ≡ Some bytes → All (λ b. b < 2 ^ 8) bytes → IsEnough p bytes options.steps bound →
+      IsProgram text p → IsCovered p → IsActions p options.items actions → left ≡ Some bytes → All (λ b. b < 2 ^ 8) bytes → IsEnough p [] bytes options.steps bound →
       ((meaning p bound bytes).«end» ≡ More → ⊥) → IsWithinLimits result (status_of_end (meaning p bound bytes).«end») p
   pub evaluated : (file text bytes : List ℕ) (bound : ℕ) (p : Program) → IsCommand words file (Eval bound) → Tells files file text → IsProgram text p →
       left ≡ Some bytes → Is result (status_of_end (meaning p bound (take most bytes)).«end»)

@@ -4,7 +4,7 @@ ghost use Rattle.std.specs.Prelude.{◌≡◌, ◌++◌, [], IfOk, if◌then◌e
 ghost use Rattle.mv_list.specs.Bindings.{bindings_text};
 ghost use Rattle.mv_list.specs.Changes.{patched_text};
 ghost use Rattle.mv_refine.specs.Environment.{writing};
-ghost use Rattle.mv_top.specs.Lines.{asked_lines, owed, Noted};
+ghost use Rattle.mv_top.specs.Lines.{asked_lines, is_silent, last_line, owed, Noted};
 
 use crate::status::Status;
 use mv_command::RunOptions;
@@ -82,15 +82,24 @@ pub(crate) fn asked_lines(
     Ok(lines)
 }
 
-// The lines, and the last line behind them where there is one.
+// The last line, where there is one.
+fn last_line(alloc: Global, status: Status) -> Result<Vec<u8>, AllocError>
+    ensures { IfOk result (λ line. line.items ≡ (if is_silent status then [] else last_line status)) }
+{
+    if status.is_silent() {
+        return Ok(Vec::new(alloc));
+    }
+    let line = format!(in alloc; "{status}\n")?;
+    Vec::from_slice(alloc, line.as_str().as_bytes())
+}
+
+// The lines, and the last line behind them.
 fn owed(alloc: Global, performed: Performed) -> Result<Vec<u8>, AllocError>
     ensures { IfOk result (λ text. text.items ≡ owed performed.lines.items performed.status) }
 {
     let Performed { status, mut lines } = performed;
-    if !status.is_silent() {
-        let last = format!(in alloc; "{status}\n")?;
-        lines.extend_from_slice(last.as_str().as_bytes())?;
-    }
+    let last = last_line(alloc, status)?;
+    lines.extend_from_slice(last.as_slice())?;
     Ok(lines)
 }
 

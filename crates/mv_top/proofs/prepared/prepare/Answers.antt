@@ -1,9 +1,11 @@
+use Rattle.std.proofs.Common.{arith}
+use Rattle.mv_top.proofs.Few.{few_switches}
 use Rattle.mv_top.proofs.Fits.{all_fit}
 use Rattle.mv_top.proofs.Texts.{build_cause, item_cause}
 use Rattle.mv_top.proofs.prepared.prepare.Goals as goal
 
-pub returns-in_err-built-clause-err : goal.returns-in_err-built-clause-err
-returns-in_err-built-clause-err c = ?
+pub actions_of-requires-clause-few : goal.actions_of-requires-clause-few
+actions_of-requires-clause-few c = omega (arith, few_switches c.in_ok-built.built.program c.in_ok-built.ensures.built.program.within)
 
 pub returns-in-Ok-clause-fit : goal.returns-in-Ok-clause-fit
 returns-in-Ok-clause-fit c =
