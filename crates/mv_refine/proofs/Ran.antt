@@ -70,17 +70,18 @@ module _ (image : Fields) (actions : List Action) (before after : Environment) (
   abbrev now_tells : Tells after.input.left now
   now_tells = (some_later after.input.left).1
 
-  done : (n : ℕ) (stop : Stop) → (always : Always n stop) → IsDone image actions before after is (always now now_tells).0 picks n
+  done : (n : ℕ) (stop : Stop) → (always : Always n stop) → IsDone image actions before after Told is (always now now_tells).0 picks n
   done n stop always =
       let r = always now now_tells in record {
         told = r.1.told;
         picked = r.1.picked;
         output = r.1.reached.output;
         taken = taken_by before.input.left refl n stop always r.0 r.1.told;
+        heard = r.1.reached.told;
         state = shows (state r.0 n) is r.1.reached.image r.1.reached.regs r.1.reached.pc r.1.reached.memory r.1.reached.bindings;
       }
 
-  stands : (n : ℕ) (stop : Stop) → (always : Always n stop) → Stands image actions before after is stop n
+  stands : (n : ℕ) (stop : Stop) → (always : Always n stop) → Stands image actions before after Told is stop n
   stands n stop always = record {
     input = (always now now_tells).0;
     picks = picks;
@@ -117,7 +118,7 @@ module _ (image : Fields) (actions : List Action) (before after : Environment) (
 
   whole : (stop : Stop) → ((later : List (Option ℕ)) → Tells after.input.left later → (input : List (Option ℕ)) × Tells before.input.left input
       × Under before.way (first image input actions) picks × Whole (first image input actions) picks steps (At image actions before after Told is picks later) stop) →
-      RanTo image actions before after is stop steps
+      RanTo image actions before after Told is stop steps
   unfolding stands
   whole stop all =
       let always : Always image actions before after Told is picks steps stop = (λ later t. let r = all later t in (r.0, record { told = r.1; picked = r.2; reached = r.3.reached })) in
@@ -129,7 +130,7 @@ module _ (image : Fields) (actions : List Action) (before after : Environment) (
 
   before_next : (Why : State → ℕ → Type 0) → ((later : List (Option ℕ)) → Tells after.input.left later → (input : List (Option ℕ)) × Tells before.input.left input
       × Under before.way (first image input actions) picks × Broken (first image input actions) picks steps (At image actions before after Told is picks later) Why) →
-      (input : List (Option ℕ)) × IsDone image actions before after is input picks (length picks - 1) × ((runs image input actions picks (length picks - 1)).stop ≡ Going)
+      (input : List (Option ℕ)) × IsDone image actions before after Told is input picks (length picks - 1) × ((runs image input actions picks (length picks - 1)).stop ≡ Going)
       × Why (runs image input actions picks (length picks - 1)) (slice_index picks (length picks - 1)) × (length picks - 1 < steps)
   before_next Why all =
       let at : (later : List (Option ℕ)) → (t : Tells after.input.left later) → (all later t).3.count ≡ length picks - 1 =
@@ -158,7 +159,7 @@ module _ (image : Fields) (actions : List Action) (before after : Environment) (
   stuck : (Next : State → ℕ → Type 0) (Why : State → ℕ → Type 0) → ((s : State) (pick : ℕ) → Why s pick → Next s pick) →
       ((later : List (Option ℕ)) → Tells after.input.left later → (input : List (Option ℕ)) × Tells before.input.left input
       × Under before.way (first image input actions) picks × Broken (first image input actions) picks steps (At image actions before after Told is picks later) Why) →
-      StandsBefore image actions before after is Next steps
+      StandsBefore image actions before after Told is Next steps
   stuck Next Why why all =
       let r = before_next Why all in record {
         input = r.0;
@@ -170,7 +171,7 @@ module _ (image : Fields) (actions : List Action) (before after : Environment) (
         next = why _ _ r.3;
       }
 
-  runs_by : (answer : Stopped) → Leads answer → Runs image actions before after is steps answer
+  runs_by : (answer : Stopped) → Leads answer → Runs image actions before after Told is steps answer
   runs_by (answer.Ended status) l = whole (Exit status) l
   runs_by (answer.Trapped code) l = whole (Trap code) l
   runs_by answer.Steps l = whole Going l
@@ -188,5 +189,5 @@ module _ (image : Fields) (actions : List Action) (before after : Environment) (
       (stands image actions before after Told is picks steps (Fault why) always, r.3.reached.pc ∙ r.3.place)
   runs_by answer.Memory l = stuck WantsMemory WantsMemory (λ s pick w. w) l
 
-  pub made : Runs image actions before after is steps stopped
+  pub made : Runs image actions before after Told is steps stopped
   made = runs_by stopped leads

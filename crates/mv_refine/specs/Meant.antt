@@ -1,49 +1,60 @@
 -- What a run of an image does in its environment, by what its program means.
 use Rattle.std.specs.Prelude.{ℕ, ◌≡◌, ◌+◌, ◌*◌, ◌^◌, ◌<◌, ◌≤◌, ◌⊎◌, List, take, All, Option, Some, None}
 use Rattle.mv_ast.specs.declared.program.Program.{Program}
-use Rattle.mv_eval.specs.Evaluations.{meaning}
+use Rattle.mv_ast.specs.declared.world.Action.{Action}
+use Rattle.mv_ast.specs.declared.world.Event.{Event}
+use Rattle.mv_machine.specs.Snapshots.{Snapshot}
 use Rattle.mv_machine.specs.declared.machine.Stopped.{Stopped}
 use Rattle.mv_machine.specs.declared.machine.Stopped.TheVariants.{Ended, Trapped, Steps, InputFault, OutputFault, Fault, Memory}
 use Rattle.mv_meaning.specs.declared.meant.End.{End}
 use Rattle.mv_meaning.specs.declared.meant.End.TheVariants.{Exit, Trap, More}
 use Rattle.mv_meaning.specs.declared.meant.Meant.{Meant}
 use Rattle.mv_meaning.specs.Growth.{Begins}
+use Rattle.mv_meaning.specs.Meaning.{mean}
 use Rattle.mv_refine.specs.Environment.{Environment, Took, Wrote, ReadFailed, WriteFailed}
 
-module _ (before after : Environment) (bytes : List ℕ) (m : Meant) where
-  -- a meaning has this end, all its output was written, and the bytes that it takes of these were taken
+-- `Heard events`: the probes were told these events
+module _ (before after : Environment) (Heard : List Event → Type 0) (machine : Snapshot) (bytes : List ℕ) (m : Meant) where
+  -- a meaning has this end, all its output was written, the bytes that it takes of these were taken, its bindings are the machine's, and the probes were
+  -- told its log
   pub record DoesAll (e : End) : Type 0 where
     pub ending : m.«end» ≡ e
     pub output : Wrote before after m.output
     pub input : Took before after (take m.taken bytes)
+    pub bindings : machine.bindings ≡ m.bindings
+    pub heard : Heard m.log
 
-  -- a piece was written with which a meaning's output begins, and of the bytes no more were taken than the meaning takes
+  -- a piece was written with which a meaning's output begins, of the bytes no more were taken than the meaning takes, and the probes were told events
+  -- with which its log begins
   pub record DoesPart (piece : List ℕ) : Type 0 where
     pub begins : Begins piece m.output
     pub output : Wrote before after piece
     pub count : ℕ
     pub few : count ≤ m.taken
     pub input : Took before after (take count bytes)
+    pub events : List Event
+    pub logged : Begins events m.log
+    pub heard : Heard events
 
 -- so many instructions are time enough for all that is meant at a bound: a hundred for each unit of its work, and a hundred more
-abbrev pub IsEnough : Program → (bytes : List ℕ) → (steps bound : ℕ) → Type 0
-IsEnough p bytes steps bound = 100 * (1 + (meaning p bound bytes).work) ≤ steps
+abbrev pub IsEnough : Program → List Action → (bytes : List ℕ) → (steps bound : ℕ) → Type 0
+IsEnough p actions bytes steps bound = 100 * (1 + (mean p bytes actions bound).work) ≤ steps
 
 -- at each bound for which there was time, the meaning has not ended and its output was written
-abbrev pub KeepsUp : Program → (bytes : List ℕ) → (steps : ℕ) → (piece : List ℕ) → Type 0
-KeepsUp p bytes steps piece =
-    (bound : ℕ) → IsEnough p bytes steps bound → ((meaning p bound bytes).«end» ≡ More) × Begins (meaning p bound bytes).output piece
+abbrev pub KeepsUp : Program → List Action → (bytes : List ℕ) → (steps : ℕ) → (piece : List ℕ) → Type 0
+KeepsUp p actions bytes steps piece =
+    (bound : ℕ) → IsEnough p actions bytes steps bound → ((mean p bytes actions bound).«end» ≡ More) × Begins (mean p bytes actions bound).output piece
 
-module _ (p : Program) (steps : ℕ) (before after : Environment) where
+module _ (p : Program) (actions : List Action) (steps : ℕ) (before after : Environment) (Heard : List Event → Type 0) (machine : Snapshot) where
   -- part of what is meant at the bound `steps`
   abbrev pub Part : (bytes piece : List ℕ) → Type 0
-  Part bytes piece = DoesPart before after bytes (meaning p steps bytes) piece
+  Part bytes piece = DoesPart before after Heard machine bytes (mean p bytes actions steps) piece
 
   -- What was written and taken, by the answer, on a source that has these bytes to come.
   abbrev pub DoesOn : (bytes : List ℕ) → Stopped → Type 0
-  DoesOn bytes (Ended status) = DoesAll before after bytes (meaning p steps bytes) (Exit status)
-  DoesOn bytes (Trapped code) = DoesAll before after bytes (meaning p steps bytes) (Trap code)
-  DoesOn bytes Steps = (piece : List ℕ) × Part bytes piece × KeepsUp p bytes steps piece
+  DoesOn bytes (Ended status) = DoesAll before after Heard machine bytes (mean p bytes actions steps) (Exit status)
+  DoesOn bytes (Trapped code) = DoesAll before after Heard machine bytes (mean p bytes actions steps) (Trap code)
+  DoesOn bytes Steps = (piece : List ℕ) × Part bytes piece × KeepsUp p actions bytes steps piece
   DoesOn bytes InputFault = (piece : List ℕ) × Part bytes piece × ReadFailed before after
   DoesOn bytes OutputFault = (piece : List ℕ) × Part bytes piece × WriteFailed before after
   DoesOn bytes (Fault pc why) = ⊥
@@ -63,13 +74,13 @@ IsAnswer (Exit status) stopped = stopped ≡ Ended status
 IsAnswer (Trap code) stopped = stopped ≡ Trapped code
 IsAnswer More stopped = ⊥
 
-module _ (p : Program) (steps : ℕ) (before after : Environment) where
+module _ (p : Program) (actions : List Action) (steps : ℕ) (before after : Environment) where
   -- Where no count of faults rose, and there was time for all that is meant at a bound at which the meaning has ended, the answer is that end, or
   -- want of memory.
   abbrev pub DecidesOn : (bytes : List ℕ) → Stopped → Type 0
   DecidesOn bytes stopped =
-      (ReadFailed before after → ⊥) → (WriteFailed before after → ⊥) → (bound : ℕ) → IsEnough p bytes steps bound →
-      ((meaning p bound bytes).«end» ≡ More → ⊥) → IsAnswer (meaning p bound bytes).«end» stopped ⊎ (stopped ≡ Memory)
+      (ReadFailed before after → ⊥) → (WriteFailed before after → ⊥) → (bound : ℕ) → IsEnough p actions bytes steps bound →
+      ((mean p bytes actions bound).«end» ≡ More → ⊥) → IsAnswer (mean p bytes actions bound).«end» stopped ⊎ (stopped ≡ Memory)
 
   -- it too stands where the source tells what is to come
   abbrev pub DecidesFrom : (left : Option (List ℕ)) → Stopped → Type 0

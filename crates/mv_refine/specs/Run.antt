@@ -1,6 +1,7 @@
--- Which run of an image was made, and what it left in its environment and in the machine.
+-- Which run of an image was made, and what it left in its environment, in the machine and with the probes.
 use Rattle.std.specs.Prelude.{ℕ, ◌≡◌, ◌<◌, List, take, Option, IfSome, option_map, slice_index}
 use Rattle.mv_ast.specs.declared.world.Action.{Action}
+use Rattle.mv_ast.specs.declared.world.Event.{Event}
 use Rattle.mv_image.specs.Spelling.{Fields}
 use Rattle.mv_image_runs.specs.Behaves.{taken_of}
 use Rattle.mv_machine.specs.declared.machine.Stopped.{Stopped}
@@ -11,15 +12,17 @@ use Rattle.mv_machine.specs.Snapshots.{Snapshot, kept, Tells, Under, Asks, Wants
 use Rattle.mv_probe.specs.Ways.{way_after}
 use Rattle.mv_refine.specs.Environment.{Environment, Took, Wrote, ReadFailed, WriteFailed}
 
-module _ (image : Fields) (actions : List Action) (before after : Environment) (machine : Snapshot) where
+-- `Heard events`: the probes were told these events
+module _ (image : Fields) (actions : List Action) (before after : Environment) (Heard : List Event → Type 0) (machine : Snapshot) where
   -- So many instructions of the run of an image on an input, by these picks, are what was done: the input is the one that the source tells, and the
-  -- picks are those of the oracle's way. The output grew by exactly what the run wrote, the input lost exactly what it took, and the machine is as
-  -- the run left it.
+  -- picks are those of the oracle's way. The output grew by exactly what the run wrote, the input lost exactly what it took, the probes were told
+  -- exactly its log, and the machine is as the run left it.
   pub record IsDone (input : List (Option ℕ)) (picks : List ℕ) (n : ℕ) : Type 0 where
     pub told : Tells before.input.left input
     pub picked : Under before.way (first image input actions) picks
     pub output : Wrote before after (runs image input actions picks n).output
     pub taken : IfSome before.input.left (λ bytes. Took before after (take (taken_of bytes (runs image input actions picks n)) bytes))
+    pub heard : Heard (runs image input actions picks n).log
     pub state : machine ≡ kept (runs image input actions picks n) machine.last
 
   -- One run stands so after that number of instructions, or after the one that ended it.

@@ -4,8 +4,9 @@
 //!
 //! - *The run* (`specs/Run.antt`): one run of that image by the machine's definition is what was done: its stop after the
 //!   given number of instructions is the answer (`Steps` where it goes on), the output grew by what it wrote, the input
-//!   lost what it took, the machine handed back is in its state, and the oracle's place went on by its instructions.
-//!   Before a read or a write that failed it is a state after fewer instructions.
+//!   lost what it took, each probe was told its log and left exactly where that used up its patience, the machine handed
+//!   back is in its state, and the oracle's place went on by its instructions. Before a read or a write that failed it is
+//!   a state after fewer instructions.
 //! - *What the program means* (`specs/Meant.antt`), where the image does what its program means and the source tells
 //!   bytes: after `Ended` and `Trapped` the meaning at the number of instructions as its bound has that end, all its
 //!   output was written and all that it takes was taken. After `Steps`, `InputFault`, `OutputFault` and `Memory` it is a
@@ -16,9 +17,10 @@
 //! An error is want of memory before the first instruction, with all as before.
 #![tactic(auto)]
 
-ghost use Rattle.std.specs.Prelude.{◌≡◌, [], All, IsTrue};
+ghost use Rattle.std.specs.Prelude.{All, IsTrue};
 ghost use Rattle.mv_machine.specs.Actions.{fits};
-ghost use Rattle.mv_probe.specs.Hearing.{hearing, IsPatient};
+ghost use Rattle.mv_probe.specs.Fates.{Fates};
+ghost use Rattle.mv_probe.specs.Hearing.{hearing, object_at, Becomes, IsPatient};
 ghost use Rattle.mv_refine.specs.Environment.{environment, reading, writing};
 ghost use Rattle.mv_refine.specs.Execution.{Executes};
 
@@ -32,8 +34,8 @@ use mv_machine::Machine;
 use mv_probe::{FetchOracle, Probe};
 use std::alloc::{AllocError, Global};
 
-/// Runs the image of a program for at most so many instructions. An error is want of memory for the machine, before the first instruction.
-/// An image without attributed functions tells no probe anything.
+/// Runs the image of a program for at most so many instructions. A poll takes the next of the actions, and each probe is told each changed
+/// binding. An error is want of memory for the machine, before the first instruction.
 pub fn execute<I: Source, O: Sink>(
     alloc: Global,
     built: &Built,
@@ -46,10 +48,11 @@ pub fn execute<I: Source, O: Sink>(
 ) -> Result<Execution, AllocError>
     requires patient { All (λ probe. IsPatient (hearing (told probe) (patience probe))) probes.old.items }
     requires fit { All (λ action. IsTrue (fits built.now.image.switches action)) actions.now }
-    ensures executes { Executes built.now actions.now steps
+    ensures { Executes built.now actions.now steps
         (environment (reading (I.left source.old) (I.faults source.old)) (writing (O.written sink.old) (O.faults sink.old)) (way oracle.old))
-        (environment (reading (I.left source.new) (I.faults source.new)) (writing (O.written sink.new) (O.faults sink.new)) (way oracle.new)) result }
-    ensures quiet { built.now.image.functions ≡ [] → probes.new ≡ probes.old }
+        (environment (reading (I.left source.new) (I.faults source.new)) (writing (O.written sink.new) (O.faults sink.new)) (way oracle.new))
+        (λ events. Fates (Becomes (λ probe. object_at probe.ptr probe.vtable) (λ probe. hearing (told probe) (patience probe)) events) probes.old.items probes.new.items)
+        result }
 {
     let mut machine = Machine::start(alloc, &built.image)?;
     let stopped = machine.run(steps, source, sink, oracle, probes, actions);

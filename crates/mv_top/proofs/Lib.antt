@@ -1,4 +1,5 @@
-pub mod Numerals
 pub mod Decisions
-pub mod Commands
+pub mod Few
+pub mod Fits
+pub mod Notes
 pub mod Texts

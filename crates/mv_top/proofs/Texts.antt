@@ -1,20 +1,19 @@
 -- From the parts of a command to what comes of its text.
-use Rattle.std.proofs.Common.{ℕ, ◌≡◌, List, [], sym, subst, Option, Some, None}
-use Rattle.std.specs.Prelude.{Result, Vec, Ok, Err, IfOk, IfErr}
+use Rattle.std.proofs.Common.{ℕ, ◌≡◌, List, [], refl, sym, subst, Option, Some, None}
+use Rattle.std.specs.Prelude.{Result, Vec, Ok, Err}
+use Rattle.std.specs.declared.alloc.AllocError.{AllocError}
 use Rattle.std.specs.declared.alloc.Global.{Global}
 use Rattle.mv_ast.specs.declared.program.Program.{Program}
+use Rattle.mv_ast.specs.declared.world.Action.{Action}
+use Rattle.mv_ast.specs.declared.world.Event.{Event}
 use Rattle.mv_io.specs.Shelves.{Files, Loads}
 use Rattle.mv_front.specs.Verdicts.{IsProgram}
 use Rattle.mv_front.specs.Verdicts as front
 use Rattle.mv_front.specs.declared.refusal.FrontError.{FrontError}
 use Rattle.mv_front.specs.declared.refusal.FrontError.TheVariants as front_error
-use Rattle.mv_source_calls.specs.Bindings.{NeverRebinds}
-use Rattle.mv_checked_facts.specs.Laws.{ProgramsHaveTableFacts}
-use Rattle.mv_checked_programs.specs.Checked.{ProgramsOfTextsAreWellFormed}
-use Rattle.mv_build.specs.Answers.{of_front}
-use Rattle.mv_build.specs.Compiled.{IsCompiled, IsSound, OnRefusal}
-use Rattle.mv_build.specs.Images.{IsImageOf}
-use Rattle.mv_build.specs.Verdicts.{IsBuiltFrom, PassesLimit}
+use Rattle.mv_front.specs.declared.refusal.Refusal.{Refusal}
+use Rattle.mv_build.specs.Answers as build
+use Rattle.mv_build.specs.Verdicts.{IsBuiltFrom}
 use Rattle.mv_build.specs.declared.built.Built.{Built}
 use Rattle.mv_build.specs.declared.error.BuildError.{BuildError}
 use Rattle.mv_build.specs.declared.error.BuildError.TheVariants as build_error
@@ -24,68 +23,71 @@ use Rattle.mv_refine.specs.Execution.{IsExecution}
 use Rattle.mv_meaning.specs.declared.meant.End.{End}
 use Rattle.mv_eval.specs.Evaluations.{Evaluates}
 use Rattle.mv_eval.specs.declared.error.EvalError.{EvalError}
-use Rattle.mv_top.specs.Commands.{IsCommand}
-use Rattle.mv_top.specs.Outcomes.{IsRunnable, IsNotRun, IsCause, IsToRun, Holds, Does, Outside, Comes, refused, over_limit, done, unread, no_image, ran, no_program, evaluated, status_of_build, status_of_error, status_of_evaluation, status_of_stop}
-use Rattle.mv_top.specs.declared.command.Task.{Task}
-use Rattle.mv_top.specs.declared.command.Task.TheVariants.{Run, Eval}
+use Rattle.mv_command.specs.Commands.{IsCommand}
+use Rattle.mv_command.specs.declared.items.Item.{Item}
+use Rattle.mv_command.specs.declared.command.RunOptions.{RunOptions}
+use Rattle.mv_command.specs.declared.command.Task.{Task}
+use Rattle.mv_operator.specs.Operator.{IsFirstWrong}
+use Rattle.mv_top.specs.Lines.{asked_lines}
+use Rattle.mv_top.specs.Texts.{IsNotRun, IsCause, IsPrepared, Performs, EvalDoes, RunDoes, Does, Unused, unbuilt, wrong_item, no_action, not_run, ran, status_of_build, status_of_error, status_of_evaluation, status_of_stop}
+use Rattle.mv_top.specs.Texts as spec
+use Rattle.mv_top.specs.Outcomes.{Holds, Outside, Comes, done}
+use Rattle.mv_top.specs.declared.notes.Performed.{Performed}
+use Rattle.mv_top.specs.declared.prepared.Prepared.{Prepared}
 use Rattle.mv_top.specs.declared.status.Status.{Status}
+use Rattle.mv_top.specs.declared.status.Status.TheVariants.{Memory}
 
--- ---- what is built of a text to be run
+-- what comes of one thing and then of another
+pub performs_so : (Comes Gives : (lines : List ℕ) → Status → Type 0) → ((lines : List ℕ) (status : Status) → Comes lines status → Gives lines status) →
+    (result : Result Performed AllocError) → Performs Comes result → Performs Gives result
+performs_so Comes Gives so (Ok performed) h = so performed.lines.items performed.status h
+performs_so Comes Gives so (Err e) h = record { lines = h.lines; status = h.status; comes = so h.lines h.status h.comes }
 
--- the cause of a refusal of the front end
-pub front_cause : (text : List ℕ) (e : FrontError) → front.IsCause text e → IsCause text (of_front e)
-front_cause text (front_error.Refused r) h = refused r h
-front_cause text (front_error.Memory e) h = tt
+-- a status alone
+pub alone : (Comes : (lines : List ℕ) → Status → Type 0) (lines : List ℕ) (status due : Status) → lines ≡ [] → status ≡ due → Comes [] due → Comes lines status
+alone Comes lines status due none same comes = subst (λ (l : List ℕ). Comes l status) (sym none) (subst (λ (s : Status). Comes [] s) (sym same) comes)
 
-module _ (text : List ℕ) (p : Program) (is : IsProgram text p) where
-  pub sound : ProgramsOfTextsAreWellFormed → ProgramsHaveTableFacts → IsSound p
-  sound formed facts = record { formed = formed text p is; facts = facts text p is }
+-- ---- what a text is run as
 
-  of_compiled : NeverRebinds p → (b : Built) → IsCompiled p b → IsToRun text b
-  of_compiled never b h = record {
-    built_from = record {
-      program = subst (IsProgram text) (sym h.program) is;
-      image = subst (λ (x : Program). IsImageOf x b.generics b.variants b.image) (sym h.program) h.image;
-    };
-    never_rebinds = subst NeverRebinds (sym h.program) never;
-  }
+-- the cause of a refusal of the build
+pub build_cause : (text : List ℕ) (items : List Item) (e : BuildError) → build.IsCause text e → IsCause text items e
+build_cause text items (build_error.Refused r) h = unbuilt r h
+build_cause text items (build_error.Memory e) h = tt
 
-  pub to_run : NeverRebinds p → (result : Result Built BuildError) → IfOk result (λ b. IsCompiled p b) → IfOk result (λ b. IsToRun text b)
-  to_run never (Ok b) h = of_compiled never b h
-  to_run never (Err e) h = h
-
-  pub not_to_run : NeverRebinds p → (result : Result Built BuildError) → IfErr result (λ e. OnRefusal e (PassesLimit p)) → IfErr result (λ e. IsCause text e)
-  not_to_run never (Ok b) h = h
-  not_to_run never (Err (build_error.Refused r)) h = over_limit p r (record { program = is; never_rebinds = never }) h
-  not_to_run never (Err (build_error.Memory e)) h = tt
+-- that of an item that is no action
+pub item_cause : (text : List ℕ) (items : List Item) (built : Built) (item : ℕ) (r : Refusal) → r ≡ no_action item → IsBuiltFrom text built → IsFirstWrong built.program items item →
+    IsNotRun text items r
+item_cause text items built item r same is wrong = subst (IsNotRun text items) (sym same) (wrong_item built item is wrong)
 
 -- ---- from an answer to what comes of the text
 
 module _ (before after : Environment) (text : List ℕ) where
-  abbrev pub Done : Task → Status → Type 0
-  Done task status = Does before after text task status
+  module _ (bound : ℕ) where
+    no_program_by : (e : FrontError) → front.IsCause text e → after ≡ before → EvalDoes before after text bound (status_of_error e)
+    no_program_by (front_error.Refused r) is unused = spec.no_program r is unused
+    no_program_by (front_error.Memory m) is unused = spec.unread unused
 
-  no_image_by : (steps : ℕ) (e : BuildError) → IsCause text e → after ≡ before → Done (Run steps) (status_of_build e)
-  no_image_by steps (build_error.Refused r) is unused = no_image steps r is unused
-  no_image_by steps (build_error.Memory m) is unused = unread (Run steps) unused
+    pub not_evaluated : (status : Status) (e : FrontError) → status ≡ status_of_error e → front.IsCause text e → after ≡ before → EvalDoes before after text bound status
+    not_evaluated status e same is unused = subst (λ (s : Status). EvalDoes before after text bound s) (sym same) (no_program_by e is unused)
 
-  pub not_built : (steps : ℕ) (status : Status) (e : BuildError) → status ≡ status_of_build e → IsCause text e → after ≡ before → Done (Run steps) status
-  not_built steps status e same is unused = subst (λ s. Done (Run steps) s) (sym same) (no_image_by steps e is unused)
+    pub evaluation_done : (status : Status) (p : Program) (result : Result End EvalError) → status ≡ status_of_evaluation result → IsProgram text p →
+        Evaluates p bound before.input.left (Took before after) (Wrote before after) (ReadFailed before after) (WriteFailed before after) result → EvalDoes before after text bound status
+    evaluation_done status p result same is evaluates = subst (λ (s : Status). EvalDoes before after text bound s) (sym same) (spec.evaluated p result is evaluates)
 
-  pub run_done : (steps : ℕ) (status : Status) (built : Built) (e : Execution) → status ≡ status_of_stop e.stopped → IsToRun text built →
-      IsExecution built [] steps before after e → Done (Run steps) status
-  run_done steps status built e same is execution = subst (λ s. Done (Run steps) s) (sym same) (ran steps built e is execution)
+  module _ (Heard : List Event → Type 0) (options : RunOptions) where
+    abbrev Done : (lines : List ℕ) → Status → Type 0
+    Done lines status = RunDoes before after text Heard options lines status
 
-  no_program_by : (bound : ℕ) (e : FrontError) → front.IsCause text e → after ≡ before → Done (Eval bound) (status_of_error e)
-  no_program_by bound (front_error.Refused r) is unused = no_program bound r is unused
-  no_program_by bound (front_error.Memory m) is unused = unread (Eval bound) unused
+    pub not_prepared : (e : BuildError) → IsCause text options.items e → Unused before after text Heard → Done [] (status_of_build e)
+    not_prepared (build_error.Refused r) is unused = not_run r is unused
+    not_prepared (build_error.Memory m) is unused = spec.unread unused
 
-  pub not_evaluated : (bound : ℕ) (status : Status) (e : FrontError) → status ≡ status_of_error e → front.IsCause text e → after ≡ before → Done (Eval bound) status
-  not_evaluated bound status e same is unused = subst (λ s. Done (Eval bound) s) (sym same) (no_program_by bound e is unused)
-
-  pub evaluation_done : (bound : ℕ) (status : Status) (p : Program) (result : Result End EvalError) → status ≡ status_of_evaluation result → IsProgram text p →
-      Evaluates p bound before.input.left (Took before after) (Wrote before after) (ReadFailed before after) (WriteFailed before after) result → Done (Eval bound) status
-  evaluation_done bound status p result same is evaluates = subst (λ s. Done (Eval bound) s) (sym same) (evaluated bound p result is evaluates)
+    pub run_done : (lines : List ℕ) (status : Status) (prepared : Prepared) (e : Execution) → lines ≡ asked_lines options prepared.built.image e.machine → status ≡ status_of_stop e.stopped →
+        IsPrepared text options.items prepared → IsExecution prepared.built prepared.actions.items options.steps before after Heard e → Done lines status
+    run_done lines status prepared e asked same is execution =
+        subst (λ (l : List ℕ). Done l status) (sym asked)
+        (subst (λ (s : Status). Done (asked_lines options prepared.built.image e.machine) s) (sym same)
+        (ran prepared.built prepared.actions.items e is.built is.actions execution))
 
 -- ---- from the parts of a command to the command
 
@@ -94,10 +96,10 @@ holds_loaded None name bytes h = tt
 holds_loaded (Some at) name bytes h = h
 
 -- what comes of a text that the shelf gave
-pub loaded : (words : List (List ℕ)) (before after : Outside) (file : List ℕ) (task what : Task) (status : Status) → IsCommand words file task → task ≡ what →
-    (bytes : Vec ℕ Global) → Loads before.shelf.files file (Ok bytes) → (text : List ℕ) → text ≡ bytes.items →
-    Does before.environment after.environment text what status → Comes words before after status
-loaded words before after file task what status command same bytes loads text is does =
-    done file bytes.items task status command (holds_loaded before.shelf.files file bytes loads)
-    (subst (λ t. Does before.environment after.environment bytes.items t status) (sym same)
-    (subst (λ z. Does before.environment after.environment z what status) is does))
+pub loaded : (words : List (List ℕ)) (before after : Outside) (Heard : List Event → Type 0) (file : List ℕ) (task what : Task) (lines : List ℕ) (status : Status) →
+    IsCommand words file task → task ≡ what → (bytes : Vec ℕ Global) → Loads before.shelf.files file (Ok bytes) → (text : List ℕ) → text ≡ bytes.items →
+    Does before.environment after.environment text Heard what lines status → Comes words before after Heard lines status
+loaded words before after Heard file task what lines status command same bytes loads text is does =
+    done file bytes.items task lines status command (holds_loaded before.shelf.files file bytes loads)
+    (subst (λ t. Does before.environment after.environment bytes.items Heard t lines status) (sym same)
+    (subst (λ z. Does before.environment after.environment z Heard what lines status) is does))

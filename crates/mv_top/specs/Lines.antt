@@ -1,8 +1,16 @@
--- The last line of the notes.
-use Rattle.std.specs.Prelude.{ℕ, ◌^◌, ◌-◌, Bool, true, false, List, [], ◌∷◌, ◌++◌, codes}
+-- What is written to the notes: the lines that were asked for, and the last line.
+use Rattle.std.specs.Prelude.{ℕ, ◌≡◌, ◌^◌, ◌-◌, Bool, true, false, if◌then◌else◌, List, [], ◌∷◌, ◌++◌, codes}
 use Rattle.std.specs.Fmt.{decimal, digits, format_spec, padded_integral}
 use Rattle.mv_isa.specs.declared.instr.Cause.{Cause}
 use Rattle.mv_isa.specs.declared.instr.Cause.TheVariants as cause
+use Rattle.mv_command.specs.declared.command.RunOptions.{RunOptions}
+use Rattle.mv_image.specs.Spelling.{Fields}
+use Rattle.mv_list.specs.Bindings.{bindings_text}
+use Rattle.mv_list.specs.Changes.{patched_text}
+use Rattle.mv_machine.specs.Snapshots.{Snapshot}
+use Rattle.mv_eval.specs.Grown.{Grew, GrewLess}
+use Rattle.mv_io.specs.Outside.{Rose}
+use Rattle.mv_refine.specs.Environment.{Writing}
 use Rattle.mv_front.specs.Refusals.{refusal_text}
 use Rattle.mv_top.specs.declared.status.Status.{Status}
 use Rattle.mv_top.specs.declared.status.Status.TheVariants.{Ended, Trapped, Usage, Refused, Memory, InputFault, OutputFault, ShelfFault, Steps, MachineFault}
@@ -48,6 +56,23 @@ is_silent OutputFault = true
 is_silent ShelfFault = false
 is_silent Steps = false
 is_silent (MachineFault address cause) = false
+
+-- The lines that a run is asked for, of its image and of the machine as it stopped: what each attributed function is bound to, and the words of text that
+-- are other than the image's.
+abbrev pub asked_lines : RunOptions → Fields → Snapshot → List ℕ
+asked_lines options image machine =
+    (if options.bindings then bindings_text image machine.bindings else []) ++ (if options.words then patched_text image machine.room.held else [])
+
+-- what the notes are owed: the lines that were asked for, and then the last line, where there is one
+abbrev pub owed : (lines : List ℕ) → Status → List ℕ
+owed lines status = lines ++ (if is_silent status then [] else last_line status)
+
+-- What became of the notes, of these lines and the status that was due: they grew by what they are owed, and that is the status; or there was no memory for
+-- it, and they are as they were; or a write failed, and they grew by less.
+pub data Noted (lines : List ℕ) (due : Status) (was is : Writing) : Status → Type 0 where
+  written : Grew was.written is.written (owed lines due) → Noted lines due was is due
+  unmade : is ≡ was → Noted lines due was is Memory
+  cut : GrewLess was.written is.written (owed lines due) → Rose was.faults is.faults → Noted lines due was is OutputFault
 
 -- the process status
 abbrev pub number_of : Status → ℕ

@@ -1,7 +1,9 @@
-use Rattle.std.proofs.Common.{List, sym, subst, ap, ◌∙◌}
+use Rattle.std.proofs.Common.{refl, sym, subst}
 use Rattle.std.specs.Prelude.{All, IsTrue}
+use Rattle.std.proofs.lemmas.Result.{err_from_is_err_and}
 use Rattle.mv_image.specs.Spelling.{Fields}
 use Rattle.mv_machine.specs.Actions.{fits}
+use Rattle.mv_probe.proofs.Logs.{told_nothing}
 use Rattle.mv_refine.proofs.Ran.{made, image_of}
 use Rattle.mv_refine.proofs.Executed.{run_does, run_decides}
 use Rattle.mv_refine.proofs.execute.Goals as goal
@@ -12,17 +14,18 @@ run-stopped-requires-clause-fit g c =
     subst (λ (i : Fields). All (λ action. IsTrue (fits i.switches action)) c.args.actions.now)
     (sym (image_of c.in_ok-machine.machine image c.in_ok-machine.ensures)) c.requires.fit
 
-pub returns-clause-executes : goal.returns-clause-executes
-returns-clause-executes g c =
+pub returns-in_err-machine : goal.returns-in_err-machine
+returns-in_err-machine g c =
+    let p = err_from_is_err_and c.from_residual.result c.from_residual.ensures.1 in rw p.1 (refl, told_nothing _ _ c.args.probes.now.items c.requires.patient)
+
+pub returns : goal.returns
+returns g c =
     let program = c.args.built.now.program in
     let image = c.args.built.now.image in
     let actions = c.args.actions.now in
     let machine = c.run-stopped.new.self in
     let runs = made image actions _ _ c.args.steps c.run-stopped.result _ c.in_ok-machine.machine machine c.in_ok-machine.ensures c.run-stopped.ensures.runs in record {
       runs = runs;
-      does = λ behaves. run_does program image behaves actions c.args.steps _ _ machine c.run-stopped.result runs;
-      decides = λ behaves. run_decides program image behaves actions c.args.steps _ _ machine c.run-stopped.result runs;
+      does = λ behaves. run_does program image behaves actions c.args.steps _ _ _ machine c.run-stopped.result runs;
+      decides = λ behaves. run_decides program image behaves actions c.args.steps _ _ _ machine c.run-stopped.result runs;
     }
-
-pub returns-clause-quiet : goal.returns-clause-quiet
-returns-clause-quiet g c = λ none. c.run-stopped.ensures.quiet (ap (λ (i : Fields). i.functions) (image_of c.in_ok-machine.machine c.args.built.now.image c.in_ok-machine.ensures) ∙ none)

@@ -1,4 +1,0 @@
-pub mod Flags
-pub mod Forms
-pub mod Statements
-pub mod Programs

@@ -1,0 +1,133 @@
+-- What comes of the text of a command's file.
+use Rattle.std.specs.Prelude.{ℕ, ◌≡◌, List, [], Result, Ok, Err}
+use Rattle.std.specs.declared.alloc.AllocError.{AllocError}
+use Rattle.mv_ast.specs.declared.program.Program.{Program}
+use Rattle.mv_ast.specs.declared.world.Action.{Action}
+use Rattle.mv_ast.specs.declared.world.Event.{Event}
+use Rattle.mv_front.specs.Verdicts.{IsProgram, IsRefused}
+use Rattle.mv_front.specs.Refusals.{counted}
+use Rattle.mv_front.specs.declared.refusal.Refusal.{Refusal}
+use Rattle.mv_front.specs.declared.refusal.FrontError.{FrontError}
+use Rattle.mv_front.specs.declared.refusal.FrontError.TheVariants as front
+use Rattle.mv_build.specs.Verdicts.{HasNoImage, IsBuiltFrom}
+use Rattle.mv_build.specs.declared.built.Built.{Built}
+use Rattle.mv_build.specs.declared.error.BuildError.{BuildError}
+use Rattle.mv_build.specs.declared.error.BuildError.TheVariants as build
+use Rattle.mv_machine.specs.declared.machine.Stopped.{Stopped}
+use Rattle.mv_machine.specs.declared.machine.Stopped.TheVariants as stop
+use Rattle.mv_refine.specs.declared.execution.Execution.{Execution}
+use Rattle.mv_refine.specs.Environment.{Environment, Took, Wrote, ReadFailed, WriteFailed}
+use Rattle.mv_refine.specs.Execution.{IsExecution}
+use Rattle.mv_meaning.specs.declared.meant.End.{End}
+use Rattle.mv_meaning.specs.declared.meant.End.TheVariants.{Exit, Trap, More}
+use Rattle.mv_eval.specs.Evaluations.{Evaluates}
+use Rattle.mv_eval.specs.declared.error.EvalError.{EvalError}
+use Rattle.mv_eval.specs.declared.error.EvalError.TheVariants as fault
+use Rattle.mv_command.specs.declared.items.Item.{Item}
+use Rattle.mv_command.specs.declared.command.RunOptions.{RunOptions}
+use Rattle.mv_command.specs.declared.command.Task.{Task}
+use Rattle.mv_command.specs.declared.command.Task.TheVariants.{Run, Eval}
+use Rattle.mv_operator.specs.Operator.{IsActions, IsFirstWrong}
+use Rattle.mv_top.specs.Lines.{asked_lines}
+use Rattle.mv_top.specs.declared.notes.Performed.{Performed}
+use Rattle.mv_top.specs.declared.prepared.Prepared.{Prepared}
+use Rattle.mv_top.specs.declared.status.Status.{Status}
+use Rattle.mv_top.specs.declared.status.Status.TheVariants.{Ended, Trapped, Refused, Memory, InputFault, OutputFault, Steps, MachineFault}
+
+-- ---- a program that is run
+
+-- the refusal of an item that is no action of the program, by its number from 1
+abbrev pub no_action : ℕ → Refusal
+no_action item = counted 15 0 item
+
+-- A source isn't run for one of these causes: it has no image; or it has one, and this is the first item of the operator that is no action of its program.
+pub data IsNotRun (text : List ℕ) (items : List Item) : Refusal → Type 0 where
+  unbuilt : (r : Refusal) → HasNoImage text r → IsNotRun text items r
+  wrong_item : (built : Built) (item : ℕ) → IsBuiltFrom text built → IsFirstWrong built.program items item → IsNotRun text items (no_action item)
+
+-- the cause of each answer that is nothing to run
+abbrev pub IsCause : List ℕ → List Item → BuildError → Type 0
+IsCause text items (build.Refused r) = IsNotRun text items r
+IsCause text items (build.Memory e) = Unit {0}
+
+-- a source's image, and the actions of the operator that items are
+pub record IsPrepared (text : List ℕ) (items : List Item) (prepared : Prepared) : Type 0 where
+  pub built : IsBuiltFrom text prepared.built
+  pub actions : IsActions prepared.built.program items prepared.actions.items
+
+-- the status of a run that has stopped
+abbrev pub status_of_stop : Stopped → Status
+status_of_stop (stop.Ended status) = Ended status
+status_of_stop (stop.Trapped code) = Trapped code
+status_of_stop stop.Steps = Steps
+status_of_stop stop.InputFault = InputFault
+status_of_stop stop.OutputFault = OutputFault
+status_of_stop (stop.Fault pc why) = MachineFault pc why
+status_of_stop stop.Memory = Memory
+
+-- the status of a text that isn't run
+abbrev pub status_of_build : BuildError → Status
+status_of_build (build.Refused r) = Refused r
+status_of_build (build.Memory e) = Memory
+
+-- ---- a program that is evaluated
+
+-- the status of an end, and of an evaluation
+abbrev pub status_of_end : End → Status
+status_of_end (Exit status) = Ended status
+status_of_end (Trap code) = Trapped code
+status_of_end More = Steps
+
+abbrev pub status_of_evaluation : Result End EvalError → Status
+status_of_evaluation (Ok «end») = status_of_end «end»
+status_of_evaluation (Err fault.Input) = InputFault
+status_of_evaluation (Err fault.Output) = OutputFault
+status_of_evaluation (Err (fault.Memory e)) = Memory
+
+-- the status of a text that is no program
+abbrev pub status_of_error : FrontError → Status
+status_of_error (front.Refused r) = Refused r
+status_of_error (front.Memory e) = Memory
+
+-- ---- what was performed
+
+-- the status that is due, and the lines that are asked for
+pub record IsDue (Comes : (lines : List ℕ) → Status → Type 0) : Type 0 where
+  pub lines : List ℕ
+  pub status : Status
+  pub comes : Comes lines status
+
+-- what was performed came so, or there was no memory for its lines
+abbrev pub Performs : (Comes : (lines : List ℕ) → Status → Type 0) → Result Performed AllocError → Type 0
+Performs Comes (Ok performed) = Comes performed.lines.items performed.status
+Performs Comes (Err e) = IsDue Comes
+
+-- ---- what comes of a text
+
+module _ (before after : Environment) (text : List ℕ) where
+  -- What comes of its evaluation.
+  pub data EvalDoes (bound : ℕ) : Status → Type 0 where
+    -- there was no memory to read it as a program
+    unread : after ≡ before → EvalDoes bound Memory
+    no_program : (r : Refusal) → IsRefused text r → after ≡ before → EvalDoes bound (Refused r)
+    evaluated : (p : Program) (result : Result End EvalError) → IsProgram text p →
+        Evaluates p bound before.input.left (Took before after) (Wrote before after) (ReadFailed before after) (WriteFailed before after) result →
+        EvalDoes bound (status_of_evaluation result)
+
+  -- `Heard events`: the probes were told these events
+  module _ (Heard : List Event → Type 0) where
+    abbrev pub Unused : Type 0
+    Unused = (after ≡ before) × Heard []
+
+    -- What comes of its run, with the lines that it is asked for: one run of one image that is built of it, by the actions of the operator. That gives the
+    -- status, the lines, what was taken and written, and what the probes were told.
+    pub data RunDoes (options : RunOptions) : (lines : List ℕ) → Status → Type 0 where
+      -- there was no memory to read it as a program, to compile or to load that
+      unread : Unused → RunDoes options [] Memory
+      not_run : (r : Refusal) → IsNotRun text options.items r → Unused → RunDoes options [] (Refused r)
+      ran : (built : Built) (actions : List Action) (e : Execution) → IsBuiltFrom text built → IsActions built.program options.items actions →
+          IsExecution built actions options.steps before after Heard e → RunDoes options (asked_lines options built.image e.machine) (status_of_stop e.stopped)
+
+    abbrev pub Does : Task → (lines : List ℕ) → Status → Type 0
+    Does (Run options) lines status = RunDoes options lines status
+    Does (Eval bound) lines status = EvalDoes bound status × (lines ≡ []) × Heard []
