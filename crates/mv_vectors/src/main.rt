@@ -11,16 +11,10 @@ mod single;
 
 use crate::operands::parts;
 use crate::operator::operator;
-use crate::single::{Bench, Vector};
+use crate::single::{Bench, Vector, number};
 use mv_isa::{decode, encode};
 use std::alloc::{AllocError, Global};
 use std::{fs, io};
-
-// A line of encodings: a word in hexadecimal, and the instruction.
-fn parse_encoding(line: &str) -> Option<(u32, &str)> {
-    let (word, text) = line.split_once(' ')?;
-    Some((u32::from_str_radix(word, 16).ok()?, text))
-}
 
 // Whether the word is decoded as the instruction, and the instruction encoded as the word.
 fn is_encoding(alloc: Global, word: u32, text: &str) -> Result<bool, AllocError> {
@@ -32,46 +26,30 @@ fn is_encoding(alloc: Global, word: u32, text: &str) -> Result<bool, AllocError>
     Ok(printed.as_str() == text && encode(instr) == word)
 }
 
-// Whether the machine gives what the vector says, and the operator too.
-fn is_step(bench: &mut Bench, word: u32, vector: &Vector) -> bool {
-    let agrees = match operator(vector.name, vector.a, vector.b) {
-        Some(result) => result == vector.result,
+// Whether the machine does what the vector says, and the operator gives it too where the instruction goes on.
+fn is_step(bench: &mut Bench, vector: &Vector) -> bool {
+    let given = match operator(vector) {
+        Some(result) => result == vector.result || !vector.goes_on(),
         None => true,
     };
-    agrees && bench.run(word, vector) == Some(vector.result)
-}
-
-// A word of the instruction with this mnemonic.
-fn word_named(words: &[(&str, u32)], name: &str) -> Option<u32> {
-    for (text, word) in words {
-        if text
-            .split_once(' ')
-            .is_some_and(|(mnemonic, _)| mnemonic == name)
-        {
-            return Some(*word);
-        }
-    }
-    None
+    given && bench.agrees(vector) == Some(true)
 }
 
 fn main(rt: HostRuntime) -> io::Result<()> {
     let alloc = rt.alloc();
     let encodings = fs::read_to_string(&rt, "encodings.txt")?;
     let steps = fs::read_to_string(&rt, "steps.txt")?;
-    let mut words = Vec::new(alloc);
     let mut wrong = Vec::new(alloc);
     for line in encodings.as_str().lines() {
-        match parse_encoding(line) {
-            Some((word, text)) if is_encoding(alloc, word, text)? => words.push((text, word))?,
+        match number(line) {
+            Some((word, text)) if is_encoding(alloc, word, text)? => {}
             _ => wrong.push(line)?,
         }
     }
     let mut bench = Bench::new(alloc)?;
     for line in steps.as_str().lines() {
-        let vector = Vector::parse(line);
-        let word = vector.and_then(|v| word_named(words.as_slice(), v.name));
-        match (vector, word) {
-            (Some(vector), Some(word)) if is_step(&mut bench, word, &vector) => {}
+        match Vector::parse(line) {
+            Some(vector) if is_step(&mut bench, &vector) => {}
             _ => wrong.push(line)?,
         }
     }
