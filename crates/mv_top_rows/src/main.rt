@@ -20,7 +20,7 @@ mod outcome;
 mod row;
 
 use crate::limits::show_limits;
-use crate::meaning::{agrees, meant};
+use crate::meaning::{agrees, meaning_of};
 use crate::outcome::{Outcome, outcome_of};
 use crate::row::{Row, add_line, row_of};
 use mv_probe::{FetchOracle, Fresh, Oldest, Table};
@@ -104,7 +104,7 @@ fn compare(rt: &HostRuntime, row: &Row, outcome: &Outcome) -> anyhow::Result<()>
     repeat(rt, row, outcome, &mut fresh)?;
     let mut table: Box<dyn FetchOracle> = Box::new(alloc, Table::new(vec![in alloc; 0, 1, 2]?))?;
     repeat(rt, row, outcome, &mut table)?;
-    if outcome.has_ended() && !agrees(alloc, &meant(rt, row)?, outcome)? {
+    if outcome.has_ended() && !agrees(alloc, &meaning_of(rt, row)?, outcome)? {
         println!(rt; "# and it means something else")?;
     }
     Ok(())

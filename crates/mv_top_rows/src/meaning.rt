@@ -3,7 +3,7 @@
 use crate::outcome::{Outcome, input_of};
 use crate::row::Row;
 use anyhow::ensure;
-use mv_ast::program::Program;
+use mv_ast::program::{Program, Switch};
 use mv_ast::world::Action;
 use mv_front::front;
 use mv_io::{FileShelf, Shelf};
@@ -13,15 +13,24 @@ use std::alloc::{AllocError, Global};
 /// The bound at which programs are evaluated.
 const BOUND: u32 = 1_000_000;
 
-// Whether the switch with this number has this name.
-fn is_named(program: &Program, switch: usize, name: &str) -> bool {
-    match program.switches.get(switch) {
-        Some(switch) => match program.globals.get(switch.global as usize) {
-            Some(global) => global.name.bytes() == name.as_bytes(),
-            None => false,
-        },
+// Whether a switch has this name.
+fn is_named(program: &Program, switch: &Switch, name: &str) -> bool {
+    match program.globals.get(switch.global as usize) {
+        Some(global) => global.name.bytes() == name.as_bytes(),
         None => false,
     }
+}
+
+// The number of the switch with this name.
+fn switch_named(program: &Program, name: &str) -> Option<u32> {
+    let mut number: u32 = 0;
+    for switch in program.switches.as_slice() {
+        if is_named(program, switch, name) {
+            return Some(number);
+        }
+        number = number.saturating_add(1);
+    }
+    None
 }
 
 // The word of a decimal number.
@@ -36,14 +45,15 @@ fn word_of(text: &str) -> u32 {
 fn push_item(program: &Program, actions: &mut Vec<Action>, item: &str) -> anyhow::Result<()> {
     let (poll, flip) = item.split_once(':').unwrap_or(("", item));
     let (name, value) = flip.split_once('=').unwrap_or((flip, ""));
-    let Some(switch) = (0..program.switches.len()).find(|switch| is_named(program, *switch, name)) else {
+    let Some(switch) = switch_named(program, name) else {
         return Ok(());
     };
-    while actions.len() < poll.parse::<usize>().unwrap_or(1).saturating_sub(1) {
+    let before = poll.parse::<usize>().unwrap_or(1).saturating_sub(1);
+    for _ in actions.len()..before {
         actions.push(Action::Skip)?;
     }
     actions.push(Action::Flip {
-        switch: switch as u32,
+        switch,
         value: word_of(value),
     })?;
     Ok(())
@@ -60,19 +70,33 @@ fn actions_of(alloc: Global, program: &Program, words: &str) -> anyhow::Result<V
     Ok(actions)
 }
 
-/// What the program of a row means, with the operator's actions of its command.
-pub(crate) fn meant(rt: &HostRuntime, row: &Row) -> anyhow::Result<Meant> {
-    let alloc = rt.alloc();
-    let file = row.words.as_str().split(' ').nth(1).unwrap_or("");
-    let text = FileShelf::new(rt).load(alloc, file)?;
-    let program = front(alloc, text.as_slice())?;
+// What a program means on an input, with the operator's actions of a command.
+fn evaluated(
+    alloc: Global,
+    program: &Program,
+    input: &[u8],
+    words: &str,
+) -> anyhow::Result<Meant> {
     ensure!(
         program.functions.len() < 0x1_0000_0000,
         "more functions than numbers"
     );
+    let actions = actions_of(alloc, program, words)?;
+    Ok(evaluate(alloc, program, input, actions.as_slice(), BOUND)?)
+}
+
+/// What the program of a row means, with the operator's actions of its command.
+pub(crate) fn meaning_of(rt: &HostRuntime, row: &Row) -> anyhow::Result<Meant> {
+    let alloc = rt.alloc();
+    let file = row.words.as_str().split(' ').nth(1).unwrap_or("");
+    let mut shelf = FileShelf::new(rt);
+    let text = shelf.load(alloc, file)?;
     let input = input_of(rt, row)?;
-    let actions = actions_of(alloc, &program, row.words.as_str())?;
-    Ok(evaluate(alloc, &program, &input, &actions, BOUND)?)
+    let program = front(alloc, text.as_slice())?;
+    let meant = evaluated(alloc, &program, input.as_slice(), row.words.as_str());
+    // (let go of here, and not at each `?` anew)
+    drop(program);
+    meant
 }
 
 /// Whether a run came to what its program means.

@@ -49,7 +49,8 @@ pub(crate) fn input_of(rt: &HostRuntime, row: &Row) -> anyhow::Result<Vec<u8>> {
     if row.input.is_empty() {
         return Ok(Vec::new(rt.alloc()));
     }
-    Ok(FileShelf::new(rt).load(rt.alloc(), row.input.as_str())?)
+    let mut shelf = FileShelf::new(rt);
+    Ok(shelf.load(rt.alloc(), row.input.as_str())?)
 }
 
 // The events that the last probe was told.
