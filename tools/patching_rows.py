@@ -212,7 +212,9 @@ def summed(turns, value):
 
 def shown(value):
     def act(world, frame):
-        world.out += f"{int(value.act(world, frame))} "
+        # (the value may show others before it)
+        written = int(value.act(world, frame))
+        world.out += f"{written} "
     return Piece(f"show({value.text});", act, value.names)
 
 

@@ -10,7 +10,8 @@ const STEPS: u8 = 8;
 // Whether what a limited run wrote is a part of the whole from its start, and all of it where it ended as the whole did.
 fn is_part(outcome: &Outcome, whole: &Outcome) -> bool {
     let is_whole = outcome.status == whole.status && outcome.out.as_slice() == whole.out.as_slice();
-    let is_start = outcome.status == STEPS && whole.out.as_slice().starts_with(outcome.out.as_slice());
+    let is_start = outcome.status == STEPS
+        && whole.out.as_slice().starts_with(outcome.out.as_slice());
     is_whole || is_start
 }
 

@@ -1,5 +1,5 @@
-//! Carries out the commands of its standard input, one a line, and prints the output and the notes of each; where there are no notes, the number of
-//! its status. A line that begins with `#` is printed as it is.
+//! Carries out the commands of its standard input, one a line, and prints the output and the notes of each, and the number of its status where the notes have
+//! no last line. A line that begins with `#` is printed as it is.
 //!
 //! | In a command | What it says |
 //! |---|---|
@@ -31,6 +31,9 @@ const MANY: usize = 64;
 
 /// The number of the status of a refused text.
 const REFUSED: u8 = 3;
+
+/// The numbers of the statuses without a last line: want of memory, and a write that failed.
+const SILENT: [u8; 2] = [4, 6];
 
 /// What stands in front of a line of the text.
 const INDENT: &str = "    ";
@@ -72,7 +75,7 @@ fn print_log(rt: &HostRuntime, outcome: &Outcome) -> io::Result<()> {
 // Prints what a command came to.
 fn print_outcome(rt: &HostRuntime, row: &Row, outcome: &Outcome) -> io::Result<()> {
     print_bytes(rt, outcome.out.as_slice())?;
-    if outcome.notes.is_empty() {
+    if SILENT.contains(&outcome.status) {
         println!(rt; "status {}", outcome.status)?;
     }
     print_bytes(rt, outcome.notes.as_slice())?;

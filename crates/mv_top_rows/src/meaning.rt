@@ -71,12 +71,7 @@ fn actions_of(alloc: Global, program: &Program, words: &str) -> anyhow::Result<V
 }
 
 // What a program means on an input, with the operator's actions of a command.
-fn evaluated(
-    alloc: Global,
-    program: &Program,
-    input: &[u8],
-    words: &str,
-) -> anyhow::Result<Meant> {
+fn evaluated(alloc: Global, program: &Program, input: &[u8], words: &str) -> anyhow::Result<Meant> {
     ensure!(
         program.functions.len() < 0x1_0000_0000,
         "more functions than numbers"
@@ -106,7 +101,9 @@ pub(crate) fn agrees(alloc: Global, meant: &Meant, outcome: &Outcome) -> Result<
         End::Trap(code) => format!(in alloc; "trapped {code}\n")?,
         End::More => return Ok(false),
     };
-    Ok(outcome.notes.as_slice().ends_with(last_line.as_bytes())
-        && outcome.out.as_slice() == meant.output.as_slice()
-        && outcome.log.as_slice() == meant.log.as_slice())
+    Ok(
+        outcome.notes.as_slice().ends_with(last_line.as_bytes())
+            && outcome.out.as_slice() == meant.output.as_slice()
+            && outcome.log.as_slice() == meant.log.as_slice(),
+    )
 }
