@@ -22,6 +22,8 @@ TITLE = re.compile(r"^# .*\n", re.M)
 BLOCK = re.compile(r"^```(\w+)\n(.*?)^```$", re.M | re.S)
 COMMANDS = "| Command | Output | Last line |\n|---|---|---|\n"
 SYNOPSES = "| Command | What it does |\n|---|---|\n"
+# The lines on bindings and words that stand before a last line.
+LINES = re.compile(r"^(binding|word) .*\n", re.M)
 ATTRIBUTE = "__attribute__((multiverse))"
 # What stands around the examples of rules, as docs/refusals.md says.
 BEFORE = f"{ATTRIBUTE} int s; int n; const int c = 1; int a[2]; int (*p)(void); int g(int i) {{ return i; }} void v(void) {{ }}\n"
@@ -116,7 +118,7 @@ def wrong_outputs(known):
         name = os.path.basename(file)[: -len(".out")]
         answers = [it for (command, _), it in known.items() if command.endswith(f" < {name}.in") or command.split()[1:2] == [f"{name}.c"]]
         wanted = lines_of(text_of(file))
-        if not answers or any(it.splitlines(keepends=True)[:-1] != wanted.splitlines(keepends=True) for it in answers):
+        if not answers or any(LINES.sub("", it).splitlines(keepends=True)[:-1] != wanted.splitlines(keepends=True) for it in answers):
             yield f"examples/{name}.out is another output"
 
 

@@ -5,10 +5,11 @@ import os
 import refusals
 
 SYNOPSIS = """\
-usage: ./multiverse [--explain off] run FILE [--steps N]
+usage: ./multiverse [--explain off] run FILE [--steps N] [--at LIST] [--bindings] [--words]
        ./multiverse [--explain off] eval FILE --bound K
        ./multiverse --build
-N is 1 to 1000000000000 (without it 1000000000), K is 0 to 4294967295; docs/commands.md has all"""
+N is 1 to 1000000000000 (without it 1000000000), K is 0 to 4294967295, LIST is items POLL:SWITCH=VALUE with commas between;
+docs/commands.md has all"""
 
 # How many characters of a line are shown, and how many of these at most before the place.
 WIDTH, BEFORE = 100, 60

@@ -291,7 +291,7 @@ class Launcher(unittest.TestCase):
         self.write("notes", f"{notes}\n")
         self.gate()
         whole = self.run_at_terminal(*words)
-        self.assertEqual(whole.splitlines()[0], notes)
+        self.assertTrue(whole.startswith(f"{notes}\n"))
         self.assertEqual(self.run_at_terminal("--explain", "off", *words), f"{notes}\n")
         self.assertEqual(self.run_it(*words)[2], f"{notes}\n")
         return whole
@@ -310,6 +310,12 @@ class Launcher(unittest.TestCase):
 
     def test_limit_is_explained(self):
         self.assertIn("parameters of a function", self.explained("refused 7 limit 3 count 9", "run", "a.c"))
+
+    def test_item_is_explained(self):
+        self.assertIn("a.c: the I-th item of `--at`", self.explained("refused 15 count 2", "run", "a.c", "--at", "1:s=1,2:t=1"))
+
+    def test_lines_before_the_last_are_not_explained(self):
+        self.assertEqual(self.explained("binding f free\nended 3", "run", "a.c", "--bindings"), "binding f free\nended 3\n")
 
     def test_end_is_not_explained(self):
         self.assertEqual(self.explained("ended 3", "run", "a.c"), "ended 3\n")

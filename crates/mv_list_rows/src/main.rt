@@ -7,10 +7,18 @@ use mv_image::{read, write};
 use mv_list::listing;
 use std::alloc::Global;
 
+// The bytes of the image of a source.
+fn bytes_of(alloc: Global, source: &str) -> anyhow::Result<Vec<u8>> {
+    let built = build(alloc, source.as_bytes())?;
+    let bytes = write(alloc, &built.image);
+    // (let go of here, and not at each `?` anew)
+    drop(built);
+    Ok(bytes?)
+}
+
 // What is listed of the image of a source.
 fn listed(alloc: Global, source: &str) -> anyhow::Result<String> {
-    let built = build(alloc, source.as_bytes())?;
-    let bytes = write(alloc, &built.image)?;
+    let bytes = bytes_of(alloc, source)?;
     let image = read(alloc, &bytes)?;
     Ok(String::from_utf8(listing(alloc, &image)?)?)
 }
