@@ -66,8 +66,15 @@ fn are_of_words(actions: &[Action])
     ensures { All IsOfWord actions.now }
 {
     for action in actions {
-        if let Action::Flip { value, .. } = action {
-            let _read = *value;
-        }
+        is_of_word(action);
+    }
+}
+
+/// The value of an action has 32 bits.
+fn is_of_word(action: &Action)
+    ensures { IsOfWord action.now }
+{
+    if let Action::Flip { value, .. } = action {
+        let _read = *value;
     }
 }
