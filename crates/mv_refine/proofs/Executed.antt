@@ -1,20 +1,18 @@
 -- What the run of an image does that behaves as a program means.
 use Rattle.std.proofs.Common.{◌≡◌, inl, inr, ⊎_elim, ℕ, ◌^◌, ◌<◌, ◌≤◌, List, [], take, Option, Some, None, refl, sym, ap, ◌∙◌, subst, arith}
-use Rattle.std.specs.Prelude.{All, IfSome, IsTrue}
+use Rattle.std.specs.Prelude.{slice_index, All, IfSome, IsTrue}
 use Rattle.std.proofs.lemmas.Bool.{cases_lt}
-use Rattle.std.proofs.lemmas.List.Elements.{All-weaker}
+use Rattle.mv_ast.specs.Actions.{fits}
 use Rattle.mv_ast.specs.declared.world.Action.{Action}
 use Rattle.mv_ast.specs.declared.world.Event.{Event}
 use Rattle.mv_ast.specs.declared.program.Program.{Program}
-use Rattle.mv_ast.specs.Actions.{fits}
 use Rattle.mv_commit_runs.specs.Tabled.{IsOfWord}
 use Rattle.mv_image.specs.Spelling.{Fields}
 use Rattle.mv_image_runs.specs.Behaves.{IsWhole, EndsRight, Behaves, BehavesAlways, taken_of}
 use Rattle.mv_machine.specs.declared.machine.Stopped.{Stopped}
 use Rattle.mv_machine.specs.declared.machine.Stopped.TheVariants as answer
-use Rattle.mv_machine.specs.Actions as image_actions
 use Rattle.mv_machine.specs.Runs.{State, Stop, Going, Exit, Trap, Fault, bytes_to_come, runs}
-use Rattle.mv_machine.specs.Snapshots.{Snapshot, kept, Tells}
+use Rattle.mv_machine.specs.Snapshots.{Snapshot, WantsMemory, kept, Tells}
 use Rattle.mv_meaning.specs.declared.meant.End.{End}
 use Rattle.mv_meaning.specs.declared.meant.End.TheVariants as source
 use Rattle.mv_meaning.specs.declared.meant.Meant.{Meant}
@@ -22,7 +20,6 @@ use Rattle.mv_meaning.specs.Meaning.{mean}
 use Rattle.mv_meaning.proofs.Bounds.{bound_extends}
 use Rattle.mv_meaning.proofs.Growing.{Begins-trans}
 use Rattle.mv_refine.specs.Environment.{Environment, Took, Wrote}
-use Rattle.mv_refine.specs.Execution.{SameFit}
 use Rattle.mv_refine.specs.Run.{IsDone, Stands, StandsBefore, Runs}
 use Rattle.mv_refine.specs.Meant.{DoesAll, DoesPart, KeepsUp, DoesOn, DoesFrom, Does, IsAnswer, DecidesOn, DecidesFrom, Decides}
 
@@ -33,7 +30,7 @@ is_more (source.Exit status) h = absurd (h (λ e. cc))
 is_more (source.Trap code) h = absurd (h (λ e. cc))
 is_more source.More h = refl
 
-module _ (p : Program) (bytes : List ℕ) (actions : List Action) where
+module _ (p : Program) (actions : List Action) (bytes : List ℕ) where
   abbrev end_at : ℕ → End
   end_at k = (mean p bytes actions k).«end»
 
@@ -101,25 +98,21 @@ module _ (p : Program) (actions : List Action) (steps : ℕ) (before after : Env
   same_end : (k : ℕ) (e : End) (stopped : Stopped) → (e ≡ source.More → ⊥) → IsAnswer e stopped → (mean p bytes actions steps).«end» ≡ e → ((mean p bytes actions k).«end» ≡ source.More → ⊥) →
       IsAnswer (mean p bytes actions k).«end» stopped
   same_end k e stopped finished is ending over =
-      let same : (mean p bytes actions steps).«end» ≡ (mean p bytes actions k).«end» = one_end p bytes actions steps k (λ more. finished (sym ending ∙ more)) over in
+      let same : (mean p bytes actions steps).«end» ≡ (mean p bytes actions k).«end» = one_end p actions bytes steps k (λ more. finished (sym ending ∙ more)) over in
       subst (λ (x : End). IsAnswer x stopped) (sym ending ∙ same) is
 
   decides : (stopped : Stopped) → DoesOn p actions steps before after Heard machine bytes stopped → DecidesOn p actions steps before after bytes stopped
-  decides (answer.Ended status) d calm_in calm_out k enough over = inl (same_end k (source.Exit status) (answer.Ended status) (λ e. cc) refl d.ending over)
-  decides (answer.Trapped code) d calm_in calm_out k enough over = inl (same_end k (source.Trap code) (answer.Trapped code) (λ e. cc) refl d.ending over)
+  decides (answer.Ended status) d calm_in calm_out k enough over = same_end k (source.Exit status) (answer.Ended status) (λ e. cc) refl d.ending over
+  decides (answer.Trapped code) d calm_in calm_out k enough over = same_end k (source.Trap code) (answer.Trapped code) (λ e. cc) refl d.ending over
   decides answer.Steps d calm_in calm_out k enough over = absurd (over (d.2 k enough).0)
   decides answer.InputFault d calm_in calm_out k enough over = absurd (calm_in d.2)
   decides answer.OutputFault d calm_in calm_out k enough over = absurd (calm_out d.2)
   decides (answer.Fault pc why) d calm_in calm_out k enough over = absurd d
-  decides answer.Memory d calm_in calm_out k enough over = inr refl
+  decides answer.Memory d calm_in calm_out k enough over = absurd d
 
 -- ---- what a run of an image does that behaves as a program means
 
--- actions that fit the image fit the program
-pub fit_program : (p : Program) (image : Fields) → SameFit p image → (actions : List Action) → All (λ a. IsTrue (image_actions.fits image.switches a)) actions → All (λ a. IsTrue (fits p a)) actions
-fit_program p image same actions = All-weaker (λ a. IsTrue (image_actions.fits image.switches a)) (λ a. IsTrue (fits p a)) (λ a h. subst IsTrue (same a) h) actions
-
-module _ (p : Program) (image : Fields) (behaves : BehavesAlways p image) (actions : List Action) (of_words : All IsOfWord actions) (fit : All (λ a. IsTrue (fits p a)) actions) (steps : ℕ) (before after : Environment) (Heard : List Event → Type 0) (machine : Snapshot) where
+module _ (p : Program) (image : Fields) (behaves : BehavesAlways p image) (actions : List Action) (words : All IsOfWord actions) (fit : All (λ a. IsTrue (fits p a)) actions) (steps : ℕ) (before after : Environment) (Heard : List Event → Type 0) (machine : Snapshot) where
   module _ (bytes : List ℕ) (told : before.input.left ≡ Some bytes) (are : All (λ b. b < 2 ^ 8) bytes) where
     kept_bindings : (s : State) → machine ≡ kept s machine.last → machine.bindings ≡ s.bindings
     unfolding kept
@@ -128,7 +121,7 @@ module _ (p : Program) (image : Fields) (behaves : BehavesAlways p image) (actio
     input_is : (input : List (Option ℕ)) → Tells before.input.left input → input ≡ bytes_to_come bytes
     input_is input tells = subst (λ (l : Option (List ℕ)). Tells l input) told tells
 
-    leaves : (input : List (Option ℕ)) (picks : List ℕ) (n : ℕ) → IsDone image actions before after Heard machine input picks n → Leaves p image before after Heard machine bytes actions picks steps (behaves bytes actions picks are of_words fit) n
+    leaves : (input : List (Option ℕ)) (picks : List ℕ) (n : ℕ) → IsDone image actions before after Heard machine input picks n → Leaves p image before after Heard machine bytes actions picks steps (behaves bytes actions picks are words fit) n
     leaves input picks n done =
         let same = input_is input done.told in
         let taken : Took before after (take (taken_of bytes (runs image input actions picks n)) bytes) =
@@ -145,24 +138,30 @@ module _ (p : Program) (image : Fields) (behaves : BehavesAlways p image) (actio
     stop_at input picks n stop same stops = subst (λ (i : List (Option ℕ)). (runs image i actions picks n).stop ≡ stop) same stops
 
     ends : (stop : Stop) → (s : Stands image actions before after Heard machine stop steps) → EndsRight bytes (runs image (bytes_to_come bytes) actions s.picks steps) (mean p bytes actions steps) stop
-    ends stop s = right p image before after Heard machine bytes actions s.picks steps (behaves bytes actions s.picks are of_words fit) stop (stop_at s.input s.picks steps stop (input_is s.input s.done.told) s.stops)
+    ends stop s = right p image before after Heard machine bytes actions s.picks steps (behaves bytes actions s.picks are words fit) stop (stop_at s.input s.picks steps stop (input_is s.input s.done.told) s.stops)
 
     stuck_part : (Next : State → ℕ → Type 0) → StandsBefore image actions before after Heard machine Next steps → (piece : List ℕ) × DoesPart before after Heard machine bytes (mean p bytes actions steps) piece
     stuck_part Next s =
         let fewer = s.fewer in
-        let b = behaves bytes actions s.picks are of_words fit in
+        let b = behaves bytes actions s.picks are words fit in
         (_, part p image before after Heard machine bytes actions s.picks steps b s.count (omega (arith, fewer)) (leaves s.input s.picks s.count s.done))
+
+    -- no instruction wants memory
+    roomy : StandsBefore image actions before after Heard machine WantsMemory steps → ⊥
+    roomy s =
+        (behaves bytes actions s.picks are words fit).roomy s.count (slice_index s.picks s.count)
+        (subst (λ (i : List (Option ℕ)). WantsMemory (runs image i actions s.picks s.count) (slice_index s.picks s.count)) (input_is s.input s.done.told) s.next)
 
     does : (stopped : Stopped) → Runs image actions before after Heard machine steps stopped → DoesOn p actions steps before after Heard machine bytes stopped
     does (answer.Ended status) r =
         let s = r.stands in
-        all p image before after Heard machine bytes actions s.picks steps (behaves bytes actions s.picks are of_words fit) (Exit status) (source.Exit status) (leaves s.input s.picks steps s.done) (ends (Exit status) s)
+        all p image before after Heard machine bytes actions s.picks steps (behaves bytes actions s.picks are words fit) (Exit status) (source.Exit status) (leaves s.input s.picks steps s.done) (ends (Exit status) s)
     does (answer.Trapped code) r =
         let s = r.stands in
-        all p image before after Heard machine bytes actions s.picks steps (behaves bytes actions s.picks are of_words fit) (Trap code) (source.Trap code) (leaves s.input s.picks steps s.done) (ends (Trap code) s)
+        all p image before after Heard machine bytes actions s.picks steps (behaves bytes actions s.picks are words fit) (Trap code) (source.Trap code) (leaves s.input s.picks steps s.done) (ends (Trap code) s)
     does answer.Steps r =
         let s = r.stands in
-        let b = behaves bytes actions s.picks are of_words fit in (
+        let b = behaves bytes actions s.picks are words fit in (
           _,
           part p image before after Heard machine bytes actions s.picks steps b steps (omega arith) (leaves s.input s.picks steps s.done),
           keeps_up p image before after Heard machine bytes actions s.picks steps b (stop_at s.input s.picks steps Going (input_is s.input s.done.told) s.stops),
@@ -172,7 +171,7 @@ module _ (p : Program) (image : Fields) (behaves : BehavesAlways p image) (actio
     does answer.OutputFault r =
         let part = stuck_part _ r.0 in (part.0, part.1, r.1)
     does (answer.Fault pc why) r = ends (Fault why) r.0
-    does answer.Memory r = stuck_part _ r
+    does answer.Memory r = roomy r
 
   module _ (stopped : Stopped) (runs : Runs image actions before after Heard machine steps stopped) where
     does_from : (l : Option (List ℕ)) → before.input.left ≡ l → DoesFrom p actions steps before after Heard machine l stopped

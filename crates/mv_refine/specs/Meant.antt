@@ -1,5 +1,5 @@
 -- What a run of an image does in its environment, by what its program means.
-use Rattle.std.specs.Prelude.{ℕ, ◌≡◌, ◌+◌, ◌*◌, ◌^◌, ◌<◌, ◌≤◌, ◌⊎◌, List, take, All, Option, Some, None}
+use Rattle.std.specs.Prelude.{ℕ, ◌≡◌, ◌+◌, ◌*◌, ◌^◌, ◌<◌, ◌≤◌, List, take, All, Option, Some, None}
 use Rattle.mv_ast.specs.declared.program.Program.{Program}
 use Rattle.mv_ast.specs.declared.world.Action.{Action}
 use Rattle.mv_ast.specs.declared.world.Event.{Event}
@@ -50,7 +50,7 @@ module _ (p : Program) (actions : List Action) (steps : ℕ) (before after : Env
   abbrev pub Part : (bytes piece : List ℕ) → Type 0
   Part bytes piece = DoesPart before after Heard machine bytes (mean p bytes actions steps) piece
 
-  -- What was written and taken, by the answer, on a source that has these bytes to come.
+  -- What was written and taken, by the answer, on a source that has these bytes to come. No answer is a fault or want of memory.
   abbrev pub DoesOn : (bytes : List ℕ) → Stopped → Type 0
   DoesOn bytes (Ended status) = DoesAll before after Heard machine bytes (mean p bytes actions steps) (Exit status)
   DoesOn bytes (Trapped code) = DoesAll before after Heard machine bytes (mean p bytes actions steps) (Trap code)
@@ -58,7 +58,7 @@ module _ (p : Program) (actions : List Action) (steps : ℕ) (before after : Env
   DoesOn bytes InputFault = (piece : List ℕ) × Part bytes piece × ReadFailed before after
   DoesOn bytes OutputFault = (piece : List ℕ) × Part bytes piece × WriteFailed before after
   DoesOn bytes (Fault pc why) = ⊥
-  DoesOn bytes Memory = (piece : List ℕ) × Part bytes piece
+  DoesOn bytes Memory = ⊥
 
   -- It stands where the source tells what is to come, and that is bytes. Of a source that tells nothing, nothing is said.
   abbrev pub DoesFrom : (left : Option (List ℕ)) → Stopped → Type 0
@@ -75,12 +75,11 @@ IsAnswer (Trap code) stopped = stopped ≡ Trapped code
 IsAnswer More stopped = ⊥
 
 module _ (p : Program) (actions : List Action) (steps : ℕ) (before after : Environment) where
-  -- Where no count of faults rose, and there was time for all that is meant at a bound at which the meaning has ended, the answer is that end, or
-  -- want of memory.
+  -- Where no count of faults rose, and there was time for all that is meant at a bound at which the meaning has ended, the answer is that end.
   abbrev pub DecidesOn : (bytes : List ℕ) → Stopped → Type 0
   DecidesOn bytes stopped =
       (ReadFailed before after → ⊥) → (WriteFailed before after → ⊥) → (bound : ℕ) → IsEnough p actions bytes steps bound →
-      ((mean p bytes actions bound).«end» ≡ More → ⊥) → IsAnswer (mean p bytes actions bound).«end» stopped ⊎ (stopped ≡ Memory)
+      ((mean p bytes actions bound).«end» ≡ More → ⊥) → IsAnswer (mean p bytes actions bound).«end» stopped
 
   -- it too stands where the source tells what is to come
   abbrev pub DecidesFrom : (left : Option (List ℕ)) → Stopped → Type 0
