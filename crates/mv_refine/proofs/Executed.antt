@@ -7,7 +7,10 @@ use Rattle.mv_ast.specs.declared.world.Action.{Action}
 use Rattle.mv_ast.specs.declared.world.Event.{Event}
 use Rattle.mv_ast.specs.declared.program.Program.{Program}
 use Rattle.mv_commit_runs.specs.Tabled.{IsOfWord}
+use Rattle.mv_fetch.specs.Held.{Room}
+use Rattle.mv_image.specs.Patched.{text_of}
 use Rattle.mv_image.specs.Spelling.{Fields}
+use Rattle.mv_patch.specs.Orders.{values_of}
 use Rattle.mv_image_runs.specs.Behaves.{IsWhole, EndsRight, Behaves, BehavesAlways, taken_of}
 use Rattle.mv_machine.specs.declared.machine.Stopped.{Stopped}
 use Rattle.mv_machine.specs.declared.machine.Stopped.TheVariants as answer
@@ -58,6 +61,7 @@ module _ (p : Program) (image : Fields) (before after : Environment) (Heard : Li
     taken : Took before after (take (taken_of bytes (state n)) bytes)
     heard : Heard (state n).log
     bindings : machine.bindings ≡ (state n).bindings
+    room : machine.room ≡ (state n).room
 
   part : (n : ℕ) → n ≤ steps → Leaves n → DoesPart before after Heard machine bytes meant (state n).output
   part n le leaves =
@@ -75,12 +79,14 @@ module _ (p : Program) (image : Fields) (before after : Environment) (Heard : Li
         heard = leaves.heard;
       }
 
-  all : (stop : Stop) (e : End) → Leaves steps → IsWhole bytes (state steps) meant e → DoesAll before after Heard machine bytes meant e
-  all stop e leaves whole = record {
+  -- a run that has ended is in no commit, so its text is that of its bindings
+  all : (e : End) → Leaves steps → ((state steps).stop ≡ Going → ⊥) → IsWhole bytes (state steps) meant e → DoesAll before after Heard machine bytes meant image e
+  all e leaves over whole = record {
     ending = whole.ending;
     output = subst (Wrote before after) (sym whole.output) leaves.output;
     input = subst (λ (k : ℕ). Took before after (take k bytes)) (sym whole.taken) leaves.taken;
     bindings = leaves.bindings ∙ sym whole.bindings;
+    text = ap (λ (r : Room). r.held.text) leaves.room ∙ (behaves.settled steps (behaves.over steps over)).words ∙ ap (λ bs. text_of image (values_of bs)) (sym whole.bindings);
     heard = subst Heard (sym whole.log) leaves.heard;
   }
 
@@ -94,14 +100,14 @@ module _ (p : Program) (image : Fields) (before after : Environment) (Heard : Li
 
 -- ---- which answer comes
 
-module _ (p : Program) (actions : List Action) (steps : ℕ) (before after : Environment) (Heard : List Event → Type 0) (machine : Snapshot) (bytes : List ℕ) where
+module _ (p : Program) (image : Fields) (actions : List Action) (steps : ℕ) (before after : Environment) (Heard : List Event → Type 0) (machine : Snapshot) (bytes : List ℕ) where
   same_end : (k : ℕ) (e : End) (stopped : Stopped) → (e ≡ source.More → ⊥) → IsAnswer e stopped → (mean p bytes actions steps).«end» ≡ e → ((mean p bytes actions k).«end» ≡ source.More → ⊥) →
       IsAnswer (mean p bytes actions k).«end» stopped
   same_end k e stopped finished is ending over =
       let same : (mean p bytes actions steps).«end» ≡ (mean p bytes actions k).«end» = one_end p actions bytes steps k (λ more. finished (sym ending ∙ more)) over in
       subst (λ (x : End). IsAnswer x stopped) (sym ending ∙ same) is
 
-  decides : (stopped : Stopped) → DoesOn p actions steps before after Heard machine bytes stopped → DecidesOn p actions steps before after bytes stopped
+  decides : (stopped : Stopped) → DoesOn p image actions steps before after Heard machine bytes stopped → DecidesOn p actions steps before after bytes stopped
   decides (answer.Ended status) d calm_in calm_out k enough over = same_end k (source.Exit status) (answer.Ended status) (λ e. cc) refl d.ending over
   decides (answer.Trapped code) d calm_in calm_out k enough over = same_end k (source.Trap code) (answer.Trapped code) (λ e. cc) refl d.ending over
   decides answer.Steps d calm_in calm_out k enough over = absurd (over (d.2 k enough).0)
@@ -118,6 +124,10 @@ module _ (p : Program) (image : Fields) (behaves : BehavesAlways p image) (actio
     unfolding kept
     kept_bindings s is = ap (λ (m : Snapshot). m.bindings) is
 
+    kept_room : (s : State) → machine ≡ kept s machine.last → machine.room ≡ s.room
+    unfolding kept
+    kept_room s is = ap (λ (m : Snapshot). m.room) is
+
     input_is : (input : List (Option ℕ)) → Tells before.input.left input → input ≡ bytes_to_come bytes
     input_is input tells = subst (λ (l : Option (List ℕ)). Tells l input) told tells
 
@@ -131,6 +141,7 @@ module _ (p : Program) (image : Fields) (behaves : BehavesAlways p image) (actio
           taken = subst (λ (i : List (Option ℕ)). Took before after (take (taken_of bytes (runs image i actions picks n)) bytes)) same taken;
           heard = subst (λ (i : List (Option ℕ)). Heard (runs image i actions picks n).log) same done.heard;
           bindings = subst (λ (i : List (Option ℕ)). machine.bindings ≡ (runs image i actions picks n).bindings) same (kept_bindings (runs image input actions picks n) done.state);
+          room = subst (λ (i : List (Option ℕ)). machine.room ≡ (runs image i actions picks n).room) same (kept_room (runs image input actions picks n) done.state);
         }
 
     stop_at : (input : List (Option ℕ)) (picks : List ℕ) (n : ℕ) (stop : Stop) → input ≡ bytes_to_come bytes → (runs image input actions picks n).stop ≡ stop →
@@ -139,6 +150,9 @@ module _ (p : Program) (image : Fields) (behaves : BehavesAlways p image) (actio
 
     ends : (stop : Stop) → (s : Stands image actions before after Heard machine stop steps) → EndsRight bytes (runs image (bytes_to_come bytes) actions s.picks steps) (mean p bytes actions steps) stop
     ends stop s = right p image before after Heard machine bytes actions s.picks steps (behaves bytes actions s.picks are words fit) stop (stop_at s.input s.picks steps stop (input_is s.input s.done.told) s.stops)
+
+    over : (stop : Stop) → (stop ≡ Going → ⊥) → (s : Stands image actions before after Heard machine stop steps) → (runs image (bytes_to_come bytes) actions s.picks steps).stop ≡ Going → ⊥
+    over stop other s going = other (sym (stop_at s.input s.picks steps stop (input_is s.input s.done.told) s.stops) ∙ going)
 
     stuck_part : (Next : State → ℕ → Type 0) → StandsBefore image actions before after Heard machine Next steps → (piece : List ℕ) × DoesPart before after Heard machine bytes (mean p bytes actions steps) piece
     stuck_part Next s =
@@ -152,13 +166,15 @@ module _ (p : Program) (image : Fields) (behaves : BehavesAlways p image) (actio
         (behaves bytes actions s.picks are words fit).roomy s.count (slice_index s.picks s.count)
         (subst (λ (i : List (Option ℕ)). WantsMemory (runs image i actions s.picks s.count) (slice_index s.picks s.count)) (input_is s.input s.done.told) s.next)
 
-    does : (stopped : Stopped) → Runs image actions before after Heard machine steps stopped → DoesOn p actions steps before after Heard machine bytes stopped
+    does : (stopped : Stopped) → Runs image actions before after Heard machine steps stopped → DoesOn p image actions steps before after Heard machine bytes stopped
     does (answer.Ended status) r =
         let s = r.stands in
-        all p image before after Heard machine bytes actions s.picks steps (behaves bytes actions s.picks are words fit) (Exit status) (source.Exit status) (leaves s.input s.picks steps s.done) (ends (Exit status) s)
+        all p image before after Heard machine bytes actions s.picks steps (behaves bytes actions s.picks are words fit) (source.Exit status) (leaves s.input s.picks steps s.done)
+        (over (Exit status) (λ e. cc) s) (ends (Exit status) s)
     does (answer.Trapped code) r =
         let s = r.stands in
-        all p image before after Heard machine bytes actions s.picks steps (behaves bytes actions s.picks are words fit) (Trap code) (source.Trap code) (leaves s.input s.picks steps s.done) (ends (Trap code) s)
+        all p image before after Heard machine bytes actions s.picks steps (behaves bytes actions s.picks are words fit) (source.Trap code) (leaves s.input s.picks steps s.done)
+        (over (Trap code) (λ e. cc) s) (ends (Trap code) s)
     does answer.Steps r =
         let s = r.stands in
         let b = behaves bytes actions s.picks are words fit in (
@@ -174,15 +190,15 @@ module _ (p : Program) (image : Fields) (behaves : BehavesAlways p image) (actio
     does answer.Memory r = roomy r
 
   module _ (stopped : Stopped) (runs : Runs image actions before after Heard machine steps stopped) where
-    does_from : (l : Option (List ℕ)) → before.input.left ≡ l → DoesFrom p actions steps before after Heard machine l stopped
+    does_from : (l : Option (List ℕ)) → before.input.left ≡ l → DoesFrom p image actions steps before after Heard machine l stopped
     does_from None told = tt
     does_from (Some bytes) told = λ are. does bytes told are stopped runs
 
     decides_from : (l : Option (List ℕ)) → before.input.left ≡ l → DecidesFrom p actions steps before after l stopped
     decides_from None told = tt
-    decides_from (Some bytes) told = λ are. decides p actions steps before after Heard machine bytes stopped (does bytes told are stopped runs)
+    decides_from (Some bytes) told = λ are. decides p image actions steps before after Heard machine bytes stopped (does bytes told are stopped runs)
 
-    pub run_does : Does p actions steps before after Heard machine stopped
+    pub run_does : Does p image actions steps before after Heard machine stopped
     run_does = does_from before.input.left refl
 
     pub run_decides : Decides p actions steps before after stopped

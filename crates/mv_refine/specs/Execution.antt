@@ -20,7 +20,7 @@ module _ (built : Built) (actions : List Action) (steps : ℕ) (before after : E
   -- One run of the image is what was done. Where the image behaves as the program means, this is what the program means at that number as its bound.
   pub record IsExecution (e : Execution) : Type 0 where
     pub runs : Runs built.image actions before after Heard e.machine steps e.stopped
-    pub does : BehavesAlways built.program built.image → AreActions → Does built.program actions steps before after Heard e.machine e.stopped
+    pub does : BehavesAlways built.program built.image → AreActions → Does built.program built.image actions steps before after Heard e.machine e.stopped
     pub decides : BehavesAlways built.program built.image → AreActions → Decides built.program actions steps before after e.stopped
 
   -- an execution, or want of memory before its first instruction, with all as before
