@@ -1,8 +1,11 @@
 -- What a run of an image does in its environment, by what its program means.
-use Rattle.std.specs.Prelude.{ℕ, ◌≡◌, ◌+◌, ◌*◌, ◌^◌, ◌<◌, ◌≤◌, ◌⊎◌, List, take, All, Option, Some, None}
+use Rattle.std.specs.Prelude.{ℕ, ◌≡◌, ◌+◌, ◌*◌, ◌^◌, ◌<◌, ◌≤◌, List, take, All, Option, Some, None}
 use Rattle.mv_ast.specs.declared.program.Program.{Program}
 use Rattle.mv_ast.specs.declared.world.Action.{Action}
 use Rattle.mv_ast.specs.declared.world.Event.{Event}
+use Rattle.mv_image.specs.Patched.{text_of}
+use Rattle.mv_image.specs.Spelling.{Fields}
+use Rattle.mv_patch.specs.Orders.{values_of}
 use Rattle.mv_machine.specs.Snapshots.{Snapshot}
 use Rattle.mv_machine.specs.declared.machine.Stopped.{Stopped}
 use Rattle.mv_machine.specs.declared.machine.Stopped.TheVariants.{Ended, Trapped, Steps, InputFault, OutputFault, Fault, Memory}
@@ -15,13 +18,14 @@ use Rattle.mv_refine.specs.Environment.{Environment, Took, Wrote, ReadFailed, Wr
 
 -- `Heard events`: the probes were told these events
 module _ (before after : Environment) (Heard : List Event → Type 0) (machine : Snapshot) (bytes : List ℕ) (m : Meant) where
-  -- a meaning has this end, all its output was written, the bytes that it takes of these were taken, its bindings are the machine's, and the probes were
-  -- told its log
-  pub record DoesAll (e : End) : Type 0 where
+  -- A meaning has this end, all its output was written, the bytes that it takes of these were taken, its bindings are the machine's, in whose text the image
+  -- stands as under them, and the probes were told its log.
+  pub record DoesAll (image : Fields) (e : End) : Type 0 where
     pub ending : m.«end» ≡ e
     pub output : Wrote before after m.output
     pub input : Took before after (take m.taken bytes)
     pub bindings : machine.bindings ≡ m.bindings
+    pub text : machine.room.held.text ≡ text_of image (values_of m.bindings)
     pub heard : Heard m.log
 
   -- a piece was written with which a meaning's output begins, of the bytes no more were taken than the meaning takes, and the probes were told events
@@ -45,20 +49,20 @@ abbrev pub KeepsUp : Program → List Action → (bytes : List ℕ) → (steps :
 KeepsUp p actions bytes steps piece =
     (bound : ℕ) → IsEnough p actions bytes steps bound → ((mean p bytes actions bound).«end» ≡ More) × Begins (mean p bytes actions bound).output piece
 
-module _ (p : Program) (actions : List Action) (steps : ℕ) (before after : Environment) (Heard : List Event → Type 0) (machine : Snapshot) where
+module _ (p : Program) (image : Fields) (actions : List Action) (steps : ℕ) (before after : Environment) (Heard : List Event → Type 0) (machine : Snapshot) where
   -- part of what is meant at the bound `steps`
   abbrev pub Part : (bytes piece : List ℕ) → Type 0
   Part bytes piece = DoesPart before after Heard machine bytes (mean p bytes actions steps) piece
 
-  -- What was written and taken, by the answer, on a source that has these bytes to come.
+  -- What was written and taken, by the answer, on a source that has these bytes to come. No answer is a fault or want of memory.
   abbrev pub DoesOn : (bytes : List ℕ) → Stopped → Type 0
-  DoesOn bytes (Ended status) = DoesAll before after Heard machine bytes (mean p bytes actions steps) (Exit status)
-  DoesOn bytes (Trapped code) = DoesAll before after Heard machine bytes (mean p bytes actions steps) (Trap code)
+  DoesOn bytes (Ended status) = DoesAll before after Heard machine bytes (mean p bytes actions steps) image (Exit status)
+  DoesOn bytes (Trapped code) = DoesAll before after Heard machine bytes (mean p bytes actions steps) image (Trap code)
   DoesOn bytes Steps = (piece : List ℕ) × Part bytes piece × KeepsUp p actions bytes steps piece
   DoesOn bytes InputFault = (piece : List ℕ) × Part bytes piece × ReadFailed before after
   DoesOn bytes OutputFault = (piece : List ℕ) × Part bytes piece × WriteFailed before after
   DoesOn bytes (Fault pc why) = ⊥
-  DoesOn bytes Memory = (piece : List ℕ) × Part bytes piece
+  DoesOn bytes Memory = ⊥
 
   -- It stands where the source tells what is to come, and that is bytes. Of a source that tells nothing, nothing is said.
   abbrev pub DoesFrom : (left : Option (List ℕ)) → Stopped → Type 0
@@ -75,12 +79,11 @@ IsAnswer (Trap code) stopped = stopped ≡ Trapped code
 IsAnswer More stopped = ⊥
 
 module _ (p : Program) (actions : List Action) (steps : ℕ) (before after : Environment) where
-  -- Where no count of faults rose, and there was time for all that is meant at a bound at which the meaning has ended, the answer is that end, or
-  -- want of memory.
+  -- Where no count of faults rose, and there was time for all that is meant at a bound at which the meaning has ended, the answer is that end.
   abbrev pub DecidesOn : (bytes : List ℕ) → Stopped → Type 0
   DecidesOn bytes stopped =
       (ReadFailed before after → ⊥) → (WriteFailed before after → ⊥) → (bound : ℕ) → IsEnough p actions bytes steps bound →
-      ((mean p bytes actions bound).«end» ≡ More → ⊥) → IsAnswer (mean p bytes actions bound).«end» stopped ⊎ (stopped ≡ Memory)
+      ((mean p bytes actions bound).«end» ≡ More → ⊥) → IsAnswer (mean p bytes actions bound).«end» stopped
 
   -- it too stands where the source tells what is to come
   abbrev pub DecidesFrom : (left : Option (List ℕ)) → Stopped → Type 0

@@ -7,12 +7,12 @@
 //!   lost what it took, each probe was told its log and left exactly where that used up its patience, the machine handed
 //!   back is in its state, and the oracle's place went on by its instructions. Before a read or a write that failed it is
 //!   a state after fewer instructions.
-//! - *What the program means* (`specs/Meant.antt`), where the image does what its program means and the source tells
-//!   bytes: after `Ended` and `Trapped` the meaning at the number of instructions as its bound has that end, all its
-//!   output was written and all that it takes was taken. After `Steps`, `InputFault`, `OutputFault` and `Memory` it is a
-//!   part of that output, and no more was taken; after `Steps` no bound for which there was time has an end. `Fault`
-//!   never comes. Where no count of faults rose and there was time for a bound at which the meaning has ended, the answer
-//!   is that end or want of memory.
+//! - *What the program means* with the actions (`specs/Meant.antt`), where the image does what its program means, the
+//!   actions fit the program, and the source tells bytes: after `Ended` and `Trapped` the meaning at the number of
+//!   instructions as its bound has that end, all its output was written and all that it takes was taken. After `Steps`,
+//!   `InputFault` and `OutputFault` it is a part of that output, and no more was taken; after `Steps` no bound for which
+//!   there was time has an end. `Fault` and `Memory` never come. Where no count of faults rose and there was time for a
+//!   bound at which the meaning has ended, the answer is that end.
 //!
 //! An error is want of memory before the first instruction, with all as before.
 #![tactic(auto)]
@@ -48,7 +48,7 @@ pub fn execute<I: Source, O: Sink>(
 ) -> Result<Execution, AllocError>
     requires patient { All (λ probe. IsPatient (hearing (told probe) (patience probe))) probes.old.items }
     requires fit { All (λ action. IsTrue (fits built.now.image.switches action)) actions.now }
-    ensures { Executes built.now actions.now steps
+    ensures executes { Executes built.now actions.now steps
         (environment (reading (I.left source.old) (I.faults source.old)) (writing (O.written sink.old) (O.faults sink.old)) (way oracle.old))
         (environment (reading (I.left source.new) (I.faults source.new)) (writing (O.written sink.new) (O.faults sink.new)) (way oracle.new))
         (λ events. Fates (Becomes (λ probe. object_at probe.ptr probe.vtable) (λ probe. hearing (told probe) (patience probe)) events) probes.old.items probes.new.items)

@@ -1,6 +1,5 @@
 use Rattle.std.proofs.Common.{refl, sym, subst}
 use Rattle.std.specs.Prelude.{All, IsTrue}
-use Rattle.std.proofs.lemmas.Result.{err_from_is_err_and}
 use Rattle.mv_image.specs.Spelling.{Fields}
 use Rattle.mv_machine.specs.Actions.{fits}
 use Rattle.mv_probe.proofs.Logs.{told_nothing}
@@ -15,8 +14,7 @@ run-stopped-requires-clause-fit g c =
     (sym (image_of c.in_ok-machine.machine image c.in_ok-machine.ensures)) c.requires.fit
 
 pub returns-in_err-machine : goal.returns-in_err-machine
-returns-in_err-machine g c =
-    let p = err_from_is_err_and c.from_residual.result c.from_residual.ensures.1 in rw p.1 (refl, told_nothing _ _ c.args.probes.now.items c.requires.patient)
+returns-in_err-machine g c = (refl, told_nothing _ _ c.args.probes.now.items c.requires.patient)
 
 pub returns : goal.returns
 returns g c =
@@ -26,6 +24,6 @@ returns g c =
     let machine = c.run-stopped.new.self in
     let runs = made image actions _ _ c.args.steps c.run-stopped.result _ c.in_ok-machine.machine machine c.in_ok-machine.ensures c.run-stopped.ensures.runs in record {
       runs = runs;
-      does = λ behaves. run_does program image behaves actions c.args.steps _ _ _ machine c.run-stopped.result runs;
-      decides = λ behaves. run_decides program image behaves actions c.args.steps _ _ _ machine c.run-stopped.result runs;
+      does = λ behaves are. run_does program image behaves actions are.0 are.1 c.args.steps _ _ _ machine c.run-stopped.result runs;
+      decides = λ behaves are. run_decides program image behaves actions are.0 are.1 c.args.steps _ _ _ machine c.run-stopped.result runs;
     }
