@@ -1,0 +1,199 @@
+#!/usr/bin/env python3
+"""Lists the definitions that the headline rests on, in reading order: what a reader has to believe, and no more.
+
+  definitions.py            prints the lists
+  definitions.py --write    writes them into docs/trust.md, between its marks
+  definitions.py --check    ends with 1 where those in docs/trust.md are others
+
+Each part begins at some definitions and goes on through the text of each: a name is an item of the same file, or what a `use` line of the file
+brings. A definition stands behind those that it names; what an earlier part has isn't listed again. Names of the toolchain's libraries end the walk.
+Types that are declared in Rust are named by their file in `src/`.
+"""
+import os
+import re
+import sys
+
+TOP = os.path.dirname(os.path.dirname(os.path.realpath(__file__)))
+DOCUMENT = os.path.join(TOP, "docs", "trust.md")
+BEGIN, END = "<!-- definitions -->", "<!-- end of definitions -->"
+# Each part: what it is for, and the definitions at which it begins.
+PARTS = [
+    ("What a program means", [("mv_meaning/specs/Meaning.antt", "mean")]),
+    ("What a run of an image does", [("mv_machine/specs/Runs.antt", "runs")]),
+    ("That the run does what the program means", [("mv_image_runs/specs/Behaves.antt", "BehavesAlways")]),
+    ("Which text is which program", [("mv_front/specs/Verdicts.antt", "IsProgram")]),
+    ("What the command does", [("mv_top/specs/Outcomes.antt", "IsCarriedOut")]),
+]
+# Of these only what an earlier part has is to be believed: the rest says which bodies and tables an image was made of.
+CLOSED = {("mv_build/specs/Images.antt", "IsImageOf"), ("mv_build/specs/Verdicts.antt", "PassesLimit")}
+
+USE = re.compile(r"^ *(?:pub )?(?:ghost )?use +Rattle\.(?P<path>[^\s{;]+?)(?:\.\{(?P<names>[^}]*)\})?(?: as (?P<alias>[^\s;]+))?;? *$")
+ITEM = re.compile(r"^ *(?:(?:pub|abbrev|unfoldable|private) )*(?:(?:record|data) )?(?P<name>[^\s(){}:,;=]+)(?: +[({].*?)? *:(?: |$)")
+WORD = re.compile(r"[^\s(){}\[\],;λ\"«»]+")
+
+
+class File:
+    """A file of definitions: what its `use` lines bring, and the text of each item."""
+
+    def __init__(self, path):
+        self.path, self.names, self.modules, self.items = path, {}, {}, {}
+        lines = open(path, encoding='utf-8').read().split('\n')
+        starts = []
+        for number, line in enumerate(lines):
+            bare = line.split(' -- ')[0]
+            if bare.lstrip().startswith('--') or not bare.strip():
+                continue
+            use = USE.match(bare)
+            if use:
+                self.take(use)
+                continue
+            if bare.lstrip().startswith(('module ', 'pub module ', 'pub mod ', 'mod ', 'use ')):
+                starts.append((number, None, bare))
+                continue
+            item = ITEM.match(bare)
+            indent = len(bare) - len(bare.lstrip())
+            if item and (indent == 0 or bare.lstrip().startswith(('abbrev ', 'pub ', 'unfoldable ', 'record ', 'data '))) and not self.is_field(bare, starts, lines, indent):
+                starts.append((number, item['name'], bare))
+        telescope = []
+        for (number, name, bare), (stop, _, _) in zip(starts, starts[1:] + [(len(lines), None, '')]):
+            text = '\n'.join(part.split(' -- ')[0] for part in lines[number:stop] if not part.lstrip().startswith('--'))
+            indent = len(bare) - len(bare.lstrip())
+            telescope = [(depth, words) for depth, words in telescope if depth < indent]
+            if name is None:
+                telescope.append((indent, text))
+            else:
+                around = '\n'.join(words for _, words in telescope)
+                self.items.setdefault(name, '')
+                self.items[name] += '\n' + around + '\n' + text
+
+    def take(self, use):
+        if use['names'] is not None:
+            for name in use['names'].split(','):
+                name = name.strip()
+                if ' as ' in name:
+                    name, alias = name.split(' as ')
+                    self.names[alias.strip()] = (use['path'], name.strip())
+                elif name:
+                    self.names[name] = (use['path'], name)
+        if use['alias']:
+            self.modules[use['alias']] = use['path']
+
+    @staticmethod
+    def is_field(line, starts, lines, indent):
+        """A field of a record, or a constructor: it stands deeper than a record or data that is open."""
+        if line.lstrip().startswith(('abbrev', 'pub abbrev', 'abbrev pub', 'unfoldable', 'record', 'pub record', 'data', 'pub data')):
+            return False
+        for number, name, head in reversed(starts):
+            depth = len(head) - len(head.lstrip())
+            if depth < indent:
+                return bool(re.match(r' *(pub )?(record|data) ', head))
+        return False
+
+
+class Walk:
+    def __init__(self, root):
+        self.root, self.files, self.order, self.seen = root, {}, [], set()
+
+    def file(self, path):
+        if path not in self.files:
+            self.files[path] = File(path) if os.path.exists(path) else None
+        return self.files[path]
+
+    def place(self, module):
+        """The file of a module of this repository's specifications, or None."""
+        parts = module.split('.')
+        if not parts[0].startswith('mv_') or len(parts) < 3:
+            return None
+        return os.path.join(self.root, 'crates', parts[0], *parts[1:]) + '.antt'
+
+    def follow(self, module, name):
+        parts = module.split('.')
+        if 'declared' in parts:
+            at = parts.index('declared')
+            self.declared(parts[0], parts[at + 1:-1] if parts[-1] != 'TheVariants' else parts[at + 1:-2], parts[-1] if parts[-1] != 'TheVariants' else parts[-2])
+            return
+        path = self.place(module)
+        if path and self.file(path) and name in self.file(path).items:
+            self.visit(path, name)
+
+    def declared(self, crate, folders, name):
+        base = os.path.join(self.root, 'crates', crate, 'src', *folders)
+        path = next((p for p in (base + '.rt', os.path.join(base, 'mod.rt'), os.path.join(self.root, 'crates', crate, 'src', 'lib.rt')) if os.path.exists(p)), base + '.rt')
+        if (path, name) not in self.seen:
+            self.seen.add((path, name))
+            self.order.append((path, name))
+
+    def visit(self, path, name):
+        if (path, name) in self.seen:
+            return
+        self.seen.add((path, name))
+        if (os.path.relpath(path, os.path.join(self.root, 'crates')), name) not in CLOSED:
+            self.words(self.file(path), self.file(path).items[name], path, name)
+        self.order.append((path, name))
+
+    def words(self, file, text, path=None, own=None):
+        for word in WORD.findall(text):
+            word = word.rstrip('.')
+            if word == own:
+                continue
+            self.word(file, word, path)
+
+    def word(self, file, word, path):
+        if path and word in file.items:
+            self.visit(path, word)
+            return
+        if word in file.names:
+            self.follow(*file.names[word])
+            return
+        # a name with its module, or a value with its field
+        head, _, rest = word.partition('.')
+        if head in file.modules and rest:
+            self.follow(file.modules[head], rest.split('.')[0])
+        elif rest and (head in file.names or (path and head in file.items)):
+            self.word(file, head, path)
+
+
+def grouped(order):
+    """Returns lines of names by file, each file where its last name is read."""
+    files = {}
+    for path, name in order:
+        short = os.path.relpath(path, os.path.join(TOP, "crates"))
+        files[short] = files.pop(short, []) + [name]
+    return [f"- `{short}`: " + ", ".join(f"`{name}`" for name in names) for short, names in files.items()]
+
+
+def listing():
+    """Returns the lines of all parts."""
+    walk, lines, before = Walk(TOP), [], 0
+    for title, starts in PARTS:
+        for path, name in starts:
+            walk.visit(os.path.join(TOP, "crates", path), name)
+        part = grouped(walk.order[before:])
+        lines += ["", f"### {title}", "", f"{len(walk.order) - before} definitions in {len(part)} files.", ""] + part
+        before = len(walk.order)
+    return lines
+
+
+def main():
+    lines = listing()
+    how = sys.argv[1:]
+    if not how:
+        print("\n".join(lines))
+        return 0
+    with open(DOCUMENT, encoding="utf-8") as it:
+        text = it.read()
+    before, rest = text.split(BEGIN)
+    after = rest.split(END)[1]
+    whole = before + BEGIN + "\n".join(lines) + "\n\n" + END + after
+    if how == ["--write"]:
+        with open(DOCUMENT, "w", encoding="utf-8") as it:
+            it.write(whole)
+        return 0
+    if whole != text:
+        print("docs/trust.md: its lists of definitions are others: python3 tools/definitions.py --write")
+        return 1
+    return 0
+
+
+if __name__ == "__main__":
+    sys.exit(main())
