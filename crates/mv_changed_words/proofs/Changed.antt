@@ -1,5 +1,5 @@
 -- At least one word is another for each function that is bound, and for each of its sites.
-use Rattle.std.proofs.Common.{◌≡◌, ◌≢◌, ℕ, zero, suc, ◌+◌, ◌-◌, ◌/◌, ◌%◌, ◌^◌, ◌<◌, ◌≤◌, Bool, true, false, if◌then◌else◌, eqb, List, [], ◌∷◌, length, get_or, slice_index, is_some, Option, Some, None, refl, sym, ap, ◌∙◌, subst, arith, eq-eqb}
+use Rattle.std.proofs.Common.{◌≡◌, ◌≢◌, ℕ, ◌+◌, ◌%◌, ◌^◌, ◌<◌, ◌≤◌, Bool, true, false, if◌then◌else◌, eqb, List, [], ◌∷◌, length, get_or, slice_index, is_some, Option, Some, None, refl, sym, ap, ◌∙◌, subst, arith, eq-eqb}
 use Rattle.std.proofs.Math.Path.{fun_ext}
 use Rattle.std.specs.Prelude.{option_and_then, slice_get}
 use Rattle.std.proofs.lemmas.Bool.{eqb-true}
@@ -20,9 +20,9 @@ use Rattle.mv_patch.specs.Pairs.{text_start, pair_of, differing, pairs_between}
 use Rattle.mv_patch.specs.Tables.{entries, site_words, patched_places, word_of, pairs_at}
 use Rattle.mv_patch.proofs.TablePairs.{word_under_at, tables_tell}
 use Rattle.mv_patch.proofs.TablePlaces.{index_in, no_function, no_site}
-use Rattle.mv_changed_words.specs.Changed.{changed_words, sites_of, shown_words, sum_from, CanBeTold, TextShowsBindings, FreeTextIsUnchanged}
+use Rattle.mv_changed_words.specs.Changed.{changed_words, shown_words, sum_from, CanBeTold, TextShowsBindings, FreeTextIsUnchanged}
 use Rattle.mv_changed_words.proofs.Jumps.{jump_opcode, same_jump}
-use Rattle.mv_changed_words.proofs.Sums.{total, total_least, differs, pairs_total, differs_one, merged_total, entries_total, sites_total, functions_least, passes, each_least}
+use Rattle.mv_changed_words.proofs.Sums.{total_least, differs, pairs_total, differs_one, merged_total, entries_total, sites_total, functions_least, passes, each_least}
 
 -- a variant of an image stands in its text
 variant_in_text : (image : Fields) → Rules image → (f : ℕ) (values : Option (List ℕ)) (v : VariantRow) → variant_under image f values ≡ Some v → IsInText image v.address
