@@ -1,0 +1,4 @@
+pub mod Sums
+pub mod Jumps
+pub mod Changed
+pub mod Linked
