@@ -1,10 +1,12 @@
 -- What the run of an image does that behaves as a program means.
 use Rattle.std.proofs.Common.{◌≡◌, inl, inr, ⊎_elim, ℕ, ◌^◌, ◌<◌, ◌≤◌, List, [], take, Option, Some, None, refl, sym, ap, ◌∙◌, subst, arith}
-use Rattle.std.specs.Prelude.{All, IfSome}
+use Rattle.std.specs.Prelude.{All, IfSome, IsTrue}
 use Rattle.std.proofs.lemmas.Bool.{cases_lt}
+use Rattle.mv_ast.specs.Actions.{fits}
 use Rattle.mv_ast.specs.declared.world.Action.{Action}
 use Rattle.mv_ast.specs.declared.world.Event.{Event}
 use Rattle.mv_ast.specs.declared.program.Program.{Program}
+use Rattle.mv_commit_runs.specs.Tabled.{IsOfWord}
 use Rattle.mv_image.specs.Spelling.{Fields}
 use Rattle.mv_image_runs.specs.Behaves.{IsWhole, EndsRight, Behaves, BehavesAlways, taken_of}
 use Rattle.mv_machine.specs.declared.machine.Stopped.{Stopped}
@@ -28,12 +30,12 @@ is_more (source.Exit status) h = absurd (h (λ e. cc))
 is_more (source.Trap code) h = absurd (h (λ e. cc))
 is_more source.More h = refl
 
-module _ (p : Program) (bytes : List ℕ) where
+module _ (p : Program) (actions : List Action) (bytes : List ℕ) where
   abbrev end_at : ℕ → End
-  end_at k = (mean p bytes [] k).«end»
+  end_at k = (mean p bytes actions k).«end»
 
   later_end : (j k : ℕ) → j ≤ k → (end_at j ≡ source.More → ⊥) → end_at j ≡ end_at k
-  later_end j k le ended = ap (λ (m : Meant). m.«end») ((bound_extends p bytes [] j k le).ended ended)
+  later_end j k le ended = ap (λ (m : Meant). m.«end») ((bound_extends p bytes actions j k le).ended ended)
 
   -- a meaning has one end
   one_end : (j k : ℕ) → (end_at j ≡ source.More → ⊥) → (end_at k ≡ source.More → ⊥) → end_at j ≡ end_at k
@@ -48,7 +50,7 @@ module _ (p : Program) (image : Fields) (before after : Environment) (Heard : Li
   state n = runs image (bytes_to_come bytes) actions picks n
 
   abbrev meant : Meant
-  meant = mean p bytes [] steps
+  meant = mean p bytes actions steps
 
   -- what the run wrote, took and logged in its first n instructions is what was written, taken and told, and its bindings are the machine's
   record Leaves (n : ℕ) : Type 0 where
@@ -60,16 +62,16 @@ module _ (p : Program) (image : Fields) (before after : Environment) (Heard : Li
   part : (n : ℕ) → n ≤ steps → Leaves n → DoesPart before after Heard machine bytes meant (state n).output
   part n le leaves =
       let within = behaves.within n in
-      let extends = bound_extends p bytes [] n steps le in
+      let extends = bound_extends p bytes actions n steps le in
       let fewer = within.taken in
       let more = extends.taken in record {
-        begins = Begins-trans (state n).output (mean p bytes [] n).output meant.output within.output extends.output;
+        begins = Begins-trans (state n).output (mean p bytes actions n).output meant.output within.output extends.output;
         output = leaves.output;
         count = taken_of bytes (state n);
         few = omega (arith, fewer, more);
         input = leaves.taken;
         events = (state n).log;
-        logged = Begins-trans (state n).log (mean p bytes [] n).log meant.log within.log extends.log;
+        logged = Begins-trans (state n).log (mean p bytes actions n).log meant.log within.log extends.log;
         heard = leaves.heard;
       }
 
@@ -85,21 +87,21 @@ module _ (p : Program) (image : Fields) (before after : Environment) (Heard : Li
   right : (stop : Stop) → (state steps).stop ≡ stop → EndsRight bytes (state steps) meant stop
   right stop stops = subst (EndsRight bytes (state steps) meant) stops (behaves.ends steps)
 
-  keeps_up : (state steps).stop ≡ Going → KeepsUp p [] bytes steps (state steps).output
+  keeps_up : (state steps).stop ≡ Going → KeepsUp p actions bytes steps (state steps).output
   keeps_up going k enough =
       let done = behaves.does steps k enough in
-      (is_more (mean p bytes [] k).«end» (λ over. done.ended over going), done.output)
+      (is_more (mean p bytes actions k).«end» (λ over. done.ended over going), done.output)
 
 -- ---- which answer comes
 
-module _ (p : Program) (steps : ℕ) (before after : Environment) (Heard : List Event → Type 0) (machine : Snapshot) (bytes : List ℕ) where
-  same_end : (k : ℕ) (e : End) (stopped : Stopped) → (e ≡ source.More → ⊥) → IsAnswer e stopped → (mean p bytes [] steps).«end» ≡ e → ((mean p bytes [] k).«end» ≡ source.More → ⊥) →
-      IsAnswer (mean p bytes [] k).«end» stopped
+module _ (p : Program) (actions : List Action) (steps : ℕ) (before after : Environment) (Heard : List Event → Type 0) (machine : Snapshot) (bytes : List ℕ) where
+  same_end : (k : ℕ) (e : End) (stopped : Stopped) → (e ≡ source.More → ⊥) → IsAnswer e stopped → (mean p bytes actions steps).«end» ≡ e → ((mean p bytes actions k).«end» ≡ source.More → ⊥) →
+      IsAnswer (mean p bytes actions k).«end» stopped
   same_end k e stopped finished is ending over =
-      let same : (mean p bytes [] steps).«end» ≡ (mean p bytes [] k).«end» = one_end p bytes steps k (λ more. finished (sym ending ∙ more)) over in
+      let same : (mean p bytes actions steps).«end» ≡ (mean p bytes actions k).«end» = one_end p actions bytes steps k (λ more. finished (sym ending ∙ more)) over in
       subst (λ (x : End). IsAnswer x stopped) (sym ending ∙ same) is
 
-  decides : (stopped : Stopped) → DoesOn p [] steps before after Heard machine bytes stopped → DecidesOn p [] steps before after bytes stopped
+  decides : (stopped : Stopped) → DoesOn p actions steps before after Heard machine bytes stopped → DecidesOn p actions steps before after bytes stopped
   decides (answer.Ended status) d calm_in calm_out k enough over = inl (same_end k (source.Exit status) (answer.Ended status) (λ e. cc) refl d.ending over)
   decides (answer.Trapped code) d calm_in calm_out k enough over = inl (same_end k (source.Trap code) (answer.Trapped code) (λ e. cc) refl d.ending over)
   decides answer.Steps d calm_in calm_out k enough over = absurd (over (d.2 k enough).0)
@@ -110,7 +112,7 @@ module _ (p : Program) (steps : ℕ) (before after : Environment) (Heard : List 
 
 -- ---- what a run of an image does that behaves as a program means
 
-module _ (p : Program) (image : Fields) (behaves : BehavesAlways p image) (actions : List Action) (steps : ℕ) (before after : Environment) (Heard : List Event → Type 0) (machine : Snapshot) where
+module _ (p : Program) (image : Fields) (behaves : BehavesAlways p image) (actions : List Action) (words : All IsOfWord actions) (fit : All (λ a. IsTrue (fits p a)) actions) (steps : ℕ) (before after : Environment) (Heard : List Event → Type 0) (machine : Snapshot) where
   module _ (bytes : List ℕ) (told : before.input.left ≡ Some bytes) (are : All (λ b. b < 2 ^ 8) bytes) where
     kept_bindings : (s : State) → machine ≡ kept s machine.last → machine.bindings ≡ s.bindings
     unfolding kept
@@ -119,7 +121,7 @@ module _ (p : Program) (image : Fields) (behaves : BehavesAlways p image) (actio
     input_is : (input : List (Option ℕ)) → Tells before.input.left input → input ≡ bytes_to_come bytes
     input_is input tells = subst (λ (l : Option (List ℕ)). Tells l input) told tells
 
-    leaves : (input : List (Option ℕ)) (picks : List ℕ) (n : ℕ) → IsDone image actions before after Heard machine input picks n → Leaves p image before after Heard machine bytes actions picks steps (behaves bytes actions picks are) n
+    leaves : (input : List (Option ℕ)) (picks : List ℕ) (n : ℕ) → IsDone image actions before after Heard machine input picks n → Leaves p image before after Heard machine bytes actions picks steps (behaves bytes actions picks are words fit) n
     leaves input picks n done =
         let same = input_is input done.told in
         let taken : Took before after (take (taken_of bytes (runs image input actions picks n)) bytes) =
@@ -135,25 +137,25 @@ module _ (p : Program) (image : Fields) (behaves : BehavesAlways p image) (actio
         (runs image (bytes_to_come bytes) actions picks n).stop ≡ stop
     stop_at input picks n stop same stops = subst (λ (i : List (Option ℕ)). (runs image i actions picks n).stop ≡ stop) same stops
 
-    ends : (stop : Stop) → (s : Stands image actions before after Heard machine stop steps) → EndsRight bytes (runs image (bytes_to_come bytes) actions s.picks steps) (mean p bytes [] steps) stop
-    ends stop s = right p image before after Heard machine bytes actions s.picks steps (behaves bytes actions s.picks are) stop (stop_at s.input s.picks steps stop (input_is s.input s.done.told) s.stops)
+    ends : (stop : Stop) → (s : Stands image actions before after Heard machine stop steps) → EndsRight bytes (runs image (bytes_to_come bytes) actions s.picks steps) (mean p bytes actions steps) stop
+    ends stop s = right p image before after Heard machine bytes actions s.picks steps (behaves bytes actions s.picks are words fit) stop (stop_at s.input s.picks steps stop (input_is s.input s.done.told) s.stops)
 
-    stuck_part : (Next : State → ℕ → Type 0) → StandsBefore image actions before after Heard machine Next steps → (piece : List ℕ) × DoesPart before after Heard machine bytes (mean p bytes [] steps) piece
+    stuck_part : (Next : State → ℕ → Type 0) → StandsBefore image actions before after Heard machine Next steps → (piece : List ℕ) × DoesPart before after Heard machine bytes (mean p bytes actions steps) piece
     stuck_part Next s =
         let fewer = s.fewer in
-        let b = behaves bytes actions s.picks are in
+        let b = behaves bytes actions s.picks are words fit in
         (_, part p image before after Heard machine bytes actions s.picks steps b s.count (omega (arith, fewer)) (leaves s.input s.picks s.count s.done))
 
-    does : (stopped : Stopped) → Runs image actions before after Heard machine steps stopped → DoesOn p [] steps before after Heard machine bytes stopped
+    does : (stopped : Stopped) → Runs image actions before after Heard machine steps stopped → DoesOn p actions steps before after Heard machine bytes stopped
     does (answer.Ended status) r =
         let s = r.stands in
-        all p image before after Heard machine bytes actions s.picks steps (behaves bytes actions s.picks are) (Exit status) (source.Exit status) (leaves s.input s.picks steps s.done) (ends (Exit status) s)
+        all p image before after Heard machine bytes actions s.picks steps (behaves bytes actions s.picks are words fit) (Exit status) (source.Exit status) (leaves s.input s.picks steps s.done) (ends (Exit status) s)
     does (answer.Trapped code) r =
         let s = r.stands in
-        all p image before after Heard machine bytes actions s.picks steps (behaves bytes actions s.picks are) (Trap code) (source.Trap code) (leaves s.input s.picks steps s.done) (ends (Trap code) s)
+        all p image before after Heard machine bytes actions s.picks steps (behaves bytes actions s.picks are words fit) (Trap code) (source.Trap code) (leaves s.input s.picks steps s.done) (ends (Trap code) s)
     does answer.Steps r =
         let s = r.stands in
-        let b = behaves bytes actions s.picks are in (
+        let b = behaves bytes actions s.picks are words fit in (
           _,
           part p image before after Heard machine bytes actions s.picks steps b steps (omega arith) (leaves s.input s.picks steps s.done),
           keeps_up p image before after Heard machine bytes actions s.picks steps b (stop_at s.input s.picks steps Going (input_is s.input s.done.told) s.stops),
@@ -166,16 +168,16 @@ module _ (p : Program) (image : Fields) (behaves : BehavesAlways p image) (actio
     does answer.Memory r = stuck_part _ r
 
   module _ (stopped : Stopped) (runs : Runs image actions before after Heard machine steps stopped) where
-    does_from : (l : Option (List ℕ)) → before.input.left ≡ l → DoesFrom p [] steps before after Heard machine l stopped
+    does_from : (l : Option (List ℕ)) → before.input.left ≡ l → DoesFrom p actions steps before after Heard machine l stopped
     does_from None told = tt
     does_from (Some bytes) told = λ are. does bytes told are stopped runs
 
-    decides_from : (l : Option (List ℕ)) → before.input.left ≡ l → DecidesFrom p [] steps before after l stopped
+    decides_from : (l : Option (List ℕ)) → before.input.left ≡ l → DecidesFrom p actions steps before after l stopped
     decides_from None told = tt
-    decides_from (Some bytes) told = λ are. decides p steps before after Heard machine bytes stopped (does bytes told are stopped runs)
+    decides_from (Some bytes) told = λ are. decides p actions steps before after Heard machine bytes stopped (does bytes told are stopped runs)
 
-    pub run_does : Does p [] steps before after Heard machine stopped
+    pub run_does : Does p actions steps before after Heard machine stopped
     run_does = does_from before.input.left refl
 
-    pub run_decides : Decides p [] steps before after stopped
+    pub run_decides : Decides p actions steps before after stopped
     run_decides = decides_from before.input.left refl

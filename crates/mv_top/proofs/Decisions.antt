@@ -16,6 +16,7 @@ use Rattle.mv_machine.specs.declared.machine.Stopped.TheVariants as stop
 use Rattle.mv_refine.specs.Environment.{Environment, Writing, Took, Wrote, ReadFailed, WriteFailed}
 use Rattle.mv_refine.specs.Meant as meant
 use Rattle.mv_refine.specs.Meant.{IsAnswer, IsEnough}
+use Rattle.mv_meaning.specs.Meaning.{mean}
 use Rattle.mv_meaning.specs.declared.meant.End.{End}
 use Rattle.mv_meaning.specs.declared.meant.End.TheVariants.{Exit, Trap, More}
 use Rattle.mv_eval.specs.Evaluations.{most, meaning, IsInput, Evaluates}
@@ -33,7 +34,7 @@ use Rattle.mv_top.specs.Lines.{Noted, written, unmade, cut}
 use Rattle.mv_top.specs.Texts as text_spec
 use Rattle.mv_top.specs.Texts.{IsNotRun, no_action, EvalDoes, RunDoes, Does, IsDue, status_of_end, status_of_evaluation, status_of_stop}
 use Rattle.mv_top.specs.Outcomes as spec
-use Rattle.mv_top.specs.Outcomes.{Holds, Outside, ShelfFailed, Comes, Gives, Quiet, Tells, Is, IsWithinLimits, IsCovered, Decides, IsCarriedOut}
+use Rattle.mv_top.specs.Outcomes.{Holds, Outside, ShelfFailed, Comes, Gives, Quiet, Tells, Is, IsWithinLimits, Decides, IsCarriedOut}
 use Rattle.mv_top.specs.declared.status.Status.{Status}
 use Rattle.mv_top.specs.declared.status.Status.TheVariants.{Usage, Refused, Memory, OutputFault, ShelfFault}
 
@@ -80,15 +81,15 @@ status_of_answer More stopped is = absurd is
 
 module _ (before after : Environment) (no_input_fault : ReadFailed before after → ⊥) (no_output_fault : WriteFailed before after → ⊥) (text : List ℕ) where
   -- where a run has time enough for an end, it ends so
-  run_decided : (n : ℕ) (q : Program) (stopped : Stopped) → meant.Decides q [] n before after stopped → (bytes : List ℕ) → before.input.left ≡ Some bytes →
-      All (λ b. b < 2 ^ 8) bytes → (bound : ℕ) → IsEnough q [] bytes n bound → ((meaning q bound bytes).«end» ≡ More → ⊥) →
-      Is (status_of_stop stopped) (status_of_end (meaning q bound bytes).«end»)
-  run_decided n q stopped decides bytes told are bound enough ended =
-      let here : meant.DecidesFrom q [] n before after (Some bytes) stopped = subst (λ l. meant.DecidesFrom q [] n before after l stopped) told decides in
+  run_decided : (n : ℕ) (q : Program) (acts : List Action) (stopped : Stopped) → meant.Decides q acts n before after stopped → (bytes : List ℕ) → before.input.left ≡ Some bytes →
+      All (λ b. b < 2 ^ 8) bytes → (bound : ℕ) → IsEnough q acts bytes n bound → ((mean q bytes acts bound).«end» ≡ More → ⊥) →
+      Is (status_of_stop stopped) (status_of_end (mean q bytes acts bound).«end»)
+  run_decided n q acts stopped decides bytes told are bound enough ended =
+      let here : meant.DecidesFrom q acts n before after (Some bytes) stopped = subst (λ l. meant.DecidesFrom q acts n before after l stopped) told decides in
       by_answer (here are no_input_fault no_output_fault bound enough ended)
     where
-      by_answer : IsAnswer (meaning q bound bytes).«end» stopped ⊎ (stopped ≡ stop.Memory) → Is (status_of_stop stopped) (status_of_end (meaning q bound bytes).«end»)
-      by_answer (inl is) = inl (status_of_answer (meaning q bound bytes).«end» stopped is)
+      by_answer : IsAnswer (mean q bytes acts bound).«end» stopped ⊎ (stopped ≡ stop.Memory) → Is (status_of_stop stopped) (status_of_end (mean q bytes acts bound).«end»)
+      by_answer (inl is) = inl (status_of_answer (mean q bytes acts bound).«end» stopped is)
       by_answer (inr memory) = inr (ap status_of_stop memory)
 
   module _ (Heard : List Event → Type 0) (options : RunOptions) where
@@ -115,17 +116,19 @@ module _ (before after : Environment) (no_input_fault : ReadFailed before after 
         limit_cause s (inl passes) = passes
         limit_cause s (inr (n, first, same)) = absurd (operator.not_both p options.items actions n are first)
 
-        run_ended : {lines : List ℕ} {status : Status} → RunDoes before after text Heard options lines status → IsCovered p → (bytes : List ℕ) → before.input.left ≡ Some bytes →
-            All (λ b. b < 2 ^ 8) bytes → (bound : ℕ) → IsEnough p [] bytes options.steps bound → ((meaning p bound bytes).«end» ≡ More → ⊥) →
-            IsWithinLimits status (status_of_end (meaning p bound bytes).«end») p
-        run_ended (text_spec.unread unused) covered bytes told bound_ bound enough ended = inl (inr refl)
-        run_ended (text_spec.not_run s none unused) covered bytes told bytes_are bound enough ended = inr (s, limit_cause s (limit_or_item text options.items p is s none), refl)
-        run_ended (text_spec.ran b taken x good are_taken is_one) covered bytes told bytes_are bound enough ended =
+        run_ended : {lines : List ℕ} {status : Status} → RunDoes before after text Heard options lines status → (bytes : List ℕ) → before.input.left ≡ Some bytes →
+            All (λ b. b < 2 ^ 8) bytes → (bound : ℕ) → IsEnough p actions bytes options.steps bound → ((mean p bytes actions bound).«end» ≡ More → ⊥) →
+            IsWithinLimits status (status_of_end (mean p bytes actions bound).«end») p
+        run_ended (text_spec.unread unused) bytes told bytes_are bound enough ended = inl (inr refl)
+        run_ended (text_spec.not_run s none unused) bytes told bytes_are bound enough ended = inr (s, limit_cause s (limit_or_item text options.items p is s none), refl)
+        run_ended (text_spec.ran b taken x good are_taken is_one) bytes told bytes_are bound enough ended =
             let one : b.program ≡ p = one_program text b.program p good.program is in
-            let here : IsCovered b.program = subst IsCovered (sym one) covered in
-            let behaves = good.image.behaves here.unattributed here.never_rebinds in
-            let decides : meant.Decides p [] options.steps before after x.stopped = subst (λ z. meant.Decides z [] options.steps before after x.stopped) one (is_one.decides behaves) in
-            inl (run_decided options.steps p x.stopped decides bytes told bytes_are bound enough ended)
+            let same : taken ≡ actions = operator.one_list p options.items taken actions (subst (λ z. IsActions z options.items taken) one are_taken) are in
+            let decides : meant.Decides b.program taken options.steps before after x.stopped =
+            is_one.decides good.image.behaves (operator.are_words b.program options.items taken are_taken, operator.fit b.program options.items taken are_taken) in
+            let here : meant.Decides p actions options.steps before after x.stopped =
+            subst (λ as. meant.Decides p as options.steps before after x.stopped) same (subst (λ z. meant.Decides z taken options.steps before after x.stopped) one decides) in
+            inl (run_decided options.steps p actions x.stopped here bytes told bytes_are bound enough ended)
 
   module _ (bound : ℕ) where
     eval_refused : {status : Status} → EvalDoes before after text bound status → (r : Refusal) → IsRefused text r → Is status (Refused r)
@@ -203,12 +206,12 @@ module _ (words : List (List ℕ)) (before after : Outside) (Heard : List Event 
     wrong_item_of options (read lines status does) item wrong =
         run_wrong_item before.environment after.environment quiet.input quiet.output text Heard options p is_program does item wrong
 
-    ended_of : (options : RunOptions) → Read file text (Run options) lines status → IsCovered p → (actions : List Action) → IsActions p options.items actions → (bytes : List ℕ) →
-        before.environment.input.left ≡ Some bytes → All (λ b. b < 2 ^ 8) bytes → (bound : ℕ) → IsEnough p [] bytes options.steps bound →
-        ((meaning p bound bytes).«end» ≡ More → ⊥) → IsWithinLimits status (status_of_end (meaning p bound bytes).«end») p
-    ended_of options unloaded covered actions are bytes told bytes_are bound enough ended = inl (inr refl)
-    ended_of options (read lines status does) covered actions are bytes told bytes_are bound enough ended =
-        run_ended before.environment after.environment quiet.input quiet.output text Heard options p is_program actions are does covered bytes told bytes_are bound enough ended
+    ended_of : (options : RunOptions) → Read file text (Run options) lines status → (actions : List Action) → IsActions p options.items actions → (bytes : List ℕ) →
+        before.environment.input.left ≡ Some bytes → All (λ b. b < 2 ^ 8) bytes → (bound : ℕ) → IsEnough p actions bytes options.steps bound →
+        ((mean p bytes actions bound).«end» ≡ More → ⊥) → IsWithinLimits status (status_of_end (mean p bytes actions bound).«end») p
+    ended_of options unloaded actions are bytes told bytes_are bound enough ended = inl (inr refl)
+    ended_of options (read lines status does) actions are bytes told bytes_are bound enough ended =
+        run_ended before.environment after.environment quiet.input quiet.output text Heard options p is_program actions are does bytes told bytes_are bound enough ended
 
     evaluated_of : (bound : ℕ) → Read file text (Eval bound) lines status → (bytes : List ℕ) → before.environment.input.left ≡ Some bytes → Is status (status_of_end (meaning p bound (take most bytes)).«end»)
     evaluated_of bound unloaded bytes told = inr refl
@@ -221,8 +224,8 @@ module _ (words : List (List ℕ)) (before after : Outside) (Heard : List Event 
     absent = absent_of came;
     refused = λ file text task r c tells is. refused_of (read_of came file text task c tells) r is;
     wrong_item = λ file text options p item c tells is wrong. wrong_item_of p is options (read_of came file text (Run options) c tells) item wrong;
-    ended = λ file text bytes options bound p actions c tells is covered are told bytes_are enough over.
-        ended_of p is options (read_of came file text (Run options) c tells) covered actions are bytes told bytes_are bound enough over;
+    ended = λ file text bytes options bound p actions c tells is are told bytes_are enough over.
+        ended_of p is options (read_of came file text (Run options) c tells) actions are bytes told bytes_are bound enough over;
     evaluated = λ file text bytes bound p c tells is told. evaluated_of p is bound (read_of came file text (Eval bound) c tells) bytes told;
   }
 
@@ -232,7 +235,7 @@ module _ (words : List (List ℕ)) (before after : Outside) (Heard : List Event 
     absent = λ file task c lacks. inr refl;
     refused = λ file text task r c tells is. inr refl;
     wrong_item = λ file text options p item c tells is wrong. inl (inr refl);
-    ended = λ file text bytes options bound p actions c tells is covered are told bytes_are enough over. inl (inr refl);
+    ended = λ file text bytes options bound p actions c tells is are told bytes_are enough over. inl (inr refl);
     evaluated = λ file text bytes bound p c tells is told. inr refl;
   }
 

@@ -7,11 +7,10 @@ use Rattle.mv_io.specs.Outside.{Rose}
 use Rattle.mv_io.specs.Shelves.{Files, Lacks}
 use Rattle.mv_front.specs.Verdicts.{IsProgram, IsRefused}
 use Rattle.mv_front.specs.declared.refusal.Refusal.{Refusal}
-use Rattle.mv_source_calls.specs.Bindings.{NeverRebinds}
-use Rattle.mv_built_programs.specs.Built.{IsUnattributed}
 use Rattle.mv_build.specs.Verdicts.{PassesLimit}
 use Rattle.mv_refine.specs.Environment.{Environment, Writing, ReadFailed, WriteFailed}
 use Rattle.mv_refine.specs.Meant.{IsEnough}
+use Rattle.mv_meaning.specs.Meaning.{mean}
 use Rattle.mv_meaning.specs.declared.meant.End.{End}
 use Rattle.mv_meaning.specs.declared.meant.End.TheVariants.{More}
 use Rattle.mv_eval.specs.Evaluations.{most, meaning}
@@ -93,11 +92,6 @@ Is result status = (result ≡ status) ⊎ (result ≡ Memory)
 abbrev pub IsWithinLimits : (result status : Status) → Program → Type 0
 IsWithinLimits result status p = Is result status ⊎ ((r : Refusal) × PassesLimit p r × (result ≡ Refused r))
 
--- the programs of which it is proved that their images do what they mean
-pub record IsCovered (p : Program) : Type 0 where
-  pub unattributed : IsUnattributed p
-  pub never_rebinds : NeverRebinds p
-
 -- Each status comes where its cause stands.
 pub record Decides (words : List (List ℕ)) (files : Option Files) (left : Option (List ℕ)) (result : Status) : Type 0 where
   pub usage : IsNoCommand words → Is result Usage
@@ -107,8 +101,8 @@ pub record Decides (words : List (List ℕ)) (files : Option Files) (left : Opti
       IsFirstWrong p options.items item → IsWithinLimits result (Refused (no_action item)) p
   -- the run has time enough for a bound at which the meaning has ended
   pub ended : (file text bytes : List ℕ) (options : RunOptions) (bound : ℕ) (p : Program) (actions : List Action) → IsCommand words file (Run options) → Tells files file text →
-      IsProgram text p → IsCovered p → IsActions p options.items actions → left ≡ Some bytes → All (λ b. b < 2 ^ 8) bytes → IsEnough p [] bytes options.steps bound →
-      ((meaning p bound bytes).«end» ≡ More → ⊥) → IsWithinLimits result (status_of_end (meaning p bound bytes).«end») p
+      IsProgram text p → IsActions p options.items actions → left ≡ Some bytes → All (λ b. b < 2 ^ 8) bytes → IsEnough p actions bytes options.steps bound →
+      ((mean p bytes actions bound).«end» ≡ More → ⊥) → IsWithinLimits result (status_of_end (mean p bytes actions bound).«end») p
   pub evaluated : (file text bytes : List ℕ) (bound : ℕ) (p : Program) → IsCommand words file (Eval bound) → Tells files file text → IsProgram text p →
       left ≡ Some bytes → Is result (status_of_end (meaning p bound (take most bytes)).«end»)
 

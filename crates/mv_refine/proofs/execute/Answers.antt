@@ -24,6 +24,6 @@ returns g c =
     let machine = c.run-stopped.new.self in
     let runs = made image actions _ _ c.args.steps c.run-stopped.result _ c.in_ok-machine.machine machine c.in_ok-machine.ensures c.run-stopped.ensures.runs in record {
       runs = runs;
-      does = λ behaves. run_does program image behaves actions c.args.steps _ _ _ machine c.run-stopped.result runs;
-      decides = λ behaves. run_decides program image behaves actions c.args.steps _ _ _ machine c.run-stopped.result runs;
+      does = λ behaves are. run_does program image behaves actions are.0 are.1 c.args.steps _ _ _ machine c.run-stopped.result runs;
+      decides = λ behaves are. run_decides program image behaves actions are.0 are.1 c.args.steps _ _ _ machine c.run-stopped.result runs;
     }
