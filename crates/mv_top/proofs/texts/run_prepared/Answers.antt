@@ -9,10 +9,10 @@ pub returns-in_err-lines : goal.returns-in_err-lines
 returns-in_err-lines g c text is = record {
   lines = _;
   status = _;
-  comes = run_done _ _ text _ c.args.options.now _ _ c.args.prepared.now c.in-Ok.execution refl refl is c.in-Ok.ensures.executes;
+  comes = run_done _ _ text _ c.args.options.now _ _ c.args.prepared.now c.in-Ok.execution refl refl is c.in-Ok.ensures;
 }
 
 pub returns : goal.returns
 returns g c text is =
     run_done _ _ text _ c.args.options.now c.in_ok-lines.lines.items c.status_of_stop-status.result c.args.prepared.now c.in-Ok.execution c.in_ok-lines.ensures c.status_of_stop-status.ensures is
-    c.in-Ok.ensures.executes
+    c.in-Ok.ensures
