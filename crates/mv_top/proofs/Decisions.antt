@@ -206,12 +206,21 @@ module _ (words : List (List ℕ)) (before after : Outside) (Heard : List Event 
     wrong_item_of options (read lines status does) item wrong =
         run_wrong_item before.environment after.environment quiet.input quiet.output text Heard options p is_program does item wrong
 
+<<<<<<< HEAD
     ended_of : {status : Status} (options : RunOptions) → Read file text (Run options) status → (actions : List Action) → IsActions p options.items actions → (bytes : List ℕ) →
         before.environment.input.left ≡ Some bytes → All (λ b. b < 2 ^ 8) bytes → (bound : ℕ) → IsEnough p actions bytes options.steps bound →
         ((mean p bytes actions bound).«end» ≡ More → ⊥) → IsWithinLimits status (status_of_end (mean p bytes actions bound).«end») p
     ended_of options unloaded actions are bytes told bytes_are bound enough ended = inl (inr refl)
     ended_of options (read lines status does) actions are bytes told bytes_are bound enough ended =
         run_ended before.environment after.environment quiet.input quiet.output text Heard options p is_program actions are does bytes told bytes_are bound enough ended
+=======
+    ended_of : {status : Status} (options : RunOptions) → Read file text (Run options) status → IsCovered p → (actions : List Action) → IsActions p options.items actions → (bytes : List ℕ) →
+        before.environment.input.left ≡ Some bytes → All (λ b. b < 2 ^ 8) bytes → (bound : ℕ) → IsEnough p [] bytes options.steps bound →
+        ((meaning p bound bytes).«end» ≡ More → ⊥) → IsWithinLimits status (status_of_end (meaning p bound bytes).«end») p
+    ended_of options unloaded covered actions are bytes told bytes_are bound enough ended = inl (inr refl)
+    ended_of options (read lines status does) covered actions are bytes told bytes_are bound enough ended =
+        run_ended before.environment after.environment quiet.input quiet.output text Heard options p is_program actions are does covered bytes told bytes_are bound enough ended
+>>>>>>> main
 
     evaluated_of : {status : Status} (bound : ℕ) → Read file text (Eval bound) status → (bytes : List ℕ) → before.environment.input.left ≡ Some bytes → Is status (status_of_end (meaning p bound (take most bytes)).«end»)
     evaluated_of bound unloaded bytes told = inr refl
