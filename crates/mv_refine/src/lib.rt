@@ -48,7 +48,7 @@ pub fn execute<I: Source, O: Sink>(
 ) -> Result<Execution, AllocError>
     requires patient { All (λ probe. IsPatient (hearing (told probe) (patience probe))) probes.old.items }
     requires fit { All (λ action. IsTrue (fits built.now.image.switches action)) actions.now }
-    ensures executes { Executes built.now actions.now steps
+    ensures { Executes built.now actions.now steps
         (environment (reading (I.left source.old) (I.faults source.old)) (writing (O.written sink.old) (O.faults sink.old)) (way oracle.old))
         (environment (reading (I.left source.new) (I.faults source.new)) (writing (O.written sink.new) (O.faults sink.new)) (way oracle.new))
         (λ events. Fates (Becomes (λ probe. object_at probe.ptr probe.vtable) (λ probe. hearing (told probe) (patience probe)) events) probes.old.items probes.new.items)

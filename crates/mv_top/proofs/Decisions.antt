@@ -29,7 +29,7 @@ use Rattle.mv_command.specs.declared.command.Task.{Task}
 use Rattle.mv_command.specs.declared.command.Task.TheVariants.{Run, Eval}
 use Rattle.mv_command.proofs.Same.{same_file, same_task}
 use Rattle.mv_operator.specs.Operator.{IsActions, IsFirstWrong}
-use Rattle.mv_operator.proofs.Same as operator
+use Rattle.mv_operator.proofs.Acting as operator
 use Rattle.mv_top.specs.Lines.{Noted, written, unmade, cut}
 use Rattle.mv_top.specs.Texts as text_spec
 use Rattle.mv_top.specs.Texts.{IsNotRun, no_action, EvalDoes, RunDoes, Does, IsDue, status_of_end, status_of_evaluation, status_of_stop}
@@ -149,9 +149,9 @@ module _ (before after : Environment) (no_input_fault : ReadFailed before after 
         subst (λ z. Is (status_of_evaluation result) (status_of_end (meaning z bound (take most bytes)).«end»)) (one_program text q p good is)
         (evaluation_is q result evaluates bytes told)
 
-  text_refused : (Heard : List Event → Type 0) (task : Task) {lines : List ℕ} {status : Status} → Does before after text Heard task lines status → (r : Refusal) → IsRefused text r → Is status (Refused r)
-  text_refused Heard (Run options) does r is = run_refused Heard options does r is
-  text_refused Heard (Eval bound) does r is = eval_refused bound does.0 r is
+  text_refused : (Heard : List Event → Type 0) (task : Task) (lines : List ℕ) (status : Status) → Does before after text Heard task lines status → (r : Refusal) → IsRefused text r → Is status (Refused r)
+  text_refused Heard (Run options) lines status does r is = run_refused Heard options does r is
+  text_refused Heard (Eval bound) lines status does r is = eval_refused bound does.0 r is
 
 -- ---- each status of a command
 
@@ -179,11 +179,11 @@ module _ (words : List (List ℕ)) (before after : Outside) (Heard : List Event 
   no_shelf_fault file other text e (inr lacks) tells = told_lacks files file other text e lacks tells
 
   -- what comes of the text that the shelf tells, or there was no memory to load it
-  data Read (file text : List ℕ) (task : Task) : List ℕ → Status → Type 0 where
-    unloaded : Read file text task [] Memory
-    read : (lines : List ℕ) (status : Status) → Does before.environment after.environment text Heard task lines status → Read file text task lines status
+  data Read (file text : List ℕ) (task : Task) : Status → Type 0 where
+    unloaded : Read file text task Memory
+    read : (lines : List ℕ) (status : Status) → Does before.environment after.environment text Heard task lines status → Read file text task status
 
-  read_of : {lines : List ℕ} {status : Status} → Came lines status → (file text : List ℕ) (task : Task) → IsCommand words file task → Tells files file text → Read file text task lines status
+  read_of : {lines : List ℕ} {status : Status} → Came lines status → (file text : List ℕ) (task : Task) → IsCommand words file task → Tells files file text → Read file text task status
   read_of (spec.usage none unused) file text task d tells = absurd (none file task d)
   read_of (spec.no_file other t c why unused) file text task d tells = absurd (no_shelf_fault other file text (same_file c d) why tells)
   read_of (spec.unloaded unused) file text task d tells = unloaded
@@ -192,24 +192,24 @@ module _ (words : List (List ℕ)) (before after : Outside) (Heard : List Event 
       read lines status (subst (λ k. Does before.environment after.environment text Heard k lines status) (same_task c d)
       (subst (λ z. Does before.environment after.environment z Heard t lines status) same does))
 
-  refused_of : {file text : List ℕ} {task : Task} {lines : List ℕ} {status : Status} → Read file text task lines status → (r : Refusal) → IsRefused text r → Is status (Refused r)
+  refused_of : {file text : List ℕ} {task : Task} {status : Status} → Read file text task status → (r : Refusal) → IsRefused text r → Is status (Refused r)
   refused_of unloaded r is = inr refl
-  refused_of {text = text} {task = task} (read lines status does) r is = text_refused before.environment after.environment quiet.input quiet.output text Heard task does r is
+  refused_of {text = text} {task = task} (read lines status does) r is = text_refused before.environment after.environment quiet.input quiet.output text Heard task lines status does r is
 
-  module _ {file text lines : List ℕ} {status : Status} (p : Program) (is_program : IsProgram text p) where
-    wrong_item_of : (options : RunOptions) → Read file text (Run options) lines status → (item : ℕ) → IsFirstWrong p options.items item → IsWithinLimits status (Refused (no_action item)) p
+  module _ {file text : List ℕ} (p : Program) (is_program : IsProgram text p) where
+    wrong_item_of : {status : Status} (options : RunOptions) → Read file text (Run options) status → (item : ℕ) → IsFirstWrong p options.items item → IsWithinLimits status (Refused (no_action item)) p
     wrong_item_of options unloaded item wrong = inl (inr refl)
     wrong_item_of options (read lines status does) item wrong =
         run_wrong_item before.environment after.environment quiet.input quiet.output text Heard options p is_program does item wrong
 
-    ended_of : (options : RunOptions) → Read file text (Run options) lines status → (actions : List Action) → IsActions p options.items actions → (bytes : List ℕ) →
+    ended_of : {status : Status} (options : RunOptions) → Read file text (Run options) status → (actions : List Action) → IsActions p options.items actions → (bytes : List ℕ) →
         before.environment.input.left ≡ Some bytes → All (λ b. b < 2 ^ 8) bytes → (bound : ℕ) → IsEnough p actions bytes options.steps bound →
         ((mean p bytes actions bound).«end» ≡ More → ⊥) → IsWithinLimits status (status_of_end (mean p bytes actions bound).«end») p
     ended_of options unloaded actions are bytes told bytes_are bound enough ended = inl (inr refl)
     ended_of options (read lines status does) actions are bytes told bytes_are bound enough ended =
         run_ended before.environment after.environment quiet.input quiet.output text Heard options p is_program actions are does bytes told bytes_are bound enough ended
 
-    evaluated_of : (bound : ℕ) → Read file text (Eval bound) lines status → (bytes : List ℕ) → before.environment.input.left ≡ Some bytes → Is status (status_of_end (meaning p bound (take most bytes)).«end»)
+    evaluated_of : {status : Status} (bound : ℕ) → Read file text (Eval bound) status → (bytes : List ℕ) → before.environment.input.left ≡ Some bytes → Is status (status_of_end (meaning p bound (take most bytes)).«end»)
     evaluated_of bound unloaded bytes told = inr refl
     evaluated_of bound (read lines status does) bytes told =
         eval_ended before.environment after.environment quiet.input quiet.output text bound does.0 p is_program bytes told

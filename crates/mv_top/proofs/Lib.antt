@@ -1,5 +1,5 @@
 pub mod Decisions
 pub mod Few
 pub mod Fits
-pub mod Notes
-pub mod Texts
+pub mod Performing
+pub mod Writing

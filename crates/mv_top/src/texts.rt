@@ -1,12 +1,13 @@
 //! What is done with the text of a command's file.
 
-ghost use Rattle.std.specs.Prelude.{ℕ, ◌≡◌, List, Option, All, IsTrue};
+ghost use Rattle.std.specs.Prelude.{ℕ, ◌≡◌, List, Option, All, IfOk, IsTrue};
 ghost use Rattle.mv_command.specs.Items.{Ascend};
 ghost use Rattle.mv_machine.specs.Actions.{fits};
 ghost use Rattle.mv_probe.specs.Fates.{Fates};
 ghost use Rattle.mv_probe.specs.Hearing.{hearing, object_at, Becomes, IsPatient};
 ghost use Rattle.mv_probe.specs.Ways.{Way};
 ghost use Rattle.mv_refine.specs.Environment.{environment, reading, writing};
+ghost use Rattle.mv_top.specs.Lines.{asked_lines};
 ghost use Rattle.mv_top.specs.Texts.{EvalDoes, IsPrepared, Performs, RunDoes, status_of_build, status_of_error, status_of_evaluation, status_of_stop};
 
 use crate::notes::{Performed, asked_lines};
@@ -17,11 +18,12 @@ use mv_command::RunOptions;
 use mv_eval::error::EvalError;
 use mv_eval::eval;
 use mv_front::{FrontError, front};
+use mv_image::Image;
 use mv_io::{Sink, Source};
 use mv_machine::Stopped;
 use mv_meaning::meant::End;
 use mv_probe::{FetchOracle, Probe};
-use mv_refine::execute;
+use mv_refine::{Execution, execute};
 use std::alloc::{AllocError, Global};
 
 // The status of a run that has stopped.
@@ -73,6 +75,21 @@ fn status_of_refusal(error: FrontError) -> Status
     }
 }
 
+// What a run came to, with the lines that are asked for.
+fn finished(
+    alloc: Global,
+    options: &RunOptions,
+    image: &Image,
+    execution: &Execution,
+) -> Result<Performed, AllocError>
+    ensures status { IfOk result (λ performed. performed.status ≡ status_of_stop execution.now.stopped) }
+    ensures lines { IfOk result (λ performed. performed.lines.items ≡ asked_lines options.now image.now execution.now.machine) }
+{
+    let lines = asked_lines(alloc, options, image, &execution.machine)?;
+    let status = status_of_stop(execution.stopped);
+    Ok(Performed { status, lines })
+}
+
 // Runs what was prepared of a text, and makes the lines that are asked for. An error is want of memory for these lines.
 fn run_prepared<I: Source, O: Sink>(
     alloc: Global,
@@ -91,8 +108,9 @@ fn run_prepared<I: Source, O: Sink>(
         text (λ events. Fates (Becomes (λ probe. object_at probe.ptr probe.vtable) (λ probe. hearing (told probe) (patience probe)) events) probes.old.items probes.new.items)
         options.now) result }
 {
-    let built = &prepared.built;
-    let Ok(execution) = execute(
+    let Prepared { built, actions } = prepared;
+    let actions = actions.as_slice();
+    match execute(
         alloc,
         built,
         options.steps,
@@ -100,13 +118,11 @@ fn run_prepared<I: Source, O: Sink>(
         out,
         oracle,
         probes,
-        prepared.actions.as_slice(),
-    ) else {
-        return Ok(Performed::alone(alloc, Status::Memory));
-    };
-    let lines = asked_lines(alloc, options, &built.image, &execution.machine)?;
-    let status = status_of_stop(execution.stopped);
-    Ok(Performed { status, lines })
+        actions,
+    ) {
+        Ok(execution) => finished(alloc, options, &built.image, &execution),
+        Err(_) => Ok(Performed::alone(alloc, Status::Memory)),
+    }
 }
 
 /// Compiles a text and runs it. An error is want of memory for the lines that are asked for.

@@ -1,5 +1,6 @@
 use Rattle.std.proofs.Common.{refl, sym, subst}
 use Rattle.std.specs.Prelude.{All, IsTrue}
+use Rattle.std.proofs.lemmas.Result.{err_from_is_err_and}
 use Rattle.mv_image.specs.Spelling.{Fields}
 use Rattle.mv_machine.specs.Actions.{fits}
 use Rattle.mv_probe.proofs.Logs.{told_nothing}
@@ -14,7 +15,8 @@ run-stopped-requires-clause-fit g c =
     (sym (image_of c.in_ok-machine.machine image c.in_ok-machine.ensures)) c.requires.fit
 
 pub returns-in_err-machine : goal.returns-in_err-machine
-returns-in_err-machine g c = (refl, told_nothing _ _ c.args.probes.now.items c.requires.patient)
+returns-in_err-machine g c =
+    let p = err_from_is_err_and c.from_residual.result c.from_residual.ensures.1 in rw p.1 (refl, told_nothing _ _ c.args.probes.now.items c.requires.patient)
 
 pub returns : goal.returns
 returns g c =

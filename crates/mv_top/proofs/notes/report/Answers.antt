@@ -1,13 +1,13 @@
 use Rattle.std.proofs.Common.{refl, ◌∙◌}
 use Rattle.mv_top.specs.Lines.{unmade}
-use Rattle.mv_top.proofs.Notes.{all_written, part_written}
+use Rattle.mv_top.proofs.Writing.{all_written, part_written}
 use Rattle.mv_top.proofs.notes.report.Goals as goal
 
 pub returns-in_default : goal.returns-in_default
 returns-in_default g c = unmade refl
 
-pub returns-in-Ok : goal.returns-in-Ok
-returns-in-Ok g c = all_written c.args.performed.lines.items c.args.performed.status _ _ c.as_slice.result.now (c.as_slice.ensures.value ∙ c.in-Ok.ensures) c.in-Ok-write_all.ensures.bytes
+pub returns-in-Ok-write_all : goal.returns-in-Ok-write_all
+returns-in-Ok-write_all g c = all_written c.args.performed.lines.items c.args.performed.status _ _ c.as_slice.result.now (c.as_slice.ensures.value ∙ c.in-Ok.ensures) c.in-Ok-write_all.ensures.bytes
 
 pub returns : goal.returns
 returns g c = part_written c.args.performed.lines.items c.args.performed.status _ _ c.as_slice.result.now (c.as_slice.ensures.value ∙ c.in-Ok.ensures) c.in-Err.ensures.bytes c.in-Err.ensures.cause.failed

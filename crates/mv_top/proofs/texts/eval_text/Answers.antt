@@ -1,6 +1,6 @@
 use Rattle.std.proofs.Common.{arith, refl}
 use Rattle.mv_front.proofs.Few.{few_functions}
-use Rattle.mv_top.proofs.Texts.{evaluation_done, not_evaluated}
+use Rattle.mv_top.proofs.Performing.{evaluation_done, not_evaluated}
 use Rattle.mv_top.proofs.texts.eval_text.Goals as goal
 
 pub eval-requires : goal.eval-requires

@@ -1,6 +1,6 @@
 use Rattle.std.proofs.Common.{refl}
 use Rattle.mv_probe.proofs.Logs.{told_nothing}
-use Rattle.mv_top.proofs.Texts.{alone, not_prepared}
+use Rattle.mv_top.proofs.Performing.{alone, not_prepared}
 use Rattle.mv_top.proofs.texts.run_text.Goals as goal
 
 pub returns-in-Ok : goal.returns-in-Ok

@@ -4,7 +4,7 @@ use Rattle.mv_command.proofs.Same.{items_of}
 use Rattle.mv_command.specs.declared.command.Task.TheVariants.{Run, Eval}
 use Rattle.mv_probe.proofs.Logs.{told_nothing}
 use Rattle.mv_top.specs.Outcomes.{no_file, unloaded, usage}
-use Rattle.mv_top.proofs.Texts.{alone, loaded, performs_so}
+use Rattle.mv_top.proofs.Performing.{alone, loaded, performs_so}
 use Rattle.mv_top.proofs.top.perform.Goals as goal
 
 pub returns-in-Ok-None-clause-comes : goal.returns-in-Ok-None-clause-comes

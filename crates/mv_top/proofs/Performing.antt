@@ -1,6 +1,6 @@
 -- From the parts of a command to what comes of its text.
 use Rattle.std.proofs.Common.{ℕ, ◌≡◌, List, [], refl, sym, subst, Option, Some, None}
-use Rattle.std.specs.Prelude.{Result, Vec, Ok, Err}
+use Rattle.std.specs.Prelude.{Result, Vec, Ok, Err, IfOk}
 use Rattle.std.specs.declared.alloc.AllocError.{AllocError}
 use Rattle.std.specs.declared.alloc.Global.{Global}
 use Rattle.mv_ast.specs.declared.program.Program.{Program}
@@ -27,7 +27,7 @@ use Rattle.mv_command.specs.Commands.{IsCommand}
 use Rattle.mv_command.specs.declared.items.Item.{Item}
 use Rattle.mv_command.specs.declared.command.RunOptions.{RunOptions}
 use Rattle.mv_command.specs.declared.command.Task.{Task}
-use Rattle.mv_operator.specs.Operator.{IsFirstWrong}
+use Rattle.mv_operator.specs.Operator.{IsActions, IsFirstWrong}
 use Rattle.mv_top.specs.Lines.{asked_lines}
 use Rattle.mv_top.specs.Texts.{IsNotRun, IsCause, IsPrepared, Performs, EvalDoes, RunDoes, Does, Unused, unbuilt, wrong_item, no_action, not_run, ran, status_of_build, status_of_error, status_of_evaluation, status_of_stop}
 use Rattle.mv_top.specs.Texts as spec
@@ -82,12 +82,19 @@ module _ (before after : Environment) (text : List ℕ) where
     not_prepared (build_error.Refused r) is unused = not_run r is unused
     not_prepared (build_error.Memory m) is unused = spec.unread unused
 
-    pub run_done : (lines : List ℕ) (status : Status) (prepared : Prepared) (e : Execution) → lines ≡ asked_lines options prepared.built.image e.machine → status ≡ status_of_stop e.stopped →
-        IsPrepared text options.items prepared → IsExecution prepared.built prepared.actions.items options.steps before after Heard e → Done lines status
-    run_done lines status prepared e asked same is execution =
-        subst (λ (l : List ℕ). Done l status) (sym asked)
-        (subst (λ (s : Status). Done (asked_lines options prepared.built.image e.machine) s) (sym same)
-        (ran prepared.built prepared.actions.items e is.built is.actions execution))
+    pub not_loaded : (lines : List ℕ) (status : Status) → lines ≡ [] → status ≡ Memory → Unused before after text Heard → Done lines status
+    not_loaded lines status none same unused = alone Done lines status Memory none same (spec.unread unused)
+
+    module _ (prepared : Prepared) (actions : List Action) (e : Execution) (same : actions ≡ prepared.actions.items) (is : IsPrepared text options.items prepared)
+        (execution : IsExecution prepared.built actions options.steps before after Heard e) where
+      came : Done (asked_lines options prepared.built.image e.machine) (status_of_stop e.stopped)
+      came = ran prepared.built actions e is.built (subst (IsActions prepared.built.program options.items) (sym same) is.actions) execution
+
+      pub run_done : (result : Result Performed AllocError) → IfOk result (λ performed. performed.status ≡ status_of_stop e.stopped) →
+          IfOk result (λ performed. performed.lines.items ≡ asked_lines options prepared.built.image e.machine) → Performs Done result
+      run_done (Ok performed) status lines =
+          subst (λ (l : List ℕ). Done l performed.status) (sym lines) (subst (λ (s : Status). Done (asked_lines options prepared.built.image e.machine) s) (sym status) came)
+      run_done (Err why) status lines = record { lines = asked_lines options prepared.built.image e.machine; status = status_of_stop e.stopped; comes = came }
 
 -- ---- from the parts of a command to the command
 
