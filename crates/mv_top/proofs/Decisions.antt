@@ -123,7 +123,7 @@ module _ (before after : Environment) (no_input_fault : ReadFailed before after 
             let decides : meant.Decides b.program taken options.steps before after x.stopped =
             is_one.decides good.image.behaves (operator.are_words b.program options.items taken are_taken, operator.fit b.program options.items taken are_taken) in
             let here : meant.Decides p actions options.steps before after x.stopped =
-            subst (λ as. meant.Decides p as options.steps before after x.stopped) same (subst (λ z. meant.Decides z taken options.steps before after x.stopped) one decides) in
+            subst (λ acts. meant.Decides p acts options.steps before after x.stopped) same (subst (λ z. meant.Decides z taken options.steps before after x.stopped) one decides) in
             inl (run_decided options.steps p actions x.stopped here bytes told bytes_are bound enough ended)
 
   module _ (bound : ℕ) where
