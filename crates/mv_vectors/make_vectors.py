@@ -2,9 +2,9 @@
 """Vectors for RV32IM from outside tools: GNU as and objdump, and qemu-riscv32.
 
 make_vectors.py SEED encodings COUNT   lines 'WORD NAME OPERANDS', as objdump -M no-aliases,numeric prints them
-make_vectors.py SEED steps COUNT       lines 'NAME WORD T0 T1 CELL T2 CELL PC', all but the name in hexadecimal: the word of an instruction, as
+make_vectors.py SEED steps COUNT       lines 'name word t0 t1 cell t2 cell pc', all but the name in hexadecimal: the word of an instruction, as
                                GNU as writes it, at 0x1000; t0, t1 and the word at 0x100000 before it, where t2 is 0; and t2, that
-                               word and the program counter after it. T1 of an operation on a register and an immediate is the
+                               word and the program counter after it. t1 of an operation on a register and an immediate is the
                                immediate, and that of a load the byte of the cell at which it loads.
                                There are COUNT of each name, and of 'undefined', which are words that QEMU refuses; and one of
                                EBREAK and some of each load and store outside memory. Where the program counter stays, QEMU

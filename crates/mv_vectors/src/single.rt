@@ -14,7 +14,7 @@ const SECOND: usize = 6;
 
 const RESULT: usize = 7;
 
-/// A line `NAME WORD T0 T1 CELL T2 CELL PC`, all but the name in hexadecimal: the word of an instruction at 0x1000; t0, t1 and
+/// A line `name word t0 t1 cell t2 cell pc`, all but the name in hexadecimal: the word of an instruction at 0x1000; t0, t1 and
 /// the word at 0x100000 before it; and t2, that word and the program counter after it. A fault leaves them as they were.
 #[derive(Clone, Copy, Drop)]
 pub(crate) struct Vector<'a> {
