@@ -118,11 +118,6 @@ module _ (words : List (List ℕ)) (before after : Outside) (Heard : List Event 
       Comes words before after Heard lines status
   file_missing file task same command why = alone (Comes words before after Heard) lines status ShelfFault none same (no_file file task command why (untouched, unheard))
 
--- what comes of an evaluation, which has no lines and tells nothing
-pub eval_does : (before after : Environment) (text : List ℕ) (Heard : List Event → Type 0) (bound : ℕ) (lines : List ℕ) (status due : Status) → lines ≡ [] → status ≡ due →
-    EvalDoes before after text bound due → Heard [] → Does before after text Heard (Eval bound) lines status
-eval_does before after text Heard bound lines status due none same does unheard = (subst (λ (s : Status). EvalDoes before after text bound s) (sym same) does, none, unheard)
-
 -- what comes of a text that the shelf gave
 pub loaded : (words : List (List ℕ)) (before after : Outside) (Heard : List Event → Type 0) (file : List ℕ) (task what : Task) (lines : List ℕ) (status : Status) →
     IsCommand words file task → task ≡ what → (bytes : Vec ℕ Global) → Loads before.shelf.files file (Ok bytes) → (text : List ℕ) → text ≡ bytes.items →
@@ -139,3 +134,11 @@ pub loaded_run : (words : List (List ℕ)) (before after : Outside) (Heard : Lis
 loaded_run words before after Heard file task options result command same bytes loads text is =
     performs_so (RunDoes before.environment after.environment text Heard options) (Comes words before after Heard)
     (λ lines status does. loaded words before after Heard file task (Run options) lines status command same bytes loads text is does) result
+
+-- what comes of its evaluation, which has no lines and tells nothing
+pub loaded_eval : (words : List (List ℕ)) (before after : Outside) (Heard : List Event → Type 0) (file : List ℕ) (task : Task) (bound : ℕ) (lines : List ℕ) (status due : Status) →
+    IsCommand words file task → task ≡ Eval bound → (bytes : Vec ℕ Global) → Loads before.shelf.files file (Ok bytes) → (text : List ℕ) → text ≡ bytes.items →
+    lines ≡ [] → status ≡ due → EvalDoes before.environment after.environment text bound due → Heard [] → Comes words before after Heard lines status
+loaded_eval words before after Heard file task bound lines status due command same bytes loads text is none as_due does unheard =
+    loaded words before after Heard file task (Eval bound) lines status command same bytes loads text is
+    (subst (λ (s : Status). EvalDoes before.environment after.environment text bound s) (sym as_due) does, none, unheard)

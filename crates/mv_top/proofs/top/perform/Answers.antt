@@ -3,9 +3,8 @@ use Rattle.std.specs.Prelude.{Err}
 use Rattle.std.specs.String.{string_bytes}
 use Rattle.mv_command.specs.Commands.{IsCommand}
 use Rattle.mv_command.proofs.Same.{items_of}
-use Rattle.mv_command.specs.declared.command.Task.TheVariants.{Eval}
 use Rattle.mv_probe.proofs.Logs.{told_nothing}
-use Rattle.mv_top.proofs.Performing.{eval_does, file_missing, loaded, loaded_run, no_command, no_memory}
+use Rattle.mv_top.proofs.Performing.{file_missing, loaded_eval, loaded_run, no_command, no_memory}
 use Rattle.mv_top.proofs.top.perform.Goals as goal
 
 pub returns-in-Ok-None-clause-comes : goal.returns-in-Ok-None-clause-comes
@@ -36,7 +35,6 @@ returns-in-Run-clause-comes g c =
 
 pub returns-clause-comes : goal.returns-clause-comes
 returns-clause-comes g c =
-    loaded _ _ _ _ c.in-Ok-Some.command.file.now c.in-Ok-Some.command.task (Eval c.in-Eval.bound) c.alone-in-Eval.result.lines.items c.alone-in-Eval.result.status
+    loaded_eval _ _ _ _ c.in-Ok-Some.command.file.now c.in-Ok-Some.command.task c.in-Eval.bound c.alone-in-Eval.result.lines.items c.alone-in-Eval.result.status c.eval_text-status.result
     (rw c.in-Ok-Some.field-0-is at c.in-Ok-Some.ensures) c.in-Eval.is c.in-Ok.text c.in-Ok.ensures.bytes c.as_slice-in-Eval.result.now c.as_slice-in-Eval.ensures.value
-    (eval_does _ _ _ _ c.in-Eval.bound _ _ _ c.alone-in-Eval.ensures.lines c.alone-in-Eval.ensures.status (c.eval_text-status.ensures _)
-    (told_nothing _ _ c.args.probes.now.items c.requires))
+    c.alone-in-Eval.ensures.lines c.alone-in-Eval.ensures.status (c.eval_text-status.ensures _) (told_nothing _ _ c.args.probes.now.items c.requires)
