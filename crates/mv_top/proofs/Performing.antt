@@ -1,5 +1,5 @@
 -- From the parts of a command to what comes of its text.
-use Rattle.std.proofs.Common.{ℕ, ◌≡◌, ◌⊎◌, List, [], refl, sym, subst, Option, Some, None}
+use Rattle.std.proofs.Common.{ℕ, ◌≡◌, ◌⊎◌, List, [], sym, subst, Option, Some, None}
 use Rattle.std.specs.Prelude.{Result, Vec, Ok, Err, IfOk}
 use Rattle.std.specs.declared.alloc.AllocError.{AllocError}
 use Rattle.std.specs.declared.alloc.Global.{Global}
@@ -11,10 +11,6 @@ use Rattle.mv_front.specs.Verdicts.{IsProgram}
 use Rattle.mv_front.specs.Verdicts as front
 use Rattle.mv_front.specs.declared.refusal.FrontError.{FrontError}
 use Rattle.mv_front.specs.declared.refusal.FrontError.TheVariants as front_error
-use Rattle.mv_front.specs.declared.refusal.Refusal.{Refusal}
-use Rattle.mv_build.specs.Answers as build
-use Rattle.mv_build.specs.Verdicts.{IsBuiltFrom}
-use Rattle.mv_build.specs.declared.built.Built.{Built}
 use Rattle.mv_build.specs.declared.error.BuildError.{BuildError}
 use Rattle.mv_build.specs.declared.error.BuildError.TheVariants as build_error
 use Rattle.mv_refine.specs.declared.execution.Execution.{Execution}
@@ -24,13 +20,12 @@ use Rattle.mv_meaning.specs.declared.meant.End.{End}
 use Rattle.mv_eval.specs.Evaluations.{Evaluates}
 use Rattle.mv_eval.specs.declared.error.EvalError.{EvalError}
 use Rattle.mv_command.specs.Commands.{IsCommand, IsNoCommand}
-use Rattle.mv_command.specs.declared.items.Item.{Item}
 use Rattle.mv_command.specs.declared.command.RunOptions.{RunOptions}
 use Rattle.mv_command.specs.declared.command.Task.{Task}
 use Rattle.mv_command.specs.declared.command.Task.TheVariants.{Run, Eval}
-use Rattle.mv_operator.specs.Operator.{IsActions, IsFirstWrong}
+use Rattle.mv_operator.specs.Operator.{IsActions}
 use Rattle.mv_top.specs.Lines.{asked_lines}
-use Rattle.mv_top.specs.Texts.{IsNotRun, IsCause, IsPrepared, Performs, EvalDoes, RunDoes, Does, Unused, unbuilt, wrong_item, no_action, not_run, ran, status_of_build, status_of_error, status_of_evaluation, status_of_stop}
+use Rattle.mv_top.specs.Texts.{IsCause, IsPrepared, Performs, EvalDoes, RunDoes, Does, Unused, not_run, ran, status_of_build, status_of_error, status_of_evaluation, status_of_stop}
 use Rattle.mv_top.specs.Texts as spec
 use Rattle.mv_top.specs.Outcomes.{Holds, Outside, ShelfFailed, Comes, done, no_file, unloaded, usage}
 use Rattle.mv_top.specs.declared.notes.Performed.{Performed}
@@ -47,18 +42,6 @@ performs_so Comes Gives so (Err e) h = record { lines = h.lines; status = h.stat
 -- a status alone
 pub alone : (Comes : (lines : List ℕ) → Status → Type 0) (lines : List ℕ) (status due : Status) → lines ≡ [] → status ≡ due → Comes [] due → Comes lines status
 alone Comes lines status due none same comes = subst (λ (l : List ℕ). Comes l status) (sym none) (subst (λ (s : Status). Comes [] s) (sym same) comes)
-
--- ---- what a text is run as
-
--- the cause of a refusal of the build
-pub build_cause : (text : List ℕ) (items : List Item) (e : BuildError) → build.IsCause text e → IsCause text items e
-build_cause text items (build_error.Refused r) h = unbuilt r h
-build_cause text items (build_error.Memory e) h = tt
-
--- that of an item that is no action
-pub item_cause : (text : List ℕ) (items : List Item) (built : Built) (item : ℕ) (r : Refusal) → r ≡ no_action item → IsBuiltFrom text built → IsFirstWrong built.program items item →
-    IsNotRun text items r
-item_cause text items built item r same is wrong = subst (IsNotRun text items) (sym same) (wrong_item built item is wrong)
 
 -- ---- from an answer to what comes of the text
 
