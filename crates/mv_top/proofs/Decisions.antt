@@ -4,7 +4,6 @@ use Rattle.std.specs.Prelude.{All, Result, Ok, Err}
 use Rattle.mv_ast.specs.declared.program.Program.{Program}
 use Rattle.mv_ast.specs.declared.world.Action.{Action}
 use Rattle.mv_ast.specs.declared.world.Event.{Event}
-use Rattle.mv_io.specs.Outside.{Rose}
 use Rattle.mv_io.specs.Shelves.{Files, Lacks}
 use Rattle.mv_front.specs.Verdicts.{IsProgram, IsRefused}
 use Rattle.mv_front.specs.declared.refusal.Refusal.{Refusal}
@@ -36,7 +35,7 @@ use Rattle.mv_top.specs.Texts.{IsNotRun, no_action, EvalDoes, RunDoes, Does, IsD
 use Rattle.mv_top.specs.Outcomes as spec
 use Rattle.mv_top.specs.Outcomes.{Holds, Outside, ShelfFailed, Comes, Gives, Quiet, Tells, Is, IsWithinLimits, Decides, IsCarriedOut}
 use Rattle.mv_top.specs.declared.status.Status.{Status}
-use Rattle.mv_top.specs.declared.status.Status.TheVariants.{Usage, Refused, Memory, OutputFault, ShelfFault}
+use Rattle.mv_top.specs.declared.status.Status.TheVariants.{Usage, Refused, Memory, ShelfFault}
 
 -- ---- one text
 
