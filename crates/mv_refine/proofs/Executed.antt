@@ -1,7 +1,8 @@
 -- What the run of an image does that behaves as a program means.
-use Rattle.std.proofs.Common.{◌≡◌, inl, inr, ⊎_elim, ℕ, ◌^◌, ◌<◌, ◌≤◌, List, [], take, Option, Some, None, refl, sym, ap, ◌∙◌, subst, arith}
+use Rattle.std.proofs.Common.{◌≡◌, ⊎_elim, ℕ, ◌^◌, ◌<◌, ◌≤◌, List, take, Option, Some, None, refl, sym, ap, ◌∙◌, subst, arith}
 use Rattle.std.specs.Prelude.{slice_index, All, IfSome, IsTrue}
 use Rattle.std.proofs.lemmas.Bool.{cases_lt}
+use Rattle.std.proofs.lemmas.List.Elements.{All-weaker}
 use Rattle.mv_ast.specs.Actions.{fits}
 use Rattle.mv_ast.specs.declared.world.Action.{Action}
 use Rattle.mv_ast.specs.declared.world.Event.{Event}
@@ -14,6 +15,7 @@ use Rattle.mv_patch.specs.Orders.{values_of}
 use Rattle.mv_image_runs.specs.Behaves.{IsWhole, EndsRight, Behaves, BehavesAlways, taken_of}
 use Rattle.mv_machine.specs.declared.machine.Stopped.{Stopped}
 use Rattle.mv_machine.specs.declared.machine.Stopped.TheVariants as answer
+use Rattle.mv_machine.specs.Actions as image_actions
 use Rattle.mv_machine.specs.Runs.{State, Stop, Going, Exit, Trap, Fault, bytes_to_come, runs}
 use Rattle.mv_machine.specs.Snapshots.{Snapshot, WantsMemory, kept, Tells}
 use Rattle.mv_meaning.specs.declared.meant.End.{End}
@@ -23,6 +25,7 @@ use Rattle.mv_meaning.specs.Meaning.{mean}
 use Rattle.mv_meaning.proofs.Bounds.{bound_extends}
 use Rattle.mv_meaning.proofs.Growing.{Begins-trans}
 use Rattle.mv_refine.specs.Environment.{Environment, Took, Wrote}
+use Rattle.mv_refine.specs.Execution.{SameFit}
 use Rattle.mv_refine.specs.Run.{IsDone, Stands, StandsBefore, Runs}
 use Rattle.mv_refine.specs.Meant.{DoesAll, DoesPart, KeepsUp, DoesOn, DoesFrom, Does, IsAnswer, DecidesOn, DecidesFrom, Decides}
 
@@ -117,6 +120,10 @@ module _ (p : Program) (image : Fields) (actions : List Action) (steps : ℕ) (b
   decides answer.Memory d calm_in calm_out k enough over = absurd d
 
 -- ---- what a run of an image does that behaves as a program means
+
+-- actions that fit the image fit the program
+pub fit_program : (p : Program) (image : Fields) → SameFit p image → (actions : List Action) → All (λ a. IsTrue (image_actions.fits image.switches a)) actions → All (λ a. IsTrue (fits p a)) actions
+fit_program p image same actions = All-weaker (λ a. IsTrue (image_actions.fits image.switches a)) (λ a. IsTrue (fits p a)) (λ a h. subst IsTrue (same a) h) actions
 
 module _ (p : Program) (image : Fields) (behaves : BehavesAlways p image) (actions : List Action) (words : All IsOfWord actions) (fit : All (λ a. IsTrue (fits p a)) actions) (steps : ℕ) (before after : Environment) (Heard : List Event → Type 0) (machine : Snapshot) where
   module _ (bytes : List ℕ) (told : before.input.left ≡ Some bytes) (are : All (λ b. b < 2 ^ 8) bytes) where

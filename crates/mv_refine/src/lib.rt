@@ -8,7 +8,7 @@
 //!   back is in its state, and the oracle's place went on by its instructions. Before a read or a write that failed it is
 //!   a state after fewer instructions.
 //! - *What the program means* with the actions (`specs/Meant.antt`), where the image does what its program means, the
-//!   actions fit the program, and the source tells bytes: after `Ended` and `Trapped` the meaning at the number of
+//!   same actions fit both, and the source tells bytes: after `Ended` and `Trapped` the meaning at the number of
 //!   instructions as its bound has that end, all its output was written and all that it takes was taken. After `Steps`,
 //!   `InputFault` and `OutputFault` it is a part of that output, and no more was taken; after `Steps` no bound for which
 //!   there was time has an end. `Fault` and `Memory` never come. Where no count of faults rose and there was time for a
@@ -18,6 +18,7 @@
 #![tactic(auto)]
 
 ghost use Rattle.std.specs.Prelude.{All, IsTrue};
+ghost use Rattle.mv_commit_runs.specs.Tabled.{IsOfWord};
 ghost use Rattle.mv_machine.specs.Actions.{fits};
 ghost use Rattle.mv_probe.specs.Fates.{Fates};
 ghost use Rattle.mv_probe.specs.Hearing.{hearing, object_at, Becomes, IsPatient};
@@ -54,7 +55,26 @@ pub fn execute<I: Source, O: Sink>(
         (λ events. Fates (Becomes (λ probe. object_at probe.ptr probe.vtable) (λ probe. hearing (told probe) (patience probe)) events) probes.old.items probes.new.items)
         result }
 {
+    are_of_words(actions);
     let mut machine = Machine::start(alloc, &built.image)?;
     let stopped = machine.run(steps, source, sink, oracle, probes, actions);
     Ok(Execution { machine, stopped })
+}
+
+/// The values of actions have 32 bits. The walk changes nothing; it is for the clause.
+fn are_of_words(actions: &[Action])
+    ensures { All IsOfWord actions.now }
+{
+    for action in actions {
+        is_of_word(action);
+    }
+}
+
+/// The value of an action has 32 bits.
+fn is_of_word(action: &Action)
+    ensures { IsOfWord action.now }
+{
+    if let Action::Flip { value, .. } = action {
+        let _read = *value;
+    }
 }

@@ -4,7 +4,6 @@ use Rattle.std.specs.Prelude.{All, Result, Ok, Err}
 use Rattle.mv_ast.specs.declared.program.Program.{Program}
 use Rattle.mv_ast.specs.declared.world.Action.{Action}
 use Rattle.mv_ast.specs.declared.world.Event.{Event}
-use Rattle.mv_io.specs.Outside.{Rose}
 use Rattle.mv_io.specs.Shelves.{Files, Lacks}
 use Rattle.mv_front.specs.Verdicts.{IsProgram, IsRefused}
 use Rattle.mv_front.specs.declared.refusal.Refusal.{Refusal}
@@ -36,7 +35,7 @@ use Rattle.mv_top.specs.Texts.{IsNotRun, no_action, EvalDoes, RunDoes, Does, IsD
 use Rattle.mv_top.specs.Outcomes as spec
 use Rattle.mv_top.specs.Outcomes.{Holds, Outside, ShelfFailed, Comes, Gives, Quiet, Tells, Is, IsWithinLimits, Decides, IsCarriedOut}
 use Rattle.mv_top.specs.declared.status.Status.{Status}
-use Rattle.mv_top.specs.declared.status.Status.TheVariants.{Usage, Refused, Memory, OutputFault, ShelfFault}
+use Rattle.mv_top.specs.declared.status.Status.TheVariants.{Usage, Refused, Memory, ShelfFault}
 
 -- ---- one text
 
@@ -121,7 +120,7 @@ module _ (before after : Environment) (no_input_fault : ReadFailed before after 
             let one : b.program ≡ p = one_program text b.program p good.program is in
             let same : taken ≡ actions = operator.one_list p options.items taken actions (subst (λ z. IsActions z options.items taken) one are_taken) are in
             let decides : meant.Decides b.program taken options.steps before after x.stopped =
-            is_one.decides good.image.behaves (operator.are_words b.program options.items taken are_taken, operator.fit b.program options.items taken are_taken) in
+            is_one.decides good.image.behaves good.image.fits in
             let here : meant.Decides p actions options.steps before after x.stopped =
             subst (λ acts. meant.Decides p acts options.steps before after x.stopped) same (subst (λ z. meant.Decides z taken options.steps before after x.stopped) one decides) in
             inl (run_decided options.steps p actions x.stopped here bytes told bytes_are bound enough ended)

@@ -11,7 +11,6 @@ use Rattle.mv_build.specs.Verdicts.{PassesLimit}
 use Rattle.mv_refine.specs.Environment.{Environment, Writing, ReadFailed, WriteFailed}
 use Rattle.mv_refine.specs.Meant.{IsEnough}
 use Rattle.mv_meaning.specs.Meaning.{mean}
-use Rattle.mv_meaning.specs.declared.meant.End.{End}
 use Rattle.mv_meaning.specs.declared.meant.End.TheVariants.{More}
 use Rattle.mv_eval.specs.Evaluations.{most, meaning}
 use Rattle.mv_command.specs.Commands.{IsCommand, IsNoCommand}

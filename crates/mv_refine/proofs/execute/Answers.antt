@@ -5,7 +5,7 @@ use Rattle.mv_image.specs.Spelling.{Fields}
 use Rattle.mv_machine.specs.Actions.{fits}
 use Rattle.mv_probe.proofs.Logs.{told_nothing}
 use Rattle.mv_refine.proofs.Ran.{made, image_of}
-use Rattle.mv_refine.proofs.Executed.{run_does, run_decides}
+use Rattle.mv_refine.proofs.Executed.{fit_program, run_does, run_decides}
 use Rattle.mv_refine.proofs.execute.Goals as goal
 
 pub run-stopped-requires-clause-fit : goal.run-stopped-requires-clause-fit
@@ -26,6 +26,8 @@ returns g c =
     let machine = c.run-stopped.new.self in
     let runs = made image actions _ _ c.args.steps c.run-stopped.result _ c.in_ok-machine.machine machine c.in_ok-machine.ensures c.run-stopped.ensures.runs in record {
       runs = runs;
-      does = λ behaves are. run_does program image behaves actions are.0 are.1 c.args.steps _ _ _ machine c.run-stopped.result runs;
-      decides = λ behaves are. run_decides program image behaves actions are.0 are.1 c.args.steps _ _ _ machine c.run-stopped.result runs;
+      does = λ behaves same.
+          run_does program image behaves actions c.are_of_words.ensures (fit_program program image same actions c.requires.fit) c.args.steps _ _ _ machine c.run-stopped.result runs;
+      decides = λ behaves same.
+          run_decides program image behaves actions c.are_of_words.ensures (fit_program program image same actions c.requires.fit) c.args.steps _ _ _ machine c.run-stopped.result runs;
     }

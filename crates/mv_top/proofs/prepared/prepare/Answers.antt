@@ -1,7 +1,6 @@
 use Rattle.std.proofs.Common.{arith}
 use Rattle.mv_top.proofs.Few.{few_switches}
 use Rattle.mv_top.proofs.Fits.{all_fit}
-use Rattle.mv_top.proofs.Performing.{build_cause, item_cause}
 use Rattle.mv_top.proofs.prepared.prepare.Goals as goal
 
 pub actions_of-requires-clause-few : goal.actions_of-requires-clause-few

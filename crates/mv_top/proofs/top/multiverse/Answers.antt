@@ -9,5 +9,5 @@ returns-in-Ok g c =
     carried_out (map string_bytes c.args.words.now) _ _ _ _ _ c.perform.ensures.files
     (record { lines = c.in-Ok.performed.lines.items; status = c.in-Ok.performed.status; comes = c.in-Ok.ensures.comes }) c.report.result c.report.ensures
 
-pub returns : goal.returns
-returns g c = carried_out (map string_bytes c.args.words.now) _ _ _ _ _ c.perform.ensures.files c.in-Err.ensures.comes _ (unmade refl)
+pub returns-in-Err : goal.returns-in-Err
+returns-in-Err g c = carried_out (map string_bytes c.args.words.now) _ _ _ _ _ c.perform.ensures.files c.in-Err.ensures.comes _ (unmade refl)
