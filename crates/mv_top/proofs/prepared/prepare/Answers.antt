@@ -1,5 +1,6 @@
-use Rattle.std.proofs.Common.{arith}
+use Rattle.std.proofs.Common.{arith, subst}
 use Rattle.std.proofs.lemmas.Result.{err_from_is_err_and}
+use Rattle.mv_operator.specs.Operator.{IsRefusedFor}
 use Rattle.mv_top.proofs.Few.{few_switches}
 use Rattle.mv_top.proofs.Fits.{all_fit}
 use Rattle.mv_top.proofs.Causes.{build_cause, item_cause}
@@ -20,4 +21,5 @@ returns-in_err-built-clause-err c =
 
 pub returns-in-Err-Refused-clause-err : goal.returns-in-Err-Refused-clause-err
 returns-in-Err-Refused-clause-err c =
-    item_cause c.args.text.now c.args.items.now c.in_ok-built.built c.in-Err-Refused.item c.counted.result c.counted.ensures c.in_ok-built.ensures.built c.in-Err-Refused.ensures.refused
+    item_cause c.args.text.now c.args.items.now c.in_ok-built.built c.in-Err-Refused.item c.counted.result c.counted.ensures c.in_ok-built.ensures.built
+    (subst (IsRefusedFor c.in_ok-built.built.program c.args.items.now) c.in-Err-Refused.field-0-is c.in-Err-Refused.ensures.refused)
