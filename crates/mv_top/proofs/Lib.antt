@@ -3,3 +3,4 @@ pub mod Few
 pub mod Fits
 pub mod Performing
 pub mod Writing
+pub mod Causes

@@ -1,0 +1,22 @@
+-- The causes of answers that are nothing to run.
+use Rattle.std.proofs.Common.{◌≡◌, ℕ, List, sym, subst}
+use Rattle.mv_front.specs.declared.refusal.Refusal.{Refusal}
+use Rattle.mv_command.specs.declared.items.Item.{Item}
+use Rattle.mv_operator.specs.Operator.{IsFirstWrong}
+use Rattle.mv_build.specs.declared.built.Built.{Built}
+use Rattle.mv_build.specs.declared.error.BuildError.{BuildError}
+use Rattle.mv_build.specs.declared.error.BuildError.TheVariants as build_error
+use Rattle.mv_build.specs.Answers as build
+use Rattle.mv_build.specs.Verdicts.{IsBuiltFrom}
+use Rattle.mv_top.specs.Texts as spec
+use Rattle.mv_top.specs.Texts.{IsCause, IsNotRun, no_action}
+
+-- that of an answer of `build`
+pub build_cause : (text : List ℕ) (items : List Item) (e : BuildError) → build.IsCause text e → IsCause text items e
+build_cause text items (build_error.Refused r) h = spec.unbuilt r h
+build_cause text items (build_error.Memory e) h = tt
+
+-- that of an item that is no action
+pub item_cause : (text : List ℕ) (items : List Item) (built : Built) (item : ℕ) (r : Refusal) → r ≡ no_action item → IsBuiltFrom text built → IsFirstWrong built.program items item →
+    IsNotRun text items r
+item_cause text items built item r same is wrong = subst (IsNotRun text items) (sym same) (spec.wrong_item built item is wrong)
