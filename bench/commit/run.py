@@ -76,11 +76,11 @@ int main(void) {{
 
 def committing(inlined, sites, commits):
     """Returns a guest with so many sites that makes so many commits. By each of them the binding changes."""
-    body = "if (on) sum = n; else sum += n;" if inlined else "sum += on + n;"
+    body = "if (on) return one; return other;" if inlined else "return sum += on + 2;"
     return f"""{MARK} int on;
-int sum;
-{MARK} void callee(int n) {{ {body} }}
-void sites(void) {{ {"callee(0); " * sites} }}
+int sum, one, other;
+{MARK} int callee(void) {{ {body} }}
+void sites(void) {{ {"callee(); " * sites} }}
 int main(void) {{
     int i;
     for (i = 1; i <= {commits}; i++) {{ on = i & 1; multiverse_commit(); }}
