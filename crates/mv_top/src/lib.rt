@@ -22,17 +22,16 @@
 //!   instructions. The lines of `--bindings` and `--words` are those of its bindings and of its text against the image's.
 //!   After `InputFault` and `OutputFault` it is the same of fewer instructions, before the getchar or the putchar that
 //!   failed.
-//! - Where no function of the program is attributed and none commits, reverts or polls, this image does what the program
-//!   means on each input and whatever the fetches give, and `MachineFault` comes only where the input tells nothing or
-//!   what is no byte. That this is so of the other programs isn't proved.
+//! - This image does what the program means with the actions, on each input and whatever the fetches give, also while
+//!   commits, reverts and polls rewrite its text. Where the run has ended, its bindings and its text are the meaning's, and
+//!   each probe heard exactly the meaning's log. `MachineFault` comes only where the input tells nothing or what is no byte.
 //! - `InputFault`, `OutputFault`: the count of `input`, of `out` or of `notes` rose.
 //! - `notes` grew by exactly the lines that were asked for and the last line of the status; after `OutputFault` of `out`
 //!   by these lines alone. Where there was no memory to make them, it is as before and the status is `Memory`; where a
 //!   write to it failed, it grew by less.
 //! - Each status comes where its cause stands, unless a count rose: no command, a missing file, each refusal 1 to 7, 15
-//!   unless the program passes a limit, and each end of an evaluation on an input that is told; of a run of a program of
-//!   which it is proved that its image does what it means, the end of the meaning at some bound, where N is at least
-//!   100 × (1 + the work there), unless the program passes a limit.
+//!   unless the program passes a limit, and each end of an evaluation on an input that is told; of a run the end of the
+//!   meaning at some bound, where N is at least 100 × (1 + the work there), unless the program passes a limit.
 //! - Asked is that each probe that tells its patience has some left. The files of the shelf are unchanged.
 //!
 //! `run` really runs: a body that writes what the program means and executes nothing, or one instruction fewer, is
