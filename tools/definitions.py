@@ -20,7 +20,7 @@ BEGIN, END = "<!-- definitions -->", "<!-- end of definitions -->"
 PARTS = [
     ("What a program means", [("mv_meaning/specs/Meaning.antt", "mean")]),
     ("What a run of an image does", [("mv_machine/specs/Runs.antt", "runs")]),
-    ("That the run does what the program means", [("mv_image_runs/specs/Behaves.antt", "BehavesAlways")]),
+    ("That the run does what the program means", [("mv_image_runs/specs/Behaves.antt", "BehavesAlways"), ("mv_built_programs/specs/Own.antt", "LoadsNoOwnSwitch")]),
     ("Which text is which program", [("mv_front/specs/Verdicts.antt", "IsProgram")]),
     ("What the command does", [("mv_top/specs/Outcomes.antt", "IsCarriedOut")]),
 ]
@@ -109,12 +109,20 @@ class Walk:
     def follow(self, module, name):
         parts = module.split('.')
         if 'declared' in parts:
-            at = parts.index('declared')
-            self.declared(parts[0], parts[at + 1:-1] if parts[-1] != 'TheVariants' else parts[at + 1:-2], parts[-1] if parts[-1] != 'TheVariants' else parts[-2])
+            self.follow_declared(parts[0], parts[parts.index('declared') + 1:], name)
             return
         path = self.place(module)
         if path and self.file(path) and name in self.file(path).items:
             self.visit(path, name)
+
+    def follow_declared(self, crate, parts, name):
+        """A type, a variant of one, or a constant. What is generated beside the types of a whole crate is none of these."""
+        if parts[-1] == 'TheConstants':
+            self.declared(crate, parts[:-1], name)
+        elif parts[-1] == 'TheVariants':
+            self.declared(crate, parts[:-2], parts[-2])
+        elif not parts[-1].startswith('The'):
+            self.declared(crate, parts[:-1], parts[-1])
 
     def declared(self, crate, folders, name):
         base = os.path.join(self.root, 'crates', crate, 'src', *folders)
