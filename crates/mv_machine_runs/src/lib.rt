@@ -25,8 +25,8 @@
 //!   under these.
 //! - `functions_show`: while a function is free the lines of the code stand at its entry and sites; while it is bound to
 //!   values for which it has a variant, its entry jumps there, and its sites call it or have its inline words.
-//! - Not here: the environment calls of orders and polls; attributed functions. That a linked image without tables has
-//!   its code where `code_is_placed` asks is shown in `mv_built_programs`. A crate of laws, without a test.
+//! - Not here: the environment calls of orders and polls (`mv_commit_runs`). That a linked image has its code where
+//!   `code_is_placed` asks is shown in `mv_linked_text`. A crate of laws, without a test.
 #![tactic(auto)]
 
 mod laws;
