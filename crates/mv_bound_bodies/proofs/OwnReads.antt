@@ -1,16 +1,13 @@
 -- What a variant reads are no switches of its function.
-use Rattle.std.proofs.Common.{arith, ◌≡◌, ℕ, suc, Bool, true, false, cond, eqb, ◌||◌, List, [], ◌∷◌, map, length, Option, Some, None, refl, sym, ◌∙◌, ap, subst, Contains, nat_eq}
-use Rattle.std.specs.Prelude.{All}
+use Rattle.std.proofs.Common.{arith, ◌≡◌, ℕ, Bool, true, false, cond, eqb, ◌||◌, List, [], ◌∷◌, length, Some, None, refl, sym, ◌∙◌, subst, Contains, nat_eq}
 use Rattle.std.specs.List.{zip}
 use Rattle.std.proofs.lemmas.Bool.{eq-eqb, eqb-true}
 use Rattle.std.proofs.lemmas.List.{length-map}
 use Rattle.std.proofs.lemmas.List.Elements.{All-contains, All-contains_itself, All-weaker}
 use Rattle.mv_ast.specs.Plans.{is_among, switch_global}
-use Rattle.mv_ir.specs.declared.body.Body.{Body}
 use Rattle.mv_ir.specs.Measures.{scalars_read, arrays_read}
 use Rattle.mv_ir.specs.Trees.{found}
 use Rattle.mv_lowering.specs.Functions.{lower_function}
-use Rattle.mv_bound_bodies.specs.Meant.{IsMadeUnder}
 use Rattle.mv_bound_bodies.specs.Reads.{VariantsReadNoSwitch}
 use Rattle.mv_bound_bodies.proofs.Meant.{made}
 

@@ -1,4 +1,4 @@
--- One slot stands in the code of a function for each direct call of an attributed function.
+-- One slot stands in the code of a function for each direct call of an attributed function, and it is the callee's.
 use Rattle.std.proofs.Common.{◌≡◌, ℕ, zero, suc, ◌+◌, ◌*◌, Bool, true, false, cond, eqb, List, [], ◌∷◌, ◌++◌, pos, Option, Some, None, map, refl, sym, subst, ap, ◌∙◌, arith}
 use Rattle.mv_num.specs.declared.kind.Kind.{Kind}
 use Rattle.mv_num.specs.declared.kind.Kind.TheVariants as kind
@@ -28,9 +28,9 @@ use Rattle.mv_flow_code.specs.declared.enclosing.Enclosing.{Enclosing}
 use Rattle.mv_flow_code.specs.FlowCode.{Plan as PlanOfCode, Emitted, in_turn, branch_lines, loop_at, block_at, home, size, code_layer, statement_code}
 use Rattle.mv_flow_code.proofs.StatementsDo.{code_roll}
 use Rattle.mv_call_code.specs.CallCode.{link_register, request_register, scratch_register, request_of, result_lines, guarded_lines, slot_lines, jump_lines, argument_lines, transfer_lines, call_lines, order_lines, ask_lines, known_lines}
-use Rattle.mv_function_code.specs.FunctionCode.{Shape, bytes_of, end_label, plan, body_lines, saved_count, saved_register, save_lines, restore_lines, parameter_lines, enter_lines, leave_lines, prologue_lines, epilogue_lines}
+use Rattle.mv_function_code.specs.FunctionCode.{Shape, bytes_of, end_label, plan, body_lines, saved_count, saved_register, save_lines, restore_lines, parameter_lines, enter_lines, leave_lines, prologue_lines, epilogue_lines, function_lines}
 use Rattle.mv_lowered_forms.specs.Calls.{callee_weight, layer_weight, stm_weight, code_weight}
-use Rattle.mv_bound_bodies.specs.Slots.{slots, one_each, SlotsAreCalls}
+use Rattle.mv_bound_bodies.specs.Slots.{slots, slot_weight, weight_where, SlotsAreCalls, SlotsWeighAsCalls}
 use Rattle.mv_bound_bodies.proofs.Weights.{w_roll}
 
 abbrev Has : ℕ → List Line → Type 0
@@ -152,32 +152,65 @@ ask_none Putchar = refl
 ask_none Poll = refl
 ask_none (Plan code index) = refl
 
-module _ (place : ℕ → ℕ) (is_attributed : ℕ → Bool) where
+module _ (place : ℕ → ℕ) where
   argument_none : (n : ℕ) (ts : List Tree) → HasNone (argument_lines place n ts)
   argument_none n [] = refl
   argument_none n (t ∷ ts) =
       after (tree_lines place t scratch_register) (Word (Addi n scratch_register (pos 0)) ∷ argument_lines place (suc n) ts) (tree_none place t scratch_register) (argument_none (suc n) ts)
-
-  abbrev direct : ℕ → ℕ
-  direct = one_each is_attributed
-
-  transfer_has : (f : Callee) (r : Option ℕ) → Has (callee_weight direct 0 f) (transfer_lines place is_attributed f r)
-  transfer_has (callee.Direct f) r = by (is_attributed f)
-    where
-      by : (b : Bool) → Has (cond b 1 0) (cond b (guarded_lines (slot_lines f) r) (Entry scratch_register f ∷ guarded_lines jump_lines r))
-      by true = ap suc (result_none r)
-      by false = result_none r
-  transfer_has (callee.Through t) r =
-      after (tree_lines place t scratch_register) (Branch 0 scratch_register 0 (trap_label 3) ∷ guarded_lines jump_lines r) (tree_none place t scratch_register) (result_none r)
-
-  call_has : (r : Option ℕ) (f : Callee) (args : List Tree) → Has (callee_weight direct 0 f) (call_lines place is_attributed r f args)
-  call_has r f args = after (argument_lines place first args) (transfer_lines place is_attributed f r) (argument_none first args) (transfer_has f r)
 
   known_none : (r : Option ℕ) (k : Known) (args : List Tree) → HasNone (known_lines place r k args)
   known_none r k args =
       let request = Word (Addi request_register 0 (pos (request_of k))) in
       after (argument_lines place first args) (order_lines k ++ (request ∷ (ask_lines k ++ result_lines r))) (argument_none first args)
       (after (order_lines k) (request ∷ (ask_lines k ++ result_lines r)) (order_none k) (after (ask_lines k) (result_lines r) (ask_none k) (result_none r)))
+
+-- ---- weights
+
+weight_append : (w : ℕ → ℕ) (a b : List Line) → slot_weight w (a ++ b) ≡ slot_weight w a + slot_weight w b
+weight_append w [] b = omega arith
+weight_append w (Word i ∷ a) b = weight_append w a b
+weight_append w (Label l ∷ a) b = weight_append w a b
+weight_append w (Jump rd l ∷ a) b = weight_append w a b
+weight_append w (Branch funct3 rs1 rs2 l ∷ a) b = weight_append w a b
+weight_append w (Entry rd f ∷ a) b = weight_append w a b
+weight_append w (Slot f ∷ a) b = let rest = weight_append w a b in omega (arith, rest)
+
+-- lines without slots weigh nothing
+none_weighs : (w : ℕ → ℕ) (a : List Line) → HasNone a → slot_weight w a ≡ 0
+none_weighs w [] h = refl
+none_weighs w (Word i ∷ a) h = none_weighs w a h
+none_weighs w (Label l ∷ a) h = none_weighs w a h
+none_weighs w (Jump rd l ∷ a) h = none_weighs w a h
+none_weighs w (Branch funct3 rs1 rs2 l ∷ a) h = none_weighs w a h
+none_weighs w (Entry rd f ∷ a) h = none_weighs w a h
+none_weighs w (Slot f ∷ a) h = absurd (omega (arith, h))
+
+module _ (w : ℕ → ℕ) where
+  abbrev Weighs : ℕ → List Line → Type 0
+  Weighs n lines = slot_weight w lines ≡ n
+
+  -- lines without slots before some, and behind some
+  behind : {n : ℕ} (a b : List Line) → HasNone a → Weighs n b → Weighs n (a ++ b)
+  behind a b h k = let none = none_weighs w a h in omega (arith, weight_append w a b, none, k)
+
+  ahead : {n : ℕ} (a b : List Line) → Weighs n a → HasNone b → Weighs n (a ++ b)
+  ahead a b h k = let none = none_weighs w b k in omega (arith, weight_append w a b, h, none)
+
+module _ (weight : ℕ → ℕ) (place : ℕ → ℕ) (is_attributed : ℕ → Bool) where
+  abbrev direct : ℕ → ℕ
+  direct = weight_where is_attributed weight
+
+  transfer_has : (f : Callee) (r : Option ℕ) → Weighs weight (callee_weight direct 0 f) (transfer_lines place is_attributed f r)
+  transfer_has (callee.Direct f) r = by (is_attributed f)
+    where
+      by : (b : Bool) → Weighs weight (cond b (weight f) 0) (cond b (guarded_lines (slot_lines f) r) (Entry scratch_register f ∷ guarded_lines jump_lines r))
+      by true = let none = none_weighs weight (result_lines r) (result_none r) in omega (arith, none)
+      by false = none_weighs weight (result_lines r) (result_none r)
+  transfer_has (callee.Through t) r =
+      behind weight (tree_lines place t scratch_register) (Branch 0 scratch_register 0 (trap_label 3) ∷ guarded_lines jump_lines r) (tree_none place t scratch_register) (none_weighs weight (result_lines r) (result_none r))
+
+  call_has : (r : Option ℕ) (f : Callee) (args : List Tree) → Weighs weight (callee_weight direct 0 f) (call_lines place is_attributed r f args)
+  call_has r f args = behind weight (argument_lines place first args) (transfer_lines place is_attributed f r) (argument_none place first args) (transfer_has f r)
 
   -- ---- statements
 
@@ -186,7 +219,7 @@ module _ (place : ℕ → ℕ) (is_attributed : ℕ → Bool) where
     P = plan place sizes is_attributed shape
 
     abbrev CodeHas : ℕ → Emitted → Type 0
-    CodeHas n code = (around : List Enclosing) (label : ℕ) → Has n (code.lines around label)
+    CodeHas n code = (around : List Enclosing) (label : ℕ) → Weighs weight n (code.lines around label)
 
     abbrev w : Stm → ℕ
     w = stm_weight direct 0
@@ -199,28 +232,28 @@ module _ (place : ℕ → ℕ) (is_attributed : ℕ → Bool) where
     in_order_has (s ∷ code) h around label =
         let here = statement_code P s in
         let rest = in_turn (map (statement_code P) code) in
-        slots_append (here.lines around label) (rest.lines around (label + here.labels)) ∙ ap (λ n. n + slots (rest.lines around (label + here.labels))) (h.0 around label) ∙ ap (λ n. w s + n) (in_order_has code h.1 around (label + here.labels))
+        weight_append weight (here.lines around label) (rest.lines around (label + here.labels)) ∙ ap (λ n. n + slot_weight weight (rest.lines around (label + here.labels))) (h.0 around label) ∙ ap (λ n. w s + n) (in_order_has code h.1 around (label + here.labels))
 
     trees : (t : Tree) (r : ℕ) → HasNone (tree_lines place t r)
     trees = tree_none place
 
     layer : (x : Stm-F Stm) → StmChildren StmHas x → CodeHas (layer_weight direct 0 (map-Stm Stm ℕ w x)) (code_layer P (map-Stm Stm Emitted (statement_code P) x))
-    layer (stm.Set t v) h around label = after (tree_lines place v first) (one (write_temp t first)) (trees v first) refl
+    layer (stm.Set t v) h around label = behind weight (tree_lines place v first) (one (write_temp t first)) (trees v first) refl
     layer (stm.SetGlobal g v) h around label =
-        after (tree_lines place v first) (two (Lui second (pos (upper_bits (place g)))) (Sw second first (lower_bits (place g)))) (trees v first) refl
+        behind weight (tree_lines place v first) (two (Lui second (pos (upper_bits (place g)))) (Sw second first (lower_bits (place g)))) (trees v first) refl
     layer (stm.Divide t o a b) h around label =
         let rest = Branch 0 second 0 (trap_label 1) ∷ two (division o) (write_temp t first) in
-        after (tree_lines place a first) (tree_lines place b second ++ rest) (trees a first) (after (tree_lines place b second) rest (trees b second) refl)
-    layer (stm.Check a i) h around label = after (tree_lines place i first) (test_lines (size P a)) (trees i first) (test_none (size P a))
+        behind weight (tree_lines place a first) (tree_lines place b second ++ rest) (trees a first) (behind weight (tree_lines place b second) rest (trees b second) refl)
+    layer (stm.Check a i) h around label = behind weight (tree_lines place i first) (test_lines (size P a)) (trees i first) (none_weighs weight (test_lines (size P a)) (test_none (size P a)))
     layer (stm.Read t a i) h around label =
         let load = two (Lw first first (element_offset (home P a))) (write_temp t first) in
-        after (tree_lines place i first) (test_lines (size P a) ++ (element_lines (home P a) ++ load)) (trees i first)
-        (after (test_lines (size P a)) (element_lines (home P a) ++ load) (test_none (size P a)) (after (element_lines (home P a)) load (element_none (home P a)) refl))
+        behind weight (tree_lines place i first) (test_lines (size P a) ++ (element_lines (home P a) ++ load)) (trees i first)
+        (behind weight (test_lines (size P a)) (element_lines (home P a) ++ load) (test_none (size P a)) (behind weight (element_lines (home P a)) load (element_none (home P a)) refl))
     layer (stm.Write a i v) h around label =
         let store = one (Sw first second (element_offset (home P a))) in
-        after (tree_lines place i first) (tree_lines place v second ++ (test_lines (size P a) ++ (element_lines (home P a) ++ store))) (trees i first)
-        (after (tree_lines place v second) (test_lines (size P a) ++ (element_lines (home P a) ++ store)) (trees v second)
-        (after (test_lines (size P a)) (element_lines (home P a) ++ store) (test_none (size P a)) (after (element_lines (home P a)) store (element_none (home P a)) refl)))
+        behind weight (tree_lines place i first) (tree_lines place v second ++ (test_lines (size P a) ++ (element_lines (home P a) ++ store))) (trees i first)
+        (behind weight (tree_lines place v second) (test_lines (size P a) ++ (element_lines (home P a) ++ store)) (trees v second)
+        (behind weight (test_lines (size P a)) (element_lines (home P a) ++ store) (test_none (size P a)) (behind weight (element_lines (home P a)) store (element_none (home P a)) refl)))
     layer (stm.Zero a) h around label = refl
     layer (stm.If t a b) h around label =
         let one_code = in_turn (map (statement_code P) a) in
@@ -228,27 +261,27 @@ module _ (place : ℕ → ℕ) (is_attributed : ℕ → Bool) where
         let ls = one_code.lines around (label + 2) in
         let ls' = other.lines around (label + 2 + one_code.labels) in
         let rest = ls' ++ (Label (label + 1) ∷ []) in
-        let behind : Has (code_weight direct 0 b) rest = before ls' (Label (label + 1) ∷ []) (in_order_has b h.1 around (label + 2 + one_code.labels)) refl in
-        let both : Has (code_weight direct 0 a + code_weight direct 0 b) (ls ++ (Jump 0 (label + 1) ∷ Label label ∷ rest)) =
-        slots_append ls (Jump 0 (label + 1) ∷ Label label ∷ rest) ∙ ap (λ n. n + slots rest) (in_order_has a h.0 around (label + 2)) ∙ ap (λ n. code_weight direct 0 a + n) behind
+        let later : Weighs weight (code_weight direct 0 b) rest = ahead weight ls' (Label (label + 1) ∷ []) (in_order_has b h.1 around (label + 2 + one_code.labels)) refl in
+        let both : Weighs weight (code_weight direct 0 a + code_weight direct 0 b) (ls ++ (Jump 0 (label + 1) ∷ Label label ∷ rest)) =
+        weight_append weight ls (Jump 0 (label + 1) ∷ Label label ∷ rest) ∙ ap (λ n. n + slot_weight weight rest) (in_order_has a h.0 around (label + 2)) ∙ ap (λ n. code_weight direct 0 a + n) later
         in
-        after (tree_lines place t first) (branch_lines label ls ls') (trees t first) both
+        behind weight (tree_lines place t first) (branch_lines label ls ls') (trees t first) both
     layer (stm.Loop b) h around label =
         let inner = in_turn (map (statement_code P) b) in
-        before (inner.lines (loop_at label ∷ around) (label + 2)) (Jump 0 label ∷ Label (label + 1) ∷ []) (in_order_has b h (loop_at label ∷ around) (label + 2)) refl
+        ahead weight (inner.lines (loop_at label ∷ around) (label + 2)) (Jump 0 label ∷ Label (label + 1) ∷ []) (in_order_has b h (loop_at label ∷ around) (label + 2)) refl
     layer (stm.Block b) h around label =
         let inner = in_turn (map (statement_code P) b) in
-        before (inner.lines (block_at label ∷ around) (label + 1)) (Label label ∷ []) (in_order_has b h (block_at label ∷ around) (label + 1)) refl
+        ahead weight (inner.lines (block_at label ∷ around) (label + 1)) (Label label ∷ []) (in_order_has b h (block_at label ∷ around) (label + 1)) refl
     layer (stm.Break n) h around label = refl
     layer (stm.Back n) h around label = refl
     layer (stm.Call r f args) h around label = call_has r f args
-    layer (stm.Known r k args) h around label = known_none r k args
-    layer (stm.Return v) h around label = after (tree_lines place v first) (Jump 0 end_label ∷ []) (trees v first) refl
+    layer (stm.Known r k args) h around label = none_weighs weight (known_lines place r k args) (known_none place r k args)
+    layer (stm.Return v) h around label = behind weight (tree_lines place v first) (Jump 0 end_label ∷ []) (trees v first) refl
 
     from_layer : (x : Stm-F Stm) → StmChildren StmHas x → StmHas (roll-Stm x)
     from_layer x h = subst (λ n. CodeHas n (statement_code P (roll-Stm x))) (sym (w_roll direct 0 x)) (subst (CodeHas (layer_weight direct 0 (map-Stm Stm ℕ w x))) (sym (code_roll P x)) (layer x h))
 
-    code_has : (code : List Stm) → Has (code_weight direct 0 code) (body_lines place sizes is_attributed shape code)
+    code_has : (code : List Stm) → Weighs weight (code_weight direct 0 code) (body_lines place sizes is_attributed shape code)
     code_has code = in_order_has code (stms_ind StmHas (stm_ind StmHas from_layer) code) [] (end_label + 1)
 
 -- ---- entry and return
@@ -285,9 +318,23 @@ return_none attributed temps bytes =
 
 -- ---- functions
 
-pub slots_are_calls : SlotsAreCalls
-slots_are_calls place sizes is_attributed shape code =
+pub slots_weigh : SlotsWeighAsCalls
+slots_weigh place sizes is_attributed shape code weight =
     let end = Label end_label ∷ epilogue_lines shape.attributed shape.temps (bytes_of shape) in
     let body = body_lines place sizes is_attributed shape code in
-    after (prologue_lines shape.attributed shape.params shape.temps (bytes_of shape)) (body ++ end) (entry_none shape.attributed shape.params shape.temps (bytes_of shape))
-    (before body end (code_has place is_attributed sizes shape code) (return_none shape.attributed shape.temps (bytes_of shape)))
+    behind weight (prologue_lines shape.attributed shape.params shape.temps (bytes_of shape)) (body ++ end) (entry_none shape.attributed shape.params shape.temps (bytes_of shape))
+    (ahead weight body end (code_has weight place is_attributed sizes shape code) (return_none shape.attributed shape.temps (bytes_of shape)))
+
+-- with a weight of one for each function they are counted
+slots_counted : (lines : List Line) → slots lines ≡ slot_weight (λ f. 1) lines
+slots_counted [] = refl
+slots_counted (Word i ∷ lines) = slots_counted lines
+slots_counted (Label l ∷ lines) = slots_counted lines
+slots_counted (Jump rd l ∷ lines) = slots_counted lines
+slots_counted (Branch funct3 rs1 rs2 l ∷ lines) = slots_counted lines
+slots_counted (Entry rd f ∷ lines) = slots_counted lines
+slots_counted (Slot f ∷ lines) = let rest = slots_counted lines in omega (arith, rest)
+
+pub slots_are_calls : SlotsAreCalls
+slots_are_calls place sizes is_attributed shape code =
+    slots_counted (function_lines place sizes is_attributed shape code) ∙ slots_weigh place sizes is_attributed shape code (λ f. 1)

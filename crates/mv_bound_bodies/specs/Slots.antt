@@ -29,6 +29,16 @@ slots [] = 0
 slots (Slot f ∷ rest) = suc (slots rest)
 slots (_ ∷ rest) = slots rest
 
+-- the weights of the functions whose slots some lines are
+abbrev pub slot_weight : (ℕ → ℕ) → List Line → ℕ
+slot_weight weight [] = 0
+slot_weight weight (Slot f ∷ rest) = weight f + slot_weight weight rest
+slot_weight weight (_ ∷ rest) = slot_weight weight rest
+
+-- a weight for each direct call of such a function
+abbrev pub weight_where : (ℕ → Bool) → (weight : ℕ → ℕ) → ℕ → ℕ
+weight_where is_attributed weight f = cond (is_attributed f) (weight f) 0
+
 -- one for each direct call of such a function
 abbrev pub one_each : (ℕ → Bool) → ℕ → ℕ
 one_each is_attributed f = cond (is_attributed f) 1 0
@@ -37,6 +47,12 @@ one_each is_attributed f = cond (is_attributed f) 1 0
 abbrev pub SlotsAreCalls : Type 0
 SlotsAreCalls =
     (place sizes : ℕ → ℕ) (is_attributed : ℕ → Bool) (shape : Shape) (code : List Stm) → slots (function_lines place sizes is_attributed shape code) ≡ code_weight (one_each is_attributed) 0 code
+
+-- Each of them is a slot of the function that is called: with any weight for each function.
+abbrev pub SlotsWeighAsCalls : Type 0
+SlotsWeighAsCalls =
+    (place sizes : ℕ → ℕ) (is_attributed : ℕ → Bool) (shape : Shape) (code : List Stm) (weight : ℕ → ℕ) →
+    slot_weight weight (function_lines place sizes is_attributed shape code) ≡ code_weight (weight_where is_attributed weight) 0 code
 
 -- Each variant of a function has at most as many as the function has calls of attributed functions in the source.
 abbrev pub SlotsAreFew : Type 0

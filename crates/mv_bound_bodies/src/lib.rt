@@ -19,7 +19,7 @@ ghost use Rattle.mv_bound_bodies.specs.Meant.{LoweredAreVariants, MadeAreVariant
 ghost use Rattle.mv_bound_bodies.specs.Names.{BindingNamesNoMore, FoldingNamesNoMore};
 ghost use Rattle.mv_bound_bodies.specs.Reads.{VariantsReadNoSwitch};
 ghost use Rattle.mv_bound_bodies.specs.Rows.{FittingIsLed, GroupedIsLed};
-ghost use Rattle.mv_bound_bodies.specs.Slots.{AllSlotsAreFew, OwnSlotsAreFew, RenamedSlotsAreFew, SlotsAreCalls, SlotsAreFew, SlotsArePatchable, VariantSlotsAreFew};
+ghost use Rattle.mv_bound_bodies.specs.Slots.{AllSlotsAreFew, OwnSlotsAreFew, RenamedSlotsAreFew, SlotsAreCalls, SlotsAreFew, SlotsArePatchable, SlotsWeighAsCalls, VariantSlotsAreFew};
 ghost use Rattle.mv_bound_bodies.specs.Switches.{FunctionsAreLed};
 ghost use Rattle.mv_bound_bodies.specs.Tables.{GroupsFit, VariantsAreLed};
 ghost use Rattle.mv_bound_bodies.specs.Variants.{MadeAreInProgram, MadeCallNoMore, MadeFramesAreNoLarger, MadeNameNoMore};
@@ -72,11 +72,12 @@ pub fn variants_read_no_switch()
     ensures { VariantsReadNoSwitch }
 {}
 
-/// The lines of a function have one slot for each direct call of an attributed function in its code; its own and those of a variant have no more
+/// The lines of a function have one slot for each direct call of an attributed function in its code, which is a slot of the callee (`weights`); its own and those of a variant have no more
 /// than it has calls of attributed functions in the source, its variants together no more than that for each assignment, and all functions together no more
 /// than a plan can patch. The call does nothing: its contract is the law.
 pub fn slots_are_counted()
     ensures code { SlotsAreCalls }
+    ensures weights { SlotsWeighAsCalls }
     ensures few { SlotsAreFew }
     ensures own { OwnSlotsAreFew }
     ensures renamed { RenamedSlotsAreFew }

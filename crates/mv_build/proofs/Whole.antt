@@ -8,11 +8,12 @@ use Rattle.mv_linker.specs.declared.parts.Parts.{Parts}
 use Rattle.mv_parts.specs.Laws.{PartsCanBeLinked}
 use Rattle.mv_parts.specs.Parts.{ArePartsOf}
 use Rattle.mv_image_tables.specs.Laws.{ImagesHaveTables, RowsLeadToVariants}
+use Rattle.mv_word_counts.specs.Laws.{ImagesShowBindings}
 use Rattle.mv_build.specs.declared.code.Coded.{Coded}
 use Rattle.mv_build.specs.Compiled.{IsCode, IsLinkedTo, IsSound, parts_of}
 use Rattle.mv_build.specs.Images.{IsImageOf}
 
-module _ (can_be_linked : PartsCanBeLinked) (leads : RowsLeadToVariants) (tabled : ImagesHaveTables) (behave : BuiltProgramsBehave) (p : Program) (sound : IsSound p) (c : Coded) (code : IsCode p c) (image : Fields)
+module _ (can_be_linked : PartsCanBeLinked) (leads : RowsLeadToVariants) (tabled : ImagesHaveTables) (show : ImagesShowBindings) (behave : BuiltProgramsBehave) (p : Program) (sound : IsSound p) (c : Coded) (code : IsCode p c) (image : Fields)
     (to : IsLinkedTo p (parts_of p c.functions c.attributed) image) where
   abbrev parts : Parts
   parts = parts_of p c.functions c.attributed
@@ -34,4 +35,5 @@ module _ (can_be_linked : PartsCanBeLinked) (leads : RowsLeadToVariants) (tabled
     behaves = λ bytes actions picks are_bytes of_words fit. (behave p image sound.formed sound.facts.words built bytes actions picks are_bytes of_words fit).0;
     loads = λ bytes actions picks are_bytes of_words fit. let b = behave p image sound.formed sound.facts.words built bytes actions picks are_bytes of_words fit in (b.1, b.2);
     fits = (tabled p sound.formed c.generics c.variants parts are image to.of.linked).fits;
+    shows = show p sound.formed c.generics c.variants parts are image to.of.linked to.of.rules;
   }

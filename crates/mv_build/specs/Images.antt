@@ -19,6 +19,7 @@ use Rattle.mv_image_runs.specs.Behaves.{BehavesAlways, LoadsWhatIsOpen}
 use Rattle.mv_image_tables.specs.Leads.{LeadsToVariants}
 use Rattle.mv_built_programs.specs.Closed.{closed}
 use Rattle.mv_built_programs.specs.Own.{LoadsNoOwnSwitch}
+use Rattle.mv_word_counts.specs.Laws.{ShowsBindings}
 
 -- On no input, with no actions whose values are words and that fit the program, and by no picks does an instruction load a data word that is closed to what
 -- stands at its place; and none that is code of a function's variants, in their words or at a site, loads a switch of the function.
@@ -30,7 +31,8 @@ LoadsOpenly p parts sizing image =
 -- The image of a program, of these bodies of its functions and these variants of its attributed ones: frames and data are within their limits; the image is
 -- linked of the code of the bodies and variants, of the first words of the globals, and of tables; the tables lead from each assignment of a function to
 -- the variant that means what the function means under it. Its run does what the program means, on each input, with any actions that fit, also while commits
--- rewrite its text; no instruction loads what is closed to its place, as a variant's own switch; and the same actions fit the image and the program.
+-- rewrite its text; no instruction loads what is closed to its place, as a variant's own switch; the same actions fit the image and the program; and the text
+-- of the run's bindings differs from the image's in as many words as these bindings owe.
 pub record IsImageOf (p : Program) (bodies : List Body) (tables : List (List Variant)) (image : Fields) : Type 0 where
   pub frames : FramesFit p (length p.functions)
   pub data_fits : data_words p ≤ data_limit
@@ -42,3 +44,4 @@ pub record IsImageOf (p : Program) (bodies : List Body) (tables : List (List Var
   pub behaves : BehavesAlways p image
   pub loads : LoadsOpenly p parts linked.sizing image
   pub fits : (action : Action) → machine.fits image.switches action ≡ source.fits p action
+  pub shows : ShowsBindings p image

@@ -9,7 +9,8 @@
 //!   equal, and the sites are exactly the slots. The image's run does what the program means (`Behaves`), on each input
 //!   of bytes, with any actions of the operator that fit the program, and whatever the fetches pick, also while commits,
 //!   reverts and polls rewrite its text. No instruction that is code of a variant, in its words that are no site's or in an
-//!   inline body of it at a site, loads a switch of its function (`LoadsOpenly`).
+//!   inline body of it at a site, loads a switch of its function (`LoadsOpenly`). The text of its run's bindings differs from
+//!   the image's in as many words as these bindings owe by the source, and each has its line (`ShowsBindings`).
 //! - Each other answer has its cause, and each cause its answer unless memory is wanting: refusals 1 to 7 are those of
 //!   `mv_front`; 8 names the first function whose frame is above 2,032 bytes and its bytes, then 14 the sites above
 //!   16,384, then 13 the words of data above 262,144, then 9 the words of text above 131,072. A program that passes none
@@ -42,6 +43,7 @@ use mv_checked_programs::programs_of_texts_are_well_formed;
 use mv_front::{front, one_verdict};
 use mv_image_tables::{images_have_tables, rows_lead_on};
 use mv_parts::parts_law;
+use mv_word_counts::images_show_bindings;
 use std::alloc::Global;
 
 /// The program of a source and its image, or its one refusal.
@@ -81,6 +83,7 @@ pub fn compiled(alloc: Global, program: Program) -> Result<Built, BuildError>
     parts_law();
     rows_lead_on();
     images_have_tables();
+    images_show_bindings();
     built_programs_behave();
     let Coded {
         generics,

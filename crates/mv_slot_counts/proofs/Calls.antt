@@ -65,7 +65,7 @@ behind : (b : Bool) (k f : ℕ) (marked : List ℕ) → is_marked marked f ≡ t
 behind true k f marked h = or_second (eqb k f) (is_marked marked f) h
 behind false k f marked h = h
 
-among_marked : (is_called : ℕ → Bool) (f k : ℕ) (gs : List Function) → is_called f ≡ true → Among f k gs → is_marked (marked_from is_called k gs) f ≡ true
+pub among_marked : (is_called : ℕ → Bool) (f k : ℕ) (gs : List Function) → is_called f ≡ true → Among f k gs → is_marked (marked_from is_called k gs) f ≡ true
 among_marked is_called f k [] c (i, e, a) = absurd cc
 among_marked is_called f k (g ∷ gs) c (suc i, e, a) =
     behind (g.attributed && is_called k) k f (marked_from is_called (suc k) gs) (among_marked is_called f (suc k) gs c (i, omega (arith, e), a))
@@ -76,7 +76,7 @@ among_marked is_called f k (g ∷ gs) c (zero, e, a) =
     let here : eqb k f ≡ true = eq-eqb k f (sym same) in
     subst (λ b. is_marked (cond b (k ∷ rest) rest) f ≡ true) (sym first) (or_first (eqb k f) (is_marked rest f) here)
 
-each_among : (P : ℕ → Type 0) (fs : List ℕ) → ((f : ℕ) → is_among f fs ≡ true → P f) → Each P fs
+pub each_among : (P : ℕ → Type 0) (fs : List ℕ) → ((f : ℕ) → is_among f fs ≡ true → P f) → Each P fs
 each_among P [] h = tt
 each_among P (f ∷ fs) h =
     (h f (or_first (nat_eq f f) (is_among f fs) (eq-eqb f f refl)), each_among P fs (λ k e. h k (or_second (nat_eq k f) (is_among k fs) e)))
@@ -135,6 +135,9 @@ module _ (p : Program) (g : Function) where
 
 -- ---- laws
 
+pub same_renamed : (body b : Body) (r : IsRenamed body b) (direct : ℕ → ℕ) → code_weight direct 0 b.code ≡ code_weight direct 0 body.code
+same_renamed body b r direct = ap (λ (x : Body). code_weight direct 0 x.code) r.changes ∙ renamed_same direct r.numbers body.code
+
 module _ (are_calls : SlotsAreCalls) where
   pub marked_slots : MarkedCallsHaveSlots
   marked_slots attributed b =
@@ -145,9 +148,6 @@ module _ (are_calls : SlotsAreCalls) where
       (attributed : Bool) → slot_count (selected_lines attributed b) ≡ attributed_calls p b.code
   slots_of p g b marked fewer attributed =
       marked_slots attributed b ∙ ap (λ fs. marked_calls fs b.code) marked ∙ same_calls p g b (fewer (other p g))
-
-  same_renamed : (body b : Body) (r : IsRenamed body b) (direct : ℕ → ℕ) → code_weight direct 0 b.code ≡ code_weight direct 0 body.code
-  same_renamed body b r direct = ap (λ (x : Body). code_weight direct 0 x.code) r.changes ∙ renamed_same direct r.numbers body.code
 
   pub attributed_slots : AttributedCallsHaveSlots
   attributed_slots p g b (renamed r) = slots_of p g b (ap (λ (x : Body). x.marked) r.changes) (λ direct. let same = same_renamed (lower_function p g) b r direct in omega (arith, same))

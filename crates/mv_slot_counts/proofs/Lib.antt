@@ -1,2 +1,3 @@
 pub mod Weights
 pub mod Calls
+pub mod Callees

@@ -1,16 +1,16 @@
 -- How many slots the code of a body has: one for each direct call of an attributed function.
-use Rattle.std.specs.Prelude.{ℕ, ◌≡◌, Bool, List}
+use Rattle.std.specs.Prelude.{ℕ, ◌≡◌, ◌==◌, Bool, true, if◌then◌else◌, List, slice_get}
 use Rattle.mv_ast.specs.declared.program.Program.{Program}
 use Rattle.mv_ast.specs.declared.program.Function.{Function}
-use Rattle.mv_ast.specs.Counts.{calls}
+use Rattle.mv_ast.specs.Counts.{calls, is_attributed}
 use Rattle.mv_ir.specs.declared.stm.Stm.{Stm}
 use Rattle.mv_ir.specs.declared.body.Body.{Body}
 use Rattle.mv_call_code.specs.CallCode.{is_marked}
 use Rattle.mv_lowering.specs.Functions.{lower_function}
-use Rattle.mv_lowered_forms.specs.Calls.{code_weight, attributed_once}
+use Rattle.mv_lowered_forms.specs.Calls.{code_weight, function_weight, attributed_once}
 use Rattle.mv_lowered_forms.specs.Law.{IsFunctionOf}
 use Rattle.mv_regalloc.specs.Intervals.{IsRenamed}
-use Rattle.mv_bound_bodies.specs.Slots.{one_each}
+use Rattle.mv_bound_bodies.specs.Slots.{one_each, slot_weight}
 use Rattle.mv_select.specs.Selected.{selected_lines}
 use Rattle.mv_linker.specs.Tables.{slot_count}
 use Rattle.mv_code_sizes.specs.Sizes.{IsBodyOf}
@@ -37,3 +37,13 @@ abbrev pub SourceCallsHaveSlots : Type 0
 SourceCallsHaveSlots =
     (p : Program) (f : ℕ) (g : Function) → IsFunctionOf p f g → (b : Body) → IsRenamed (lower_function p g) b →
     (attributed : Bool) → slot_count (selected_lines attributed b) ≡ calls p g
+
+-- one for each direct call of a function
+abbrev pub once_for : (callee : ℕ) → ℕ → ℕ
+once_for callee f = if f == callee then 1 else 0
+
+-- Of each attributed function it has as many slots as the source has direct calls of it.
+abbrev pub CalleesHaveSlots : Type 0
+CalleesHaveSlots =
+    (p : Program) (f : ℕ) (g : Function) → IsFunctionOf p f g → (b : Body) → IsRenamed (lower_function p g) b → (attributed : Bool) →
+    (callee : ℕ) → is_attributed (slice_get p.functions callee) ≡ true → slot_weight (once_for callee) (selected_lines attributed b) ≡ function_weight (once_for callee) 0 g

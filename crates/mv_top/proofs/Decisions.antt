@@ -91,7 +91,7 @@ module _ (before after : Environment) (no_input_fault : ReadFailed before after 
     run_refused : {lines : List ℕ} {status : Status} → RunDoes before after text Heard options lines status → (r : Refusal) → IsRefused text r → Is status (Refused r)
     run_refused (text_spec.unread unused) r is = inr refl
     run_refused (text_spec.not_run s none unused) r is = inl (ap Refused (one_cause text options.items s r none is))
-    run_refused (text_spec.ran b actions x good are is_one) r is = absurd (not_both text b.program r good.program is)
+    run_refused (text_spec.ran b actions x good are is_one words) r is = absurd (not_both text b.program r good.program is)
 
     module _ (p : Program) (is : IsProgram text p) where
       wrong_cause : (s : Refusal) (item : ℕ) → IsFirstWrong p options.items item → PassesLimit p s ⊎ ((n : ℕ) × IsFirstWrong p options.items n × (s ≡ no_action n)) →
@@ -103,7 +103,7 @@ module _ (before after : Environment) (no_input_fault : ReadFailed before after 
           IsWithinLimits status (Refused (no_action item)) p
       run_wrong_item (text_spec.unread unused) item wrong = inl (inr refl)
       run_wrong_item (text_spec.not_run s none unused) item wrong = wrong_cause s item wrong (limit_or_item text options.items p is s none)
-      run_wrong_item (text_spec.ran b actions x good are is_one) item wrong =
+      run_wrong_item (text_spec.ran b actions x good are is_one words) item wrong =
           absurd (operator.not_both p options.items actions item (subst (λ z. IsActions z options.items actions) (one_program text b.program p good.program is) are) wrong)
 
       module _ (actions : List Action) (are : IsActions p options.items actions) where
@@ -116,7 +116,7 @@ module _ (before after : Environment) (no_input_fault : ReadFailed before after 
             IsWithinLimits status (status_of_end (mean p bytes actions bound).«end») p
         run_ended (text_spec.unread unused) bytes told bytes_are bound enough ended = inl (inr refl)
         run_ended (text_spec.not_run s none unused) bytes told bytes_are bound enough ended = inr (s, limit_cause s (limit_or_item text options.items p is s none), refl)
-        run_ended (text_spec.ran b taken x good are_taken is_one) bytes told bytes_are bound enough ended =
+        run_ended (text_spec.ran b taken x good are_taken is_one words) bytes told bytes_are bound enough ended =
             let one : b.program ≡ p = one_program text b.program p good.program is in
             let same : taken ≡ actions = operator.one_list p options.items taken actions (subst (λ z. IsActions z options.items taken) one are_taken) are in
             let decides : meant.Decides b.program taken options.steps before after x.stopped =

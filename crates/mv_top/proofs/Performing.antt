@@ -32,6 +32,7 @@ use Rattle.mv_top.specs.declared.notes.Performed.{Performed}
 use Rattle.mv_top.specs.declared.prepared.Prepared.{Prepared}
 use Rattle.mv_top.specs.declared.status.Status.{Status}
 use Rattle.mv_top.specs.declared.status.Status.TheVariants.{Usage, ShelfFault, Memory}
+use Rattle.mv_top.proofs.WordLines.{word_lines}
 
 -- what comes of one thing and then of another
 pub performs_so : (Comes Gives : (lines : List ℕ) → Status → Type 0) → ((lines : List ℕ) (status : Status) → Comes lines status → Gives lines status) →
@@ -76,6 +77,7 @@ module _ (before after : Environment) (text : List ℕ) where
         (execution : IsExecution prepared.built actions options.steps before after Heard e) where
       came : Done (asked_lines options prepared.built.image e.machine) (status_of_stop e.stopped)
       came = ran prepared.built actions e is.built (subst (IsActions prepared.built.program options.items) (sym same) is.actions) execution
+          (word_lines text prepared.built actions options.steps before after Heard e is.built execution)
 
       pub run_done : (result : Result Performed AllocError) → IfOk result (λ performed. performed.status ≡ status_of_stop e.stopped) →
           IfOk result (λ performed. performed.lines.items ≡ asked_lines options prepared.built.image e.machine) → Performs Done result

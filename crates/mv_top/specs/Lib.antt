@@ -1,3 +1,4 @@
 pub mod Lines
+pub mod WordLines
 pub mod Texts
 pub mod Outcomes

@@ -29,6 +29,7 @@ use Rattle.mv_command.specs.declared.command.Task.{Task}
 use Rattle.mv_command.specs.declared.command.Task.TheVariants.{Run, Eval}
 use Rattle.mv_operator.specs.Operator.{IsActions, IsFirstWrong}
 use Rattle.mv_top.specs.Lines.{asked_lines}
+use Rattle.mv_top.specs.WordLines.{CountsFrom}
 use Rattle.mv_top.specs.declared.notes.Performed.{Performed}
 use Rattle.mv_top.specs.declared.prepared.Prepared.{Prepared}
 use Rattle.mv_top.specs.declared.status.Status.{Status}
@@ -120,13 +121,14 @@ module _ (before after : Environment) (text : List ℕ) where
     Unused = (after ≡ before) × Heard []
 
     -- What comes of its run, with the lines that it is asked for: one run of one image that is built of it, by the actions of the operator. That gives the
-    -- status, the lines, what was taken and written, and what the probes were told.
+    -- status, the lines, what was taken and written, and what the probes were told; and the changed words have as many lines as the source says.
     pub data RunDoes (options : RunOptions) : (lines : List ℕ) → Status → Type 0 where
       -- there was no memory to read it as a program, to compile or to load that
       unread : Unused → RunDoes options [] Memory
       not_run : (r : Refusal) → IsNotRun text options.items r → Unused → RunDoes options [] (Refused r)
       ran : (built : Built) (actions : List Action) (e : Execution) → IsBuiltFrom text built → IsActions built.program options.items actions →
-          IsExecution built actions options.steps before after Heard e → RunDoes options (asked_lines options built.image e.machine) (status_of_stop e.stopped)
+          IsExecution built actions options.steps before after Heard e → CountsFrom built.program built.image actions options.steps e.machine before.input.left e.stopped →
+          RunDoes options (asked_lines options built.image e.machine) (status_of_stop e.stopped)
 
     abbrev pub Does : Task → (lines : List ℕ) → Status → Type 0
     Does (Run options) lines status = RunDoes options lines status

@@ -24,7 +24,9 @@
 //!   failed.
 //! - This image does what the program means with the actions, on each input and whatever the fetches give, also while
 //!   commits, reverts and polls rewrite its text. Where the run has ended, its bindings and its text are the meaning's, and
-//!   each probe heard exactly the meaning's log. `MachineFault` comes only where the input tells nothing or what is no byte.
+//!   each probe heard exactly the meaning's log; no line of `--words` is due exactly where all functions are free, and else
+//!   there are as many as one for each bound function and one for each direct call of it in the source, or more
+//!   (`CountsFrom`). `MachineFault` comes only where the input tells nothing or what is no byte.
 //! - `InputFault`, `OutputFault`: the count of `input`, of `out` or of `notes` rose.
 //! - `notes` grew by exactly the lines that were asked for and the last line of the status; after `OutputFault` of `out`
 //!   by these lines alone. Where there was no memory to make them, it is as before and the status is `Memory`; where a

@@ -1,10 +1,13 @@
-use Rattle.mv_bound_bodies.proofs.Slots.{slots_are_calls}
+use Rattle.mv_bound_bodies.proofs.Slots.{slots_are_calls, slots_weigh}
 use Rattle.mv_bound_bodies.proofs.FewSlots.{few_slots, own_few_slots, renamed_few_slots, all_few_slots, variant_few_slots}
 use Rattle.mv_bound_bodies.proofs.Patchable.{slots_patchable}
 use Rattle.mv_bound_bodies.proofs.slots_are_counted.Goals as goal
 
 pub returns-clause-code : goal.returns-clause-code
 returns-clause-code c = slots_are_calls
+
+pub returns-clause-weights : goal.returns-clause-weights
+returns-clause-weights c = slots_weigh
 
 pub returns-clause-few : goal.returns-clause-few
 returns-clause-few c = few_slots

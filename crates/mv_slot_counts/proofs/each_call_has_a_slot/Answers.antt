@@ -1,4 +1,5 @@
 use Rattle.mv_slot_counts.proofs.Calls.{marked_slots, attributed_slots, source_slots}
+use Rattle.mv_slot_counts.proofs.Callees.{callees_have_slots}
 use Rattle.mv_slot_counts.proofs.each_call_has_a_slot.Goals as goal
 
 pub returns-clause-marked : goal.returns-clause-marked
@@ -9,3 +10,6 @@ returns-clause-attributed c = attributed_slots c.slots_are_counted.ensures.code
 
 pub returns-clause-source : goal.returns-clause-source
 returns-clause-source c = source_slots c.slots_are_counted.ensures.code c.lowered_forms_are_right.ensures.calls
+
+pub returns-clause-callees : goal.returns-clause-callees
+returns-clause-callees c = callees_have_slots c.slots_are_counted.ensures.weights c.lowered_forms_are_right.ensures.calls

@@ -1,0 +1,33 @@
+-- How many words of text have changed where a run has ended, by the source.
+use Rattle.std.specs.Prelude.{ℕ, ◌<◌, ◌^◌, List, All, Option, Some, None}
+use Rattle.mv_ast.specs.declared.program.Program.{Program}
+use Rattle.mv_ast.specs.declared.world.Action.{Action}
+use Rattle.mv_image.specs.Spelling.{Fields}
+use Rattle.mv_list.specs.Changes.{patched_text}
+use Rattle.mv_machine.specs.Snapshots.{Snapshot}
+use Rattle.mv_machine.specs.declared.machine.Stopped.{Stopped}
+use Rattle.mv_machine.specs.declared.machine.Stopped.TheVariants.{Ended, Trapped, Steps, InputFault, OutputFault, Fault, Memory}
+use Rattle.mv_meaning.specs.Meaning.{mean}
+use Rattle.mv_word_counts.specs.Lines.{line_count}
+use Rattle.mv_word_counts.specs.Owed.{CountsWords}
+
+module _ (p : Program) (image : Fields) (actions : List Action) (steps : ℕ) (machine : Snapshot) where
+  -- The changed words have as many lines as the bindings owe that are meant at the bound `steps`: none exactly where all functions are free, and else at least
+  -- one for the entry of each bound function, and one for each direct call of it.
+  abbrev pub CountsLines : (bytes : List ℕ) → Type 0
+  CountsLines bytes = CountsWords p (mean p bytes actions steps).bindings (line_count (patched_text image machine.room.held))
+
+  -- so it is where the program has ended, on a source that has these bytes to come
+  abbrev pub CountsOn : (bytes : List ℕ) → Stopped → Type 0
+  CountsOn bytes (Ended status) = CountsLines bytes
+  CountsOn bytes (Trapped code) = CountsLines bytes
+  CountsOn bytes Steps = Unit {0}
+  CountsOn bytes InputFault = Unit {0}
+  CountsOn bytes OutputFault = Unit {0}
+  CountsOn bytes (Fault pc why) = Unit {0}
+  CountsOn bytes Memory = Unit {0}
+
+  -- It stands where the source tells what is to come, and that is bytes.
+  abbrev pub CountsFrom : (left : Option (List ℕ)) → Stopped → Type 0
+  CountsFrom None stopped = Unit {0}
+  CountsFrom (Some bytes) stopped = All (λ b. b < 2 ^ 8) bytes → CountsOn bytes stopped

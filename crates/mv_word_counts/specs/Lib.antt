@@ -1,0 +1,4 @@
+pub mod Lines
+pub mod Bound
+pub mod Owed
+pub mod Laws
