@@ -1,5 +1,5 @@
 -- The slots of a body are the calls of attributed functions in it.
-use Rattle.std.proofs.Common.{arith, ◌≡◌, ℕ, zero, suc, ◌+◌, ◌≤◌, ◌⊎◌, inl, inr, Bool, true, false, cond, eqb, ◌&&◌, ◌||◌, List, [], ◌∷◌, map, refl, sym, ap, ◌∙◌, subst}
+use Rattle.std.proofs.Common.{arith, ◌≡◌, ℕ, zero, suc, ◌+◌, ◌≤◌, ◌⊎◌, inl, inr, Bool, true, false, cond, eqb, ◌&&◌, ◌||◌, List, [], ◌∷◌, refl, sym, ap, ◌∙◌, subst}
 use Rattle.std.specs.Prelude.{slice_get, nat_eq}
 use Rattle.std.proofs.lemmas.Bool.{eq-eqb}
 use Rattle.std.proofs.lemmas.List.Sums.{sum_by-cons}
@@ -9,7 +9,6 @@ use Rattle.mv_ast.specs.Counts.{is_attributed}
 use Rattle.mv_ast.specs.Plans.{is_among}
 use Rattle.mv_isa.specs.declared.labelled.Line.{Line}
 use Rattle.mv_isa.specs.declared.labelled.Line.TheVariants.{Word, Label, Jump, Branch, Entry, Slot}
-use Rattle.mv_ir.specs.declared.stm.Stm.{Stm}
 use Rattle.mv_ir.specs.declared.body.Body.{Body}
 use Rattle.mv_ir.proofs.Induction.{Each}
 use Rattle.mv_tree_code.specs.Rooms.{place_in}
@@ -26,7 +25,7 @@ use Rattle.mv_bound_bodies.proofs.Meant.{made}
 use Rattle.mv_bound_bodies.proofs.Variants.{made_calls, worked_calls}
 use Rattle.mv_select.specs.Selected.{selected_lines}
 use Rattle.mv_linker.specs.Tables.{is_slot, slot_count}
-use Rattle.mv_code_sizes.specs.Sizes.{IsBodyOf, renamed, folded, bound}
+use Rattle.mv_code_sizes.specs.Sizes.{renamed, folded, bound}
 use Rattle.mv_slot_counts.specs.Calls.{marked_calls, attributed_calls, MarkedCallsHaveSlots, AttributedCallsHaveSlots, SourceCallsHaveSlots}
 use Rattle.mv_slot_counts.proofs.Weights.{AddUp, weights_add, renamed_same}
 

@@ -1,6 +1,6 @@
 -- A variant of a program's image can be told from its function by the words of text.
 use Rattle.std.proofs.Common.{arith, ◌≡◌, ◌≢◌, ℕ, zero, suc, ◌+◌, ◌-◌, ◌/◌, ◌%◌, ◌<◌, ◌≤◌, Bool, true, false, List, [], ◌∷◌, ◌++◌, length, map, get_or, Option, Some, None, refl, sym, ap, ◌∙◌, subst, All}
-use Rattle.std.specs.Prelude.{ℤ, option_and_then, slice_get, slice_index}
+use Rattle.std.specs.Prelude.{ℤ, pos, ◌-ℤ◌, option_and_then, slice_get, slice_index}
 use Rattle.std.proofs.lemmas.Bool.{le-ltb}
 use Rattle.std.proofs.lemmas.List.{length-map}
 use Rattle.std.proofs.lemmas.List.Elements.{All-nil, All-append}
@@ -22,6 +22,10 @@ use Rattle.mv_image.specs.Patched.{fitting_variant, variant_under}
 use Rattle.mv_image.specs.Spelling.{Fields}
 use Rattle.mv_ir.specs.declared.body.Body.{Body}
 use Rattle.mv_tree_code.specs.Rooms.{place_in}
+use Rattle.mv_flow_code.specs.Layouts.{size_in}
+use Rattle.mv_call_code.specs.CallCode.{is_marked}
+use Rattle.mv_function_code.specs.FunctionCode.{bytes_of, later_lines}
+use Rattle.mv_function_code.specs.Functions.{shape_of}
 use Rattle.mv_patch.specs.Tables.{word_of}
 use Rattle.mv_linker.specs.declared.parts.Parts.{Parts}
 use Rattle.mv_linker.specs.declared.parts.PartFunction.{PartFunction}
@@ -34,6 +38,7 @@ use Rattle.mv_linked_text.specs.Laws.{CodesFollow, CodesAscend, PatchedCodeStand
 use Rattle.mv_linked_text.specs.Text.{label_place, HasEntry}
 use Rattle.mv_changed_words.specs.Changed.{CanBeTold}
 use Rattle.mv_variants.specs.declared.variant.Variant.{Variant}
+use Rattle.mv_parts.specs.Codes.{IsCodeOf}
 use Rattle.mv_parts.specs.Numbers.{attributed_numbers}
 use Rattle.mv_parts.specs.Parts.{ArePartsOf, ArePartVariants}
 use Rattle.mv_parts.proofs.Lists.{all_by_index, map_at, one_of_all, some_at, some_same}
@@ -101,6 +106,17 @@ module _ (ascend : CodesAscend) (patched : PatchedCodeStands) (p : Program) (bod
       items : own.0.items ≡ Word (Addi 2 2 bytes) ∷ rest
       entry : HasEntry parts image linked.sizing n a.function (Addi 2 2 bytes)
 
+    begins_with : (attributed : Bool) (body : Body) → IsCodeOf attributed body own.0 → Begins
+    begins_with attributed body code =
+        let bytes = pos 0 -ℤ pos (bytes_of (shape_of attributed body)) in
+        let rest = later_lines (place_in body.rooms) (size_in body.rooms) (is_marked body.marked) (shape_of attributed body) body.code in
+        record {
+          bytes = bytes;
+          rest = rest;
+          items = code.selected.items;
+          entry = (patched parts image are.are are.fit linked n a.function own.0 (Addi 2 2 bytes) rest number code_there code.selected.labels code.selected.items).1;
+        }
+
     begins : Begins
     begins =
         let h = numbered.attributed_at p n a.function number_is in
@@ -108,13 +124,7 @@ module _ (ascend : CodesAscend) (patched : PatchedCodeStands) (p : Program) (bod
         let count = are.codes.generics.one_each in
         let body = some_at bodies a.function (omega (arith, within, count)) in
         let has = are.codes.code.each a.function body.0 own.0 body.1 own.1 in
-        let selected = has.is_code.selected in
-        record {
-          bytes = _;
-          rest = _;
-          items = selected.items;
-          entry = (patched parts image are.are are.fit linked n a.function own.0 _ _ number code_there selected.labels selected.items).1;
-        }
+        begins_with has.function.attributed body.0 has.is_code
 
     entry_word : (b : Begins) → word_of image.text (place a.function) ≡ encode (Addi 2 2 b.bytes)
     entry_word b =
