@@ -16,8 +16,8 @@ use Rattle.mv_image_runs.specs.Behaves.{IsWhole, EndsRight, Behaves, BehavesAlwa
 use Rattle.mv_machine.specs.declared.machine.Stopped.{Stopped}
 use Rattle.mv_machine.specs.declared.machine.Stopped.TheVariants as answer
 use Rattle.mv_machine.specs.Actions as image_actions
-use Rattle.mv_machine.specs.Runs.{State, Stop, Going, Exit, Trap, Fault, bytes_to_come, runs}
-use Rattle.mv_machine.specs.Snapshots.{Snapshot, WantsMemory, kept, Tells}
+use Rattle.mv_machine.specs.Runs.{State, Stop, Going, Exit, Trap, Fault, Reads, Writes, bytes_to_come, runs}
+use Rattle.mv_machine.specs.Snapshots.{Snapshot, Asks, WantsMemory, kept, Tells}
 use Rattle.mv_meaning.specs.declared.meant.End.{End}
 use Rattle.mv_meaning.specs.declared.meant.End.TheVariants as source
 use Rattle.mv_meaning.specs.declared.meant.Meant.{Meant}
@@ -27,6 +27,7 @@ use Rattle.mv_meaning.proofs.Growing.{Begins-trans}
 use Rattle.mv_refine.specs.Environment.{Environment, Took, Wrote}
 use Rattle.mv_refine.specs.Execution.{SameFit}
 use Rattle.mv_refine.specs.Run.{IsDone, Stands, StandsBefore, Runs}
+use Rattle.mv_refine.proofs.Cut.{takes_more, outputs_more}
 use Rattle.mv_refine.specs.Meant.{DoesAll, DoesPart, KeepsUp, DoesOn, DoesFrom, Does, IsAnswer, DecidesOn, DecidesFrom, Decides}
 
 -- ---- ends
@@ -66,7 +67,7 @@ module _ (p : Program) (image : Fields) (before after : Environment) (Heard : Li
     bindings : machine.bindings ≡ (state n).bindings
     room : machine.room ≡ (state n).room
 
-  part : (n : ℕ) → n ≤ steps → Leaves n → DoesPart before after Heard machine bytes meant (state n).output
+  abbrev part : (n : ℕ) → n ≤ steps → Leaves n → DoesPart before after Heard machine bytes meant (state n).output
   part n le leaves =
       let within = behaves.within n in
       let extends = bound_extends p bytes actions n steps le in
@@ -161,17 +162,26 @@ module _ (p : Program) (image : Fields) (behaves : BehavesAlways p image) (actio
     over : (stop : Stop) → (stop ≡ Going → ⊥) → (s : Stands image actions before after Heard machine stop steps) → (runs image (bytes_to_come bytes) actions s.picks steps).stop ≡ Going → ⊥
     over stop other s going = other (sym (stop_at s.input s.picks steps stop (input_is s.input s.done.told) s.stops) ∙ going)
 
-    stuck_part : (Next : State → ℕ → Type 0) → StandsBefore image actions before after Heard machine Next steps → (piece : List ℕ) × DoesPart before after Heard machine bytes (mean p bytes actions steps) piece
-    stuck_part Next s =
-        let fewer = s.fewer in
-        let b = behaves bytes actions s.picks are words fit in
-        (_, part p image before after Heard machine bytes actions s.picks steps b s.count (omega (arith, fewer)) (leaves s.input s.picks s.count s.done))
+    -- before a call that failed it is so far, and the run on what the source tells stands there and goes on
+    module _ (Next : State → ℕ → Type 0) (s : StandsBefore image actions before after Heard machine Next steps) where
+      abbrev here : State
+      here = runs image (bytes_to_come bytes) actions s.picks s.count
+
+      abbrev stuck_part : DoesPart before after Heard machine bytes (mean p bytes actions steps) here.output
+      stuck_part =
+          let fewer = s.fewer in
+          let b = behaves bytes actions s.picks are words fit in
+          part p image before after Heard machine bytes actions s.picks steps b s.count (omega (arith, fewer)) (leaves s.input s.picks s.count s.done)
+
+      goes_on : here.stop ≡ Going
+      goes_on = stop_at s.input s.picks s.count Going (input_is s.input s.done.told) s.going
+
+      comes_next : Next here (slice_index s.picks s.count)
+      comes_next = subst (λ (i : List (Option ℕ)). Next (runs image i actions s.picks s.count) (slice_index s.picks s.count)) (input_is s.input s.done.told) s.next
 
     -- no instruction wants memory
     roomy : StandsBefore image actions before after Heard machine WantsMemory steps → ⊥
-    roomy s =
-        (behaves bytes actions s.picks are words fit).roomy s.count (slice_index s.picks s.count)
-        (subst (λ (i : List (Option ℕ)). WantsMemory (runs image i actions s.picks s.count) (slice_index s.picks s.count)) (input_is s.input s.done.told) s.next)
+    roomy s = (behaves bytes actions s.picks are words fit).roomy s.count (slice_index s.picks s.count) (comes_next WantsMemory s)
 
     does : (stopped : Stopped) → Runs image actions before after Heard machine steps stopped → DoesOn p image actions steps before after Heard machine bytes stopped
     does (answer.Ended status) r =
@@ -190,9 +200,13 @@ module _ (p : Program) (image : Fields) (behaves : BehavesAlways p image) (actio
           keeps_up p image before after Heard machine bytes actions s.picks steps b (stop_at s.input s.picks steps Going (input_is s.input s.done.told) s.stops),
         )
     does answer.InputFault r =
-        let part = stuck_part _ r.0 in (part.0, part.1, r.1)
+        let s = r.0 in
+        let part = stuck_part (λ s pick. Asks s pick Reads) s in
+        (_, part, r.1, takes_more p image behaves actions words fit bytes are s.picks s.count steps s.fewer (goes_on (λ s pick. Asks s pick Reads) s) (comes_next (λ s pick. Asks s pick Reads) s))
     does answer.OutputFault r =
-        let part = stuck_part _ r.0 in (part.0, part.1, r.1)
+        let s = r.0 in
+        let part = stuck_part (λ s pick. Asks s pick Writes) s in
+        (_, part, r.1, outputs_more p image behaves actions words fit bytes are s.picks s.count steps s.fewer (goes_on (λ s pick. Asks s pick Writes) s) (comes_next (λ s pick. Asks s pick Writes) s))
     does (answer.Fault pc why) r = ends (Fault why) r.0
     does answer.Memory r = roomy r
 

@@ -1,3 +1,4 @@
 pub mod Inputs
 pub mod Ran
+mod Cut
 pub mod Executed

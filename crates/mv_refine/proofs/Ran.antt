@@ -13,7 +13,8 @@ use Rattle.mv_machine.specs.Snapshots.{Snapshot, kept, resumed, Tells, Under, As
 use Rattle.mv_probe.specs.Ways.{way_after}
 use Rattle.mv_refine.specs.Environment.{Environment, ReadFailed, WriteFailed}
 use Rattle.mv_refine.specs.Run.{IsDone, Stands, RanTo, StandsBefore, Runs}
-use Rattle.mv_refine.proofs.Inputs.{runs_leave, some_later, lost}
+use Rattle.mv_cut_runs.proofs.Leaves.{runs_leave}
+use Rattle.mv_refine.proofs.Inputs.{some_later, lost}
 
 -- a machine that was just started goes on from the image's first state
 begun : (image : Fields) (input : List (Option ℕ)) (actions : List Action) → resumed (kept (first image [] []) None) input actions ≡ first image input actions

@@ -1,5 +1,5 @@
 -- What a run of an image does in its environment, by what its program means.
-use Rattle.std.specs.Prelude.{ℕ, ◌≡◌, ◌+◌, ◌*◌, ◌^◌, ◌<◌, ◌≤◌, List, take, All, Option, Some, None}
+use Rattle.std.specs.Prelude.{ℕ, ◌≡◌, ◌+◌, ◌*◌, ◌^◌, ◌<◌, ◌≤◌, List, [], ◌∷◌, ◌++◌, length, take, All, Option, Some, None}
 use Rattle.mv_ast.specs.declared.program.Program.{Program}
 use Rattle.mv_ast.specs.declared.world.Action.{Action}
 use Rattle.mv_ast.specs.declared.world.Event.{Event}
@@ -49,18 +49,27 @@ abbrev pub KeepsUp : Program → List Action → (bytes : List ℕ) → (steps :
 KeepsUp p actions bytes steps piece =
     (bound : ℕ) → IsEnough p actions bytes steps bound → ((mean p bytes actions bound).«end» ≡ More) × Begins (mean p bytes actions bound).output piece
 
+-- on these bytes and any one more the meaning at the bound `steps` takes that one too
+abbrev pub TakesMore : Program → List Action → (steps : ℕ) → (taken : List ℕ) → Type 0
+TakesMore p actions steps taken = (byte : ℕ) → byte < 2 ^ 8 → length taken < (mean p (taken ++ byte ∷ []) actions steps).taken
+
+-- the output of the meaning at that bound is longer than this piece
+abbrev pub WritesMore : Program → List Action → (bytes : List ℕ) → (steps : ℕ) → (piece : List ℕ) → Type 0
+WritesMore p actions bytes steps piece = length piece < length (mean p bytes actions steps).output
+
 module _ (p : Program) (image : Fields) (actions : List Action) (steps : ℕ) (before after : Environment) (Heard : List Event → Type 0) (machine : Snapshot) where
   -- part of what is meant at the bound `steps`
   abbrev pub Part : (bytes piece : List ℕ) → Type 0
   Part bytes piece = DoesPart before after Heard machine bytes (mean p bytes actions steps) piece
 
-  -- What was written and taken, by the answer, on a source that has these bytes to come. No answer is a fault or want of memory.
+  -- What was written and taken, by the answer, on a source that has these bytes to come. Where a device failed, the meaning
+  -- reads or writes on. No answer is a fault or want of memory.
   abbrev pub DoesOn : (bytes : List ℕ) → Stopped → Type 0
   DoesOn bytes (Ended status) = DoesAll before after Heard machine bytes (mean p bytes actions steps) image (Exit status)
   DoesOn bytes (Trapped code) = DoesAll before after Heard machine bytes (mean p bytes actions steps) image (Trap code)
   DoesOn bytes Steps = (piece : List ℕ) × Part bytes piece × KeepsUp p actions bytes steps piece
-  DoesOn bytes InputFault = (piece : List ℕ) × Part bytes piece × ReadFailed before after
-  DoesOn bytes OutputFault = (piece : List ℕ) × Part bytes piece × WriteFailed before after
+  DoesOn bytes InputFault = (piece : List ℕ) × (part : Part bytes piece) × ReadFailed before after × TakesMore p actions steps (take part.count bytes)
+  DoesOn bytes OutputFault = (piece : List ℕ) × Part bytes piece × WriteFailed before after × WritesMore p actions bytes steps piece
   DoesOn bytes (Fault pc why) = ⊥
   DoesOn bytes Memory = ⊥
 
