@@ -1,2 +1,5 @@
 pub mod Numerals
 pub mod ItemTexts
+pub mod Same
+pub mod Readings
+pub mod Table
