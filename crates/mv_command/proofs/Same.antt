@@ -50,18 +50,18 @@ same_options rows options more one other =
     let words = one.words ∙ sym other.words in
     λ i. record { steps = steps i; items = items i; bindings = bindings i; words = words i }
 
-same_text : {name : Text} {rows : List Row} {x y : Text} → given name rows ≡ Some x → given name rows ≡ Some y → x ≡ y
+same_text : {value : Option Text} {x y : Text} → value ≡ Some x → value ≡ Some y → x ≡ y
 same_text {x = x} {y = y} e f = same_Some x y (sym e ∙ f)
 
 same_asks : (name : Text) (rows : List Row) (a b : Asked) → Asks name rows a → Asks name rows b → a ≡ b
-same_asks name rows (Runs f o) (Runs g p) h k = ap₂ Runs (same_text {name = FILE.now} {rows = rows} h.1 k.1) (same_options rows o p h.2 k.2)
-same_asks name rows (Builds f i) (Builds g j) h k = ap₂ Builds (same_text {name = FILE.now} {rows = rows} h.1 k.1) (same_text {name = IMAGE.now} {rows = rows} h.2 k.2)
-same_asks name rows (Executes f o) (Executes g p) h k = ap₂ Executes (same_text {name = IMAGE.now} {rows = rows} h.1 k.1) (same_options rows o p h.2 k.2)
-same_asks name rows (Lists i) (Lists j) h k = ap Lists (same_text {name = IMAGE.now} {rows = rows} h.1 k.1)
+same_asks name rows (Runs f o) (Runs g p) h k = ap₂ Runs (same_text h.1 k.1) (same_options rows o p h.2 k.2)
+same_asks name rows (Builds f i) (Builds g j) h k = ap₂ Builds (same_text h.1 k.1) (same_text h.2 k.2)
+same_asks name rows (Executes f o) (Executes g p) h k = ap₂ Executes (same_text h.1 k.1) (same_options rows o p h.2 k.2)
+same_asks name rows (Lists i) (Lists j) h k = ap Lists (same_text h.1 k.1)
 same_asks name rows (Evaluates f m) (Evaluates g n) h k =
-    ap₂ Evaluates (same_text {name = FILE.now} {rows = rows} h.1 k.1) (decimal_injective m n (omega (arith, h.3)) (omega (arith, k.3)) (same_text {name = BOUND.now} {rows = rows} h.2 k.2))
+    ap₂ Evaluates (same_text h.1 k.1) (decimal_injective m n (omega (arith, h.3)) (omega (arith, k.3)) (same_text h.2 k.2))
 same_asks name rows (Generates m s) (Generates n t) h k =
-    ap₂ Generates (decimal_injective m n (omega (arith, h.2)) (omega (arith, k.2)) (same_text {name = NUMBER.now} {rows = rows} h.1 k.1)) (h.3 ∙ sym k.3)
+    ap₂ Generates (decimal_injective m n (omega (arith, h.2)) (omega (arith, k.2)) (same_text h.1 k.1)) (h.3 ∙ sym k.3)
 same_asks name rows a b h k = let l : order a ≡ order b = sym (placed name rows a h) ∙ placed name rows b k in absurd (omega (arith, l))
 
 pub same_asked : {words : List Text} {a b : Asked} → IsCommand words a → IsCommand words b → a ≡ b

@@ -1,12 +1,12 @@
 -- The table is built as its definition says, and `clap`'s promise holds of it.
-use Rattle.std.proofs.Common.{ℕ, ◌≡◌, ◌≢◌, ◌<◌, ◌≤◌, ◌+◌, ◌||◌, ◌∙◌, ◌⊎◌, ⊎_elim, true, false, refl, sym, ap, ap₂, subst, List, [], map, take, length, get_or, fold}
+use Rattle.std.proofs.Common.{ℕ, ◌≡◌, ◌≢◌, ◌<◌, ◌≤◌, ◌+◌, ◌||◌, ◌∙◌, ◌⊎◌, ⊎_elim, true, false, refl, sym, ap, ap₂, subst, List, [], map, take, length, get_or, fold, Option}
 use Rattle.std.proofs.lemmas.List.{take_all}
 use Rattle.std.proofs.lemmas.List.Folds.{fold-map}
 use Rattle.std.proofs.lemmas.List.Sums.{fold_more}
-use Rattle.clap.specs.Walk.{Text, rule_of}
-use Rattle.clap.specs.Simple.{App, app_of, app_of_fields, is_simple, new_app, on_top, with_rule, with_subcommand}
-use Rattle.clap.specs.Faults.{is_simple_and_free}
-use Rattle.clap.specs.Kinds.{IsAmong, Kinds}
+use Rattle.clap.specs.Walk.{Row, Text, rule_of}
+use Rattle.clap.specs.Simple.{App, app_of, app_of_fields, is_simple, new_app, on_top, subcommand_of, with_rule, with_subcommand}
+use Rattle.clap.specs.Faults.{fault_of, is_simple_and_free}
+use Rattle.clap.specs.Kinds.{IsAmong}
 use Rattle.clap.specs.Built.{AddsArg, AddsSubcommand}
 use Rattle.clap.specs.declared.builder.arg.Arg.{Arg}
 use Rattle.clap.specs.declared.builder.command.Command.{Command}
@@ -65,6 +65,13 @@ pub app_free : is_simple_and_free app ≡ true
 unfolding app
 app_free = refl
 
--- an error that isn't want of memory is a fault of the words
-pub has_fault : (kinds : Kinds) (kind : ErrorKind) → (kind ≡ OutOfMemory) ⊎ IsAmong kind kinds → (kind ≡ OutOfMemory → ⊥) → kinds ≢ []
-has_fault kinds kind h other none = ⊎_elim other (λ among. subst (IsAmong kind) none among) h
+-- what a parse says that succeeds, and one that fails for another cause than memory
+pub taken : {R : Type 0} (a : App) (words : List Text) (met : Option (Text × List Row)) → a ≡ app → (is_simple_and_free a ≡ true → fault_of a words ≡ []) →
+    (is_simple a ≡ true → R × (met ≡ subcommand_of a words)) → (fault_of app words ≡ []) × (met ≡ subcommand_of app words)
+taken a words met is faultless matches =
+    (ap (λ x. fault_of x words) (sym is) ∙ faultless (ap is_simple_and_free is ∙ app_free), (matches (ap is_simple is ∙ app_simple)).1 ∙ ap (λ x. subcommand_of x words) is)
+
+pub refused : (a : App) (words : List Text) (kind : ErrorKind) → a ≡ app → (is_simple_and_free a ≡ true → (kind ≡ OutOfMemory) ⊎ IsAmong kind (fault_of a words)) →
+    (kind ≡ OutOfMemory → ⊥) → fault_of app words ≢ []
+refused a words kind is fails other none =
+    ⊎_elim other (λ among. subst (IsAmong kind) (ap (λ x. fault_of x words) is ∙ none) among) (fails (ap is_simple_and_free is ∙ app_free))

@@ -25,7 +25,11 @@ fn argument_of<'a>(alloc: Global, kind: Kind, name: &'a str) -> Arg<'a>
 }
 
 // A command of the table.
-fn form_of<'a>(alloc: Global, name: &'static str, arguments: &[(Kind, &'static str)]) -> Result<Command<'a>, AllocError>
+fn form_of<'a>(
+    alloc: Global,
+    name: &'static str,
+    arguments: &[(Kind, &'static str)],
+) -> Result<Command<'a>, AllocError>
     ensures { IfOk result (λ command. (app_of command ≡ form (name.now, map argument_text arguments.now)) × ((out-Command command).has_globals ≡ false)) }
 {
     let mut command = Command::new(alloc, name);
@@ -50,7 +54,10 @@ fn program<'a>(alloc: Global) -> Result<Command<'a>, AllocError>
 }
 
 /// What `clap` makes of words in which it finds no fault. An error is want of memory.
-pub fn matches_of<'a>(alloc: Global, words: &'a [String]) -> Result<Option<ArgMatches<'a>>, AllocError>
+pub fn matches_of<'a>(
+    alloc: Global,
+    words: &'a [String],
+) -> Result<Option<ArgMatches<'a>>, AllocError>
     ensures { IfOk result (λ found. MatchOption found (fault_of app (map string_bytes words.now) ≢ [])
         (λ matches. (fault_of app (map string_bytes words.now) ≡ []) × (subcommand_rows_of matches ≡ subcommand_of app (map string_bytes words.now)))) }
 {
