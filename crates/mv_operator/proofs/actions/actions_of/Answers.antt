@@ -1,52 +1,16 @@
-use Rattle.std.proofs.Common.{◌≡◌, ◌+◌, ◌-◌, ◌++◌, length, drop, take, refl, sym, ap, ◌∙◌, subst, rules}
-use Rattle.std.specs.Prelude.{IsTrue, replicate}
-use Rattle.std.proofs.lemmas.List.{append-nil, drop_all}
-use Rattle.std.proofs.lemmas.Result.{err_from_is_err_and}
-use Rattle.mv_command.specs.Items.{Ascend}
-use Rattle.mv_ast.specs.Actions.{fits}
-use Rattle.mv_ast.specs.declared.world.Action.TheVariants.{Skip}
-use Rattle.mv_operator.specs.Operator.{actions_from, wrong_item, IsOfWord}
-use Rattle.mv_operator.proofs.Fitting.{flip_fits, flip_words}
-use Rattle.mv_operator.proofs.Acting.{next_item, acting, right_more, none_wrong, first_wrong, all_filled}
+use Rattle.std.proofs.Common.{List, ◌∙◌, subst}
+use Rattle.std.proofs.lemmas.Result.{IfOk-weaker}
+use Rattle.mv_operator.specs.declared.controls.Control.{Control}
+use Rattle.mv_operator.specs.Operator.{AreActions}
+use Rattle.mv_operator.proofs.Fitting.{all_words, all_fit}
 use Rattle.mv_operator.proofs.actions.actions_of.Goals as goal
 
-pub returns-in_default-clause-refused : goal.returns-in_default-clause-refused
-returns-in_default-clause-refused c =
-    let wrong = first_wrong c.args.program.now c.as_slice-item-items.result.now c.loop-item.item-index c.item-item.result c.loop-item-test.true c.item-item.is c.loop-item.invariant.right (sym c.in_default.ensures) in
-    (c.loop-item.item-index, ap (wrong_item c.args.program.now) (sym c.as_slice-item-items.ensures) ∙ wrong, ap (λ n. n + 1) c.loop-item.invariant.counted)
+pub returns-clause-fit : goal.returns-clause-fit
+returns-clause-fit c =
+    let program = c.args.program.now in
+    let items = c.args.items.now in
+    let same = c.as_slice.ensures.value ∙ c.in_ok-switches.ensures in
+    IfOk-weaker c.actions_on.result _ _ (λ actions are. all_fit program items actions.items (subst (λ (s : List Control). AreActions s items actions.items) same are)) c.actions_on.ensures.ok
 
-pub returns-in_err-resize-clause-refused : goal.returns-in_err-resize-clause-refused
-returns-in_err-resize-clause-refused c = let p = err_from_is_err_and c.from_residual.result c.from_residual.ensures.1 in rw (p.1, p.2) tt
-
-pub returns-in_err-push-clause-refused : goal.returns-in_err-push-clause-refused
-returns-in_err-push-clause-refused c = let p = err_from_is_err_and c.from_residual-in_err-push.result c.from_residual-in_err-push.ensures.1 in rw (p.1, p.2) tt
-
-pub returns-clause-ok : goal.returns-clause-ok
-returns-clause-ok c =
-    let items = c.as_slice-item-items.result.now in
-    let right = none_wrong c.args.program.now items c.loop-item.item-index c.loop-item-test.false c.loop-item.invariant.right in
-    record {
-      right = ap (wrong_item c.args.program.now) (sym c.as_slice-item-items.ensures) ∙ right;
-      are = sym (append-nil c.loop-item.actions.items) ∙ ap (λ l. c.loop-item.actions.items ++ actions_from c.args.program.now (length c.loop-item.actions.items) l) (sym (drop_all c.loop-item.item-index items c.loop-item-test.false)) ∙
-          sym c.loop-item.invariant.spelled ∙ ap (actions_from c.args.program.now 0) c.as_slice-item-items.ensures;
-    }
-
-pub loop-item-preserved : goal.loop-item-preserved
-loop-item-preserved c =
-    let p = c.args.program.now in
-    let items = c.as_slice-item-items.result.now in
-    let does = sym c.in-Some.ensures in
-    let long : c.loop-item.actions.len ≡ length c.loop-item.actions.items = search rules in
-    let skips : c.resize.new.self.items ≡ take (c.item-item.result.poll - 1) c.loop-item.actions.items ++ replicate (c.item-item.result.poll - 1 - length c.loop-item.actions.items) Skip =
-    c.in_ok-resize.ensures.items ∙ ap (λ n. take (c.item-item.result.poll - 1) c.loop-item.actions.items ++ replicate (c.item-item.result.poll - 1 - n) Skip) long in
-    let next = next_item (length c.loop-item.actions.items) items c.loop-item.item-index c.item-item.result c.loop-item-test.true c.item-item.is c.loop-item.invariant.ascend in
-    let now = acting p items (actions_from p 0 items) c.loop-item.actions.items c.resize.new.self.items c.push.new.self.items c.loop-item.item-index c.item-item.result c.in-Some.flip
-    c.loop-item-test.true c.item-item.is does next.0 c.loop-item.invariant.spelled skips c.in_ok-push.ensures.items in
-    record {
-      counted = ap (λ n. n + 1) c.loop-item.invariant.counted;
-      ascend = subst (λ n. Ascend n (drop (c.loop-item.item-index + 1) items)) (sym now.0) next.1;
-      spelled = now.1;
-      right = right_more p items c.loop-item.item-index c.item-item.result c.in-Some.flip c.loop-item.invariant.right c.loop-item-test.true c.item-item.is does;
-      fit = all_filled (λ action. IsTrue (fits p action)) c.loop-item.actions.items c.resize.new.self.items c.push.new.self.items (c.item-item.result.poll - 1) (c.item-item.result.poll - 1 - length c.loop-item.actions.items) c.in-Some.flip refl (flip_fits p c.item-item.result c.in-Some.flip does) c.loop-item.invariant.fit skips c.in_ok-push.ensures.items;
-      words = all_filled IsOfWord c.loop-item.actions.items c.resize.new.self.items c.push.new.self.items (c.item-item.result.poll - 1) (c.item-item.result.poll - 1 - length c.loop-item.actions.items) c.in-Some.flip tt (flip_words p c.item-item.result c.in-Some.flip does) c.loop-item.invariant.words skips c.in_ok-push.ensures.items;
-    }
+pub returns-clause-words : goal.returns-clause-words
+returns-clause-words c = IfOk-weaker c.actions_on.result _ _ (λ actions are. all_words c.as_slice.result.now c.args.items.now actions.items are) c.actions_on.ensures.ok
