@@ -15,14 +15,13 @@ use Rattle.mv_descriptors.specs.Guards.{fitting, holds}
 use Rattle.mv_isa.specs.declared.instr.Cause.TheVariants as cause
 use Rattle.mv_isa.specs.Execution.{Outcome, Goes, Calls, Faults, reg}
 use Rattle.mv_fetch.specs.Held.{Held, Room}
-use Rattle.mv_image.specs.Faults.{Rules}
 use Rattle.mv_image.specs.Patched.{variants_before, guards_before, kinds_of, fitting_in, fitting_variant, variant_under}
 use Rattle.mv_image.specs.Spelling.{Fields}
 use Rattle.mv_image.proofs.RowsFit.{functions_fit}
-use Rattle.mv_patch.specs.Orders.{bound_values, bound_now, next_binding, words_now, word_in, ordered_rows, is_ordered, is_known_order, bindings_after, plan_of, first_bindings}
+use Rattle.mv_patch.specs.Orders.{bound_values, bound_now, next_binding, words_now, word_in, ordered_rows, is_ordered, is_known_order, bindings_after, plan_of}
 use Rattle.mv_patch.proofs.Rebinding.{ordered_count}
 use Rattle.mv_machine.specs.Runs.{State, Stop, Going, Exit, Trap, Fault, Request, Exits, Reads, Writes, Traps, Plans, Polls, Unknown, request_of, argument, answered, stopped, live_frames, refused, ordered, planned, act, acted, polled, with_value, environment_call, fetched_step, after, where_going, turn, runs_from, first}
-use Rattle.mv_word_counts.specs.Bound.{AreBound, RunsAreBound}
+use Rattle.mv_word_counts.specs.Bound.{RunsAreBound}
 
 -- ---- values that a variant fits have a row of it
 

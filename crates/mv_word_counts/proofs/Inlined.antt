@@ -1,11 +1,11 @@
 -- An inline body begins with no JAL.
-use Rattle.std.proofs.Common.{arith, ◌≡◌, ◌≢◌, ℕ, ◌+◌, ◌*◌, ◌/◌, ◌%◌, ◌^◌, Bool, true, false, cond, eqb, ltb, List, [], ◌∷◌, Option, Some, None, unwrap_or, slice_index, refl, sym, ap, ◌∙◌, subst}
-use Rattle.std.specs.Prelude.{ℤ, pos, unsigned_abs}
+use Rattle.std.proofs.Common.{arith, ◌≡◌, ◌≢◌, ℕ, ◌+◌, ◌*◌, ◌/◌, ◌%◌, Bool, true, false, cond, eqb, ltb, List, [], ◌∷◌, Option, Some, None, unwrap_or, slice_index}
+use Rattle.std.specs.Prelude.{ℤ, pos}
 use Rattle.mv_isa.specs.declared.instr.Instr.{Instr}
 use Rattle.mv_isa.specs.declared.instr.Instr.TheVariants.{Lui, Addi}
 use Rattle.mv_isa.specs.Code.{nop}
 use Rattle.mv_isa.specs.Encoding.{encode}
-use Rattle.mv_isa.specs.Formats.{i_word, u_word, low_in}
+use Rattle.mv_isa.specs.Formats.{i_word, u_word}
 use Rattle.mv_image.specs.Jumps.{distance, jump}
 use Rattle.mv_ir.specs.declared.body.Body.{Body}
 use Rattle.mv_ir.specs.declared.stm.Stm.{Stm, out-Stm}

@@ -4,10 +4,7 @@ use Rattle.std.specs.Prelude.{codes, nat_lt}
 use Rattle.std.specs.Fmt.{digit_glyph, digits_onto, digits, format_spec, number_padding, padded_integral}
 use Rattle.std.proofs.lemmas.Bool.{ne_eqb}
 use Rattle.std.proofs.lemmas.List.Sums.{sum_by-cons, sum_by-append}
-use Rattle.mv_fetch.specs.Held.{Held}
-use Rattle.mv_image.specs.Faults.{Rules}
 use Rattle.mv_image.specs.Patched.{text_of}
-use Rattle.mv_image.specs.Spelling.{Fields}
 use Rattle.mv_image.proofs.Limits.{is_within}
 use Rattle.mv_image.proofs.PatchLaws.{text_size}
 use Rattle.mv_patch.specs.Pairs.{differing, pair_of}
