@@ -12,8 +12,10 @@
 //!   same actions fit both, and the source tells bytes: after `Ended` and `Trapped` the meaning at the number of
 //!   instructions as its bound has that end, all its output was written and all that it takes was taken. After `Steps`,
 //!   `InputFault` and `OutputFault` it is a part of that output, and no more was taken; after `Steps` no bound for which
-//!   there was time has an end. `Fault` and `Memory` never come. Where no count of faults rose and there was time for a
-//!   bound at which the meaning has ended, the answer is that end.
+//!   there was time has an end. A device fails only where the meaning asks for more: on what was taken before a failed
+//!   read and any one byte more, it takes that one too, and its output is longer than what was written before a failed
+//!   write. `Fault` and `Memory` never come. Where no count of faults rose and there was time for a bound at which the
+//!   meaning has ended, the answer is that end.
 //!
 //! An error is want of memory before the first instruction, with all as before.
 #![tactic(auto)]
