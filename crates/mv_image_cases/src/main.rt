@@ -2,14 +2,13 @@
 //!
 //!     NAME EDIT EDIT ..
 //!
-//! is a row of the input: the image of which the file with that name in `data` has the words in hexadecimal, and what is done to its bytes, in order.
+//! is a row of the input: the image of which the file NAME.txt in `data/` has the words, and what is done to its bytes, in order. Words and bytes are in
+//! hexadecimal, offsets and counts are decimal:
 //!
-//! | Edit | What it does |
-//! |---|---|
-//! | `AT=WORD` | puts the word, in hexadecimal, at the offset |
-//! | `AT:NUMBER` | puts the byte with this number there |
-//! | `<COUNT` | keeps so many bytes from the start |
-//! | `+NUMBER` | puts the byte with this number behind the others |
+//!     AT=WORD    puts the word at the offset
+//!     AT:BYTE    puts the byte at the offset
+//!     <COUNT     keeps so many bytes from the start
+//!     +BYTE      puts the byte behind the others
 //!
 //! Printed is the code and the offset of the refusal, or `read` where the bytes were read as an image and that was written to the same bytes. What is
 //! expected is worked out by `tools/image_rows.py`, from the rules alone.

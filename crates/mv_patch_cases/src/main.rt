@@ -1,5 +1,5 @@
 //! Carries out orders on the image of which `data/image.txt` has the words. It has a switch `s`, whose values are -1 and 3, and two
-//! functions: dp depends on the switch, and has a variant with an inline body for 3, one without for -1, and a site; `g2`
+//! functions: dp depends on the switch, and has a variant with an inline body for 3, one without for -1, and a site; g2
 //! depends on no switch, and has one variant.
 //!
 //!     BEFORE SWITCH LIVE ORDER NUMBER
