@@ -1,7 +1,7 @@
 #!/usr/bin/env python3
 """Images with something wrong in them, and what each is refused for by the rules of docs/image.md: the rows of crates/mv_image_cases.
 
-  image_rows.py                  writes the images and the rows anew
+  image_rows.py                  writes the rows anew, and the images but for the one that `build` made
   image_rows.py PROGRAM COUNT    runs PROGRAM, built of that crate, on COUNT images that are changed at random in up to three places, and prints
                                  those of which it says something else than the rules
 
@@ -308,7 +308,22 @@ def lone_image():
     return [Part("header", header), Part("text", [NOP]), Part("data", [0]), Part("switch", row_of([3, DATA, 6, 1, [9]], 16))], b"one"
 
 
-IMAGES = {"whole": whole_image(), "small": small_image(), "lone": lone_image()}
+def kept_image(name):
+    """An image that the crate has as a file, which stays as it is."""
+    parts = []
+    with open(os.path.join(CRATE, "data", f"{name}.txt"), encoding="utf-8") as it:
+        for line in it.read().splitlines():
+            if line.startswith("# "):
+                parts.append(Part(line[2:], []))
+            else:
+                parts[-1].words.extend(int(word, 16) for word in line.split())
+    parts = [part for part in parts if part.words]
+    names = b"".join(word.to_bytes(4, "little") for word in parts.pop().words)
+    return parts, names[: parts[0].words[10]]
+
+
+IMAGES = {"whole": whole_image(), "small": small_image(), "lone": lone_image(), "lock": kept_image("lock")}
+WRITTEN = ["whole", "small", "lone"]
 
 
 def bytes_of(name):
@@ -414,7 +429,7 @@ def all_rows():
 
 
 def write_rows():
-    for name in IMAGES:
+    for name in WRITTEN:
         with open(os.path.join(CRATE, "data", f"{name}.txt"), "w", encoding="utf-8") as it:
             it.write(file_of(name))
     rows = all_rows()
@@ -442,7 +457,7 @@ def random_edit(content):
 
 
 def random_row():
-    name = random.choice(["whole", "whole", "whole", "lone", "small"])
+    name = random.choice(["whole", "whole", "whole", "lock", "lone", "small"])
     content = bytes_of(name)
     edits = [random_edit(content) for _ in range(random.randint(1, 3))]
     ends = [[], [], [], [], [f"<{random.randrange(len(content))}"], [f"+{random.randrange(256):02x}"]]
