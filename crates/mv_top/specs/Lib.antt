@@ -1,3 +1,9 @@
-pub mod Lines
-pub mod Texts
+pub mod Outside
+pub mod Running
+pub mod Building
+pub mod Executing
+pub mod Listing
+pub mod Evaluating
+pub mod Generating
+pub mod Decisions
 pub mod Outcomes

@@ -1,7 +1,7 @@
 //! How a command ended.
 
 ghost use Rattle.std.specs.Prelude.{◌≡◌, Some};
-ghost use Rattle.mv_top.specs.Lines.{cause_name, is_silent, number_of, status_text};
+ghost use Rattle.mv_notes.specs.Lines.{cause_name, is_silent, number_of, status_text};
 
 use mv_front::Refusal;
 use mv_isa::Cause;
@@ -28,8 +28,12 @@ pub enum Status {
     ShelfFault,
     /// The step limit was reached, or the bound of an evaluation, and the program goes on.
     Steps,
+    /// The bytes are no image: 10 where a place is missing, 11 where a field breaks a rule, 12 where a byte follows the end, with the offset of that place.
+    BadImage(u8, u64),
     /// The instruction at this address faults. What `run` builds never does where the input tells its bytes.
     MachineFault(u32, Cause),
+    /// A command that runs no program was carried out.
+    Done,
 }
 
 // The word for a cause in the last line.
@@ -48,7 +52,7 @@ fn cause_name(cause: Cause) -> &'static str
 }
 
 impl Status {
-    /// The status of the process, which tells the kind of the end alone: 0 for a program that ended, whatever its own status is.
+    /// The status of the process, which tells the kind of the end alone: 0 for a program that ended, whatever its own status is, and for `Done`.
     pub fn number(&self) -> u8
         ensures { result ≡ number_of self.now }
     {
@@ -62,11 +66,13 @@ impl Status {
             Status::OutputFault => 6,
             Status::ShelfFault => 7,
             Status::Steps => 8,
+            Status::BadImage(_, _) => 9,
             Status::MachineFault(_, _) => 10,
+            Status::Done => 0,
         }
     }
 
-    /// Whether no last line is written with this status.
+    /// Whether nothing is written to the notes with this status.
     pub(crate) fn is_silent(&self) -> bool
         ensures { result ≡ is_silent self.now }
     {
@@ -88,11 +94,13 @@ impl fmt::Display for Status {
             Status::OutputFault => write!(f, "output fault"),
             Status::ShelfFault => write!(f, "shelf fault"),
             Status::Steps => write!(f, "steps"),
+            Status::BadImage(code, offset) => write!(f, "bad image {code} {offset}"),
             Status::MachineFault(address, cause) => write!(
                 f,
                 "machine fault 0x{address:08x} {}",
                 cause_name(*cause)
             ),
+            Status::Done => write!(f, "done"),
         }
     }
 }

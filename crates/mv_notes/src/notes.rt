@@ -3,8 +3,7 @@
 ghost use Rattle.std.specs.Prelude.{◌≡◌, ◌++◌, [], IfOk, if◌then◌else◌};
 ghost use Rattle.mv_list.specs.Bindings.{bindings_text};
 ghost use Rattle.mv_list.specs.Changes.{patched_text};
-ghost use Rattle.mv_refine.specs.Environment.{writing};
-ghost use Rattle.mv_top.specs.Lines.{asked_lines, is_silent, last_line, owed, Noted};
+ghost use Rattle.mv_notes.specs.Lines.{asked_lines, owed, Noted};
 
 use crate::status::Status;
 use mv_command::RunOptions;
@@ -17,14 +16,16 @@ use std::alloc::{AllocError, Global};
 
 /// What a command came to: its status, and the lines that it was asked for.
 #[derive(Drop)]
-pub(crate) struct Performed {
-    pub(crate) status: Status,
-    pub(crate) lines: Vec<u8>,
+pub struct Performed {
+    /// The status that is due.
+    pub status: Status,
+    /// The lines, each with its line feed.
+    pub lines: Vec<u8>,
 }
 
 impl Performed {
     /// A status alone.
-    pub(crate) fn alone(alloc: Global, status: Status) -> Performed
+    pub fn alone(alloc: Global, status: Status) -> Performed
         ensures status { result.status ≡ status }
         ensures lines { result.lines.items ≡ [] }
     {
@@ -67,8 +68,8 @@ fn word_lines(
     }
 }
 
-/// The lines that a run was asked for.
-pub(crate) fn asked_lines(
+/// The lines that a run is asked for, of its image and of the machine as it stopped.
+pub fn lines_of_run(
     alloc: Global,
     options: &RunOptions,
     image: &Image,
@@ -82,30 +83,22 @@ pub(crate) fn asked_lines(
     Ok(lines)
 }
 
-// The last line, where there is one.
-fn last_line(alloc: Global, status: Status) -> Result<Vec<u8>, AllocError>
-    ensures { IfOk result (λ line. line.items ≡ (if is_silent status then [] else last_line status)) }
-{
-    if status.is_silent() {
-        return Ok(Vec::new(alloc));
-    }
-    let line = format!(in alloc; "{status}\n")?;
-    Vec::from_slice(alloc, line.as_str().as_bytes())
-}
-
-// The lines, and the last line behind them.
+// The lines, and the last line behind them; nothing where there is no last line.
 fn owed(alloc: Global, performed: Performed) -> Result<Vec<u8>, AllocError>
     ensures { IfOk result (λ text. text.items ≡ owed performed.lines.items performed.status) }
 {
     let Performed { status, mut lines } = performed;
-    let last = last_line(alloc, status)?;
-    lines.extend_from_slice(last.as_slice())?;
+    if status.is_silent() {
+        return Ok(Vec::new(alloc));
+    }
+    let line = format!(in alloc; "{status}\n")?;
+    lines.extend_from_slice(line.as_str().as_bytes())?;
     Ok(lines)
 }
 
 /// Writes what the notes are owed, and gives the status that then stands.
-pub(crate) fn report<N: Sink>(alloc: Global, performed: Performed, notes: &mut N) -> Status
-    ensures { Noted performed.lines.items performed.status (writing (N.written notes.old) (N.faults notes.old)) (writing (N.written notes.new) (N.faults notes.new)) result }
+pub fn report<N: Sink>(alloc: Global, performed: Performed, notes: &mut N) -> Status
+    ensures { Noted performed.lines.items performed.status (N.written notes.old) (N.written notes.new) (N.faults notes.old) (N.faults notes.new) result }
 {
     let status = performed.status;
     let Ok(text) = owed(alloc, performed) else {
