@@ -1,16 +1,19 @@
 //! The actions of a list of items.
 
 ghost use Rattle.std.specs.Prelude.{◌≡◌, ◌<◌, ◌^◌, All, IsTrue, IfOk, IfErr, length, slice_get};
-ghost use Rattle.std.specs.Option.{option_copied};
 ghost use Rattle.mv_num.specs.Words.{word_of};
 ghost use Rattle.mv_ast.specs.Actions.{fits};
 ghost use Rattle.mv_command.specs.Items.{Ascend};
-ghost use Rattle.mv_operator.specs.Operator.{is_of_kind, is_named, switch_named, kind_of_switch, flip_of, IsActions, IsRefusedFor, IsOfWord};
+ghost use Rattle.mv_machine.specs.Actions.{fits as fits_rows};
+ghost use Rattle.mv_operator.specs.Operator.{is_of_kind, is_named, switch_named, kind_of_switch, flip_of, AreActions, AreRefusedFor, IsActions, IsRefusedFor, IsImageActions, IsImageRefusedFor, IsOfWord};
 
+use crate::controls::{Control, controls_in, controls_of};
 use crate::error::ActionsError;
-use mv_ast::program::{CType, Program, Switch};
+use mv_ast::program::Program;
 use mv_ast::world::Action;
 use mv_command::Item;
+use mv_image::Image;
+use mv_image::facts::within_limits;
 use mv_num::kind::Kind;
 use mv_num::list::List;
 use std::alloc::Global;
@@ -39,43 +42,33 @@ fn word_of(value: i64) -> u32
     value.rem_euclid(1 << 32) as u32
 }
 
-fn is_named(program: &Program, name: &[u8], switch: &Switch) -> bool
-    ensures { result ≡ is_named program.now name.now switch.now }
+fn is_named(name: &[u8], switch: &Control) -> bool
+    ensures { result ≡ is_named name.now switch.now }
 {
-    match program.globals.get(switch.global as usize) {
-        Some(global) => global.name.bytes() == name,
-        None => false,
-    }
+    switch.name.bytes() == name
 }
 
 // The number of the first switch of this name.
-fn switch_named(program: &Program, name: &[u8]) -> Option<usize>
-    ensures { result ≡ switch_named program.now name.now }
+fn switch_named(switches: &[Control], name: &[u8]) -> Option<usize>
+    ensures { result ≡ switch_named switches.now name.now }
 {
-    let switches = program.switches.as_slice();
-    switches
-        .iter()
-        .position(|switch| is_named(program, name, switch))
+    switches.iter().position(|switch| is_named(name, switch))
 }
 
 // The type of a switch.
-fn kind_of(program: &Program, switch: usize) -> Option<Kind>
-    ensures { result ≡ kind_of_switch program.now (slice_get program.now.switches switch) }
+fn kind_of_switch(switches: &[Control], switch: usize) -> Option<Kind>
+    ensures { result ≡ kind_of_switch (slice_get switches.now switch) }
 {
-    let switch = program.switches.get(switch)?;
-    match program.globals.get(switch.global as usize)?.ctype {
-        CType::Scalar(kind) => Some(kind),
-        CType::Void | CType::Pointer(_) => None,
-    }
+    switches.get(switch)?.kind
 }
 
 // What an item does.
-fn flip_of(program: &Program, item: &Item) -> Option<Action>
-    requires { length program.now.switches < 2 ^ 32 }
-    ensures { result ≡ flip_of program.now item.now }
+fn flip_of(switches: &[Control], item: &Item) -> Option<Action>
+    requires { length switches.now < 2 ^ 32 }
+    ensures { result ≡ flip_of switches.now item.now }
 {
-    let switch = switch_named(program, item.name.bytes())?;
-    let kind = kind_of(program, switch)?;
+    let switch = switch_named(switches, item.name.bytes())?;
+    let kind = kind_of_switch(switches, switch)?;
     if !is_of_kind(kind, item.value) {
         return None;
     }
@@ -83,6 +76,30 @@ fn flip_of(program: &Program, item: &Item) -> Option<Action>
         switch: switch as u32,
         value: word_of(item.value),
     })
+}
+
+// The actions of some items on these switches.
+fn actions_on(
+    alloc: Global,
+    switches: &[Control],
+    items: &List<Item>,
+) -> Result<Vec<Action>, ActionsError>
+    requires few { length switches.now < 2 ^ 32 }
+    requires ascend { Ascend 0 items.now }
+    ensures ok { IfOk result (λ actions. AreActions switches.now items.now actions.items) }
+    ensures refused { IfErr result (λ error. AreRefusedFor switches.now items.now error) }
+{
+    let mut actions = Vec::new(alloc);
+    let mut number = 0;
+    for item in items.as_slice() {
+        number += 1;
+        let Some(flip) = flip_of(switches, item) else {
+            return Err(ActionsError::Refused(number));
+        };
+        actions.resize(item.poll as usize - 1, Action::Skip)?;
+        actions.push(flip)?;
+    }
+    Ok(actions)
 }
 
 /// The actions of some items, whose polls ascend. A refusal names the first item that does nothing; all other errors are want of memory.
@@ -98,15 +115,24 @@ pub fn actions_of(
     ensures words { IfOk result (λ actions. All IsOfWord actions.items) }
     ensures refused { IfErr result (λ error. IsRefusedFor program.now items.now error) }
 {
-    let mut actions = Vec::new(alloc);
-    let mut number = 0;
-    for item in items.as_slice() {
-        number += 1;
-        let Some(flip) = flip_of(program, item) else {
-            return Err(ActionsError::Refused(number));
-        };
-        actions.resize(item.poll as usize - 1, Action::Skip)?;
-        actions.push(flip)?;
-    }
-    Ok(actions)
+    let switches = controls_of(alloc, program)?;
+    actions_on(alloc, switches.as_slice(), items)
+}
+
+/// The actions of some items on the switches of an image, whose polls ascend. A refusal names the first item that does nothing; all other
+/// errors are want of memory.
+pub fn actions_of_image(
+    alloc: Global,
+    image: &Image,
+    items: &List<Item>,
+) -> Result<Vec<Action>, ActionsError>
+    requires { Ascend 0 items.now }
+    ensures ok { IfOk result (λ actions. IsImageActions image.now items.now actions.items) }
+    ensures fit { IfOk result (λ actions. All (λ action. IsTrue (fits_rows image.now.switches action)) actions.items) }
+    ensures words { IfOk result (λ actions. All IsOfWord actions.items) }
+    ensures refused { IfErr result (λ error. IsImageRefusedFor image.now items.now error) }
+{
+    within_limits(image);
+    let switches = controls_in(alloc, image)?;
+    actions_on(alloc, switches.as_slice(), items)
 }

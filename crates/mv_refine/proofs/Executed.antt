@@ -1,6 +1,7 @@
 -- What the run of an image does that behaves as a program means.
 use Rattle.std.proofs.Common.{◌≡◌, ⊎_elim, ℕ, ◌^◌, ◌<◌, ◌≤◌, List, take, Option, Some, None, refl, sym, ap, ◌∙◌, subst, arith}
-use Rattle.std.specs.Prelude.{slice_index, All, IfSome, IsTrue}
+use Rattle.std.specs.Prelude.{slice_index, All, IfSome, IsTrue, Result, Ok, Err}
+use Rattle.std.specs.declared.alloc.AllocError.{AllocError}
 use Rattle.std.proofs.lemmas.Bool.{cases_lt}
 use Rattle.std.proofs.lemmas.List.Elements.{All-weaker}
 use Rattle.mv_ast.specs.Actions.{fits}
@@ -25,7 +26,9 @@ use Rattle.mv_meaning.specs.Meaning.{mean}
 use Rattle.mv_meaning.proofs.Bounds.{bound_extends}
 use Rattle.mv_meaning.proofs.Growing.{Begins-trans}
 use Rattle.mv_refine.specs.Environment.{Environment, Took, Wrote}
-use Rattle.mv_refine.specs.Execution.{SameFit}
+use Rattle.mv_build.specs.declared.built.Built.{Built}
+use Rattle.mv_refine.specs.declared.execution.Execution.{Execution}
+use Rattle.mv_refine.specs.Execution.{SameFit, RunsImage, Executes}
 use Rattle.mv_refine.specs.Run.{IsDone, Stands, StandsBefore, Runs}
 use Rattle.mv_refine.specs.Meant.{DoesAll, DoesPart, KeepsUp, DoesOn, DoesFrom, Does, IsAnswer, DecidesOn, DecidesFrom, Decides}
 
@@ -122,7 +125,7 @@ module _ (p : Program) (image : Fields) (actions : List Action) (steps : ℕ) (b
 -- ---- what a run of an image does that behaves as a program means
 
 -- actions that fit the image fit the program
-pub fit_program : (p : Program) (image : Fields) → SameFit p image → (actions : List Action) → All (λ a. IsTrue (image_actions.fits image.switches a)) actions → All (λ a. IsTrue (fits p a)) actions
+fit_program : (p : Program) (image : Fields) → SameFit p image → (actions : List Action) → All (λ a. IsTrue (image_actions.fits image.switches a)) actions → All (λ a. IsTrue (fits p a)) actions
 fit_program p image same actions = All-weaker (λ a. IsTrue (image_actions.fits image.switches a)) (λ a. IsTrue (fits p a)) (λ a h. subst IsTrue (same a) h) actions
 
 module _ (p : Program) (image : Fields) (behaves : BehavesAlways p image) (actions : List Action) (words : All IsOfWord actions) (fit : All (λ a. IsTrue (fits p a)) actions) (steps : ℕ) (before after : Environment) (Heard : List Event → Type 0) (machine : Snapshot) where
@@ -205,8 +208,21 @@ module _ (p : Program) (image : Fields) (behaves : BehavesAlways p image) (actio
     decides_from None told = tt
     decides_from (Some bytes) told = λ are. decides p image actions steps before after Heard machine bytes stopped (does bytes told are stopped runs)
 
-    pub run_does : Does p image actions steps before after Heard machine stopped
+    run_does : Does p image actions steps before after Heard machine stopped
     run_does = does_from before.input.left refl
 
-    pub run_decides : Decides p actions steps before after stopped
+    run_decides : Decides p actions steps before after stopped
     run_decides = decides_from before.input.left refl
+
+-- ---- what a run of the image of a program that was built is
+
+pub executes : (built : Built) (actions : List Action) (words : All IsOfWord actions) (fit : All (λ a. IsTrue (image_actions.fits built.image.switches a)) actions) (steps : ℕ) (before after : Environment) (Heard : List Event → Type 0) →
+    (result : Result Execution AllocError) → RunsImage built.image actions steps before after Heard result → Executes built actions steps before after Heard result
+executes built actions words fit steps before after Heard (Ok e) runs =
+    let p = built.program in
+    let image = built.image in record {
+      runs = runs;
+      does = λ behaves same. run_does p image behaves actions words (fit_program p image same actions fit) steps before after Heard e.machine e.stopped runs;
+      decides = λ behaves same. run_decides p image behaves actions words (fit_program p image same actions fit) steps before after Heard e.machine e.stopped runs;
+    }
+executes built actions words fit steps before after Heard (Err why) none = none

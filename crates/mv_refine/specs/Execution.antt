@@ -1,4 +1,4 @@
--- What an execution of a program that was built is.
+-- What a run of an image is, and an execution of a program that was built.
 use Rattle.std.specs.Prelude.{ℕ, ◌≡◌, List, [], Result, Ok, Err}
 use Rattle.std.specs.declared.alloc.AllocError.{AllocError}
 use Rattle.mv_ast.specs.declared.world.Action.{Action}
@@ -17,6 +17,12 @@ use Rattle.mv_refine.specs.Run.{Runs}
 -- the same actions fit an image and a program
 abbrev pub SameFit : Program → Fields → Type 0
 SameFit p image = (action : Action) → machine.fits image.switches action ≡ source.fits p action
+
+module _ (image : Fields) (actions : List Action) (steps : ℕ) (before after : Environment) (Heard : List Event → Type 0) where
+  -- one run of an image is what was done, or there was no memory before its first instruction, with all as before
+  abbrev pub RunsImage : Result Execution AllocError → Type 0
+  RunsImage (Ok e) = Runs image actions before after Heard e.machine steps e.stopped
+  RunsImage (Err why) = (after ≡ before) × Heard []
 
 module _ (built : Built) (actions : List Action) (steps : ℕ) (before after : Environment) (Heard : List Event → Type 0) where
   -- One run of the image is what was done. Where the image behaves as the program means, and the same actions fit both, this is what the program means with

@@ -1,6 +1,7 @@
-//! A run of an image that does what its program means.
+//! Runs of images, which do what their programs mean.
 //!
-//! `execute` starts a machine on the image of a `Built` and runs it. Its contract has two parts.
+//! `run_image` starts a machine on an image and runs it. Its contract is *the run*, and trusts no image. `execute` does so with the image of
+//! a `Built`. Its contract has two parts.
 //!
 //! - *The run* (`specs/Run.antt`): one run of that image by the machine's definition is what was done: its stop after the
 //!   given number of instructions is the answer (`Steps` where it goes on), the output grew by what it wrote, the input
@@ -23,17 +24,43 @@ ghost use Rattle.mv_machine.specs.Actions.{fits};
 ghost use Rattle.mv_probe.specs.Fates.{Fates};
 ghost use Rattle.mv_probe.specs.Hearing.{hearing, object_at, Becomes, IsPatient};
 ghost use Rattle.mv_refine.specs.Environment.{environment, reading, writing};
-ghost use Rattle.mv_refine.specs.Execution.{Executes};
+ghost use Rattle.mv_refine.specs.Execution.{Executes, RunsImage};
 
 mod execution;
 
 pub use execution::Execution;
 use mv_ast::world::Action;
 use mv_build::Built;
+use mv_image::Image;
 use mv_io::{Sink, Source};
 use mv_machine::Machine;
 use mv_probe::{FetchOracle, Probe};
 use std::alloc::{AllocError, Global};
+
+/// Runs an image for at most so many instructions. A poll takes the next of the actions, and each probe is told each changed binding. An error is
+/// want of memory for the machine, before the first instruction.
+pub fn run_image<I: Source, O: Sink>(
+    alloc: Global,
+    image: &Image,
+    steps: u64,
+    source: &mut I,
+    sink: &mut O,
+    oracle: &mut Box<dyn FetchOracle>,
+    probes: &mut Vec<Box<dyn Probe>>,
+    actions: &[Action],
+) -> Result<Execution, AllocError>
+    requires patient { All (λ probe. IsPatient (hearing (told probe) (patience probe))) probes.old.items }
+    requires fit { All (λ action. IsTrue (fits image.now.switches action)) actions.now }
+    ensures { RunsImage image.now actions.now steps
+        (environment (reading (I.left source.old) (I.faults source.old)) (writing (O.written sink.old) (O.faults sink.old)) (way oracle.old))
+        (environment (reading (I.left source.new) (I.faults source.new)) (writing (O.written sink.new) (O.faults sink.new)) (way oracle.new))
+        (λ events. Fates (Becomes (λ probe. object_at probe.ptr probe.vtable) (λ probe. hearing (told probe) (patience probe)) events) probes.old.items probes.new.items)
+        result }
+{
+    let mut machine = Machine::start(alloc, image)?;
+    let stopped = machine.run(steps, source, sink, oracle, probes, actions);
+    Ok(Execution { machine, stopped })
+}
 
 /// Runs the image of a program for at most so many instructions. A poll takes the next of the actions, and each probe is told each changed
 /// binding. An error is want of memory for the machine, before the first instruction.
@@ -56,9 +83,16 @@ pub fn execute<I: Source, O: Sink>(
         result }
 {
     are_of_words(actions);
-    let mut machine = Machine::start(alloc, &built.image)?;
-    let stopped = machine.run(steps, source, sink, oracle, probes, actions);
-    Ok(Execution { machine, stopped })
+    run_image(
+        alloc,
+        &built.image,
+        steps,
+        source,
+        sink,
+        oracle,
+        probes,
+        actions,
+    )
 }
 
 /// The values of actions have 32 bits. The walk changes nothing; it is for the clause.
