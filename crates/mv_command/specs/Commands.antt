@@ -1,57 +1,111 @@
--- The words that are a command.
-use Rattle.std.specs.Prelude.{ℕ, ◌≡◌, ◌≤◌, ◌++◌, Bool, true, false, Option, Some, None, List, [], ◌∷◌}
+-- The words that are a command: `clap` assigns them to the operands and the options of the table, and the texts of numbers and lists
+-- are read here.
+use Rattle.std.specs.Prelude.{ℕ, ◌≡◌, ◌≤◌, Bool, true, false, Option, Some, None, List, [], ◌∷◌, fold, codes, MatchOption}
+use Rattle.std.specs.Option.{option_map_or}
+use Rattle.std.specs.Str.{bytes_eq}
 use Rattle.std.specs.Fmt.{decimal}
+use Rattle.clap.specs.Walk.{Row, Rule, Text, first_of}
+use Rattle.clap.specs.Simple.{App, new_app, new_rule, on_top, subcommand_of, with_rule, with_subcommand}
+use Rattle.clap.specs.Faults.{fault_of}
+use Rattle.clap.specs.declared.builder.action.ArgAction.TheVariants.{SetTrue}
 use Rattle.mv_command.specs.declared.items.Item.{Item}
+use Rattle.mv_command.specs.declared.command.Command.{Command}
+use Rattle.mv_command.specs.declared.command.Command.TheVariants as command
 use Rattle.mv_command.specs.declared.command.RunOptions.{RunOptions}
-use Rattle.mv_command.specs.declared.command.Task.{Task}
-use Rattle.mv_command.specs.declared.command.Task.TheVariants.{Run, Eval}
-use Rattle.mv_command.specs.declared.options.TheConstants.{RUN, STEPS, DEFAULT_STEPS, MOST_STEPS, AT, BINDINGS, WORDS, EVAL, BOUND, MOST_BOUND}
+use Rattle.mv_command.specs.declared.options.Form.{Form}
+use Rattle.mv_command.specs.declared.options.Argument.{Argument}
+use Rattle.mv_command.specs.declared.options.Argument.TheVariants.{Operand, Valued, Flag}
+use Rattle.mv_command.specs.declared.options.TheConstants.{PROGRAM, COMMANDS, RUN, BUILD, EXEC, LIST, EVAL, GEN, FILE, IMAGE, NUMBER, MOST_NUMBER, STEPS, DEFAULT_STEPS, MOST_STEPS, AT, BINDINGS, WORDS, BOUND, MOST_BOUND, SOURCE}
 use Rattle.mv_command.specs.Items.{IsList}
 
--- an option with its value, or nothing
-abbrev pub valued : List ℕ → Option (List ℕ) → List (List ℕ)
-valued name None = []
-valued name (Some value) = name ∷ value ∷ []
+-- ---- what clap is told of the table
 
--- an option without a value, or nothing
-abbrev pub flagged : List ℕ → Bool → List (List ℕ)
-flagged name false = []
-flagged name true = name ∷ []
+-- a word by itself; `--NAME VALUE` or `--NAME=VALUE`; `--NAME`
+abbrev pub rule : Argument → Rule
+rule (Operand name) = new_rule name.now
+rule (Valued name) = record (new_rule name.now) { long = Some name.now }
+rule (Flag name) = record (new_rule name.now) { long = Some name.now; action = Some SetTrue }
+
+abbrev pub with_argument : App → Argument → App
+with_argument a argument = with_rule a (rule argument)
+
+-- a command of the table
+abbrev pub form_app : Form → App
+form_app form = fold with_argument (new_app form.name.now) form.arguments.now
+
+abbrev pub with_form : App → Form → App
+with_form a form = with_subcommand a (form_app form).top
+
+-- the table, read from the first word on and without help
+unfoldable pub app : App
+app = fold with_form (on_top (λ s. record s { no_binary_name = true; disable_help_flag = true; disable_help_subcommand = true }) (new_app PROGRAM.now)) COMMANDS
+
+-- ---- what is read of the values
+
+-- the text of an operand or of an option with a value, where it stands among the words
+abbrev pub given : Text → List Row → Option Text
+given = first_of
+
+-- whether an option without a value stands among the words
+abbrev pub is_set : Text → List Row → Bool
+is_set name rows = option_map_or (λ text. bytes_eq text (codes "true")) (given name rows) false
 
 -- the step limit that this value gives, or that none gives
-abbrev pub IsLimit : Option (List ℕ) → ℕ → Type 0
+abbrev pub IsLimit : Option Text → ℕ → Type 0
 IsLimit None steps = steps ≡ DEFAULT_STEPS
 IsLimit (Some text) steps = (text ≡ decimal steps) × (1 ≤ steps) × (steps ≤ MOST_STEPS)
 
 -- the items that this list has, or that none gives
-abbrev pub AreItems : Option (List ℕ) → List Item → Type 0
+abbrev pub AreItems : Option Text → List Item → Type 0
 AreItems None items = items ≡ []
 AreItems (Some text) items = IsList text items
 
 -- `[--steps N] [--at LIST] [--bindings] [--words]`
-pub record IsRun (words : List (List ℕ)) (options : RunOptions) : Type 0 where
-  pub steps : Option (List ℕ)
-  pub list : Option (List ℕ)
-  pub spelled : words ≡ valued STEPS.now steps ++ (valued AT.now list ++ (flagged BINDINGS.now options.bindings ++ flagged WORDS.now options.words))
-  pub limit : IsLimit steps options.steps
-  pub items : AreItems list options.items
+pub record AreOptions (rows : List Row) (options : RunOptions) : Type 0 where
+  pub limit : IsLimit (given STEPS.now rows) options.steps
+  pub items : AreItems (given AT.now rows) options.items
+  pub bindings : options.bindings ≡ is_set BINDINGS.now rows
+  pub words : options.words ≡ is_set WORDS.now rows
 
--- `--bound K`
-pub record IsEval (words : List (List ℕ)) (bound : ℕ) : Type 0 where
-  pub spelled : words ≡ valued BOUND.now (Some (decimal bound))
-  pub small : bound ≤ MOST_BOUND
+-- ---- commands
 
--- Words behind a file ask for this of the command with this name; numbers are decimal numerals.
-pub data IsTask (name : List ℕ) (words : List (List ℕ)) : Task → Type 0 where
-  run : (options : RunOptions) → name ≡ RUN.now → IsRun words options → IsTask name words (Run options)
-  eval : (bound : ℕ) → name ≡ EVAL.now → IsEval words bound → IsTask name words (Eval bound)
+-- what a command asks for
+pub data Asked : Type 0 where
+  Runs : (file : List ℕ) → RunOptions → Asked
+  Builds : (file image : List ℕ) → Asked
+  Executes : (image : List ℕ) → RunOptions → Asked
+  Lists : (image : List ℕ) → Asked
+  Evaluates : (file : List ℕ) → (bound : ℕ) → Asked
+  Generates : (number : ℕ) → (source : Bool) → Asked
 
--- The words are the command that does this with this file: its name, the file and its options.
-pub record IsCommand (words : List (List ℕ)) (file : List ℕ) (task : Task) : Type 0 where
-  pub name : List ℕ
-  pub options : List (List ℕ)
-  pub spelled : words ≡ name ∷ file ∷ options
-  pub asks : IsTask name options task
+abbrev pub asked : Command → Asked
+asked (command.Run file options) = Runs file.now options
+asked (command.Build file image) = Builds file.now image.now
+asked (command.Exec image options) = Executes image.now options
+asked (command.List image) = Lists image.now
+asked (command.Eval file bound) = Evaluates file.now bound
+asked (command.Gen number source) = Generates number source
 
-abbrev pub IsNoCommand : List (List ℕ) → Type 0
-IsNoCommand words = (file : List ℕ) (task : Task) → IsCommand words file task → ⊥
+-- The command with this name, with these values, asks for this; numbers are decimal numerals.
+abbrev pub Asks : (name : Text) → List Row → Asked → Type 0
+Asks name rows (Runs file options) = (name ≡ RUN.now) × (given FILE.now rows ≡ Some file) × AreOptions rows options
+Asks name rows (Builds file image) = (name ≡ BUILD.now) × (given FILE.now rows ≡ Some file) × (given IMAGE.now rows ≡ Some image)
+Asks name rows (Executes image options) = (name ≡ EXEC.now) × (given IMAGE.now rows ≡ Some image) × AreOptions rows options
+Asks name rows (Lists image) = (name ≡ LIST.now) × (given IMAGE.now rows ≡ Some image)
+Asks name rows (Evaluates file bound) = (name ≡ EVAL.now) × (given FILE.now rows ≡ Some file) × (given BOUND.now rows ≡ Some (decimal bound)) × (bound ≤ MOST_BOUND)
+Asks name rows (Generates number source) = (name ≡ GEN.now) × (given NUMBER.now rows ≡ Some (decimal number)) × (number ≤ MOST_NUMBER) × (source ≡ is_set SOURCE.now rows)
+
+-- The words are a command that asks for this: clap has no fault to find with them, and what it gives the command that they name asks for it.
+pub record IsCommand (words : List Text) (a : Asked) : Type 0 where
+  pub name : Text
+  pub rows : List Row
+  pub faultless : fault_of app words ≡ []
+  pub read : subcommand_of app words ≡ Some (name, rows)
+  pub asks : Asks name rows a
+
+-- What is read of these values of the command with this name: what they ask for, or nothing where they ask for nothing.
+abbrev pub IsReading : (name : Text) → List Row → Option Command → Type 0
+IsReading name rows found = MatchOption found ((a : Asked) → Asks name rows a → ⊥) (λ command. Asks name rows (asked command))
+
+abbrev pub IsNoCommand : List Text → Type 0
+IsNoCommand words = (a : Asked) → IsCommand words a → ⊥

@@ -1,38 +1,69 @@
 //! The command that words are.
 
-ghost use Rattle.std.specs.Prelude.{ℕ, ◌≡◌, ◌≢◌, ◌++◌, ◌∷◌, map, IfOk, IfNone, MatchOption};
+ghost use Rattle.std.specs.Prelude.{ℕ, ◌≡◌, IfOk, MatchOption, map};
 ghost use Rattle.std.specs.Option.{option_copied};
-ghost use Rattle.std.specs.Bool.{OnFalse};
 ghost use Rattle.std.specs.String.{string_bytes};
-ghost use Rattle.mv_command.specs.Commands.{valued, flagged, IsLimit, AreItems, IsRun, IsEval, IsTask, IsCommand, IsNoCommand};
+ghost use Rattle.clap.specs.Walk.{rows_of};
+ghost use Rattle.clap.specs.Matches.{found_of};
+ghost use Rattle.mv_command.specs.Commands.{given, is_set, IsLimit, AreItems, AreOptions, IsReading, IsCommand, IsNoCommand, asked};
 
 use crate::items::{Item, list_of};
 use crate::number::number;
 use crate::options::{
-    AT, BINDINGS, BOUND, DEFAULT_STEPS, EVAL, MOST_BOUND, MOST_STEPS, RUN, STEPS, WORDS,
+    AT, BINDINGS, BOUND, BUILD, DEFAULT_STEPS, EVAL, EXEC, FILE, GEN, IMAGE, LIST, MOST_BOUND,
+    MOST_NUMBER, MOST_STEPS, NUMBER, RUN, SOURCE, STEPS, WORDS,
 };
+use crate::program::matches_of;
+use clap::ArgMatches;
 use mv_num::list::List;
 use std::alloc::{AllocError, Global};
 
-/// A command: what is done with a file.
+/// A command, as the words ask for it.
 #[derive(Drop)]
-pub struct Command<'a> {
-    /// The name of the file.
-    pub file: &'a str,
-    /// What is done with it.
-    pub task: Task,
+pub enum Command<'a> {
+    /// Compiles the file and runs it.
+    Run {
+        /// The name of the file.
+        file: &'a str,
+        /// How it is run.
+        options: RunOptions,
+    },
+    /// Compiles the file and saves the image.
+    Build {
+        /// The name of the file.
+        file: &'a str,
+        /// The name under which the image is saved.
+        image: &'a str,
+    },
+    /// Runs the image.
+    Exec {
+        /// The name of the image.
+        image: &'a str,
+        /// How it is run.
+        options: RunOptions,
+    },
+    /// Shows what stands in the image.
+    List {
+        /// The name of the image.
+        image: &'a str,
+    },
+    /// Evaluates what the file means.
+    Eval {
+        /// The name of the file.
+        file: &'a str,
+        /// The bound of the evaluation.
+        bound: u32,
+    },
+    /// Makes a program.
+    Gen {
+        /// Which one.
+        number: u32,
+        /// Whether its text is asked for, in place of its run.
+        source: bool,
+    },
 }
 
-/// What a command does with its file.
-#[derive(Drop)]
-pub enum Task {
-    /// Runs it.
-    Run(RunOptions),
-    /// Evaluates it at this bound.
-    Eval(u32),
-}
-
-/// How a file is run.
+/// How a file or an image is run.
 #[derive(Drop)]
 pub struct RunOptions {
     /// The greatest number of instructions, from 1 to 1,000,000,000,000.
@@ -43,28 +74,6 @@ pub struct RunOptions {
     pub bindings: bool,
     /// Whether the words of text that aren't as they were built are shown.
     pub words: bool,
-}
-
-// The value of an option at the front, and what follows it.
-fn valued<'a>(name: &str, words: &'a [String]) -> (Option<&'a str>, &'a [String])
-    ensures words { map string_bytes words.now ≡ valued name.now (option_copied result.0) ++ map string_bytes result.1.now }
-    ensures none { IfNone result.0 ((value : List ℕ) (rest : List (List ℕ)) → map string_bytes words.now ≢ name.now ∷ value ∷ rest) }
-{
-    match words {
-        [first, value, rest @ ..] if first.as_str() == name => (Some(value.as_str()), rest),
-        _ => (None, words),
-    }
-}
-
-// Whether an option without a value is at the front, and what follows it.
-fn flagged<'a>(name: &str, words: &'a [String]) -> (bool, &'a [String])
-    ensures words { map string_bytes words.now ≡ flagged name.now result.0 ++ map string_bytes result.1.now }
-    ensures none { OnFalse result.0 ((rest : List (List ℕ)) → map string_bytes words.now ≢ name.now ∷ rest) }
-{
-    match words {
-        [first, rest @ ..] if first.as_str() == name => (true, rest),
-        _ => (false, words),
-    }
 }
 
 fn limit_of(text: Option<&str>) -> Option<u64>
@@ -89,78 +98,134 @@ fn items_of(alloc: Global, text: Option<&str>) -> Result<Option<List<Item>>, All
     }
 }
 
-// The options of `run`.
-fn run_of(alloc: Global, words: &[String]) -> Result<Option<RunOptions>, AllocError>
-    ensures { IfOk result (λ found. MatchOption found ((options : RunOptions) → IsRun (map string_bytes words.now) options → ⊥) (IsRun (map string_bytes words.now))) }
+// The text of an operand or of an option with a value.
+fn given<'a>(found: &ArgMatches<'a>, name: &str) -> Option<&'a str>
+    ensures { option_copied result ≡ given name.now (rows_of (found_of found.now)) }
 {
-    let (steps, words) = valued(STEPS, words);
-    let (list, words) = valued(AT, words);
-    let (bindings, words) = flagged(BINDINGS, words);
-    let (shows_words, words) = flagged(WORDS, words);
-    if !words.is_empty() {
-        return Ok(None);
+    found.get_str(name)
+}
+
+// Whether an option without a value is set.
+fn is_set(found: &ArgMatches, name: &str) -> bool
+    ensures { result ≡ is_set name.now (rows_of (found_of found.now)) }
+{
+    match given(found, name) {
+        Some(text) => text == "true",
+        None => false,
     }
-    let Some(steps) = limit_of(steps) else {
+}
+
+fn options_of(alloc: Global, found: &ArgMatches) -> Result<Option<RunOptions>, AllocError>
+    ensures { IfOk result (λ read. MatchOption read ((options : RunOptions) → AreOptions (rows_of (found_of found.now)) options → ⊥) (AreOptions (rows_of (found_of found.now)))) }
+{
+    let Some(steps) = limit_of(given(found, STEPS)) else {
         return Ok(None);
     };
-    let Some(items) = items_of(alloc, list)? else {
+    let Some(items) = items_of(alloc, given(found, AT))? else {
         return Ok(None);
     };
     Ok(Some(RunOptions {
         steps,
         items,
-        bindings,
-        words: shows_words,
+        bindings: is_set(found, BINDINGS),
+        words: is_set(found, WORDS),
     }))
 }
 
-// The bound of `eval`.
-fn bound_of(words: &[String]) -> Option<u32>
-    ensures { MatchOption result ((bound : ℕ) → IsEval (map string_bytes words.now) bound → ⊥) (IsEval (map string_bytes words.now)) }
+fn run<'a>(alloc: Global, found: &ArgMatches<'a>) -> Result<Option<Command<'a>>, AllocError>
+    ensures { IfOk result (IsReading RUN.now (rows_of (found_of found.now))) }
 {
-    let (bound, words) = valued(BOUND, words);
-    if !words.is_empty() {
-        return None;
-    }
-    let bound = number(bound?.as_bytes(), MOST_BOUND)?;
-    Some(bound as u32)
+    let Some(file) = given(found, FILE) else {
+        return Ok(None);
+    };
+    let Some(options) = options_of(alloc, found)? else {
+        return Ok(None);
+    };
+    Ok(Some(Command::Run { file, options }))
 }
 
-// What a command does, given the words behind its file.
-fn task_of(alloc: Global, name: &str, words: &[String]) -> Result<Option<Task>, AllocError>
-    ensures { IfOk result (λ found. MatchOption found ((task : Task) → IsTask name.now (map string_bytes words.now) task → ⊥) (IsTask name.now (map string_bytes words.now))) }
+fn build<'a>(found: &ArgMatches<'a>) -> Option<Command<'a>>
+    ensures { IsReading BUILD.now (rows_of (found_of found.now)) result }
+{
+    let file = given(found, FILE)?;
+    let image = given(found, IMAGE)?;
+    Some(Command::Build { file, image })
+}
+
+fn exec<'a>(alloc: Global, found: &ArgMatches<'a>) -> Result<Option<Command<'a>>, AllocError>
+    ensures { IfOk result (IsReading EXEC.now (rows_of (found_of found.now))) }
+{
+    let Some(image) = given(found, IMAGE) else {
+        return Ok(None);
+    };
+    let Some(options) = options_of(alloc, found)? else {
+        return Ok(None);
+    };
+    Ok(Some(Command::Exec { image, options }))
+}
+
+fn list<'a>(found: &ArgMatches<'a>) -> Option<Command<'a>>
+    ensures { IsReading LIST.now (rows_of (found_of found.now)) result }
+{
+    let image = given(found, IMAGE)?;
+    Some(Command::List { image })
+}
+
+fn eval<'a>(found: &ArgMatches<'a>) -> Option<Command<'a>>
+    ensures { IsReading EVAL.now (rows_of (found_of found.now)) result }
+{
+    let file = given(found, FILE)?;
+    let bound = number(given(found, BOUND)?.as_bytes(), MOST_BOUND)?;
+    Some(Command::Eval {
+        file,
+        bound: bound as u32,
+    })
+}
+
+fn generate<'a>(found: &ArgMatches<'a>) -> Option<Command<'a>>
+    ensures { IsReading GEN.now (rows_of (found_of found.now)) result }
+{
+    let number = number(given(found, NUMBER)?.as_bytes(), MOST_NUMBER)?;
+    Some(Command::Gen {
+        number: number as u32,
+        source: is_set(found, SOURCE),
+    })
+}
+
+// What the values of the command with this name ask for.
+fn read<'a>(alloc: Global, name: &str, found: &ArgMatches<'a>) -> Result<Option<Command<'a>>, AllocError>
+    ensures { IfOk result (IsReading name.now (rows_of (found_of found.now))) }
 {
     if name == RUN {
-        let Some(options) = run_of(alloc, words)? else {
-            return Ok(None);
-        };
-        return Ok(Some(Task::Run(options)));
+        return run(alloc, found);
+    }
+    if name == EXEC {
+        return exec(alloc, found);
+    }
+    if name == BUILD {
+        return Ok(build(found));
+    }
+    if name == LIST {
+        return Ok(list(found));
     }
     if name == EVAL {
-        let Some(bound) = bound_of(words) else {
-            return Ok(None);
-        };
-        return Ok(Some(Task::Eval(bound)));
+        return Ok(eval(found));
+    }
+    if name == GEN {
+        return Ok(generate(found));
     }
     Ok(None)
 }
 
 /// The command that the words are, where they are one. An error is want of memory.
 pub fn command_of<'a>(alloc: Global, words: &'a [String]) -> Result<Option<Command<'a>>, AllocError>
-    ensures { IfOk result (λ found. MatchOption found (IsNoCommand (map string_bytes words.now))
-        (λ command. IsCommand (map string_bytes words.now) command.file.now command.task)) }
+    ensures { IfOk result (λ found. MatchOption found (IsNoCommand (map string_bytes words.now)) (λ command. IsCommand (map string_bytes words.now) (asked command))) }
 {
-    let [name, file, options @ ..] = words else {
+    let Some(matches) = matches_of(alloc, words)? else {
         return Ok(None);
     };
-    match task_of(alloc, name.as_str(), options) {
-        Ok(Some(task)) => {
-            Ok(Some(Command {
-                file: file.as_str(),
-                task,
-            }))
-        }
-        Ok(None) => Ok(None),
-        Err(error) => Err(error),
-    }
+    let Some((name, found)) = matches.subcommand() else {
+        return Ok(None);
+    };
+    read(alloc, name, found)
 }

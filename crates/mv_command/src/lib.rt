@@ -9,6 +9,7 @@ mod command;
 mod items;
 mod number;
 pub mod options;
+mod program;
 
-pub use command::{Command, RunOptions, Task, command_of};
+pub use command::{Command, RunOptions, command_of};
 pub use items::Item;

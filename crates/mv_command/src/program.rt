@@ -1,0 +1,66 @@
+//! The table as `clap` is told it, and what `clap` makes of words.
+
+ghost use Rattle.std.specs.Prelude.{◌≡◌, ◌≢◌, [], false, map, IfOk, MatchOption};
+ghost use Rattle.std.specs.String.{string_bytes};
+ghost use Rattle.clap.specs.Walk.{rule_of};
+ghost use Rattle.clap.specs.Simple.{app_of, subcommand_of, subcommand_rows_of};
+ghost use Rattle.clap.specs.Faults.{fault_of};
+ghost use Rattle.clap.specs.declared.builder.command.Command.TheViews.{out-Command};
+ghost use Rattle.mv_command.specs.Commands.{rule, form_app, app};
+
+use crate::options::{Argument, COMMANDS, Form, PROGRAM};
+use clap::{Arg, ArgAction, ArgMatches, Command, ErrorKind};
+use std::alloc::{AllocError, Global};
+
+fn argument_of<'a>(alloc: Global, argument: Argument) -> Arg<'a>
+    ensures rule { rule_of result ≡ rule argument.entry }
+    ensures local { result.global ≡ false }
+{
+    match argument {
+        Argument::Operand(name) => Arg::new(alloc, name),
+        Argument::Valued(name) => Arg::new(alloc, name).long(name),
+        Argument::Flag(name) => Arg::new(alloc, name).long(name).action(ArgAction::SetTrue),
+    }
+}
+
+// A command of the table.
+fn form_of<'a>(alloc: Global, form: &Form) -> Result<Command<'a>, AllocError>
+    ensures { IfOk result (λ command. (app_of command ≡ form_app form.now) × ((out-Command command).has_globals ≡ false)) }
+{
+    let mut command = Command::new(alloc, form.name);
+    for argument in form.arguments {
+        command = command.arg(argument_of(alloc, *argument))?;
+    }
+    Ok(command)
+}
+
+// The whole table.
+fn program<'a>(alloc: Global) -> Result<Command<'a>, AllocError>
+    ensures { IfOk result (λ program. app_of program ≡ app) }
+{
+    let mut program = Command::new(alloc, PROGRAM)
+        .no_binary_name(true)
+        .disable_help_flag(true)
+        .disable_help_subcommand(true);
+    for form in &COMMANDS {
+        program = program.subcommand(form_of(alloc, form)?)?;
+    }
+    Ok(program)
+}
+
+/// What `clap` makes of words in which it finds no fault. An error is want of memory.
+pub fn matches_of<'a>(alloc: Global, words: &'a [String]) -> Result<Option<ArgMatches<'a>>, AllocError>
+    ensures { IfOk result (λ found. MatchOption found (fault_of app (map string_bytes words.now) ≢ [])
+        (λ matches. (fault_of app (map string_bytes words.now) ≡ []) × (subcommand_rows_of matches ≡ subcommand_of app (map string_bytes words.now)))) }
+{
+    let program = program(alloc)?;
+    match program.try_get_matches_from(words) {
+        Ok(matches) => Ok(Some(matches)),
+        Err(error) => {
+            match error.kind() {
+                ErrorKind::OutOfMemory => Err(AllocError),
+                _ => Ok(None),
+            }
+        }
+    }
+}
