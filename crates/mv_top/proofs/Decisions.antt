@@ -1,3 +1,212 @@
 -- Which status comes of a command, from what each status says.
-use Rattle.std.proofs.Common.{ℕ, ◌≡◌, ◌⊎◌, inl, inr, true, false, List, [], refl, sym, ap, ◌∙◌, subst, Option, Some, None}
-use Rattle.mv_ast.specs.declared.event_placeholder.{Nothing}
+use Rattle.std.proofs.Common.{ℕ, ◌≡◌, ◌^◌, ◌<◌, ◌⊎◌, inl, inr, true, false, List, [], take, refl, sym, ap, ◌∙◌, subst, Option, Some, None}
+use Rattle.std.specs.Prelude.{All}
+use Rattle.mv_ast.specs.declared.program.Program.{Program}
+use Rattle.mv_ast.specs.declared.world.Action.{Action}
+use Rattle.mv_ast.specs.declared.world.Event.{Event}
+use Rattle.mv_io.specs.Shelves.{Files, Lacks}
+use Rattle.mv_front.specs.Verdicts.{IsProgram, IsRefused}
+use Rattle.mv_front.specs.declared.refusal.Refusal.{Refusal}
+use Rattle.mv_build.specs.Verdicts.{PassesLimit}
+use Rattle.mv_image.specs.Faults.{Spells}
+use Rattle.mv_image.specs.Spelling.{Fields}
+use Rattle.mv_exec.specs.Loading.{IsBadImage}
+use Rattle.mv_gen.specs.Generated.{generated}
+use Rattle.mv_refine.specs.Environment.{Writing}
+use Rattle.mv_meaning.specs.declared.meant.End.{End}
+use Rattle.mv_eval.specs.Evaluations.{most, meaning}
+use Rattle.mv_command.specs.Commands.{Asked, Runs, Builds, Executes, Lists, Evaluates, Generates, IsCommand, IsNoCommand}
+use Rattle.mv_command.specs.declared.command.RunOptions.{RunOptions}
+use Rattle.mv_command.specs.declared.options.TheConstants.{DEFAULT_STEPS}
+use Rattle.mv_command.proofs.Same.{same_asked}
+use Rattle.mv_operator.specs.Operator.{IsActions, IsFirstWrong, IsImageActions, IsImageFirstWrong}
+use Rattle.mv_notes.specs.Lines.{Noted, written, unmade, cut}
+use Rattle.mv_notes.specs.declared.status.Status.{Status}
+use Rattle.mv_notes.specs.declared.status.Status.TheVariants.{Usage, Refused, Memory, ShelfFault, BadImage, Done}
+use Rattle.mv_top.specs.Decisions as decisions
+use Rattle.mv_top.specs.Decisions.{Decides, Ends, Is, IsLoaded, IsWithinLimits, Loads, Quiet, Stands, reads_source}
+use Rattle.mv_top.specs.Evaluating.{status_of_end}
+use Rattle.mv_top.specs.Outcomes as outcomes
+use Rattle.mv_top.specs.Outcomes.{Comes, Does, Gives, Idle, IsCarriedOut, IsDue}
+use Rattle.mv_top.specs.Outside as outsides
+use Rattle.mv_top.specs.Outside.{Outside, Holds, OfFile, ShelfFailed, Tells}
+use Rattle.mv_top.specs.Running.{no_action}
+use Rattle.mv_top.proofs.RunsDecided.{run_ended, run_refused, run_wrong_item}
+use Rattle.mv_top.proofs.OthersDecided.{build_done, build_refused, eval_ended, eval_refused, exec_bad, exec_stands, exec_wrong_item, gen_ended, gen_stands, list_bad, list_done, show_done}
+
+-- ---- one file
+
+some_injective : (a b : List ℕ) → Some a ≡ Some b → a ≡ b
+some_injective a b e = cc
+
+same_bytes : (files : Option Files) (file other bytes bytes' : List ℕ) → other ≡ file → Holds files file bytes → Tells files other bytes' → bytes ≡ bytes'
+same_bytes None file other bytes bytes' e h t = absurd t
+same_bytes (Some files) file other bytes bytes' e h t = some_injective bytes bytes' (sym h ∙ sym (ap files e) ∙ t)
+
+no_bytes : (files : Option Files) (file other bytes : List ℕ) → other ≡ file → Holds files file bytes → Lacks files other → ⊥
+no_bytes None file other bytes e h l = l
+no_bytes (Some files) file other bytes e h l = let f : Some bytes ≡ None = sym h ∙ sym (ap files e) ∙ l in cc
+
+told_lacks : (files : Option Files) (file other bytes : List ℕ) → other ≡ file → Lacks files file → Tells files other bytes → ⊥
+told_lacks None file other bytes e l t = l
+told_lacks (Some files) file other bytes e l t = let f : None ≡ Some bytes = sym l ∙ sym (ap files e) ∙ t in cc
+
+module _ (before after : Outside) (no_fault : ShelfFailed before after → ⊥) (Doing : Type 0) (file : List ℕ) (DoesWith : (bytes : List ℕ) → Status → Type 0) where
+  lacking : {status : Status} → OfFile before after Doing file DoesWith status → (other : List ℕ) → other ≡ file → Lacks before.shelf.files other → Is status ShelfFault
+  lacking (outsides.no_file why idle) other e lacks = inl refl
+  lacking (outsides.unloaded idle) other e lacks = inr refl
+  lacking (outsides.loaded bytes status holds does) other e lacks = absurd (no_bytes before.shelf.files file other bytes e holds lacks)
+
+  no_shelf_fault : (other bytes : List ℕ) → other ≡ file → ShelfFailed before after ⊎ Lacks before.shelf.files file → Tells before.shelf.files other bytes → ⊥
+  no_shelf_fault other bytes e (inl rose) tells = no_fault rose
+  no_shelf_fault other bytes e (inr lacks) tells = told_lacks before.shelf.files file other bytes e lacks tells
+
+  -- what comes of the bytes that the shelf tells, or there was no memory to load them
+  given : {status : Status} → OfFile before after Doing file DoesWith status → (other bytes : List ℕ) → other ≡ file → Tells before.shelf.files other bytes → DoesWith bytes status ⊎ (status ≡ Memory)
+  given (outsides.no_file why idle) other bytes e tells = absurd (no_shelf_fault other bytes e why tells)
+  given (outsides.unloaded idle) other bytes e tells = inr refl
+  given (outsides.loaded bytes' status holds does) other bytes e tells =
+      inl (subst (λ z. DoesWith z status) (same_bytes before.shelf.files file other bytes' bytes e holds tells) does)
+
+-- a fact of what comes of the bytes, or want of memory
+or_memory : {Came : Type 0} {status due : Status} → (Came → Is status due) → Came ⊎ (status ≡ Memory) → Is status due
+or_memory so (inl came) = so came
+or_memory so (inr none) = inr none
+
+or_limits : {Came : Type 0} {status due : Status} {p : Program} → (Came → IsWithinLimits status due p) → Came ⊎ (status ≡ Memory) → IsWithinLimits status due p
+or_limits so (inl came) = so came
+or_limits so (inr none) = inl (inr none)
+
+or_stands : {Came : Type 0} {status : Status} → (Came → Stands status) → Came ⊎ (status ≡ Memory) → Stands status
+or_stands so (inl came) = so came
+or_stands so (inr none) = inr none
+
+-- ---- each command
+
+module _ (before after : Outside) (Heard : List Event → Type 0) (was is : Writing) (quiet : Quiet before after was is) where
+  abbrev Did : Asked → List ℕ → Status → Type 0
+  Did asked lines status = Does before after Heard asked lines status
+
+  absent : (asked : Asked) (lines : List ℕ) (status : Status) → Did asked lines status → (file : List ℕ) → IsLoaded asked file → Lacks before.shelf.files file → Is status ShelfFault
+  absent (Runs f options) lines status does file e lacks = lacking before after quiet.shelf _ f _ does.0 file e lacks
+  absent (Builds f image) lines status does file e lacks = lacking before after quiet.shelf _ f _ does.0 file e lacks
+  absent (Executes f options) lines status does file e lacks = lacking before after quiet.shelf _ f _ does.0 file e lacks
+  absent (Lists f) lines status does file e lacks = lacking before after quiet.shelf _ f _ does.0 file e lacks
+  absent (Evaluates f bound) lines status does file e lacks = lacking before after quiet.shelf _ f _ does.0 file e lacks
+  absent (Generates number source) lines status does file e lacks = absurd e
+
+  module _ (file bytes : List ℕ) (tells : Tells before.shelf.files file bytes) where
+    refused : (asked : Asked) (lines : List ℕ) (status : Status) → Did asked lines status → IsLoaded asked file → reads_source asked ≡ true → (r : Refusal) → IsRefused bytes r →
+        Is status (Refused r)
+    refused (Runs f options) lines status does e reads r why =
+        or_memory (λ came. run_refused before.environment after.environment quiet.input quiet.output bytes Heard options came r why) (given before after quiet.shelf _ f _ does.0 file bytes e tells)
+    refused (Builds f image) lines status does e reads r why =
+        or_memory (λ came. build_refused before after quiet.shelf image bytes came.0 r why) (given before after quiet.shelf _ f _ does.0 file bytes e tells)
+    refused (Executes f options) lines status does e reads r why = cc
+    refused (Lists f) lines status does e reads r why = cc
+    refused (Evaluates f bound) lines status does e reads r why =
+        or_memory (λ came. eval_refused before.environment after.environment quiet.input quiet.output bytes bound came.0 r why) (given before after quiet.shelf _ f _ does.0 file bytes e tells)
+    refused (Generates number source) lines status does e reads r why = cc
+
+    bad : (asked : Asked) (lines : List ℕ) (status : Status) → Did asked lines status → IsLoaded asked file → reads_source asked ≡ false → (code offset : ℕ) →
+        IsBadImage bytes code offset → Is status (BadImage code offset)
+    bad (Runs f options) lines status does e image_file code offset why = cc
+    bad (Builds f image) lines status does e image_file code offset why = cc
+    bad (Executes f options) lines status does e image_file code offset why =
+        or_memory (λ came. exec_bad before.environment after.environment quiet.input quiet.output bytes Heard options came code offset why)
+        (given before after quiet.shelf _ f _ does.0 file bytes e tells)
+    bad (Lists f) lines status does e image_file code offset why =
+        or_memory (λ came. list_bad before after quiet.output bytes came.0 code offset why) (given before after quiet.shelf _ f _ does.0 file bytes e tells)
+    bad (Evaluates f bound) lines status does e image_file code offset why = cc
+    bad (Generates number source) lines status does e image_file code offset why = absurd e
+
+  module _ (words : List (List ℕ)) where
+    abbrev Came : List ℕ → Status → Type 0
+    Came lines status = Comes before after Heard words lines status
+
+    usage_of : {lines : List ℕ} {status : Status} → Came lines status → IsNoCommand words → Is status Usage
+    usage_of (outcomes.usage none untouched unheard) never = inl refl
+    usage_of (outcomes.unread untouched unheard) never = inr refl
+    usage_of (outcomes.done asked lines status c does) never = absurd (never asked c)
+
+    -- what comes of the command that the words are, or there was no memory to read them
+    did : {lines : List ℕ} {status : Status} → Came lines status → (asked : Asked) → IsCommand words asked → Did asked lines status ⊎ (status ≡ Memory)
+    did (outcomes.usage none untouched unheard) asked c = absurd (none asked c)
+    did (outcomes.unread untouched unheard) asked c = inr refl
+    did (outcomes.done other lines status d does) asked c = inl (subst (λ a. Did a lines status) (same_asked d c) does)
+
+    module _ (lines : List ℕ) (status : Status) (came : Came lines status) where
+      abbrev files : Option Files
+      files = before.shelf.files
+
+      decided : Decides words files before.environment.input.left status
+      decided = record {
+        usage = usage_of came;
+        absent = λ asked file c loaded lacks. or_memory (λ does. absent asked lines status does file loaded lacks) (did came asked c);
+        refused = λ asked text r l source why. or_memory (λ does. refused l.file text l.tells asked lines status does l.loaded source r why) (did came asked l.command);
+        bad_image = λ asked bytes code offset l image_file why. or_memory (λ does. bad l.file bytes l.tells asked lines status does l.loaded image_file code offset why) (did came asked l.command);
+        wrong_item = λ file text options p item l good wrong.
+            or_limits (λ does. or_limits (λ ran. run_wrong_item before.environment after.environment quiet.input quiet.output text Heard options p good ran item wrong)
+            (given before after quiet.shelf _ file _ does.0 l.file text l.loaded l.tells)) (did came (Runs file options) l.command);
+        ended = λ file text bytes options bound p actions e l good are told are_bytes ends.
+            or_limits (λ does. or_limits (λ ran. run_ended before.environment after.environment quiet.input quiet.output text Heard options p good actions are ran bytes bound e told are_bytes ends)
+            (given before after quiet.shelf _ file _ does.0 l.file text l.loaded l.tells)) (did came (Runs file options) l.command);
+        built = λ file image text p l good.
+            or_limits (λ does. or_limits (λ made. build_done before after quiet.shelf image text made.0 p good)
+            (given before after quiet.shelf _ file _ does.0 l.file text l.loaded l.tells)) (did came (Builds file image) l.command);
+        no_action_of_image = λ file bytes options image item l spells wrong.
+            or_memory (λ does. or_memory (λ ran. exec_wrong_item before.environment after.environment quiet.input quiet.output bytes Heard options image spells ran item wrong)
+            (given before after quiet.shelf _ file _ does.0 l.file bytes l.loaded l.tells)) (did came (Executes file options) l.command);
+        executed = λ file bytes options image actions l spells are.
+            or_stands (λ does. or_stands (λ ran. exec_stands before.environment after.environment quiet.input quiet.output bytes Heard options image spells ran actions are)
+            (given before after quiet.shelf _ file _ does.0 l.file bytes l.loaded l.tells)) (did came (Executes file options) l.command);
+        listed = λ file bytes image l spells.
+            or_memory (λ does. or_memory (λ made. list_done before after quiet.output bytes made.0 image spells)
+            (given before after quiet.shelf _ file _ does.0 l.file bytes l.loaded l.tells)) (did came (Lists file) l.command);
+        evaluated = λ file text bytes bound p l good told.
+            or_memory (λ does. or_memory (λ made. eval_ended before.environment after.environment quiet.input quiet.output text bound made.0 p good bytes told)
+            (given before after quiet.shelf _ file _ does.0 l.file text l.loaded l.tells)) (did came (Evaluates file bound) l.command);
+        shown = λ number c. or_memory (λ does. show_done before.environment after.environment quiet.output Heard number does.0.0) (did came (Generates number true) c);
+        generated_ended = λ number bound p e c good ends.
+            or_limits (λ does. gen_ended before.environment after.environment quiet.output Heard number p good does.0 bound e ends) (did came (Generates number false) c);
+        generated_runs = λ number p c good. or_left (λ does. gen_stands before.environment after.environment quiet.output Heard number p good does.0) (did came (Generates number false) c);
+      }
+        where
+          or_left : {Came' : Type 0} {status' : Status} {p : Program} → (Came' → Stands status' ⊎ ((r : Refusal) × PassesLimit p r × (status' ≡ Refused r))) → Came' ⊎ (status' ≡ Memory) →
+              Stands status' ⊎ ((r : Refusal) × PassesLimit p r × (status' ≡ Refused r))
+          or_left so (inl came') = so came'
+          or_left so (inr none) = inl (inr none)
+
+    memory_decided : Decides words before.shelf.files before.environment.input.left Memory
+    memory_decided = record {
+      usage = λ never. inr refl;
+      absent = λ asked file c loaded lacks. inr refl;
+      refused = λ asked text r l source why. inr refl;
+      bad_image = λ asked bytes code offset l image_file why. inr refl;
+      wrong_item = λ file text options p item l good wrong. inl (inr refl);
+      ended = λ file text bytes options bound p actions e l good are told are_bytes ends. inl (inr refl);
+      built = λ file image text p l good. inl (inr refl);
+      no_action_of_image = λ file bytes options image item l spells wrong. inr refl;
+      executed = λ file bytes options image actions l spells are. inr refl;
+      listed = λ file bytes image l spells. inr refl;
+      evaluated = λ file text bytes bound p l good told. inr refl;
+      shown = λ number c. inr refl;
+      generated_ended = λ number bound p e c good ends. inl (inr refl);
+      generated_runs = λ number p c good. inl (inr refl);
+    }
+
+    noted : (lines : List ℕ) (due status : Status) → Came lines due → Noted lines due was.written is.written was.faults is.faults status →
+        Decides words before.shelf.files before.environment.input.left status
+    noted lines due status came (written grew) = decided lines due came
+    noted lines due status came (unmade same count) = memory_decided
+    noted lines due status came (cut less rose) = absurd (quiet.notes rose)
+
+-- ---- from the command to its notes
+
+module _ (before after : Outside) (Heard : List Event → Type 0) (words : List (List ℕ)) (was is : Writing) where
+  pub carried_out : (due : IsDue (Comes before after Heard words)) (status : Status) → Noted due.lines due.status was.written is.written was.faults is.faults status →
+      IsCarriedOut before after Heard words was is status
+  carried_out due status noted_so = record {
+    gives = record { due = due; noted = noted_so };
+    decides = λ quiet. noted before after Heard was is quiet words due.lines due.status status due.comes noted_so;
+  }

@@ -1,7 +1,7 @@
 -- From the answers of the layers to what comes of a generated program.
-use Rattle.std.proofs.Common.{ℕ, ◌≡◌, ◌≤◌, ◌⊎◌, inl, inr, ◌||◌, List, [], refl, sym, subst, ◌∙◌, arith, Option}
+use Rattle.std.proofs.Common.{ℕ, ◌≡◌, ◌≤◌, ◌<◌, ◌^◌, ◌⊎◌, inl, inr, ◌||◌, List, [], refl, sym, subst, ◌∙◌, arith, Option}
 use Rattle.std.specs.Prelude.{IsTrue}
-use Rattle.std.proofs.lemmas.List.All.{All-nil}
+use Rattle.std.proofs.lemmas.List.Elements.{All-nil}
 use Rattle.mv_ast.specs.declared.program.Program.{Program}
 use Rattle.mv_ast.specs.declared.world.Action.{Action}
 use Rattle.mv_ast.specs.declared.world.Event.{Event}
@@ -45,25 +45,25 @@ module _ (was is : Writing) (way way' : Option Way) (Heard : List Event → Type
       Runs image actions (environment no_input was way) (environment no_input is way') Heard machine steps s →
       meant.Does p image actions steps (environment no_input was way) (environment no_input is way') Heard machine s →
       IsTrue (is_summed_up (status_of_stop s) || is_cut_short (status_of_stop s))
-  stop_is p image actions steps machine (stop.Ended s) runs does = tt
-  stop_is p image actions steps machine (stop.Trapped c) runs does = tt
-  stop_is p image actions steps machine stop.Steps runs does = tt
+  stop_is p image actions steps machine (stop.Ended s) runs does = refl
+  stop_is p image actions steps machine (stop.Trapped c) runs does = refl
+  stop_is p image actions steps machine stop.Steps runs does = refl
   stop_is p image actions steps machine stop.InputFault runs does = absurd (never_fails runs.1)
-  stop_is p image actions steps machine stop.OutputFault runs does = tt
-  stop_is p image actions steps machine (stop.Fault pc why) runs does = absurd (does tt)
-  stop_is p image actions steps machine stop.Memory runs does = tt
+  stop_is p image actions steps machine stop.OutputFault runs does = refl
+  stop_is p image actions steps machine (stop.Fault pc why) runs does = absurd (does (All-nil (λ b. b < 2 ^ 8)))
+  stop_is p image actions steps machine stop.Memory runs does = refl
 
   pub stands_so : (text lines : List ℕ) (options : RunOptions) (status : Status) → Ran options text lines status → IsTrue (is_summed_up status || is_cut_short status)
-  stands_so text lines options status (running.unread unused) = tt
-  stands_so text lines options status (running.not_run r why unused) = tt
+  stands_so text lines options status (running.unread unused) = refl
+  stands_so text lines options status (running.not_run r why unused) = refl
   stands_so text lines options status (running.ran built actions e good are execution) =
       stop_is built.program built.image actions options.steps e.machine e.stopped execution.runs (execution.does good.image.behaves good.image.fits)
 
   module _ (input : Reading) (text : List ℕ) (options : RunOptions) (same : options ≡ plain) where
     pub ran_plainly : (lines : List ℕ) (stands status : Status) → Ran options text lines stands → (status ≡ stands) ⊎ (status ≡ Memory) →
         RunsPlainly (environment input was way) (environment input is way') Heard text status
-    ran_plainly lines stands status does as =
-        record { stands = stands; does = no_lines text lines stands (subst (λ o. Ran o text lines stands) same does); is = as }
+    ran_plainly lines stands status does same_or_none =
+        record { stands = stands; does = no_lines text lines stands (subst (λ o. Ran o text lines stands) same does); is = same_or_none }
 
     pub unlined : (due : IsDue (λ lines status. Ran options text lines status)) → RunsPlainly (environment input was way) (environment input is way') Heard text Memory
     unlined due = ran_plainly due.lines due.status Memory due.comes (inr refl)
@@ -72,9 +72,9 @@ module _ (was is : Writing) (way way' : Option Way) (Heard : List Event → Type
 
 -- nothing is written behind want of memory
 silent : (number : ℕ) (was is : Writing) (status : Status) → Sums number was is Memory status → (is ≡ was) × (status ≡ Memory)
-silent number was is status (spec.summed yes grew) = absurd yes
-silent number was is status (spec.part yes less rose) = absurd yes
-silent number was is status (spec.cut_short yes same) = (same, refl)
+silent number was is status (spec.summed over grew) = cc
+silent number was is status (spec.part over less rose) = cc
+silent number was is status (spec.cut_short short same) = (same, refl)
 silent number was is status (spec.unmade same) = (same, refl)
 
 module _ (number : ℕ) (input : Reading) (was between is : Writing) (way way' : Option Way) (Heard : List Event → Type 0) where
@@ -84,7 +84,7 @@ module _ (number : ℕ) (input : Reading) (was between is : Writing) (way way' :
       subst (λ (s : Status). Sums number between is s status) same (sums (subst (λ s. IsTrue (is_summed_up s || is_cut_short s)) (sym same) fair))
   summed_up stands ran status fair (inr none) sums =
       let quiet : Sums number between is Memory status =
-      subst (λ (s : Status). Sums number between is s status) none (sums (subst (λ s. IsTrue (is_summed_up s || is_cut_short s)) (sym none) tt)) in
+      subst (λ (s : Status). Sums number between is s status) none (sums (subst (λ s. IsTrue (is_summed_up s || is_cut_short s)) (sym none) refl)) in
       let both = silent number between is status quiet in
       subst (λ (s : Status). Sums number between is stands s) (sym both.1) (spec.unmade both.0)
 
@@ -97,4 +97,4 @@ module _ (number : ℕ) (input : Reading) (was between is : Writing) (way way' :
 
 -- what is due behind a run that isn't summed up
 pub left_so : (number : ℕ) (was : Writing) (ran : Status) → IsTrue (is_cut_short ran) → Sums number was was ran ran
-left_so number was ran yes = spec.cut_short yes refl
+left_so number was ran short = spec.cut_short short refl

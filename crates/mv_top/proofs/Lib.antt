@@ -1,6 +1,11 @@
+pub mod Performing
+pub mod Loading
+pub mod Texts
+pub mod Images
+pub mod Generating
+pub mod RunsDecided
+pub mod OthersDecided
 pub mod Decisions
 pub mod Few
 pub mod Fits
-pub mod Performing
-pub mod Writing
 pub mod Causes

@@ -1,6 +1,7 @@
 -- Which status comes of what is evaluated, built, run as an image, listed or generated.
-use Rattle.std.proofs.Common.{ℕ, ◌≡◌, ◌≤◌, ◌⊎◌, inl, inr, List, [], take, refl, sym, ap, ◌∙◌, subst, Option, Some, arith}
+use Rattle.std.proofs.Common.{ℕ, ◌≡◌, ◌≤◌, ◌<◌, ◌^◌, ◌⊎◌, inl, inr, List, [], take, refl, sym, ap, ◌∙◌, subst, Option, Some, arith}
 use Rattle.std.specs.Prelude.{Result, Ok, Err, ⊤}
+use Rattle.std.proofs.lemmas.List.Elements.{All-nil}
 use Rattle.mv_ast.specs.declared.program.Program.{Program}
 use Rattle.mv_ast.specs.declared.world.Action.{Action}
 use Rattle.mv_ast.specs.declared.world.Event.{Event}
@@ -14,7 +15,7 @@ use Rattle.mv_front.specs.Verdicts.{IsProgram, IsRefused}
 use Rattle.mv_front.specs.declared.refusal.Refusal.{Refusal}
 use Rattle.mv_front.proofs.OneVerdict.{one_program, one_refusal, not_both}
 use Rattle.mv_exec.specs.Loading.{IsBadImage}
-use Rattle.mv_exec.proofs.OneVerdict.{one_bad_image, bad_or_spelled}
+use Rattle.mv_exec.proofs.Answer.{one_bad, spells_not_bad}
 use Rattle.mv_gen.specs.Generated.{generated}
 use Rattle.mv_refine.specs.Environment.{Environment, Writing, Took, Wrote, ReadFailed, WriteFailed, environment}
 use Rattle.mv_meaning.specs.declared.meant.End.{End}
@@ -105,14 +106,14 @@ module _ (before after : Environment) (no_input_fault : ReadFailed before after 
   pub exec_bad : {lines : List ℕ} {status : Status} → Ran lines status → (code offset : ℕ) → IsBadImage bytes code offset → Is status (BadImage code offset)
   exec_bad (executing.unread unused) code offset bad = inr refl
   exec_bad (executing.no_image c o there unused) code offset bad =
-      let same = one_bad_image bytes c o code offset there bad in inl (λ i. BadImage (same.0 i) (same.1 i))
-  exec_bad (executing.wrong_item image item spells wrong unused) code offset bad = absurd (bad_or_spelled bytes image code offset spells bad)
-  exec_bad (executing.ran image actions e spells are runs) code offset bad = absurd (bad_or_spelled bytes image code offset spells bad)
+      let same = one_bad bytes c o code offset there bad in inl (λ i. BadImage (same.0 i) (same.1 i))
+  exec_bad (executing.wrong_item image item spells wrong unused) code offset bad = absurd (spells_not_bad bytes image code offset spells bad)
+  exec_bad (executing.ran image actions e spells are runs) code offset bad = absurd (spells_not_bad bytes image code offset spells bad)
 
   module _ (image : Fields) (spells : Spells bytes image) where
     pub exec_wrong_item : {lines : List ℕ} {status : Status} → Ran lines status → (item : ℕ) → IsImageFirstWrong image options.items item → Is status (Refused (no_action item))
     exec_wrong_item (executing.unread unused) item wrong = inr refl
-    exec_wrong_item (executing.no_image c o there unused) item wrong = absurd (bad_or_spelled bytes image c o spells there)
+    exec_wrong_item (executing.no_image c o there unused) item wrong = absurd (spells_not_bad bytes image c o spells there)
     exec_wrong_item (executing.wrong_item other n there first unused) item wrong =
         inl (ap (λ k. Refused (no_action k))
         (operator.one_wrong_in image options.items n item (subst (λ z. IsImageFirstWrong z options.items n) (one_image bytes other image there spells) first) wrong))
@@ -121,7 +122,7 @@ module _ (before after : Environment) (no_input_fault : ReadFailed before after 
 
     pub exec_stands : {lines : List ℕ} {status : Status} → Ran lines status → (actions : List Action) → IsImageActions image options.items actions → Stands status
     exec_stands (executing.unread unused) actions are = inr refl
-    exec_stands (executing.no_image c o there unused) actions are = absurd (bad_or_spelled bytes image c o spells there)
+    exec_stands (executing.no_image c o there unused) actions are = absurd (spells_not_bad bytes image c o spells there)
     exec_stands (executing.wrong_item other n there first unused) actions are =
         absurd (operator.not_both_in image options.items actions n are (subst (λ z. IsImageFirstWrong z options.items n) (one_image bytes other image there spells) first))
     exec_stands (executing.ran other taken e there are_taken runs) actions are =
@@ -133,12 +134,12 @@ module _ (before after : Outside) (no_output_fault : WriteFailed before.environm
   pub list_bad : {status : Status} → ListDoes before after bytes status → (code offset : ℕ) → IsBadImage bytes code offset → Is status (BadImage code offset)
   list_bad (listing.unlisted untouched) code offset bad = inr refl
   list_bad (listing.no_image c o there untouched) code offset bad =
-      let same = one_bad_image bytes c o code offset there bad in inl (λ i. BadImage (same.0 i) (same.1 i))
-  list_bad (listing.listed image status spells writes) code offset bad = absurd (bad_or_spelled bytes image code offset spells bad)
+      let same = one_bad bytes c o code offset there bad in inl (λ i. BadImage (same.0 i) (same.1 i))
+  list_bad (listing.listed image status spells writes) code offset bad = absurd (spells_not_bad bytes image code offset spells bad)
 
   pub list_done : {status : Status} → ListDoes before after bytes status → (image : Fields) → Spells bytes image → Is status Done
   list_done (listing.unlisted untouched) image spells = inr refl
-  list_done (listing.no_image c o there untouched) image spells = absurd (bad_or_spelled bytes image c o spells there)
+  list_done (listing.no_image c o there untouched) image spells = absurd (spells_not_bad bytes image c o spells there)
   list_done (listing.listed other status there writes) image spells = inl (written_whole before.environment after.environment _ Done no_output_fault writes)
 
 -- ---- a generated program
@@ -153,9 +154,9 @@ module _ (before after : Environment) (no_output_fault : WriteFailed before afte
 
   -- a run that wrote without a fault is that of its status, or memory was wanting
   summed_so : (between : Writing) (ran : Status) {status : Status} → before.output.faults ≤ between.faults → Sums number between after.output ran status → Is status ran
-  summed_so between ran later (generating.summed yes grew) = inl refl
-  summed_so between ran later (generating.part yes less rose) = absurd (no_output_fault (rose_later before.output.faults between.faults after.output.faults later rose))
-  summed_so between ran later (generating.cut_short yes same) = inl refl
+  summed_so between ran later (generating.summed over grew) = inl refl
+  summed_so between ran later (generating.part over less rose) = absurd (no_output_fault (rose_later before.output.faults between.faults after.output.faults later rose))
+  summed_so between ran later (generating.cut_short short same) = inl refl
   summed_so between ran later (generating.unmade same) = inr refl
 
   no_fault_before : (between : Writing) → between.faults ≤ after.output.faults → WriteFailed (environment no_input before.output before.way) (environment no_input between after.way) → ⊥
@@ -172,7 +173,7 @@ module _ (before after : Environment) (no_output_fault : WriteFailed before afte
     gen_ended (generating.ran between ran status does later latest sums) bound e ends =
         within (summed_so between ran later sums)
         (run_ended (environment no_input before.output before.way) (environment no_input between after.way) (no_reading_fault before.output between) (no_fault_before between latest)
-        (generated number) Heard plain p is [] (record { right = refl; are = refl }) does [] bound e refl tt ends)
+        (generated number) Heard plain p is [] (record { right = refl; are = refl }) does [] bound e refl (All-nil (λ b. b < 2 ^ 8)) ends)
 
     or_limits : {ran status : Status} → Is status ran → Stands ran ⊎ ((r : Refusal) × PassesLimit p r × (ran ≡ Refused r)) → Stands status ⊎ ((r : Refusal) × PassesLimit p r × (status ≡ Refused r))
     or_limits (inl same) so = subst (λ s. Stands s ⊎ ((r : Refusal) × PassesLimit p r × (s ≡ Refused r))) (sym same) so

@@ -17,8 +17,8 @@ pub alone : (Comes : (lines : List ℕ) → Status → Type 0) (lines : List ℕ
 alone Comes lines status due none same comes = subst (λ (l : List ℕ). Comes l status) (sym none) (subst (λ (s : Status). Comes [] s) (sym same) comes)
 
 -- these lines and this status, or no memory for the lines
-pub performed : (Comes : (lines : List ℕ) → Status → Type 0) (lines : List ℕ) (due : Status) → Comes lines due → (result : Result Performed AllocError) →
+pub with_lines : (Comes : (lines : List ℕ) → Status → Type 0) (lines : List ℕ) (due : Status) → Comes lines due → (result : Result Performed AllocError) →
     IfOk result (λ performed. performed.status ≡ due) → IfOk result (λ performed. performed.lines.items ≡ lines) → Performs Comes result
-performed Comes lines due came (Ok performed) status same =
+with_lines Comes lines due came (Ok performed) status same =
     subst (λ (l : List ℕ). Comes l performed.status) (sym same) (subst (λ (s : Status). Comes lines s) (sym status) came)
-performed Comes lines due came (Err why) status same = record { lines = lines; status = due; comes = came }
+with_lines Comes lines due came (Err why) status same = record { lines = lines; status = due; comes = came }
