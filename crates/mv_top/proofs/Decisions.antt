@@ -116,7 +116,7 @@ module _ (before after : Outside) (Heard : List Event → Type 0) (was is : Writ
         or_memory (λ came. exec_bad before.environment after.environment quiet.input quiet.output bytes Heard options came code offset why)
         (given before after quiet.shelf _ f _ does.0 file bytes e tells)
     bad (Lists f) lines status does e image_file code offset why =
-        or_memory (λ came. list_bad before after quiet.output bytes came.0 code offset why) (given before after quiet.shelf _ f _ does.0 file bytes e tells)
+        or_memory (λ came. list_bad before.environment after.environment quiet.output bytes came.0 code offset why) (given before after quiet.shelf _ f _ does.0 file bytes e tells)
     bad (Evaluates f bound) lines status does e image_file code offset why = cc
     bad (Generates number source) lines status does e image_file code offset why = absurd e
 
@@ -161,7 +161,7 @@ module _ (before after : Outside) (Heard : List Event → Type 0) (was is : Writ
             or_stands (λ does. or_stands (λ ran. exec_stands before.environment after.environment quiet.input quiet.output bytes Heard options image spells ran actions are)
             (given before after quiet.shelf _ file _ does.0 l.file bytes l.loaded l.tells)) (did came (Executes file options) l.command);
         listed = λ file bytes image l spells.
-            or_memory (λ does. or_memory (λ made. list_done before after quiet.output bytes made.0 image spells)
+            or_memory (λ does. or_memory (λ made. list_done before.environment after.environment quiet.output bytes made.0 image spells)
             (given before after quiet.shelf _ file _ does.0 l.file bytes l.loaded l.tells)) (did came (Lists file) l.command);
         evaluated = λ file text bytes bound p l good told.
             or_memory (λ does. or_memory (λ made. eval_ended before.environment after.environment quiet.input quiet.output text bound made.0 p good bytes told)

@@ -18,7 +18,6 @@ use Rattle.mv_top.specs.Executing as executing
 use Rattle.mv_top.specs.Executing.{ExecDoes, status_of_load}
 use Rattle.mv_top.specs.Listing as listing
 use Rattle.mv_top.specs.Listing.{ListDoes}
-use Rattle.mv_top.specs.Outside.{Outside, Untouched}
 use Rattle.mv_top.specs.Running.{Unused, status_of_stop}
 use Rattle.mv_top.proofs.Performing.{alone}
 
@@ -46,11 +45,11 @@ module _ (before after : Environment) (Heard : List Event → Type 0) (options :
 
 -- ---- a listing
 
-module _ (before after : Outside) (bytes : List ℕ) where
-  not_listed_by : (e : LoadError) → IsNotRead bytes e → Untouched before after → ListDoes before after bytes (status_of_load e)
+module _ (before after : Environment) (bytes : List ℕ) where
+  not_listed_by : (e : LoadError) → IsNotRead bytes e → after ≡ before → ListDoes before after bytes (status_of_load e)
   not_listed_by (load.BadImage code offset) is untouched = listing.no_image code offset is untouched
   not_listed_by (load.Refused item) is untouched = absurd is
   not_listed_by (load.Memory m) is untouched = listing.unlisted untouched
 
-  pub not_listed : (status : Status) (e : LoadError) → status ≡ status_of_load e → IsNotRead bytes e → Untouched before after → ListDoes before after bytes status
+  pub not_listed : (status : Status) (e : LoadError) → status ≡ status_of_load e → IsNotRead bytes e → after ≡ before → ListDoes before after bytes status
   not_listed status e same is untouched = subst (λ (s : Status). ListDoes before after bytes s) (sym same) (not_listed_by e is untouched)

@@ -130,7 +130,7 @@ module _ (before after : Environment) (no_input_fault : ReadFailed before after 
 
 -- ---- a listing
 
-module _ (before after : Outside) (no_output_fault : WriteFailed before.environment after.environment → ⊥) (bytes : List ℕ) where
+module _ (before after : Environment) (no_output_fault : WriteFailed before after → ⊥) (bytes : List ℕ) where
   pub list_bad : {status : Status} → ListDoes before after bytes status → (code offset : ℕ) → IsBadImage bytes code offset → Is status (BadImage code offset)
   list_bad (listing.unlisted untouched) code offset bad = inr refl
   list_bad (listing.no_image c o there untouched) code offset bad =
@@ -140,7 +140,7 @@ module _ (before after : Outside) (no_output_fault : WriteFailed before.environm
   pub list_done : {status : Status} → ListDoes before after bytes status → (image : Fields) → Spells bytes image → Is status Done
   list_done (listing.unlisted untouched) image spells = inr refl
   list_done (listing.no_image c o there untouched) image spells = absurd (spells_not_bad bytes image c o spells there)
-  list_done (listing.listed other status there writes) image spells = inl (written_whole before.environment after.environment _ Done no_output_fault writes)
+  list_done (listing.listed other status there writes) image spells = inl (written_whole before after _ Done no_output_fault writes)
 
 -- ---- a generated program
 

@@ -5,7 +5,7 @@ ghost use Rattle.mv_image.specs.Faults.{Spells};
 ghost use Rattle.mv_probe.specs.Ways.{Way};
 ghost use Rattle.mv_refine.specs.Environment.{environment, writing, Reading};
 ghost use Rattle.mv_top.specs.Listing.{ListDoes, ListsFile};
-ghost use Rattle.mv_top.specs.Outside.{outside, shelved, Shelved};
+ghost use Rattle.mv_top.specs.Outside.{outside, shelved};
 
 use crate::exec::status_of_load;
 use crate::files::{status_of_shelf, write_text};
@@ -18,9 +18,9 @@ use std::alloc::Global;
 
 // Writes what stands in an image.
 fn list_image<O: Sink>(alloc: Global, image: &Image, out: &mut O) -> Status
-    ensures { (bytes : List ℕ) (shelf : Shelved) (input : Reading) (way : Option Way) → Spells bytes image.now →
-        ListDoes (outside shelf (environment input (writing (O.written out.old) (O.faults out.old)) way))
-        (outside shelf (environment input (writing (O.written out.new) (O.faults out.new)) way)) bytes result }
+    ensures { (bytes : List ℕ) (input : Reading) (way : Option Way) → Spells bytes image.now →
+        ListDoes (environment input (writing (O.written out.old) (O.faults out.old)) way)
+        (environment input (writing (O.written out.new) (O.faults out.new)) way) bytes result }
 {
     match listing(alloc, image) {
         Ok(text) => write_text(text.as_slice(), out),
@@ -30,9 +30,9 @@ fn list_image<O: Sink>(alloc: Global, image: &Image, out: &mut O) -> Status
 
 // Reads an image, and writes what stands in it.
 fn list_bytes<O: Sink>(alloc: Global, bytes: &[u8], out: &mut O) -> Status
-    ensures { (shelf : Shelved) (input : Reading) (way : Option Way) →
-        ListDoes (outside shelf (environment input (writing (O.written out.old) (O.faults out.old)) way))
-        (outside shelf (environment input (writing (O.written out.new) (O.faults out.new)) way)) bytes.now result }
+    ensures { (input : Reading) (way : Option Way) →
+        ListDoes (environment input (writing (O.written out.old) (O.faults out.old)) way)
+        (environment input (writing (O.written out.new) (O.faults out.new)) way) bytes.now result }
 {
     match read_image(alloc, bytes) {
         Ok(image) => list_image(alloc, &image, out),
