@@ -1,2 +1,4 @@
 pub mod Numerals
 pub mod ItemTexts
+pub mod Same
+pub mod Table

@@ -1,8 +1,9 @@
 -- The words that are a command: `clap` assigns them to the operands and the options of the table, and the texts of numbers and lists
 -- are read here.
-use Rattle.std.specs.Prelude.{ℕ, ◌≡◌, ◌≤◌, Bool, true, false, Option, Some, None, List, [], ◌∷◌, fold, codes, MatchOption}
+use Rattle.std.specs.Prelude.{ℕ, ◌≡◌, ◌≤◌, Bool, true, false, Option, Some, None, List, [], ◌∷◌, fold, map, codes, MatchOption}
 use Rattle.std.specs.Option.{option_map_or}
 use Rattle.std.specs.Str.{bytes_eq}
+use Rattle.std.specs.Borrow.{Bor}
 use Rattle.std.specs.Fmt.{decimal}
 use Rattle.clap.specs.Walk.{Row, Rule, Text, first_of}
 use Rattle.clap.specs.Simple.{App, new_app, new_rule, on_top, subcommand_of, with_rule, with_subcommand}
@@ -12,33 +13,43 @@ use Rattle.mv_command.specs.declared.items.Item.{Item}
 use Rattle.mv_command.specs.declared.command.Command.{Command}
 use Rattle.mv_command.specs.declared.command.Command.TheVariants as command
 use Rattle.mv_command.specs.declared.command.RunOptions.{RunOptions}
-use Rattle.mv_command.specs.declared.options.Form.{Form}
-use Rattle.mv_command.specs.declared.options.Argument.{Argument}
-use Rattle.mv_command.specs.declared.options.Argument.TheVariants.{Operand, Valued, Flag}
+use Rattle.mv_command.specs.declared.options.Kind.{Kind}
+use Rattle.mv_command.specs.declared.options.Kind.TheVariants.{Operand, Valued, Flag}
 use Rattle.mv_command.specs.declared.options.TheConstants.{PROGRAM, COMMANDS, RUN, BUILD, EXEC, LIST, EVAL, GEN, FILE, IMAGE, NUMBER, MOST_NUMBER, STEPS, DEFAULT_STEPS, MOST_STEPS, AT, BINDINGS, WORDS, BOUND, MOST_BOUND, SOURCE}
 use Rattle.mv_command.specs.Items.{IsList}
 
 -- ---- what clap is told of the table
 
 -- a word by itself; `--NAME VALUE` or `--NAME=VALUE`; `--NAME`
-abbrev pub rule : Argument → Rule
-rule (Operand name) = new_rule name.now
-rule (Valued name) = record (new_rule name.now) { long = Some name.now }
-rule (Flag name) = record (new_rule name.now) { long = Some name.now; action = Some SetTrue }
+abbrev pub rule : Kind → Text → Rule
+rule Operand name = new_rule name
+rule Valued name = record (new_rule name) { long = Some name }
+rule Flag name = record (new_rule name) { long = Some name; action = Some SetTrue }
 
-abbrev pub with_argument : App → Argument → App
-with_argument a argument = with_rule a (rule argument)
+abbrev pub with_argument : App → Kind × Text → App
+with_argument a argument = with_rule a (rule argument.0 argument.1)
 
 -- a command of the table
-abbrev pub form_app : Form → App
-form_app form = fold with_argument (new_app form.name.now) form.arguments.now
+abbrev pub form : Text × List (Kind × Text) → App
+form row = fold with_argument (new_app row.0) row.1
 
-abbrev pub with_form : App → Form → App
-with_form a form = with_subcommand a (form_app form).top
+abbrev pub with_form : App → Text × List (Kind × Text) → App
+with_form a row = with_subcommand a (form row).top
 
--- the table, read from the first word on and without help
+-- the texts behind references
+abbrev pub argument_text : Kind × Bor Text → Kind × Text
+argument_text argument = (argument.0, argument.1.now)
+
+abbrev pub rows : List (Text × List (Kind × Text))
+rows = map (λ row. (row.0.now, map (λ argument. (argument.0, argument.1.now)) row.1.now)) COMMANDS
+
+-- the program, whose words begin with the command's name, and which has no help
+abbrev pub no_forms : App
+no_forms = on_top (λ s. record s { no_binary_name = true; disable_help_flag = true; disable_help_subcommand = true }) (new_app PROGRAM.now)
+
+-- the table
 unfoldable pub app : App
-app = fold with_form (on_top (λ s. record s { no_binary_name = true; disable_help_flag = true; disable_help_subcommand = true }) (new_app PROGRAM.now)) COMMANDS
+app = fold with_form no_forms rows
 
 -- ---- what is read of the values
 

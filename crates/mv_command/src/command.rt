@@ -193,7 +193,11 @@ fn generate<'a>(found: &ArgMatches<'a>) -> Option<Command<'a>>
 }
 
 // What the values of the command with this name ask for.
-fn read<'a>(alloc: Global, name: &str, found: &ArgMatches<'a>) -> Result<Option<Command<'a>>, AllocError>
+fn read<'a>(
+    alloc: Global,
+    name: &str,
+    found: &ArgMatches<'a>,
+) -> Result<Option<Command<'a>>, AllocError>
     ensures { IfOk result (IsReading name.now (rows_of (found_of found.now))) }
 {
     if name == RUN {

@@ -1,66 +1,47 @@
 //! The table of commands: each command once with its operands and its options, and the values that these may have.
 
+use Kind::{Flag, Operand, Valued};
+
 /// What may stand behind the name of a command.
 #[derive(Clone, Copy)]
-pub enum Argument {
+pub enum Kind {
     /// A word by itself, which must stand there.
-    Operand(&'static str),
+    Operand,
     /// An option with a value, as `--NAME VALUE` or `--NAME=VALUE`, once or not at all.
-    Valued(&'static str),
+    Valued,
     /// An option without a value, as `--NAME`, once or not at all.
-    Flag(&'static str),
-}
-
-/// A command of the table.
-#[derive(Clone, Copy)]
-pub struct Form {
-    /// The word that names it.
-    pub name: &'static str,
-    /// What may stand behind the name: the operands in this order, the options anywhere.
-    pub arguments: &'static [Argument],
+    Flag,
 }
 
 /// The name of the program.
 pub const PROGRAM: &str = "multiverse";
 
-/// Each command once.
-pub const COMMANDS: [Form; 6] = [
-    Form {
-        name: RUN,
-        arguments: &[
-            Argument::Operand(FILE),
-            Argument::Valued(STEPS),
-            Argument::Valued(AT),
-            Argument::Flag(BINDINGS),
-            Argument::Flag(WORDS),
+/// Each command once, with what may stand behind its name: the operands in this order, the options anywhere.
+pub const COMMANDS: [(&str, &[(Kind, &str)]); 6] = [
+    (
+        RUN,
+        &[
+            (Operand, FILE),
+            (Valued, STEPS),
+            (Valued, AT),
+            (Flag, BINDINGS),
+            (Flag, WORDS),
         ],
-    },
-    Form {
-        name: BUILD,
-        arguments: &[Argument::Operand(FILE), Argument::Operand(IMAGE)],
-    },
-    Form {
-        name: EXEC,
-        arguments: &[
-            Argument::Operand(IMAGE),
-            Argument::Valued(STEPS),
-            Argument::Valued(AT),
-            Argument::Flag(BINDINGS),
-            Argument::Flag(WORDS),
+    ),
+    (BUILD, &[(Operand, FILE), (Operand, IMAGE)]),
+    (
+        EXEC,
+        &[
+            (Operand, IMAGE),
+            (Valued, STEPS),
+            (Valued, AT),
+            (Flag, BINDINGS),
+            (Flag, WORDS),
         ],
-    },
-    Form {
-        name: LIST,
-        arguments: &[Argument::Operand(IMAGE)],
-    },
-    Form {
-        name: EVAL,
-        arguments: &[Argument::Operand(FILE), Argument::Valued(BOUND)],
-    },
-    Form {
-        name: GEN,
-        arguments: &[Argument::Operand(NUMBER), Argument::Flag(SOURCE)],
-    },
+    ),
+    (LIST, &[(Operand, IMAGE)]),
+    (EVAL, &[(Operand, FILE), (Valued, BOUND)]),
+    (GEN, &[(Operand, NUMBER), (Flag, SOURCE)]),
 ];
 
 /// Compiles a file and runs it.

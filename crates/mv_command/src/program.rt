@@ -6,30 +6,35 @@ ghost use Rattle.clap.specs.Walk.{rule_of};
 ghost use Rattle.clap.specs.Simple.{app_of, subcommand_of, subcommand_rows_of};
 ghost use Rattle.clap.specs.Faults.{fault_of};
 ghost use Rattle.clap.specs.declared.builder.command.Command.TheViews.{out-Command};
-ghost use Rattle.mv_command.specs.Commands.{rule, form_app, app};
+ghost use Rattle.mv_command.specs.Commands.{rule, form, argument_text, app};
 
-use crate::options::{Argument, COMMANDS, Form, PROGRAM};
-use clap::{Arg, ArgAction, ArgMatches, Command, ErrorKind};
+use crate::options::{COMMANDS, Kind, PROGRAM};
+use clap::error::ErrorKind;
+use clap::{Arg, ArgAction, ArgMatches, Command};
 use std::alloc::{AllocError, Global};
 
-fn argument_of<'a>(alloc: Global, argument: Argument) -> Arg<'a>
-    ensures rule { rule_of result ≡ rule argument.entry }
+fn argument_of<'a>(alloc: Global, kind: Kind, name: &'a str) -> Arg<'a>
+    ensures rule { rule_of result ≡ rule kind name.now }
     ensures local { result.global ≡ false }
 {
-    match argument {
-        Argument::Operand(name) => Arg::new(alloc, name),
-        Argument::Valued(name) => Arg::new(alloc, name).long(name),
-        Argument::Flag(name) => Arg::new(alloc, name).long(name).action(ArgAction::SetTrue),
+    match kind {
+        Kind::Operand => Arg::new(alloc, name),
+        Kind::Valued => Arg::new(alloc, name).long(name),
+        Kind::Flag => Arg::new(alloc, name).long(name).action(ArgAction::SetTrue),
     }
 }
 
 // A command of the table.
-fn form_of<'a>(alloc: Global, form: &Form) -> Result<Command<'a>, AllocError>
-    ensures { IfOk result (λ command. (app_of command ≡ form_app form.now) × ((out-Command command).has_globals ≡ false)) }
+fn form_of<'a>(
+    alloc: Global,
+    name: &'static str,
+    arguments: &[(Kind, &'static str)],
+) -> Result<Command<'a>, AllocError>
+    ensures { IfOk result (λ command. (app_of command ≡ form (name.now, map argument_text arguments.now)) × ((out-Command command).has_globals ≡ false)) }
 {
-    let mut command = Command::new(alloc, form.name);
-    for argument in form.arguments {
-        command = command.arg(argument_of(alloc, *argument))?;
+    let mut command = Command::new(alloc, name);
+    for argument in arguments {
+        command = command.arg(argument_of(alloc, argument.0, argument.1))?;
     }
     Ok(command)
 }
@@ -42,14 +47,17 @@ fn program<'a>(alloc: Global) -> Result<Command<'a>, AllocError>
         .no_binary_name(true)
         .disable_help_flag(true)
         .disable_help_subcommand(true);
-    for form in &COMMANDS {
-        program = program.subcommand(form_of(alloc, form)?)?;
+    for row in &COMMANDS {
+        program = program.subcommand(form_of(alloc, row.0, row.1)?)?;
     }
     Ok(program)
 }
 
 /// What `clap` makes of words in which it finds no fault. An error is want of memory.
-pub fn matches_of<'a>(alloc: Global, words: &'a [String]) -> Result<Option<ArgMatches<'a>>, AllocError>
+pub fn matches_of<'a>(
+    alloc: Global,
+    words: &'a [String],
+) -> Result<Option<ArgMatches<'a>>, AllocError>
     ensures { IfOk result (λ found. MatchOption found (fault_of app (map string_bytes words.now) ≢ [])
         (λ matches. (fault_of app (map string_bytes words.now) ≡ []) × (subcommand_rows_of matches ≡ subcommand_of app (map string_bytes words.now)))) }
 {

@@ -1,0 +1,81 @@
+-- Words are one command at most.
+use Rattle.std.proofs.Common.{ℕ, ◌≡◌, List, [], refl, sym, ap, ap₂, ◌∙◌, subst, arith, eqb}
+use Rattle.std.specs.Prelude.{Option, Some, None}
+use Rattle.std.specs.List.{slice_split, position_or_len}
+use Rattle.std.specs.Str.{bytes_eq}
+use Rattle.std.proofs.lemmas.Fmt.{decimal_injective}
+use Rattle.std.proofs.lemmas.Option.{none-some, same_Some}
+use Rattle.clap.specs.Walk.{Row, Text}
+use Rattle.mv_command.specs.declared.items.Item.{Item}
+use Rattle.mv_command.specs.declared.command.RunOptions.{RunOptions}
+use Rattle.mv_command.specs.declared.options.TheConstants.{COMMANDS, AT, BOUND, FILE, IMAGE, NUMBER, STEPS}
+use Rattle.mv_command.specs.Items.{Ascend}
+use Rattle.mv_command.specs.Commands.{Asked, Runs, Builds, Executes, Lists, Evaluates, Generates, IsLimit, AreItems, AreOptions, Asks, IsCommand, given}
+use Rattle.mv_command.proofs.ItemTexts.{same_items, list_pieces}
+
+-- where a command stands in the table, by its name and by what it asks for
+abbrev pub place : Text → ℕ
+place name = position_or_len (λ row. bytes_eq row.0.now name) COMMANDS
+
+abbrev pub order : Asked → ℕ
+order (Runs file options) = 0
+order (Builds file image) = 1
+order (Executes image options) = 2
+order (Lists image) = 3
+order (Evaluates file bound) = 4
+order (Generates number source) = 5
+
+pub placed : (name : Text) (rows : List Row) (a : Asked) → Asks name rows a → place name ≡ order a
+placed name rows (Runs file options) h = ap place h.0
+placed name rows (Builds file image) h = ap place h.0
+placed name rows (Executes image options) h = ap place h.0
+placed name rows (Lists image) h = ap place h.0
+placed name rows (Evaluates file bound) h = ap place h.0
+placed name rows (Generates number source) h = ap place h.0
+
+pub same_limit : (text : Option Text) (steps more : ℕ) → IsLimit text steps → IsLimit text more → steps ≡ more
+same_limit None steps more l m = l ∙ sym m
+same_limit (Some text) steps more l m = decimal_injective steps more (omega (arith, l.2)) (omega (arith, m.2)) (sym l.0 ∙ m.0)
+
+same_list : (text : Option Text) (items more : List Item) → AreItems text items → AreItems text more → items ≡ more
+same_list None items more l m = l ∙ sym m
+same_list (Some text) items more l m =
+    same_items items more l.each m.each (list_pieces text items (slice_split (λ b. eqb b 44) text) refl l ∙ sym (list_pieces text more (slice_split (λ b. eqb b 44) text) refl m))
+
+same_options : (rows : List Row) (options more : RunOptions) → AreOptions rows options → AreOptions rows more → options ≡ more
+same_options rows options more one other =
+    let steps = same_limit (given STEPS.now rows) options.steps more.steps one.limit other.limit in
+    let items = same_list (given AT.now rows) options.items more.items one.items other.items in
+    let bindings = one.bindings ∙ sym other.bindings in
+    let words = one.words ∙ sym other.words in
+    λ i. record { steps = steps i; items = items i; bindings = bindings i; words = words i }
+
+same_text : {value : Option Text} {x y : Text} → value ≡ Some x → value ≡ Some y → x ≡ y
+same_text {x = x} {y = y} e f = same_Some x y (sym e ∙ f)
+
+same_asks : (name : Text) (rows : List Row) (a b : Asked) → Asks name rows a → Asks name rows b → a ≡ b
+same_asks name rows (Runs f o) (Runs g p) h k = ap₂ Runs (same_text h.1 k.1) (same_options rows o p h.2 k.2)
+same_asks name rows (Builds f i) (Builds g j) h k = ap₂ Builds (same_text h.1 k.1) (same_text h.2 k.2)
+same_asks name rows (Executes f o) (Executes g p) h k = ap₂ Executes (same_text h.1 k.1) (same_options rows o p h.2 k.2)
+same_asks name rows (Lists i) (Lists j) h k = ap Lists (same_text h.1 k.1)
+same_asks name rows (Evaluates f m) (Evaluates g n) h k =
+    ap₂ Evaluates (same_text h.1 k.1) (decimal_injective m n (omega (arith, h.3)) (omega (arith, k.3)) (same_text h.2 k.2))
+same_asks name rows (Generates m s) (Generates n t) h k =
+    ap₂ Generates (decimal_injective m n (omega (arith, h.2)) (omega (arith, k.2)) (same_text h.1 k.1)) (h.3 ∙ sym k.3)
+same_asks name rows a b h k = let l : order a ≡ order b = sym (placed name rows a h) ∙ placed name rows b k in absurd (omega (arith, l))
+
+pub same_asked : {words : List Text} {a b : Asked} → IsCommand words a → IsCommand words b → a ≡ b
+same_asked {a = a} {b = b} c d =
+    let same = same_Some (d.name, d.rows) (c.name, c.rows) (sym d.read ∙ c.read) in
+    same_asks c.name c.rows a b c.asks (subst (λ (p : Text × List Row). Asks p.0 p.1 b) same d.asks)
+
+ascend_of : (list : Option Text) (items : List Item) → AreItems list items → Ascend 0 items
+ascend_of None items none = subst (Ascend 0) (sym none) tt
+ascend_of (Some text) items list = list.ascend
+
+-- the polls of the operator's items ascend
+pub run_items : {words : List Text} {file : List ℕ} {options : RunOptions} → IsCommand words (Runs file options) → Ascend 0 options.items
+run_items {options = options} c = ascend_of (given AT.now c.rows) options.items c.asks.2.items
+
+pub exec_items : {words : List Text} {image : List ℕ} {options : RunOptions} → IsCommand words (Executes image options) → Ascend 0 options.items
+exec_items {options = options} c = ascend_of (given AT.now c.rows) options.items c.asks.2.items
