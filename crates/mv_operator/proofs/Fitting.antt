@@ -22,7 +22,7 @@ use Rattle.mv_image.specs.Spelling.{Fields}
 use Rattle.mv_machine.specs.Actions as rows
 use Rattle.mv_operator.specs.declared.controls.Control.{Control}
 use Rattle.mv_operator.specs.Controls.{kind_of_type, control_of_global, controls_of, control_of_row, controls_in}
-use Rattle.mv_operator.specs.Operator.{is_of_kind, kind_of_switch, switch_named, flip_by, flip_from, flip_of, actions_from, AreActions, IsOfWord}
+use Rattle.mv_operator.specs.Operator.{is_of_kind, kind_of_switch, switch_named, flip_by, flip_from, flip_of, AreActions, IsOfWord}
 use Rattle.mv_operator.proofs.Acting.{each_action}
 
 word_above : (n : ℕ) → n < 2 ^ 32 → word_of (pos n) ≡ n

@@ -1,5 +1,5 @@
 -- What the operator does at the polls of a program or of an image.
-use Rattle.std.specs.Prelude.{ℕ, ℤ, pos, negsuc, ◌+◌, ◌-◌, ◌^◌, ◌<◌, ◌≡◌, Bool, false, if◌then◌else◌, nat_eq, nat_lt, nat_le, Option, Some, None, is_none, List, [], ◌∷◌, ◌++◌, replicate, position, slice_get}
+use Rattle.std.specs.Prelude.{ℕ, ℤ, pos, negsuc, ◌+◌, ◌-◌, ◌^◌, ◌<◌, ◌≡◌, Bool, if◌then◌else◌, nat_eq, nat_lt, nat_le, Option, Some, None, is_none, List, [], ◌∷◌, ◌++◌, replicate, position, slice_get}
 use Rattle.std.specs.Cmp.Lexicographic.{pointwise}
 use Rattle.mv_num.specs.Words.{word_of}
 use Rattle.mv_num.specs.declared.kind.Kind.{Kind}
