@@ -1,6 +1,6 @@
 //! Loading a command's file, and writing a text.
 
-ghost use Rattle.std.specs.Prelude.{◌≡◌};
+ghost use Rattle.std.specs.Prelude.{◌≡◌, Option};
 ghost use Rattle.mv_probe.specs.Ways.{Way};
 ghost use Rattle.mv_refine.specs.Environment.{environment, reading, writing, Reading};
 ghost use Rattle.mv_notes.specs.declared.status.Status.TheVariants.{Done};
