@@ -1,5 +1,5 @@
 -- From the answers of the layers to what comes of a generated program.
-use Rattle.std.proofs.Common.{ℕ, ◌≡◌, ◌≤◌, ◌<◌, ◌^◌, ◌⊎◌, inl, inr, ◌||◌, List, [], refl, sym, subst, ◌∙◌, arith, Option}
+use Rattle.std.proofs.Common.{ℕ, ◌≡◌, ◌≤◌, ◌<◌, ◌^◌, ◌⊎◌, inl, inr, ◌||◌, Bool, true, false, List, [], refl, sym, subst, ◌∙◌, arith, Option}
 use Rattle.std.specs.Prelude.{IsTrue}
 use Rattle.std.proofs.lemmas.List.Elements.{All-nil}
 use Rattle.mv_ast.specs.declared.program.Program.{Program}
@@ -9,18 +9,22 @@ use Rattle.mv_gen.specs.Generated.{generated}
 use Rattle.mv_image.specs.Spelling.{Fields}
 use Rattle.mv_io.specs.Outside.{Rose}
 use Rattle.mv_command.specs.declared.command.RunOptions.{RunOptions}
+use Rattle.mv_command.specs.declared.items.Item.{Item}
+use Rattle.mv_command.specs.declared.options.TheConstants.{DEFAULT_STEPS}
+use Rattle.mv_eval.specs.Grown.{Grew, GrewLess}
 use Rattle.mv_machine.specs.Snapshots.{Snapshot}
 use Rattle.mv_machine.specs.declared.machine.Stopped.{Stopped}
 use Rattle.mv_machine.specs.declared.machine.Stopped.TheVariants as stop
 use Rattle.mv_notes.specs.declared.status.Status.{Status}
-use Rattle.mv_notes.specs.declared.status.Status.TheVariants.{Memory}
+use Rattle.mv_notes.specs.declared.status.Status.TheVariants.{Memory, OutputFault, Done}
 use Rattle.mv_probe.specs.Ways.{Way}
-use Rattle.mv_refine.specs.Environment.{Reading, Writing, environment}
+use Rattle.mv_refine.specs.Environment.{Environment, Reading, Writing, environment}
 use Rattle.mv_refine.specs.Meant as meant
 use Rattle.mv_refine.specs.Run.{Runs}
 use Rattle.mv_top.specs.Generating as spec
-use Rattle.mv_top.specs.Generating.{is_cut_short, is_summed_up, no_input, plain, RunsPlainly, RunsText, Sums}
+use Rattle.mv_top.specs.Generating.{is_cut_short, is_summed_up, no_input, plain, summary, GenDoes, RunsPlainly, RunsText, Sums}
 use Rattle.mv_top.specs.Outcomes.{IsDue}
+use Rattle.mv_top.specs.Outside.{Writes}
 use Rattle.mv_top.specs.Running as running
 use Rattle.mv_top.specs.Running.{RunDoes, status_of_stop}
 
@@ -59,13 +63,17 @@ module _ (was is : Writing) (way way' : Option Way) (Heard : List Event → Type
   stands_so text lines options status (running.ran built actions e good are execution) =
       stop_is built.program built.image actions options.steps e.machine e.stopped execution.runs (execution.does good.image.behaves good.image.fits)
 
-  module _ (input : Reading) (text : List ℕ) (options : RunOptions) (same : options ≡ plain) where
-    pub ran_plainly : (lines : List ℕ) (stands status : Status) → Ran options text lines stands → (status ≡ stands) ⊎ (status ≡ Memory) →
+  -- options that ask for nothing but these items
+  abbrev with_items : List Item → RunOptions
+  with_items items = record { steps = DEFAULT_STEPS; items = items; bindings = false; words = false }
+
+  module _ (input : Reading) (text : List ℕ) (items : List Item) (none : items ≡ []) where
+    pub ran_plainly : (lines : List ℕ) (stands status : Status) → Ran (with_items items) text lines stands → (status ≡ stands) ⊎ (status ≡ Memory) →
         RunsPlainly (environment input was way) (environment input is way') Heard text status
     ran_plainly lines stands status does same_or_none =
-        record { stands = stands; does = no_lines text lines stands (subst (λ o. Ran o text lines stands) same does); is = same_or_none }
+        record { stands = stands; does = no_lines text lines stands (subst (λ i. Ran (with_items i) text lines stands) none does); is = same_or_none }
 
-    pub unlined : (due : IsDue (λ lines status. Ran options text lines status)) → RunsPlainly (environment input was way) (environment input is way') Heard text Memory
+    pub unlined : IsDue (λ lines status. Ran (with_items items) text lines status) → RunsPlainly (environment input was way) (environment input is way') Heard text Memory
     unlined due = ran_plainly due.lines due.status Memory due.comes (inr refl)
 
 -- ---- and then the summary
@@ -95,6 +103,31 @@ module _ (number : ℕ) (input : Reading) (was between is : Writing) (way way' :
       spec.ran between plainly.stands status (subst (λ t. RunDoes (environment no_input was way) (environment no_input between way') Heard plain t [] plainly.stands) same plainly.does)
       later latest (summed_up plainly.stands ran status (stands_so was between way way' Heard text [] plain plainly.stands plainly.does) plainly.is sums)
 
--- what is due behind a run that isn't summed up
-pub left_so : (number : ℕ) (was : Writing) (ran : Status) → IsTrue (is_cut_short ran) → Sums number was was ran ran
-left_so number was ran short = spec.cut_short short refl
+-- ---- what is written behind a run
+
+module _ (number : ℕ) (was is : Writing) (ran : Status) (summed : Bool) (said : summed ≡ is_summed_up ran) where
+  pub not_summed : summed ≡ false → IsTrue (is_summed_up ran || is_cut_short ran) → Sums number was was ran ran
+  not_summed no fair = spec.cut_short (subst (λ b. IsTrue (b || is_cut_short ran)) (sym said ∙ no) fair) refl
+
+  module _ (text : List ℕ) (same : text ≡ summary number ran) (yes : summed ≡ true) where
+    pub all_summed : Grew was.written is.written text → Sums number was is ran ran
+    all_summed grew = spec.summed (sym said ∙ yes) (subst (λ t. Grew was.written is.written t) same grew)
+
+    pub part_summed : GrewLess was.written is.written text → Rose was.faults is.faults → Sums number was is ran OutputFault
+    part_summed less rose = spec.part (sym said ∙ yes) (subst (λ t. GrewLess was.written is.written t) same less) rose
+
+-- ---- the whole command
+
+module _ (before after : Environment) (Heard : List Event → Type 0) (number : ℕ) (source : Bool) where
+  pub shown_so : (text : List ℕ) (status : Status) → source ≡ true → text ≡ generated number → Heard [] → after.way ≡ before.way → Writes before after text Done status →
+      GenDoes before after Heard number source status
+  shown_so text status shows same unheard way writes =
+      subst (λ b. GenDoes before after Heard number b status) (sym shows)
+      (spec.shown status unheard (subst (λ t. Writes before after t Done status) same writes), way)
+
+  pub runs_so : (status : Status) → source ≡ false → RunsText before after Heard number status → GenDoes before after Heard number source status
+  runs_so status runs does = subst (λ b. GenDoes before after Heard number b status) (sym runs) does
+
+pub unmade_so : (before : Environment) (Heard : List Event → Type 0) (number : ℕ) (source : Bool) → Heard [] → GenDoes before before Heard number source Memory
+unmade_so before Heard number true unheard = (spec.ShowsText.unmade (refl, unheard), refl)
+unmade_so before Heard number false unheard = spec.RunsText.unmade (refl, unheard)

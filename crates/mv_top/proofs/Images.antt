@@ -6,6 +6,9 @@ use Rattle.mv_exec.specs.Loading.{IsLoaded, IsNotLoaded, IsNotRead}
 use Rattle.mv_exec.specs.declared.error.LoadError.{LoadError}
 use Rattle.mv_exec.specs.declared.error.LoadError.TheVariants as load
 use Rattle.mv_exec.specs.declared.loaded.Loaded.{Loaded}
+use Rattle.mv_image.specs.Faults.{Spells}
+use Rattle.mv_image.specs.Spelling.{Fields}
+use Rattle.mv_list.specs.Listing.{listing_text}
 use Rattle.mv_operator.specs.Operator.{IsImageActions}
 use Rattle.mv_refine.specs.declared.execution.Execution.{Execution}
 use Rattle.mv_refine.specs.Environment.{Environment}
@@ -13,11 +16,12 @@ use Rattle.mv_refine.specs.Run.{Runs}
 use Rattle.mv_command.specs.declared.command.RunOptions.{RunOptions}
 use Rattle.mv_notes.specs.Lines.{asked_lines}
 use Rattle.mv_notes.specs.declared.status.Status.{Status}
-use Rattle.mv_notes.specs.declared.status.Status.TheVariants.{Memory}
+use Rattle.mv_notes.specs.declared.status.Status.TheVariants.{Memory, Done}
 use Rattle.mv_top.specs.Executing as executing
 use Rattle.mv_top.specs.Executing.{ExecDoes, status_of_load}
 use Rattle.mv_top.specs.Listing as listing
 use Rattle.mv_top.specs.Listing.{ListDoes}
+use Rattle.mv_top.specs.Outside.{Writes}
 use Rattle.mv_top.specs.Running.{Unused, status_of_stop}
 use Rattle.mv_top.proofs.Performing.{alone}
 
@@ -53,3 +57,6 @@ module _ (before after : Environment) (bytes : List ℕ) where
 
   pub not_listed : (status : Status) (e : LoadError) → status ≡ status_of_load e → IsNotRead bytes e → after ≡ before → ListDoes before after bytes status
   not_listed status e same is untouched = subst (λ (s : Status). ListDoes before after bytes s) (sym same) (not_listed_by e is untouched)
+
+  pub listed_so : (image : Fields) (text : List ℕ) (status : Status) → text ≡ listing_text image → Spells bytes image → Writes before after text Done status → ListDoes before after bytes status
+  listed_so image text status same spells writes = listing.listed image status spells (subst (λ t. Writes before after t Done status) same writes)
