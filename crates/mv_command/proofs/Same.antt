@@ -1,14 +1,14 @@
 -- Words are one command at most.
-use Rattle.std.proofs.Common.{ℕ, ◌≡◌, List, [], refl, sym, ap, ap₂, ◌∙◌, subst, arith, eqb}
+use Rattle.std.proofs.Common.{ℕ, ◌≡◌, List, refl, sym, ap, ap₂, ◌∙◌, subst, arith, eqb}
 use Rattle.std.specs.Prelude.{Option, Some, None}
 use Rattle.std.specs.List.{slice_split, position_or_len}
 use Rattle.std.specs.Str.{bytes_eq}
 use Rattle.std.proofs.lemmas.Fmt.{decimal_injective}
-use Rattle.std.proofs.lemmas.Option.{none-some, same_Some}
+use Rattle.std.proofs.lemmas.Option.{same_Some}
 use Rattle.clap.specs.Walk.{Row, Text}
 use Rattle.mv_command.specs.declared.items.Item.{Item}
 use Rattle.mv_command.specs.declared.command.RunOptions.{RunOptions}
-use Rattle.mv_command.specs.declared.options.TheConstants.{COMMANDS, AT, BOUND, FILE, IMAGE, NUMBER, STEPS}
+use Rattle.mv_command.specs.declared.options.TheConstants.{COMMANDS, AT, STEPS}
 use Rattle.mv_command.specs.Items.{Ascend}
 use Rattle.mv_command.specs.Commands.{Asked, Runs, Builds, Executes, Lists, Evaluates, Generates, IsLimit, AreItems, AreOptions, Asks, IsCommand, given}
 use Rattle.mv_command.proofs.ItemTexts.{same_items, list_pieces}

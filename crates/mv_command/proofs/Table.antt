@@ -14,7 +14,7 @@ use Rattle.clap.specs.declared.builder.command.Command.TheViews.{out-Command}
 use Rattle.clap.specs.declared.error.kind.ErrorKind.{ErrorKind}
 use Rattle.clap.specs.declared.error.kind.ErrorKind.TheVariants.{OutOfMemory}
 use Rattle.mv_command.specs.declared.options.Kind.{Kind}
-use Rattle.mv_command.specs.Commands.{app, argument_text, form, no_forms, rows, rule, with_argument, with_form}
+use Rattle.mv_command.specs.Commands.{app, argument_text, form, no_forms, rule, table, with_argument, with_form}
 use denote.Ref.{Bor}
 
 -- one argument more
@@ -52,10 +52,10 @@ settings a b c d name new one two three =
     ap app_of_fields three ∙ ap (on_top (λ s. record s { disable_help_subcommand = true })) (ap app_of_fields two ∙
     ap (on_top (λ s. record s { disable_help_flag = true })) (ap app_of_fields one ∙ ap (on_top (λ s. record s { no_binary_name = true })) new))
 
-pub whole : (xs : List Entry) (i : ℕ) (program : Command) → length xs ≤ i → map entry_row xs ≡ rows → app_of program ≡ fold (λ a x. with_form a (entry_row x)) no_forms (take i xs) → app_of program ≡ app
+pub whole : (xs : List Entry) (i : ℕ) (program : Command) → length xs ≤ i → map entry_row xs ≡ table → app_of program ≡ fold (λ a x. with_form a (entry_row x)) no_forms (take i xs) → app_of program ≡ app
 unfolding app
-whole xs i program all table is =
-    is ∙ ap (fold (λ a x. with_form a (entry_row x)) no_forms) (take_all i xs all) ∙ sym (fold-map with_form entry_row no_forms xs) ∙ ap (fold with_form no_forms) table
+whole xs i program all same is =
+    is ∙ ap (fold (λ a x. with_form a (entry_row x)) no_forms) (take_all i xs all) ∙ sym (fold-map with_form entry_row no_forms xs) ∙ ap (fold with_form no_forms) same
 
 pub app_simple : is_simple app ≡ true
 unfolding app

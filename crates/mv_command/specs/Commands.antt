@@ -1,6 +1,6 @@
 -- The words that are a command: `clap` assigns them to the operands and the options of the table, and the texts of numbers and lists
 -- are read here.
-use Rattle.std.specs.Prelude.{ℕ, ◌≡◌, ◌≤◌, Bool, true, false, Option, Some, None, List, [], ◌∷◌, fold, map, codes, MatchOption}
+use Rattle.std.specs.Prelude.{ℕ, ◌≡◌, ◌≤◌, Bool, true, false, Option, Some, None, List, [], fold, map, codes, MatchOption}
 use Rattle.std.specs.Option.{option_map_or}
 use Rattle.std.specs.Str.{bytes_eq}
 use Rattle.std.specs.Borrow.{Bor}
@@ -36,20 +36,20 @@ form row = fold with_argument (new_app row.0) row.1
 abbrev pub with_form : App → Text × List (Kind × Text) → App
 with_form a row = with_subcommand a (form row).top
 
--- the texts behind references
 abbrev pub argument_text : Kind × Bor Text → Kind × Text
 argument_text argument = (argument.0, argument.1.now)
 
-abbrev pub rows : List (Text × List (Kind × Text))
-rows = map (λ row. (row.0.now, map (λ argument. (argument.0, argument.1.now)) row.1.now)) COMMANDS
+-- each command's name with what may stand behind it
+abbrev pub table : List (Text × List (Kind × Text))
+table = map (λ row. (row.0.now, map (λ argument. (argument.0, argument.1.now)) row.1.now)) COMMANDS
 
 -- the program, whose words begin with the command's name, and which has no help
 abbrev pub no_forms : App
 no_forms = on_top (λ s. record s { no_binary_name = true; disable_help_flag = true; disable_help_subcommand = true }) (new_app PROGRAM.now)
 
--- the table
+-- the program with each command of the table
 unfoldable pub app : App
-app = fold with_form no_forms rows
+app = fold with_form no_forms table
 
 -- ---- what is read of the values
 

@@ -105,16 +105,16 @@ module _ (number : ℕ) (input : Reading) (was between is : Writing) (way way' :
 
 -- ---- what is written behind a run
 
-module _ (number : ℕ) (was is : Writing) (ran : Status) (summed : Bool) (said : summed ≡ is_summed_up ran) where
+module _ (number : ℕ) (was : Writing) (ran : Status) (summed : Bool) (said : summed ≡ is_summed_up ran) where
   pub not_summed : summed ≡ false → IsTrue (is_summed_up ran || is_cut_short ran) → Sums number was was ran ran
-  not_summed no fair = spec.cut_short (subst (λ b. IsTrue (b || is_cut_short ran)) (sym said ∙ no) fair) refl
+  not_summed none fair = spec.cut_short (subst (λ b. IsTrue (b || is_cut_short ran)) (sym said ∙ none) fair) refl
 
-  module _ (text : List ℕ) (same : text ≡ summary number ran) (yes : summed ≡ true) where
+  module _ (is : Writing) (text : List ℕ) (same : text ≡ summary number ran) (whole : summed ≡ true) where
     pub all_summed : Grew was.written is.written text → Sums number was is ran ran
-    all_summed grew = spec.summed (sym said ∙ yes) (subst (λ t. Grew was.written is.written t) same grew)
+    all_summed grew = spec.summed (sym said ∙ whole) (subst (λ t. Grew was.written is.written t) same grew)
 
     pub part_summed : GrewLess was.written is.written text → Rose was.faults is.faults → Sums number was is ran OutputFault
-    part_summed less rose = spec.part (sym said ∙ yes) (subst (λ t. GrewLess was.written is.written t) same less) rose
+    part_summed less rose = spec.part (sym said ∙ whole) (subst (λ t. GrewLess was.written is.written t) same less) rose
 
 -- ---- the whole command
 
