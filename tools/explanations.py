@@ -1,15 +1,24 @@
 """What `./multiverse` says at a terminal behind the program's notes."""
-import itertools
 import os
 
 import refusals
 
 SYNOPSIS = """\
 usage: ./multiverse [--explain off] run FILE [--steps N] [--at LIST] [--bindings] [--words]
+       ./multiverse [--explain off] build FILE IMAGE
+       ./multiverse [--explain off] exec IMAGE [--steps N] [--at LIST] [--bindings] [--words]
+       ./multiverse [--explain off] list IMAGE
        ./multiverse [--explain off] eval FILE --bound K
+       ./multiverse [--explain off] gen NUMBER [--source]
        ./multiverse --build
-N is 1 to 1000000000000 (without it 1000000000), K is 0 to 4294967295, LIST is items POLL:SWITCH=VALUE with commas between;
+N is 1 to 1000000000000 (without it 1000000000), K and NUMBER are 0 to 4294967295, LIST is items POLL:SWITCH=VALUE with commas between;
 docs/commands.md has all"""
+
+# The options whose value may be a word of its own.
+VALUED = ("--steps", "--at", "--bound")
+
+# What is wrong with bytes that are no image.
+FAULTS = {"10": "something is missing", "11": "a field breaks a rule", "12": "something follows the end"}
 
 # How many characters of a line are shown, and how many of these at most before the place.
 WIDTH, BEFORE = 100, 60
@@ -29,14 +38,32 @@ def shown(file, place):
     return [f"    {whole}", f"    {blank}^"]
 
 
+def operands(words):
+    """Returns the words of a command that are its files or its number: all but its name and its options."""
+    found, rest = [], list(words[1:])
+    while rest:
+        word = rest.pop(0)
+        if word == "--":
+            return found + rest
+        if word in VALUED:
+            rest[:1] = []
+        elif not word.startswith("--"):
+            found.append(word)
+    return found
+
+
 def of_notes(notes, words):
     """Returns the lines that explain the last line of the notes of a command."""
     last_line = notes.rstrip("\n").rpartition("\n")[2]
     if last_line == "usage":
         return SYNOPSIS.split("\n")
-    files = words[1:2] + list(itertools.takewhile(lambda it: not it.startswith("--"), words[2:]))
+    files = operands(words)
+    if last_line == "shelf fault" and len(files) > 1:
+        return [f"{files[0]} can't be read, or isn't there; or {files[1]} can't be written"]
     if last_line == "shelf fault":
         return [f"{' or '.join(files)} can't be read, or isn't there"]
+    if last_line.startswith("bad image "):
+        return [f"{files[0]} is no image, as `build` saves one: {FAULTS[last_line.split()[2]]} at byte {last_line.split()[3]}"]
     explained = refusals.explained(last_line)
     if not explained:
         return []

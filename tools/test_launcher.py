@@ -52,6 +52,7 @@ PROGRAM = r"""#!/bin/sh
 [ ! -f guest.c ] || { printf .; exec sleep 60; }
 for word; do printf '[%s]\n' "$word"; done
 [ ! -e "$SCRATCH/long" ] || head -c 2000000 /dev/zero
+[ "$1" != build ] || echo image > "$3"
 [ ! -e "$SCRATCH/waits" ] || { echo "$$" > "$SCRATCH/waiting"; exec sleep 60; }
 cat
 cat "$SCRATCH/notes" >&2
@@ -155,6 +156,13 @@ class Launcher(unittest.TestCase):
             self.write(name, "")
         words = ("eval", "a.c", "--bound", "1000", "", "two words", "*")
         self.assertEqual(self.run_it(*words)[1], "".join(f"[{it}]\n" for it in words))
+
+    def test_file_is_written_where_it_is_named(self):
+        folder = os.path.join(self.scratch, "folder")
+        os.mkdir(folder)
+        for name, where in (("a.img", os.path.join(folder, "a.img")), (os.path.join(self.scratch, "b.img"), os.path.join(self.scratch, "b.img"))):
+            self.assertEqual(self.run_it("build", "a.c", name, cwd=folder)[:2], (0, f"[build]\n[a.c]\n[{name}]\n"))
+            self.assertEqual(self.read(where), "image\n")
 
     def test_own_words_stand_before_the_command(self):
         for words in (("run", "a.c", "--explain", "off"), ("run", "--build"), ("--explain", "on", "run"), ("--build", "run")):
@@ -301,6 +309,18 @@ class Launcher(unittest.TestCase):
 
     def test_shelf_fault_is_explained(self):
         self.assertIn("none.c", self.explained("shelf fault", "run", "none.c", "--steps", "3"))
+
+    def test_shelf_fault_of_a_file_that_is_written_is_explained(self):
+        whole = self.explained("shelf fault", "build", "a.c", "a.img")
+        self.assertIn("a.c can't be read", whole)
+        self.assertIn("a.img can't be written", whole)
+
+    def test_options_are_no_files(self):
+        whole = self.explained("shelf fault", "exec", "--steps", "3", "--at=1:s=1", "--words", "none.img")
+        self.assertIn("multiverse: none.img can't be read", whole)
+
+    def test_bad_image_is_explained(self):
+        self.assertIn("a.img is no image, as `build` saves one: something is missing at byte 8", self.explained("bad image 10 8", "list", "a.img"))
 
     def test_refusal_is_explained(self):
         self.write("a.c", "int main(void) {\n\tint \u00e4 = y;\n}\n")

@@ -20,7 +20,7 @@
 //! An error is want of memory before the first instruction, with all as before.
 #![tactic(auto)]
 
-ghost use Rattle.std.specs.Prelude.{All, IsTrue};
+ghost use Rattle.std.specs.Prelude.{◌≤◌, All, IsTrue};
 ghost use Rattle.mv_commit_runs.specs.Tabled.{IsOfWord};
 ghost use Rattle.mv_machine.specs.Actions.{fits};
 ghost use Rattle.mv_probe.specs.Fates.{Fates};
@@ -53,11 +53,12 @@ pub fn run_image<I: Source, O: Sink>(
 ) -> Result<Execution, AllocError>
     requires patient { All (λ probe. IsPatient (hearing (told probe) (patience probe))) probes.old.items }
     requires fit { All (λ action. IsTrue (fits image.now.switches action)) actions.now }
-    ensures { RunsImage image.now actions.now steps
+    ensures runs { RunsImage image.now actions.now steps
         (environment (reading (I.left source.old) (I.faults source.old)) (writing (O.written sink.old) (O.faults sink.old)) (way oracle.old))
         (environment (reading (I.left source.new) (I.faults source.new)) (writing (O.written sink.new) (O.faults sink.new)) (way oracle.new))
         (λ events. Fates (Becomes (λ probe. object_at probe.ptr probe.vtable) (λ probe. hearing (told probe) (patience probe)) events) probes.old.items probes.new.items)
         result }
+    ensures later { O.faults sink.old ≤ O.faults sink.new }
 {
     let mut machine = Machine::start(alloc, image)?;
     let stopped = machine.run(steps, source, sink, oracle, probes, actions);
@@ -78,11 +79,12 @@ pub fn execute<I: Source, O: Sink>(
 ) -> Result<Execution, AllocError>
     requires patient { All (λ probe. IsPatient (hearing (told probe) (patience probe))) probes.old.items }
     requires fit { All (λ action. IsTrue (fits built.now.image.switches action)) actions.now }
-    ensures { Executes built.now actions.now steps
+    ensures executes { Executes built.now actions.now steps
         (environment (reading (I.left source.old) (I.faults source.old)) (writing (O.written sink.old) (O.faults sink.old)) (way oracle.old))
         (environment (reading (I.left source.new) (I.faults source.new)) (writing (O.written sink.new) (O.faults sink.new)) (way oracle.new))
         (λ events. Fates (Becomes (λ probe. object_at probe.ptr probe.vtable) (λ probe. hearing (told probe) (patience probe)) events) probes.old.items probes.new.items)
         result }
+    ensures later { O.faults sink.old ≤ O.faults sink.new }
 {
     are_of_words(actions);
     run_image(

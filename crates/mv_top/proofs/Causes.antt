@@ -8,8 +8,8 @@ use Rattle.mv_build.specs.declared.error.BuildError.{BuildError}
 use Rattle.mv_build.specs.declared.error.BuildError.TheVariants as build_error
 use Rattle.mv_build.specs.Answers as build
 use Rattle.mv_build.specs.Verdicts.{IsBuiltFrom}
-use Rattle.mv_top.specs.Texts as spec
-use Rattle.mv_top.specs.Texts.{IsCause, IsNotRun, no_action}
+use Rattle.mv_top.specs.Running as spec
+use Rattle.mv_top.specs.Running.{IsCause, IsNotRun, no_action}
 
 -- that of an answer of `build`
 pub build_cause : (text : List ℕ) (items : List Item) (e : BuildError) → build.IsCause text e → IsCause text items e

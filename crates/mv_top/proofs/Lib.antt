@@ -1,7 +1,12 @@
+pub mod Performing
+pub mod Loading
+pub mod WordLines
+pub mod Texts
+pub mod Images
+pub mod Generating
+pub mod RunsDecided
+pub mod OthersDecided
 pub mod Decisions
 pub mod Few
 pub mod Fits
-pub mod WordLines
-pub mod Performing
-pub mod Writing
 pub mod Causes

@@ -1,4 +1,10 @@
-pub mod Lines
+pub mod Outside
 pub mod WordLines
-pub mod Texts
+pub mod Running
+pub mod Building
+pub mod Executing
+pub mod Listing
+pub mod Evaluating
+pub mod Generating
+pub mod Decisions
 pub mod Outcomes

@@ -1,17 +1,15 @@
 //! The top call: all that the program `multiverse` does, over a shelf of files, an input, an output and notes.
 //!
 //! `multiverse(alloc, words, shelf, input, out, notes, oracle, probes)` does all that the program does. Its contract
-//! says of each status when it comes, what was taken from `input`, what was written and what the probes were told
-//! (`specs/Outcomes.antt`, `specs/Texts.antt`, `specs/Lines.antt`):
+//! says of each status when it comes, what was taken from `input`, what was written, saved and what the probes were told
+//! (`specs/Outcomes.antt`, and a file for each command):
 //!
 //! - `Usage`: the words are no command (`mv_command`). `ShelfFault`: the count of `shelf` rose, or its told files have no
-//!   FILE. `Refused` 1 to 7: the text of FILE is refused so, by `mv_front`'s definition. In these `input` and `out` are
-//!   unchanged, and no probe is told anything.
-//! - `eval FILE --bound K`, where the text of FILE is a program: `Ended`, `Trapped` and `Steps` are the end of its
-//!   meaning at K on the first 16,777,216 bytes of what `input` tells, or all of it; `input` lost exactly these bytes,
-//!   and `out` grew by exactly the output of that meaning. After `InputFault`, `OutputFault` and `Memory` it is as
-//!   `mv_eval` says. No probe is told anything.
-//! - `run FILE [--steps N] [--at LIST] [--bindings] [--words]`: `Refused`: the text is no program; or its program passes
+//!   file of the name that the command loads. `Refused` 1 to 7 of `run`, `build` and `eval`: the text of FILE is refused so, by `mv_front`'s definition.
+//!   `BadImage` of `exec` and `list`: the code and the offset of the first fault of the bytes, by `mv_image`'s definition. In
+//!   these `input` and `out` are unchanged, and no probe is told anything. The files of the shelf are unchanged with each
+//!   command but `build`.
+//! - `run FILE` (`specs/Running.antt`): `Refused`: the text is no program; or its program passes
 //!   a limit, as `mv_build` says; or, behind all these, 15 with the number of the first item of LIST that is no action of
 //!   the program (`mv_operator`). `input` and `out` are unchanged. Each other answer but `Memory` is that of an execution
 //!   (`mv_refine`) of an image that `mv_build` gives of the text, with the actions of LIST: there is one image, with its
@@ -24,29 +22,44 @@
 //!   failed.
 //! - This image does what the program means with the actions, on each input and whatever the fetches give, also while
 //!   commits, reverts and polls rewrite its text. Where the run has ended, its bindings and its text are the meaning's, and
-//!   each probe heard exactly the meaning's log; no line of `--words` is due exactly where all functions are free, and else
-//!   there are as many as one for each bound function and one for each direct call of it in the source, or more
-//!   (`CountsFrom`). `MachineFault` comes only where the input tells nothing or what is no byte.
+//!   each probe heard exactly the meaning's log. `MachineFault` comes of it only where the input tells nothing or what is no byte.
+//! - `build FILE IMAGE` (`specs/Building.antt`): refused as `run` without items. `Done`: the shelf tells under IMAGE bytes that spell
+//!   an image which `mv_build` gives of the text, and all other names are as before. `ShelfFault` of the save: the count rose, and other names
+//!   are as before; with `Refused` all are, and with `Memory` too. `input` and `out` are unchanged.
+//! - `exec IMAGE` (`specs/Executing.antt`): 15 with the first item of LIST that is no action of the image that the bytes spell; else
+//!   one run of this image is what was done, as above, with no word on any source. `Memory` may come of the run too.
+//! - `list IMAGE` (`specs/Listing.antt`), `Done`: `out` grew by exactly the listing of the image that the bytes spell.
+//! - `eval FILE --bound K` (`specs/Evaluating.antt`), where the text of FILE is a program: `Ended`, `Trapped` and `Steps` are the end of its
+//!   meaning at K on the first 16,777,216 bytes of what `input` tells, or all of it; `input` lost exactly these bytes,
+//!   and `out` grew by exactly the output of that meaning. After `InputFault`, `OutputFault` and `Memory` it is as
+//!   `mv_eval` says. No probe is told anything.
+//! - `gen NUMBER` (`specs/Generating.antt`): with `--source`, `Done`, `out` grew by exactly the text of the number. Without it that text is
+//!   run as above on no input, without an operator and to the default limit, and then `out` grew by exactly the summary. `input` is unchanged.
 //! - `InputFault`, `OutputFault`: the count of `input`, of `out` or of `notes` rose.
-//! - `notes` grew by exactly the lines that were asked for and the last line of the status; after `OutputFault` of `out`
-//!   by these lines alone. Where there was no memory to make them, it is as before and the status is `Memory`; where a
-//!   write to it failed, it grew by less.
-//! - Each status comes where its cause stands, unless a count rose: no command, a missing file, each refusal 1 to 7, 15
+//! - `notes` grew by exactly the lines that were asked for and the last line of the status (`mv_notes`); after `OutputFault` of `out` and after `Memory` they are
+//!   as before. Where there was no memory to make the lines, the notes are as before and the status is `Memory`; where a
+//!   write to them failed, they grew by less.
+//! - Each status comes where its cause stands, unless a count rose (`specs/Decisions.antt`): no command, a missing file, each refusal 1 to 7, each code and
+//!   offset of bytes that are no image, 15
 //!   unless the program passes a limit, and each end of an evaluation on an input that is told; of a run the end of the
-//!   meaning at some bound, where N is at least 100 × (1 + the work there), unless the program passes a limit.
-//! - Asked is that each probe that tells its patience has some left. The files of the shelf are unchanged.
+//!   meaning at some bound, where N is at least 100 × (1 + the work there), unless the program passes a limit; `Done` of `list`, of `gen --source`,
+//!   and of `build` unless the program passes a limit; of `exec` how its run stands. Want of memory may come in place of each.
+//! - Asked is that each probe that tells its patience has some left.
 //!
 //! `run` really runs: a body that writes what the program means and executes nothing, or one instruction fewer, is
 //! refused by the clause on one run. Tested through the programs of `mv_top_rows`. Where nothing is told of an object,
-//! nothing is said of what it holds.
+//! nothing is said of what it holds. Not proved here: that a generated text is a program, within the limits; without that `gen` may be `Refused`.
 #![tactic(auto)]
 
-mod notes;
-mod prepared;
-mod status;
-mod texts;
+mod build;
+mod eval;
+mod exec;
+mod files;
+mod generate;
+mod list;
+mod run;
 mod top;
 
 pub use mv_front::Refusal;
-pub use status::Status;
+pub use mv_notes::Status;
 pub use top::multiverse;

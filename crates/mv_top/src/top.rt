@@ -1,18 +1,22 @@
 //! The top call.
 
-ghost use Rattle.std.specs.Prelude.{◌≡◌, All, map};
+ghost use Rattle.std.specs.Prelude.{All, map};
 ghost use Rattle.std.specs.String.{string_bytes};
 ghost use Rattle.mv_probe.specs.Fates.{Fates};
 ghost use Rattle.mv_probe.specs.Hearing.{hearing, object_at, Becomes, IsPatient};
 ghost use Rattle.mv_refine.specs.Environment.{environment, reading, writing};
-ghost use Rattle.mv_top.specs.Outcomes.{Comes, IsCarriedOut, outside, shelved};
-ghost use Rattle.mv_top.specs.Texts.{Performs};
+ghost use Rattle.mv_top.specs.Outcomes.{Comes, IsCarriedOut, Performs};
+ghost use Rattle.mv_top.specs.Outside.{outside, shelved};
 
-use crate::notes::{Performed, report};
-use crate::status::Status;
-use crate::texts::{eval_text, run_text};
-use mv_command::{Command, Task, command_of};
-use mv_io::{Shelf, ShelfError, Sink, Source};
+use crate::build::build_file;
+use crate::eval::eval_file;
+use crate::exec::exec_file;
+use crate::generate::generate_program;
+use crate::list::list_file;
+use crate::run::run_file;
+use mv_command::{Command, command_of};
+use mv_io::{Shelf, Sink, Source};
+use mv_notes::{Performed, Status, report};
 use mv_probe::{FetchOracle, Probe};
 use std::alloc::{AllocError, Global};
 
@@ -27,36 +31,41 @@ fn perform<H: Shelf, I: Source, O: Sink>(
     probes: &mut Vec<Box<dyn Probe>>,
 ) -> Result<Performed, AllocError>
     requires { All (λ probe. IsPatient (hearing (told probe) (patience probe))) probes.old.items }
-    ensures comes { Performs (Comes (map string_bytes words.now)
+    ensures { Performs (Comes
         (outside (shelved (H.files shelf.old) (H.faults shelf.old)) (environment (reading (I.left input.old) (I.faults input.old)) (writing (O.written out.old) (O.faults out.old)) (way oracle.old)))
         (outside (shelved (H.files shelf.new) (H.faults shelf.new)) (environment (reading (I.left input.new) (I.faults input.new)) (writing (O.written out.new) (O.faults out.new)) (way oracle.new)))
-        (λ events. Fates (Becomes (λ probe. object_at probe.ptr probe.vtable) (λ probe. hearing (told probe) (patience probe)) events) probes.old.items probes.new.items)) result }
-    ensures files { H.files shelf.new ≡ H.files shelf.old }
+        (λ events. Fates (Becomes (λ probe. object_at probe.ptr probe.vtable) (λ probe. hearing (told probe) (patience probe)) events) probes.old.items probes.new.items)
+        (map string_bytes words.now)) result }
 {
-    let Command { file, task } = match command_of(alloc, words) {
-        Ok(Some(command)) => command,
-        Ok(None) => return Ok(Performed::alone(alloc, Status::Usage)),
-        Err(_) => return Ok(Performed::alone(alloc, Status::Memory)),
-    };
-    let text = match shelf.load(alloc, file) {
-        Ok(text) => text,
-        Err(ShelfError::Failed) => return Ok(Performed::alone(alloc, Status::ShelfFault)),
-        Err(ShelfError::Memory(_)) => return Ok(Performed::alone(alloc, Status::Memory)),
-    };
-    match task {
-        Task::Run(options) => {
-            run_text(alloc, text.as_slice(), &options, input, out, oracle, probes)
+    match command_of(alloc, words) {
+        Ok(Some(Command::Run { file, options })) => {
+            run_file(alloc, file, &options, shelf, input, out, oracle, probes)
         }
-        Task::Eval(bound) => {
-            let status = eval_text(alloc, text.as_slice(), bound, input, out);
+        Ok(Some(Command::Build { file, image })) => {
+            Ok(Performed::alone(alloc, build_file(alloc, file, image, shelf)))
+        }
+        Ok(Some(Command::Exec { image, options })) => {
+            exec_file(alloc, image, &options, shelf, input, out, oracle, probes)
+        }
+        Ok(Some(Command::List { image })) => {
+            Ok(Performed::alone(alloc, list_file(alloc, image, shelf, out)))
+        }
+        Ok(Some(Command::Eval { file, bound })) => {
+            let status = eval_file(alloc, file, bound, shelf, input, out);
             Ok(Performed::alone(alloc, status))
         }
+        Ok(Some(Command::Gen { number, source })) => {
+            let status = generate_program(alloc, number, source, out, oracle, probes);
+            Ok(Performed::alone(alloc, status))
+        }
+        Ok(None) => Ok(Performed::alone(alloc, Status::Usage)),
+        Err(_) => Ok(Performed::alone(alloc, Status::Memory)),
     }
 }
 
 /// Carries out the command that the words are: the words after the program's name. The output goes to `out`, and to `notes` the lines that are
 /// asked for and the last line. Where memory was refused for these, `notes` is as it was; where a write failed, it has a part of what was due.
-/// `run` fetches by the oracle, and tells the probes each change of a binding.
+/// What runs fetches by the oracle, and tells the probes each change of a binding.
 pub fn multiverse<H: Shelf, I: Source, O: Sink, N: Sink>(
     alloc: Global,
     words: &[String],
@@ -68,11 +77,11 @@ pub fn multiverse<H: Shelf, I: Source, O: Sink, N: Sink>(
     probes: &mut Vec<Box<dyn Probe>>,
 ) -> Status
     requires { All (λ probe. IsPatient (hearing (told probe) (patience probe))) probes.old.items }
-    ensures { IsCarriedOut (map string_bytes words.now)
+    ensures { IsCarriedOut
         (outside (shelved (H.files shelf.old) (H.faults shelf.old)) (environment (reading (I.left input.old) (I.faults input.old)) (writing (O.written out.old) (O.faults out.old)) (way oracle.old)))
         (outside (shelved (H.files shelf.new) (H.faults shelf.new)) (environment (reading (I.left input.new) (I.faults input.new)) (writing (O.written out.new) (O.faults out.new)) (way oracle.new)))
         (λ events. Fates (Becomes (λ probe. object_at probe.ptr probe.vtable) (λ probe. hearing (told probe) (patience probe)) events) probes.old.items probes.new.items)
-        (writing (N.written notes.old) (N.faults notes.old)) (writing (N.written notes.new) (N.faults notes.new)) result }
+        (map string_bytes words.now) (writing (N.written notes.old) (N.faults notes.old)) (writing (N.written notes.new) (N.faults notes.new)) result }
 {
     match perform(alloc, words, shelf, input, out, oracle, probes) {
         Ok(performed) => report(alloc, performed, notes),

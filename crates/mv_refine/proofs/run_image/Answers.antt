@@ -13,10 +13,10 @@ run-stopped-requires-clause-fit g c =
     subst (λ (i : Fields). All (λ action. IsTrue (fits i.switches action)) c.args.actions.now)
     (sym (image_of c.in_ok-machine.machine image c.in_ok-machine.ensures)) c.requires.fit
 
-pub returns-in_err-machine : goal.returns-in_err-machine
-returns-in_err-machine g c =
+pub returns-in_err-machine-clause-runs : goal.returns-in_err-machine-clause-runs
+returns-in_err-machine-clause-runs g c =
     let p = err_from_is_err_and c.from_residual.result c.from_residual.ensures.1 in rw p.1 (refl, told_nothing _ _ c.args.probes.now.items c.requires.patient)
 
-pub returns : goal.returns
-returns g c =
+pub returns-clause-runs : goal.returns-clause-runs
+returns-clause-runs g c =
     made c.args.image.now c.args.actions.now _ _ c.args.steps c.run-stopped.result _ c.in_ok-machine.machine c.run-stopped.new.self c.in_ok-machine.ensures c.run-stopped.ensures.runs

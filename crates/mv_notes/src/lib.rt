@@ -1,0 +1,16 @@
+//! How a command ended, and what is written to its notes.
+//!
+//! - `Status`: how a command ended, the text of which is the last line of the notes (`specs/Lines.antt`), and the status of the
+//!   process (`Status::number`).
+//! - `lines_of_run`: exactly the lines that a run is asked for, of its image and of the machine as it stopped.
+//! - `report`: the notes grew by exactly the lines that were asked for and the last line, and the status is the one that was
+//!   due. With `Memory` and `OutputFault` nothing is written. Where there was no memory to make the lines, the notes are as
+//!   before and the status is `Memory`; where a write failed, they grew by less and the status is `OutputFault`.
+//! - Tested through the programs of `mv_top_rows`.
+#![tactic(auto)]
+
+mod notes;
+mod status;
+
+pub use notes::{Performed, lines_of_run, report};
+pub use status::Status;

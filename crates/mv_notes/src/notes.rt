@@ -1,0 +1,111 @@
+//! What is written to the notes.
+
+ghost use Rattle.std.specs.Prelude.{◌≡◌, ◌++◌, [], IfOk, if◌then◌else◌};
+ghost use Rattle.mv_list.specs.Bindings.{bindings_text};
+ghost use Rattle.mv_list.specs.Changes.{patched_text};
+ghost use Rattle.mv_notes.specs.Lines.{asked_lines, owed, Noted};
+
+use crate::status::Status;
+use mv_command::RunOptions;
+use mv_eval::writing::write_all;
+use mv_image::Image;
+use mv_io::Sink;
+use mv_list::{bindings, patched};
+use mv_machine::Machine;
+use std::alloc::{AllocError, Global};
+
+/// What a command came to: its status, and the lines that it was asked for.
+#[derive(Drop)]
+pub struct Performed {
+    /// The status that is due.
+    pub status: Status,
+    /// The lines, each with its line feed.
+    pub lines: Vec<u8>,
+}
+
+impl Performed {
+    /// A status alone.
+    pub fn alone(alloc: Global, status: Status) -> Performed
+        ensures status { result.status ≡ status }
+        ensures lines { result.lines.items ≡ [] }
+    {
+        Performed {
+            status,
+            lines: Vec::new(alloc),
+        }
+    }
+}
+
+// The lines of bindings, where they are wanted.
+fn binding_lines(
+    alloc: Global,
+    wanted: bool,
+    image: &Image,
+    machine: &Machine,
+) -> Result<Vec<u8>, AllocError>
+    ensures { IfOk result (λ lines. lines.items ≡ (if wanted then bindings_text image.now machine.now.bindings else [])) }
+{
+    if wanted {
+        bindings(alloc, image, machine.bindings())
+    } else {
+        Ok(Vec::new(alloc))
+    }
+}
+
+// The lines of changed words, where they are wanted.
+fn word_lines(
+    alloc: Global,
+    wanted: bool,
+    image: &Image,
+    machine: &Machine,
+) -> Result<Vec<u8>, AllocError>
+    ensures { IfOk result (λ lines. lines.items ≡ (if wanted then patched_text image.now machine.now.room.held else [])) }
+{
+    if wanted {
+        patched(alloc, image, machine)
+    } else {
+        Ok(Vec::new(alloc))
+    }
+}
+
+/// The lines that a run is asked for, of its image and of the machine as it stopped.
+pub fn lines_of_run(
+    alloc: Global,
+    options: &RunOptions,
+    image: &Image,
+    machine: &Machine,
+) -> Result<Vec<u8>, AllocError>
+    ensures { IfOk result (λ lines. lines.items ≡ asked_lines options.now image.now machine.now) }
+{
+    let mut lines = binding_lines(alloc, options.bindings, image, machine)?;
+    let words = word_lines(alloc, options.words, image, machine)?;
+    lines.extend_from_slice(words.as_slice())?;
+    Ok(lines)
+}
+
+// The lines, and the last line behind them; nothing where there is no last line.
+fn owed(alloc: Global, performed: Performed) -> Result<Vec<u8>, AllocError>
+    ensures { IfOk result (λ text. text.items ≡ owed performed.lines.items performed.status) }
+{
+    let Performed { status, mut lines } = performed;
+    if status.is_silent() {
+        return Ok(Vec::new(alloc));
+    }
+    let line = format!(in alloc; "{status}\n")?;
+    lines.extend_from_slice(line.as_str().as_bytes())?;
+    Ok(lines)
+}
+
+/// Writes what the notes are owed, and gives the status that then stands.
+pub fn report<N: Sink>(alloc: Global, performed: Performed, notes: &mut N) -> Status
+    ensures { Noted performed.lines.items performed.status (N.written notes.old) (N.written notes.new) (N.faults notes.old) (N.faults notes.new) result }
+{
+    let status = performed.status;
+    let Ok(text) = owed(alloc, performed) else {
+        return Status::Memory;
+    };
+    match write_all(notes, text.as_slice()) {
+        Ok(()) => status,
+        Err(_) => Status::OutputFault,
+    }
+}

@@ -1,0 +1,187 @@
+-- Which status comes of what is evaluated, built, run as an image, listed or generated.
+use Rattle.std.proofs.Common.{ℕ, ◌≡◌, ◌≤◌, ◌<◌, ◌^◌, ◌⊎◌, inl, inr, List, [], take, refl, sym, ap, ◌∙◌, subst, Option, Some, arith}
+use Rattle.std.specs.Prelude.{Result, Ok, Err, ⊤}
+use Rattle.std.proofs.lemmas.List.Elements.{All-nil}
+use Rattle.mv_ast.specs.declared.program.Program.{Program}
+use Rattle.mv_ast.specs.declared.world.Action.{Action}
+use Rattle.mv_ast.specs.declared.world.Event.{Event}
+use Rattle.mv_io.specs.Outside.{Rose}
+use Rattle.mv_io.specs.declared.outside.ShelfError.{ShelfError}
+use Rattle.mv_io.specs.declared.outside.ShelfError.TheVariants as shelf
+use Rattle.mv_image.specs.Faults.{Spells}
+use Rattle.mv_image.specs.Spelling.{Fields}
+use Rattle.mv_image.proofs.OneVerdict.{one_image}
+use Rattle.mv_front.specs.Verdicts.{IsProgram, IsRefused}
+use Rattle.mv_front.specs.declared.refusal.Refusal.{Refusal}
+use Rattle.mv_front.proofs.OneVerdict.{one_program, one_refusal, not_both}
+use Rattle.mv_exec.specs.Loading.{IsBadImage}
+use Rattle.mv_exec.proofs.Answer.{one_bad, spells_not_bad}
+use Rattle.mv_gen.specs.Generated.{generated}
+use Rattle.mv_refine.specs.Environment.{Environment, Writing, Took, Wrote, ReadFailed, WriteFailed, environment}
+use Rattle.mv_meaning.specs.declared.meant.End.{End}
+use Rattle.mv_eval.specs.Evaluations.{most, meaning, IsInput, Evaluates}
+use Rattle.mv_eval.specs.declared.error.EvalError.{EvalError}
+use Rattle.mv_eval.specs.declared.error.EvalError.TheVariants as fault
+use Rattle.mv_command.specs.declared.command.RunOptions.{RunOptions}
+use Rattle.mv_command.specs.declared.options.TheConstants.{DEFAULT_STEPS}
+use Rattle.mv_operator.specs.Operator.{IsImageActions, IsImageFirstWrong}
+use Rattle.mv_operator.proofs.Acting as operator
+use Rattle.mv_notes.specs.declared.status.Status.{Status}
+use Rattle.mv_notes.specs.declared.status.Status.TheVariants.{Refused, Memory, BadImage, Done, OutputFault}
+use Rattle.mv_build.specs.Verdicts.{PassesLimit}
+use Rattle.mv_top.specs.Building as building
+use Rattle.mv_top.specs.Building.{BuildDoes}
+use Rattle.mv_top.specs.Decisions.{Ends, Is, IsWithinLimits, Stands}
+use Rattle.mv_top.specs.Evaluating as evaluating
+use Rattle.mv_top.specs.Evaluating.{EvalDoes, status_of_end, status_of_evaluation}
+use Rattle.mv_top.specs.Executing as executing
+use Rattle.mv_top.specs.Executing.{ExecDoes}
+use Rattle.mv_top.specs.Generating as generating
+use Rattle.mv_top.specs.Generating.{is_cut_short, is_summed_up, no_input, plain, RunsText, ShowsText, Sums}
+use Rattle.mv_top.specs.Listing as listing
+use Rattle.mv_top.specs.Listing.{ListDoes}
+use Rattle.mv_top.specs.Outside as outsides
+use Rattle.mv_top.specs.Outside.{Outside, ShelfFailed, Writes}
+use Rattle.mv_top.specs.Running as running
+use Rattle.mv_top.specs.Running.{no_action, RunDoes}
+use Rattle.mv_top.proofs.Loading.{rose_later}
+use Rattle.mv_top.proofs.RunsDecided.{one_cause, only_limits, run_ended, run_stands, stands}
+
+-- ---- a text that is written
+
+written_whole : (before after : Environment) (text : List ℕ) (due : Status) → (WriteFailed before after → ⊥) → {status : Status} → Writes before after text due status → status ≡ due
+written_whole before after text due no_fault (outsides.whole wrote) = refl
+written_whole before after text due no_fault (outsides.part less rose) = absurd (no_fault rose)
+
+-- ---- an evaluation
+
+module _ (before after : Environment) (no_input_fault : ReadFailed before after → ⊥) (no_output_fault : WriteFailed before after → ⊥) (text : List ℕ) (bound : ℕ) where
+  pub eval_refused : {status : Status} → EvalDoes before after bound text status → (r : Refusal) → IsRefused text r → Is status (Refused r)
+  eval_refused (evaluating.unread untouched) r is = inr refl
+  eval_refused (evaluating.no_program s there untouched) r is = inl (ap Refused (one_refusal text s r there is))
+  eval_refused (evaluating.evaluated p result good evaluates) r is = absurd (not_both text p r good is)
+
+  evaluation_is : (p : Program) (result : Result End EvalError) → Evaluates p bound before.input.left (Took before after) (Wrote before after) (ReadFailed before after) (WriteFailed before after) result →
+      (bytes : List ℕ) → before.input.left ≡ Some bytes → Is (status_of_evaluation result) (status_of_end (meaning p bound (take most bytes)).«end»)
+  evaluation_is p (Ok «end») (input, is, comes, took, wrote) bytes told =
+      let all : input ≡ take most bytes = subst (λ l. IsInput l input) told is in
+      inl (ap status_of_end (sym comes ∙ ap (λ i. (meaning p bound i).«end») all))
+  evaluation_is p (Err fault.Input) (input, count, is, took, wrote, rose) bytes told = absurd (no_input_fault rose)
+  evaluation_is p (Err fault.Output) (input, count, is, took, wrote, rose) bytes told = absurd (no_output_fault rose)
+  evaluation_is p (Err (fault.Memory e)) g bytes told = inr refl
+
+  pub eval_ended : {status : Status} → EvalDoes before after bound text status → (p : Program) → IsProgram text p → (bytes : List ℕ) → before.input.left ≡ Some bytes →
+      Is status (status_of_end (meaning p bound (take most bytes)).«end»)
+  eval_ended (evaluating.unread untouched) p is bytes told = inr refl
+  eval_ended (evaluating.no_program r there untouched) p is bytes told = absurd (not_both text p r is there)
+  eval_ended (evaluating.evaluated q result good evaluates) p is bytes told =
+      subst (λ z. Is (status_of_evaluation result) (status_of_end (meaning z bound (take most bytes)).«end»)) (one_program text q p good is)
+      (evaluation_is q result evaluates bytes told)
+
+-- ---- a build
+
+module _ (before after : Outside) (no_shelf_fault : ShelfFailed before after → ⊥) (image text : List ℕ) where
+  pub build_refused : {status : Status} → BuildDoes before after image text status → (r : Refusal) → IsRefused text r → Is status (Refused r)
+  build_refused (building.unbuilt keeps) r is = inr refl
+  build_refused (building.not_built s why keeps) r is = inl (ap Refused (one_cause text s r why is))
+  build_refused (building.built of bytes result good spells saves failed) r is = absurd (not_both text of.program r good.program is)
+
+  save_is : (result : Result ⊤ ShelfError) → (result ≡ Err shelf.Failed → ShelfFailed before after) → Is (building.status_of_save result) Done
+  save_is (Ok done) failed = inl refl
+  save_is (Err shelf.Failed) failed = absurd (no_shelf_fault (failed refl))
+  save_is (Err (shelf.Memory e)) failed = inr refl
+
+  pub build_done : {status : Status} → BuildDoes before after image text status → (p : Program) → IsProgram text p → IsWithinLimits status Done p
+  build_done (building.unbuilt keeps) p is = inl (inr refl)
+  build_done (building.not_built s why keeps) p is = inr (s, only_limits text p is s why, refl)
+  build_done (building.built of bytes result good spells saves failed) p is = inl (save_is result failed)
+
+-- ---- a run of an image
+
+module _ (before after : Environment) (no_input_fault : ReadFailed before after → ⊥) (no_output_fault : WriteFailed before after → ⊥) (bytes : List ℕ) (Heard : List Event → Type 0)
+    (options : RunOptions) where
+  abbrev Ran : List ℕ → Status → Type 0
+  Ran lines status = ExecDoes before after Heard options bytes lines status
+
+  pub exec_bad : {lines : List ℕ} {status : Status} → Ran lines status → (code offset : ℕ) → IsBadImage bytes code offset → Is status (BadImage code offset)
+  exec_bad (executing.unread unused) code offset bad = inr refl
+  exec_bad (executing.no_image c o there unused) code offset bad =
+      let same = one_bad bytes c o code offset there bad in inl (λ i. BadImage (same.0 i) (same.1 i))
+  exec_bad (executing.wrong_item image item spells wrong unused) code offset bad = absurd (spells_not_bad bytes image code offset spells bad)
+  exec_bad (executing.ran image actions e spells are runs) code offset bad = absurd (spells_not_bad bytes image code offset spells bad)
+
+  module _ (image : Fields) (spells : Spells bytes image) where
+    pub exec_wrong_item : {lines : List ℕ} {status : Status} → Ran lines status → (item : ℕ) → IsImageFirstWrong image options.items item → Is status (Refused (no_action item))
+    exec_wrong_item (executing.unread unused) item wrong = inr refl
+    exec_wrong_item (executing.no_image c o there unused) item wrong = absurd (spells_not_bad bytes image c o spells there)
+    exec_wrong_item (executing.wrong_item other n there first unused) item wrong =
+        inl (ap (λ k. Refused (no_action k))
+        (operator.one_wrong_in image options.items n item (subst (λ z. IsImageFirstWrong z options.items n) (one_image bytes other image there spells) first) wrong))
+    exec_wrong_item (executing.ran other actions e there are runs) item wrong =
+        absurd (operator.not_both_in image options.items actions item (subst (λ z. IsImageActions z options.items actions) (one_image bytes other image there spells) are) wrong)
+
+    pub exec_stands : {lines : List ℕ} {status : Status} → Ran lines status → (actions : List Action) → IsImageActions image options.items actions → Stands status
+    exec_stands (executing.unread unused) actions are = inr refl
+    exec_stands (executing.no_image c o there unused) actions are = absurd (spells_not_bad bytes image c o spells there)
+    exec_stands (executing.wrong_item other n there first unused) actions are =
+        absurd (operator.not_both_in image options.items actions n are (subst (λ z. IsImageFirstWrong z options.items n) (one_image bytes other image there spells) first))
+    exec_stands (executing.ran other taken e there are_taken runs) actions are =
+        stands before after Heard no_input_fault no_output_fault other taken e.machine options.steps e.stopped runs
+
+-- ---- a listing
+
+module _ (before after : Environment) (no_output_fault : WriteFailed before after → ⊥) (bytes : List ℕ) where
+  pub list_bad : {status : Status} → ListDoes before after bytes status → (code offset : ℕ) → IsBadImage bytes code offset → Is status (BadImage code offset)
+  list_bad (listing.unlisted untouched) code offset bad = inr refl
+  list_bad (listing.no_image c o there untouched) code offset bad =
+      let same = one_bad bytes c o code offset there bad in inl (λ i. BadImage (same.0 i) (same.1 i))
+  list_bad (listing.listed image status spells writes) code offset bad = absurd (spells_not_bad bytes image code offset spells bad)
+
+  pub list_done : {status : Status} → ListDoes before after bytes status → (image : Fields) → Spells bytes image → Is status Done
+  list_done (listing.unlisted untouched) image spells = inr refl
+  list_done (listing.no_image c o there untouched) image spells = absurd (spells_not_bad bytes image c o spells there)
+  list_done (listing.listed other status there writes) image spells = inl (written_whole before after _ Done no_output_fault writes)
+
+-- ---- a generated program
+
+module _ (before after : Environment) (no_output_fault : WriteFailed before after → ⊥) (Heard : List Event → Type 0) (number : ℕ) where
+  pub show_done : {status : Status} → ShowsText before after Heard number status → Is status Done
+  show_done (generating.unmade unused) = inr refl
+  show_done (generating.shown status unheard writes) = inl (written_whole before after _ Done no_output_fault writes)
+
+  no_reading_fault : (was is : Writing) → ReadFailed (environment no_input was before.way) (environment no_input is after.way) → ⊥
+  no_reading_fault was is rose = grind (arith, rose)
+
+  -- a run that wrote without a fault is that of its status, or memory was wanting
+  summed_so : (between : Writing) (ran : Status) {status : Status} → before.output.faults ≤ between.faults → Sums number between after.output ran status → Is status ran
+  summed_so between ran later (generating.summed over grew) = inl refl
+  summed_so between ran later (generating.part over less rose) = absurd (no_output_fault (rose_later before.output.faults between.faults after.output.faults later rose))
+  summed_so between ran later (generating.cut_short short same) = inl refl
+  summed_so between ran later (generating.unmade same) = inr refl
+
+  no_fault_before : (between : Writing) → between.faults ≤ after.output.faults → WriteFailed (environment no_input before.output before.way) (environment no_input between after.way) → ⊥
+  no_fault_before between latest rose = no_output_fault (grind (arith, latest, rose))
+
+  -- what holds of the status of the run, or of want of memory, holds of the status that stands
+  module _ (p : Program) (is : IsProgram (generated number) p) where
+    within : {ran status e : Status} → Is status ran → IsWithinLimits ran e p → IsWithinLimits status e p
+    within {e = e} (inl same) limits = subst (λ s. IsWithinLimits s e p) (sym same) limits
+    within (inr none) limits = inl (inr none)
+
+    pub gen_ended : {status : Status} → RunsText before after Heard number status → (bound : ℕ) (e : End) → Ends p [] [] DEFAULT_STEPS bound e → IsWithinLimits status (status_of_end e) p
+    gen_ended (generating.unmade unused) bound e ends = inl (inr refl)
+    gen_ended (generating.ran between ran status does later latest sums) bound e ends =
+        within (summed_so between ran later sums)
+        (run_ended (environment no_input before.output before.way) (environment no_input between after.way) (no_reading_fault before.output between) (no_fault_before between latest)
+        (generated number) Heard plain p is [] (record { right = refl; are = refl }) does [] bound e refl (All-nil (λ b. b < 2 ^ 8)) ends)
+
+    or_limits : {ran status : Status} → Is status ran → Stands ran ⊎ ((r : Refusal) × PassesLimit p r × (ran ≡ Refused r)) → Stands status ⊎ ((r : Refusal) × PassesLimit p r × (status ≡ Refused r))
+    or_limits (inl same) so = subst (λ s. Stands s ⊎ ((r : Refusal) × PassesLimit p r × (s ≡ Refused r))) (sym same) so
+    or_limits (inr none) so = inl (inr none)
+
+    pub gen_stands : {status : Status} → RunsText before after Heard number status → Stands status ⊎ ((r : Refusal) × PassesLimit p r × (status ≡ Refused r))
+    gen_stands (generating.unmade unused) = inl (inr refl)
+    gen_stands (generating.ran between ran status does later latest sums) =
+        or_limits (summed_so between ran later sums)
+        (run_stands (environment no_input before.output before.way) (environment no_input between after.way) (no_reading_fault before.output between) (no_fault_before between latest)
+        (generated number) Heard plain p is [] (record { right = refl; are = refl }) does)

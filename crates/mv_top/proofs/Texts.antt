@@ -1,0 +1,108 @@
+-- From the answers of the layers to what comes of a text that is run, built or evaluated.
+use Rattle.std.proofs.Common.{ℕ, ◌≡◌, ◌≤◌, List, [], refl, sym, subst, Option}
+use Rattle.std.specs.Prelude.{Result, Ok, Err, IsErrOf, ⊤}
+use Rattle.mv_ast.specs.declared.program.Program.{Program}
+use Rattle.mv_ast.specs.declared.world.Action.{Action}
+use Rattle.mv_ast.specs.declared.world.Event.{Event}
+use Rattle.mv_io.specs.Shelves.{Files, Saves}
+use Rattle.mv_io.specs.declared.outside.ShelfError.{ShelfError}
+use Rattle.mv_io.specs.declared.outside.ShelfError.TheVariants as shelf
+use Rattle.mv_image.specs.Faults.{Spells}
+use Rattle.mv_front.specs.Verdicts.{IsProgram}
+use Rattle.mv_front.specs.Verdicts as front
+use Rattle.mv_front.specs.declared.refusal.FrontError.{FrontError}
+use Rattle.mv_front.specs.declared.refusal.FrontError.TheVariants as front_error
+use Rattle.mv_build.specs.Answers as build
+use Rattle.mv_build.specs.Verdicts.{IsBuiltFrom}
+use Rattle.mv_build.specs.declared.built.Built.{Built}
+use Rattle.mv_build.specs.declared.error.BuildError.{BuildError}
+use Rattle.mv_build.specs.declared.error.BuildError.TheVariants as build_error
+use Rattle.mv_refine.specs.declared.execution.Execution.{Execution}
+use Rattle.mv_refine.specs.Environment.{Environment, Took, Wrote, ReadFailed, WriteFailed}
+use Rattle.mv_refine.specs.Execution.{IsExecution}
+use Rattle.mv_meaning.specs.declared.meant.End.{End}
+use Rattle.mv_eval.specs.Evaluations.{Evaluates}
+use Rattle.mv_eval.specs.declared.error.EvalError.{EvalError}
+use Rattle.mv_command.specs.declared.command.RunOptions.{RunOptions}
+use Rattle.mv_operator.specs.Operator.{IsActions}
+use Rattle.mv_notes.specs.Lines.{asked_lines}
+use Rattle.mv_notes.specs.declared.status.Status.{Status}
+use Rattle.mv_notes.specs.declared.status.Status.TheVariants.{Memory}
+use Rattle.mv_top.specs.Building as building
+use Rattle.mv_top.specs.Building.{BuildDoes, status_of_save}
+use Rattle.mv_top.specs.Evaluating as evaluating
+use Rattle.mv_top.specs.Evaluating.{EvalDoes, status_of_error, status_of_evaluation}
+use Rattle.mv_top.specs.Outside.{Outside, KeepsFiles, ShelfFailed, outside, shelved}
+use Rattle.mv_top.specs.Running as running
+use Rattle.mv_top.specs.Running.{IsCause, IsPrepared, RunDoes, Unused, status_of_build, status_of_stop}
+use Rattle.mv_top.specs.declared.run.Prepared.{Prepared}
+use Rattle.mv_top.proofs.Loading.{rose_later}
+use Rattle.mv_top.proofs.Performing.{alone}
+use Rattle.mv_top.proofs.WordLines.{word_lines}
+
+-- ---- a run
+
+module _ (before after : Environment) (Heard : List Event → Type 0) (options : RunOptions) (text : List ℕ) where
+  abbrev Ran : (lines : List ℕ) → Status → Type 0
+  Ran lines status = RunDoes before after Heard options text lines status
+
+  not_prepared_by : (e : BuildError) → IsCause text options.items e → Unused before after Heard → Ran [] (status_of_build e)
+  not_prepared_by (build_error.Refused r) is unused = running.not_run r is unused
+  not_prepared_by (build_error.Memory m) is unused = running.unread unused
+
+  pub not_prepared : (lines : List ℕ) (status : Status) (e : BuildError) → lines ≡ [] → status ≡ status_of_build e → IsCause text options.items e → after ≡ before → Heard [] → Ran lines status
+  not_prepared lines status e none same is untouched unheard = alone Ran lines status (status_of_build e) none same (not_prepared_by e is (untouched, unheard))
+
+  pub not_started : (lines : List ℕ) (status : Status) → lines ≡ [] → status ≡ Memory → Unused before after Heard → Ran lines status
+  not_started lines status none same unused = alone Ran lines status Memory none same (running.unread unused)
+
+  pub ran : (prepared : Prepared) (actions : List Action) (e : Execution) → actions ≡ prepared.actions.items → IsPrepared text options.items prepared →
+      IsExecution prepared.built actions options.steps before after Heard e → Ran (asked_lines options prepared.built.image e.machine) (status_of_stop e.stopped)
+  ran prepared actions e same is execution =
+      running.ran prepared.built actions e is.built (subst (λ a. IsActions prepared.built.program options.items a) (sym same) is.actions) execution
+      (word_lines text prepared.built actions options.steps before after Heard e is.built execution)
+
+-- ---- a build
+
+module _ (files : Option Files) (faults : ℕ) (e : Environment) (image text : List ℕ) where
+  later_faults : (after : Option Files) (faults' faults'' : ℕ) (status : Status) → faults ≤ faults' →
+      BuildDoes (outside (shelved files faults') e) (outside (shelved after faults'') e) image text status →
+      BuildDoes (outside (shelved files faults) e) (outside (shelved after faults'') e) image text status
+  later_faults after faults' faults'' status later (building.unbuilt keeps) = building.unbuilt keeps
+  later_faults after faults' faults'' status later (building.not_built r why keeps) = building.not_built r why keeps
+  later_faults after faults' faults'' status later (building.built of bytes result is spells saves failed) =
+      building.built of bytes result is spells saves (λ f. rose_later faults faults' faults'' later (failed f))
+
+  pub behind_load : (files' after : Option Files) (faults' faults'' : ℕ) (status : Status) → files' ≡ files → faults ≤ faults' →
+      BuildDoes (outside (shelved files' faults') e) (outside (shelved after faults'') e) image text status →
+      BuildDoes (outside (shelved files faults) e) (outside (shelved after faults'') e) image text status
+  behind_load files' after faults' faults'' status same later does =
+      later_faults after faults' faults'' status later
+      (subst (λ (f : Option Files). BuildDoes (outside (shelved f faults') e) (outside (shelved after faults'') e) image text status) same does)
+
+module _ (before after : Outside) (image text : List ℕ) where
+  not_built_by : (e : BuildError) → build.IsCause text e → KeepsFiles before after → BuildDoes before after image text (status_of_build e)
+  not_built_by (build_error.Refused r) is keeps = building.not_built r is keeps
+  not_built_by (build_error.Memory m) is keeps = building.unbuilt keeps
+
+  pub not_built : (status : Status) (e : BuildError) → status ≡ status_of_build e → build.IsCause text e → KeepsFiles before after → BuildDoes before after image text status
+  not_built status e same is keeps = subst (λ (s : Status). BuildDoes before after image text s) (sym same) (not_built_by e is keeps)
+
+  pub saved : (status : Status) (of : Built) (bytes : List ℕ) (result : Result ⊤ ShelfError) → status ≡ status_of_save result → IsBuiltFrom text of → Spells bytes of.image →
+      Saves before.shelf.files after.shelf.files image bytes result → (IsErrOf result shelf.Failed → ShelfFailed before after) → BuildDoes before after image text status
+  saved status of bytes result same is spells saves failed =
+      subst (λ (s : Status). BuildDoes before after image text s) (sym same) (building.built of bytes result is spells saves failed)
+
+-- ---- an evaluation
+
+module _ (before after : Environment) (bound : ℕ) (text : List ℕ) where
+  no_program_by : (e : FrontError) → front.IsCause text e → after ≡ before → EvalDoes before after bound text (status_of_error e)
+  no_program_by (front_error.Refused r) is unused = evaluating.no_program r is unused
+  no_program_by (front_error.Memory m) is unused = evaluating.unread unused
+
+  pub not_evaluated : (status : Status) (e : FrontError) → status ≡ status_of_error e → front.IsCause text e → after ≡ before → EvalDoes before after bound text status
+  not_evaluated status e same is unused = subst (λ (s : Status). EvalDoes before after bound text s) (sym same) (no_program_by e is unused)
+
+  pub evaluation_done : (status : Status) (p : Program) (result : Result End EvalError) → status ≡ status_of_evaluation result → IsProgram text p →
+      Evaluates p bound before.input.left (Took before after) (Wrote before after) (ReadFailed before after) (WriteFailed before after) result → EvalDoes before after bound text status
+  evaluation_done status p result same is evaluates = subst (λ (s : Status). EvalDoes before after bound text s) (sym same) (evaluating.evaluated p result is evaluates)

@@ -1,0 +1,12 @@
+use Rattle.mv_top.proofs.Images.{not_started, ran}
+use Rattle.mv_top.proofs.Performing.{with_lines}
+use Rattle.mv_top.proofs.exec.exec_loaded.Goals as goal
+
+pub returns-in-Ok : goal.returns-in-Ok
+returns-in-Ok g c bytes is =
+    with_lines _ _ _ (ran _ _ _ c.args.options.now bytes c.args.loaded.now c.as_slice-actions.result.now c.in-Ok.execution c.as_slice-actions.ensures.value is c.in-Ok.ensures.runs)
+    c.finished.result c.finished.ensures.status c.finished.ensures.lines
+
+pub returns-in-Err : goal.returns-in-Err
+returns-in-Err g c bytes is =
+    not_started _ _ _ c.args.options.now bytes c.alone.result.lines.items c.alone.result.status c.alone.ensures.lines c.alone.ensures.status c.in-Err.ensures.runs

@@ -1,0 +1,128 @@
+-- Which status comes where no count of faults rises.
+use Rattle.std.specs.Prelude.{ℕ, ◌≡◌, ◌^◌, ◌<◌, ◌⊎◌, Bool, true, false, List, [], take, All, Option, Some, None}
+use Rattle.mv_ast.specs.declared.program.Program.{Program}
+use Rattle.mv_ast.specs.declared.world.Action.{Action}
+use Rattle.mv_io.specs.Outside.{Rose}
+use Rattle.mv_io.specs.Shelves.{Files, Lacks}
+use Rattle.mv_front.specs.Verdicts.{IsProgram, IsRefused}
+use Rattle.mv_front.specs.declared.refusal.Refusal.{Refusal}
+use Rattle.mv_build.specs.Verdicts.{PassesLimit}
+use Rattle.mv_image.specs.Faults.{Spells}
+use Rattle.mv_image.specs.Spelling.{Fields}
+use Rattle.mv_exec.specs.Loading.{IsBadImage}
+use Rattle.mv_gen.specs.Generated.{generated}
+use Rattle.mv_refine.specs.Environment.{Writing, ReadFailed, WriteFailed}
+use Rattle.mv_refine.specs.Meant.{IsEnough}
+use Rattle.mv_meaning.specs.Meaning.{mean}
+use Rattle.mv_meaning.specs.declared.meant.End.{End}
+use Rattle.mv_meaning.specs.declared.meant.End.TheVariants.{More}
+use Rattle.mv_eval.specs.Evaluations.{most, meaning}
+use Rattle.mv_command.specs.Commands.{Asked, Runs, Builds, Executes, Lists, Evaluates, Generates, IsCommand, IsNoCommand}
+use Rattle.mv_command.specs.declared.command.RunOptions.{RunOptions}
+use Rattle.mv_command.specs.declared.options.TheConstants.{DEFAULT_STEPS}
+use Rattle.mv_operator.specs.Operator.{IsActions, IsFirstWrong, IsImageActions, IsImageFirstWrong}
+use Rattle.mv_notes.specs.declared.status.Status.{Status}
+use Rattle.mv_notes.specs.declared.status.Status.TheVariants.{Ended, Trapped, Usage, Refused, Memory, ShelfFault, Steps, BadImage, MachineFault, Done}
+use Rattle.mv_top.specs.Evaluating.{status_of_end}
+use Rattle.mv_top.specs.Outside.{Outside, ShelfFailed, Tells}
+use Rattle.mv_top.specs.Running.{no_action}
+
+-- no count of faults rose
+pub record Quiet (before after : Outside) (was is : Writing) : Type 0 where
+  pub shelf : ShelfFailed before after → ⊥
+  pub input : ReadFailed before.environment after.environment → ⊥
+  pub output : WriteFailed before.environment after.environment → ⊥
+  pub notes : Rose was.faults is.faults → ⊥
+
+-- ---- what a command loads
+
+-- it loads this file
+abbrev pub IsLoaded : Asked → (file : List ℕ) → Type 0
+IsLoaded (Runs file options) loaded = loaded ≡ file
+IsLoaded (Builds file image) loaded = loaded ≡ file
+IsLoaded (Executes file options) loaded = loaded ≡ file
+IsLoaded (Lists file) loaded = loaded ≡ file
+IsLoaded (Evaluates file bound) loaded = loaded ≡ file
+IsLoaded (Generates number source) loaded = ⊥
+
+-- it reads what it loads as a source; else it reads it as an image
+abbrev pub reads_source : Asked → Bool
+reads_source (Runs file options) = true
+reads_source (Builds file image) = true
+reads_source (Executes file options) = false
+reads_source (Lists file) = false
+reads_source (Evaluates file bound) = true
+reads_source (Generates number source) = false
+
+-- ---- answers
+
+-- this status, or want of memory
+abbrev pub Is : (result status : Status) → Type 0
+Is result status = (result ≡ status) ⊎ (result ≡ Memory)
+
+-- or the refusal of a program that passes a limit of what is compiled
+abbrev pub IsWithinLimits : (result status : Status) → Program → Type 0
+IsWithinLimits result status p = Is result status ⊎ ((r : Refusal) × PassesLimit p r × (result ≡ Refused r))
+
+-- how a run of an image stands: it ended, trapped, faulted, or goes on
+abbrev pub IsStop : Status → Type 0
+IsStop (Ended status) = Unit {0}
+IsStop (Trapped code) = Unit {0}
+IsStop Steps = Unit {0}
+IsStop (MachineFault pc why) = Unit {0}
+IsStop other = ⊥
+
+-- it stands so, or memory was wanting
+abbrev pub Stands : Status → Type 0
+Stands result = IsStop result ⊎ (result ≡ Memory)
+
+-- a program has this end at a bound for which so many instructions are time enough
+pub record Ends (p : Program) (actions : List Action) (bytes : List ℕ) (steps bound : ℕ) (e : End) : Type 0 where
+  pub enough : IsEnough p actions bytes steps bound
+  pub comes : (mean p bytes actions bound).«end» ≡ e
+  pub over : e ≡ More → ⊥
+
+-- ---- the status of each command
+
+module _ (words : List (List ℕ)) (files : Option Files) (left : Option (List ℕ)) (result : Status) where
+  -- a file of these bytes is loaded by the command that the words are
+  pub record Loads (asked : Asked) (bytes : List ℕ) : Type 0 where
+    pub command : IsCommand words asked
+    pub file : List ℕ
+    pub loaded : IsLoaded asked file
+    pub tells : Tells files file bytes
+
+  -- Each status comes where its cause stands.
+  pub record Decides : Type 0 where
+    pub usage : IsNoCommand words → Is result Usage
+    pub absent : (asked : Asked) (file : List ℕ) → IsCommand words asked → IsLoaded asked file → Lacks files file → Is result ShelfFault
+    pub refused : (asked : Asked) (text : List ℕ) (r : Refusal) → Loads asked text → reads_source asked ≡ true → IsRefused text r → Is result (Refused r)
+    pub bad_image : (asked : Asked) (bytes : List ℕ) (code offset : ℕ) → Loads asked bytes → reads_source asked ≡ false → IsBadImage bytes code offset →
+        Is result (BadImage code offset)
+
+    -- a run
+    pub wrong_item : (file text : List ℕ) (options : RunOptions) (p : Program) (item : ℕ) → Loads (Runs file options) text → IsProgram text p →
+        IsFirstWrong p options.items item → IsWithinLimits result (Refused (no_action item)) p
+    pub ended : (file text bytes : List ℕ) (options : RunOptions) (bound : ℕ) (p : Program) (actions : List Action) (e : End) → Loads (Runs file options) text →
+        IsProgram text p → IsActions p options.items actions → left ≡ Some bytes → All (λ b. b < 2 ^ 8) bytes → Ends p actions bytes options.steps bound e →
+        IsWithinLimits result (status_of_end e) p
+
+    pub built : (file image text : List ℕ) (p : Program) → Loads (Builds file image) text → IsProgram text p → IsWithinLimits result Done p
+
+    -- a run of an image
+    pub no_action_of_image : (file bytes : List ℕ) (options : RunOptions) (image : Fields) (item : ℕ) → Loads (Executes file options) bytes → Spells bytes image →
+        IsImageFirstWrong image options.items item → Is result (Refused (no_action item))
+    pub executed : (file bytes : List ℕ) (options : RunOptions) (image : Fields) (actions : List Action) → Loads (Executes file options) bytes → Spells bytes image →
+        IsImageActions image options.items actions → Stands result
+
+    pub listed : (file bytes : List ℕ) (image : Fields) → Loads (Lists file) bytes → Spells bytes image → Is result Done
+
+    pub evaluated : (file text bytes : List ℕ) (bound : ℕ) (p : Program) → Loads (Evaluates file bound) text → IsProgram text p → left ≡ Some bytes →
+        Is result (status_of_end (meaning p bound (take most bytes)).«end»)
+
+    pub shown : (number : ℕ) → IsCommand words (Generates number true) → Is result Done
+    -- where its text is a program, it has the program's end where there are steps enough, or ends, traps or uses them up, unless it passes a limit
+    pub generated_ended : (number bound : ℕ) (p : Program) (e : End) → IsCommand words (Generates number false) → IsProgram (generated number) p →
+        Ends p [] [] DEFAULT_STEPS bound e → IsWithinLimits result (status_of_end e) p
+    pub generated_runs : (number : ℕ) (p : Program) → IsCommand words (Generates number false) → IsProgram (generated number) p →
+        Stands result ⊎ ((r : Refusal) × PassesLimit p r × (result ≡ Refused r))

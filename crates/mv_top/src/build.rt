@@ -1,0 +1,58 @@
+//! `build`: a text is compiled, and its image saved.
+
+ghost use Rattle.std.specs.Prelude.{ℕ, ◌≡◌, List};
+ghost use Rattle.mv_build.specs.Verdicts.{IsBuiltFrom};
+ghost use Rattle.mv_refine.specs.Environment.{Environment};
+ghost use Rattle.mv_top.specs.Building.{BuildDoes, BuildsFile, status_of_save};
+ghost use Rattle.mv_top.specs.Outside.{outside, shelved};
+
+use crate::files::status_of_shelf;
+use crate::run::status_of_build;
+use mv_build::{Built, build};
+use mv_image::write;
+use mv_io::{Shelf, ShelfError};
+use mv_notes::Status;
+use std::alloc::Global;
+
+// The status of a save.
+fn status_of_save(saved: Result<(), ShelfError>) -> Status
+    ensures { result ≡ status_of_save saved }
+{
+    match saved {
+        Ok(()) => Status::Done,
+        Err(error) => status_of_shelf(error),
+    }
+}
+
+// Saves the image of what was built.
+fn save_image<H: Shelf>(alloc: Global, built: &Built, image: &str, shelf: &mut H) -> Status
+    ensures { (text : List ℕ) (e : Environment) → IsBuiltFrom text built.now → BuildDoes (outside (shelved (H.files shelf.old) (H.faults shelf.old)) e)
+        (outside (shelved (H.files shelf.new) (H.faults shelf.new)) e) image.now text result }
+{
+    match write(alloc, &built.image) {
+        Ok(bytes) => status_of_save(shelf.save(alloc, image, bytes.as_slice())),
+        Err(_) => Status::Memory,
+    }
+}
+
+// Compiles a text, and saves its image.
+fn build_text<H: Shelf>(alloc: Global, text: &[u8], image: &str, shelf: &mut H) -> Status
+    ensures { (e : Environment) → BuildDoes (outside (shelved (H.files shelf.old) (H.faults shelf.old)) e)
+        (outside (shelved (H.files shelf.new) (H.faults shelf.new)) e) image.now text.now result }
+{
+    match build(alloc, text) {
+        Ok(built) => save_image(alloc, &built, image, shelf),
+        Err(error) => status_of_build(error),
+    }
+}
+
+/// Loads a file, compiles it, and saves its image under a name.
+pub(crate) fn build_file<H: Shelf>(alloc: Global, file: &str, image: &str, shelf: &mut H) -> Status
+    ensures { (e : Environment) → BuildsFile (outside (shelved (H.files shelf.old) (H.faults shelf.old)) e)
+        (outside (shelved (H.files shelf.new) (H.faults shelf.new)) e) file.now image.now result }
+{
+    match shelf.load(alloc, file) {
+        Ok(text) => build_text(alloc, text.as_slice(), image, shelf),
+        Err(error) => status_of_shelf(error),
+    }
+}
