@@ -1,12 +1,70 @@
-use Rattle.std.proofs.Common.{refl}
-use Rattle.mv_notes.specs.declared.status.Status.TheVariants.{Memory, Usage}
+use Rattle.std.proofs.Common.{map, refl}
+use Rattle.std.specs.String.{string_bytes}
+use Rattle.mv_command.specs.Commands.{Executes, Runs}
+use Rattle.mv_command.specs.declared.command.Command.TheVariants.{Build, Eval, Exec, Gen, Run}
+use Rattle.mv_command.specs.declared.command.Command.TheVariants as command
+use Rattle.mv_command.proofs.Same.{exec_items, run_items}
 use Rattle.mv_probe.proofs.Logs.{told_nothing}
-use Rattle.mv_top.specs.Outcomes.{Comes, unread, usage}
-use Rattle.mv_top.proofs.Performing.{alone}
+use Rattle.mv_top.specs.Outcomes.{done}
+use Rattle.mv_top.proofs.Commands.{built, evaluated, is_command, listed, made, no_command, no_memory}
+use Rattle.mv_top.proofs.Performing.{performs_so}
 use Rattle.mv_top.proofs.top.perform.Goals as goal
 
+pub run_file-requires-clause-ascend : goal.run_file-requires-clause-ascend
+run_file-requires-clause-ascend g c =
+    run_items (is_command (map string_bytes c.args.words.now) c.in-Ok-Some-Run.field-0 c.in-Ok-Some-Run.field-0-0 (Run c.in-Ok-Some-Run.file c.in-Ok-Some-Run.options)
+    c.in-Ok-Some-Run.ensures c.in-Ok-Some-Run.field-0-is c.in-Ok-Some-Run.field-0-0-is)
+
+pub exec_file-requires-clause-ascend : goal.exec_file-requires-clause-ascend
+exec_file-requires-clause-ascend g c =
+    exec_items (is_command (map string_bytes c.args.words.now) c.in-Ok-Some-Exec.field-0 c.in-Ok-Some-Exec.field-0-0 (Exec c.in-Ok-Some-Exec.image c.in-Ok-Some-Exec.options)
+    c.in-Ok-Some-Exec.ensures c.in-Ok-Some-Exec.field-0-is c.in-Ok-Some-Exec.field-0-0-is)
+
+pub returns-in-Ok-Some-Run : goal.returns-in-Ok-Some-Run
+returns-in-Ok-Some-Run g c =
+    performs_so _ _ (λ lines status does. done (Runs c.in-Ok-Some-Run.file.now c.in-Ok-Some-Run.options) lines status
+    (is_command (map string_bytes c.args.words.now) c.in-Ok-Some-Run.field-0 c.in-Ok-Some-Run.field-0-0 (Run c.in-Ok-Some-Run.file c.in-Ok-Some-Run.options)
+    c.in-Ok-Some-Run.ensures c.in-Ok-Some-Run.field-0-is c.in-Ok-Some-Run.field-0-0-is) does) c.run_file.result c.run_file.ensures
+
+pub returns-in-Ok-Some-Build : goal.returns-in-Ok-Some-Build
+returns-in-Ok-Some-Build g c =
+    built _ _ _ (map string_bytes c.args.words.now) _ _ c.build_file.result c.alone.ensures.lines c.alone.ensures.status (told_nothing _ _ c.args.probes.now.items c.requires)
+    c.in-Ok-Some-Build.file.now c.in-Ok-Some-Build.image.now
+    (is_command (map string_bytes c.args.words.now) c.in-Ok-Some-Build.field-0 c.in-Ok-Some-Build.field-0-0 (Build c.in-Ok-Some-Build.file c.in-Ok-Some-Build.image)
+    c.in-Ok-Some-Build.ensures c.in-Ok-Some-Build.field-0-is c.in-Ok-Some-Build.field-0-0-is) (c.build_file.ensures _)
+
+pub returns-in-Ok-Some-Exec : goal.returns-in-Ok-Some-Exec
+returns-in-Ok-Some-Exec g c =
+    performs_so _ _ (λ lines status does. done (Executes c.in-Ok-Some-Exec.image.now c.in-Ok-Some-Exec.options) lines status
+    (is_command (map string_bytes c.args.words.now) c.in-Ok-Some-Exec.field-0 c.in-Ok-Some-Exec.field-0-0 (Exec c.in-Ok-Some-Exec.image c.in-Ok-Some-Exec.options)
+    c.in-Ok-Some-Exec.ensures c.in-Ok-Some-Exec.field-0-is c.in-Ok-Some-Exec.field-0-0-is) does) c.exec_file.result c.exec_file.ensures
+
+pub returns-in-Ok-Some-List : goal.returns-in-Ok-Some-List
+returns-in-Ok-Some-List g c =
+    listed _ _ _ (map string_bytes c.args.words.now) _ _ c.list_file.result c.alone-in-Ok-Some-List.ensures.lines c.alone-in-Ok-Some-List.ensures.status
+    (told_nothing _ _ c.args.probes.now.items c.requires) c.in-Ok-Some-List.image.now
+    (is_command (map string_bytes c.args.words.now) c.in-Ok-Some-List.field-0 c.in-Ok-Some-List.field-0-0 (command.List c.in-Ok-Some-List.image)
+    c.in-Ok-Some-List.ensures c.in-Ok-Some-List.field-0-is c.in-Ok-Some-List.field-0-0-is) (c.list_file.ensures.comes _ _) c.list_file.ensures.files
+
+pub returns-in-Ok-Some-Eval : goal.returns-in-Ok-Some-Eval
+returns-in-Ok-Some-Eval g c =
+    evaluated _ _ _ (map string_bytes c.args.words.now) _ _ c.eval_file-status.result c.alone-in-Ok-Some-Eval.ensures.lines c.alone-in-Ok-Some-Eval.ensures.status
+    (told_nothing _ _ c.args.probes.now.items c.requires) c.in-Ok-Some-Eval.file.now c.in-Ok-Some-Eval.bound
+    (is_command (map string_bytes c.args.words.now) c.in-Ok-Some-Eval.field-0 c.in-Ok-Some-Eval.field-0-0 (Eval c.in-Ok-Some-Eval.file c.in-Ok-Some-Eval.bound)
+    c.in-Ok-Some-Eval.ensures c.in-Ok-Some-Eval.field-0-is c.in-Ok-Some-Eval.field-0-0-is) (c.eval_file-status.ensures.comes _) c.eval_file-status.ensures.files
+
+pub returns-in-Ok-Some-Gen : goal.returns-in-Ok-Some-Gen
+returns-in-Ok-Some-Gen g c =
+    made _ _ _ (map string_bytes c.args.words.now) _ _ c.generate_program-status.result c.alone-in-Ok-Some-Gen.ensures.lines c.alone-in-Ok-Some-Gen.ensures.status
+    c.in-Ok-Some-Gen.number c.in-Ok-Some-Gen.source
+    (is_command (map string_bytes c.args.words.now) c.in-Ok-Some-Gen.field-0 c.in-Ok-Some-Gen.field-0-0 (Gen c.in-Ok-Some-Gen.number c.in-Ok-Some-Gen.source)
+    c.in-Ok-Some-Gen.ensures c.in-Ok-Some-Gen.field-0-is c.in-Ok-Some-Gen.field-0-0-is) (c.generate_program-status.ensures _) refl refl
+
 pub returns-in-Ok-None : goal.returns-in-Ok-None
-returns-in-Ok-None g c = ?
+returns-in-Ok-None g c =
+    no_command _ _ _ (map string_bytes c.args.words.now) _ _ _ c.alone-in-Ok-None.ensures.lines c.alone-in-Ok-None.ensures.status (told_nothing _ _ c.args.probes.now.items c.requires) refl
+    (rw c.in-Ok-None.field-0-is at c.in-Ok-None.ensures) (refl, refl)
 
 pub returns-in-Err : goal.returns-in-Err
-returns-in-Err g c = ?
+returns-in-Err g c =
+    no_memory _ _ _ (map string_bytes c.args.words.now) _ _ _ c.alone-in-Err.ensures.lines c.alone-in-Err.ensures.status (told_nothing _ _ c.args.probes.now.items c.requires) refl (refl, refl)

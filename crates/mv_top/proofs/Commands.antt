@@ -1,0 +1,46 @@
+-- From what comes of each command to what comes of the words.
+use Rattle.std.proofs.Common.{ℕ, ◌≡◌, Bool, List, [], refl, sym, subst, Option, Some, ◌∙◌}
+use Rattle.std.specs.Prelude.{MatchOption}
+use Rattle.mv_ast.specs.declared.world.Event.{Event}
+use Rattle.mv_command.specs.Commands.{asked, Builds, Evaluates, Generates, Lists, IsCommand, IsNoCommand}
+use Rattle.mv_command.specs.declared.command.Command.{Command}
+use Rattle.mv_notes.specs.declared.status.Status.{Status}
+use Rattle.mv_notes.specs.declared.status.Status.TheVariants.{Usage, Memory}
+use Rattle.mv_top.specs.Building.{BuildsFile}
+use Rattle.mv_top.specs.Evaluating.{EvaluatesFile}
+use Rattle.mv_top.specs.Generating.{GenDoes}
+use Rattle.mv_top.specs.Listing.{ListsFile}
+use Rattle.mv_top.specs.Outcomes.{Comes, done, unread, usage}
+use Rattle.mv_top.specs.Outside.{Outside, KeepsFiles, Untouched}
+use Rattle.mv_top.proofs.Performing.{alone}
+
+-- the command that was found
+pub is_command : (words : List (List ℕ)) (found : Option Command) (command what : Command) → MatchOption found (IsNoCommand words) (λ c. IsCommand words (asked c)) →
+    found ≡ Some command → command ≡ what → IsCommand words (asked what)
+is_command words found command what is same this =
+    subst (λ c. IsCommand words (asked c)) this (subst (λ f. MatchOption f (IsNoCommand words) (λ c. IsCommand words (asked c))) same is)
+
+module _ (before after : Outside) (Heard : List Event → Type 0) (words : List (List ℕ)) (lines : List ℕ) (status due : Status) (none : lines ≡ []) (same : status ≡ due) (unheard : Heard []) where
+  abbrev Came : List ℕ → Status → Type 0
+  Came l s = Comes before after Heard words l s
+
+  pub no_command : due ≡ Usage → IsNoCommand words → Untouched before after → Came lines status
+  no_command is never untouched = alone Came lines status Usage none (same ∙ is) (usage never untouched unheard)
+
+  pub no_memory : due ≡ Memory → Untouched before after → Came lines status
+  no_memory is untouched = alone Came lines status Memory none (same ∙ is) (unread untouched unheard)
+
+  pub built : (file image : List ℕ) → IsCommand words (Builds file image) → BuildsFile before after file image due → Came lines status
+  built file image command builds = alone Came lines status due none same (done (Builds file image) [] due command (builds, (refl, unheard)))
+
+  pub listed : (file : List ℕ) → IsCommand words (Lists file) → ListsFile before after file due → KeepsFiles before after → Came lines status
+  listed file command lists keeps = alone Came lines status due none same (done (Lists file) [] due command (lists, keeps, (refl, unheard)))
+
+  pub evaluated : (file : List ℕ) (bound : ℕ) → IsCommand words (Evaluates file bound) → EvaluatesFile before after file bound due → KeepsFiles before after → Came lines status
+  evaluated file bound command evaluates keeps = alone Came lines status due none same (done (Evaluates file bound) [] due command (evaluates, keeps, (refl, unheard)))
+
+module _ (before after : Outside) (Heard : List Event → Type 0) (words : List (List ℕ)) (lines : List ℕ) (status due : Status) (none : lines ≡ []) (same : status ≡ due) where
+  pub made : (number : ℕ) (source : Bool) → IsCommand words (Generates number source) → GenDoes before.environment after.environment Heard number source due →
+      after.environment.input ≡ before.environment.input → KeepsFiles before after → Comes before after Heard words lines status
+  made number source command does input keeps =
+      alone (λ l s. Comes before after Heard words l s) lines status due none same (done (Generates number source) [] due command (does, input, keeps, refl))
