@@ -190,19 +190,21 @@ def try_case(runner, case):
     return wrong
 
 
+def is_part(lines, whole):
+    """Whether an outcome that lacked memory is a part of the whole one: what was written, the notes without their last line's end, and what the probes were told."""
+    wanted = f"status {MEMORY}"
+    if wanted not in lines[:2] or len(lines) > lines.index(wanted) + 3:
+        return False
+    out, ended, heard = whole
+    at = lines.index(wanted)
+    told = lines[-1].partition(": ")[2]
+    return all(out.startswith(it) for it in lines[:at]) and all(ended.startswith(it) for it in lines[at + 1 : -1]) and heard.partition(": ")[2].startswith(told)
+
+
 def is_probed(text, whole):
     """Whether what is printed of a row is what it prints with ample memory, or also an outcome that lacked memory."""
-    heard = whole.splitlines()[-1]
-    for block in text.split("# and by another oracle\n"):
-        if block == whole:
-            continue
-        lines = block.splitlines()
-        if not lines or f"status {MEMORY}" not in lines[:2] or len(lines[-1].split(": ")) > 2:
-            return False
-        told = lines[-1].partition(": ")[2]
-        if not heard.partition(": ")[2].startswith(told):
-            return False
-    return True
+    blocks = text.split("# and by another oracle\n")
+    return all(block == whole or is_part(block.splitlines(), whole.splitlines()) for block in blocks)
 
 
 def try_row(runner):
