@@ -2,19 +2,24 @@
 use Rattle.std.proofs.Common.{ℕ, ◌≡◌, ◌<◌, ◌≤◌, ◌+◌, inl, inr, List, [], ◌∷◌, ◌++◌, length, Option, Some, None, option_map, unwrap_or, slice_get, option_and_then, IsSomeAnd, refl, sym, ap, ap₂, ◌∙◌, subst, arith, append-nil}
 use Rattle.std.proofs.lemmas.List.{length-append}
 use Rattle.std.proofs.lemmas.Option.{none-some}
+use Rattle.mv_ast.specs.declared.world.Action.{Action}
 use Rattle.mv_ast.specs.declared.world.Event.{Event}
 use Rattle.mv_isa.specs.declared.instr.Cause.{Cause}
+use Rattle.mv_isa.specs.declared.instr.Cause.TheVariants as cause
 use Rattle.mv_isa.specs.Execution.{Goes as GoesTo, Calls, Faults, reg, step}
 use Rattle.mv_fetch.specs.Held.{Room, IsInText, choices, only}
-use Rattle.mv_rv32.specs.Stepping.{access, picked_step, picked_target, word_target, IsCarriedOut}
+use Rattle.mv_rv32.specs.Stepping.{access, picked_step, picked_target, word_target, IsCarriedOut, Gives, Stays, Wants}
 use Rattle.mv_rv32.specs.declared.hart.Hart.{Hart}
+use Rattle.mv_rv32.specs.declared.hart.Stepped.{Stepped}
+use Rattle.mv_rv32.specs.declared.hart.Stepped.TheVariants as over
 use Rattle.mv_io.specs.Outside.{Rose}
 use Rattle.mv_probe.specs.Ways.{Way, Follows, way_after}
+use Rattle.mv_machine.specs.declared.engine.Engine.{Engine}
 use Rattle.mv_machine.specs.declared.machine.Stopped.{Stopped}
 use Rattle.mv_machine.specs.declared.machine.Stopped.TheVariants as answer
 use Rattle.mv_machine.specs.Runs.{Stop, Going, Fault, State, Reads, Writes, request_of, environment_call, turn, executed}
 use Rattle.mv_machine.specs.Snapshots.{Under}
-use Rattle.mv_machine.specs.Moves.{Seen, shown, Moves, Outcomes, FromCall, Called, Wanting, Fetched, Turns, Goes}
+use Rattle.mv_machine.specs.Moves.{Seen, seen, shown, Moves, Outcomes, FromCall, Called, Wanting, Fetched, Steps, Settles, Turns, Goes}
 use Rattle.mv_machine.proofs.Turns.{turn_by, runs_none}
 use Rattle.mv_machine.proofs.Moved.{nothing_written, moves_quietly, moves_as, fetched, way_more, Joins, meets_more}
 
@@ -54,6 +59,45 @@ calls r x z y pick A B W Told same lt e h = outcomes_map r
     (λ o. (o.0, o.1, (e, o.2), o.3))
     (λ w. absurd w)
     (subst (λ (u : Seen). FromCall r u y A B Told) same h)
+
+-- what follows an instruction where nothing changes
+pub settles_next : (s : Stepped) (x : Seen) (A B : Type 0) (Told : List Event → Type 0) → s ≡ over.Next → Told [] → Settles s None x x A B Told
+settles_next s x A B Told e quiet = subst (λ (t : Stepped). Settles t None x x A B Told) (sym e) (refl, refl, quiet)
+
+pub settles_fault : (s : Stepped) (why : Cause) (x : Seen) (A B : Type 0) (Told : List Event → Type 0) → s ≡ over.Fault why → Told [] → Settles s (Some (answer.Fault x.pc why)) x x A B Told
+settles_fault s why x A B Told e quiet = subst (λ (t : Stepped). Settles t (Some (answer.Fault x.pc why)) x x A B Told) (sym e) (refl, refl, quiet)
+
+pub settles_memory : (s : Stepped) (x : Seen) (A B : Type 0) (Told : List Event → Type 0) → s ≡ over.Memory → Told [] → Settles s (Some answer.Memory) x x A B Told
+settles_memory s x A B Told e quiet = subst (λ (t : Stepped). Settles t (Some answer.Memory) x x A B Told) (sym e) (refl, refl, quiet)
+
+-- an instruction, and what follows it
+module _ (e : Engine) (actions : List Action) (left written : Option (List ℕ)) (r : Option Stopped) (y : Seen) (hart' : Hart) (room' : Room) (way way' : Option Way) (A B : Type 0) (Told : List Event → Type 0) where
+  abbrev x : Seen
+  x = seen e actions left written
+
+  abbrev z : Seen
+  z = stepped x hart' room'
+
+  abbrev led : Option Stopped → Seen → ℕ → Type 0
+  led o w pick = Outcomes o (λ stop. Moves (λ s. turn s pick) x w stop Told) ((w ≡ x) × Told [] × Called x pick Reads × A) ((w ≡ x) × Told [] × Called x pick Writes × B) ((w ≡ x) × Told [] × Wanting x pick)
+
+  unchanged : hart' ≡ e.hart → room' ≡ e.memory → z ≡ x
+  unchanged h m = same_stepped x e.hart hart' e.memory room' h m
+
+  settled : (s : Stepped) (pick : ℕ) → pick < length (choices x.room.held x.pc) → Gives (picked_step x.room pick x.regs x.pc) s hart' room' → Stays s e.hart hart' e.memory room' → Wants s (picked_target x.room pick x.regs x.pc) x.room → Settles s r z y A B Told → led r y pick
+  settled over.Next pick lt gives stays wants after =
+      subst (λ (o : Option Stopped). led o y pick) (sym after.0) (subst (λ (w : Seen). led None w pick) (sym after.1) (steps_on x hart' room' pick Told after.2 lt gives))
+  settled over.Call pick lt gives stays wants after = calls r x z y pick A B ((y ≡ x) × Told [] × Wanting x pick) Told (unchanged stays.0 stays.1) lt gives after
+  settled (over.Fault why) pick lt gives stays wants after =
+      subst (λ (o : Option Stopped). led o y pick) (sym after.0) (faults x y why pick Told after.2 (after.1 ∙ unchanged stays.0 stays.1) lt gives)
+  settled over.Memory pick lt gives stays wants after =
+      subst (λ (o : Option Stopped). led o y pick) (sym after.0) (after.1 ∙ unchanged stays.0 stays.1, after.2, (wants.0, wants.1, gives))
+
+  pub turns_by : (s : Stepped) → Steps s e.hart hart' e.memory room' way way' → Settles s r z y A B Told → Turns r x y way way' A B Told
+  turns_by s (inl n) after =
+      let a = subst (λ (t : Stepped). Settles t r z y A B Told) n.1 after in
+      inl (n.0, a.0 ∙ ap (λ (h : Hart). Some (answer.Fault h.pc cause.Fetch)) n.2, a.1 ∙ unchanged n.2 n.3, a.2, n.4)
+  turns_by s (inr t) after = inr (t.0, t.1, t.2, settled s t.0 t.1 t.3 t.4 t.5 after)
 
 -- ---- so many
 
@@ -128,7 +172,17 @@ pub step_is : (room : Room) (pick word : ℕ) (regs : List ℕ) (pc : ℕ) → s
 unfolding picked_step
 step_is room pick word regs pc e = ap (λ (o : Option ℕ). step access o regs pc room) e
 
-pub wanting : (x : Seen) (pick word : ℕ) → slice_get (choices x.room.held x.pc) pick ≡ Some word → IsSomeAnd (word_target word x.regs) IsInText → x.room.spare ≡ 0 → IsCarriedOut (step access (Some word) x.regs x.pc x.room) → Wanting x pick
+-- a step with the word that is picked is the picked step
+pub stepped_by : (s : Stepped) (hart hart' : Hart) (room room' : Room) (way way' : Option Way) (word : ℕ) → Fetched (Some word) (choices room.held hart.pc) way way'
+    → Gives (step access (Some word) hart.regs hart.pc room) s hart' room' → Stays s hart hart' room room' → Wants s (word_target word hart.regs) room → Steps s hart hart' room room' way way'
 unfolding picked_target
-wanting x pick word e w none done =
-    (subst (λ (o : Option ℕ). IsSomeAnd (option_and_then (λ i. word_target i x.regs) o) IsInText) (sym e) w, none, subst IsCarriedOut (sym (step_is x.room pick word x.regs x.pc e)) done)
+stepped_by s hart hart' room room' way way' word f gives stays wants =
+    let at = step_is room f.0 word hart.regs hart.pc f.3 in
+    inr (
+      f.0,
+      f.1,
+      f.2,
+      subst (λ o. Gives o s hart' room') (sym at) gives,
+      stays,
+      subst (λ (o : Option ℕ). Wants s (option_and_then (λ w. word_target w hart.regs) o) room) (sym f.3) wants,
+    )

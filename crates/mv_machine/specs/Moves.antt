@@ -8,8 +8,10 @@ use Rattle.mv_image.specs.Spelling.{Fields}
 use Rattle.mv_isa.specs.declared.instr.Cause.TheVariants as cause
 use Rattle.mv_isa.specs.Execution.{put, reg, Calls}
 use Rattle.mv_fetch.specs.Held.{Room, IsInText, choices}
-use Rattle.mv_rv32.specs.Stepping.{picked_step, picked_target, IsCarriedOut}
+use Rattle.mv_rv32.specs.Stepping.{picked_step, picked_target, IsCarriedOut, Gives, Stays, Wants}
 use Rattle.mv_rv32.specs.declared.hart.Hart.{Hart}
+use Rattle.mv_rv32.specs.declared.hart.Stepped.{Stepped}
+use Rattle.mv_rv32.specs.declared.hart.Stepped.TheVariants as stepped
 use Rattle.mv_machine.specs.declared.engine.Engine.{Engine}
 use Rattle.mv_io.specs.Outside.{Takes}
 use Rattle.mv_io.specs.declared.outside.Failed.{Failed}
@@ -124,6 +126,21 @@ Called x pick request = (picked_step x.room pick x.regs x.pc ≡ Calls) × (requ
 -- the instruction is a store into text that the definition carries out, and nothing is spare
 abbrev pub Wanting : Seen → (pick : ℕ) → Type 0
 Wanting x pick = IsSomeAnd (picked_target x.room pick x.regs x.pc) IsInText × (x.room.spare ≡ 0) × IsCarriedOut (picked_step x.room pick x.regs x.pc)
+
+-- The instruction at pc over a hart and a memory: no fetch there, or the one that the oracle picks. Nothing changes but where it goes on.
+abbrev pub Steps : Stepped → Hart → Hart → Room → Room → Option Way → Option Way → Type 0
+Steps result hart hart' room room' way way' =
+    let count = length (choices room.held hart.pc) in
+    ((count ≡ 0) × (result ≡ stepped.Fault cause.Fetch) × (hart' ≡ hart) × (room' ≡ room) × (way' ≡ way))
+    ⊎ ((pick : ℕ) × (pick < count) × Follows way way' count pick
+    × Gives (picked_step room pick hart.regs hart.pc) result hart' room' × Stays result hart hart' room room' × Wants result (picked_target room pick hart.regs hart.pc) room)
+
+-- what follows an instruction: nothing where it goes on, the environment call, or an answer
+abbrev pub Settles : Stepped → Option Stopped → Seen → Seen → (input_rose output_rose : Type 0) → (Told : List Event → Type 0) → Type 0
+Settles stepped.Next result x y input_rose output_rose Told = (result ≡ None) × (y ≡ x) × Told []
+Settles stepped.Call result x y input_rose output_rose Told = FromCall result x y input_rose output_rose Told
+Settles (stepped.Fault why) result x y input_rose output_rose Told = (result ≡ Some (answer.Fault x.pc why)) × (y ≡ x) × Told []
+Settles stepped.Memory result x y input_rose output_rose Told = (result ≡ Some answer.Memory) × (y ≡ x) × Told []
 
 -- one instruction: no fetch there, or the one that the oracle picks
 abbrev pub Turns : Option Stopped → Seen → Seen → Option Way → Option Way → (input_rose output_rose : Type 0) → (Told : List Event → Type 0) → Type 0

@@ -6,7 +6,7 @@ ghost use Rattle.mv_io.specs.Outside.{Rose};
 ghost use Rattle.mv_probe.specs.Ways.{Follows};
 ghost use Rattle.mv_probe.specs.Hearing.{hearing, IsPatient, object_at, Becomes};
 ghost use Rattle.mv_probe.specs.Fates.{Fates};
-ghost use Rattle.mv_machine.specs.Moves.{Fetched, Turns, Walked, seen, FaultAt};
+ghost use Rattle.mv_machine.specs.Moves.{Fetched, Steps, Settles, Walked, seen, FaultAt};
 
 use crate::call::call;
 use crate::engine::Engine;
@@ -15,9 +15,10 @@ use crate::operator::Operator;
 use mv_fetch::Memory;
 use mv_io::{Sink, Source};
 use mv_probe::{FetchOracle, Probe};
-use mv_rv32::{Cause, Stepped, step_word};
+use mv_rv32::{Cause, Hart, Stepped, step_word};
 
 // What the oracle picks for a fetch.
+#[inline(always)]
 fn picked(oracle: &mut Box<dyn FetchOracle>, address: u32, choices: u64) -> u64
     requires { 1 ≤ choices }
     ensures below { result < choices }
@@ -26,14 +27,12 @@ fn picked(oracle: &mut Box<dyn FetchOracle>, address: u32, choices: u64) -> u64
     oracle.pick(address, choices)
 }
 
-// The word that is fetched at an address, by the oracle's pick; none where there is no choice.
-fn fetched(memory: &Memory, address: u32, oracle: &mut Box<dyn FetchOracle>) -> Option<u32>
+// The word that is fetched at an address that has no choice or more than one.
+#[cold]
+#[inline(never)]
+fn fetched_of_more(memory: &Memory, address: u32, oracle: &mut Box<dyn FetchOracle>) -> Option<u32>
     ensures { Fetched result (choices memory.now.held address) (way oracle.old) (way oracle.new) }
 {
-    if let Some(word) = memory.only_choice(address) {
-        let _pick = picked(oracle, address, 1);
-        return Some(word);
-    }
     let choices = memory.choices(address);
     if choices == 0 {
         return None;
@@ -42,17 +41,42 @@ fn fetched(memory: &Memory, address: u32, oracle: &mut Box<dyn FetchOracle>) -> 
     Some(memory.fetch(address, pick))
 }
 
-// One instruction, and the answer of the run where it doesn't go on.
-fn turn<I: Source, O: Sink>(
+// The word that is fetched at an address, by the oracle's pick; none where there is no choice.
+#[inline(always)]
+fn fetched(memory: &Memory, address: u32, oracle: &mut Box<dyn FetchOracle>) -> Option<u32>
+    ensures { Fetched result (choices memory.now.held address) (way oracle.old) (way oracle.new) }
+{
+    if let Some(word) = memory.only_choice(address) {
+        let _pick = picked(oracle, address, 1);
+        return Some(word);
+    }
+    fetched_of_more(memory, address, oracle)
+}
+
+// The instruction at pc, up to what the environment has to do of it.
+#[inline(always)]
+fn step(hart: &mut Hart, memory: &mut Memory, oracle: &mut Box<dyn FetchOracle>) -> Stepped
+    ensures { Steps result hart.old hart.new memory.old memory.new (way oracle.old) (way oracle.new) }
+{
+    match fetched(memory, hart.pc, oracle) {
+        None => Stepped::Fault(Cause::Fetch),
+        Some(word) => step_word(hart, memory, word),
+    }
+}
+
+// What follows an instruction that didn't just go on: an environment call, or the answer of the run.
+#[cold]
+#[inline(never)]
+fn settle<I: Source, O: Sink>(
+    stepped: Stepped,
     engine: &mut Engine,
     operator: &mut Operator,
     source: &mut I,
     sink: &mut O,
-    oracle: &mut Box<dyn FetchOracle>,
     probes: &mut Vec<Box<dyn Probe>>,
 ) -> Option<Stopped>
     requires { All (λ probe. IsPatient (hearing (told probe) (patience probe))) probes.old.items }
-    ensures moves { Turns result (seen engine.old operator.old (I.left source.old) (O.written sink.old)) (seen engine.new operator.new (I.left source.new) (O.written sink.new)) (way oracle.old) (way oracle.new)
+    ensures moves { Settles stepped result (seen engine.old operator.old (I.left source.old) (O.written sink.old)) (seen engine.new operator.new (I.left source.new) (O.written sink.new))
         (Rose (I.faults source.old) (I.faults source.new)) (Rose (O.faults sink.old) (O.faults sink.new))
         (λ events. Fates (Becomes (λ probe. object_at probe.ptr probe.vtable) (λ probe. hearing (told probe) (patience probe)) events) probes.old.items probes.new.items) }
     ensures place { IfSome result (λ stopped. FaultAt stopped engine.new.hart.pc) }
@@ -61,10 +85,7 @@ fn turn<I: Source, O: Sink>(
     ensures input { I.faults source.old ≤ I.faults source.new }
     ensures output { O.faults sink.old ≤ O.faults sink.new }
 {
-    let Some(word) = fetched(&engine.memory, engine.hart.pc, oracle) else {
-        return Some(Stopped::Fault(engine.hart.pc, Cause::Fetch));
-    };
-    match step_word(&mut engine.hart, &mut engine.memory, word) {
+    match stepped {
         Stepped::Next => None,
         Stepped::Call => call(engine, operator, source, sink, probes),
         Stepped::Fault(cause) => Some(Stopped::Fault(engine.hart.pc, cause)),
@@ -92,9 +113,17 @@ pub(crate) fn walk<I: Source, O: Sink>(
     ensures input { I.faults source.old ≤ I.faults source.new }
     ensures output { O.faults sink.old ≤ O.faults sink.new }
 {
-    for count in 0..steps {
-        if let Some(stopped) = turn(engine, operator, source, sink, oracle, probes) {
-            return Some(stopped);
+    let mut left = steps;
+    while left > 0 {
+        left -= 1;
+        let stepped = step(&mut engine.hart, &mut engine.memory, oracle);
+        match stepped {
+            Stepped::Next => {}
+            _ => {
+                if let Some(stopped) = settle(stepped, engine, operator, source, sink, probes) {
+                    return Some(stopped);
+                }
+            }
         }
     }
     None

@@ -1,6 +1,6 @@
-ghost use Rattle.std.specs.Prelude.{◌≡◌, ◌<◌, eqb, ℕ, Option, Some};
-ghost use Rattle.mv_isa.specs.Execution.{reg, put, sets, jumps, branches, loads, stores, Goes};
-ghost use Rattle.mv_num.specs.Words.{add, lt_s, lt_u, word_of};
+ghost use Rattle.std.specs.Prelude.{◌≡◌, ◌<◌, cond, eqb, ℕ, Option, Some};
+ghost use Rattle.mv_isa.specs.Execution.{reg, put, sets, jumps, loaded, stored, Goes};
+ghost use Rattle.mv_num.specs.Words.{add, lt_s, lt_u};
 ghost use Rattle.mv_fetch.specs.Held.{IsWidth, Room};
 ghost use Rattle.mv_rv32.specs.Stepping.{access, Gives, Keeps, Stays, Wants};
 
@@ -12,16 +12,18 @@ use mv_num::word;
 
 impl Hart {
     // What a register reads.
+    #[inline(always)]
     #[tactic(auto, unfolding(mv_isa::specs::Execution::reg))]
-    pub(crate) fn reg(&self, register: u8) -> u32
+    pub(crate) fn reg(&self, register: usize) -> u32
         requires { register < 32 }
         ensures { result ≡ reg self.now.regs register }
     {
-        self.regs[usize::from(register)]
+        self.regs[register]
     }
 
     // Whether two registers are equal, or the first is less, as signed numbers or as unsigned ones.
-    pub(crate) fn are_equal(&self, rs1: u8, rs2: u8) -> bool
+    #[inline(always)]
+    pub(crate) fn are_equal(&self, rs1: usize, rs2: usize) -> bool
         requires rs1 { rs1 < 32 }
         requires rs2 { rs2 < 32 }
         ensures { result ≡ eqb (reg self.now.regs rs1) (reg self.now.regs rs2) }
@@ -29,7 +31,8 @@ impl Hart {
         self.reg(rs1) == self.reg(rs2)
     }
 
-    pub(crate) fn is_less_s(&self, rs1: u8, rs2: u8) -> bool
+    #[inline(always)]
+    pub(crate) fn is_less_s(&self, rs1: usize, rs2: usize) -> bool
         requires rs1 { rs1 < 32 }
         requires rs2 { rs2 < 32 }
         ensures { result ≡ lt_s (reg self.now.regs rs1) (reg self.now.regs rs2) }
@@ -37,7 +40,8 @@ impl Hart {
         word::lt_s(self.reg(rs1), self.reg(rs2))
     }
 
-    pub(crate) fn is_less_u(&self, rs1: u8, rs2: u8) -> bool
+    #[inline(always)]
+    pub(crate) fn is_less_u(&self, rs1: usize, rs2: usize) -> bool
         requires rs1 { rs1 < 32 }
         requires rs2 { rs2 < 32 }
         ensures { result ≡ lt_u (reg self.now.regs rs1) (reg self.now.regs rs2) }
@@ -46,18 +50,20 @@ impl Hart {
     }
 
     // Puts a value into a register.
+    #[inline(always)]
     #[tactic(auto, unfolding(mv_isa::specs::Execution::put))]
-    fn put(&mut self, rd: u8, value: u32)
+    fn put(&mut self, rd: usize, value: u32)
         requires { rd < 32 }
         ensures regs { self.new.regs ≡ put self.old.regs rd value }
         ensures pc { self.new.pc ≡ self.old.pc }
     {
         if rd != 0 {
-            self.regs[usize::from(rd)] = value;
+            self.regs[rd] = value;
         }
     }
 
     // On to the next instruction.
+    #[inline(always)]
     pub(crate) fn goes_on(&mut self) -> Stepped
         ensures regs { self.new.regs ≡ self.old.regs }
         ensures pc { self.new.pc ≡ add self.old.pc 4 }
@@ -68,8 +74,9 @@ impl Hart {
     }
 
     // On to the next instruction, with a value in a register.
+    #[inline(always)]
     #[tactic(auto, unfolding(mv_isa::specs::Execution::sets))]
-    pub(crate) fn sets(&mut self, rd: u8, value: u32) -> Stepped
+    pub(crate) fn sets(&mut self, rd: usize, value: u32) -> Stepped
         requires { rd < 32 }
         ensures goes { (room : Room) → sets self.old.regs self.old.pc room rd value ≡ Goes self.new.regs self.new.pc room }
         ensures next { result ≡ Stepped.Next }
@@ -79,8 +86,9 @@ impl Hart {
     }
 
     // A jump, with the address of the next instruction in a register.
+    #[inline(always)]
     #[tactic(auto, unfolding(mv_isa::specs::Execution::jumps))]
-    pub(crate) fn jumps(&mut self, rd: u8, target: u32) -> Stepped
+    pub(crate) fn jumps(&mut self, rd: usize, target: u32) -> Stepped
         requires { rd < 32 }
         ensures gives { (room : Room) → Gives (jumps (put self.old.regs rd (add self.old.pc 4)) room target) result self.new room }
         ensures keeps { Keeps result self.old self.new }
@@ -96,16 +104,17 @@ impl Hart {
     }
 
     // A branch, taken where the test holds.
-    #[tactic(auto, unfolding(mv_isa::specs::Execution::branches, mv_isa::specs::Execution::jumps))]
-    pub(crate) fn branches(&mut self, imm: i32, test: bool) -> Stepped
-        ensures gives { (room : Room) → Gives (branches self.old.regs self.old.pc room imm test) result self.new room }
+    #[inline(always)]
+    #[tactic(auto, unfolding(mv_isa::specs::Execution::jumps))]
+    pub(crate) fn branches(&mut self, offset: u32, test: bool) -> Stepped
+        ensures gives { (room : Room) → Gives (cond test (jumps self.old.regs room (add self.old.pc offset)) (Goes self.old.regs (add self.old.pc 4) room)) result self.new room }
         ensures keeps { Keeps result self.old self.new }
         ensures wants { (address : Option ℕ) (room : Room) → Wants result address room }
     {
         if !test {
             return self.goes_on();
         }
-        let target = word::add(self.pc, word::of_signed(imm));
+        let target = word::add(self.pc, offset);
         if target % 4 != 0 {
             return Stepped::Fault(Cause::Jump);
         }
@@ -114,24 +123,25 @@ impl Hart {
     }
 
     // A load into a register.
-    #[tactic(auto, unfolding(mv_isa::specs::Execution::loads, crate::specs::Stepping::access))]
+    #[inline(always)]
+    #[tactic(auto, unfolding(crate::specs::Stepping::access))]
     pub(crate) fn loads(
         &mut self,
         memory: &Memory,
-        rd: u8,
-        rs1: u8,
-        imm: i32,
+        rd: usize,
+        rs1: usize,
+        offset: u32,
         width: u32,
         kind: Kind,
     ) -> Stepped
         requires rd { rd < 32 }
         requires rs1 { rs1 < 32 }
         requires width { IsWidth width }
-        ensures gives { Gives (loads access self.old.regs self.old.pc memory.now rd rs1 imm width kind) result self.new memory.now }
+        ensures gives { Gives (loaded self.old.regs self.old.pc memory.now rd kind (access.load memory.now (add (reg self.old.regs rs1) offset) width)) result self.new memory.now }
         ensures keeps { Keeps result self.old self.new }
         ensures wants { (address : Option ℕ) (room : Room) → Wants result address room }
     {
-        let address = word::add(self.reg(rs1), word::of_signed(imm));
+        let address = word::add(self.reg(rs1), offset);
         match memory.load(address, width) {
             Ok(value) => self.sets(rd, word::narrow(kind, value)),
             Err(_) => Stepped::Fault(Cause::Load),
@@ -139,23 +149,24 @@ impl Hart {
     }
 
     // A store of a register.
-    #[tactic(auto, unfolding(mv_isa::specs::Execution::stores, crate::specs::Stepping::access))]
+    #[inline(always)]
+    #[tactic(auto, unfolding(crate::specs::Stepping::access))]
     pub(crate) fn stores(
         &mut self,
         memory: &mut Memory,
-        rs1: u8,
-        rs2: u8,
-        imm: i32,
+        rs1: usize,
+        rs2: usize,
+        offset: u32,
         width: u32,
     ) -> Stepped
         requires rs1 { rs1 < 32 }
         requires rs2 { rs2 < 32 }
         requires width { IsWidth width }
-        ensures gives { Gives (stores access self.old.regs self.old.pc memory.old rs1 rs2 imm width) result self.new memory.new }
+        ensures gives { Gives (stored self.old.regs self.old.pc (access.store memory.old (add (reg self.old.regs rs1) offset) width (reg self.old.regs rs2))) result self.new memory.new }
         ensures stays { Stays result self.old self.new memory.old memory.new }
-        ensures wants { Wants result (Some (add (reg self.old.regs rs1) (word_of imm))) memory.old }
+        ensures wants { Wants result (Some (add (reg self.old.regs rs1) offset)) memory.old }
     {
-        let address = word::add(self.reg(rs1), word::of_signed(imm));
+        let address = word::add(self.reg(rs1), offset);
         let value = self.reg(rs2);
         match memory.store(address, width, value) {
             Ok(()) => self.goes_on(),

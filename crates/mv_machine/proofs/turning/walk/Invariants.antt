@@ -1,18 +1,22 @@
-use Rattle.std.proofs.Common.{◌≡◌, ◌≤◌, []}
+use Rattle.std.proofs.Common.{◌≡◌, ◌≤◌, ◌-◌, []}
 use Rattle.mv_probe.specs.Hearing.{hearing, object_at, Becomes}
 use Rattle.mv_probe.specs.Fates.{Fates}
 use Rattle.mv_machine.specs.Moves.{seen, Goes}
 use Rattle.mv_machine.proofs.turning.walk.Given as goal
 
-abbrev pub invariant-loop-count : goal.invariant-loop-count
-invariant-loop-count g l =
+abbrev pub invariant-loop-left : goal.invariant-loop-left
+invariant-loop-left g l =
     let was = l.initial.oracle in
     let is = l.oracle in
     record {
-      goes : Goes l.count (seen l.initial.engine l.initial.operator (g.I.Source.left l.initial.source) (g.O.Sink.written l.initial.sink)) (seen l.engine l.operator (g.I.Source.left l.source) (g.O.Sink.written l.sink)) ((goal.FetchOracle-dyn g (was.vtable, was.value)).way was.value) ((goal.FetchOracle-dyn g (is.vtable, is.value)).way is.value)
+      few : l.left ≤ l.steps;
+      goes : Goes (l.steps - l.left) (seen l.initial.engine l.initial.operator (g.I.Source.left l.initial.source) (g.O.Sink.written l.initial.sink)) (seen l.engine l.operator (g.I.Source.left l.source) (g.O.Sink.written l.sink)) ((goal.FetchOracle-dyn g (was.vtable, was.value)).way was.value) ((goal.FetchOracle-dyn g (is.vtable, is.value)).way is.value)
           (λ events. Fates (Becomes (λ probe. object_at probe.ptr probe.vtable) (λ probe. hearing ((goal.Probe-dyn g (probe.vtable, probe.value)).told probe.value) ((goal.Probe-dyn g (probe.vtable, probe.value)).patience probe.value)) events) l.initial.probes.items l.probes.items);
       image : l.engine.image ≡ l.initial.engine.image;
       quiet : l.initial.engine.image.functions ≡ [] → l.probes ≡ l.initial.probes;
       input : g.I.Source.faults l.initial.source ≤ g.I.Source.faults l.source;
       output : g.O.Sink.faults l.initial.sink ≤ g.O.Sink.faults l.sink;
     }
+
+abbrev pub decreases-loop-left : goal.decreases-loop-left
+decreases-loop-left g l = l.left

@@ -1,19 +1,13 @@
-use Rattle.std.proofs.Common.{ℕ, ◌≡◌, ◌<◌, ◌∙◌, slice_index, sym, subst, arith}
+use Rattle.std.proofs.Common.{◌≡◌, ◌∙◌, length, sym, arith}
 use Rattle.std.proofs.lemmas.Bool.Decides.{nat_tests}
 use Rattle.mv_fetch.specs.Held.{index_of}
-use Rattle.mv_fetch.proofs.Choices.{only_where_none_stored, none_where_stored}
+use Rattle.mv_fetch.proofs.Choices.{only_where_none_stored}
+use Rattle.mv_fetch.proofs.Links.{no_end}
 use Rattle.mv_fetch.proofs.memory.Memory.only_choice.Goals as goal
 
-pub returns-then-is_stored : goal.returns-then-is_stored
-returns-then-is_stored c =
+pub returns-then-is_empty : goal.returns-then-is_empty
+returns-then-is_empty c =
     let m = c.self.inside in
-    let stored : 0 < slice_index c.as_slice.result.now c.index_of.result = c.is_stored.ensures.0 c.if-is_stored.true in
-    let end : 0 < slice_index m.ends.items (index_of c.args.address) = subst (λ (k : ℕ). 0 < slice_index m.ends.items k) c.index_of.ensures (subst (λ xs. 0 < slice_index xs c.index_of.result) c.as_slice.ensures.value stored) in
-    sym (none_where_stored m c.args.self.now c.args.address c.self.view_is c.self.invariant end)
-
-pub returns-else-is_stored : goal.returns-else-is_stored
-returns-else-is_stored c =
-    let m = c.self.inside in
-    let none : slice_index c.as_slice.result.now c.index_of.result ≡ 0 = grind (arith, nat_tests, c.is_stored.ensures, c.if-is_stored.false) in
-    let end : slice_index m.ends.items (index_of c.args.address) ≡ 0 = subst (λ (k : ℕ). slice_index m.ends.items k ≡ 0) c.index_of.ensures (subst (λ xs. slice_index xs c.index_of.result ≡ 0) c.as_slice.ensures.value none) in
-    c.first_choice.ensures ∙ sym (only_where_none_stored m c.args.self.now c.args.address c.self.view_is c.self.invariant end)
+    let empty : length m.log.items ≡ 0 = grind (arith, nat_tests) in
+    let none = no_end m.ends.items m.log.items (index_of c.args.address) c.self.invariant.linked empty in
+    c.first_choice.ensures ∙ sym (only_where_none_stored m c.args.self.now c.args.address c.self.view_is c.self.invariant none)
