@@ -8,9 +8,9 @@
 //! | ` !room N` | how many bytes the output has room for |
 //! | ` !notes N`, ` !piece N` | how many the notes have room for, and how many they take at once |
 //! | ` !shelf N` | the call of the shelf that fails: a shelf in memory, for this command alone |
-//! | ` !oracle NAME` | the oracle by which what runs fetches, alone: `fresh`, `oldest`, or the numbers of a table with commas between |
+//! | ` !oracle NAME` | the one oracle by which what runs fetches: `fresh`, `oldest`, the numbers of a table, or `told:` and the addresses of which it is asked |
 //! | ` !verdict` | of a text that isn't refused that alone is printed |
-//! | ` !log` | what two probes were told is printed, of which one has room for a single event |
+//! | ` !log` | how many probes are left is printed, of one that leaves and tells nothing, one with room for a single event and one with more, and what that heard |
 //! | ` !limits N` | the command is carried out with each step limit up to N, too |
 //!
 //! | Indented, behind the command | What it says |
@@ -20,14 +20,15 @@
 //! | `@NAME WORDS` | another file, of these words: four bytes `0xN` from the lowest on, one of two digits, and four of eight digits, `*N` times |
 //!
 //! What runs does so under three oracles, unless it is refused. The outcome under `Oldest` is printed, and another one where it differs, that is its output,
-//! its notes or what the probes were told. A run without an operator that ends is compared with an evaluation. In what `list` writes, `ADDRESS` stands for each
-//! address.
+//! its notes or what the probes were told. A run without an operator that ends is compared with an evaluation. In what `list` writes of an image that was
+//! built, `ADDRESS` stands for each address.
 #![tactic(auto)]
 
 mod limits;
 mod outcome;
 mod picks;
 mod printing;
+mod quiet;
 mod row;
 
 use crate::limits::show_limits;

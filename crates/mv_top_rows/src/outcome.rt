@@ -1,6 +1,7 @@
 //! What a command comes to.
 
 use crate::picks::picks_of;
+use crate::quiet::Quiet;
 use crate::row::{Row, Taking};
 use mv_ast::world::Event;
 use mv_io::{FileShelf, MemShelf, MemSink, MemSource, Shelf};
@@ -23,7 +24,7 @@ pub(crate) struct Outcome {
     pub(crate) status: u8,
     pub(crate) out: Vec<u8>,
     pub(crate) notes: Vec<u8>,
-    /// How many of the two probes are left.
+    /// How many of the three probes are left.
     pub(crate) left: usize,
     /// What the last one of them was told.
     pub(crate) log: Vec<Event>,
@@ -96,6 +97,7 @@ fn carried_out<H: Shelf>(
     let mut out = sink_of(alloc, row.out)?;
     let mut notes = sink_of(alloc, row.notes)?;
     let mut probes: Vec<Box<dyn Probe>> = Vec::new(alloc);
+    probes.push(Box::new(alloc, Quiet)?)?;
     probes.push(Box::new(alloc, Recorder::new(alloc, 1)?)?)?;
     probes.push(Box::new(alloc, Recorder::new(alloc, EVENTS)?)?)?;
     let status = multiverse(

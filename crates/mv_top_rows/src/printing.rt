@@ -73,7 +73,7 @@ pub(crate) fn print_outcome(rt: &HostRuntime, row: &Row, outcome: &Outcome) -> a
         println!(rt; "accepted")?;
         return Ok(());
     }
-    if row.words.as_str().starts_with("list ") {
+    if row.words.as_str().starts_with("list ") && row.files.len() == 1 {
         print_listing(rt, outcome.out.as_slice())?;
     } else {
         print_bytes(rt, outcome.out.as_slice())?;
