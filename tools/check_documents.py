@@ -5,7 +5,8 @@
 
 Looked up are: in README.md and docs/*.md each row of a table of commands, with its output and its last line, and each command of a block
 `console`; the examples of docs/refusals.ini; and each `examples/NAME.out`, which is the output of what has the input NAME.in, or of NAME.c. A program
-in a block `c` is a file of `examples/`. The tables of docs/refusals.md are those of docs/refusals.ini.
+in a block `c` is a file of `examples/`. The tables of docs/refusals.md are those of docs/refusals.ini. Of what `list` writes the rows have ADDRESS in
+place of each address.
 """
 import glob
 import os
@@ -22,6 +23,8 @@ TITLE = re.compile(r"^# .*\n", re.M)
 BLOCK = re.compile(r"^```(\w+)\n(.*?)^```$", re.M | re.S)
 COMMANDS = "| Command | Output | Last line |\n|---|---|---|\n"
 SYNOPSES = "| Command | What it does |\n|---|---|\n"
+# The addresses of a listing.
+ADDRESS = re.compile(r"\b0x[0-9a-f]{8}\b")
 # The lines on bindings and words that stand before a last line.
 LINES = re.compile(r"^(binding|word) .*\n", re.M)
 ATTRIBUTE = "__attribute__((multiverse))"
@@ -84,6 +87,8 @@ def wrong_in(document, known):
     text = text_of(document)
     for command, answer, said in [*in_tables(text), *in_blocks(text)]:
         has = known.get((command.replace("examples/", ""), ""))
+        if command.startswith("list "):
+            answer = ADDRESS.sub("ADDRESS", answer)
         if has != answer:
             yield f"`{command}` gives {has!r}"
         elif said and said != explanation(command, answer):
@@ -116,7 +121,7 @@ def wrong_outputs(known):
     """Returns the outputs in examples/ that the rows have otherwise."""
     for file in sorted(glob.glob(os.path.join(TOP, "examples", "*.out"))):
         name = os.path.basename(file)[: -len(".out")]
-        answers = [it for (command, _), it in known.items() if command.endswith(f" < {name}.in") or command.split()[1:2] == [f"{name}.c"]]
+        answers = [it for (command, _), it in known.items() if command.endswith(f" < {name}.in") or command.split()[:2] in (["run", f"{name}.c"], ["eval", f"{name}.c"])]
         wanted = lines_of(text_of(file))
         if not answers or any(LINES.sub("", it).splitlines(keepends=True)[:-1] != wanted.splitlines(keepends=True) for it in answers):
             yield f"examples/{name}.out is another output"

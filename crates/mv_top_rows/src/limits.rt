@@ -2,7 +2,6 @@
 
 use crate::outcome::{Outcome, outcome_of};
 use crate::row::Row;
-use mv_probe::{FetchOracle, Oldest};
 
 /// The number of the status of a run that goes on.
 const STEPS: u8 = 8;
@@ -24,8 +23,7 @@ pub(crate) fn show_limits(rt: &HostRuntime, row: &Row, whole: &Outcome) -> anyho
     for index in 0..row.limits {
         let steps = u64::from(index) + 1;
         let line = format!(in alloc; "{} --steps {steps}", row.words)?;
-        let mut oldest: Box<dyn FetchOracle> = Box::new(alloc, Oldest)?;
-        let outcome = outcome_of(rt, row, line.as_str(), &mut oldest)?;
+        let outcome = outcome_of(rt, row, line.as_str(), "oldest")?;
         if is_part(&outcome, whole) && longest <= outcome.out.len() {
             sound = sound.saturating_add(1);
         }
