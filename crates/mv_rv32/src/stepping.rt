@@ -6,7 +6,9 @@ ghost use Rattle.mv_fetch.specs.Held.{choices, Room};
 ghost use Rattle.mv_rv32.specs.Stepping.{access, picked_step, picked_target, word_target, target, Gives, Keeps, Stays, Wants};
 
 use crate::arith::{quotient_s, quotient_u, remainder_s, remainder_u, truth};
-use crate::field::{count, funct3, functs, imm_b, imm_i, imm_j, imm_s, opcode, rd, rs1, rs2, upper};
+use crate::field::{
+    count, funct3, functs, imm_b, imm_i, imm_j, imm_s, opcode, rd, rs1, rs2, upper,
+};
 use crate::hart::{Hart, Stepped};
 use mv_fetch::Memory;
 use mv_isa::Cause;
