@@ -8,6 +8,5 @@ pub mod RunsDecided
 pub mod OthersDecided
 pub mod Decisions
 pub mod Few
-pub mod Fits
 pub mod Causes
 pub mod Commands

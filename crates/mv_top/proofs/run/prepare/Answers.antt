@@ -2,17 +2,14 @@ use Rattle.std.proofs.Common.{arith, subst}
 use Rattle.std.proofs.lemmas.Result.{err_from_is_err_and}
 use Rattle.mv_operator.specs.Operator.{IsRefusedFor}
 use Rattle.mv_top.proofs.Few.{few_switches}
-use Rattle.mv_top.proofs.Fits.{all_fit}
-use Rattle.mv_top.proofs.Causes.{build_cause, item_cause}
+use Rattle.mv_top.proofs.Causes.{all_fit, build_cause, item_cause}
 use Rattle.mv_top.proofs.run.prepare.Goals as goal
 
 pub actions_of-requires-clause-few : goal.actions_of-requires-clause-few
 actions_of-requires-clause-few c = omega (arith, few_switches c.in_ok-built.built.program c.in_ok-built.ensures.built.program.within)
 
 pub returns-in-Ok-clause-fit : goal.returns-in-Ok-clause-fit
-returns-in-Ok-clause-fit c =
-    let b = c.in_ok-built.built in
-    all_fit b.program b.generics b.variants b.image c.in_ok-built.ensures.built.image c.in-Ok.actions.items c.in-Ok.ensures.fit
+returns-in-Ok-clause-fit c = all_fit c.args.text.now c.in_ok-built.built c.in-Ok.actions.items c.in_ok-built.ensures.built c.in-Ok.ensures.fit
 
 pub returns-in_err-built-clause-err : goal.returns-in_err-built-clause-err
 returns-in_err-built-clause-err c =
