@@ -1,5 +1,8 @@
 //! What a command comes to.
 
+ghost use Rattle.std.specs.Prelude.{All};
+ghost use Rattle.mv_probe.specs.Hearing.{hearing, IsPatient};
+
 use crate::picks::picks_of;
 use crate::quiet::Quiet;
 use crate::row::{Row, Taking};
@@ -84,6 +87,23 @@ fn last_log(alloc: Global, probes: &[Box<dyn Probe>]) -> Result<Vec<Event>, Allo
     Ok(log)
 }
 
+// The number of the status of a command. (A function of its own, without an `ensures`: so what lets go of the devices is proved beside nothing that the
+// command promises.)
+fn status_of<H: Shelf>(
+    alloc: Global,
+    words: &[String],
+    shelf: &mut H,
+    input: &mut MemSource,
+    out: &mut MemSink,
+    notes: &mut MemSink,
+    oracle: &mut Box<dyn FetchOracle>,
+    probes: &mut Vec<Box<dyn Probe>>,
+) -> u8
+    requires { All (λ probe. IsPatient (hearing (told probe) (patience probe))) probes.old.items }
+{
+    multiverse(alloc, words, shelf, input, out, notes, oracle, probes).number()
+}
+
 // Carries out the command of some words over a shelf.
 fn carried_out<H: Shelf>(
     rt: &HostRuntime,
@@ -100,7 +120,7 @@ fn carried_out<H: Shelf>(
     probes.push(Box::new(alloc, Quiet)?)?;
     probes.push(Box::new(alloc, Recorder::new(alloc, 1)?)?)?;
     probes.push(Box::new(alloc, Recorder::new(alloc, EVENTS)?)?)?;
-    let status = multiverse(
+    let status = status_of(
         alloc,
         words,
         shelf,
@@ -111,7 +131,7 @@ fn carried_out<H: Shelf>(
         &mut probes,
     );
     Ok(Outcome {
-        status: status.number(),
+        status,
         out: out.bytes().to_vec(alloc)?,
         notes: notes.bytes().to_vec(alloc)?,
         left: probes.len(),
