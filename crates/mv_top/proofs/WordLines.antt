@@ -1,6 +1,5 @@
 -- Where a run has ended, as many words of text have changed as the meaning's bindings owe.
-use Rattle.std.proofs.Common.{◌≡◌, ℕ, ◌^◌, ◌<◌, List, Option, Some, None, sym, ap, ◌∙◌, subst}
-use Rattle.std.specs.Prelude.{All}
+use Rattle.std.proofs.Common.{◌≡◌, ℕ, List, Option, Some, None, sym, ap, ◌∙◌, subst}
 use Rattle.mv_ast.specs.declared.program.Program.{Program}
 use Rattle.mv_ast.specs.declared.world.Action.{Action}
 use Rattle.mv_ast.specs.declared.world.Binding.{Binding}
@@ -15,7 +14,6 @@ use Rattle.mv_machine.specs.Snapshots.{Snapshot, kept}
 use Rattle.mv_machine.specs.declared.machine.Stopped.{Stopped}
 use Rattle.mv_machine.specs.declared.machine.Stopped.TheVariants.{Ended, Trapped, Steps, InputFault, OutputFault, Fault, Memory}
 use Rattle.mv_meaning.specs.declared.meant.End.{End}
-use Rattle.mv_meaning.specs.declared.meant.Meant.{Meant}
 use Rattle.mv_meaning.specs.Meaning.{mean}
 use Rattle.mv_patch.specs.Orders.{values_of}
 use Rattle.mv_refine.specs.Environment.{Environment}
