@@ -99,27 +99,21 @@ module _ (words : List (List ℕ)) (files : Option Files) (left : Option (List �
     pub refused : (asked : Asked) (text : List ℕ) (r : Refusal) → Loads asked text → reads_source asked ≡ true → IsRefused text r → Is result (Refused r)
     pub bad_image : (asked : Asked) (bytes : List ℕ) (code offset : ℕ) → Loads asked bytes → reads_source asked ≡ false → IsBadImage bytes code offset →
         Is result (BadImage code offset)
-
     -- a run
     pub wrong_item : (file text : List ℕ) (options : RunOptions) (p : Program) (item : ℕ) → Loads (Runs file options) text → IsProgram text p →
         IsFirstWrong p options.items item → IsWithinLimits result (Refused (no_action item)) p
     pub ended : (file text bytes : List ℕ) (options : RunOptions) (bound : ℕ) (p : Program) (actions : List Action) (e : End) → Loads (Runs file options) text →
         IsProgram text p → IsActions p options.items actions → left ≡ Some bytes → All (λ b. b < 2 ^ 8) bytes → Ends p actions bytes options.steps bound e →
         IsWithinLimits result (status_of_end e) p
-
     pub built : (file image text : List ℕ) (p : Program) → Loads (Builds file image) text → IsProgram text p → IsWithinLimits result Done p
-
     -- a run of an image
     pub no_action_of_image : (file bytes : List ℕ) (options : RunOptions) (image : Fields) (item : ℕ) → Loads (Executes file options) bytes → Spells bytes image →
         IsImageFirstWrong image options.items item → Is result (Refused (no_action item))
     pub executed : (file bytes : List ℕ) (options : RunOptions) (image : Fields) (actions : List Action) → Loads (Executes file options) bytes → Spells bytes image →
         IsImageActions image options.items actions → Stands result
-
     pub listed : (file bytes : List ℕ) (image : Fields) → Loads (Lists file) bytes → Spells bytes image → Is result Done
-
     pub evaluated : (file text bytes : List ℕ) (bound : ℕ) (p : Program) → Loads (Evaluates file bound) text → IsProgram text p → left ≡ Some bytes →
         Is result (status_of_end (meaning p bound (take most bytes)).«end»)
-
     pub shown : (number : ℕ) → IsCommand words (Generates number true) → Is result Done
     -- where its text is a program, it has the program's end where there are steps enough, or ends, traps or uses them up, unless it passes a limit
     pub generated_ended : (number bound : ℕ) (p : Program) (e : End) → IsCommand words (Generates number false) → IsProgram (generated number) p →

@@ -46,12 +46,7 @@ fn is_summed_up(status: Status) -> bool
 }
 
 // The summary of a run of the text that is generated of a number.
-fn summary(
-    alloc: Global,
-    number: u32,
-    text: &[u8],
-    status: Status,
-) -> Result<String, AllocError>
+fn summary(alloc: Global, number: u32, text: &[u8], status: Status) -> Result<String, AllocError>
     requires { text.now ≡ generated number }
     ensures { IfOk result (λ line. string_bytes line ≡ summary number status) }
 {
@@ -61,13 +56,7 @@ fn summary(
 }
 
 // Writes what is due behind the output of a run, and gives the status that then stands.
-fn sum_up<O: Sink>(
-    alloc: Global,
-    number: u32,
-    text: &[u8],
-    ran: Status,
-    out: &mut O,
-) -> Status
+fn sum_up<O: Sink>(alloc: Global, number: u32, text: &[u8], ran: Status, out: &mut O) -> Status
     requires { text.now ≡ generated number }
     ensures sums { IsTrue (is_summed_up ran || is_cut_short ran) →
         Sums number (writing (O.written out.old) (O.faults out.old)) (writing (O.written out.new) (O.faults out.new)) ran result }

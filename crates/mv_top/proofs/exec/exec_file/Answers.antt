@@ -11,6 +11,8 @@ returns-in-Ok g c =
     c.exec_bytes.result c.exec_bytes.ensures
 
 pub returns-in-Err : goal.returns-in-Err
-returns-in-Err g c =
-    (not_loaded _ _ _ c.args.file.now _ c.alone.result.status c.in-Err.error (c.alone.ensures.status ∙ c.status_of_shelf.ensures)
-    (λ e. c.in-Err.ensures.failed (ap Err e)) ((refl, c.load.ensures.same), (c.alone.ensures.lines, told_nothing _ _ c.args.probes.now.items c.requires.patient)), c.load.ensures.same)
+returns-in-Err g c = (
+  not_loaded _ _ _ c.args.file.now _ c.alone.result.status c.in-Err.error (c.alone.ensures.status ∙ c.status_of_shelf.ensures)
+      (λ e. c.in-Err.ensures.failed (ap Err e)) ((refl, c.load.ensures.same), (c.alone.ensures.lines, told_nothing _ _ c.args.probes.now.items c.requires.patient)),
+  c.load.ensures.same,
+)
