@@ -19,3 +19,6 @@ pub mod Judged
 pub mod Made
 pub mod Program
 pub mod Limited
+pub mod Folded
+pub mod Counted
+pub mod Called
