@@ -1,5 +1,5 @@
 -- Walks of one instruction after the other.
-use Rattle.std.proofs.Common.{ℕ, ◌≡◌, ◌<◌, ◌≤◌, ◌+◌, inl, inr, List, [], ◌∷◌, ◌++◌, length, Option, Some, None, option_map, unwrap_or, slice_get, option_and_then, refl, sym, ap, ap₂, ◌∙◌, subst, arith, append-nil}
+use Rattle.std.proofs.Common.{ℕ, ◌≡◌, ◌<◌, ◌≤◌, ◌+◌, inl, inr, List, [], ◌∷◌, ◌++◌, length, Option, Some, None, option_map, unwrap_or, slice_get, option_and_then, IsSomeAnd, refl, sym, ap, ap₂, ◌∙◌, subst, arith, append-nil}
 use Rattle.std.proofs.lemmas.List.{length-append}
 use Rattle.std.proofs.lemmas.Option.{none-some}
 use Rattle.mv_ast.specs.declared.world.Action.{Action}
@@ -7,8 +7,8 @@ use Rattle.mv_ast.specs.declared.world.Event.{Event}
 use Rattle.mv_isa.specs.declared.instr.Cause.{Cause}
 use Rattle.mv_isa.specs.declared.instr.Cause.TheVariants as cause
 use Rattle.mv_isa.specs.Execution.{Goes as GoesTo, Calls, Faults, reg, step}
-use Rattle.mv_fetch.specs.Held.{Room, choices, only}
-use Rattle.mv_rv32.specs.Stepping.{access, picked_step, picked_target, word_target, Gives, Stays, Wants}
+use Rattle.mv_fetch.specs.Held.{Room, IsInText, choices, only}
+use Rattle.mv_rv32.specs.Stepping.{access, picked_step, picked_target, word_target, IsCarriedOut, Gives, Stays, Wants}
 use Rattle.mv_rv32.specs.declared.hart.Hart.{Hart}
 use Rattle.mv_rv32.specs.declared.hart.Stepped.{Stepped}
 use Rattle.mv_rv32.specs.declared.hart.Stepped.TheVariants as over

@@ -1,4 +1,4 @@
-use Rattle.std.proofs.Common.{◌-◌, ◌+◌, refl, ap, ◌∙◌, arith, None}
+use Rattle.std.proofs.Common.{◌≡◌, ◌-◌, ◌+◌, refl, ap, ◌∙◌, arith, None}
 use Rattle.mv_image.specs.Spelling.{Fields}
 use Rattle.mv_io.specs.Outside.{Rose}
 use Rattle.mv_probe.proofs.Logs.{told_nothing, told_then, patient_after}
