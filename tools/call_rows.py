@@ -110,7 +110,7 @@ def answer(a7, a0, a1, live, switch):
     lines += [f"word {address:#010x} {old:#010x} {new:#010x}" for address, old, new in changed(bindings)]
     lines.append(f"ended {status}" if known else "machine fault 0x00001010 call")
     log = [" ".join(str(it & 0xFFFFFFFF) for it in [number, *values]) for number, values in bindings.items()]
-    lines.append(f"{3 - 2 * bool(log)} left, {len(log)} events{': ' * bool(log)}{', '.join(log)}")
+    lines.append(f"{2 - bool(log)} left, {len(log)} events{': ' * bool(log)}{', '.join(log)}")
     return "".join(f"{it}\n" for it in lines)
 
 

@@ -346,9 +346,9 @@ class Draw:
 
 
 def told(log):
-    """Returns the line of what three probes were told, of which two leave at the first event."""
+    """Returns the line of what two probes were told, of which one leaves at the first event."""
     events = [" ".join([str(function), *(["free"] if it is None else [str(value % 2**32) for value in it])]) for function, it in log]
-    return f"{3 - 2 * bool(log)} left, {len(log)} events{':' * bool(log)}{','.join(f' {it}' for it in events)}"
+    return f"{2 - bool(log)} left, {len(log)} events{':' * bool(log)}{','.join(f' {it}' for it in events)}"
 
 
 def replace_rows(name, lines):

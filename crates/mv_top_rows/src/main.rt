@@ -10,7 +10,7 @@
 //! | ` !shelf N` | the call of the shelf that fails: a shelf in memory, for this command alone |
 //! | ` !oracle NAME` | the one oracle by which what runs fetches: `fresh`, `oldest`, the numbers of a table, or `told:` and the addresses of which it is asked |
 //! | ` !verdict` | of a text that isn't refused that alone is printed |
-//! | ` !log` | how many probes are left is printed, of one that leaves and tells nothing, one with room for a single event and one with more, and what that heard |
+//! | ` !log` | how many probes are left is printed, of one with room for a single event and one with more, and what that heard |
 //! | ` !limits N` | the command is carried out with each step limit up to N, too |
 //!
 //! | Indented, behind the command | What it says |
@@ -28,7 +28,6 @@ mod limits;
 mod outcome;
 mod picks;
 mod printing;
-mod quiet;
 mod row;
 
 use crate::limits::show_limits;

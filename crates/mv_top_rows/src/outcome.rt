@@ -1,10 +1,6 @@
 //! What a command comes to.
 
-ghost use Rattle.std.specs.Prelude.{All};
-ghost use Rattle.mv_probe.specs.Hearing.{hearing, IsPatient};
-
 use crate::picks::picks_of;
-use crate::quiet::Quiet;
 use crate::row::{Row, Taking};
 use mv_ast::world::Event;
 use mv_io::{FileShelf, MemShelf, MemSink, MemSource, Shelf};
@@ -27,7 +23,7 @@ pub(crate) struct Outcome {
     pub(crate) status: u8,
     pub(crate) out: Vec<u8>,
     pub(crate) notes: Vec<u8>,
-    /// How many of the three probes are left.
+    /// How many of the two probes are left.
     pub(crate) left: usize,
     /// What the last one of them was told.
     pub(crate) log: Vec<Event>,
@@ -87,23 +83,6 @@ fn last_log(alloc: Global, probes: &[Box<dyn Probe>]) -> Result<Vec<Event>, Allo
     Ok(log)
 }
 
-// The number of the status of a command. (A function of its own, without an `ensures`: so what lets go of the devices is proved beside nothing that the
-// command promises.)
-fn status_of<H: Shelf>(
-    alloc: Global,
-    words: &[String],
-    shelf: &mut H,
-    input: &mut MemSource,
-    out: &mut MemSink,
-    notes: &mut MemSink,
-    oracle: &mut Box<dyn FetchOracle>,
-    probes: &mut Vec<Box<dyn Probe>>,
-) -> u8
-    requires { All (λ probe. IsPatient (hearing (told probe) (patience probe))) probes.old.items }
-{
-    multiverse(alloc, words, shelf, input, out, notes, oracle, probes).number()
-}
-
 // Carries out the command of some words over a shelf.
 fn carried_out<H: Shelf>(
     rt: &HostRuntime,
@@ -117,10 +96,9 @@ fn carried_out<H: Shelf>(
     let mut out = sink_of(alloc, row.out)?;
     let mut notes = sink_of(alloc, row.notes)?;
     let mut probes: Vec<Box<dyn Probe>> = Vec::new(alloc);
-    probes.push(Box::new(alloc, Quiet)?)?;
     probes.push(Box::new(alloc, Recorder::new(alloc, 1)?)?)?;
     probes.push(Box::new(alloc, Recorder::new(alloc, EVENTS)?)?)?;
-    let status = status_of(
+    let status = multiverse(
         alloc,
         words,
         shelf,
@@ -131,7 +109,7 @@ fn carried_out<H: Shelf>(
         &mut probes,
     );
     Ok(Outcome {
-        status,
+        status: status.number(),
         out: out.bytes().to_vec(alloc)?,
         notes: notes.bytes().to_vec(alloc)?,
         left: probes.len(),
