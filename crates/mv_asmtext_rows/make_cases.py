@@ -2,9 +2,11 @@
 """Writes stdin and stdout: texts, and the words that GNU as gives for them (riscv64-unknown-elf-as, -march=rv32im_zifencei).
 
 The first case has every instruction and every name of a register. What `print` is to write of it is written here, and given to GNU as
-once more, which must give the same words. The other cases are short texts whose answers the format's rules give.
+once more, which must give the same words. The second has the lines of encodings.txt, words as GNU as writes them and objdump reads them, which
+make_vectors.py of mv_vectors drew. The other cases are short texts whose answers the format's
+rules give.
 """
-import os, subprocess, tempfile
+import os, re, subprocess, tempfile
 HERE = os.path.dirname(os.path.realpath(__file__))
 ABI = 'zero ra sp gp tp t0 t1 t2 s0 s1'.split() + [f'a{i}' for i in range(8)] + [f's{i}' for i in range(2, 12)] + [f't{i}' for i in range(3, 7)]
 NUMBERED = [f'x{i}' for i in range(32)]
@@ -89,6 +91,10 @@ def main():
         shown = [f'entry {entry:08x}', 'text' + ''.join(f' {w:08x}' for w in text), 'data' + ''.join(f' {w:08x}' for w in globals_)]
         return '\n'.join(shown + [f'.entry 0x{entry:08x}'] + lines) + '\n'
     case('\n'.join(mine) + '\n', code(0x1000, words, [], printed))
+    with open(os.path.join(HERE, 'encodings.txt')) as f:
+        rows = [line.split(' ', 1) for line in f.read().splitlines()]
+    named = [re.sub(r'\bx(\d+)\b', lambda it: ABI[int(it[1])], line) for _, line in rows]
+    case('\n'.join(line for _, line in rows) + '\n', code(0x1000, [int(word, 16) for word, _ in rows], [], named))
     loop = ['.entry 0x00001000', 'start: addi a0, zero, 1 # one', '  addi a0, a0, 1', '  bne a0, a1, start', '.word 0xffffffff']
     loop_words = assembled([l for l in loop[1:4]]) + [0xffffffff]
     assert loop_words == [0x00100513, 0x00150513, 0xFEB51CE3, 0xFFFFFFFF]

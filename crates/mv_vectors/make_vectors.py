@@ -1,7 +1,7 @@
 #!/usr/bin/env python3
 """Vectors for RV32IM from outside tools: GNU as and objdump, and qemu-riscv32.
 
-make_vectors.py SEED encodings COUNT   lines 'WORD NAME OPERANDS', as objdump -M no-aliases,numeric prints them
+make_vectors.py SEED encodings COUNT   for mv_asmtext_rows/encodings.txt: lines 'WORD NAME OPERANDS', as objdump -M no-aliases,numeric prints them
 make_vectors.py SEED steps COUNT       lines 'name word t0 t1 cell t2 cell pc', all but the name in hexadecimal: the word of an instruction, as
                                GNU as writes it, at 0x1000; t0, t1 and the word at 0x100000 before it, where t2 is 0; and t2, that
                                word and the program counter after it. t1 of an operation on a register and an immediate is the

@@ -13,7 +13,6 @@
 //!   words, one of a known function 7, besides two for each node of its trees; no label stands in it; each label that it
 //!   names stands once where its functions do, the stubs of traps 3 and 4 and the stub of orders and polls. So this is
 //!   what `flow_code_law` assumes.
-//! - Only tested: the words of a call and of an order, by LLVM's assembler.
 #![tactic(auto)]
 
 mod calls;

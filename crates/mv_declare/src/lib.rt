@@ -13,7 +13,7 @@
 //!   plain list. The values of domains are told apart by it, so none is searched for among the others.
 //! - `Domain`: the values of a domain behind a model that shows a plain list; the declarators that an attribute holds for
 //!   share them.
-//! - `mv_source_rows` shows declarations that keep the rules and some that break one.
+//! - `mv_top_rows` shows declarations that keep the rules and some that break one.
 #![tactic(auto)]
 
 pub mod attributes;

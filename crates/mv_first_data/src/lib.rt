@@ -5,7 +5,6 @@
 //! - `data_law`: with addresses for function pointers these words are the globals of the program's first world, each
 //!   global's words stand behind those of the globals before it, and the functions that they name are there, where each
 //!   first value of a pointer is null or a function and no global is given more values than it has words.
-//! - Only tested: an array with one value, and two pointers.
 #![tactic(auto)]
 
 mod laws;
@@ -13,6 +12,3 @@ mod words;
 
 pub use laws::data_law;
 pub use words::{data_words, first_data};
-
-#[cfg(test)]
-mod tests;

@@ -24,7 +24,7 @@ const FIRST: u8 = 10;
 const SECOND: u8 = 11;
 
 /// Code as far as it is written. Where memory lacks, some of what was to be written may be missing.
-#[derive(Debug, Drop)]
+#[derive(Drop)]
 pub struct Emitter {
     pub lines: List<Line>,
     /// What encloses the line to come.

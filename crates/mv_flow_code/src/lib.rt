@@ -18,8 +18,6 @@
 //!   patched; the memory is fit for the frame; each step of the run that loads no more than the code may is the step of
 //!   that text, and leaves the world around the globals as it was (`IsRun`); arrays that are read and written are among
 //!   those that may be; the code of each call does what the call means (`CallsDo`), has encodings, and holds no label.
-//! - Only tested: the lines of a branch in a block in a loop, three of them against clang; and of an array of 490 words
-//!   that is made 0, against GNU as.
 #![tactic(auto)]
 
 mod arrays;

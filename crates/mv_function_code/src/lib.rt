@@ -14,7 +14,6 @@
 //!   the function's own, and only steps that load from the stack and from data words of globals that the function reads,
 //!   and that store to the stack and to globals that it writes. And of each function, that its frame has at most 2,032
 //!   bytes, and that its trees are fine in its frames.
-//! - Only tested: the words of an entry and of a return, by LLVM's assembler.
 #![tactic(auto)]
 
 mod frames;

@@ -5,7 +5,6 @@
 //! - `inline_law`: where these two words stand in text, two steps do what the body means, also on a machine that runs
 //!   only steps that load what the body may, change no register but a0 and t0, and load no word but that of a global that
 //!   the body reads and that isn't read as a bound value; and both have encodings.
-//! - Only tested: the words, against LLVM's assembler.
 #![tactic(auto)]
 
 mod inline;

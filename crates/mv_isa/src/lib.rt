@@ -7,7 +7,7 @@
 //! - `labelled::labelled_law`: what each item of labelled code does where it stands, over any text and memory: a jump
 //!   leads to its label, a branch in one step or in two over the inverse, an entry puts its address into a register, a
 //!   slot calls.
-//! - Only tested: ten words of GNU as; the 544 of `mv_vectors`.
+//! - Only tested: 554 words of GNU as (`mv_asmtext_rows`).
 #![tactic(auto)]
 
 mod decoding;
@@ -19,6 +19,3 @@ pub mod labelled;
 pub use decoding::decode;
 pub use encoding::{encode, encoding_law};
 pub use instr::{Cause, Instr};
-
-#[cfg(test)]
-mod tests;

@@ -8,7 +8,7 @@
 //! - `rules` and `specs/RuleNumbers.antt` name all rules of the language, each with its number, also for `mv_declare`,
 //!   `mv_statement_rules` and `mv_types`.
 //! - `needed`: the value and the type of a constant where one is needed. `type_of`: the type that specifiers name.
-//! - `mv_source_rows` shows 93 expressions in one scope, with the rule that each breaks and where.
+//! - `mv_top_rows` shows 93 expressions in one scope, with the rule that each breaks and where.
 #![tactic(auto)]
 
 mod breaches;

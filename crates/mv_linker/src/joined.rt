@@ -36,7 +36,7 @@ const EXIT: i32 = 0;
 const TRAP: i32 = 3;
 
 /// The code of all parts.
-#[derive(Debug, Drop)]
+#[derive(Drop)]
 pub struct Joined {
     /// Its `labels` is more than the label of each entry and each own label. Those of the stubs are above it, the last of them
     /// the greatest number there is.

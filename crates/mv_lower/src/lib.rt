@@ -6,9 +6,8 @@
 //!   (`mv_lowered`). It is exactly the `lower_program` of `mv_lowering` (clause `exact`).
 //! - `lower_each`: of a program whose numbers of temporaries and blocks fit 32 bits (`IsSmall`) exactly the
 //!   `lower_program` of `mv_lowering`. That the numbers of a well-formed program fit follows from the limits on programs.
-//! - Only tested: that `int main(void) { }` ends with 0, and that a `switch` of 30,000 arms is lowered and let go. By its
-//!   form its time is the size of the code times the depth of an expression, which the parser bounds by 255. `eval` and
-//!   `run` don't lower.
+//! - By its form its time is the size of the code times the depth of an expression, which the parser bounds by 255. Only
+//!   tested: a `switch` of 6,000 arms (`mv_top_rows`).
 #![tactic(auto)]
 
 ghost use Rattle.std.specs.Prelude.{◌≡◌, IfOk};

@@ -9,7 +9,7 @@
 //!   list and hands the item back, and an `append` that is refused leaves it too.
 //! - `Kind::number` and `Kind::of_number` are each other's inverses, `None` exactly above 6.
 //! - `results::both`: what is there with what the next step gives. Where the step fails, what is there is let go.
-//! - Only tested: conversions, by what gcc gives.
+//! - Only tested: conversions, by what gcc gives (`mv_top_rows`).
 #![tactic(auto)]
 
 pub mod boxed;
@@ -17,7 +17,5 @@ pub mod bytes;
 pub mod kind;
 pub mod list;
 pub mod results;
-#[cfg(test)]
-mod tests;
 pub mod text;
 pub mod word;

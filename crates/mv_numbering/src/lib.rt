@@ -17,8 +17,6 @@
 
 mod law;
 mod numbering;
-#[cfg(test)]
-mod tests;
 
 pub use law::numbering_law;
 pub use numbering::is_numbering;

@@ -8,7 +8,7 @@
 //!   off: those before it begin a unit, in this text with some more after it, and those up to and with the one there, or
 //!   all of them at the end, begin none. Each answer has its cause, and each cause its answer.
 //! - 68 short texts that just miss a production, with the places where they break off, units with each production, and 25
-//!   nestings about the limit (`mv_source_rows`), worked out by hand, show that the definitions are meant so. The level
+//!   nestings about the limit (`mv_top_rows`), worked out by hand, show that the definitions are meant so. The level
 //!   bounds how deep the tokens are nested; that the stack is enough is no clause. Neither proved nor tested: the errors'
 //!   words.
 #![tactic(auto)]

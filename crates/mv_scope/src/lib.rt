@@ -9,7 +9,7 @@
 //!   divides by no zero.
 //! - `SignatureList::number`: each signature stands once in the list, and has its place as its number. It is found by its
 //!   spelling in an `indexmap` set behind a model that shows the plain list, so a look-up searches nothing.
-//! - `mv_source_rows` shows constants, conversions, hiding and signatures against C's rules, the constants as gcc has
+//! - `mv_top_rows` shows constants, conversions, hiding and signatures against C's rules, the constants as gcc has
 //!   them.
 #![tactic(auto)]
 

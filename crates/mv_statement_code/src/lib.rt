@@ -11,7 +11,6 @@
 //!   they were. Clause `encoded`: the instructions have encodings, and there are at most two words for each tree node and
 //!   nine for the statement.
 //! - Not proved here: calls, control, and that a run of the machine follows `Leads` (its text, and stale fetches).
-//! - Only tested: the words of eight statements, by LLVM's assembler.
 #![tactic(auto)]
 
 pub mod elements;

@@ -5,7 +5,7 @@
 //!   returned.
 //! - `check_body`: the statements that a function's body is judged as, by the type of the function's result, and the
 //!   scope after them; or the first broken place with its least rule. It calls itself once for each level of nesting.
-//! - It is tested through `mv_source_rows`. Neither proved nor tested: the scope after an error.
+//! - It is tested through `mv_top_rows`. Neither proved nor tested: the scope after an error.
 #![tactic(auto)]
 
 pub mod arms;

@@ -7,7 +7,6 @@
 //!   tree's value, and change no others but those behind it up to the tree's depth; they have at most two words for each
 //!   node; their instructions have encodings. Assumed is that temporaries, the globals that are read and the functions
 //!   stand where the view says, and that no global that is read is bound in the frame.
-//! - Only tested: the words of a tree with each kind of node but one, by LLVM's assembler.
 #![tactic(auto)]
 
 mod laws;

@@ -29,7 +29,7 @@ pub(crate) struct Vector<'a> {
 }
 
 /// A number in hexadecimal, and what follows behind the space.
-pub(crate) fn number(line: &str) -> Option<(u32, &str)> {
+fn number(line: &str) -> Option<(u32, &str)> {
     let (digits, rest) = line.split_once(' ')?;
     Some((u32::from_str_radix(digits, 16).ok()?, rest))
 }

@@ -3,7 +3,7 @@ use Rattle.std.proofs.lemmas.List.{get_or_default}
 use Rattle.mv_isa.specs.declared.labelled.Line.{Line}
 use Rattle.mv_isa.specs.declared.labelled.Line.TheVariants.{Label}
 use Rattle.mv_isa.specs.Code.{LineFits, TargetStands, line_at}
-use Rattle.mv_machine_cases.proofs.asm.fits.Goals as goal
+use Rattle.mv_asm_rows.proofs.asm.fits.Goals as goal
 
 item_fits : (lines : List Line) (k : ℕ) (d : Line) → k < length lines → LineFits (get_or lines k d) × TargetStands lines (get_or lines k d)
     → LineFits (line_at lines k) × TargetStands lines (line_at lines k)

@@ -1,4 +1,0 @@
-pub mod Empty
-pub mod Idle
-pub mod Leaves
-pub mod Small
