@@ -1,9 +1,8 @@
 -- Spans of branches, as branches are made long.
 use Rattle.std.proofs.Common.{◌≡◌, ℕ, zero, suc, ◌+◌, ◌-◌, ◌<◌, ◌≤◌, List, [], ◌∷◌, length, set, get_or, map, sum, slice_index, All, refl, sym, ◌∙◌, subst, arith, ⊎_elim}
-use Rattle.std.proofs.lemmas.List.{get_or_default, get_or-set_same, get_or-set_other, length-set}
+use Rattle.std.proofs.lemmas.List.{length-set}
 use Rattle.std.proofs.lemmas.List.Elements.{All-get_or, All-from_get_or}
 use Rattle.std.proofs.lemmas.List.Sums.{sum_by-set}
-use Rattle.std.proofs.lemmas.Bool.{cases_eq}
 use Rattle.mv_isa.specs.declared.labelled.Line.{Line}
 use Rattle.mv_isa.specs.declared.labelled.Line.TheVariants.{Word, Label, Jump, Branch, Entry, Slot}
 use Rattle.mv_isa.specs.Code.{line_at, target_index, least_words, greatest_words, IsSizing, SizingFits, Reaches, InReach, offset, place}
@@ -84,22 +83,6 @@ module _ (lines : List Line) (sizing : List ℕ) (i : ℕ) (w : i < length sizin
 
 -- One more span that was narrowed.
 
-pub narrowed_more : (item : ℕ) (old new : List Span) (near : ℕ) (d t : Span) → near < length new → AreNarrowed item old new
-    → ((k : ℕ) (e : Span) → near ≤ k → get_or new k e ≡ get_or old k e) → IsNarrowed item (get_or new near d) t → AreNarrowed item old (set new near t)
-narrowed_more item old new near d t l n later h = λ k e.
-    ⊎_elim
-    (λ (same : k ≡ near).
-    let here : IsNarrowed item (get_or old near e) t = subst (λ s. IsNarrowed item s t) (get_or_default new near d e l ∙ later near e (omega arith)) h in
-    subst (λ j. IsNarrowed item (get_or old j e) (get_or (set new near t) j e)) (sym same) (subst (IsNarrowed item (get_or old near e)) (sym (get_or-set_same new near t e l)) here))
-    (λ (ne : k ≡ near → ⊥). subst (IsNarrowed item (get_or old k e)) (sym (get_or-set_other new near k t e ne)) (n k e))
-    (cases_eq k near)
-
-pub later_more : (old new : List Span) (near : ℕ) (t : Span) → ((k : ℕ) (e : Span) → near ≤ k → get_or new k e ≡ get_or old k e)
-    → (k : ℕ) (e : Span) → near + 1 ≤ k → get_or (set new near t) k e ≡ get_or old k e
-later_more old new near t later k e l =
-    let ne : k ≡ near → ⊥ = λ (same : k ≡ near). omega arith in
-    get_or-set_other new near k t e ne ∙ later k e (omega arith)
-
 -- Branches that were made long.
 
 reaches_where_short : (line : Line) (at to words : ℕ) → least_words line ≡ 1 → greatest_words line ≡ 2 → Reaches at to words line → words ≡ 1 → InReach at to
@@ -116,9 +99,6 @@ pub record Spread (lines : List Line) (start sizing : List ℕ) (spans : List Sp
   pub needed : (other : List ℕ) → SizingFits lines other → IsNoLonger start other → IsNoLonger sizing other
   pub no_less : sum start ≤ sum sizing
   pub spans_are : All (IsSpan lines sizing) spans
-
-pub spread_first : (lines : List Line) (sizing : List ℕ) (spans : List Span) → IsSizing lines sizing → All (IsSpan lines sizing) spans → Spread lines sizing sizing spans
-spread_first lines sizing spans s a = record { sizes = s; needed = λ other f h. h; no_less = omega arith; spans_are = a }
 
 pub spread_more : (lines : List Line) (start sizing : List ℕ) (spans spans' : List Span) (number : ℕ) (s : Span) → Spread lines start sizing spans → number < length spans
     → s ≡ get_or spans number s → s.room ≡ 0 → slice_index sizing s.item ≡ 1 → length spans' ≡ length spans

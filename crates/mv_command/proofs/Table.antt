@@ -4,7 +4,7 @@ use Rattle.std.proofs.lemmas.List.{take_all}
 use Rattle.std.proofs.lemmas.List.Folds.{fold-map}
 use Rattle.std.proofs.lemmas.List.Sums.{fold_more}
 use Rattle.clap.specs.Walk.{Row, Text, rule_of}
-use Rattle.clap.specs.Simple.{App, app_of, app_of_fields, is_simple, new_app, on_top, subcommand_of, with_rule, with_subcommand}
+use Rattle.clap.specs.Simple.{App, app_of, is_simple, subcommand_of, with_rule, with_subcommand}
 use Rattle.clap.specs.Faults.{fault_of, is_simple_and_free}
 use Rattle.clap.specs.Kinds.{IsAmong}
 use Rattle.clap.specs.Built.{AddsArg, AddsSubcommand}
@@ -43,14 +43,6 @@ pub form_more : (start : App) (xs : List Entry) (i : ℕ) (d : Entry) (old new s
     app_of new ≡ fold (λ a x. with_form a (entry_row x)) start (take (i + 1) xs)
 form_more start xs i d old new sub here adds local is before =
     adds.shape local ∙ ap₂ (λ a b. with_subcommand a b.top) before is ∙ sym (fold_more (λ a x. with_form a (entry_row x)) start xs i d here)
-
--- the settings of the program
-pub settings : (a b c d : Command) (name : Text) → app_of a ≡ new_app name → out-Command b ≡ record (out-Command a) { no_binary_name = true } →
-    out-Command c ≡ record (out-Command b) { disable_help_flag = true } → out-Command d ≡ record (out-Command c) { disable_help_subcommand = true } →
-    app_of d ≡ on_top (λ s. record s { no_binary_name = true; disable_help_flag = true; disable_help_subcommand = true }) (new_app name)
-settings a b c d name new one two three =
-    ap app_of_fields three ∙ ap (on_top (λ s. record s { disable_help_subcommand = true })) (ap app_of_fields two ∙
-    ap (on_top (λ s. record s { disable_help_flag = true })) (ap app_of_fields one ∙ ap (on_top (λ s. record s { no_binary_name = true })) new))
 
 pub whole : (xs : List Entry) (i : ℕ) (program : Command) → length xs ≤ i → map entry_row xs ≡ table → app_of program ≡ fold (λ a x. with_form a (entry_row x)) no_forms (take i xs) → app_of program ≡ app
 unfolding app

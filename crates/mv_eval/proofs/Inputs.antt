@@ -7,11 +7,6 @@ use Rattle.mv_io.specs.declared.outside.Failed.{Failed}
 use Rattle.mv_eval.specs.Grown.{Lost}
 use Rattle.mv_eval.specs.Evaluations.{most, IsInput, TookPart}
 
--- nothing was read
-pub lost_none : (before : Option (List ℕ)) → Lost before before []
-lost_none None = tt
-lost_none (Some old) = (old, refl, refl)
-
 -- one byte more
 pub lost_more : (before mid now : Option (List ℕ)) (bytes : List ℕ) (b : ℕ) → Lost before mid bytes → Takes {E = Failed} mid now (Ok (Some b)) → Lost before now (bytes ++ b ∷ [])
 lost_more None mid now bytes b lost t = tt

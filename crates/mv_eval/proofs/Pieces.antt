@@ -1,6 +1,6 @@
 -- What was written piece by piece.
-use Rattle.std.proofs.Common.{ℕ, ◌≡◌, ◌≤◌, ◌+◌, ◌-◌, List, [], ◌++◌, length, take, drop, refl, sym, ap, ◌∙◌, subst, arith, length-drop, Option, Some, None, Ok}
-use Rattle.std.proofs.lemmas.List.{append-nil, append_assoc, take_rest}
+use Rattle.std.proofs.Common.{ℕ, ◌≡◌, ◌≤◌, ◌+◌, ◌-◌, List, [], ◌++◌, length, take, drop, sym, ap, ◌∙◌, subst, arith, length-drop, Option, Some, None, Ok}
+use Rattle.std.proofs.lemmas.List.{append_assoc, take_rest}
 use Rattle.std.proofs.Math.Seq.{take-add}
 use Rattle.mv_io.specs.Outside.{Appends}
 use Rattle.mv_io.specs.declared.outside.Failed.{Failed}
@@ -21,8 +21,3 @@ module _ (bytes : List ℕ) (done n : ℕ) where
 
   pub still_within : done ≤ length bytes → n ≤ length piece → done + n ≤ length bytes
   still_within within small = let h : n ≤ length (drop done bytes) = subst (λ r. n ≤ length r) (take_rest bytes done) small in omega (arith, within, h, length-drop done bytes)
-
--- nothing was written
-pub grew_none : (before : Option (List ℕ)) → Grew before before []
-grew_none None = refl
-grew_none (Some old) = ap Some (sym (append-nil old))

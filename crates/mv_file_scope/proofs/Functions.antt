@@ -323,9 +323,6 @@ module _ (fit : ParametersFit) (grow : BodyGrows) (k : Foreknown) (d : Declarato
     its_there c.scope.signatures result (params_of d) signature number,
   )).extends.signatures
 
-  same_functions : there.functions ≡ c.functions
-  same_functions = refl
-
   number_there : HasNumber there.scope.signatures result (params_of d) signature
   number_there = record {
     scope = number.scope;

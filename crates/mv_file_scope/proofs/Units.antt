@@ -62,10 +62,6 @@ widens_joined s t u g h = record { declares = declares_joined s t u g.declares h
 
 -- ---- what a declarator that designates a function says
 
-record IsFunction (t : CType) (x : Shape) (s : Scope) (d : Scope × ℕ) : Type 0 where
-  form : is_function_form (out-Shape x) ≡ true
-  judged : function_type t (map parameter (params_of_form (out-Shape x))) s ≡ Good d
-
 module _ (t : CType) (fixed : Bool) (s : Scope) (e : Scope) (n : ℕ) where
   abbrev Says : Shape-F Shape Declarator Param → Type 0
   Says y = (is_function_form y ≡ true) × (function_type t (map parameter (params_of_form y)) s ≡ Good (e, n))

@@ -1,6 +1,5 @@
 -- Code that is written a part at a time.
 use Rattle.std.proofs.Common.{◌≡◌, ℕ, ◌+◌, ◌^◌, ◌<◌, List, [], ◌∷◌, ◌++◌, sym, ap, ◌∙◌, subst, arith, append_assoc}
-use Rattle.std.proofs.lemmas.List.{append-nil}
 use Rattle.mv_isa.specs.declared.labelled.Line.{Line}
 use Rattle.mv_isa.specs.declared.labelled.Line.TheVariants.{Label, Jump, Branch}
 use Rattle.mv_ir.specs.declared.body.Room.{Room}
@@ -10,38 +9,14 @@ use Rattle.mv_tree_code.specs.Rooms.{place_in}
 use Rattle.mv_tree_code.specs.TreeCode.{tree_lines}
 use Rattle.mv_statement_code.specs.StatementCode.{first}
 use Rattle.mv_flow_code.specs.declared.emitter.Emitter.{Emitter}
-use Rattle.mv_flow_code.specs.FlowCode.{Plan, Emitted, nothing, both, plain, loop_at, block_at, if_code, loop_code, block_code, statement_code, code_of}
-use Rattle.mv_flow_code.specs.Emitters.{with_lines, emitted, loop_opened, loop_closed, block_opened, block_closed, branch_opened, branch_turned, branch_closed}
+use Rattle.mv_flow_code.specs.FlowCode.{Plan, Emitted, both, plain, if_code, statement_code, code_of}
+use Rattle.mv_flow_code.specs.Emitters.{with_lines, emitted, branch_opened, branch_turned, branch_closed}
 
 pub lines_two : (xs : List Line) (a b : Line) → (xs ++ (a ∷ [])) ++ (b ∷ []) ≡ xs ++ (a ∷ b ∷ [])
 lines_two xs a b = append_assoc xs (a ∷ []) (b ∷ [])
 
 pub plain_emitted : (e : Emitter) (lines : List Line) → with_lines e lines ≡ emitted e (plain lines)
 plain_emitted e lines = let free : e.free ≡ e.free + 0 = omega arith in λ i. record e { lines = e.lines ++ lines; free = free i }
-
-pub nothing_emitted : (e : Emitter) → emitted e nothing ≡ e
-nothing_emitted e =
-    let free : e.free + 0 ≡ e.free = omega arith in
-    let lines : e.lines ++ [] ≡ e.lines = append-nil e.lines in
-    λ i. record e { lines = lines i; free = free i }
-
-pub both_emitted : (e : Emitter) (a b : Emitted) → emitted (emitted e a) b ≡ emitted e (both a b)
-both_emitted e a b =
-    let free : (e.free + a.labels) + b.labels ≡ e.free + (a.labels + b.labels) = omega arith in
-    λ i. record e { lines = append_assoc e.lines (a.lines e.around e.free) (b.lines e.around (e.free + a.labels)) i; free = free i }
-
-pub loop_emitted : (e : Emitter) (b : Emitted) → loop_closed (emitted (loop_opened e) b) e.free ≡ emitted e (loop_code b)
-loop_emitted e b =
-    let free : (e.free + 2) + b.labels ≡ e.free + (2 + b.labels) = omega arith in
-    let inner = b.lines (loop_at e.free ∷ e.around) (e.free + 2) in
-    let lines : ((e.lines ++ (Label e.free ∷ [])) ++ inner) ++ (Jump 0 e.free ∷ Label (e.free + 1) ∷ []) ≡ e.lines ++ (Label e.free ∷ (inner ++ (Jump 0 e.free ∷ Label (e.free + 1) ∷ []))) = simp append_assoc in
-    λ i. record e { lines = lines i; free = free i }
-
-pub block_emitted : (e : Emitter) (b : Emitted) → block_closed (emitted (block_opened e) b) e.free ≡ emitted e (block_code b)
-block_emitted e b =
-    let free : (e.free + 1) + b.labels ≡ e.free + (1 + b.labels) = omega arith in
-    let inner = b.lines (block_at e.free ∷ e.around) (e.free + 1) in
-    λ i. record e { lines = append_assoc e.lines inner (Label e.free ∷ []) i; free = free i }
 
 pub if_emitted : (e : Emitter) (place : ℕ → ℕ) (t : Tree) (a b : Emitted)
     → branch_closed (emitted (branch_turned (emitted (branch_opened e place t) a) e.free) b) e.free ≡ emitted e (if_code place t a b)

@@ -1,5 +1,5 @@
 -- The code of each form of statement, and what it is for one to be fine.
-use Rattle.std.proofs.Common.{◌≡◌, ℕ, ◌&&◌, Bool, true, eqb, ltb, length, List, map, Option, sym, ap, ◌∙◌}
+use Rattle.std.proofs.Common.{◌≡◌, ℕ, ◌&&◌, Bool, eqb, ltb, length, List, map, Option, sym, ap, ◌∙◌}
 use Rattle.mv_ast.specs.declared.program.Known.{Known}
 use Rattle.mv_ir.specs.declared.tree.Tree.{Tree}
 use Rattle.mv_ir.specs.declared.stm.Array.{Array}
@@ -79,9 +79,6 @@ module _ (is_fine : Tree → Bool) (may_ask : Known → Bool) (temps : ℕ) (use
   pub fine_write : (a : Array) (i v : Tree) → is_fine_statement is_fine may_ask temps uses (at.Write a i v) ≡ (may_write is_fine may_ask temps uses a && (is_fine i && is_fine v))
   fine_write a i v = ap (is_fine_statement is_fine may_ask temps uses) (sym (rolls-Write a i v)) ∙ fine_roll is_fine may_ask temps uses (stm.Write a i v)
 
-  pub fine_zero : (a : ℕ) → is_fine_statement is_fine may_ask temps uses (at.Zero a) ≡ (true)
-  fine_zero a = ap (is_fine_statement is_fine may_ask temps uses) (sym (rolls-Zero a)) ∙ fine_roll is_fine may_ask temps uses (stm.Zero a)
-
   pub fine_if : (t : Tree) (a b : List Stm) → is_fine_statement is_fine may_ask temps uses (at.If t a b) ≡ (is_fine t && (are_fine is_fine may_ask temps uses a && are_fine is_fine may_ask temps uses b))
   fine_if t a b = ap (is_fine_statement is_fine may_ask temps uses) (sym (rolls-If t a b)) ∙ fine_roll is_fine may_ask temps uses (stm.If t a b)
 
@@ -90,12 +87,6 @@ module _ (is_fine : Tree → Bool) (may_ask : Known → Bool) (temps : ℕ) (use
 
   pub fine_block : (b : List Stm) → is_fine_statement is_fine may_ask temps uses (at.Block b) ≡ (are_fine is_fine may_ask temps uses b)
   fine_block b = ap (is_fine_statement is_fine may_ask temps uses) (sym (rolls-Block b)) ∙ fine_roll is_fine may_ask temps uses (stm.Block b)
-
-  pub fine_break : (n : ℕ) → is_fine_statement is_fine may_ask temps uses (at.Break n) ≡ (true)
-  fine_break n = ap (is_fine_statement is_fine may_ask temps uses) (sym (rolls-Break n)) ∙ fine_roll is_fine may_ask temps uses (stm.Break n)
-
-  pub fine_back : (n : ℕ) → is_fine_statement is_fine may_ask temps uses (at.Back n) ≡ (true)
-  fine_back n = ap (is_fine_statement is_fine may_ask temps uses) (sym (rolls-Back n)) ∙ fine_roll is_fine may_ask temps uses (stm.Back n)
 
   pub fine_call : (r : Option ℕ) (f : Callee) (args : List Tree) → is_fine_statement is_fine may_ask temps uses (at.Call r f args)
       ≡ (ltb (length args) 9 && (fine_target is_fine may_ask temps uses r && (all_true (map is_fine (callee_trees f)) && all_true (map is_fine args))))
@@ -109,5 +100,3 @@ module _ (is_fine : Tree → Bool) (may_ask : Known → Bool) (temps : ℕ) (use
   fine_return v = ap (is_fine_statement is_fine may_ask temps uses) (sym (rolls-Return v)) ∙ fine_roll is_fine may_ask temps uses (stm.Return v)
 
 pub ruleset codes = (code_set, code_setglobal, code_divide, code_check, code_read, code_write, code_zero, code_if, code_loop, code_block, code_break, code_back, code_call, code_known, code_return)
-
-pub ruleset fines = (fine_set, fine_setglobal, fine_divide, fine_check, fine_read, fine_write, fine_zero, fine_if, fine_loop, fine_block, fine_break, fine_back, fine_call, fine_known_call, fine_return)

@@ -1,11 +1,10 @@
 -- The search for the needed temporaries finds exactly these.
-use Rattle.std.proofs.Common.{arith, max, is_lt, nat_cmp, Less, Equal, Greater, nat_lt, ◌==◌, ◌≡◌, ℕ, zero, suc, ◌+◌, ◌<◌, ◌≤◌, Bool, true, false, cond, eqb, ◌&&◌, ◌||◌, List, [], ◌∷◌, ◌++◌, length, map, take, set, get_or, Option, Some, None, refl, sym, ◌∙◌, ap, subst, ◌⊎◌, inl, inr, All, Contains, filter, sum_by, replicate, append_assoc, append-nil}
+use Rattle.std.proofs.Common.{arith, max, is_lt, nat_cmp, Less, Equal, Greater, nat_lt, ◌==◌, ◌≡◌, ℕ, zero, suc, ◌+◌, ◌<◌, ◌≤◌, Bool, true, false, cond, eqb, ◌&&◌, ◌||◌, List, [], ◌∷◌, ◌++◌, length, map, take, set, get_or, Option, Some, None, refl, sym, ◌∙◌, ap, subst, ◌⊎◌, inl, inr, All, Contains, filter, sum_by, replicate, append_assoc}
 use Rattle.std.proofs.lemmas.Bool.{cases_eq, cases_lt}
 use Rattle.std.proofs.lemmas.List.{get_or_past, take_more, take_all, length_push, length-set, get_or-set_same, get_or-set_other, length-replicate, get_or-replicate, length-append, take-append-le}
-use Rattle.std.proofs.lemmas.List.Elements.{All-more, All-map, All-weaker, All-filter, All-replicate, Contains-push_cases, Contains-append_left, Contains-push, Contains-get_or, filter_more}
+use Rattle.std.proofs.lemmas.List.Elements.{All-more, All-map, All-weaker, All-filter, Contains-push_cases, Contains-append_left, Contains-push, Contains-get_or}
 use Rattle.std.proofs.lemmas.List.Sums.{sum_by-le, sum_by-set}
 use Rattle.std.specs.Ordering.{ord_max}
-use Rattle.mv_ir.proofs.Keeping.{map_append}
 use Rattle.mv_fold.specs.declared.uses.Use.{Use}
 use Rattle.mv_fold.specs.Needed.{flag, counts, used_in, IsNeeded}
 use Rattle.mv_fold.specs.Reaching.{row, Fits, read_by, one_if, IsReached, IsVisited}
@@ -150,28 +149,7 @@ flags_at_most flags = omega (arith, sum_by-le one_if 1 flags (λ k d lt. one_at_
 pub read_fits : (n k : ℕ) (uses : List Use) → All (Fits n) uses → All (λ t. t < n) (read_by k uses)
 read_fits n k uses h = All-map (λ t. t < n) used_of (filter (λ x. eqb (row x.user) k) uses) (All-weaker (Fits n) (λ x. x.used < n) (λ x p. p.0) _ (All-filter (λ x. eqb (row x.user) k) (Fits n) uses h))
 
-map_cond : (c : Bool) (x : Use) → map used_of (cond c (x ∷ []) []) ≡ cond c (x.used ∷ []) []
-map_cond true x = refl
-map_cond false x = refl
-
--- the row of one read more, at the end
-pub read_push : (k : ℕ) (uses : List Use) (i : ℕ) (d : Use) → i < length uses → read_by k (take (i + 1) uses) ≡ read_by k (take i uses) ++ cond (eqb (row (get_or uses i d).user) k) ((get_or uses i d).used ∷ []) []
-read_push k uses i d lt =
-    ap (map used_of) (filter_more (λ x. eqb (row x.user) k) uses i d lt) ∙ map_append used_of (filter (λ x. eqb (row x.user) k) (take i uses)) _ ∙
-    ap (λ l. read_by k (take i uses) ++ l) (map_cond (eqb (row (get_or uses i d).user) k) (get_or uses i d))
-
 -- ---- one visit
-
--- nothing is visited at first
-pub visited_none : (flags : List Bool) (order : List ℕ) → IsReached flags order → IsVisited [] flags order flags order
-visited_none flags order h = record {
-  reached = h;
-  long = refl;
-  behind = ([], sym (append-nil order));
-  kept = λ t e. e;
-  found = λ t e. absurd (none_contained t e);
-  only = λ t e. inl e;
-}
 
 module _ (read : List ℕ) (i d : ℕ) (lt : i < length read) (first : List Bool) (before : List ℕ) (flags : List Bool) (order : List ℕ) (h : IsVisited (take i read) first before flags order) where
   abbrev x : ℕ
@@ -266,17 +244,6 @@ no_flag n t h = by (cases_lt t n)
     by : (t < n) ⊎ (n ≤ t) → ⊥
     by (inl lt) = let e : false ≡ true = sym (get_or-replicate n t false false lt) ∙ h in cc
     by (inr past) = let e : false ≡ true = sym (get_or_past (replicate n false) t false (omega (arith, past, length-replicate n false))) ∙ h in cc
-
-none_counted : (n : ℕ) → sum_by one_if (replicate n false) ≡ 0
-none_counted n = omega (arith, sum_by-le one_if 0 (replicate n false) (All-replicate (λ b. one_if b ≤ 0) n false (omega arith)))
-
--- the table without flags
-pub reached_none : (n : ℕ) → IsReached (replicate n false) []
-reached_none n = record {
-  listed = λ t h. absurd (no_flag n t h);
-  flagged = λ t c. absurd (none_contained t c);
-  counted = none_counted n;
-}
 
 pub search_begun : (count : ℕ) (uses : List Use) (flags : List Bool) (order : List ℕ) → IsVisited (read_by 0 uses) (replicate count false) [] flags order → IsSearched count uses flags order 0
 search_begun count uses flags order h = record {

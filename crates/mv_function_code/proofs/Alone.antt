@@ -6,16 +6,14 @@ use Rattle.mv_isa.specs.declared.instr.Instr.TheVariants.{Ecall}
 use Rattle.mv_isa.specs.Encoding.{encode}
 use Rattle.mv_isa.specs.declared.labelled.Line.{Line}
 use Rattle.mv_isa.specs.declared.labelled.Line.TheVariants.{Word, Label, Jump, Branch, Entry, Slot}
-use Rattle.mv_isa.specs.Execution.{Access, step, Goes}
+use Rattle.mv_isa.specs.Execution.{Access}
 use Rattle.mv_isa.specs.Standing.{InstrStands}
 use Rattle.mv_ir.specs.World as ir
 use Rattle.mv_ir.specs.World.{World}
 use Rattle.mv_ir.specs.Meaning.{body_from}
 use Rattle.mv_ir.specs.Outcome.{End, Returned, Trapped, More, Stuck, Call, Bound}
-use Rattle.mv_statement_code.specs.Frames.{Site}
-use Rattle.mv_statement_code.specs.Leads.{limited}
 use Rattle.mv_flow_code.specs.Placed.{Text, StandsIn, Placed}
-use Rattle.mv_flow_code.specs.Runs.{Spot, Machine, LeadsOn, IsRun}
+use Rattle.mv_flow_code.specs.Runs.{Machine}
 use Rattle.mv_call_code.specs.Convention.{Layout, Stands, Enters, Returns, FollowsCall, Answers, Conventions}
 use Rattle.mv_call_code.specs.Environment.{ServesKnown}
 use Rattle.mv_function_code.specs.FunctionCode.{later_lines, function_lines}
@@ -90,27 +88,6 @@ in_whole false o x h = absurd cc
 module _ {M : Type 0} (access : Access M) (y : Layout) (machine : Machine M) (from to : ℕ) where
   abbrev alone : Machine M
   alone = functions.alone machine from to
-
-  -- what the machine runs, it runs in a part of its text
-  pub runs_alone : (s : Site) → IsRun access s machine → IsRun access s alone
-  runs_alone s ok = record {
-    registers = ok.registers;
-    goes = λ i w next h. ok.goes i w next (leads i w next h);
-    sound = λ i w next h. ok.sound i w next (leads i w next h);
-    stays = λ i w next h. ok.stays i w next (leads i w next h);
-  }
-    where
-      whole : (b : Bool) (word : Option ℕ) (i : ℕ) (next : Spot M) → step (limited access s) (cond b word None) (machine.run i).regs (machine.run i).pc (machine.run i).memory ≡ Goes next.regs next.pc next.memory
-          → step (limited access s) word (machine.run i).regs (machine.run i).pc (machine.run i).memory ≡ Goes next.regs next.pc next.memory
-      whole true word i next h = h
-      whole false word i next h = absurd cc
-
-      leads : (i : ℕ) (w : World) (next : Spot M) → LeadsOn access s alone i w next → LeadsOn access s machine i w next
-      leads i w next h = record {
-        calm = h.calm;
-        steps = whole (leb from (machine.run i).pc && ltb (machine.run i).pc to) (machine.text.word (machine.run i).pc) i next h.steps;
-        writes = h.writes;
-      }
 
   memory_alone : IsMemory access y machine → IsMemory access y alone
   memory_alone memory = record { stores = memory.stores; words = memory.words; stack = memory.stack }

@@ -74,9 +74,6 @@ module _ {M : Type 0} (access : Access M) (y : Layout) (laid : IsLaid y) (machin
   abbrev sp : ℕ
   sp = reg (machine.run i).regs 2 - bytes_of (shape_of attributed body)
 
-  abbrev Ws : World → ℕ → List ℕ → M → ℕ → Type 0
-  Ws = W access y laid machine memory reach ample runs budget far place
-
   abbrev Ps : List Line → ℕ → ℕ → Type 0
   Ps = P access y laid machine memory reach ample runs budget far place
 

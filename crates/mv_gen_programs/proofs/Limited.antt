@@ -32,10 +32,6 @@ kept : (l : Limit) → AtMost l.greatest l.counts → excess l ≡ None
 unfolding excess
 kept l h = ap (reported l.number) (none_above l.greatest l.counts h)
 
-most_append : (g : ℕ) (xs ys : List ℕ) → AtMost g xs → AtMost g ys → AtMost g (xs ++ ys)
-most_append g [] ys h k = k
-most_append g (x ∷ xs) ys h k = (h.0, most_append g xs ys h.1 k)
-
 -- a count of functions
 functions_most : (g : ℕ) (h : Function → ℕ) → ((i f j c : ℕ) → j < 4 → h (marked_function i f j c) ≤ g) → (seed i count : ℕ) (rest : List Function) → AtMost g (map h rest) →
     AtMost g (map h (marked_functions seed i count ++ rest))

@@ -1,5 +1,5 @@
 -- How the lines of generated texts are read.
-use Rattle.std.proofs.Common.{◌≡◌, ℕ, zero, suc, true, false, List, [], ◌∷◌, ◌++◌, Some, None, refl}
+use Rattle.std.proofs.Common.{◌≡◌, ℕ, zero, suc, true, false, List, [], ◌∷◌, ◌++◌, Some, refl}
 use Rattle.std.specs.Prelude.{codes}
 use Rattle.mv_ast.specs.declared.token.Piece.TheVariants as piece
 use Rattle.mv_ast.specs.declared.unit.Item.{Item}
@@ -8,8 +8,7 @@ use Rattle.mv_ast.specs.declared.unit.Act.TheVariants as a
 use Rattle.mv_ast.specs.declared.unit.Specs.{out-roll-Specs}
 use Rattle.mv_grammar.specs.Terminals.{Terminal, is_keyword, is_specifier, is_no_end}
 use Rattle.mv_grammar.specs.Reader.{Read, Ends, next, chain, pushed}
-use Rattle.mv_grammar.specs.Declarations.{place_of_specs, without_void, is_void, is_plain, param_of, declarator_of}
-use Rattle.mv_grammar.specs.Expressions.{specs_of}
+use Rattle.mv_grammar.specs.Declarations.{place_of_specs, is_void, is_plain}
 use Rattle.mv_ast.specs.declared.place.Place.{Place}
 use Rattle.mv_ast.specs.declared.unit.Shape.TheVariants as shape
 use Rattle.mv_grammar.specs.Statements.{line_at}
@@ -39,10 +38,6 @@ switch_read p rest = simp out-roll-Specs
 pub object_read : (p : Places) (rest : List Terminal) → items 60 (placed p 0 (words object_parts) ++ rest) ≡ Ends (Some (object_tree p)) rest
 unfolding level
 object_read p rest = simp out-roll-Specs
-
--- a single `void` is no parameter
-void_alone : (at q : Place) → without_void (param_of (specs_of at false false (19 ∷ []) [] []) (declarator_of q None shape.Plain) ∷ []) ≡ []
-void_alone at q = simp (out-roll-Specs, shape.outs-Plain, is_void, is_plain)
 
 -- `main`, whatever reads its block
 pub main_read : (p : Places) (B : LineReader) (ts rest : List Terminal) (body : Line) → B (placed p 5 (words (sign 4 ∷ [])) ++ ts) ≡ Ends (Some body) rest →

@@ -10,7 +10,7 @@ use Rattle.mv_ir.specs.Outcome.{State, Outcome, Next, Leaves, Restarts, Ends, Ru
 use Rattle.mv_ir.specs.Meaning.{statement, meaning, code_meaning, Contents, first_temps, first_arrays, entry_state, body_end, body_from}
 use Rattle.mv_ir.specs.Measures.{joined}
 use Rattle.mv_ir.proofs.Induction.{Each}
-use Rattle.mv_ir.specs.Keeps.{KeepsRun, KeepsMeaning, KeepsCode, KeepsCall, KeepsBody}
+use Rattle.mv_ir.specs.Keeps.{KeepsRun, KeepsMeaning, KeepsCall, KeepsBody}
 
 -- ---- runs
 
@@ -102,12 +102,6 @@ pub map_append : {A B : Type 0} (f : A → B) (xs ys : List A) → map f (xs ++ 
 map_append f [] ys = refl
 map_append f (x ∷ xs) ys = ap (λ l. f x ∷ l) (map_append f xs ys)
 
-pub code_refl : (xs : List Stm) → KeepsCode xs xs
-code_refl xs setting frame bound s = run_refl _
-
-pub code_trans : (xs ys zs : List Stm) → KeepsCode xs ys → KeepsCode ys zs → KeepsCode xs zs
-code_trans xs ys zs h k setting frame bound s = run_trans _ _ _ (h setting frame bound s) (k setting frame bound s)
-
 -- one statement
 pub meaning_roll : (setting : Setting) (frame : Frame) (x : Stm-F Stm) → meaning setting frame (roll-Stm x) ≡ statement setting frame (map-Stm Stm Meaning (meaning setting frame) x)
 unfolding meaning
@@ -158,13 +152,7 @@ module _ (setting : Setting) (frame frame' : Frame) where
 
 -- ---- code in each frame
 
-pub code_append : (xs xs' ys ys' : List Stm) → KeepsCode xs xs' → KeepsCode ys ys' → KeepsCode (xs ++ ys) (xs' ++ ys')
-code_append xs xs' ys ys' h k setting frame = between_append setting frame frame xs xs' ys ys' (h setting frame) (k setting frame)
-
 -- ---- bodies
-
-pub body_refl : (b : Body) → KeepsBody b b
-body_refl b setting frame contents args bound w = record { same = refl; cheaper = omega arith }
 
 pub body_trans : (a b c : Body) → KeepsBody a b → KeepsBody b c → KeepsBody a c
 body_trans a b c h k setting frame contents args bound w =

@@ -20,7 +20,7 @@ use Rattle.mv_linker.specs.declared.parts.PartSwitch.{PartSwitch}
 use Rattle.mv_linker.specs.declared.parts.PartFunction.{PartFunction}
 use Rattle.mv_linker.specs.declared.parts.PartVariant.{PartVariant}
 use Rattle.mv_linker.specs.Linked.{codes, function_variants, linked_lines, IsDatum, AreParts, IsJoined}
-use Rattle.mv_linker.specs.Tables.{switch_row, function_row, variant_rows, guards_of, sites_from, attributed_numbers, slot_count, site_count, FitsSwitchRow, FitsFunctionRow, HasFewGuards, FitsPartSwitch, FitsPartFunction, kinds_of, FitTables}
+use Rattle.mv_linker.specs.Tables.{switch_row, function_row, variant_rows, guards_of, sites_from, attributed_numbers, slot_count, site_count, FitsFunctionRow, HasFewGuards, FitsPartFunction, kinds_of, FitTables}
 use Rattle.mv_linker.specs.Outcome.{datum_word, image_with, HasFewSites, WithinLimit, IsLinked}
 use Rattle.mv_linker.proofs.Rowed.{few_variants, IsRowed, all_rowed}
 use Rattle.mv_linker.proofs.Images.{linked, start_count, datum_within, image_is}
@@ -29,11 +29,6 @@ use Rattle.mv_linker.proofs.Tabled.{tables_fit}
 use Rattle.mv_linker.proofs.Fits.{within_codes}
 
 module _ (parts : Parts) (tables : FitTables parts) where
-  pub switch_rows_fit : WithinLimit parts → All FitsSwitchRow parts.switches
-  switch_rows_fit few =
-      All-weaker (FitsPartSwitch (length parts.globals)) FitsSwitchRow
-      (λ s h. record { name = omega (arith, h.name.short); word = omega (arith, h.word, few); values = h.few }) parts.switches tables.switches
-
   pub function_rows_fit : (n : ℕ) → length parts.functions ≤ n → All (FitsFunctionRow n) parts.attributed
   function_rows_fit n le =
       All-weaker (FitsPartFunction parts) (FitsFunctionRow n)

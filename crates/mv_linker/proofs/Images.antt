@@ -9,7 +9,7 @@ use Rattle.mv_isa.specs.declared.labelled.Labelled.{Labelled}
 use Rattle.mv_isa.specs.declared.labelled.Line.{Line}
 use Rattle.mv_isa.specs.declared.labelled.Line.TheVariants.{Word, Label, Jump, Branch, Entry, Slot}
 use Rattle.mv_isa.specs.Code.{CodeFits, IsSizing, line_at, label_index, label_address, address, text_start}
-use Rattle.mv_asm.specs.Outcome.{ArePlaced, ArePlacedUnder, AreAddresses, PassesText}
+use Rattle.mv_asm.specs.Outcome.{ArePlaced, ArePlacedUnder, AreAddresses}
 use Rattle.mv_asm.proofs.Standing.{index_once}
 use Rattle.mv_image.specs.Spelling.{Fields}
 use Rattle.mv_linker.specs.declared.joined.Joined.{Joined}
@@ -105,13 +105,6 @@ module _ (parts : Parts) (are : AreParts parts) where
           All-from_get_or (λ (entry : ℕ). entry < length addresses) joined.entries 0
           (λ f below. omega (arith, is.each f (omega (arith, is.one_each)), part_index_within f (omega (arith, is.one_each)), one_more, one_each))
 
-      -- each line has an address
-      pub lines_within : length joined.code.items ≤ length addresses
-      lines_within =
-          let one_more = linked.under.addresses_are.one_more in
-          let one_each = linked.least.fits.sizes.one_each in
-          omega (arith, one_more, one_each, ap length is.lines)
-
       address_is : (k : ℕ) → k < length (linked_lines parts) → slice_index addresses k ≡ address text_start linked.sizing k
       address_is k below =
           let one_each = linked.least.fits.sizes.one_each in
@@ -162,6 +155,3 @@ module _ (parts : Parts) (are : AreParts parts) where
             code_count =
                 length-append parts.functions (map (λ (v : PartVariant). v.code) (function_variants parts.attributed))
                 ∙ ap (λ k. length parts.functions + k) (length-map (function_variants parts.attributed) (λ (v : PartVariant). v.code))
-
-    pub text_passes : (count : ℕ) → PassesText text_start joined.code.items count → PassesText text_start (linked_lines parts) count
-    text_passes count passes = subst (λ (lines : List Line). PassesText text_start lines count) is.lines passes

@@ -29,10 +29,6 @@ standing c j = c
 
 -- ---- statements of a function
 
--- the first free temporary
-abbrev pub first_free : Function → ℕ
-first_free g = length g.locals
-
 unfoldable pub stmt_at : Function → Stmt → Jumps → Code
 stmt_at g s j = lower_stmt (length g.locals) (size_in g.locals) (is_void g.result) s j
 

@@ -87,9 +87,6 @@ module _ (globals : Globals) (locals : ℕ) (sizes : ℕ → Option ℕ) (room :
   abbrev Gives : ℕ → ℕ → ℕ → ℕ → Lowering → Type 0
   Gives = given.Gives a B rules locals room scratch
 
-  abbrev GivesFrom : List Tree → ℕ → ℕ → ℕ → ℕ → Lowering → Type 0
-  GivesFrom = given.GivesFrom a B rules locals room scratch
-
   -- A lowering that so many nodes pay for. It leaves some units and nodes, with which its value is put away and its parent pays.
   pub record Paid (n k : ℕ) (l : Lowering) : Type 0 where
     pub units : ℕ

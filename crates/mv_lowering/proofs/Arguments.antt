@@ -66,9 +66,6 @@ module _ (p : Program) (setting : Setting) (frame : code_world.Frame) (began : L
   abbrev Reached : (due credit n : ℕ) → State → List Stm → Tree → ℕ → Frame → World → ℕ → Type 0
   Reached = c.Reached p setting frame began function locals sizes held floor scratch temps bound
 
-  abbrev Halted : ℕ → State → List Stm → Stop → World → ℕ → Type 0
-  Halted = c.Halted p setting frame began function locals sizes held floor scratch temps bound
-
   abbrev Shown : (due credit n : ℕ) → State → List Stm → Tree → Outcome Frame ℕ → Type 0
   Shown = c.Shown p setting frame began function locals sizes held floor scratch temps bound
 

@@ -6,7 +6,6 @@ use Rattle.mv_ir.specs.declared.tree.Tree.{Tree}
 use Rattle.mv_ir.specs.declared.stm.Stm.{Stm}
 use Rattle.mv_ast.specs.declared.program.Program.{Program}
 use Rattle.mv_ast.specs.declared.world.Binding.{Binding}
-use Rattle.mv_ast.specs.declared.world.Stop.{Stop}
 use Rattle.mv_ast.specs.Worlds.{World, Outcome, Came, Stopped, after, and_then, bind, give, counted}
 use Rattle.mv_meaning.specs.declared.state.Frame.{Frame}
 use Rattle.mv_meaning.specs.Meaning.{Evaluation}
@@ -36,9 +35,6 @@ module _ (p : Program) (setting : Setting) (frame : code_world.Frame) (began : L
 
   abbrev Reached : (due credit n : ℕ) → State → List Stm → Tree → ℕ → Frame → World → ℕ → Type 0
   Reached = c.Reached p setting frame began function locals sizes held floor scratch temps bound
-
-  abbrev Halted : ℕ → State → List Stm → Stop → World → ℕ → Type 0
-  Halted = c.Halted p setting frame began function locals sizes held floor scratch temps bound
 
   abbrev Shown : (due credit n : ℕ) → State → List Stm → Tree → Outcome Frame ℕ → Type 0
   Shown = c.Shown p setting frame began function locals sizes held floor scratch temps bound

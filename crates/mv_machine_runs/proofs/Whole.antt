@@ -1,16 +1,14 @@
 -- The globals and the stack of a program in the machine's memory.
-use Rattle.std.proofs.Common.{◌≡◌, Bool, ⊎_elim, inl, inr, ℕ, ◌+◌, ◌*◌, ◌^◌, ◌<◌, ◌≤◌, true, List, [], slice_get, Option, Some, None, option_and_then, sym, ap, arith}
+use Rattle.std.proofs.Common.{◌≡◌, Bool, ⊎_elim, inl, inr, ℕ, ◌+◌, ◌*◌, ◌^◌, ◌<◌, ◌≤◌, true, List, [], Option, Some, sym, ap, arith}
 use Rattle.std.proofs.lemmas.Bool.{cases_lt, cases_order}
 use Rattle.mv_ast.specs.declared.world.Action.{Action}
 use Rattle.mv_image.specs.Spelling.{Fields}
-use Rattle.mv_image.specs.Patched.{site_at}
-use Rattle.mv_descriptors.specs.declared.rows.SiteRow.{SiteRow}
 use Rattle.mv_ir.specs.World.{World}
 use Rattle.mv_statement_code.specs.Frames.{Site, address}
 use Rattle.mv_call_code.specs.Convention.{Layout}
 use Rattle.mv_function_code.specs.Functions.{IsStack, IsWord, IsLaid, Kept, IsMemory, StandsInWords}
 use Rattle.mv_machine_runs.specs.Calm.{Rest, is_calm}
-use Rattle.mv_machine_runs.specs.MachineRuns.{access, called_at, machine_of}
+use Rattle.mv_machine_runs.specs.MachineRuns.{access, machine_of}
 use Rattle.mv_machine_runs.specs.Layout.{IsOutsideText, OwnOutsideText, IsSetOut}
 use Rattle.mv_machine_runs.proofs.Calming.{calm_told}
 use Rattle.mv_machine_runs.proofs.Memory.{stored_at, load_word, stack_loads}
@@ -84,12 +82,3 @@ module _ (y : Layout) (h : IsSetOut y) where
 
   pub own : (s : Site) → StandsInWords y s → OwnOutsideText s
   own s stands x is there = outside (address s x) (stands x is there)
-
--- where no function is attributed, no site calls one
-pub no_slot : (image : Fields) (a f : ℕ) → called_at [] image a ≡ Some f → ⊥
-unfolding called_at
-no_slot image a f e = none_called (site_at image a) e
-  where
-    none_called : (o : Option SiteRow) → option_and_then (λ (site : SiteRow). slice_get [] site.function) o ≡ Some f → ⊥
-    none_called None e = absurd (cc)
-    none_called (Some site) e = absurd (cc)

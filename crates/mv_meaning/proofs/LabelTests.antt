@@ -93,6 +93,3 @@ module _ (v : ℕ) (items : List Arm) (i : ℕ) (a : Arm) (lt : i < length items
 -- the first arm that has the value as a label
 pub found_first : (v : ℕ) (items : List Arm) → (tried_labels v (all_labels items)).found ≡ true → index_of (has_label v) items ≡ first_arm v items
 found_first v items h = ap (λ b. if b then index_of (has_label v) items else index_of has_default items) (sym h)
-
-pub default_first : (v : ℕ) (items : List Arm) → (tried_labels v (all_labels items)).found ≡ false → index_of has_default items ≡ first_arm v items
-default_first v items h = ap (λ b. if b then index_of (has_label v) items else index_of has_default items) (sym h)

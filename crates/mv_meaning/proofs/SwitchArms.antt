@@ -1,5 +1,5 @@
 -- The arms of a `switch`.
-use Rattle.std.proofs.Common.{◌≡◌, ℕ, suc, ◌+◌, ◌-◌, ◌^◌, ◌≤◌, ◌<◌, Bool, true, false, if◌then◌else◌, nat_eq, List, [], ◌∷◌, ◌++◌, map, length, get_or, drop, arith, refl, sym, ◌∙◌, ap, subst, Result, Ok, Err}
+use Rattle.std.proofs.Common.{◌≡◌, ℕ, suc, ◌+◌, ◌-◌, ◌^◌, ◌≤◌, ◌<◌, Bool, true, false, if◌then◌else◌, List, [], ◌∷◌, ◌++◌, map, length, get_or, drop, arith, refl, sym, ◌∙◌, ap, subst, Result, Ok, Err}
 use Rattle.std.proofs.lemmas.List.{drop_more, drop_all}
 use Rattle.mv_ast.specs.declared.program.Program.{Program}
 use Rattle.mv_ast.specs.declared.program.Arm.{Arm}
@@ -18,19 +18,6 @@ use Rattle.mv_meaning.proofs.Equations.{arm_of_lem}
 use Rattle.mv_meaning.proofs.Steps.{went_on, stopped_there, within, counted_on}
 
 -- ---- labels tested one after the other
-
-pub tried_more : (v l : ℕ) (ls : List ℕ) → (l ≡ v → ⊥) →
-    tried_labels v (l ∷ ls) ≡ record { labels = 1 + (tried_labels v ls).labels; found = (tried_labels v ls).found }
-tried_more v l ls ne =
-    let h : nat_eq v l ≡ false = grind arith in
-    let rest : Tried = tried_labels v ls in
-    ap (λ b. if b then record { labels = 1; found = true } else record { labels = 1 + rest.labels; found = rest.found }) h
-
-pub tried_here : (v l : ℕ) (ls : List ℕ) → l ≡ v → tried_labels v (l ∷ ls) ≡ record { labels = 1; found = true }
-tried_here v l ls e =
-    let h : nat_eq v l ≡ true = grind arith in
-    let rest : Tried = tried_labels v ls in
-    ap (λ b. if b then record { labels = 1; found = true } else record { labels = 1 + rest.labels; found = rest.found }) h
 
 -- ---- what goes on from statements one after the other
 

@@ -53,13 +53,6 @@ words_of-next (a ∷ b ∷ []) h = absurd (omega arith)
 words_of-next (a ∷ b ∷ c ∷ []) h = absurd (omega arith)
 words_of-next (a ∷ b ∷ c ∷ d ∷ rest) h = refl
 
-pub words_of-end : (bytes : List ℕ) → length bytes < 4 → words_of bytes ≡ []
-words_of-end [] h = refl
-words_of-end (a ∷ []) h = refl
-words_of-end (a ∷ b ∷ []) h = refl
-words_of-end (a ∷ b ∷ c ∷ []) h = refl
-words_of-end (a ∷ b ∷ c ∷ d ∷ rest) h = absurd (omega arith)
-
 pub bytes_of-grow : (ws bytes cells new : List ℕ) (i : ℕ) → i < length ws → bytes ≡ bytes_of (take i ws) → cells ≡ little_bytes 4 (slice_index ws i) → new ≡ bytes ++ cells → new ≡ bytes_of (take (i + 1) ws)
 bytes_of-grow ws bytes cells new i lt was cell made =
     let more : take (i + 1) ws ≡ take i ws ++ slice_index ws i ∷ [] = take_more ws i 0 lt in

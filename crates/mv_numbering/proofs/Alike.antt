@@ -136,14 +136,6 @@ module _ (x : Setting) where
   words_null t zero = tt
   words_null t (suc n) = (same_null t, words_null t n)
 
-  pub words_plain : (t : CType) (vs us : List ℕ) → IsInteger t → SameWords t vs us → vs ≡ us
-  words_plain t [] [] i h = refl
-  words_plain t [] (u ∷ us) i h = absurd h
-  words_plain t (v ∷ vs) [] i h = absurd h
-  words_plain t (v ∷ vs) (u ∷ us) i h = cc_cons (same_integer t v u i h.0) (words_plain t vs us i h.1) where
-    cc_cons : v ≡ u → vs ≡ us → v ∷ vs ≡ u ∷ us
-    cc_cons a b = cc
-
   -- the object with an index
   pub object_at : (ts : List CType) (os qs : List (List ℕ)) (l : ℕ) (t : CType) → SameObjects ts os qs → slice_get ts l ≡ Some t →
       SameWords t (words_or_none (slice_get os l)) (words_or_none (slice_get qs l))

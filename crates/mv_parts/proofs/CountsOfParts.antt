@@ -13,10 +13,6 @@ use Rattle.mv_parts.specs.declared.counts.Counted.{Counted}
 use Rattle.mv_parts.specs.declared.counts.Counted.TheVariants.{Labels}
 use Rattle.mv_parts.specs.Counts.{up_to_greatest, count_in, count_in_variant, count_in_function, count_in_parts, HaveFewLabels}
 
--- one count behind another, both as far as they go
-pub greatest_twice : (a b : ℕ) → up_to_greatest (up_to_greatest a + b) ≡ up_to_greatest (a + b)
-greatest_twice a b = omega arith
-
 variants_counted : (what : Counted) (variants : List PartVariant) → sum_by (count_in what) (variant_codes variants) ≡ sum_by (count_in_variant what) variants
 variants_counted what [] = refl
 variants_counted what (v ∷ variants) =

@@ -1,6 +1,5 @@
 -- What is linked of a program.
 use Rattle.std.specs.Prelude.{ℕ, ◌≡◌, ◌≤◌, true, List, map, length, Some, slice_get}
-use Rattle.std.specs.List.{flat_map}
 use Rattle.mv_ast.specs.declared.program.Program.{Program}
 use Rattle.mv_ast.specs.declared.program.Function.{Function}
 use Rattle.mv_isa.specs.declared.labelled.Labelled.{Labelled}
@@ -28,10 +27,6 @@ use Rattle.mv_parts.specs.Switches.{part_switches}
 pub record AreTables (p : Program) (tables : List (List Variant)) : Type 0 where
   pub one_each : length tables ≡ length (attributed_numbers p)
   pub each : (n f : ℕ) (variants : List Variant) → slice_get (attributed_numbers p) n ≡ Some f → slice_get tables n ≡ Some variants → AreVariantsOf p f variants
-
--- the bodies of all variants, one function's behind another's
-abbrev pub variant_bodies : List (List Variant) → List Body
-variant_bodies tables = flat_map (λ (variants : List Variant). map (λ (v : Variant). v.body) variants) tables
 
 -- ---- parts
 

@@ -69,7 +69,3 @@ module _ {P K : Type 0} (object : P → K) (of : P → Hearing) where
 
   pub told_whole : (events : List Event) (place : ℕ) (was now : List P) → length events ≤ place → Fates (Becomes object of (take place events)) was now → Fates (Becomes object of events) was now
   told_whole events place was now le f = subst (λ l. Fates (Becomes object of l) was now) (take_all place events le) f
-
-  -- the same of an equal list
-  pub told_as : (events : List Event) (was now same : List P) → same ≡ now → Fates (Becomes object of events) was now → Fates (Becomes object of events) was same
-  told_as events was now same e f = subst (λ l. Fates (Becomes object of events) was l) (sym e) f

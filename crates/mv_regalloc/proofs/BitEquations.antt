@@ -1,12 +1,12 @@
 -- What reading does to bits, at each variant of a tree.
-use Rattle.std.proofs.Common.{◌≡◌, ℕ, zero, suc, ◌+◌, ◌<◌, true, false, Option, None, Some, List, [], ◌∷◌, ◌++◌, length, take, get_or, refl, sym, ap, ◌∙◌}
-use Rattle.std.proofs.lemmas.List.{take_more, length-set}
+use Rattle.std.proofs.Common.{◌≡◌, ℕ, ◌+◌, ◌<◌, true, List, [], ◌∷◌, ◌++◌, length, take, get_or, refl, sym, ap, ◌∙◌}
+use Rattle.std.proofs.lemmas.List.{take_more}
 use Rattle.std.specs.Prelude.{slice_set}
 use Rattle.mv_num.specs.declared.kind.Kind.{Kind}
 use Rattle.mv_ir.specs.declared.tree.Tree.{Tree, Number, Temp, Global, Function, Unary, Binary, Narrow}
 use Rattle.mv_ir.specs.declared.tree.Tree.TheOpen as tree
 use Rattle.mv_ir.specs.declared.tree.Tree.TheVariants.{rolls-Number, rolls-Temp, rolls-Global, rolls-Function, rolls-Unary, rolls-Binary, rolls-Narrow}
-use Rattle.mv_regalloc.specs.Rows.{Bits, put_bit, with_reads, with_all_reads, with_temps}
+use Rattle.mv_regalloc.specs.Rows.{Bits, with_reads, with_all_reads, with_temps}
 use Rattle.mv_regalloc.proofs.RowBits.{with_reads_roll}
 
 module _ (bits : Bits) where
@@ -52,34 +52,3 @@ temps_append (t ∷ ts) us bits = temps_append ts us (slice_set bits t true)
 
 pub temps_more : (ts : List ℕ) (i d : ℕ) (bits : Bits) → i < length ts → with_temps (take (i + 1) ts) bits ≡ slice_set (with_temps (take i ts) bits) (get_or ts i d) true
 temps_more ts i d bits h = ap (λ l. with_temps l bits) (take_more ts i d h) ∙ temps_append (take i ts) (get_or ts i d ∷ []) bits
-
-pub temps_long : (ts : List ℕ) (bits : Bits) → length (with_temps ts bits) ≡ length bits
-temps_long [] bits = refl
-temps_long (t ∷ ts) bits = temps_long ts (slice_set bits t true) ∙ length-set bits t true
-
--- those written before they are read
-set_twice : (bits : Bits) (u : ℕ) → slice_set (slice_set bits u false) u true ≡ slice_set bits u true
-set_twice [] u = refl
-set_twice (x ∷ bits) zero = refl
-set_twice (x ∷ bits) (suc u) = ap (λ l. x ∷ l) (set_twice bits u)
-
-pub cleared_twice : (bits : Bits) (u : ℕ) → slice_set (slice_set bits u true) u false ≡ slice_set bits u false
-cleared_twice [] u = refl
-cleared_twice (x ∷ bits) zero = refl
-cleared_twice (x ∷ bits) (suc u) = ap (λ l. x ∷ l) (cleared_twice bits u)
-
-set_swap : (bits : Bits) (u t : ℕ) → slice_set (slice_set bits u true) t true ≡ slice_set (slice_set bits t true) u true
-set_swap [] u t = refl
-set_swap (x ∷ bits) zero zero = refl
-set_swap (x ∷ bits) zero (suc t) = refl
-set_swap (x ∷ bits) (suc u) zero = refl
-set_swap (x ∷ bits) (suc u) (suc t) = ap (λ l. x ∷ l) (set_swap bits u t)
-
-temps_swap : (ts : List ℕ) (bits : Bits) (u : ℕ) → with_temps ts (slice_set bits u true) ≡ slice_set (with_temps ts bits) u true
-temps_swap [] bits u = refl
-temps_swap (t ∷ ts) bits u = ap (with_temps ts) (set_swap bits u t) ∙ temps_swap ts (slice_set bits t true) u
-
--- what is marked where a temporary is written and some are read
-pub written_read : (written : Option ℕ) (ts : List ℕ) (bits : Bits) → with_temps ts (put_bit written true bits) ≡ put_bit written true (with_temps ts (put_bit written false bits))
-written_read None ts bits = refl
-written_read (Some u) ts bits = ap (with_temps ts) (sym (set_twice bits u)) ∙ temps_swap ts (slice_set bits u false) u

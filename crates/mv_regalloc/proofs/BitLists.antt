@@ -1,6 +1,5 @@
 -- Rows as lists of bits.
-use Rattle.std.proofs.Common.{arith, ◌≡◌, ℕ, zero, suc, ◌<◌, ◌≤◌, Bool, true, false, ◌||◌, [], ◌∷◌, length, get_or, refl, sym, ap, ◌∙◌}
-use Rattle.std.specs.Prelude.{slice_set}
+use Rattle.std.proofs.Common.{arith, ◌≡◌, ℕ, zero, suc, ◌<◌, Bool, true, false, ◌||◌, [], ◌∷◌, length, get_or, refl, sym, ◌∙◌}
 use Rattle.std.proofs.lemmas.List.{ext_get_or}
 use Rattle.mv_ir.specs.Live.{mark_at}
 use Rattle.mv_regalloc.specs.Rows.{Bits, either_bits}
@@ -12,17 +11,6 @@ at_get (x ∷ xs) (suc t) = at_get xs t
 
 pub same_bits : (xs ys : Bits) → length xs ≡ length ys → ((t : ℕ) → t < length xs → mark_at xs t ≡ mark_at ys t) → xs ≡ ys
 same_bits xs ys e h = ext_get_or false xs ys e (λ t l. sym (at_get xs t) ∙ h t l ∙ at_get ys t)
-
-pub past_bit : (xs : Bits) (t : ℕ) → length xs ≤ t → mark_at xs t ≡ false
-past_bit [] t h = refl
-past_bit (x ∷ xs) zero h = absurd (omega (arith, h))
-past_bit (x ∷ xs) (suc t) h = past_bit xs t (omega (arith, h))
-
--- past the end nothing is set
-pub set_past : (xs : Bits) (u : ℕ) (b : Bool) → length xs ≤ u → slice_set xs u b ≡ xs
-set_past [] u b h = refl
-set_past (x ∷ xs) zero b h = absurd (omega (arith, h))
-set_past (x ∷ xs) (suc u) b h = ap (λ l. x ∷ l) (set_past xs u b (omega (arith, h)))
 
 or_none : (a : Bool) → (a || false) ≡ a
 or_none true = refl

@@ -1,7 +1,7 @@
 -- The temporaries whose intervals begin at a position, listed, and their intervals from the table of spans.
 use Rattle.std.proofs.Common.{arith, ◌≡◌, ℕ, zero, suc, ◌+◌, ◌-◌, ◌<◌, ◌≤◌, Bool, true, false, cond, eqb, ◌&&◌, List, [], ◌∷◌, ◌++◌, length, map, take, get_or, refl, sym, ap, ◌∙◌, subst, ◌⊎◌, inl, inr}
-use Rattle.std.specs.Prelude.{slice_index, slice_index_or, slice_set, replicate, EachIndex}
-use Rattle.std.proofs.lemmas.List.{append-nil, map-append, map_more, length-set, length-replicate, get_or-replicate, get_or-set_same, get_or-set_other}
+use Rattle.std.specs.Prelude.{slice_index, slice_index_or, slice_set, EachIndex}
+use Rattle.std.proofs.lemmas.List.{append-nil, map-append, map_more, length-set, get_or-set_same, get_or-set_other}
 use Rattle.std.proofs.lemmas.Bool.{cases_eq, eqb-true}
 use Rattle.mv_ir.specs.declared.body.Body.{Body}
 use Rattle.mv_ir.specs.Live.{any, marks_length, all_marks}
@@ -84,14 +84,6 @@ first_long [] = omega arith
 first_long (true ∷ xs) = omega arith
 first_long (false ∷ xs) = let k = first_long xs in omega (arith, k)
 
-pub no_firsts : (b : Body) (positions : ℕ) (lists : List (List ℕ)) → lists ≡ replicate positions [] → AreFirsts b b.params positions lists
-no_firsts b positions lists e = record {
-  long = ap (λ l. length l) e ∙ length-replicate positions [];
-  items = λ at l.
-      let none : b.params - b.params ≡ 0 = omega arith in
-      ap (λ ls. slice_index_or ls at []) e ∙ get_or-replicate positions at [] [] l ∙ ap (λ k. temps_of (beginning (all_marks b) at (range b.params k))) (sym none);
-}
-
 module _ (b : Body) (s : SpanTable) (h : AreSpansOf (all_marks b) b.temps s) (t : ℕ) (low : b.params ≤ t) (high : t < b.temps) where
   abbrev at_first : ℕ
   at_first = s.positions - slice_index s.begins t
@@ -121,13 +113,6 @@ module _ (b : Body) (s : SpanTable) (h : AreSpansOf (all_marks b) b.temps s) (t 
     long = k.long;
     items = λ at l. k.items at l ∙ sym (one_more at [] (away at l (λ e. omega (arith, e, z, l))) ∙ append-nil (temps_of (beginning (all_marks b) at (range b.params (t - b.params)))));
   }
-
-  pub first_below : 0 < slice_index s.begins t → at_first < s.positions
-  first_below z =
-      let p = h.positions t in
-      let f = h.begins t high in
-      let w = first_long (all_marks b t) in
-      omega (arith, p, f, w, z)
 
   pub firsts_more : (lists : List (List ℕ)) → 0 < slice_index s.begins t → AreFirsts b t s.positions lists → AreFirsts b (t + 1) s.positions (slice_set lists at_first (slice_index_or lists at_first [] ++ t ∷ []))
   firsts_more lists z k = record { long = length-set lists at_first (slice_index_or lists at_first [] ++ t ∷ []) ∙ k.long; items = λ at l. by at l (cases_eq at at_first) }

@@ -3,7 +3,7 @@ use Rattle.std.proofs.Common.{arith, ◌≡◌, ℕ, zero, suc, ◌-◌, ◌/◌
 use Rattle.std.proofs.lemmas.List.{get_or_append_left, get_or_past, length-append}
 use Rattle.std.proofs.Math.Seq.{get_or-append_seam}
 use Rattle.std.proofs.lemmas.Bool.{cases_eq, cases_lt, eq-eqb, ne_eqb}
-use Rattle.std.specs.Prelude.{Result, Ok, Err, IfOk, OnErr, OnOk}
+use Rattle.std.specs.Prelude.{Result, Ok, Err, IfOk, OnErr}
 use Rattle.std.proofs.lemmas.Result.{IfOk-weaker}
 use Rattle.std.specs.List.{All}
 use Rattle.std.specs.Int.Bits.{or_zero_l}
@@ -18,14 +18,6 @@ if_ok_by {P} {Q} r h k = IfOk-weaker r P Q h k
 pub on_err_of : {T E P : Type 0} (r : Result T E) → P → OnErr r P
 on_err_of (Ok x) p = tt
 on_err_of (Err e) p = p
-
-pub on_either : {T E P Q R : Type 0} (r : Result T E) → (P → R) → (Q → R) → OnOk r P → OnErr r Q → R
-on_either (Ok x) f g p q = f p
-on_either (Err e) f g p q = g q
-
-pub if_ok_and : {T E Q : Type 0} {P R : T → Type 0} (r : Result T E) → ((x : T) → P x → Q → R x) → IfOk r P → OnOk r Q → IfOk r R
-if_ok_and (Ok x) f p q = f x p q
-if_ok_and (Err e) f p q = tt
 
 -- ---- the way to a word
 
@@ -120,9 +112,6 @@ module _ (parts : List Part) (are : AreParts parts) where
         by side none before here number some (inr l) (inr n) =
             let a = length-append parts (part ∷ []) in
             let b = ap side (past_part (parts ++ part ∷ []) number (omega (arith, a, l, n))) ∙ none in omega (arith, b, some)
-
-pub keeps_same : (parts : List Part) → Keeps parts parts
-keeps_same parts = record { long = omega arith; words = λ number place l. refl }
 
 pub keeps_two : (a b d : List Part) → Keeps a b → Keeps b d → Keeps a d
 keeps_two a b d h k = record { long = (let l = h.long in let m = k.long in omega (arith, l, m)); words = λ number place l. k.words number place (let m = h.long in omega (arith, l, m)) ∙ h.words number place l }

@@ -1,8 +1,8 @@
 -- Sets that share their parts: what an edit of words does to the bits, and that the other sets stay as they are.
-use Rattle.std.proofs.Common.{arith, ◌≡◌, ℕ, zero, suc, ◌<◌, ◌≤◌, ◌/◌, Bool, false, cond, eqb, ◌||◌, List, [], ◌∷◌, ◌++◌, length, drop, map, reverse, refl, sym, ap, ◌∙◌, ◌⊎◌, inl, inr, bit_or, subst}
+use Rattle.std.proofs.Common.{arith, ◌≡◌, ℕ, zero, suc, ◌<◌, ◌/◌, Bool, false, cond, eqb, ◌||◌, List, [], ◌∷◌, ◌++◌, length, drop, map, reverse, refl, sym, ap, ◌∙◌, ◌⊎◌, inl, inr, bit_or, subst}
 use Rattle.std.specs.Prelude.{slice_set, slice_index_or, replicate, Option, Some, None, option_to_list}
 use Rattle.std.specs.List.{All, range_with_len}
-use Rattle.std.proofs.lemmas.List.{drop-map, reverse-append, append-nil, length-set, length-replicate, get_or-replicate}
+use Rattle.std.proofs.lemmas.List.{reverse-append, append-nil, length-set, length-replicate, get_or-replicate}
 use Rattle.std.proofs.lemmas.List.Elements.{All-cons, All-drop}
 use Rattle.std.proofs.lemmas.List.FromFn.{length-map-range_with_len, get_or-map-range_with_len}
 use Rattle.std.proofs.lemmas.Bool.{cases_eq, eq-eqb, ne_eqb}
@@ -14,8 +14,8 @@ use Rattle.mv_regalloc.specs.Parts.{word_of, Keeps}
 use Rattle.mv_regalloc.specs.Rows.{Bits, either_bits}
 use Rattle.mv_regalloc.specs.declared.liveness.Row.{Row}
 use Rattle.mv_regalloc.specs.declared.liveness.Row.TheVariants.{Empty, Live, Saved, Behind, Start}
-use Rattle.mv_regalloc.specs.Shared.{LiveSets, Numbered, AreWithin, bits_at, entered, forgotten, number_of, row_of, sets_at, with_live, with_rows, with_saved}
-use Rattle.mv_regalloc.proofs.BitLists.{at_get, same_bits, past_bit, either_or}
+use Rattle.mv_regalloc.specs.Shared.{LiveSets, Numbered, AreWithin, bits_at, entered, number_of, row_of, sets_at, with_live, with_rows, with_saved}
+use Rattle.mv_regalloc.proofs.BitLists.{at_get, same_bits, either_or}
 use Rattle.mv_regalloc.proofs.RowBits.{set_bit, either_long}
 use Rattle.mv_regalloc.proofs.WordBits.{bits_either, none_in}
 
@@ -39,9 +39,6 @@ module _ (n : ℕ) where
   module _ (parts : List Part) (number : ℕ) where
     pub bit_in : (t : ℕ) → t < n → mark_at (bits_at n parts number) t ≡ in_word (word_of parts number (t / 64)) t
     bit_in t l = tests_bit (λ t. in_word (word_of parts number (t / 64)) t) t l
-
-    pub bit_past : (t : ℕ) → n ≤ t → mark_at (bits_at n parts number) t ≡ false
-    bit_past t l = past_bit (bits_at n parts number) t (let a = tests_long (λ t. in_word (word_of parts number (t / 64)) t) in omega (arith, a, l))
 
     pub none_at : ((place : ℕ) → word_of parts number place ≡ 0) → bits_at n parts number ≡ replicate n false
     none_at h =
@@ -188,15 +185,6 @@ module _ (n : ℕ) (parts : List Part) (ns : Numbered) where
       rows = subst (λ xs. All (λ k. k < length parts) xs) (sym (reverse-append ns.rows (number ∷ []))) (All-cons (λ k. k < length parts) number (reverse ns.rows) l within.rows);
     }
 
-    pub forget_within : (rest : List ℕ) → reverse rest ≡ drop 1 (reverse ns.saved) → AreWithin parts (record ns { saved = rest })
-    forget_within rest e = record {
-      live = within.live;
-      saved = subst (λ xs. All (λ k. k < length parts) xs) (sym e) (All-drop (λ k. k < length parts) 1 (reverse ns.saved) within.saved);
-      behind = within.behind;
-      start = within.start;
-      rows = within.rows;
-    }
-
     pub enter_within : (l : Level) → l.behind < length parts → l.start < length parts → AreWithin parts (record ns { levels = ns.levels ++ l ∷ [] })
     enter_within l b s = record {
       live = within.live;
@@ -211,9 +199,6 @@ module _ (n : ℕ) (parts : List Part) (ns : Numbered) where
 
   pub mark_at_end : (number : ℕ) (bits : Bits) → at number ≡ bits → sets_at n parts (record ns { rows = ns.rows ++ number ∷ [] }) ≡ with_rows (sets_at n parts ns) (bits ∷ [])
   mark_at_end number bits e = ap (λ l. let v : LiveSets = record (sets_at n parts ns) { rows = map at l } in v) (reverse-append ns.rows (number ∷ [])) ∙ ap (λ b. with_rows (sets_at n parts ns) (b ∷ [])) e
-
-  pub forget_at : (rest : List ℕ) → reverse rest ≡ drop 1 (reverse ns.saved) → sets_at n parts (record ns { saved = rest }) ≡ forgotten (sets_at n parts ns)
-  forget_at rest e = ap (λ l. let v : LiveSets = record (sets_at n parts ns) { saved = l } in v) (ap (λ l. map at l) e ∙ sym (drop-map at 1 (reverse ns.saved)))
 
   pub enter_at : (l : Level) (behind start : Bits) → at l.behind ≡ behind → at l.start ≡ start → sets_at n parts (record ns { levels = ns.levels ++ l ∷ [] }) ≡ entered (sets_at n parts ns) behind start
   enter_at l behind start e f =

@@ -1,6 +1,6 @@
 -- Temporaries told, a part after the other and a row after the other.
-use Rattle.std.proofs.Common.{arith, ◌≡◌, ℕ, suc, ◌+◌, ◌-◌, ◌*◌, ◌/◌, ◌<◌, ◌≤◌, Bool, true, false, cond, eqb, not, ◌&&◌, ◌||◌, List, [], ◌∷◌, length, drop, map, reverse, refl, sym, ap, ◌∙◌, subst, ◌⊎◌, inl, inr, None}
-use Rattle.std.specs.Prelude.{slice_index, slice_index_or, replicate}
+use Rattle.std.proofs.Common.{arith, ◌≡◌, ℕ, suc, ◌+◌, ◌-◌, ◌*◌, ◌/◌, ◌<◌, ◌≤◌, Bool, true, false, cond, eqb, not, ◌&&◌, ◌||◌, List, [], ◌∷◌, length, drop, map, reverse, refl, sym, ap, ◌∙◌, subst, ◌⊎◌, inl, inr}
+use Rattle.std.specs.Prelude.{slice_index, replicate}
 use Rattle.std.proofs.lemmas.Bool.{cases_eq, eq-eqb, ne_eqb}
 use Rattle.std.proofs.lemmas.List.{drop_all, drop_more, get_or-map, get_or-reverse, length-drop, length-map, length-reverse}
 use Rattle.mv_ir.specs.Live.{mark_at, any, marks_length}
@@ -12,7 +12,7 @@ use Rattle.mv_regalloc.specs.Parts.{part_at, word_of}
 use Rattle.mv_regalloc.specs.Rows.{Bits}
 use Rattle.mv_regalloc.specs.Shared.{bits_at}
 use Rattle.mv_regalloc.specs.Spanned.{AreCounts, behind_last, column, from_first}
-use Rattle.mv_regalloc.specs.Told.{AreSeen, AreTold, IsAllTold, IsPartTold, IsPut, IsRowTold}
+use Rattle.mv_regalloc.specs.Told.{AreTold, IsAllTold, IsPartTold, IsPut, IsRowTold}
 use Rattle.mv_regalloc.proofs.BodySpans.{long_zeros, zeros_at}
 use Rattle.mv_regalloc.proofs.PartWords.{at_each, even_place, even_word, odd_place, odd_word, word_here}
 use Rattle.mv_regalloc.proofs.Positions.{column_long, none_last}
@@ -66,12 +66,6 @@ module _ (v : ℕ) (s s' s'' : Firsts) (h : AreTold v s s') where
     values = subst (λ l. IsPut (λ t. word_bit l t && not (word_bit s.told t)) v s.values s''.values) (sym f) (subst (λ l. IsPut (λ t. word_bit s'.told t && not (word_bit s.told t)) v s.values l) (sym e) h.values);
     kept = λ t l b. ap (λ l. word_bit l t) f ∙ h.kept t l b;
   }
-
-  pub all_kept : (parts : List Part) (number first step : ℕ) → IsAllTold parts number first step s → IsAllTold parts number first step s'
-  all_kept parts number first step k q t l p b = let l' : t < length s.values = omega (arith, long, l) in h.kept t l' (k q t l' p b)
-
-  pub seen_kept : (parts : List Part) → s'.seen.items ≡ s.seen.items → AreSeen parts s → AreSeen parts s'
-  seen_kept parts e k number at n = all_kept parts number at.first at.step (k number at (ap (λ l. slice_index_or l number None) (sym e) ∙ n))
 
 -- ---- the words of a part
 

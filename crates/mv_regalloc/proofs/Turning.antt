@@ -93,13 +93,6 @@ module _ (place changed bit from temp count : ℕ) (low : bit < 64) (f : from �
 
 -- ---- the words of a row
 
-pub place_here : (place t : ℕ) → eqb (t / 64) place ≡ true → t / 64 ≡ place
-place_here place t h = by (cases_eq (t / 64) place)
-  where
-    by : (t / 64 ≡ place) ⊎ (t / 64 ≡ place → ⊥) → t / 64 ≡ place
-    by (inl e) = e
-    by (inr ne) = let d : true ≡ false = sym h ∙ ne_eqb (t / 64) place ne in absurd cc
-
 -- of the temporaries of one place
 pub place_as : (place t : ℕ) (a b : Bool) → (t / 64 ≡ place → a ≡ b) → (eqb (t / 64) place && a) ≡ (eqb (t / 64) place && b)
 place_as place t a b h = by (cases_eq (t / 64) place)

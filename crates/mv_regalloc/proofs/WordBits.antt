@@ -1,11 +1,11 @@
 -- Bits in words: what an edit of a word does to them.
-use Rattle.std.proofs.Common.{arith, ◌≡◌, ℕ, zero, suc, ◌-◌, ◌*◌, ◌/◌, ◌%◌, ◌^◌, ◌<◌, ◌≤◌, min, max, Bool, true, false, cond, eqb, ltb, not, ◌&&◌, ◌||◌, List, length, get_or, refl, sym, ap, ◌∙◌, ◌⊎◌, inl, inr, w64, bit_or, bit_and}
+use Rattle.std.proofs.Common.{arith, ◌≡◌, ℕ, zero, suc, ◌-◌, ◌*◌, ◌/◌, ◌%◌, ◌^◌, ◌<◌, ◌≤◌, min, max, Bool, true, false, cond, eqb, not, ◌&&◌, ◌||◌, List, length, get_or, refl, sym, ap, ◌∙◌, ◌⊎◌, inl, inr, w64, bit_or, bit_and}
 use Rattle.std.specs.Prelude.{slice_set}
 use Rattle.std.specs.Int.{bit_at, bit_not, trailing_zeros}
 use Rattle.std.proofs.lemmas.List.{get_or-set_same, get_or-set_other}
-use Rattle.std.proofs.lemmas.Bool.{cases_eq, cases_lt, eq-eqb, ne_eqb, lt-ltb, le-ltb}
-use Rattle.std.proofs.lemmas.Nat.{one_shl, and_le_l}
-use Rattle.std.proofs.lemmas.Nat.Bits.{bit_at-trailing_zeros, bit_at_not, bit_at_set_same, bit_at_set_other, bit_at_clear_same, bit_at_clear_other, bit_at_or, bit_at_and, bit_at-lt, bit_at-zero, bit_at_ones, bit_at_ones_above}
+use Rattle.std.proofs.lemmas.Bool.{cases_eq, cases_lt, eq-eqb, ne_eqb}
+use Rattle.std.proofs.lemmas.Nat.{and_le_l}
+use Rattle.std.proofs.lemmas.Nat.Bits.{bit_at-trailing_zeros, bit_at_not, bit_at_set_same, bit_at_set_other, bit_at_clear_same, bit_at_clear_other, bit_at_or, bit_at_and, bit_at-lt, bit_at-zero}
 use Rattle.mv_regalloc.specs.LiveBits.{in_word, word_bit}
 
 -- ---- lists of words
@@ -99,31 +99,6 @@ none : (c : Bool) → false ≡ (c && false)
 none true = refl
 none false = refl
 
-pub below_all : (w place n t : ℕ) → place < n / 64 → t / 64 ≡ place → in_word w t ≡ (in_word w t && ltb t n)
-below_all w place n t l e = all (in_word w t) ∙ ap (λ c. in_word w t && c) (sym (lt-ltb t n (omega (arith, l, e))))
-
-pub below_none : (w place n t : ℕ) → n / 64 < place → t / 64 ≡ place → in_word 0 t ≡ (in_word w t && ltb t n)
-below_none w place n t l e = none_in t ∙ none (in_word w t) ∙ ap (λ c. in_word w t && c) (sym (le-ltb t n (omega (arith, l, e))))
-
-pub below_some : (w n t : ℕ) → t / 64 ≡ n / 64 → in_word (bit_and w (1 * 2 ^ (n % 64) % 2 ^ 64 - 1)) t ≡ (in_word w t && ltb t n)
-unfolding in_word
-below_some w n t e =
-    ap (λ m. eqb (bit_at (bit_and w (m - 1)) (t % 64)) 1) (one_shl (n % 64) 64 (omega arith)) ∙ ap (λ v. eqb v 1) (bit_at_and w (2 ^ (n % 64) - 1) (t % 64)) ∙ by (cases_lt t n)
-  where
-    one : (x : ℕ) → x < 2 → eqb (min x 1) 1 ≡ eqb x 1
-    one zero l = refl
-    one (suc zero) l = refl
-    one (suc (suc x)) l = absurd (omega (arith, l))
-
-    no : (x : ℕ) → eqb (min x 0) 1 ≡ false
-    no x = let e : min x 0 ≡ 0 = omega arith in ap (λ v. eqb v 1) e
-
-    by : (t < n) ⊎ (n ≤ t) → eqb (min (bit_at w (t % 64)) (bit_at (2 ^ (n % 64) - 1) (t % 64))) 1 ≡ (eqb (bit_at w (t % 64)) 1 && ltb t n)
-    by (inl l) =
-        ap (λ v. eqb (min (bit_at w (t % 64)) v) 1) (bit_at_ones (n % 64) (t % 64) (omega (arith, l, e))) ∙ one (bit_at w (t % 64)) (bit_at-lt w (t % 64)) ∙ all (eqb (bit_at w (t % 64)) 1) ∙ ap (λ c. eqb (bit_at w (t % 64)) 1 && c) (sym (lt-ltb t n l))
-    by (inr l) =
-        ap (λ v. eqb (min (bit_at w (t % 64)) v) 1) (bit_at_ones_above (n % 64) (t % 64) (omega (arith, l, e))) ∙ no (bit_at w (t % 64)) ∙ none (eqb (bit_at w (t % 64)) 1) ∙ ap (λ c. eqb (bit_at w (t % 64)) 1 && c) (sym (le-ltb t n l))
-
 pub bits_except : (a b t : ℕ) → b < 2 ^ 64 → in_word (bit_and a (bit_not w64 b)) t ≡ (in_word a t && not (in_word b t))
 unfolding in_word
 bits_except a b t fits =
@@ -137,10 +112,3 @@ bits_except a b t fits =
     by (suc zero) (suc zero) l m = refl
     by (suc (suc x)) y l m = absurd (omega (arith, l))
     by x (suc (suc y)) l m = absurd (omega (arith, m))
-
-pub bit_single : (u t : ℕ) → t / 64 ≡ u / 64 → in_word (1 * 2 ^ (u % 64) % 2 ^ 64) t ≡ eqb u t
-bit_single u t e = bit_set 0 u t e ∙ ap (cond (eqb u t) true) (none_in t) ∙ by (eqb u t)
-  where
-    by : (c : Bool) → cond c true false ≡ c
-    by true = refl
-    by false = refl

@@ -1,5 +1,5 @@
 -- The slots of a body are the calls of attributed functions in it.
-use Rattle.std.proofs.Common.{arith, ◌≡◌, ℕ, zero, suc, ◌+◌, ◌≤◌, ◌⊎◌, inl, inr, Bool, true, false, cond, eqb, ◌&&◌, ◌||◌, List, [], ◌∷◌, refl, sym, ap, ◌∙◌, subst}
+use Rattle.std.proofs.Common.{arith, ◌≡◌, ℕ, zero, suc, ◌+◌, ◌≤◌, Bool, true, false, cond, eqb, ◌&&◌, ◌||◌, List, [], ◌∷◌, refl, sym, ap, ◌∙◌, subst}
 use Rattle.std.specs.Prelude.{slice_get, nat_eq}
 use Rattle.std.proofs.lemmas.Bool.{eq-eqb}
 use Rattle.std.proofs.lemmas.List.Sums.{sum_by-cons}
@@ -55,10 +55,6 @@ or_second false b e = e
 both : (a b : Bool) → a ≡ true → b ≡ true → (a && b) ≡ true
 both true b e h = h
 both false b e h = absurd cc
-
-bool_cases : (b : Bool) → (b ≡ true) ⊎ (b ≡ false)
-bool_cases true = inl refl
-bool_cases false = inr refl
 
 behind : (b : Bool) (k f : ℕ) (marked : List ℕ) → is_marked marked f ≡ true → is_marked (cond b (k ∷ marked) marked) f ≡ true
 behind true k f marked h = or_second (eqb k f) (is_marked marked f) h

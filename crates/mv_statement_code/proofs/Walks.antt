@@ -7,10 +7,10 @@ use Rattle.mv_isa.specs.declared.instr.Instr.TheVariants.{Sw}
 use Rattle.mv_isa.specs.declared.labelled.Line.{Line}
 use Rattle.mv_isa.specs.declared.labelled.Line.TheVariants.{Word, Label, Jump, Branch, Entry, Slot}
 use Rattle.mv_isa.specs.Code.{greatest_words}
-use Rattle.mv_isa.specs.Execution.{Access, Goes, reg, put, stored, stores, execute}
+use Rattle.mv_isa.specs.Execution.{Access, Goes, reg, stored, stores, execute}
 use Rattle.mv_tree_code.specs.Straight.{Straight}
 use Rattle.mv_statement_code.specs.Frames.{Site}
-use Rattle.mv_statement_code.specs.Leads.{Exit, Past, To, limited, Moves, Leads}
+use Rattle.mv_statement_code.specs.Leads.{Exit, Past, limited, Moves, Leads}
 
 module _ {M : Type 0} (access : Access M) (s : Site) where
   abbrev L : List Line → ℕ → List ℕ → M → Exit → List ℕ → M → Type 0
@@ -49,25 +49,6 @@ module _ {M : Type 0} (access : Access M) (s : Site) where
   pub leads_next : (i : Instr) (ls : List Line) (n : ℕ) (regs : List ℕ) (m : M) (mid : List ℕ) (memory : M) (exit : Exit) (regs' : List ℕ) (m' : M)
       → Moves access s i regs m mid memory → L ls n mid memory exit regs' m' → L (Word i ∷ ls) (n + 1) regs m exit regs' m'
   leads_next i ls n regs m mid memory exit regs' m' h k = (n, omega arith, mid, memory, h, k)
-
-  -- lines behind others whose end is reached
-  pub leads_append : (ls ks : List Line) (n k : ℕ) (regs : List ℕ) (m : M) (mid : List ℕ) (memory : M) (exit : Exit) (regs' : List ℕ) (m' : M)
-      → L ls n regs m Past mid memory → L ks k mid memory exit regs' m' → L (ls ++ ks) (n + k) regs m exit regs' m'
-  leads_append [] ks n k regs m mid memory exit regs' m' h g =
-      leads_more ks k (n + k) regs m exit regs' m' (omega arith) (subst (λ z. L ks k regs z exit regs' m') h.1.1 (subst (λ z. L ks k z memory exit regs' m') h.1.0 g))
-  leads_append (Word i ∷ ls) ks n k regs m mid memory exit regs' m' h g = (h.0 + k, omega (arith, h.1), h.2, h.3, h.4, leads_append ls ks h.0 k h.2 h.3 mid memory exit regs' m' h.5 g)
-  leads_append (Label l ∷ ls) ks n k regs m mid memory exit regs' m' h g = leads_append ls ks n k regs m mid memory exit regs' m' h g
-  leads_append (Jump rd l ∷ ls) ks n k regs m mid memory exit regs' m' h g = absurd (wrong h.2)
-    where
-      wrong : Past ≡ To l → ⊥
-      wrong e = cc
-  leads_append (Branch funct3 rs1 rs2 l ∷ ls) ks n k regs m mid memory exit regs' m' (inl h) g = absurd (wrong h.2)
-    where
-      wrong : Past ≡ To l → ⊥
-      wrong e = cc
-  leads_append (Branch funct3 rs1 rs2 l ∷ ls) ks n k regs m mid memory exit regs' m' (inr h) g = inr (h.0, h.1 + k, omega (arith, h.2), leads_append ls ks h.1 k regs m mid memory exit regs' m' h.3 g)
-  leads_append (Entry rd f ∷ ls) ks n k regs m mid memory exit regs' m' h g = (h.0 + k, omega (arith, h.1), leads_append ls ks h.0 k (put regs rd (s.entry f)) m mid memory exit regs' m' h.2 g)
-  leads_append (Slot f ∷ ls) ks n k regs m mid memory exit regs' m' h g = absurd h
 
   -- a store of a word
   pub sw_moves : (rs1 rs2 : ℕ) (imm : ℤ) (regs : List ℕ) (m m' : M) (a v : ℕ) → add (reg regs rs1) (word_of imm) ≡ a → reg regs rs2 ≡ v → access.store m a 4 v ≡ Some m' → (pc : ℕ) → execute access (Sw rs1 rs2 imm) regs pc m ≡ Goes regs (add pc 4) m'

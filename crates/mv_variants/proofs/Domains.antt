@@ -1,5 +1,5 @@
 -- Domains, one more at a time.
-use Rattle.std.proofs.Common.{◌≡◌, ℕ, ◌+◌, ◌<◌, ◌^◌, All, List, [], ◌∷◌, ◌++◌, length, map, take, get_or, refl, sym, ◌∙◌, ap, subst}
+use Rattle.std.proofs.Common.{◌≡◌, ℕ, ◌+◌, ◌<◌, ◌^◌, All, List, [], ◌∷◌, ◌++◌, length, map, take, get_or, sym, ◌∙◌, ap, subst}
 use Rattle.std.proofs.lemmas.List.{take_more}
 use Rattle.mv_ir.proofs.Keeping.{map_append}
 use Rattle.mv_ast.specs.declared.program.Program.{Program}
@@ -11,9 +11,6 @@ use Rattle.mv_variants.specs.Domains.{domain, IsDomain, AreDomainsOf}
 words_push : (domains : List Domain) (d : Domain) → HaveWords domains → All (λ v. v < 2 ^ 32) d.values → HaveWords (domains ++ d ∷ [])
 words_push [] d h w = (w, tt)
 words_push (x ∷ domains) d h w = (h.0, words_push domains d h.1 w)
-
-pub no_domains : AreDomainsOf [] []
-no_domains = record { is = refl; words = tt }
 
 -- the domain of one switch more
 pub domain_push : (p : Program) (switches : List ℕ) (k any : ℕ) → k < length switches → (old new : List Domain) (d : Domain) → AreDomainsOf (map (domain p) (take k switches)) old →

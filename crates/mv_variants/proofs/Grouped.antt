@@ -35,9 +35,6 @@ groups_push guards i zero = ap (λ k. rows_of guards k ∷ []) (let e : i ≡ i 
 groups_push guards i (suc n) =
     ap (λ l. rows_of guards i ∷ l) (groups_push guards (suc i) n ∙ ap (λ k. groups_from guards (suc i) n ++ rows_of guards k ∷ []) (let e : suc i + n ≡ i + suc n = omega arith in e))
 
-pub none_grouped : (guards : List Guarded) → AreGroupedFrom guards [] []
-none_grouped guards = record { bodies_are = refl; guards_are = refl }
-
 pub group_push : (guards : List Guarded) (bodies : List Body) (variants new : List Variant) (body : Body) (rows : List GuardRow) → AreGroupedFrom guards bodies variants →
     rows ≡ rows_of guards (length variants) → new ≡ variants ++ record { body = body; guards = rows } ∷ [] → AreGroupedFrom guards (bodies ++ body ∷ []) new
 group_push guards bodies variants new body rows are e n =
