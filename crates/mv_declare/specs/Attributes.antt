@@ -1,5 +1,5 @@
 -- The attribute `multiverse`: what may hold it, and the values of a domain.
-use Rattle.std.specs.Prelude.{ℕ, Bool, true, false, ◌&&◌, ◌||◌, not, is_some, if◌then◌else◌, List, [], ◌∷◌, ◌++◌, Option, Some, None, codes}
+use Rattle.std.specs.Prelude.{ℕ, Bool, false, ◌&&◌, ◌||◌, not, is_some, if◌then◌else◌, List, [], ◌∷◌, ◌++◌, Option, Some, None, codes}
 use Rattle.mv_num.specs.declared.kind.Kind.{Kind}
 use Rattle.mv_ast.specs.declared.place.Place.{Place}
 use Rattle.mv_ast.specs.declared.unit.Declarator.{Declarator}
@@ -20,16 +20,14 @@ use Rattle.mv_declare.specs.declared.attributes.Position.{Position}
 use Rattle.mv_declare.specs.declared.attributes.Position.TheVariants as position
 use Rattle.mv_declare.specs.Constants.{is_value_of}
 use Rattle.mv_declare.specs.Turns.{through}
+use Rattle.mv_declare.specs.ValueSets.{with_member}
 
 -- ---- domains
 
-abbrev pub fits : Option Kind → Constant → Bool
-fits None c = true
-fits (Some k) c = is_value_of k c
-
--- domains: the value isn't one of the switch's type, or stands in the domain already
+-- domains: the value isn't one of the switch's type, or stands in the domain already; nothing is asked where there is no switch
 unfoldable pub with_value : Place → Option Kind → List ℕ → Constant → Judged (List ℕ)
-with_value place k values c = if not (fits k c) || is_among c.value values then Broken place rules.domains else Good (values ++ c.value ∷ [])
+with_value place None values c = Good (with_member values c.value)
+with_value place (Some k) values c = if not (is_value_of k c) || is_among c.value values then Broken place rules.domains else Good (values ++ c.value ∷ [])
 
 abbrev pub domain_value : Option Kind → Scope → Node → List ℕ → Judged (List ℕ)
 domain_value k s node values = and_then (constant_judgement s node) (with_value node.place k values)
@@ -85,8 +83,12 @@ holds h a = if is_some a.values then h.with_values else h.plainly
 unfoldable pub held : Place → Holder → Option Attribute → Attribute → Judged (Option Attribute)
 held place h before a = if is_some before || not (holds h a) then Broken place rules.attributes else Good (Some a)
 
+-- the type of the switches that an attribute with values makes
+abbrev pub switch_kind : Holder → Option Kind → Option Kind
+switch_kind h k = if h.with_values then k else None
+
 abbrev pub attribute : Holder → Option Kind → Scope → Mark → Option Attribute → Judged (Option Attribute)
-attribute h k s m before = let f = out-Mark m in and_then (given_domain k s f.values) (held f.place h before)
+attribute h k s m before = let f = out-Mark m in and_then (given_domain (switch_kind h k) s f.values) (held f.place h before)
 
 -- the attribute behind some attributes, in front of which there may be one
 abbrev pub attributes : Holder → Option Kind → Scope → List Mark → Option Attribute → Judged (Option Attribute)

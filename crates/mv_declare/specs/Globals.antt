@@ -1,9 +1,7 @@
--- Objects at file scope: their sizes, their first words and the domains of switches (C11 6.7.9, 6.9.2).
-use Rattle.std.specs.Prelude.{ℕ, ◌+◌, Bool, true, false, ◌&&◌, ◌||◌, not, nat_lt, is_some, if◌then◌else◌, List, [], ◌∷◌, ◌++◌, map, length, Option, Some, None, slice_get}
-use Rattle.mv_num.specs.declared.kind.Kind.TheVariants as kind
+-- Objects at file scope: their first words and the domains of switches (C11 6.7.9, 6.9.2).
+use Rattle.std.specs.Prelude.{ℕ, ◌+◌, Bool, true, false, ◌&&◌, nat_lt, if◌then◌else◌, List, [], ◌∷◌, ◌++◌, map, length, Option, Some, None, slice_get}
 use Rattle.mv_ast.specs.declared.place.Place.{Place}
 use Rattle.mv_ast.specs.declared.program.CType.{CType}
-use Rattle.mv_ast.specs.declared.program.CType.TheVariants.{Scalar}
 use Rattle.mv_ast.specs.declared.program.Expr.{Expr}
 use Rattle.mv_ast.specs.declared.program.Form.{Form-F, out-Form}
 use Rattle.mv_ast.specs.declared.program.Form.TheOpen as form
@@ -16,21 +14,16 @@ use Rattle.mv_ast.specs.Operators.{converted}
 use Rattle.mv_ast.specs.Plans.{is_among}
 use Rattle.mv_scope.specs.declared.scope.Scope.{Scope}
 use Rattle.mv_scope.specs.Constants.{constant_value, converts}
-use Rattle.mv_scope.specs.Conversions.{is_void}
 use Rattle.mv_judge.specs.RuleNumbers as rules
 use Rattle.mv_judge.specs.Judged.{Judged, Good, Broken, and_then}
 use Rattle.mv_judge.specs.Judgements.{value_judgement}
 use Rattle.mv_declare.specs.declared.attributes.Attribute.{Attribute}
 use Rattle.mv_declare.specs.declared.globals.Words.{Words}
 use Rattle.mv_declare.specs.declared.attributes.Position.TheVariants as position
-use Rattle.mv_declare.specs.declared.declarators.Entity.{Entity}
-use Rattle.mv_declare.specs.declared.declarators.Entity.TheVariants as entity
 use Rattle.mv_declare.specs.declared.globals.Designated.{Designated}
 use Rattle.mv_declare.specs.declared.specifiers.Specified.{Specified}
 use Rattle.mv_declare.specs.Attributes.{attributes, holder_of}
 use Rattle.mv_declare.specs.Declarators.{designated}
-use Rattle.mv_declare.specs.Initials.{array_size, has_room}
-use Rattle.mv_declare.specs.Locals.{scalar, array}
 use Rattle.mv_declare.specs.Specifiers.{scalar_kind}
 use Rattle.mv_declare.specs.Turns.{Behind, through}
 
@@ -42,16 +35,6 @@ file_declarator b d s =
     and_then (designated d.shape b.ctype b.fixed s) (λ e.
     and_then (attributes (holder_of position.File b.fixed d) (scalar_kind b.ctype) e.0 d.marks b.attribute) (λ a.
     Good (e.0, record { entity = e.1; attribute = a })))
-
-abbrev pub sized : Place → CType → Option ℕ → Judged Local
-sized place t None = Broken place rules.extents
-sized place t (Some n) = Good (array t n)
-
--- the type and the size of an object; void: it is of type `void`; extents: an array has no size that is at least 1
-unfoldable pub object_type : Place → Entity → Option Initial → Judged Local
-object_type place (entity.Scalar t fixed) values = if is_void t then Broken place rules.void else Good (scalar t)
-object_type place (entity.Array t fixed size) values = if is_void t then Broken place rules.void else sized place t (array_size size values)
-object_type place (entity.Function f) values = Broken place rules.declarations
 
 -- ---- constants
 
@@ -87,39 +70,21 @@ no_words = record { all = true; words = [] }
 abbrev pub first_words : CType → Scope → List Node → Judged Words
 first_words t s nodes = through (first_word t s) nodes no_words
 
--- conversions: a value doesn't convert, or is one where an array is initialised
-unfoldable pub single_word : Place → Option ℕ → Words → Judged (List ℕ)
-single_word place size x = if is_some size || not x.all then Broken place rules.conversions else Good x.words
-
--- conversions: a value doesn't convert; extents: there are too many, or they stand in a list for a scalar
-unfoldable pub listed_words : Place → Option ℕ → Words → Judged (List ℕ)
-listed_words place size x =
-    if not x.all then Broken place rules.conversions else if not (has_room size (length x.words)) then Broken place rules.extents else Good x.words
-
-abbrev pub is_char : CType → Bool
-is_char (Scalar kind.SChar) = true
-is_char (Scalar kind.UChar) = true
-is_char _ = false
-
-abbrev pub string_fits : Local → ℕ → Bool
-string_fits l n = is_char l.ctype && has_room l.size n
-
 abbrev pub room_behind : Option ℕ → ℕ → Bool
 room_behind None n = false
 room_behind (Some size) n = nat_lt n size
 
--- extents: a string initialises no array of a char type, or has too many characters; its 0 is left out where there is no room for it
-unfoldable pub string_words : Place → Local → List ℕ → Judged (List ℕ)
-string_words place l bytes =
-    if not (string_fits l (length bytes)) then Broken place rules.extents
-    else Good (map (converted l.ctype) bytes ++ (if room_behind l.size (length bytes) then 0 ∷ [] else []))
+-- the characters of a string, and its 0 where there is room for it
+abbrev pub string_words : Local → List ℕ → Words
+string_words l bytes =
+    record { all = true; words = map (converted l.ctype) bytes ++ (if room_behind l.size (length bytes) then 0 ∷ [] else []) }
 
--- the given words of a global of a type and size
-abbrev pub global_words : Place → Local → Option Initial → Scope → Judged (List ℕ)
-global_words place l None s = Good []
-global_words place l (Some (initial.Value node)) s = and_then (first_word l.ctype s node no_words) (single_word place l.size)
-global_words place l (Some (initial.Values nodes)) s = and_then (first_words l.ctype s nodes) (listed_words place l.size)
-global_words place l (Some (initial.Chars bytes)) s = string_words place l bytes
+-- the words that a global is given
+abbrev pub global_words : Local → Option Initial → Scope → Judged Words
+global_words l None s = Good no_words
+global_words l (Some (initial.Value node)) s = first_word l.ctype s node no_words
+global_words l (Some (initial.Values nodes)) s = first_words l.ctype s nodes
+global_words l (Some (initial.Chars bytes)) s = Good (string_words l bytes)
 
 -- ---- domains
 

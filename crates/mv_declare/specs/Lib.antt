@@ -5,6 +5,7 @@ pub mod Enumerators
 pub mod Globals
 pub mod Initials
 pub mod Locals
+pub mod Objects
 pub mod Parameters
 pub mod Specifiers
 pub mod Turns

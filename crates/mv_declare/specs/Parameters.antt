@@ -13,7 +13,8 @@ use Rattle.mv_declare.specs.declared.declarators.Entity.{Entity}
 use Rattle.mv_declare.specs.declared.declarators.Entity.TheVariants as entity
 use Rattle.mv_declare.specs.Attributes.{attributes, nothing_holds}
 use Rattle.mv_declare.specs.Declarators.{designated, is_taken_by}
-use Rattle.mv_declare.specs.Locals.{scalar, scalar_meaning}
+use Rattle.mv_declare.specs.Locals.{scalar_meaning}
+use Rattle.mv_declare.specs.Objects.{scalar}
 use Rattle.mv_declare.specs.Specifiers.{specifiers}
 use Rattle.mv_declare.specs.Turns.{through}
 

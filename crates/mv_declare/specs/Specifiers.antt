@@ -1,5 +1,5 @@
 -- Declaration specifiers (C11 6.7, 6.7.2).
-use Rattle.std.specs.Prelude.{ℕ, ◌+◌, Bool, true, false, ◌&&◌, ◌||◌, not, nat_eq, nat_lt, is_some, if◌then◌else◌, List, [], ◌∷◌, ◌++◌, map, length, take, drop, Option, Some, None}
+use Rattle.std.specs.Prelude.{ℕ, ◌+◌, Bool, true, false, ◌&&◌, ◌||◌, not, nat_eq, nat_lt, is_some, if◌then◌else◌, List, [], ◌∷◌, ◌++◌, length, take, drop, Option, Some, None}
 use Rattle.mv_num.specs.declared.kind.Kind.{Kind}
 use Rattle.mv_ast.specs.declared.place.Place.{Place}
 use Rattle.mv_ast.specs.declared.program.CType.{CType}
@@ -16,7 +16,7 @@ use Rattle.mv_scope.specs.Spaces.{named}
 use Rattle.mv_scope.specs.Scoped.{tag_of, tag_declared}
 use Rattle.mv_judge.specs.RuleNumbers as rules
 use Rattle.mv_judge.specs.Judged.{Judged, Good, Broken, and_then}
-use Rattle.mv_judge.specs.TypeNames.{undeclared_enum, any_is, type_of}
+use Rattle.mv_judge.specs.TypeNames.{undeclared_enum, type_of}
 use Rattle.mv_declare.specs.declared.attributes.Holder.{Holder}
 use Rattle.mv_declare.specs.declared.attributes.Position.{Position}
 use Rattle.mv_declare.specs.declared.attributes.Position.TheVariants as position
@@ -69,7 +69,7 @@ count_before_list (Some (m ∷ ms)) marks = count_before ((out-Member m).place) 
 count_before_list _ marks = 0
 
 abbrev pub nothing_said : Said
-nothing_said = record { used = 0; attribute = None; number = None; again = false }
+nothing_said = record { used = 0; attribute = None; number = None; again = false; undeclared = false }
 
 -- an enum behind what was said before it, and the attributes before its list
 abbrev pub enum_specifier : Holder → Option Kind → List Mark → EnumSpec → Scope × Said → Behind Said
@@ -79,7 +79,16 @@ enum_specifier h k marks e x =
     let n = count_before_list f.members rest in
     and_then (attributes h k x.0 (take n rest) x.1.attribute) (λ a.
     and_then (enumeration_of x.0 f.tag f.members) (λ d.
-    Good (d.0, record { used = x.1.used + n; attribute = a; number = d.1.number; again = x.1.again || d.1.again })))
+    Good (
+      d.0,
+      record {
+        used = x.1.used + n;
+        attribute = a;
+        number = d.1.number;
+        again = x.1.again || d.1.again;
+        undeclared = x.1.undeclared || undeclared_enum x.0 e;
+      },
+    )))
 
 abbrev pub enum_specifiers : Holder → Option Kind → List Mark → List EnumSpec → Scope → Behind Said
 enum_specifiers h k marks tags s = through (enum_specifier h k marks) tags (s, nothing_said)
@@ -100,11 +109,11 @@ at_file position.File = true
 at_file position.Block = false
 at_file position.Parameter = false
 
--- names: a tag isn't declared; redeclarations: a tag is declared again; declarations: `static` stands where it may not, or the words and enums name no type
-unfoldable pub type_by_rules : Position → Bool → Specs → Scope → Judged CType
-type_by_rules position again specs s =
+-- names: a tag isn't declared before its enum; redeclarations: a tag is declared again; declarations: `static` stands where it may not, or the words and enums name no type
+unfoldable pub type_by_rules : Position → (undeclared again : Bool) → Specs → Scope → Judged CType
+type_by_rules position undeclared again specs s =
     let f = out-Specs specs in
-    if any_is (map (undeclared_enum s) f.tags) then Broken f.place rules.names
+    if undeclared then Broken f.place rules.names
     else if again then Broken f.place rules.redeclarations
     else if f.hidden && not (at_file position) then Broken f.place rules.declarations
     else type_of s specs
@@ -117,5 +126,5 @@ specifiers position names specs s =
     let k = kind_of (type_of s specs) in
     and_then (enum_specifiers h k f.marks f.tags s) (λ x.
     and_then (attributes h k x.0 (drop x.1.used f.marks) x.1.attribute) (λ a.
-    and_then (type_by_rules position x.1.again specs x.0) (λ t.
+    and_then (type_by_rules position x.1.undeclared x.1.again specs x.0) (λ t.
     Good (x.0, record { ctype = t; fixed = f.fixed; enumeration = x.1.number; attribute = a }))))

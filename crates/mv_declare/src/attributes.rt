@@ -2,7 +2,7 @@
 
 ghost use Rattle.std.specs.Prelude.{◌≡◌, codes, IfOk};
 ghost use Rattle.mv_judge.specs.Judged.{IsJudged};
-ghost use Rattle.mv_declare.specs.Attributes.{fits, with_value, domain, given_domain, is_main, shape_holder, holder_of, holder_of_all, both_hold, nothing_holds, holds, held, attributes};
+ghost use Rattle.mv_declare.specs.Attributes.{with_value, domain, given_domain, is_main, shape_holder, holder_of, holder_of_all, both_hold, nothing_holds, holds, held, switch_kind, attributes};
 
 use crate::constants::is_value_of;
 use crate::domain::Domain;
@@ -38,15 +38,7 @@ pub struct Holder {
     pub with_values: bool,
 }
 
-fn fits(kind: Option<Kind>, constant: Constant) -> bool
-    ensures { result ≡ fits kind constant }
-{
-    match kind {
-        None => true,
-        Some(kind) => is_value_of(kind, constant),
-    }
-}
-
+// A domain with a value more. Nothing is asked of it where there is no switch.
 #[tactic(auto, unfolding(crate::specs::Attributes::with_value))]
 fn with_value(
     place: Place,
@@ -56,8 +48,11 @@ fn with_value(
 ) -> Result<ValueSet, RuleError>
     ensures { IsJudged (with_value place kind values constant) result }
 {
-    if !fits(kind, constant) || !values.add(constant.value)? {
-        return Err(RuleError::Rule(place, rules::DOMAINS));
+    let is_new = values.add(constant.value)?;
+    if let Some(kind) = kind {
+        if !is_value_of(kind, constant) || !is_new {
+            return Err(RuleError::Rule(place, rules::DOMAINS));
+        }
     }
     Ok(values)
 }
@@ -199,6 +194,13 @@ fn held(
     Ok(Some(attribute))
 }
 
+// The type of the switches that an attribute with values makes.
+fn switch_kind(holder: Holder, kind: Option<Kind>) -> Option<Kind>
+    ensures { result ≡ switch_kind holder kind }
+{
+    if holder.with_values { kind } else { None }
+}
+
 /// The attribute that some attributes are, behind one that may hold already.
 pub fn attributes(
     alloc: Global,
@@ -210,6 +212,7 @@ pub fn attributes(
 ) -> Result<Option<Attribute>, RuleError>
     ensures { IsJudged (attributes holder kind scope.now marks.now before) result }
 {
+    let kind = switch_kind(holder, kind);
     let mut now = before;
     for mark in marks {
         let attribute = given_domain(alloc, kind, scope, &mark.values)?;

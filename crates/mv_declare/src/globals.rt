@@ -6,25 +6,21 @@ ghost use Rattle.mv_ast.specs.Operators.{converted};
 ghost use Rattle.mv_ast.specs.Plans.{is_among};
 ghost use Rattle.mv_judge.specs.Judged.{IsJudged};
 ghost use Rattle.mv_declare.specs.Turns.{IsBehind};
-ghost use Rattle.mv_declare.specs.Globals.{file_declarator, object_type, constant_word, with_word, first_word, first_words, single_word, listed_words, is_char, room_behind, string_words, global_words, distinct, values_of_enumeration, default_domain, domain_of};
+ghost use Rattle.mv_declare.specs.Globals.{file_declarator, constant_word, with_word, no_words, first_word, first_words, room_behind, string_words, global_words, distinct, values_of_enumeration, default_domain, domain_of};
 
 use crate::attributes::{Attribute, Position, attributes, holder_of, shared};
 use crate::declarators::{Entity, designated};
 use crate::domain::Domain;
-use crate::initials::{array_size, has_room};
 use crate::specifiers::{Specified, scalar_kind};
 use crate::value_set::ValueSet;
 use mv_ast::operators::converted;
-use mv_ast::place::Place;
 use mv_ast::program::{CType, Expr, Form, Local};
 use mv_ast::unit::{Declarator, Initial, Node};
 use mv_judge::error::RuleError;
 use mv_judge::judge::value;
 use mv_judge::rules;
-use mv_num::kind::Kind;
 use mv_num::list::List;
 use mv_scope::constant::{constant_value, converts};
-use mv_scope::convert::is_void;
 use mv_scope::scope::Scope;
 use std::alloc::{AllocError, Global};
 
@@ -53,38 +49,6 @@ pub fn file_declarator(
     Ok(Designated { entity, attribute })
 }
 
-/// The type and the size of an object. The rule of `void` is broken by one of that type, the rule of extents by an array without a size that is at least 1.
-#[tactic(auto, unfolding(crate::specs::Globals::object_type))]
-pub fn object_type(
-    place: Place,
-    entity: Entity,
-    initial: &Option<Initial>,
-) -> Result<Local, RuleError>
-    ensures { IsJudged (object_type place entity initial.now) result }
-{
-    match entity {
-        Entity::Function(_) => Err(RuleError::Rule(place, rules::DECLARATIONS)),
-        Entity::Scalar(ctype, _) => {
-            if is_void(ctype) {
-                return Err(RuleError::Rule(place, rules::VOID));
-            }
-            Ok(Local { ctype, size: None })
-        }
-        Entity::Array(ctype, _, size) => {
-            if is_void(ctype) {
-                return Err(RuleError::Rule(place, rules::VOID));
-            }
-            match array_size(size, initial)? {
-                None => Err(RuleError::Rule(place, rules::EXTENTS)),
-                Some(size) => Ok(Local {
-                    ctype,
-                    size: Some(size),
-                }),
-            }
-        }
-    }
-}
-
 /// The first words of an object, and whether the values that they are of all convert to its type.
 #[derive(Drop)]
 pub struct Words {
@@ -106,6 +70,15 @@ fn constant_word(e: &Expr) -> Result<Option<u32>, AllocError>
             }
         }
         _ => Ok(constant_value(e)),
+    }
+}
+
+fn no_words(alloc: Global) -> Words
+    ensures { result ≡ no_words }
+{
+    Words {
+        all: true,
+        words: List::new(alloc),
     }
 }
 
@@ -140,46 +113,11 @@ fn first_words(
 ) -> Result<Words, RuleError>
     ensures { IsJudged (first_words ctype scope.now nodes.now) result }
 {
-    let mut done = Words {
-        all: true,
-        words: List::new(alloc),
-    };
+    let mut done = no_words(alloc);
     for node in nodes {
         done = first_word(alloc, ctype, scope, node, done)?;
     }
     Ok(done)
-}
-
-#[tactic(auto, unfolding(crate::specs::Globals::single_word))]
-fn single_word(place: Place, size: Option<u32>, words: Words) -> Result<List<u32>, RuleError>
-    ensures { IsJudged (single_word place size words) result }
-{
-    let Words { all, words } = words;
-    if size.is_some() || !all {
-        Err(RuleError::Rule(place, rules::CONVERSIONS))
-    } else {
-        Ok(words)
-    }
-}
-
-#[tactic(auto, unfolding(crate::specs::Globals::listed_words))]
-fn listed_words(place: Place, size: Option<u32>, words: Words) -> Result<List<u32>, RuleError>
-    ensures { IsJudged (listed_words place size words) result }
-{
-    let Words { all, words } = words;
-    if !all {
-        Err(RuleError::Rule(place, rules::CONVERSIONS))
-    } else if !has_room(size, words.len()) {
-        Err(RuleError::Rule(place, rules::EXTENTS))
-    } else {
-        Ok(words)
-    }
-}
-
-fn is_char(ctype: CType) -> bool
-    ensures { result ≡ is_char ctype }
-{
-    matches!(ctype, CType::Scalar(Kind::SChar | Kind::UChar))
 }
 
 fn room_behind(size: Option<u32>, count: usize) -> bool
@@ -201,50 +139,34 @@ fn converted_bytes(alloc: Global, ctype: CType, bytes: &[u8]) -> Result<List<u32
     Ok(words)
 }
 
-#[tactic(auto, unfolding(crate::specs::Globals::string_words))]
-fn string_words(
-    alloc: Global,
-    place: Place,
-    local: Local,
-    bytes: &[u8],
-) -> Result<List<u32>, RuleError>
-    ensures { IsJudged (string_words place local bytes.now) result }
+// The characters of a string, and its 0 where there is room for it.
+fn string_words(alloc: Global, local: Local, bytes: &[u8]) -> Result<Words, AllocError>
+    ensures { IfOk result (λ words. words ≡ string_words local bytes.now) }
 {
-    if !is_char(local.ctype) || !has_room(local.size, bytes.len()) {
-        return Err(RuleError::Rule(place, rules::EXTENTS));
-    }
     let mut words = converted_bytes(alloc, local.ctype, bytes)?;
     if room_behind(local.size, bytes.len()) {
         words.push(0)?;
     }
-    Ok(words)
+    Ok(Words { all: true, words })
 }
 
 /// The words that a global of a type and size is given.
 pub fn global_words(
     alloc: Global,
-    place: Place,
     local: Local,
     initial: &Option<Initial>,
     scope: &Scope,
-) -> Result<List<u32>, RuleError>
-    ensures { IsJudged (global_words place local initial.now scope.now) result }
+) -> Result<Words, RuleError>
+    ensures { IsJudged (global_words local initial.now scope.now) result }
 {
     match initial {
-        None => Ok(List::new(alloc)),
-        Some(Initial::Value(node)) => {
-            let none = Words {
-                all: true,
-                words: List::new(alloc),
-            };
-            let words = first_word(alloc, local.ctype, scope, node, none)?;
-            single_word(place, local.size, words)
+        None => Ok(no_words(alloc)),
+        Some(Initial::Value(node)) => first_word(alloc, local.ctype, scope, node, no_words(alloc)),
+        Some(Initial::Values(nodes)) => first_words(alloc, local.ctype, scope, nodes.as_slice()),
+        Some(Initial::Chars(bytes)) => {
+            let words = string_words(alloc, local, bytes.as_slice())?;
+            Ok(words)
         }
-        Some(Initial::Values(nodes)) => {
-            let words = first_words(alloc, local.ctype, scope, nodes.as_slice())?;
-            listed_words(place, local.size, words)
-        }
-        Some(Initial::Chars(bytes)) => string_words(alloc, place, local, bytes.as_slice()),
     }
 }
 

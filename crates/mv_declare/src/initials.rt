@@ -1,18 +1,16 @@
 // Initial values (C11 6.7.9).
 
 ghost use Rattle.std.specs.Prelude.{◌≡◌, IfOk};
-ghost use Rattle.mv_judge.specs.Judged.{IsJudged};
-ghost use Rattle.mv_declare.specs.Initials.{unless_zero, size_of_values, array_size, converted_value, converted_values, has_room, single_value, listed_values, initial_values};
+ghost use Rattle.mv_judge.specs.Judged.{IsJudged, Good, and_then};
+ghost use Rattle.mv_declare.specs.Initials.{unless_zero, size_of_values, array_size, none_converted, converted_value, converted_values, initial_values, plain_values};
 
 use crate::constants::is_positive;
 use crate::steps::with_last;
-use mv_ast::place::Place;
-use mv_ast::program::{CType, Expr, Local};
+use mv_ast::program::{CType, Expr};
 use mv_ast::unit::{Initial, Node};
 use mv_judge::constant::Constant;
 use mv_judge::error::RuleError;
 use mv_judge::judge::value;
-use mv_judge::rules;
 use mv_num::list::List;
 use mv_num::results::both;
 use mv_scope::constant::converts;
@@ -76,6 +74,15 @@ pub fn array_size(
     }
 }
 
+fn none_converted(alloc: Global) -> Converted
+    ensures { result ≡ none_converted }
+{
+    Converted {
+        all: true,
+        values: List::new(alloc),
+    }
+}
+
 fn converted_value(
     alloc: Global,
     ctype: CType,
@@ -101,87 +108,43 @@ fn converted_values(
 ) -> Result<Converted, RuleError>
     ensures { IsJudged (converted_values ctype scope.now nodes.now) result }
 {
-    let mut done = Converted {
-        all: true,
-        values: List::new(alloc),
-    };
+    let mut done = none_converted(alloc);
     for node in nodes {
         done = converted_value(alloc, ctype, scope, node, done)?;
     }
     Ok(done)
 }
 
-/// Whether an array has room for some values; a scalar has none for a list.
-pub fn has_room(size: Option<u32>, count: usize) -> bool
-    ensures { result ≡ has_room size count }
-{
-    match size {
-        None => false,
-        Some(size) => count <= size as usize,
-    }
-}
-
-#[tactic(auto, unfolding(crate::specs::Initials::single_value))]
-fn single_value(
-    place: Place,
-    size: Option<u32>,
-    converted: Converted,
-) -> Result<List<Expr>, RuleError>
-    ensures { IsJudged (single_value place size converted) result }
-{
-    let Converted { all, values } = converted;
-    if size.is_some() || !all {
-        drop(values);
-        Err(RuleError::Rule(place, rules::CONVERSIONS))
-    } else {
-        Ok(values)
-    }
-}
-
-#[tactic(auto, unfolding(crate::specs::Initials::listed_values))]
-fn listed_values(
-    place: Place,
-    size: Option<u32>,
-    converted: Converted,
-) -> Result<List<Expr>, RuleError>
-    ensures { IsJudged (listed_values place size converted) result }
-{
-    let Converted { all, values } = converted;
-    if !all {
-        drop(values);
-        Err(RuleError::Rule(place, rules::CONVERSIONS))
-    } else if !has_room(size, values.len()) {
-        drop(values);
-        Err(RuleError::Rule(place, rules::EXTENTS))
-    } else {
-        Ok(values)
-    }
-}
-
-/// The values that a local is given, converted to its type.
+/// The values that a declarator gives what it declares, converted to a type.
 pub fn initial_values(
     alloc: Global,
-    place: Place,
-    local: Local,
+    ctype: CType,
     initial: &Option<Initial>,
     scope: &Scope,
-) -> Result<List<Expr>, RuleError>
-    ensures { IsJudged (initial_values place local initial.now scope.now) result }
+) -> Result<Converted, RuleError>
+    ensures { IsJudged (initial_values ctype initial.now scope.now) result }
 {
     match initial {
-        None => Ok(List::new(alloc)),
-        Some(Initial::Value(node)) => {
-            let none = Converted {
-                all: true,
-                values: List::new(alloc),
-            };
-            let converted = converted_value(alloc, local.ctype, scope, node, none)?;
-            single_value(place, local.size, converted)
-        }
-        Some(Initial::Values(nodes)) => {
-            let converted = converted_values(alloc, local.ctype, scope, nodes.as_slice())?;
-            listed_values(place, local.size, converted)
-        }
-        Some(Initial::Chars(_)) => Err(RuleError::Rule(place, rules::EXTENTS)),
+        Some(Initial::Value(node)) => converted_value(
+            alloc,
+            ctype,
+            scope,
+            node,
+            none_converted(alloc),
+        ),
+        Some(Initial::Values(nodes)) => converted_values(alloc, ctype, scope, nodes.as_slice()),
+        Some(Initial::Chars(_)) | None => Ok(none_converted(alloc)),
     }
+}
+
+/// Judges the values that a function is given. Nothing is made of them.
+pub fn check_plain_values(
+    alloc: Global,
+    initial: &Option<Initial>,
+    scope: &Scope,
+) -> Result<(), RuleError>
+    ensures { IsJudged (and_then (plain_values initial.now scope.now) (λ x. Good tt)) result }
+{
+    drop(initial_values(alloc, CType::Void, initial, scope)?);
+    Ok(())
 }

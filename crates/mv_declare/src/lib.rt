@@ -3,8 +3,8 @@
 //! - `specifiers`: what type specifiers name, with their enums declared, and the attribute among them; `designated`: what
 //!   a declarator designates, with its signature numbered; `declare_locals`: a declaration in a block, as the statements
 //!   that clear its locals and give them their values; `declare_parameters`: the parameters of a defined function;
-//!   `file_declarator`, `object_type`, `global_words`, `domain_of`: a declarator at file scope, its type and size, its
-//!   first words, and the domain of a switch.
+//!   `file_declarator`, `global_words`, `domain_of`: a declarator at file scope, its first words, and the domain of a
+//!   switch; `Breaches` and `least`: the rules that a declared object breaks, and the least of them.
 //! - `with_last`: a list with an item more.
 //! - Each answer is the judgement of `specs/`, and the scope that is left is the one after it: the declaration with its
 //!   conversions written out, or the first place that breaks a rule with the least rule there
@@ -24,6 +24,7 @@ pub mod enumerators;
 pub mod globals;
 pub mod initials;
 pub mod locals;
+pub mod objects;
 pub mod parameters;
 pub mod specifiers;
 pub mod steps;

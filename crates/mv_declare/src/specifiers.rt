@@ -1,9 +1,9 @@
 // Declaration specifiers (C11 6.7, 6.7.2).
 
-ghost use Rattle.std.specs.Prelude.{◌≡◌, ◌≤◌, length, map, IfOk, MatchResult};
+ghost use Rattle.std.specs.Prelude.{◌≡◌, ◌≤◌, length, IfOk, MatchResult};
 ghost use Rattle.mv_judge.specs.Judged.{IsJudged, Good};
 ghost use Rattle.mv_judge.specs.declared.error.RuleError.TheVariants.{Memory};
-ghost use Rattle.mv_judge.specs.TypeNames.{undeclared_enum, any_is, type_of};
+ghost use Rattle.mv_judge.specs.TypeNames.{undeclared_enum, type_of};
 ghost use Rattle.mv_declare.specs.Turns.{IsBehind};
 ghost use Rattle.mv_declare.specs.Specifiers.{named_enumeration, tagged, enumeration_of, is_before, count_before, count_before_list, enum_specifier, enum_specifiers, scalar_kind, kind_of, at_file, type_by_rules, specifiers};
 
@@ -30,13 +30,14 @@ pub struct Enumeration {
 }
 
 /// What some enums and the attributes before them say: how many attributes stood before them, the attribute that holds, the number of
-/// the last enumeration, and whether a tag is declared again.
+/// the last enumeration, whether a tag is declared again, and whether an enum names one that isn't declared before it.
 #[derive(Drop)]
 pub struct Said {
     pub used: usize,
     pub attribute: Option<Attribute>,
     pub number: Option<u32>,
     pub again: bool,
+    pub undeclared: bool,
 }
 
 /// What specifiers say of the declarators behind them: the type, whether `const` stands among them, the number of the enumeration that
@@ -173,7 +174,9 @@ fn enum_specifier(
         attribute,
         number: _,
         again,
+        undeclared,
     } = said;
+    let undeclared = undeclared || is_undeclared(scope, tag);
     let rest = &marks[used..];
     let count = count_before_list(&tag.members, rest);
     let attribute = attributes(alloc, holder, kind, scope, &rest[..count], attribute)?;
@@ -183,6 +186,7 @@ fn enum_specifier(
         attribute,
         number: enumeration.number,
         again: again || enumeration.again,
+        undeclared,
     })
 }
 
@@ -202,6 +206,7 @@ fn enum_specifiers(
         attribute: None,
         number: None,
         again: false,
+        undeclared: false,
     };
     for tag in tags {
         said = enum_specifier(alloc, scope, holder, kind, marks, tag, said)?;
@@ -238,17 +243,6 @@ fn is_undeclared(scope: &Scope, tag: &EnumSpec) -> bool
     }
 }
 
-fn any_undeclared(scope: &Scope, tags: &[EnumSpec]) -> bool
-    ensures { result ≡ any_is (map (undeclared_enum scope.now) tags.now) }
-{
-    for tag in tags {
-        if is_undeclared(scope, tag) {
-            return true;
-        }
-    }
-    false
-}
-
 fn at_file(position: Position) -> bool
     ensures { result ≡ at_file position }
 {
@@ -258,13 +252,14 @@ fn at_file(position: Position) -> bool
 #[tactic(auto, unfolding(crate::specs::Specifiers::type_by_rules))]
 fn type_by_rules(
     position: Position,
+    undeclared: bool,
     again: bool,
     specs: &Specs,
     scope: &Scope,
 ) -> Result<CType, RuleError>
-    ensures { IsJudged (type_by_rules position again specs.now scope.now) result }
+    ensures { IsJudged (type_by_rules position undeclared again specs.now scope.now) result }
 {
-    if any_undeclared(scope, specs.tags.as_slice()) {
+    if undeclared {
         return Err(RuleError::Rule(specs.place, rules::NAMES));
     }
     if again {
@@ -295,9 +290,10 @@ pub fn specifiers(
         attribute,
         number,
         again,
+        undeclared,
     } = said;
     let attribute = attributes(alloc, holder, kind, scope, &marks[used..], attribute)?;
-    let ctype = type_by_rules(position, again, specs, scope)?;
+    let ctype = type_by_rules(position, undeclared, again, specs, scope)?;
     Ok(Specified {
         ctype,
         fixed: specs.fixed,

@@ -22,12 +22,13 @@ use Rattle.mv_scope.specs.Spaces.{named}
 use Rattle.mv_judge.specs.Judged.{Judged, Good, and_then}
 use Rattle.mv_outline.specs.Names.{place_of}
 use Rattle.mv_declare.specs.Declarators.{signature_of, function_type, parameter}
+use Rattle.mv_declare.specs.Initials.{plain_values}
 use Rattle.mv_declare.specs.Parameters.{parameters_judgement}
 use Rattle.mv_statement_rules.specs.Statements.{body_judgement}
 use Rattle.mv_typing.specs.Soundness.{IsListed}
 use Rattle.mv_typing.proofs.Kept.{went_on, same_good}
 use Rattle.mv_typed_bodies.specs.Bodies.{Keeps, Grows, BodyGrows, AreParameters, ParametersFit}
-use Rattle.mv_typed_bodies.proofs.Judging.{IfGood, by_good, if_then}
+use Rattle.mv_typed_bodies.proofs.Judging.{IfGood, by_good, if_any, if_then}
 use Rattle.mv_typed_bodies.proofs.Names.{left_is, names_kept}
 use Rattle.mv_typed_bodies.proofs.Places.{keeps_same, keeps_joined, keeps_take}
 use Rattle.mv_typed_bodies.proofs.Growing.{grows_joined}
@@ -354,6 +355,7 @@ module _ (fit : ParametersFit) (grow : BodyGrows) (k : Foreknown) (d : Declarato
       IfGood (function_judgement k d name result signature body c) (To k c)
   unfolding function_judgement
   function_sound body foreknown =
+      if_then (λ x. Unit {0}) (To k c) (plain_values d.initial there.scope) _ (if_any (plain_values d.initial there.scope)) (λ x u.
       unless_good (To k c) d.place (rule_of d signature body c (before_of k name c.scope)) (defined k name result (params_of d) body place there) (λ q.
       let r = no_rule (may_declare c.scope.signatures signature (is_some body) before builtin) (is_some body && is_defined_at c.functions place) (is_some d.initial) q in
-      body_sound body foreknown r.0 r.1)
+      body_sound body foreknown r.0 r.1))

@@ -1,69 +1,25 @@
 -- Contents stay sound where an object is declared.
-use Rattle.std.proofs.Common.{◌≡◌, ℕ, ◌⊎◌, inl, inr, refl, sym, ◌∙◌, ap, subst, Bool, true, false, is_some, is_none, if◌then◌else◌, List, [], ◌∷◌, ◌++◌, length, Option, Some, None, slice_get, slice_set}
+use Rattle.std.proofs.Common.{◌≡◌, ℕ, ◌⊎◌, inl, inr, refl, sym, ◌∙◌, ap, subst, Bool, is_some, List, [], ◌∷◌, ◌++◌, length, Option, Some, None, slice_get, slice_set}
 use Rattle.std.proofs.lemmas.Option.{same_Some}
-use Rattle.mv_ast.specs.declared.place.Place.{Place}
-use Rattle.mv_ast.specs.declared.program.CType.{CType}
 use Rattle.mv_ast.specs.declared.program.Local.{Local}
-use Rattle.mv_ast.specs.declared.program.Signature.{Signature}
 use Rattle.mv_ast.specs.declared.unit.Declarator.{Declarator}
-use Rattle.mv_ast.specs.declared.unit.Initial.{Initial}
 use Rattle.mv_scope.specs.declared.meaning.Meaning.{Meaning}
 use Rattle.mv_scope.specs.declared.meaning.Storage.TheVariants as storage
 use Rattle.mv_scope.specs.declared.scope.Scope.{Scope}
-use Rattle.mv_scope.specs.Conversions.{is_void}
 use Rattle.mv_scope.specs.Scoped.{declared}
 use Rattle.mv_scope.specs.Spaces.{named}
-use Rattle.mv_judge.specs.Judged.{Judged, Good, Broken}
-use Rattle.mv_declare.specs.declared.declarators.Entity.{Entity}
-use Rattle.mv_declare.specs.declared.declarators.Entity.TheVariants as entity
-use Rattle.mv_declare.specs.Globals.{object_type, sized, global_words}
-use Rattle.mv_declare.specs.Initials.{array_size}
-use Rattle.mv_declare.specs.Locals.{scalar}
 use Rattle.mv_typing.specs.Soundness.{IsListed}
-use Rattle.mv_typed_bodies.proofs.Judging.{IfGood, if_any, if_then, if_kept}
+use Rattle.mv_typed_bodies.proofs.Judging.{IfGood, if_any, if_then}
 use Rattle.mv_typed_bodies.proofs.Places.{keeps_same, keeps_more, last_there}
-use Rattle.mv_typed_bodies.proofs.Designated.{IsListedEntity}
 use Rattle.mv_typed_bodies.proofs.Names.{names_kept}
 use Rattle.mv_types.specs.declared.contents.Contents.{Contents}
 use Rattle.mv_types.specs.declared.contents.Foreknown.{Foreknown}
 use Rattle.mv_types.specs.declared.contents.Object.{Object}
-use Rattle.mv_types.specs.Objects.{number_of, may_declare, broken_rule, unless_broken, type_by_rules, object_meaning, object_scope, new_object, again, replaced, objects_again, objects_behind, initialised, object_judgement}
+use Rattle.mv_types.specs.Objects.{number_of, object_words, object_meaning, object_scope, new_object, again, replaced, objects_again, objects_behind, object_judgement}
 use Rattle.mv_file_scope.specs.Declared.{IsStill, IsGlobal, IsDeclared}
 use Rattle.mv_file_scope.proofs.Lists.{set_there, set_before}
 use Rattle.mv_file_scope.proofs.Named.{names_behind}
 use Rattle.mv_file_scope.proofs.Extending.{To, IsLike, like_sound, still_same}
-
--- ---- the type of an object is listed
-
-abbrev Typed : List Signature → Local → Type 0
-Typed signatures l = IsListed signatures l.ctype
-
-sized_listed : (signatures : List Signature) (place : Place) (t : CType) (size : Option ℕ) → IsListed signatures t → IfGood (sized place t size) (Typed signatures)
-sized_listed signatures place t None h = tt
-sized_listed signatures place t (Some n) h = h
-
-type_listed : (signatures : List Signature) (place : Place) (e : Entity) (given : Option Initial) → IsListedEntity signatures e →
-    IfGood (object_type place e given) (Typed signatures)
-unfolding object_type
-type_listed signatures place (entity.Scalar t fixed) given h = if_kept (Typed signatures) (is_void t) place 8 (Good (scalar t)) (λ q. h)
-type_listed signatures place (entity.Array t fixed size) given h =
-    if_kept (Typed signatures) (is_void t) place 8 (sized place t (array_size size given)) (λ q. sized_listed signatures place t (array_size size given) h)
-type_listed signatures place (entity.Function f) given h = tt
-
-kept_listed : (P : Local → Type 0) (place : Place) (rule : Option ℕ) (l : Local) → P l → IfGood (unless_broken place rule l) P
-kept_listed P place None l h = h
-kept_listed P place (Some rule) l h = tt
-
-rules_listed : (P : Local → Type 0) (place : Place) (before : Option Meaning) (objects : List Object) (j : Judged Local) (given block : Bool) (domain : Option (List ℕ)) →
-    IfGood j P → IfGood (type_by_rules place before objects j given block domain) P
-unfolding type_by_rules
-rules_listed P place before objects (Good l) given block domain h =
-    kept_listed P place (broken_rule (may_declare before objects l given domain) block) l h
-rules_listed P place before objects (Broken p rule) given block domain h = either (is_none before)
-  where
-    either : (b : Bool) → IfGood (if b then Broken p rule else Broken place 2) P
-    either true = tt
-    either false = tt
 
 -- ---- a new object
 
@@ -156,21 +112,13 @@ unfolding object_scope objects_behind
 behind_like k c name None l words given domain listed = new_like k c name l words given domain listed
 behind_like k c name (Some m) l words given domain listed = again_like k c (number_of m) words given domain
 
-initialised_sound : (k : Foreknown) (d : Declarator) (name : List ℕ) (before : Option Meaning) (domain : Option (List ℕ)) (l : Local) (c : Contents) →
-    IsListed c.scope.signatures l.ctype → IfGood (initialised k d name before domain l c) (To k c)
-initialised_sound k d name before domain l c listed =
-    let s : Scope = object_scope k name before l (length c.objects) c.scope in
-    if_then (λ words. Unit {0}) (To k c) (global_words d.place l d.initial s) _ (if_any (global_words d.place l d.initial s)) (λ words u.
-    like_sound k c (record c { scope = s; objects = objects_behind c.objects name before l words (is_some d.initial) domain })
-    (behind_like k c name before l words (is_some d.initial) domain listed))
-
-pub object_sound : (k : Foreknown) (d : Declarator) (name : List ℕ) (e : Entity) (domain : Option (List ℕ)) (block : Bool) (c : Contents) →
-    IsListedEntity c.scope.signatures e → IfGood (object_judgement k d name e domain block c) (To k c)
+pub object_sound : (k : Foreknown) (d : Declarator) (name : List ℕ) (l : Local) (domain : Option (List ℕ)) (block : Bool) (c : Contents) →
+    IsListed c.scope.signatures l.ctype → IfGood (object_judgement k d name l domain block c) (To k c)
 unfolding object_judgement
-object_sound k d name e domain block c listed =
+object_sound k d name l domain block c listed =
     let before : Option Meaning = named name c.scope.names.here in
-    let j : Judged Local = type_by_rules d.place before c.objects (object_type d.place e d.initial) (is_some d.initial) block domain in
-    if_then (Typed c.scope.signatures) (To k c) j _
-    (rules_listed (Typed c.scope.signatures) d.place before c.objects (object_type d.place e d.initial) (is_some d.initial) block domain
-    (type_listed c.scope.signatures d.place e d.initial listed))
-    (λ l h. initialised_sound k d name before domain l c h)
+    let s : Scope = object_scope k name before l (length c.objects) c.scope in
+    let words = object_words d before c.objects l domain block s in
+    if_then (λ ws. Unit {0}) (To k c) words _ (if_any words) (λ ws u.
+    like_sound k c (record c { scope = s; objects = objects_behind c.objects name before l ws (is_some d.initial) domain })
+    (behind_like k c name before l ws (is_some d.initial) domain listed))

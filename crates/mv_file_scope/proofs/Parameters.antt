@@ -17,7 +17,7 @@ use Rattle.mv_declare.specs.declared.declarators.Entity.TheVariants as entity
 use Rattle.mv_declare.specs.declared.specifiers.Specified.{Specified}
 use Rattle.mv_declare.specs.Attributes.{attributes, nothing_holds}
 use Rattle.mv_declare.specs.Declarators.{Shapes, Declarators, Params, shape_step, declarator_step, param_step, is_taken_by, designated, parameter, parameter_declarator}
-use Rattle.mv_declare.specs.Locals.{scalar}
+use Rattle.mv_declare.specs.Objects.{scalar}
 use Rattle.mv_declare.specs.Parameters.{named_parameter, defined_parameter, new_defined, parameter_judgement, parameters_judgement}
 use Rattle.mv_declare.specs.Specifiers.{specifiers}
 use Rattle.mv_declare.specs.Turns.{in_turn, next_part, through}

@@ -28,11 +28,13 @@ use Rattle.mv_declare.specs.declared.specifiers.Specified.{Specified}
 use Rattle.mv_declare.specs.Attributes.{attributes, holder_of}
 use Rattle.mv_declare.specs.Declarators.{Shapes, Declarators, Params, function_type, size_of, shape_step, declarator_step, param_step, designated, parameter, parameter_declarator}
 use Rattle.mv_declare.specs.Globals.{file_declarator}
+use Rattle.mv_declare.specs.Initials.{array_size}
+use Rattle.mv_declare.specs.Objects.{scalar, sized}
 use Rattle.mv_declare.specs.Parameters.{parameters_judgement}
 use Rattle.mv_declare.specs.Specifiers.{scalar_kind, specifiers}
 use Rattle.mv_declare.specs.Turns.{through}
 use Rattle.mv_typed_bodies.specs.Bodies.{BodyGrows, ParametersFit}
-use Rattle.mv_typed_bodies.proofs.Judging.{IfGood, of_good, by_good, if_then, if_kept, if_more, if_through}
+use Rattle.mv_typed_bodies.proofs.Judging.{IfGood, of_good, by_good, if_any, if_then, if_kept, if_more, if_through}
 use Rattle.mv_typed_bodies.proofs.Places.{keeps_same}
 use Rattle.mv_typed_bodies.proofs.Specified.{Specifies}
 use Rattle.mv_typed_bodies.proofs.Growing.{declares_same, declares_joined}
@@ -42,7 +44,7 @@ use Rattle.mv_types.specs.declared.contents.Foreknown.{Foreknown}
 use Rattle.mv_types.specs.Contents.{in_scope, nothing_declared}
 use Rattle.mv_types.specs.Functions.{params_of, params_of_form, body_entered, body_left, definition_parameters}
 use Rattle.mv_types.specs.Objects.{domain_by}
-use Rattle.mv_types.specs.Units.{by_entity, named_declarator, base_of, declarator_judgement, holders, declares_nothing, names_judgement, item_judgement}
+use Rattle.mv_types.specs.Units.{by_entity, nameless_values, named_declarator, base_of, declarator_judgement, holders, declares_nothing, names_judgement, item_judgement}
 use Rattle.mv_file_scope.specs.Declared.{IsSound}
 use Rattle.mv_file_scope.specs.Defined.{WereDefined}
 use Rattle.mv_file_scope.proofs.Lists.{nothing_there}
@@ -140,9 +142,9 @@ module _ (fit : ParametersFit) (grow : BodyGrows) (k : Foreknown) where
       designated d.shape b.ctype fixed s ≡ Good (c.scope, e) → IsListedEntity c.scope.signatures e → d.name ≡ Some name → Known body d →
       IfGood (by_entity k b body d name e a c) (To k c)
   entity_sound b fixed body d name (entity.Scalar t f) a s c q listed named known =
-      object_sound k d name (entity.Scalar t f) (domain_by c.scope b.enumeration a) (is_some body) c listed
+      object_sound k d name (scalar t) (domain_by c.scope b.enumeration a) (is_some body) c listed
   entity_sound b fixed body d name (entity.Array t f size) a s c q listed named known =
-      object_sound k d name (entity.Array t f size) (domain_by c.scope b.enumeration a) (is_some body) c listed
+      object_sound k d name (sized t (array_size size d.initial)) (domain_by c.scope b.enumeration a) (is_some body) c listed
   entity_sound b fixed body d name (entity.Function n) a s c q listed named known =
       let says = shape_says b.ctype fixed s c.scope n d.shape q in
       function_sound fit grow k d name b.ctype n c
@@ -153,7 +155,8 @@ module _ (fit : ParametersFit) (grow : BodyGrows) (k : Foreknown) where
       designated d.shape b.ctype fixed s ≡ Good (c.scope, e.entity) → IsListedEntity c.scope.signatures e.entity → d.name ≡ name → Known body d →
       IfGood (named_declarator k b body d name e c) (To k c)
   unfolding named_declarator
-  named_sound b fixed body d None e s c q listed named known = tt
+  named_sound b fixed body d None e s c q listed named known =
+      if_then (λ u. Unit {0}) (To k c) (nameless_values e.entity d.initial c.scope) _ (if_any (nameless_values e.entity d.initial c.scope)) (λ u v. tt)
   named_sound b fixed body d (Some name) e s c q listed named known = entity_sound b fixed body d name e.entity e.attribute s c q listed named known
 
   pub declarator_sound : (b : Specified) → IsPlain b.ctype → (body : Option Line) (d : Declarator) → Known body d → (c : Contents) →

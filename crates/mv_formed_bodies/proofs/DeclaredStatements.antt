@@ -231,7 +231,7 @@ module _ (p : Program) (f : Function) where
     array_local = λ n t size fixed h. tt;
     value = λ s k n. value_is s n;
     effect = λ s k n. effect_is s n;
-    initials = λ s k place l given. initials_have s (OfValue s) (value_is s) (λ t e. OfValue s e) (λ t e h q D c. converted_declared D t e (h D c)) place l given;
+    initials = λ s k d taken l. initials_have s (OfValue s) (value_is s) (λ t e. OfValue s e) (λ t e h q D c. converted_declared D t e (h D c)) d taken l;
     no_lines = λ b c s t e D h. (refl, enumerated_covers s t D e h);
     more_lines = λ b c s t u ss ts h k D e.
         let x = h D e in

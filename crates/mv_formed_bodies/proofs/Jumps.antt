@@ -12,7 +12,7 @@ use Rattle.mv_ast.specs.declared.program.Stmt.TheOpen as open_stmt
 use Rattle.mv_scope.specs.Conversions.{promoted, converted_to}
 use Rattle.mv_statement_rules.specs.SwitchBodies.{arms_of}
 use Rattle.mv_judge.specs.Judgements.{value_judgement, effect_judgement}
-use Rattle.mv_declare.specs.Initials.{initial_values}
+use Rattle.mv_declare.specs.Locals.{local_values}
 use Rattle.mv_lowered_programs.specs.Jumps.{Jumping, all_jump, jumps_layer, arm_jumps_layer, stmt_jumps, arm_jumps}
 use Rattle.mv_ast.specs.declared.unit.Line.{Line}
 use Rattle.mv_scope.specs.declared.scope.Scope.{Scope}
@@ -58,7 +58,7 @@ jumping p f = record {
   array_local = λ n t size fixed h. tt;
   value = λ s k e. if_any (value_judgement s e);
   effect = λ s k e. if_any (effect_judgement s e);
-  initials = λ s k place l given. if_any (initial_values place l given s);
+  initials = λ s k d taken l. if_any (local_values d taken l s);
   block_form = λ b c ss h. jumps_by (stmt.Block ss) (open_stmt.Block ss) b c (outs-Block ss) (all_have_jump b c ss h);
   clear_form = λ b c n l es there h. jumps_by (stmt.Clear n es) (open_stmt.Clear n es) b c (outs-Clear n es) refl;
   express_form = λ b c e h. jumps_by (stmt.Express e) (open_stmt.Express e) b c (outs-Express e) refl;

@@ -82,7 +82,7 @@ module _ (p : Program) where
       array_local = λ n t size fixed h. array_shaped p own f n t size fixed h;
       value = λ s k e. value_known p own f s k.names e;
       effect = λ s k e. effect_known p own f s k.names e;
-      initials = λ s k place l given. initials_have s K (λ e. value_known p own f s k.names e) (λ t e. K e) (λ t e h q. converted_known p t e h) place l given;
+      initials = λ s k d taken l. initials_have s K (λ e. value_known p own f s k.names e) (λ t e. K e) (λ t e h q. converted_known p t e h) d taken l;
       block_form = λ b c ss h. holds_by (stmt.Block ss) (open_stmt.Block ss) (outs-Block ss) (all_tested holds ss h);
       clear_form = λ b c n l es there h. holds_by (stmt.Clear n es) (open_stmt.Clear n es) (outs-Clear n es) (and_from _ true (all_tested (calls_known p) es h) refl);
       express_form = λ b c e h. holds_by (stmt.Express e) (open_stmt.Express e) (outs-Express e) (and_from _ true (one_of e h) refl);

@@ -14,7 +14,7 @@ use Rattle.mv_scope.specs.Conversions.{promoted, converted_to}
 use Rattle.mv_statement_rules.specs.declared.arms.Arms.{Arms}
 use Rattle.mv_statement_rules.specs.SwitchBodies.{no_arm, has_statements, at_label, labelled, labelled_other, with_case, with_default, with_statement, arms_of}
 use Rattle.mv_judge.specs.Judgements.{value_judgement, effect_judgement}
-use Rattle.mv_declare.specs.Initials.{initial_values}
+use Rattle.mv_declare.specs.Locals.{local_values}
 use Rattle.mv_lowering.specs.Lower.{all_of}
 use Rattle.mv_lowering.specs.Labels.{at_most_one, has_label, ArmLabels, later_arms, arms_labelled, labels_layer, arm_labels_layer, stmt_labelled, arm_labels}
 use Rattle.mv_ast.specs.declared.unit.Line.{Line}
@@ -228,7 +228,7 @@ labelling p f = record {
   array_local = λ n t size fixed h. tt;
   value = λ s k e. if_any (value_judgement s e);
   effect = λ s k e. if_any (effect_judgement s e);
-  initials = λ s k place l given. if_any (initial_values place l given s);
+  initials = λ s k d taken l. if_any (local_values d taken l s);
   block_form = λ b c ss h. labelled_by (stmt.Block ss) (open_stmt.Block ss) (outs-Block ss) (all_tested stmt_labelled ss h);
   clear_form = λ b c n l es there h. labelled_by (stmt.Clear n es) (open_stmt.Clear n es) (outs-Clear n es) refl;
   express_form = λ b c e h. labelled_by (stmt.Express e) (open_stmt.Express e) (outs-Express e) refl;

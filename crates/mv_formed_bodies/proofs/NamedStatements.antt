@@ -24,7 +24,7 @@ use Rattle.mv_statement_rules.specs.SwitchBodies.{arms_of}
 use Rattle.mv_statement_rules.specs.Statements.{body_judgement}
 use Rattle.mv_judge.specs.Judged.{Good}
 use Rattle.mv_judge.specs.Judgements.{value_judgement, effect_judgement}
-use Rattle.mv_declare.specs.Initials.{initial_values}
+use Rattle.mv_declare.specs.Locals.{local_values}
 use Rattle.mv_numbering.specs.Typing.{IsTypedExpr}
 use Rattle.mv_typing.specs.Soundness.{Fits, GoodIsTyped, EffectIsTyped}
 use Rattle.mv_typing.proofs.Types.{integer_is}
@@ -153,8 +153,8 @@ module _ (p : Program) (own : ℕ) (f : Function) where
       array_local = λ n t size fixed h. array_shaped p own f n t size fixed h;
       value = value_has;
       effect = effect_has;
-      initials = λ s k place l given. if_both (AllByRecursion V) (λ es. nat_le (length es) (words_of_size l.size) ≡ true) (initial_values place l given s)
-          (initials_have s V (value_has s k) (λ t e. V e) converted_has place l given) (initials_fit place l given s);
+      initials = λ s k d taken l. if_both (AllByRecursion V) (λ es. nat_le (length es) (words_of_size l.size) ≡ true) (local_values d taken l s)
+          (initials_have s V (value_has s k) (λ t e. V e) converted_has d taken l) (initials_fit d taken l s);
       block_form = λ b c ss h. holds_by (stmt.Block ss) (open_stmt.Block ss) (outs-Block ss) (all_tested formed ss h);
       clear_form = λ b c n l es there h. holds_by (stmt.Clear n es) (open_stmt.Clear n es) (outs-Clear n es) (clear_holds n l es there h.0 h.1);
       express_form = λ b c e h. holds_by (stmt.Express e) (open_stmt.Express e) (outs-Express e) (value_is e h);

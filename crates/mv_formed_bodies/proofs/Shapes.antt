@@ -3,7 +3,8 @@ use Rattle.std.proofs.Common.{◌≡◌, ℕ, refl, Bool, Some, slice_get}
 use Rattle.mv_ast.specs.declared.program.CType.{CType}
 use Rattle.mv_ast.specs.declared.program.Program.{Program}
 use Rattle.mv_ast.specs.declared.program.Function.{Function}
-use Rattle.mv_declare.specs.Locals.{scalar, array, scalar_meaning, array_meaning}
+use Rattle.mv_declare.specs.Locals.{scalar_meaning, array_meaning}
+use Rattle.mv_declare.specs.Objects.{scalar, array}
 use Rattle.mv_formed_bodies.specs.Formed.{IsShaped}
 
 module _ (p : Program) (own : ℕ) (f : Function) where

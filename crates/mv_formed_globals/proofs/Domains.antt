@@ -14,11 +14,13 @@ use Rattle.mv_ast.specs.declared.unit.Node.{Node}
 use Rattle.mv_ast.specs.Plans.{is_among}
 use Rattle.mv_scope.specs.declared.scope.Scope.{Scope}
 use Rattle.mv_judge.specs.declared.constant.Constant.{Constant}
-use Rattle.mv_judge.specs.Judged.{Good}
+use Rattle.mv_judge.specs.Judged.{Good, and_then}
 use Rattle.mv_judge.specs.NeededConstants.{constant_judgement}
 use Rattle.mv_declare.specs.declared.attributes.Attribute.{Attribute}
 use Rattle.mv_declare.specs.declared.attributes.Holder.{Holder}
-use Rattle.mv_declare.specs.Attributes.{fits, with_value, domain_value, domain, given_domain, holds, held, attribute, attributes}
+use Rattle.mv_declare.specs.Attributes.{switch_kind, with_value, domain_value, domain, given_domain, holds, held, attribute, attributes}
+use Rattle.mv_declare.specs.Constants.{is_value_of}
+use Rattle.mv_declare.specs.ValueSets.{with_member}
 use Rattle.mv_declare.specs.Globals.{distinct_behind, values_of_enumeration, default_domain, domain_or, domain_of}
 use Rattle.mv_typed_bodies.proofs.Judging.{IfGood, if_any, if_then, if_kept, if_more, if_through}
 use Rattle.mv_typed_bodies.proofs.Lists.{each_any, all_last, all_more}
@@ -43,6 +45,11 @@ abbrev pub IsHeld : Type 0 → (ℕ → Type 0) → Option Attribute → Type 0
 IsHeld G V None = Unit {0}
 IsHeld G V (Some a) = G × OptionDomain V a.values
 
+-- a constant is a value of the type of a switch
+abbrev pub Fits : Option Kind → Constant → Type 0
+Fits None c = Unit {0}
+Fits (Some k) c = is_value_of k c ≡ true
+
 module _ (V : ℕ → Type 0) where
   pub no_domain : IsDomain V []
   no_domain = record { values = tt; different = λ i j d h k. absurd (omega (arith, k)) }
@@ -52,6 +59,13 @@ module _ (V : ℕ → Type 0) where
     values = all_last V vs v h.values p;
     different = all_pairs_push (λ m n. m ≢ n) vs v h.different (λ k d less. All-get_or (λ w. w ≢ v) vs k d less (All-from_recursion (λ w. w ≢ v) vs (not_among v vs q)));
   }
+
+  member_kept : (vs : List ℕ) (v : ℕ) → IsDomain V vs → V v → IsDomain V (with_member vs v)
+  member_kept vs v h p = by (is_among v vs) refl
+    where
+      by : (b : Bool) → is_among v vs ≡ b → IsDomain V (if b then vs else vs ++ v ∷ [])
+      by true q = h
+      by false q = one_more vs v h p q
 
   distinct_are : (done vs : List ℕ) → IsDomain V done → AllByRecursion V vs → IsDomain V (distinct_behind done vs)
   distinct_are done [] h k = h
@@ -63,12 +77,16 @@ module _ (V : ℕ → Type 0) where
 
   -- ---- attributes
 
-  module _ (kind : Option Kind) (admits : (c : Constant) → fits kind c ≡ true → V c.value) where
+  module _ (kind : Option Kind) (admits : (c : Constant) → Fits kind c → V c.value) where
     with_kept : (place : Place) (vs : List ℕ) (c : Constant) → IsDomain V vs → IfGood (with_value place kind vs c) (IsDomain V)
     unfolding with_value
-    with_kept place vs c h =
-        if_kept (IsDomain V) (not (fits kind c) || is_among c.value vs) place 16 (Good (vs ++ c.value ∷ [])) (λ q.
-        let r = or_parts (not (fits kind c)) (is_among c.value vs) q in one_more vs c.value h (admits c (not-false (fits kind c) r.0)) r.1)
+    with_kept place vs c h = by kind (λ q. admits c q)
+      where
+        by : (k : Option Kind) → (Fits k c → V c.value) → IfGood (with_value place k vs c) (IsDomain V)
+        by None f = member_kept vs c.value h (f tt)
+        by (Some k) f =
+            if_kept (IsDomain V) (not (is_value_of k c) || is_among c.value vs) place 16 (Good (vs ++ c.value ∷ [])) (λ q.
+            let r = or_parts (not (is_value_of k c)) (is_among c.value vs) q in one_more vs c.value h (f (not-false (is_value_of k c) r.0)) r.1)
 
     abbrev Next : List ℕ → List ℕ → Type 0
     Next vs ws = IsDomain V vs → IsDomain V ws
@@ -87,24 +105,45 @@ module _ (V : ℕ → Type 0) where
     given_is s None = tt
     given_is s (Some nodes) = if_then (IsDomain V) (λ a. OptionDomain V a.values) (domain kind s nodes) _ (domain_is s nodes) (λ vs h. h)
 
-    module _ (G : Type 0) (holder : Holder) (holding : (a : Attribute) → holds holder a ≡ true → G) where
-      held_is : (place : Place) (before : Option Attribute) (a : Attribute) → OptionDomain V a.values → IfGood (held place holder before a) (IsHeld G V)
-      unfolding held
-      held_is place before a h =
-          if_kept (IsHeld G V) (is_some before || not (holds holder a)) place 14 (Good (Some a))
-          (λ q. (holding a (not-false (holds holder a) (or_parts (is_some before) (not (holds holder a)) q).1), h))
+  module _ (kind : Option Kind) (admits : (c : Constant) → Fits kind c → V c.value) (G : Type 0) (holder : Holder)
+      (holding : (a : Attribute) → holds holder a ≡ true → G) where
+    held_is : (place : Place) (before : Option Attribute) (a : Attribute) → OptionDomain V a.values → IfGood (held place holder before a) (IsHeld G V)
+    unfolding held
+    held_is place before a h =
+        if_kept (IsHeld G V) (is_some before || not (holds holder a)) place 14 (Good (Some a))
+        (λ q. (holding a (not-false (holds holder a) (or_parts (is_some before) (not (holds holder a)) q).1), h))
 
-      abbrev HeldNext : Option Attribute → Option Attribute → Type 0
-      HeldNext x y = IsHeld G V x → IsHeld G V y
+    abbrev HeldNext : Option Attribute → Option Attribute → Type 0
+    HeldNext x y = IsHeld G V x → IsHeld G V y
 
-      attribute_held : (s : Scope) (m : Mark) (before : Option Attribute) → IfGood (attribute holder kind s m before) (HeldNext before)
-      attribute_held s m before =
-          if_then (λ a. OptionDomain V a.values) (HeldNext before) (given_domain kind s (out-Mark m).values) _ (given_is s (out-Mark m).values) (λ a h.
-          if_more (IsHeld G V) (HeldNext before) (held (out-Mark m).place holder before a) (λ y k u. k) (held_is (out-Mark m).place before a h))
+    -- values are held only where they are those of a switch
+    values_held : (s : Scope) (m : Mark) (before : Option Attribute) (b : Bool) → holder.with_values ≡ b →
+        IfGood (and_then (given_domain (if b then kind else None) s (out-Mark m).values) (held (out-Mark m).place holder before)) (HeldNext before)
+    unfolding held
+    values_held s m before true q =
+        if_then (λ a. OptionDomain V a.values) (HeldNext before) (given_domain kind s (out-Mark m).values) _ (given_is kind admits s (out-Mark m).values) (λ a h.
+        if_more (IsHeld G V) (HeldNext before) (held (out-Mark m).place holder before a) (λ y k u. k) (held_is (out-Mark m).place before a h))
+    values_held s m before false q = by (out-Mark m).values
+      where
+        none_held : (a : Attribute) → is_some a.values ≡ true → IfGood (held (out-Mark m).place holder before a) (HeldNext before)
+        none_held a r =
+            if_kept (HeldNext before) (is_some before || not (holds holder a)) (out-Mark m).place 14 (Good (Some a)) (λ z.
+            let t : holds holder a ≡ true = not-false (holds holder a) (or_parts (is_some before) (not (holds holder a)) z).1 in
+            absurd (let f : holds holder a ≡ false = rw r q in cc))
 
-      pub attributes_held : (s : Scope) (marks : List Mark) (before : Option Attribute) → IfGood (attributes holder kind s marks before) (HeldNext before)
-      attributes_held s marks before =
-          if_through (attribute holder kind s) HeldNext (λ m. Unit {0}) (λ x h. h) (λ x y z h k i. k (h i)) (λ m u x. attribute_held s m x) marks (each_any marks) before
+        by : (o : Option (List Node)) → IfGood (and_then (given_domain None s o) (held (out-Mark m).place holder before)) (HeldNext before)
+        by None = if_more (IsHeld G V) (HeldNext before) (held (out-Mark m).place holder before (record { values = None })) (λ y k u. k)
+            (held_is (out-Mark m).place before (record { values = None }) tt)
+        by (Some nodes) =
+            if_then (λ (a : Attribute). is_some a.values ≡ true) (HeldNext before) (given_domain None s (Some nodes)) _
+            (if_then (λ vs. Unit {0}) (λ (a : Attribute). is_some a.values ≡ true) (domain None s nodes) _ (if_any (domain None s nodes)) (λ vs u. refl)) none_held
+
+    attribute_held : (s : Scope) (m : Mark) (before : Option Attribute) → IfGood (attribute holder kind s m before) (HeldNext before)
+    attribute_held s m before = values_held s m before holder.with_values refl
+
+    pub attributes_held : (s : Scope) (marks : List Mark) (before : Option Attribute) → IfGood (attributes holder kind s marks before) (HeldNext before)
+    attributes_held s marks before =
+        if_through (attribute holder kind s) HeldNext (λ m. Unit {0}) (λ x h. h) (λ x y z h k i. k (h i)) (λ m u x. attribute_held s m x) marks (each_any marks) before
 
 -- ---- other properties of the values and of what holds them
 

@@ -17,7 +17,9 @@ use Rattle.mv_declare.specs.declared.declarators.Entity.{Entity}
 use Rattle.mv_declare.specs.declared.declarators.Entity.TheVariants as entity
 use Rattle.mv_declare.specs.declared.globals.Designated.{Designated}
 use Rattle.mv_declare.specs.declared.specifiers.Specified.{Specified}
-use Rattle.mv_declare.specs.Globals.{file_declarator, object_type, global_words}
+use Rattle.mv_declare.specs.Globals.{file_declarator}
+use Rattle.mv_declare.specs.Initials.{array_size}
+use Rattle.mv_declare.specs.Objects.{scalar, sized}
 use Rattle.mv_numbering.specs.Typing.{IsFirstValue}
 use Rattle.mv_typing.specs.Soundness.{Fits}
 use Rattle.mv_types.specs.declared.contents.Contents.{Contents}
@@ -25,12 +27,12 @@ use Rattle.mv_types.specs.declared.contents.Foreknown.{Foreknown}
 use Rattle.mv_types.specs.declared.contents.Object.{Object}
 use Rattle.mv_types.specs.Contents.{in_scope}
 use Rattle.mv_types.specs.Functions.{function_judgement, definition_parameters}
-use Rattle.mv_types.specs.Objects.{agrees, may_declare, type_by_rules, object_scope, again, initialised, object_behind, object_judgement, domain_by}
-use Rattle.mv_types.specs.Units.{by_entity, named_declarator, base_of, declarator_judgement, program_of}
-use Rattle.mv_typed_bodies.proofs.Judging.{IfGood, of_good, by_good, if_any, if_then, if_more}
+use Rattle.mv_types.specs.Objects.{agrees, object_words, object_scope, again, object_behind, object_judgement, domain_by}
+use Rattle.mv_types.specs.Units.{by_entity, nameless_values, named_declarator, base_of, declarator_judgement, program_of}
+use Rattle.mv_typed_bodies.proofs.Judging.{IfGood, of_good, by_good, if_any, if_then, if_more, if_both}
 use Rattle.mv_formed_globals.specs.FirstValues.{FirstValuesAreTyped, FirstValuesAreKept, GlobalsHaveFirstValues}
 use Rattle.mv_formed_globals.proofs.Tests.{if_given}
-use Rattle.mv_formed_globals.proofs.Objects.{Allowed, rules_kept, same_types, behind_have}
+use Rattle.mv_formed_globals.proofs.Objects.{IsKept, object_kept, same_types, behind_have}
 use Rattle.mv_formed_globals.proofs.Units.{function_has}
 
 module _ (p : Program) (f : Function) (typed : FirstValuesAreTyped) where
@@ -53,27 +55,21 @@ module _ (p : Program) (f : Function) (typed : FirstValuesAreTyped) where
       by false = h
 
   module _ (k : Foreknown) (d : Declarator) (name : List ℕ) (domain : Option (List ℕ)) (c : Contents) where
-    initialised_first : (before : Option Meaning) (l : Local) → may_declare before c.objects l (is_some d.initial) domain ≡ true →
-        IfGood (initialised k d name before domain l c) (Keeps c.objects)
-    initialised_first before l allowed =
+    behind_first : (l : Local) (block : Bool) (before : Option Meaning) → IfGood (object_behind k d name l domain block c before) (Keeps c.objects)
+    behind_first l block before =
         let s : Scope = object_scope k name before l (length c.objects) c.scope in
-        let words = global_words d.place l d.initial s in
-        if_then (λ ws. Fits p f s → All (IsFirstValue p l.ctype) ws) (Keeps c.objects) words _
+        let words = object_words d before c.objects l domain block s in
+        let Kept : List ℕ → Type 0 = λ ws. IsKept d before c.objects l domain in
+        let First : List ℕ → Type 0 = λ ws. Fits p f s → All (IsFirstValue p l.ctype) ws in
+        if_then (λ ws. Kept ws × First ws) (Keeps c.objects) words _
+        (if_both Kept First words (object_kept d before c.objects l domain block s)
         (if_given (Fits p f s) (All (IsFirstValue p l.ctype)) words (λ fits.
-        by_good (All (IsFirstValue p l.ctype)) words (λ ws q. typed p f d.place l d.initial s ws fits q))) (λ ws first fits h.
-        behind_have IsFirst l ws (is_some d.initial) domain (λ n. first fits) (again_first l ws (is_some d.initial) domain (first fits)) c.objects name before h allowed)
+        by_good (All (IsFirstValue p l.ctype)) words (λ ws q. typed p f d before c.objects l domain block s ws fits q)))) (λ ws first fits h.
+        behind_have IsFirst l ws (is_some d.initial) domain (λ n. first.1 fits) (again_first l ws (is_some d.initial) domain (first.1 fits)) c.objects name before h first.0.allowed)
 
-    behind_first : (e : Entity) (block : Bool) (before : Option Meaning) → IfGood (object_behind k d name e domain block c before) (Keeps c.objects)
-    behind_first e block before =
-        let X : Local → Type 0 = λ l. Unit {0} in
-        if_then (Allowed X d.place before c.objects (is_some d.initial) block domain) (Keeps c.objects)
-        (type_by_rules d.place before c.objects (object_type d.place e d.initial) (is_some d.initial) block domain) _
-        (rules_kept X d.place before c.objects (is_some d.initial) block domain (object_type d.place e d.initial) (if_any (object_type d.place e d.initial)))
-        (λ l a. initialised_first before l a.1)
-
-    object_first : (e : Entity) (block : Bool) → IfGood (object_judgement k d name e domain block c) (Keeps c.objects)
+    object_first : (l : Local) (block : Bool) → IfGood (object_judgement k d name l domain block c) (Keeps c.objects)
     unfolding object_judgement
-    object_first e block = behind_first e block (named name c.scope.names.here)
+    object_first l block = behind_first l block (named name c.scope.names.here)
 
   -- ---- declarators
 
@@ -87,13 +83,14 @@ module _ (p : Program) (f : Function) (typed : FirstValuesAreTyped) where
   entity_first : (k : Foreknown) (b : Specified) (body : Option Line) (d : Declarator) (name : List ℕ) (e : Entity) (a : Option Attribute) (c : Contents) →
       IfGood (by_entity k b body d name e a c) (Keeps c.objects)
   entity_first k b body d name (entity.Function signature) a c = function_first k d name b.ctype signature body c
-  entity_first k b body d name (entity.Scalar t fixed) a c = object_first k d name (domain_by c.scope b.enumeration a) c (entity.Scalar t fixed) (is_some body)
-  entity_first k b body d name (entity.Array t fixed size) a c = object_first k d name (domain_by c.scope b.enumeration a) c (entity.Array t fixed size) (is_some body)
+  entity_first k b body d name (entity.Scalar t fixed) a c = object_first k d name (domain_by c.scope b.enumeration a) c (scalar t) (is_some body)
+  entity_first k b body d name (entity.Array t fixed size) a c = object_first k d name (domain_by c.scope b.enumeration a) c (sized t (array_size size d.initial)) (is_some body)
 
   named_first : (k : Foreknown) (b : Specified) (body : Option Line) (d : Declarator) (name : Option (List ℕ)) (e : Designated) (c : Contents) →
       IfGood (named_declarator k b body d name e c) (Keeps c.objects)
   unfolding named_declarator
-  named_first k b body d None e c = tt
+  named_first k b body d None e c =
+      if_then (λ u. Unit {0}) (Keeps c.objects) (nameless_values e.entity d.initial c.scope) _ (if_any (nameless_values e.entity d.initial c.scope)) (λ u v. tt)
   named_first k b body d (Some name) e c = entity_first k b body d name e.entity e.attribute c
 
   declarator_first : (k : Foreknown) (b : Specified) (body : Option Line) (d : Declarator) (c : Contents) → IfGood (declarator_judgement k b body d c) (Keeps c.objects)

@@ -1,8 +1,8 @@
 -- The words that a global is given are first values of its type.
-use Rattle.std.proofs.Common.{◌≡◌, ℕ, suc, ◌+◌, arith, ◌⊎◌, inl, inr, Bool, true, false, not, ◌||◌, refl, sym, ◌∙◌, subst, is_some, if◌then◌else◌, List, [], ◌∷◌, ◌++◌, map, length, Option, Some, None}
+use Rattle.std.proofs.Common.{◌≡◌, ℕ, suc, ◌+◌, arith, ◌⊎◌, inl, inr, Bool, true, false, not, refl, sym, ◌∙◌, subst, if◌then◌else◌, List, [], ◌∷◌, length, Option, Some, None}
 use Rattle.std.specs.List.{AllByRecursion}
 use Rattle.std.proofs.lemmas.List.Elements.{All-from_recursion}
-use Rattle.std.proofs.lemmas.Bool.{not-false, and_parts, eqb-true, or_parts}
+use Rattle.std.proofs.lemmas.Bool.{not-false, and_parts, eqb-true}
 use Rattle.mv_ast.specs.declared.place.Place.{Place}
 use Rattle.mv_ast.specs.declared.program.CType.{CType}
 use Rattle.mv_ast.specs.declared.program.CType.TheVariants.{Void, Scalar, Pointer}
@@ -13,24 +13,29 @@ use Rattle.mv_ast.specs.declared.program.Expr.{Expr}
 use Rattle.mv_ast.specs.declared.program.Form.{Form, Form-F, out-Form}
 use Rattle.mv_ast.specs.declared.program.Form.TheOpen as form
 use Rattle.mv_ast.specs.declared.program.Target.{Target}
+use Rattle.mv_ast.specs.declared.unit.Declarator.{Declarator}
 use Rattle.mv_ast.specs.declared.unit.Initial.{Initial}
 use Rattle.mv_ast.specs.declared.unit.Initial.TheVariants as initial
 use Rattle.mv_ast.specs.declared.unit.Node.{Node}
 use Rattle.mv_ast.specs.Operators.{converted}
+use Rattle.mv_scope.specs.declared.meaning.Meaning.{Meaning}
 use Rattle.mv_scope.specs.declared.scope.Scope.{Scope}
 use Rattle.mv_scope.specs.Constants.{is_constant, computed, constant_value, is_zero, is_null, converts}
 use Rattle.mv_scope.specs.Conversions.{same_type, is_integer}
 use Rattle.mv_judge.specs.Judged.{Good}
 use Rattle.mv_judge.specs.Judgements.{value_judgement}
 use Rattle.mv_declare.specs.declared.globals.Words.{Words}
-use Rattle.mv_declare.specs.Globals.{address_form, address_or, constant_word, word_or_broken, first_word, no_words, first_words, single_word, listed_words, is_char, string_fits, room_behind, string_words, global_words}
-use Rattle.mv_declare.specs.Initials.{has_room}
+use Rattle.mv_declare.specs.Globals.{address_form, address_or, constant_word, word_or_broken, first_word, no_words, first_words, global_words}
+use Rattle.mv_declare.specs.Objects.{has_room, is_char, string_fits, is_overfull, least}
+use Rattle.mv_types.specs.declared.contents.Object.{Object}
+use Rattle.mv_types.specs.Objects.{breaches, object_words}
 use Rattle.mv_numbering.specs.Typing.{ComesTo, HasType, IsFunctionOf, IsFirstValue}
 use Rattle.mv_numbering.proofs.Typed.{TypedExpr, expr_node}
 use Rattle.mv_typing.specs.Soundness.{Fits, GoodIsTyped}
 use Rattle.mv_typing.proofs.Converted.{to_pointer}
 use Rattle.mv_typing.proofs.Types.{same_is}
-use Rattle.mv_typed_bodies.proofs.Judging.{IfGood, of_good, by_good, if_then, if_kept, if_more, if_through}
+use Rattle.mv_typed_bodies.proofs.Judging.{IfGood, of_good, by_good, if_then, if_more, if_through}
+use Rattle.mv_typed_bodies.proofs.Unbroken.{if_unbroken, unbroken, all_convert, has_extents}
 use Rattle.mv_typed_bodies.proofs.Lists.{each_any, all_last}
 use Rattle.mv_formed_globals.specs.FirstValues.{FirstValuesAreTyped}
 use Rattle.mv_formed_globals.proofs.Nulls.{pointer_null}
@@ -114,17 +119,6 @@ module _ (p : Program) (f : Function) (comes : (e : Expr) (v : ℕ) → computed
         if_more (Next no_words) IfAll (first_words t s nodes) (λ x h. h (λ q. tt))
         (if_through (first_word t s) Next (λ node. Unit {0}) (λ x h. h) (λ x y z h k i. k (h i)) (λ node u x. node_first node x) nodes (each_any nodes) no_words)
 
-    single_first : (place : Place) (size : Option ℕ) (x : Words) → IfAll x → IfGood (single_word place size x) AreFirst
-    unfolding single_word
-    single_first place size x h =
-        if_kept AreFirst (is_some size || not x.all) place 5 (Good x.words) (λ q. h (not-false x.all (or_parts (is_some size) (not x.all) q).1))
-
-    listed_first : (place : Place) (size : Option ℕ) (x : Words) → IfAll x → IfGood (listed_words place size x) AreFirst
-    unfolding listed_words
-    listed_first place size x h =
-        if_kept AreFirst (not x.all) place 5 _ (λ q.
-        if_kept AreFirst (not (has_room size (length x.words))) place 10 (Good x.words) (λ r. h (not-false x.all q)))
-
   -- characters are integers
   characters_first : (t : CType) (ws : List ℕ) → is_char t ≡ true → AllByRecursion (IsFirstValue p t) ws
   characters_first Void ws h = absurd (cc)
@@ -132,28 +126,41 @@ module _ (p : Program) (f : Function) (comes : (e : Expr) (v : ℕ) → computed
   characters_first (Scalar kind) [] h = tt
   characters_first (Scalar kind) (w ∷ ws) h = (tt, characters_first (Scalar kind) ws h)
 
-  string_first : (place : Place) (l : Local) (bytes : List ℕ) → IfGood (string_words place l bytes) (AllByRecursion (IsFirstValue p l.ctype))
-  unfolding string_words
-  string_first place l bytes =
-      if_kept (AllByRecursion (IsFirstValue p l.ctype)) (not (string_fits l (length bytes))) place 10 _ (λ q.
-      characters_first l.ctype (map (converted l.ctype) bytes ++ (if room_behind l.size (length bytes) then 0 ∷ [] else []))
-      (and_parts (is_char l.ctype) (has_room l.size (length bytes)) (not-false (string_fits l (length bytes)) q)).0)
+  char_of : (l : Local) (bytes : List ℕ) → not (string_fits l (length bytes)) ≡ false → is_char l.ctype ≡ true
+  char_of l bytes q = (and_parts (is_char l.ctype) (has_room l.size (length bytes)) (not-false (string_fits l (length bytes)) q)).0
 
   module _ (typed : (scope : Scope) (node : Node) (e : Expr) → Fits p f scope → value_judgement scope node ≡ Good e → TypedExpr p f e)
-      (s : Scope) (fits : Fits p f s) where
-    global_first : (place : Place) (l : Local) (given : Option Initial) → IfGood (global_words place l given s) (AllByRecursion (IsFirstValue p l.ctype))
-    global_first place l None = tt
-    global_first place l (Some (initial.Value node)) =
-        if_then (IfAll typed s fits l.ctype) (AreFirst typed s fits l.ctype) (first_word l.ctype s node no_words) _
-        (if_more (Next typed s fits l.ctype no_words) (IfAll typed s fits l.ctype) (first_word l.ctype s node no_words) (λ x h. h (λ q. tt)) (node_first typed s fits l.ctype node no_words))
-        (λ x h. single_first typed s fits l.ctype place l.size x h)
-    global_first place l (Some (initial.Values nodes)) =
-        if_then (IfAll typed s fits l.ctype) (AreFirst typed s fits l.ctype) (first_words l.ctype s nodes) _ (nodes_first typed s fits l.ctype nodes)
-        (λ x h. listed_first typed s fits l.ctype place l.size x h)
-    global_first place l (Some (initial.Chars bytes)) = string_first place l bytes
+      (s : Scope) (fits : Fits p f s) (l : Local) where
+    -- the characters of a string apart
+    abbrev IfAllGiven : Option Initial → Words → Type 0
+    IfAllGiven (Some (initial.Chars bytes)) x = Unit {0}
+    IfAllGiven given x = IfAll typed s fits l.ctype x
+
+    given_first : (given : Option Initial) → IfGood (global_words l given s) (IfAllGiven given)
+    given_first None = λ q. tt
+    given_first (Some (initial.Value node)) =
+        if_more (Next typed s fits l.ctype no_words) (IfAll typed s fits l.ctype) (first_word l.ctype s node no_words) (λ x h. h (λ q. tt)) (node_first typed s fits l.ctype node no_words)
+    given_first (Some (initial.Values nodes)) = nodes_first typed s fits l.ctype nodes
+    given_first (Some (initial.Chars bytes)) = tt
+
+    kept_first : (given : Option Initial) (x : Words) → IfAllGiven given x → x.all ≡ true → is_overfull true l given (length x.words) ≡ false →
+        AreFirst typed s fits l.ctype x.words
+    kept_first None x h q r = h q
+    kept_first (Some (initial.Value node)) x h q r = h q
+    kept_first (Some (initial.Values nodes)) x h q r = h q
+    kept_first (Some (initial.Chars bytes)) x h q r = characters_first l.ctype x.words (char_of l bytes r)
+
+    object_first : (d : Declarator) (before : Option Meaning) (objects : List Object) (domain : Option (List ℕ)) (block : Bool) →
+        IfGood (object_words d before objects l domain block s) (AreFirst typed s fits l.ctype)
+    object_first d before objects domain block =
+        if_then (IfAllGiven d.initial) (AreFirst typed s fits l.ctype) (global_words l d.initial s) _ (given_first d.initial) (λ x h.
+        let b = breaches before objects l d.initial x domain block in
+        if_unbroken (AreFirst typed s fits l.ctype) d.place (least b) x.words (λ q.
+        let u = unbroken b q in
+        kept_first d.initial x h (all_convert l d.initial x.all u.void u.unconverted).0 (has_extents true l d.initial (length x.words) u.extents).1))
 
 pub first_values : ((p : Program) (e : Expr) (v : ℕ) → computed e ≡ Some v → ComesTo p e v) → GoodIsTyped → FirstValuesAreTyped
-first_values comes typed p f place l given s words fits q =
+first_values comes typed p f d before objects l domain block s words fits q =
     All-from_recursion (IsFirstValue p l.ctype) words
-    (of_good (AllByRecursion (IsFirstValue p l.ctype)) (global_words place l given s)
-    (global_first p f (comes p) (λ scope node e h r. typed p f scope node e h r) s fits place l given) words q)
+    (of_good (AllByRecursion (IsFirstValue p l.ctype)) (object_words d before objects l domain block s)
+    (object_first p f (comes p) (λ scope node e h r. typed p f scope node e h r) s fits l d before objects domain block) words q)

@@ -1,38 +1,33 @@
 -- The objects of a unit: each is a well-formed global that has a word, and an integer scalar where it has a domain.
-use Rattle.std.proofs.Common.{◌≡◌, ℕ, refl, sym, ap, subst, Bool, true, false, is_some, is_none, if◌then◌else◌, List, [], ◌∷◌, length, Option, Some, None, slice_get}
+use Rattle.std.proofs.Common.{◌≡◌, ℕ, refl, sym, ap, subst, Bool, true, false, is_some, if◌then◌else◌, List, [], ◌∷◌, length, Option, Some, None, slice_get}
 use Rattle.std.specs.List.{AllByRecursion}
 use Rattle.std.proofs.lemmas.List.Elements.{All-from_recursion}
-use Rattle.std.proofs.lemmas.Bool.{and_parts, eqb-true}
-use Rattle.mv_ast.specs.declared.place.Place.{Place}
+use Rattle.std.proofs.lemmas.Bool.{not-false, and_parts, eqb-true}
 use Rattle.mv_ast.specs.declared.program.CType.{CType}
 use Rattle.mv_ast.specs.declared.program.CType.TheVariants.{Void, Scalar, Pointer}
 use Rattle.mv_ast.specs.declared.program.Local.{Local}
 use Rattle.mv_ast.specs.declared.unit.Declarator.{Declarator}
-use Rattle.mv_ast.specs.declared.unit.Initial.{Initial}
 use Rattle.mv_ast.specs.Actions.{is_value_of}
 use Rattle.mv_scope.specs.declared.meaning.Meaning.{Meaning}
 use Rattle.mv_scope.specs.declared.scope.Scope.{Scope}
 use Rattle.mv_scope.specs.Conversions.{is_void, same_type}
 use Rattle.mv_scope.specs.Spaces.{named}
-use Rattle.mv_judge.specs.Judged.{Judged, Good, Broken}
-use Rattle.mv_declare.specs.declared.declarators.Entity.{Entity}
-use Rattle.mv_declare.specs.declared.declarators.Entity.TheVariants as entity
-use Rattle.mv_declare.specs.Globals.{object_type, global_words}
-use Rattle.mv_declare.specs.Locals.{scalar}
+use Rattle.mv_declare.specs.Globals.{global_words}
+use Rattle.mv_declare.specs.Objects.{least}
 use Rattle.mv_numbering.specs.Typing.{IsInteger}
 use Rattle.mv_lowered_programs.specs.WellFormed.{IsWellFormedGlobal}
 use Rattle.mv_types.specs.declared.contents.Contents.{Contents}
 use Rattle.mv_types.specs.declared.contents.Foreknown.{Foreknown}
 use Rattle.mv_types.specs.declared.contents.Object.{Object}
-use Rattle.mv_types.specs.Objects.{number_of, object_at, same_size, agrees, agrees_with, may_declare, broken_rule, unless_broken, type_by_rules, object_scope, new_object, either_domain, again, replaced, objects_again, objects_behind, initialised, object_behind, object_judgement}
-use Rattle.mv_typed_bodies.proofs.Judging.{IfGood, if_then, if_kept, if_both}
+use Rattle.mv_types.specs.Objects.{number_of, object_at, same_size, agrees, agrees_with, may_declare, breaches, object_words, object_scope, new_object, either_domain, again, replaced, objects_again, objects_behind, object_behind, object_judgement}
+use Rattle.mv_typed_bodies.proofs.Judging.{IfGood, if_any, if_then, if_both}
+use Rattle.mv_typed_bodies.proofs.Unbroken.{if_unbroken, unbroken, has_extents}
 use Rattle.mv_typed_bodies.proofs.Lists.{all_last, all_at}
 use Rattle.mv_formed_globals.proofs.Tests.{all_set}
 use Rattle.mv_formed_globals.proofs.Values.{IsOf}
-use Rattle.mv_formed_globals.proofs.Sizes.{HasWord, type_has}
+use Rattle.mv_formed_globals.proofs.Sizes.{HasWord, size_has}
 use Rattle.mv_formed_globals.proofs.Words.{AreOf, AreWords, words_are}
 use Rattle.mv_formed_globals.proofs.Domains.{IsDomain}
-use Rattle.mv_formed_globals.proofs.Designated.{IsHolderOf}
 use Rattle.mv_typing.proofs.Types.{same_is}
 use Rattle.mv_typing.proofs.Plain.{IsPlain}
 
@@ -67,46 +62,39 @@ global_formed o h = record {
 
 -- ---- the type of a declared object
 
--- what is known of the domain that a declaration of an entity gives
-abbrev pub IsDomainFor : Entity → Option (List ℕ) → Type 0
-IsDomainFor e None = Unit {0}
-IsDomainFor e (Some vs) = (t : CType) × IsPlain t × IsHolderOf t e × IsDomain (IsOf t) vs
+-- what is known of the domain that a declaration gives
+abbrev pub IsDomainFor : Local → Option (List ℕ) → Type 0
+IsDomainFor l None = Unit {0}
+IsDomainFor l (Some vs) = IsPlain l.ctype × (l.size ≡ None) × IsDomain (IsOf l.ctype) vs
 
 integer_of : (t : CType) → IsPlain t → is_void t ≡ false → IsInteger t
 integer_of Void h q = absurd (cc)
 integer_of (Scalar k) h q = tt
 integer_of (Pointer s) h q = absurd h
 
-type_switch : (place : Place) (e : Entity) (given : Option Initial) (domain : Option (List ℕ)) → IsDomainFor e domain →
-    IfGood (object_type place e given) (λ l. IsSwitchIf l.ctype l.size domain)
-unfolding object_type
-type_switch place e given None h = any (object_type place e given)
-  where
-    any : (j : Judged Local) → IfGood j (λ l. IsSwitchIf l.ctype l.size None)
-    any (Good l) = tt
-    any (Broken p rule) = tt
-type_switch place (entity.Scalar t fixed) given (Some vs) h =
-    if_kept (λ (l : Local). IsSwitch l.ctype l.size vs) (is_void t) place 8 (Good (scalar t)) (λ q. record {
-      integer = integer_of t (subst IsPlain (sym h.2) h.1) q;
-      scalar = refl;
-      domain = subst (λ u. IsDomain (IsOf u) vs) (sym h.2) h.3;
-    })
-type_switch place (entity.Array t fixed size) given (Some vs) h = absurd h.2
-type_switch place (entity.Function f) given (Some vs) h = tt
+switch_for : (l : Local) (domain : Option (List ℕ)) → IsDomainFor l domain → is_void l.ctype ≡ false → IsSwitchIf l.ctype l.size domain
+switch_for l None h q = tt
+switch_for l (Some vs) h q = record { integer = integer_of l.ctype h.0 q; scalar = h.1; domain = h.2 }
 
-module _ (X : Local → Type 0) (place : Place) (before : Option Meaning) (objects : List Object) (given block : Bool) (domain : Option (List ℕ)) where
-  abbrev pub Allowed : Local → Type 0
-  Allowed l = X l × (may_declare before objects l given domain ≡ true)
+-- an object that may be declared, of a type and with a size
+pub record IsKept (d : Declarator) (before : Option Meaning) (objects : List Object) (l : Local) (domain : Option (List ℕ)) : Type 0 where
+  pub allowed : may_declare before objects l (is_some d.initial) domain ≡ true
+  pub typed : is_void l.ctype ≡ false
+  pub sized : HasWord l.size
 
-  unless_kept : (l : Local) (allowed b : Bool) → allowed ≡ may_declare before objects l given domain → X l → IfGood (unless_broken place (broken_rule allowed b) l) Allowed
-  unless_kept l true true q h = tt
-  unless_kept l true false q h = (h, sym q)
-  unless_kept l false b q h = tt
-
-  pub rules_kept : (j : Judged Local) → IfGood j X → IfGood (type_by_rules place before objects j given block domain) Allowed
-  unfolding type_by_rules
-  rules_kept (Broken p rule) h = if_kept Allowed (is_none before) p rule (Broken place 2) (λ q. tt)
-  rules_kept (Good l) h = unless_kept l (may_declare before objects l given domain) block refl h
+pub object_kept : (d : Declarator) (before : Option Meaning) (objects : List Object) (l : Local) (domain : Option (List ℕ)) (block : Bool) (s : Scope) →
+    IfGood (object_words d before objects l domain block s) (λ words. IsKept d before objects l domain)
+object_kept d before objects l domain block s =
+    let Kept : List ℕ → Type 0 = λ words. IsKept d before objects l domain in
+    if_then (λ x. Unit {0}) Kept (global_words l d.initial s) _ (if_any (global_words l d.initial s)) (λ x v.
+    let b = breaches before objects l d.initial x domain block in
+    if_unbroken Kept d.place (least b) x.words (λ q.
+    let u = unbroken b q in
+    record {
+      allowed = not-false (may_declare before objects l (is_some d.initial) domain) u.redeclared;
+      typed = u.void;
+      sized = size_has l.size (has_extents true l d.initial (length x.words) u.extents).0;
+    }))
 
 -- ---- one more declaration of an object
 
@@ -170,24 +158,15 @@ module _ (l : Local) (words : List ℕ) (fit : AreWords l.ctype l.size words) (g
 -- ---- a declarator that designates an object
 
 module _ (k : Foreknown) (d : Declarator) (name : List ℕ) (domain : Option (List ℕ)) (c : Contents) (formed : AreFormed c) where
-  initialised_formed : (before : Option Meaning) (l : Local) → HasWord l.size → IsSwitchIf l.ctype l.size domain → may_declare before c.objects l (is_some d.initial) domain ≡ true →
-      IfGood (initialised k d name before domain l c) AreFormed
-  initialised_formed before l sized switch allowed =
+  object_behind_formed : (l : Local) (block : Bool) (before : Option Meaning) → IsDomainFor l domain → IfGood (object_behind k d name l domain block c before) AreFormed
+  object_behind_formed l block before h =
       let s : Scope = object_scope k name before l (length c.objects) c.scope in
-      if_then (AreWords l.ctype l.size) AreFormed (global_words d.place l d.initial s) _ (words_are d.place l d.initial s) (λ words fit.
-      behind_formed l words fit (is_some d.initial) domain sized switch c.objects name before formed allowed)
+      let Kept : List ℕ → Type 0 = λ words. IsKept d before c.objects l domain in
+      let words = object_words d before c.objects l domain block s in
+      if_then (λ ws. Kept ws × AreWords l.ctype l.size ws) AreFormed words _
+      (if_both Kept (AreWords l.ctype l.size) words (object_kept d before c.objects l domain block s) (words_are d before c.objects l domain block s)) (λ ws fit.
+      behind_formed l ws fit.1 (is_some d.initial) domain fit.0.sized (switch_for l domain h fit.0.typed) c.objects name before formed fit.0.allowed)
 
-  object_behind_formed : (e : Entity) (block : Bool) (before : Option Meaning) → IsDomainFor e domain → IfGood (object_behind k d name e domain block c before) AreFormed
-  object_behind_formed e block before h =
-      let Sized : Local → Type 0 = λ l. HasWord l.size in
-      let Switch : Local → Type 0 = λ l. IsSwitchIf l.ctype l.size domain in
-      let X : Local → Type 0 = λ l. Sized l × Switch l in
-      if_then (Allowed X d.place before c.objects (is_some d.initial) block domain) AreFormed
-      (type_by_rules d.place before c.objects (object_type d.place e d.initial) (is_some d.initial) block domain) _
-      (rules_kept X d.place before c.objects (is_some d.initial) block domain (object_type d.place e d.initial)
-      (if_both Sized Switch (object_type d.place e d.initial) (type_has d.place e d.initial) (type_switch d.place e d.initial domain h)))
-      (λ l a. initialised_formed before l a.0.0 a.0.1 a.1)
-
-  pub object_formed : (e : Entity) (block : Bool) → IsDomainFor e domain → IfGood (object_judgement k d name e domain block c) AreFormed
+  pub object_formed : (l : Local) (block : Bool) → IsDomainFor l domain → IfGood (object_judgement k d name l domain block c) AreFormed
   unfolding object_judgement
-  object_formed e block h = object_behind_formed e block (named name c.scope.names.here) h
+  object_formed l block h = object_behind_formed l block (named name c.scope.names.here) h

@@ -23,14 +23,14 @@ use Rattle.mv_declare.specs.declared.attributes.Holder.{Holder}
 use Rattle.mv_declare.specs.declared.attributes.Position.TheVariants as position
 use Rattle.mv_declare.specs.declared.specifiers.Said.{Said}
 use Rattle.mv_declare.specs.declared.specifiers.Specified.{Specified}
-use Rattle.mv_declare.specs.Attributes.{fits, shape_holder, holder_of, both_hold, all_hold, holder_of_all, holds, attributes}
+use Rattle.mv_declare.specs.Attributes.{shape_holder, holder_of, both_hold, all_hold, holder_of_all, holds, attributes}
 use Rattle.mv_declare.specs.Specifiers.{count_before_list, nothing_said, enumeration_of, enum_specifier, enum_specifiers, scalar_kind, kind_of, type_by_rules, specifiers}
 use Rattle.mv_typed_bodies.proofs.Judging.{IfGood, if_any, if_then, if_more, if_through}
 use Rattle.mv_typed_bodies.proofs.NamedTypes.{IsNamed, rules_named, named_is_plain}
 use Rattle.mv_typed_bodies.proofs.Lists.{each_any}
 use Rattle.mv_formed_globals.proofs.Tests.{not_none}
 use Rattle.mv_formed_globals.proofs.Values.{IsOf, constant_is, int_is}
-use Rattle.mv_formed_globals.proofs.Domains.{IsHeld, attributes_held, held_more}
+use Rattle.mv_formed_globals.proofs.Domains.{Fits, IsHeld, attributes_held, held_more}
 use Rattle.mv_typing.proofs.Plain.{IsPlain}
 
 -- ---- what may have an attribute
@@ -107,13 +107,13 @@ int_named (e ∷ es) words t h =
     by false true z q = cc
     by false false z q = absurd (cc)
 
-admits : (t : CType) (c : Constant) → fits (scalar_kind t) c ≡ true → IsOf t c.value
+admits : (t : CType) (c : Constant) → Fits (scalar_kind t) c → IsOf t c.value
 admits Void c h = λ u. absurd u
 admits (Scalar k) c h = constant_is k c h
 admits (Pointer s) c h = λ u. absurd u
 
 -- the values of an attribute fit the type that is found before the enums are declared, and so that behind them
-type_admits : (s : Scope) (specs : Specs) (t : CType) → IsNamed specs t → (c : Constant) → fits (kind_of (type_of s specs)) c ≡ true → IsOf t c.value
+type_admits : (s : Scope) (specs : Specs) (t : CType) → IsNamed specs t → (c : Constant) → Fits (kind_of (type_of s specs)) c → IsOf t c.value
 type_admits s specs t n c h = by (any_is flags) refl h (int_named tags words t n)
   where
     tags : List EnumSpec
@@ -134,20 +134,20 @@ type_admits s specs t n c h = by (any_is flags) refl h (int_named tags words t n
     none : tags ≡ [] → any_is flags ≡ false
     none q = ap (λ (x : List EnumSpec). any_is (map (undeclared_enum s) x)) q
 
-    by : (b : Bool) → any_is flags ≡ b → fits (kind_of (if b then Broken place 1 else type_or_broken place (named_type (length flags) words))) c ≡ true →
+    by : (b : Bool) → any_is flags ≡ b → Fits (kind_of (if b then Broken place 1 else type_or_broken place (named_type (length flags) words))) c →
         (tags ≡ []) ⊎ (t ≡ Scalar Int) → IsOf t c.value
     by true q g (inl e) = absurd (let r : true ≡ false = sym q ∙ none e in cc)
     by true q g (inr e) = subst (λ u. IsOf u c.value) (sym e) (int_is c.value)
-    by false q g e = admits t c (ap (λ o. fits (kind_of (type_or_broken place o)) c) (sym here) ∙ g)
+    by false q g e = admits t c (subst (λ o. Fits (kind_of (type_or_broken place o)) c) here g)
 
-pub scalar_admits : (t : CType) (c : Constant) → fits (scalar_kind t) c ≡ true → IsOf t c.value
+pub scalar_admits : (t : CType) (c : Constant) → Fits (scalar_kind t) c → IsOf t c.value
 scalar_admits = admits
 
 -- ---- enums and attributes
 
 -- the value of a constant of a kind
 abbrev FitsKind : Option Kind → ℕ → Type 0
-FitsKind k v = (c : Constant) × (fits k c ≡ true) × (c.value ≡ v)
+FitsKind k v = (c : Constant) × Fits k c × (c.value ≡ v)
 
 module _ (fixed : Bool) (names : List Declarator) (k : Option Kind) where
   abbrev h : Holder
@@ -199,7 +199,7 @@ specifiers_are names specs s =
     if_then (Behind f.fixed names k f.tags) (λ d. IsSpecified names d.1) (enum_specifiers holder k f.marks f.tags s) _ (enums_held f.fixed names k f.marks f.tags s) (λ x e.
     let given = attributes holder k x.0 (drop x.1.used f.marks) x.1.attribute in
     if_then (λ a. Held f.fixed names k x.1.attribute → Held f.fixed names k a) (λ d. IsSpecified names d.1) given _ (held f.fixed names k x.0 (drop x.1.used f.marks) x.1.attribute) (λ a g.
-    if_then (IsNamed specs) (λ d. IsSpecified names d.1) (type_by_rules position.File x.1.again specs x.0) _ (rules_named position.File x.1.again specs x.0) (λ t n. record {
+    if_then (IsNamed specs) (λ d. IsSpecified names d.1) (type_by_rules position.File x.1.undeclared x.1.again specs x.0) _ (rules_named position.File x.1.undeclared x.1.again specs x.0) (λ t n. record {
       plain = named_is_plain specs t n;
       enumeration = number_is f.tags x.1.number t e.1 (int_named f.tags f.words t n);
       attribute = held_more (MayAllHold names) (MayAllHold names) (FitsKind k) (IsOf t) (λ q. q)

@@ -1,10 +1,11 @@
 -- The objects of a unit's contents are formed, through all of its declarations.
-use Rattle.std.proofs.Common.{◌≡◌, ℕ, ◌⊎◌, Bool, true, false, is_some, if◌then◌else◌, List, [], ◌∷◌, Option, Some, None}
+use Rattle.std.proofs.Common.{◌≡◌, ℕ, ◌⊎◌, refl, sym, subst, Bool, true, false, is_some, if◌then◌else◌, List, [], ◌∷◌, Option, Some, None}
 use Rattle.std.specs.List.{list_any, AllByRecursion}
 use Rattle.mv_ast.specs.declared.place.Place.{Place}
 use Rattle.mv_ast.specs.declared.program.CType.{CType}
 use Rattle.mv_ast.specs.declared.program.CType.TheVariants.{Scalar}
 use Rattle.mv_num.specs.declared.kind.Kind.TheVariants.{Int}
+use Rattle.mv_ast.specs.declared.program.Local.{Local}
 use Rattle.mv_ast.specs.declared.unit.Declarator.{Declarator}
 use Rattle.mv_ast.specs.declared.unit.Item.{Item}
 use Rattle.mv_ast.specs.declared.unit.Line.{Line}
@@ -19,7 +20,9 @@ use Rattle.mv_declare.specs.declared.declarators.Entity.{Entity}
 use Rattle.mv_declare.specs.declared.declarators.Entity.TheVariants as entity
 use Rattle.mv_declare.specs.declared.globals.Designated.{Designated}
 use Rattle.mv_declare.specs.declared.specifiers.Specified.{Specified}
-use Rattle.mv_declare.specs.Globals.{file_declarator}
+use Rattle.mv_declare.specs.Globals.{file_declarator, domain_of}
+use Rattle.mv_declare.specs.Initials.{array_size, plain_values}
+use Rattle.mv_declare.specs.Objects.{scalar, sized}
 use Rattle.mv_declare.specs.Specifiers.{specifiers}
 use Rattle.mv_declare.specs.Turns.{through}
 use Rattle.mv_types.specs.declared.contents.Contents.{Contents}
@@ -31,13 +34,13 @@ use Rattle.mv_types.specs.Foreknown.{foreknown}
 use Rattle.mv_types.specs.Functions as functions
 use Rattle.mv_types.specs.Functions.{function_of, function_scope, params_of, defined, before_of, rule_of, function_behind, function_judgement, definition_parameters}
 use Rattle.mv_types.specs.Objects.{domain_by}
-use Rattle.mv_types.specs.Units.{by_entity, named_declarator, base_of, declarator_judgement, declares_constant, holders, declares_nothing, names_judgement, item_judgement, program_or_broken, program_judgement, unit_judgement}
+use Rattle.mv_types.specs.Units.{by_entity, nameless_values, named_declarator, base_of, declarator_judgement, declares_constant, holders, declares_nothing, names_judgement, item_judgement, program_or_broken, program_judgement, unit_judgement}
 use Rattle.mv_typed_bodies.proofs.Judging.{IfGood, of_good, if_any, if_then, if_kept, if_more, if_through}
 use Rattle.mv_typed_bodies.proofs.Lists.{each_any}
 use Rattle.mv_formed_globals.specs.Globals.{HasFormedGlobals, GlobalsAreFormed}
 use Rattle.mv_formed_globals.proofs.Tests.{if_given}
 use Rattle.mv_formed_globals.proofs.Values.{IsOf}
-use Rattle.mv_formed_globals.proofs.Domains.{IsHeld, held_more, domain_of_is}
+use Rattle.mv_formed_globals.proofs.Domains.{IsDomain, IsHeld, held_more, domain_of_is}
 use Rattle.mv_formed_globals.proofs.Specified.{MayHold, MayAllHold, IsSpecified, specifiers_are}
 use Rattle.mv_formed_globals.proofs.Designated.{IsHolderOf, file_is}
 use Rattle.mv_formed_globals.proofs.Objects.{IsFormedObject, AreFormed, IsDomainFor, object_formed}
@@ -63,8 +66,10 @@ module _ (P : List Object → Type 0) where
   function_behind_has : (k : Foreknown) (d : Declarator) (name : List ℕ) (result : CType) (signature : ℕ) (body : Option Line) (c : Contents) (b : Before) → Have c →
       IfGood (function_behind k d name result signature body c b) Have
   function_behind_has k d name result signature body c b h =
-      unless_have d.place (rule_of d signature body c b) (defined k name result (params_of d) body b.number (in_scope c (function_scope k name signature b.meaning b.builtin c.scope)))
-      (defined_have k name result (params_of d) body b.number (in_scope c (function_scope k name signature b.meaning b.builtin c.scope)) h)
+      let s = function_scope k name signature b.meaning b.builtin c.scope in
+      if_then (λ x. Unit {0}) Have (plain_values d.initial s) _ (if_any (plain_values d.initial s)) (λ x u.
+      unless_have d.place (rule_of d signature body c b) (defined k name result (params_of d) body b.number (in_scope c s))
+      (defined_have k name result (params_of d) body b.number (in_scope c s) h))
 
   pub function_has : (k : Foreknown) (d : Declarator) (name : List ℕ) (result : CType) (signature : ℕ) (body : Option Line) (c : Contents) → Have c →
       IfGood (function_judgement k d name result signature body c) Have
@@ -76,23 +81,33 @@ module _ (P : List Object → Type 0) where
 abbrev IsEnumerated : Specified → Type 0
 IsEnumerated b = (b.enumeration ≡ None) ⊎ (b.ctype ≡ Scalar Int)
 
-domain_for : (b : Specified) (e : Entity) (a : Option Attribute) (s : Scope) → IsPlain b.ctype → IsEnumerated b → IsHeld (IsHolderOf b.ctype e) (IsOf b.ctype) a →
-    IsDomainFor e (domain_by s b.enumeration a)
-domain_for b e None s plain enum h = tt
-domain_for b e (Some a) s plain enum h = (b.ctype, plain, h.0, domain_of_is b.ctype s b.enumeration enum (IsHolderOf b.ctype e) a h)
+scalar_domain : (b : Specified) (t : CType) (a : Option Attribute) (s : Scope) → IsPlain b.ctype → IsEnumerated b → IsHeld (t ≡ b.ctype) (IsOf b.ctype) a →
+    IsDomainFor (scalar t) (domain_by s b.enumeration a)
+scalar_domain b t None s plain enum h = tt
+scalar_domain b t (Some a) s plain enum h = (
+  subst IsPlain (sym h.0) plain,
+  refl,
+  subst (λ u. IsDomain (IsOf u) (domain_of s b.enumeration a)) (sym h.0) (domain_of_is b.ctype s b.enumeration enum (t ≡ b.ctype) a h),
+)
+
+array_domain : (b : Specified) (l : Local) (a : Option Attribute) (s : Scope) → IsHeld ⊥ (IsOf b.ctype) a → IsDomainFor l (domain_by s b.enumeration a)
+array_domain b l None s h = tt
+array_domain b l (Some a) s h = absurd h.0
 
 entity_formed : (k : Foreknown) (b : Specified) (body : Option Line) (d : Declarator) (name : List ℕ) (e : Entity) (a : Option Attribute) (c : Contents) → AreFormed c →
     IsPlain b.ctype → IsEnumerated b → IsHeld (IsHolderOf b.ctype e) (IsOf b.ctype) a → IfGood (by_entity k b body d name e a c) AreFormed
 entity_formed k b body d name (entity.Function signature) a c formed plain enum h = function_has (AllByRecursion IsFormedObject) k d name b.ctype signature body c formed
 entity_formed k b body d name (entity.Scalar t fixed) a c formed plain enum h =
-    object_formed k d name (domain_by c.scope b.enumeration a) c formed (entity.Scalar t fixed) (is_some body) (domain_for b (entity.Scalar t fixed) a c.scope plain enum h)
+    object_formed k d name (domain_by c.scope b.enumeration a) c formed (scalar t) (is_some body) (scalar_domain b t a c.scope plain enum h)
 entity_formed k b body d name (entity.Array t fixed size) a c formed plain enum h =
-    object_formed k d name (domain_by c.scope b.enumeration a) c formed (entity.Array t fixed size) (is_some body) (domain_for b (entity.Array t fixed size) a c.scope plain enum h)
+    let l = sized t (array_size size d.initial) in
+    object_formed k d name (domain_by c.scope b.enumeration a) c formed l (is_some body) (array_domain b l a c.scope h)
 
 named_formed : (k : Foreknown) (b : Specified) (body : Option Line) (d : Declarator) (name : Option (List ℕ)) (e : Designated) (c : Contents) → AreFormed c →
     IsPlain b.ctype → IsEnumerated b → IsHeld (IsHolderOf b.ctype e.entity) (IsOf b.ctype) e.attribute → IfGood (named_declarator k b body d name e c) AreFormed
 unfolding named_declarator
-named_formed k b body d None e c formed plain enum h = tt
+named_formed k b body d None e c formed plain enum h =
+    if_then (λ u. Unit {0}) AreFormed (nameless_values e.entity d.initial c.scope) _ (if_any (nameless_values e.entity d.initial c.scope)) (λ u v. tt)
 named_formed k b body d (Some name) e c formed plain enum h = entity_formed k b body d name e.entity e.attribute c formed plain enum h
 
 declarator_formed : (k : Foreknown) (b : Specified) (body : Option Line) (d : Declarator) (c : Contents) → AreFormed c →

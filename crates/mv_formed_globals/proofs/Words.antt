@@ -1,5 +1,5 @@
 -- The words that a global is given: as many as it has room for, and values of its type.
-use Rattle.std.proofs.Common.{◌≡◌, ℕ, ◌+◌, ◌≤◌, arith, refl, sym, subst, Bool, true, false, not, nat_le, nat_lt, if◌then◌else◌, List, [], ◌∷◌, ◌++◌, map, length, Option, Some, None}
+use Rattle.std.proofs.Common.{◌≡◌, ℕ, ◌+◌, ◌≤◌, arith, refl, sym, subst, ◌&&◌, is_some, Bool, true, false, not, nat_le, nat_lt, if◌then◌else◌, List, [], ◌∷◌, ◌++◌, map, length, Option, Some, None}
 use Rattle.std.specs.List.{AllByRecursion}
 use Rattle.std.proofs.lemmas.List.{length-append, length-map}
 use Rattle.std.proofs.lemmas.Bool.{not-false, and_parts, leb-true, ltb-true}
@@ -7,18 +7,22 @@ use Rattle.mv_ast.specs.declared.place.Place.{Place}
 use Rattle.mv_ast.specs.declared.program.CType.{CType}
 use Rattle.mv_ast.specs.declared.program.Expr.{Expr}
 use Rattle.mv_ast.specs.declared.program.Local.{Local}
+use Rattle.mv_ast.specs.declared.unit.Declarator.{Declarator}
 use Rattle.mv_ast.specs.declared.unit.Initial.{Initial}
 use Rattle.mv_ast.specs.declared.unit.Initial.TheVariants as initial
 use Rattle.mv_ast.specs.declared.unit.Node.{Node}
 use Rattle.mv_ast.specs.Counts.{words_of_size}
 use Rattle.mv_ast.specs.Operators.{converted}
+use Rattle.mv_scope.specs.declared.meaning.Meaning.{Meaning}
 use Rattle.mv_scope.specs.declared.scope.Scope.{Scope}
-use Rattle.mv_judge.specs.Judged.{Good}
 use Rattle.mv_judge.specs.Judgements.{value_judgement}
 use Rattle.mv_declare.specs.declared.globals.Words.{Words}
-use Rattle.mv_declare.specs.Globals.{constant_word, word_or_broken, first_word, no_words, first_words, single_word, listed_words, is_char, string_fits, room_behind, string_words, global_words}
-use Rattle.mv_declare.specs.Initials.{has_room}
-use Rattle.mv_typed_bodies.proofs.Judging.{IfGood, if_any, if_then, if_kept, if_more, if_through}
+use Rattle.mv_declare.specs.Globals.{constant_word, word_or_broken, first_word, no_words, first_words, room_behind, string_words, global_words}
+use Rattle.mv_declare.specs.Objects.{has_room, is_char, string_fits, is_single, is_overfull, least}
+use Rattle.mv_types.specs.declared.contents.Object.{Object}
+use Rattle.mv_types.specs.Objects.{breaches, object_words}
+use Rattle.mv_typed_bodies.proofs.Judging.{IfGood, if_any, if_then, if_more, if_through}
+use Rattle.mv_typed_bodies.proofs.Unbroken.{if_unbroken, unbroken, all_convert, has_extents}
 use Rattle.mv_typed_bodies.proofs.Lists.{each_any, all_append, all_last}
 use Rattle.mv_formed_globals.proofs.Values.{IsOf, converted_is, no_is}
 
@@ -54,25 +58,6 @@ firsts_are t s nodes =
     (if_through (first_word t s) (Next t) (λ node. Unit {0}) (λ x h. h) (λ x y z h k i. k (h i))
     (λ node u x. if_more (IsMore t x) (Next t x) (first_word t s node x) (λ y m. more_are t x y m) (first_more t s node x)) nodes (each_any nodes) no_words)
 
-single_are : (place : Place) (t : CType) (size : Option ℕ) (x : Words) → IsMore t no_words x → IfGood (single_word place size x) (AreWords t size)
-unfolding single_word
-single_are place t None x m =
-    if_kept (AreWords t None) (not x.all) place 5 (Good x.words) (λ q. record {
-      given = subst (λ (ws : List ℕ). length ws ≤ 1) (sym m.1) (omega arith);
-      values = more_are t no_words x m tt;
-    })
-single_are place t (Some n) x m = tt
-
-listed_are : (place : Place) (t : CType) (size : Option ℕ) (x : Words) → AreOf t x.words → IfGood (listed_words place size x) (AreWords t size)
-unfolding listed_words
-listed_are place t None x h = if_kept (AreWords t None) (not x.all) place 5 _ (λ q. tt)
-listed_are place t (Some n) x h =
-    if_kept (AreWords t (Some n)) (not x.all) place 5 _ (λ q.
-    if_kept (AreWords t (Some n)) (not (nat_le (length x.words) n)) place 10 (Good x.words) (λ r. record {
-      given = leb-true (length x.words) n (not-false (nat_le (length x.words) n) r);
-      values = h;
-    }))
-
 -- ---- strings
 
 bytes_are : (t : CType) (bytes : List ℕ) → AreOf t (map (converted t) bytes)
@@ -106,18 +91,48 @@ characters_are t (Some n) bytes h = record {
   values = all_append (IsOf t) (map (converted t) bytes) (ending (nat_lt (length bytes) n)) (bytes_are t bytes) (ending_is t (nat_lt (length bytes) n));
 }
 
-string_are : (place : Place) (l : Local) (bytes : List ℕ) → IfGood (string_words place l bytes) (AreWords l.ctype l.size)
-unfolding string_words
-string_are place l bytes =
-    if_kept (AreWords l.ctype l.size) (not (string_fits l (length bytes))) place 10 _
-    (λ q. characters_are l.ctype l.size bytes (and_parts (is_char l.ctype) (has_room l.size (length bytes)) (not-false (string_fits l (length bytes)) q)).1)
+-- ---- the words of an object
 
-pub words_are : (place : Place) (l : Local) (given : Option Initial) (s : Scope) → IfGood (global_words place l given s) (AreWords l.ctype l.size)
-words_are place l None s = record { given = omega arith; values = tt }
-words_are place l (Some (initial.Value node)) s =
-    if_then (IsMore l.ctype no_words) (AreWords l.ctype l.size) (first_word l.ctype s node no_words) _ (first_more l.ctype s node no_words)
-    (λ x m. single_are place l.ctype l.size x m)
-words_are place l (Some (initial.Values nodes)) s =
-    if_then (λ x. AreOf l.ctype x.words) (AreWords l.ctype l.size) (first_words l.ctype s nodes) _ (firsts_are l.ctype s nodes)
-    (λ x h. listed_are place l.ctype l.size x h)
-words_are place l (Some (initial.Chars bytes)) s = string_are place l bytes
+-- what is known of the words that are given before the rules of the object
+abbrev AreGiven : Local → Option Initial → Words → Type 0
+AreGiven l None x = x.words ≡ []
+AreGiven l (Some (initial.Value node)) x = IsMore l.ctype no_words x
+AreGiven l (Some (initial.Values nodes)) x = AreOf l.ctype x.words
+AreGiven l (Some (initial.Chars bytes)) x = x ≡ string_words l bytes
+
+given_are : (l : Local) (given : Option Initial) (s : Scope) → IfGood (global_words l given s) (AreGiven l given)
+given_are l None s = refl
+given_are l (Some (initial.Value node)) s = first_more l.ctype s node no_words
+given_are l (Some (initial.Values nodes)) s = firsts_are l.ctype s nodes
+given_are l (Some (initial.Chars bytes)) s = refl
+
+single_are : (t : CType) (size : Option ℕ) (x : Words) → IsMore t no_words x → (is_some size && true) ≡ false → AreWords t size x.words
+single_are t None x m q = record {
+  given = subst (λ (ws : List ℕ). length ws ≤ 1) (sym m.1) (omega arith);
+  values = more_are t no_words x m tt;
+}
+single_are t (Some n) x m q = absurd (cc)
+
+listed_are : (t : CType) (size : Option ℕ) (x : Words) → AreOf t x.words → not (has_room size (length x.words)) ≡ false → AreWords t size x.words
+listed_are t None x h q = absurd (cc)
+listed_are t (Some n) x h q = record { given = leb-true (length x.words) n (not-false (nat_le (length x.words) n) q); values = h }
+
+string_are : (l : Local) (bytes : List ℕ) → not (string_fits l (length bytes)) ≡ false → AreWords l.ctype l.size (string_words l bytes).words
+string_are l bytes q =
+    characters_are l.ctype l.size bytes (and_parts (is_char l.ctype) (has_room l.size (length bytes)) (not-false (string_fits l (length bytes)) q)).1
+
+kept_are : (l : Local) (given : Option Initial) (x : Words) → AreGiven l given x → (is_some l.size && is_single given) ≡ false →
+    is_overfull true l given (length x.words) ≡ false → AreWords l.ctype l.size x.words
+kept_are l None x h q r = subst (AreWords l.ctype l.size) (sym h) (record { given = omega arith; values = tt })
+kept_are l (Some (initial.Value node)) x h q r = single_are l.ctype l.size x h q
+kept_are l (Some (initial.Values nodes)) x h q r = listed_are l.ctype l.size x h r
+kept_are l (Some (initial.Chars bytes)) x h q r = subst (λ (y : Words). AreWords l.ctype l.size y.words) (sym h) (string_are l bytes r)
+
+pub words_are : (d : Declarator) (before : Option Meaning) (objects : List Object) (l : Local) (domain : Option (List ℕ)) (block : Bool) (s : Scope) →
+    IfGood (object_words d before objects l domain block s) (AreWords l.ctype l.size)
+words_are d before objects l domain block s =
+    if_then (AreGiven l d.initial) (AreWords l.ctype l.size) (global_words l d.initial s) _ (given_are l d.initial s) (λ x h.
+    let b = breaches before objects l d.initial x domain block in
+    if_unbroken (AreWords l.ctype l.size) d.place (least b) x.words (λ q.
+    let u = unbroken b q in
+    kept_are l d.initial x h (all_convert l d.initial x.all u.void u.unconverted).1 (has_extents true l d.initial (length x.words) u.extents).1))

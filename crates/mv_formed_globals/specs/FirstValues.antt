@@ -1,27 +1,27 @@
 -- The first values of globals (C11 6.7.9).
-use Rattle.std.specs.Prelude.{◌≡◌, ℕ, All, List, Option}
-use Rattle.mv_ast.specs.declared.place.Place.{Place}
+use Rattle.std.specs.Prelude.{◌≡◌, ℕ, Bool, All, List, Option}
 use Rattle.mv_ast.specs.declared.program.Program.{Program}
 use Rattle.mv_ast.specs.declared.program.Function.{Function}
 use Rattle.mv_ast.specs.declared.program.Local.{Local}
 use Rattle.mv_ast.specs.declared.unit.Declarator.{Declarator}
-use Rattle.mv_ast.specs.declared.unit.Initial.{Initial}
 use Rattle.mv_ast.specs.declared.unit.Line.{Line}
+use Rattle.mv_scope.specs.declared.meaning.Meaning.{Meaning}
 use Rattle.mv_scope.specs.declared.scope.Scope.{Scope}
 use Rattle.mv_judge.specs.Judged.{Good}
 use Rattle.mv_declare.specs.declared.specifiers.Specified.{Specified}
-use Rattle.mv_declare.specs.Globals.{global_words}
 use Rattle.mv_numbering.specs.Typing.{IsFirstValue}
 use Rattle.mv_typing.specs.Soundness.{Fits}
 use Rattle.mv_types.specs.declared.contents.Contents.{Contents}
 use Rattle.mv_types.specs.declared.contents.Foreknown.{Foreknown}
+use Rattle.mv_types.specs.declared.contents.Object.{Object}
+use Rattle.mv_types.specs.Objects.{object_words}
 use Rattle.mv_types.specs.Units.{declarator_judgement, program_of}
 
 -- In a program that has what the scope says, the words that a global is given are first values of its type.
 abbrev pub FirstValuesAreTyped : Type 0
 FirstValuesAreTyped =
-    (p : Program) (f : Function) (place : Place) (l : Local) (given : Option Initial) (s : Scope) (words : List ℕ) → Fits p f s →
-    global_words place l given s ≡ Good words → All (IsFirstValue p l.ctype) words
+    (p : Program) (f : Function) (d : Declarator) (before : Option Meaning) (objects : List Object) (l : Local) (domain : Option (List ℕ)) (block : Bool) (s : Scope)
+    (words : List ℕ) → Fits p f s → object_words d before objects l domain block s ≡ Good words → All (IsFirstValue p l.ctype) words
 
 -- what the objects so far are given are first values of their types
 abbrev pub HaveFirstValues : Program → Contents → Type 0

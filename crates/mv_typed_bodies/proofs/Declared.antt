@@ -1,35 +1,32 @@
 -- Declarations in a block lead to a scope that has their locals, and their statements have a property.
-use Rattle.std.proofs.Common.{◌≡◌, ℕ, ◌⊎◌, inl, inr, refl, subst, Bool, List, [], ◌∷◌, ◌++◌, length, map, Option, Some, None, slice_get}
+use Rattle.std.proofs.Common.{◌≡◌, ℕ, ◌⊎◌, inl, inr, refl, sym, subst, Bool, true, false, is_some, unwrap_or, List, [], ◌∷◌, ◌++◌, length, map, Option, Some, None, slice_get}
 use Rattle.std.specs.List.{AllByRecursion}
-use Rattle.mv_ast.specs.declared.place.Place.{Place}
 use Rattle.mv_ast.specs.declared.program.CType.{CType}
 use Rattle.mv_ast.specs.declared.program.Function.{Function}
+use Rattle.mv_ast.specs.declared.program.Expr.{Expr}
 use Rattle.mv_ast.specs.declared.program.Local.{Local}
 use Rattle.mv_ast.specs.declared.program.Stmt.{Stmt}
 use Rattle.mv_ast.specs.declared.program.Stmt.TheVariants as stmt
 use Rattle.mv_ast.specs.declared.unit.Declarator.{Declarator}
-use Rattle.mv_ast.specs.declared.unit.Initial.{Initial}
 use Rattle.mv_ast.specs.declared.unit.Specs.{Specs}
 use Rattle.mv_scope.specs.declared.meaning.Meaning.{Meaning}
 use Rattle.mv_scope.specs.declared.scope.Scope.{Scope}
-use Rattle.mv_scope.specs.Conversions.{is_void}
 use Rattle.mv_scope.specs.Scoped.{meaning_of, declared, with_local}
 use Rattle.mv_judge.specs.Judged.{Good}
 use Rattle.mv_declare.specs.declared.attributes.Position.TheVariants as position
 use Rattle.mv_declare.specs.declared.declarators.Entity.{Entity}
 use Rattle.mv_declare.specs.declared.declarators.Entity.TheVariants as entity
-use Rattle.mv_declare.specs.declared.locals.Numbered.{Numbered}
 use Rattle.mv_declare.specs.Attributes.{attributes, nothing_holds}
-use Rattle.mv_declare.specs.Declarators.{designated}
-use Rattle.mv_declare.specs.Enumerators.{is_taken}
-use Rattle.mv_declare.specs.Initials.{array_size, initial_values}
-use Rattle.mv_declare.specs.Locals.{scalar, array, scalar_meaning, array_meaning, local_declared, sized_array, new_object, new_local, cleared, local, locals_judgement}
+use Rattle.mv_declare.specs.Declarators.{is_taken_by, designated}
+use Rattle.mv_declare.specs.Initials.{array_size, plain_values}
+use Rattle.mv_declare.specs.Locals.{scalar_meaning, array_meaning, own_scope, local_values, object, by_entity, local, locals_judgement}
+use Rattle.mv_declare.specs.Objects.{scalar, array}
 use Rattle.mv_declare.specs.Specifiers.{specifiers}
 use Rattle.mv_declare.specs.Turns.{Behind, next_part, in_turn}
 use Rattle.mv_numbering.specs.Typing.{local_types}
 use Rattle.mv_typing.specs.Soundness.{IsListed, IsMeant}
 use Rattle.mv_typing.proofs.Plain.{IsPlain}
-use Rattle.mv_typed_bodies.proofs.Judging.{IfGood, by_good, of_good, if_any, if_then, if_kept, if_more, if_through}
+use Rattle.mv_typed_bodies.proofs.Judging.{IfGood, by_good, of_good, if_any, if_then, if_more, if_through}
 use Rattle.mv_typed_bodies.proofs.Places.{last_there}
 use Rattle.mv_typed_bodies.proofs.Names.{declared_means}
 use Rattle.mv_typed_bodies.proofs.Growing.{grows_joined, grows_declared, grows_local}
@@ -39,6 +36,7 @@ use Rattle.mv_typed_bodies.proofs.Property.{MeansLocal, Passage}
 use Rattle.mv_typed_bodies.specs.Bodies.{Grows}
 use Rattle.mv_typed_bodies.proofs.Leading.{IsWithin, Leads, leads_here, leads_more, leads_joined, leads_renamed, leads_enumerated, later}
 use Rattle.mv_typed_bodies.proofs.Lists.{mapped_there}
+use Rattle.mv_typed_bodies.proofs.Values.{values_new}
 
 module _ (x : Passage) where
   abbrev f : Function
@@ -65,15 +63,6 @@ module _ (x : Passage) where
           (meaning_of s n ≡ Some k) ⊎ (IsMeant x.program f s.signatures k × x.of_name k)
       means there n k q = either there k n (declared_means (with_local s l) name m n k q)
 
-  -- what is declared is a local under a name, with the next number
-  abbrev numbered : Scope → Local → Numbered
-  numbered s l = record { number = length s.locals; local = l }
-
-  abbrev IsNewLocal : Scope → Scope × Numbered → Type 0
-  IsNewLocal s n =
-      (name : List ℕ) × (l : Local) × (m : Meaning) × (MeansLocal (length s.locals) l m) ×
-      Leads x s (declared (with_local s l) name m) (slice_get f.locals (length s.locals) ≡ Some l) × ((declared (with_local s l) name m, numbered s l) ≡ n)
-
   -- its type is that of a local
   typed_there : (n : ℕ) (l : Local) → slice_get f.locals n ≡ Some l → slice_get (local_types f) n ≡ Some l.ctype
   typed_there n l h = mapped_there (λ (k : Local). k.ctype) f.locals n l h
@@ -84,33 +73,18 @@ module _ (x : Passage) where
       new_leads s name (scalar t) (scalar_meaning (length s.locals) t fixed)
       (λ there. ((typed_there (length s.locals) (scalar t) there, h), x.scalar_local (length s.locals) t fixed there))
 
-  array_new : (place : Place) (name : List ℕ) (t : CType) (fixed : Bool) (size : Option ℕ) (s : Scope) → IsListed s.signatures t →
-      IfGood (sized_array place name t fixed size s) (IsNewLocal s)
-  array_new place name t fixed None s h = tt
-  array_new place name t fixed (Some n) s h = (
-    name,
-    array t n,
-    array_meaning (length s.locals) t fixed,
-    (fixed, inr refl),
-    new_leads s name (array t n) (array_meaning (length s.locals) t fixed)
-        (λ there. ((typed_there (length s.locals) (array t n) there, h), x.array_local (length s.locals) t n fixed there)),
-    refl,
-  )
+  array_leads : (name : List ℕ) (t : CType) (n : ℕ) (fixed : Bool) (s : Scope) → IsListed s.signatures t →
+      Leads x s (declared (with_local s (array t n)) name (array_meaning (length s.locals) t fixed)) (slice_get f.locals (length s.locals) ≡ Some (array t n))
+  array_leads name t n fixed s h =
+      new_leads s name (array t n) (array_meaning (length s.locals) t fixed)
+      (λ there. ((typed_there (length s.locals) (array t n) there, h), x.array_local (length s.locals) t n fixed there))
 
-  object_new : (place : Place) (name : List ℕ) (e : Entity) (given : Option Initial) (s : Scope) → IsListedEntity s.signatures e →
-      IfGood (new_object place name e given s) (IsNewLocal s)
-  object_new place name (entity.Scalar t fixed) given s h =
-      if_kept (IsNewLocal s) (is_void t) place 8 (local_declared s name (scalar t) (scalar_meaning (length s.locals) t fixed))
-      (λ q. (name, scalar t, scalar_meaning (length s.locals) t fixed, (fixed, inl refl), scalar_leads name t fixed s h, refl))
-  object_new place name (entity.Array t fixed size) given s h =
-      if_kept (IsNewLocal s) (is_void t) place 8 (sized_array place name t fixed (array_size size given) s) (λ q. array_new place name t fixed (array_size size given) s h)
-  object_new place name (entity.Function g) given s h = tt
-
-  local_new : (place : Place) (name : Option (List ℕ)) (e : Entity) (given : Option Initial) (s : Scope) → IsListedEntity s.signatures e →
-      IfGood (new_local place name e given s) (IsNewLocal s)
-  unfolding new_local
-  local_new place None e given s h = tt
-  local_new place (Some name) e given s h = if_kept (IsNewLocal s) (is_taken s name) place 2 (new_object place name e given s) (λ q. object_new place name e given s h)
+  -- the name of a local is new
+  own_is : (s : Scope) (name : Option (List ℕ)) (l : Local) (m : Meaning) → is_some name ≡ true → is_taken_by s name ≡ false →
+      (n : List ℕ) × (own_scope s name l m ≡ declared (with_local s l) n m)
+  unfolding own_scope
+  own_is s None l m h k = absurd (cc)
+  own_is s (Some n) l m h k = (n, rw k refl)
 
   -- ---- declarations, where a `break` and a `continue` may stand or not
 
@@ -121,23 +95,47 @@ module _ (x : Passage) where
     abbrev LeadsToStmt : Scope → Scope × Stmt → Type 0
     LeadsToStmt s d = Leads x s d.0 (Lines s d.0 (d.1 ∷ []))
 
-    -- the values of a local
-    cleared_leads : (s e : Scope) (n : Scope × Numbered) (place : Place) (given : Option Initial) → e.names ≡ s.names → Leads x s e (Unit {0}) → IsNewLocal e n →
-        IfGood (cleared n.0 n.1 place given) (LeadsToStmt s)
-    cleared_leads s e n place given names leads h =
-        subst (λ (z : Scope × Numbered). IfGood (cleared z.0 z.1 place given) (LeadsToStmt s)) h.5
-        (if_then (λ es. initial_values place h.1 given t ≡ Good es) (LeadsToStmt s) (initial_values place h.1 given t) _
-        (by_good (λ es. initial_values place h.1 given t ≡ Good es) (initial_values place h.1 given t) (λ es q. q)) (λ es q.
-        leads_joined x s t t There (x.of_values t h.1 es) (Lines s t (stmt.Clear (length e.locals) es ∷ []))
-        (λ there vs. x.clear_line b c s e h.0 h.1 h.2 es names h.3 there vs)
-        (leads_joined x s e t (Unit {0}) There There (λ u there. there) leads h.4)
-        (leads_here x t (x.of_values t h.1 es) (λ k. of_good (x.of_values t h.1) (initial_values place h.1 given t) (x.initials t k place h.1 given) es q))))
+    -- an object
+    object_leads : (s e : Scope) (d : Declarator) (l : Local) (m : Meaning) → e.names ≡ s.names → Leads x s e (Unit {0}) → MeansLocal (length e.locals) l m →
+        ((name : List ℕ) → Leads x e (declared (with_local e l) name m) (slice_get f.locals (length e.locals) ≡ Some l)) → IfGood (object d l m e) (LeadsToStmt s)
+    object_leads s e d l m names leads means new =
+        if_then (λ es. local_values d taken l own ≡ Good es) (LeadsToStmt s) (local_values d taken l own) _
+        (by_good (λ es. local_values d taken l own ≡ Good es) (local_values d taken l own) (λ es q. q)) (λ es q. stands es q)
       where
-        t : Scope
-        t = declared (with_local e h.1) h.0 h.2
+        taken : Bool
+        taken = is_taken_by e d.name
+
+        own : Scope
+        own = own_scope e d.name l m
 
         There : Type 0
-        There = slice_get f.locals (length e.locals) ≡ Some h.1
+        There = slice_get f.locals (length e.locals) ≡ Some l
+
+        named : (name : List ℕ) (es : List Expr) → local_values d taken l (declared (with_local e l) name m) ≡ Good es →
+            LeadsToStmt s (declared (with_local e l) name m, stmt.Clear (length e.locals) es)
+        named name es q =
+            let t : Scope = declared (with_local e l) name m in
+            leads_joined x s t t There (x.of_values t l es) (Lines s t (stmt.Clear (length e.locals) es ∷ []))
+            (λ there vs. x.clear_line b c s e name l m es names means there vs)
+            (leads_joined x s e t (Unit {0}) There There (λ u there. there) leads (new name))
+            (leads_here x t (x.of_values t l es) (λ k. of_good (x.of_values t l) (local_values d taken l t) (x.initials t k d taken l) es q))
+
+        stands : (es : List Expr) → local_values d taken l own ≡ Good es → LeadsToStmt s (own, stmt.Clear (length e.locals) es)
+        stands es q =
+            let n = of_good (λ fs. (is_some d.name ≡ true) × (taken ≡ false)) (local_values d taken l own) (values_new d taken l own) es q in
+            let is = own_is e d.name l m n.0 n.1 in
+            subst (λ z. LeadsToStmt s (z, stmt.Clear (length e.locals) es)) (sym is.1)
+            (named is.0 es (subst (λ z. local_values d taken l z ≡ Good es) is.1 q))
+
+    entity_leads : (s e : Scope) (d : Declarator) (y : Entity) → e.names ≡ s.names → Leads x s e (Unit {0}) → IsListedEntity e.signatures y →
+        IfGood (by_entity d y e) (LeadsToStmt s)
+    entity_leads s e d (entity.Scalar t fixed) names leads h =
+        object_leads s e d (scalar t) (scalar_meaning (length e.locals) t fixed) names leads (fixed, inl refl) (λ name. scalar_leads name t fixed e h)
+    entity_leads s e d (entity.Array t fixed size) names leads h =
+        let n = unwrap_or (array_size size d.initial) 0 in
+        object_leads s e d (array t n) (array_meaning (length e.locals) t fixed) names leads (fixed, inr refl) (λ name. array_leads name t n fixed e h)
+    entity_leads s e d (entity.Function g) names leads h =
+        if_then (λ y. Unit {0}) (LeadsToStmt s) (plain_values d.initial e) _ (if_any (plain_values d.initial e)) (λ y u. tt)
 
     abbrev PartLeads : (Scope → Behind Stmt) → Type 0
     PartLeads part = (s : Scope) → IfGood (part s) (LeadsToStmt s)
@@ -147,8 +145,7 @@ module _ (x : Passage) where
         if_then (Designates s) (LeadsToStmt s) (designated d.shape t fixed s) _ (shape_designates d.shape t fixed s plain) (λ e g.
         let given = attributes nothing_holds None e.0 d.marks None in
         if_then (λ a. Unit {0}) (LeadsToStmt s) given _ (if_any given) (λ a u.
-        if_then (IsNewLocal e.0) (LeadsToStmt s) (new_local d.place d.name e.1 d.initial e.0) _ (local_new d.place d.name e.1 d.initial e.0 g.listed) (λ n h.
-        cleared_leads s e.0 n d.place d.initial g.names (leads_renamed x s e.0 g.declares.grows g.names) h)))
+        entity_leads s e.0 d e.1 g.names (leads_renamed x s e.0 g.declares.grows g.names) g.listed))
 
     -- lines behind others
     abbrev pub LeadsToMore : Scope × List Stmt → Scope × List Stmt → Type 0

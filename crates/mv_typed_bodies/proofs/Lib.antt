@@ -1,5 +1,6 @@
 pub mod Lists
 pub mod Judging
+pub mod Unbroken
 pub mod Places
 pub mod Names
 pub mod Signatures

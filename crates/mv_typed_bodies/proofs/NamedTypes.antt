@@ -29,10 +29,10 @@ type_named s specs =
     if_more (λ t. named_type (length flags) f.words ≡ Some t) (IsNamed specs) (type_or_broken f.place (named_type (length flags) f.words))
     (λ t h. ap (λ n. named_type n f.words) (sym (length-map f.tags (undeclared_enum s))) ∙ h) (option_named f.place (named_type (length flags) f.words)))
 
-pub rules_named : (position : Position) (again : Bool) (specs : Specs) (s : Scope) → IfGood (type_by_rules position again specs s) (IsNamed specs)
+pub rules_named : (position : Position) (undeclared again : Bool) (specs : Specs) (s : Scope) → IfGood (type_by_rules position undeclared again specs s) (IsNamed specs)
 unfolding type_by_rules
-rules_named position again specs s =
+rules_named position undeclared again specs s =
     let f = out-Specs specs in
-    if_kept (IsNamed specs) (any_is (map (undeclared_enum s) f.tags)) f.place 1 _ (λ q.
+    if_kept (IsNamed specs) undeclared f.place 1 _ (λ q.
     if_kept (IsNamed specs) again f.place 2 _ (λ r.
     if_kept (IsNamed specs) (f.hidden && not (at_file position)) f.place 22 (type_of s specs) (λ u. type_named s specs)))

@@ -13,7 +13,7 @@ use Rattle.mv_declare.specs.declared.declarators.Entity.{Entity}
 use Rattle.mv_declare.specs.declared.declarators.Entity.TheVariants as entity
 use Rattle.mv_declare.specs.Attributes.{attributes, nothing_holds}
 use Rattle.mv_declare.specs.Declarators.{designated, is_taken_by}
-use Rattle.mv_declare.specs.Locals.{scalar}
+use Rattle.mv_declare.specs.Objects.{scalar}
 use Rattle.mv_declare.specs.Parameters.{named_parameter, defined_parameter, new_defined, parameter_judgement, parameters_judgement}
 use Rattle.mv_declare.specs.Specifiers.{specifiers}
 use Rattle.mv_typed_bodies.proofs.Judging.{IfGood, if_any, if_then, if_kept, if_more, if_through}

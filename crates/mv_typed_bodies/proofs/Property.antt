@@ -1,7 +1,6 @@
 -- Properties of the statements of a function that come from those of their parts, from the scope before them to the scope behind them.
 use Rattle.std.proofs.Common.{◌≡◌, ℕ, ◌⊎◌, Bool, true, false, List, [], ◌∷◌, ◌++◌, length, Option, Some, None, slice_get}
 use Rattle.std.specs.List.{AllByRecursion}
-use Rattle.mv_ast.specs.declared.place.Place.{Place}
 use Rattle.mv_ast.specs.declared.program.CType.{CType}
 use Rattle.mv_ast.specs.declared.program.Program.{Program}
 use Rattle.mv_ast.specs.declared.program.Function.{Function}
@@ -9,7 +8,7 @@ use Rattle.mv_ast.specs.declared.program.Local.{Local}
 use Rattle.mv_ast.specs.declared.program.Expr.{Expr}
 use Rattle.mv_ast.specs.declared.program.Stmt.{Stmt}
 use Rattle.mv_ast.specs.declared.program.Stmt.TheVariants as stmt
-use Rattle.mv_ast.specs.declared.unit.Initial.{Initial}
+use Rattle.mv_ast.specs.declared.unit.Declarator.{Declarator}
 use Rattle.mv_ast.specs.declared.unit.Node.{Node}
 use Rattle.mv_scope.specs.declared.meaning.Meaning.{Meaning}
 use Rattle.mv_scope.specs.declared.meaning.Meaning.TheVariants as meaning
@@ -18,8 +17,8 @@ use Rattle.mv_scope.specs.Constants.{converts}
 use Rattle.mv_scope.specs.Conversions.{is_integer, is_void, promoted, converted_to}
 use Rattle.mv_scope.specs.Scoped.{meaning_of, declared, with_local, block_entered, block_left}
 use Rattle.mv_judge.specs.Judgements.{value_judgement, effect_judgement}
-use Rattle.mv_declare.specs.Initials.{initial_values}
-use Rattle.mv_declare.specs.Locals.{scalar, array, scalar_meaning, array_meaning}
+use Rattle.mv_declare.specs.Locals.{scalar_meaning, array_meaning, local_values}
+use Rattle.mv_declare.specs.Objects.{scalar, array}
 use Rattle.mv_statement_rules.specs.declared.arms.Arms.{Arms}
 use Rattle.mv_statement_rules.specs.SwitchBodies.{no_arms, with_case, with_default, with_statement, arms_of}
 use Rattle.mv_typing.specs.Soundness.{Fits}
@@ -60,7 +59,7 @@ pub record Passage : Type 1 where
   -- what keeps the rules in a scope whose names have the property
   pub value : (s : Scope) → Holds program function of_name s → (e : Node) → IfGood (value_judgement s e) (of_value s)
   pub effect : (s : Scope) → Holds program function of_name s → (e : Node) → IfGood (effect_judgement s e) (of_value s)
-  pub initials : (s : Scope) → Holds program function of_name s → (place : Place) (l : Local) (given : Option Initial) → IfGood (initial_values place l given s) (of_values s l)
+  pub initials : (s : Scope) → Holds program function of_name s → (d : Declarator) (taken : Bool) (l : Local) → IfGood (local_values d taken l s) (of_values s l)
   -- lines
   pub no_lines : (b c : Bool) (s t : Scope) → Enumerates s t → of_lines b c s t []
   pub more_lines : (b c : Bool) (s t u : Scope) (ss ts : List Stmt) → of_lines b c s t ss → of_lines b c t u ts → of_lines b c s u (ss ++ ts)
@@ -114,7 +113,7 @@ pub record Property : Type 1 where
   -- what keeps the rules in a scope whose names have the property
   pub value : (s : Scope) → Holds program function of_name s → (e : Node) → IfGood (value_judgement s e) of_value
   pub effect : (s : Scope) → Holds program function of_name s → (e : Node) → IfGood (effect_judgement s e) of_value
-  pub initials : (s : Scope) → Holds program function of_name s → (place : Place) (l : Local) (given : Option Initial) → IfGood (initial_values place l given s) (of_values l)
+  pub initials : (s : Scope) → Holds program function of_name s → (d : Declarator) (taken : Bool) (l : Local) → IfGood (local_values d taken l s) (of_values l)
   -- the forms of a statement
   pub block_form : (b c : Bool) (ss : List Stmt) → AllByRecursion (of_stmt b c) ss → of_stmt b c (stmt.Block ss)
   pub clear_form : (b c : Bool) (n : ℕ) (l : Local) (es : List Expr) → slice_get function.locals n ≡ Some l → of_values l es → of_stmt b c (stmt.Clear n es)

@@ -110,7 +110,7 @@ module _ (R : Scope → Scope → Type 0) (same : (s : Scope) → R s s) (joined
       if_then (λ x. R s x.0) (Behind R specs s) (enum_specifiers h k f.marks f.tags s) _ (enums_kept h k f.marks f.tags s) (λ x e.
       let given = attributes h k x.0 (drop x.1.used f.marks) x.1.attribute in
       if_then (λ a. Unit {0}) (Behind R specs s) given _ (if_any given) (λ a u.
-      if_then (IsNamed specs) (Behind R specs s) (type_by_rules position x.1.again specs x.0) _ (rules_named position x.1.again specs x.0) (λ t n. (e, n))))
+      if_then (IsNamed specs) (Behind R specs s) (type_by_rules position x.1.undeclared x.1.again specs x.0) _ (rules_named position x.1.undeclared x.1.again specs x.0) (λ t n. (e, n))))
 
 -- ---- specifiers only enumerate
 

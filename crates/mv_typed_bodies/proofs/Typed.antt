@@ -54,8 +54,8 @@ module _ (p : Program) (f : Function) where
       array_local = λ n t size fixed h. tt;
       value = λ s k e. by_good (IsTypedExpr p f) (value_judgement s e) (λ y q. values p f s e y k.fits q);
       effect = λ s k e. by_good (IsTypedExpr p f) (effect_judgement s e) (λ y q. effects p f s e y k.fits q);
-      initials = λ s k place l given.
-          initials_have s (IsTypedExpr p f) (λ e. by_good (IsTypedExpr p f) (value_judgement s e) (λ y q. values p f s e y k.fits q)) (IsTypedAt p f) (converted_at p f) place l given;
+      initials = λ s k d taken l.
+          initials_have s (IsTypedExpr p f) (λ e. by_good (IsTypedExpr p f) (value_judgement s e) (λ y q. values p f s e y k.fits q)) (IsTypedAt p f) (converted_at p f) d taken l;
       block_form = λ b c ss h. block_made p f ss h;
       clear_form = λ b c n l es there h. clear_made p f n l.ctype es (mapped_there (λ (k : Local). k.ctype) f.locals n l there) h;
       express_form = λ b c e h. express_made p f e h;

@@ -1,24 +1,26 @@
 -- The values that a local is given: what holds of each, converted, and how many there are.
-use Rattle.std.proofs.Common.{◌≡◌, ℕ, refl, true, not, ◌||◌, is_some, nat_le, ap, arith, List, length, Option, Some, None}
+use Rattle.std.proofs.Common.{◌≡◌, ℕ, refl, sym, Bool, true, false, not, ◌&&◌, is_some, nat_le, ap, subst, arith, List, length, Option, Some, None}
 use Rattle.std.specs.List.{AllByRecursion}
-use Rattle.std.proofs.lemmas.Bool.{not-false, and_parts, or_parts}
-use Rattle.mv_ast.specs.declared.place.Place.{Place}
+use Rattle.std.proofs.lemmas.Bool.{not-false, and_parts}
 use Rattle.mv_ast.specs.declared.program.CType.{CType}
 use Rattle.mv_ast.specs.declared.program.Local.{Local}
 use Rattle.mv_ast.specs.declared.program.Expr.{Expr}
 use Rattle.mv_ast.specs.Counts.{words_of_size}
+use Rattle.mv_ast.specs.declared.unit.Declarator.{Declarator}
 use Rattle.mv_ast.specs.declared.unit.Initial.{Initial}
 use Rattle.mv_ast.specs.declared.unit.Initial.TheVariants as initial
 use Rattle.mv_ast.specs.declared.unit.Node.{Node}
 use Rattle.mv_scope.specs.declared.scope.Scope.{Scope}
 use Rattle.mv_scope.specs.Constants.{converts}
 use Rattle.mv_scope.specs.Conversions.{converted_to}
-use Rattle.mv_judge.specs.Judged.{Good}
 use Rattle.mv_judge.specs.Judgements.{value_judgement}
 use Rattle.mv_declare.specs.declared.initials.Converted.{Converted}
-use Rattle.mv_declare.specs.Initials.{with_converted, converted_value, none_converted, converted_values, has_room, single_value, listed_values, initial_values}
-use Rattle.mv_typed_bodies.proofs.Judging.{IfGood, if_any, if_then, if_kept, if_more, if_through}
+use Rattle.mv_declare.specs.Initials.{with_converted, converted_value, none_converted, converted_values, initial_values}
+use Rattle.mv_declare.specs.Locals.{rule_of, local_values}
+use Rattle.mv_declare.specs.Objects.{has_room, is_single, is_overfull}
+use Rattle.mv_typed_bodies.proofs.Judging.{IfGood, if_any, if_then, if_more, if_through}
 use Rattle.mv_typed_bodies.proofs.Lists.{each_any, all_last}
+use Rattle.mv_typed_bodies.proofs.Unbroken.{if_unbroken, all_convert, has_extents, named_rule}
 
 -- where a value that keeps the rules is V, and W of a type once it is converted to it
 module _ (s : Scope) (V : Expr → Type 0) (value : (node : Node) → IfGood (value_judgement s node) V)
@@ -45,51 +47,67 @@ module _ (s : Scope) (V : Expr → Type 0) (value : (node : Node) → IfGood (va
         if_more (Next none_converted) IsConverted (converted_values t s nodes) (λ x h. h (λ q. tt))
         (if_through (converted_value t s) Next (λ node. Unit {0}) (λ x h. h) (λ x y z h k i. k (h i)) (λ node u x. value_next node x) nodes (each_any nodes) none_converted)
 
-    single_have : (place : Place) (size : Option ℕ) (x : Converted) → IsConverted x → IfGood (single_value place size x) (AllByRecursion (W t))
-    unfolding single_value
-    single_have place size x h =
-        if_kept (AllByRecursion (W t)) (is_some size || not x.all) place 5 (Good x.values) (λ q. h (not-false x.all (or_parts (is_some size) (not x.all) q).1))
+    values_have : (given : Option Initial) → IfGood (initial_values t given s) IsConverted
+    values_have None = λ q. tt
+    values_have (Some (initial.Value node)) = value_converted node none_converted (λ q. tt)
+    values_have (Some (initial.Values nodes)) = values_converted nodes
+    values_have (Some (initial.Chars bytes)) = λ q. tt
 
-    listed_have : (place : Place) (size : Option ℕ) (x : Converted) → IsConverted x → IfGood (listed_values place size x) (AllByRecursion (W t))
-    unfolding listed_values
-    listed_have place size x h =
-        if_kept (AllByRecursion (W t)) (not x.all) place 5 _ (λ q.
-        if_kept (AllByRecursion (W t)) (not (has_room size (length x.values))) place 10 (Good x.values) (λ r. h (not-false x.all q)))
+  pub initials_have : (d : Declarator) (taken : Bool) (l : Local) → IfGood (local_values d taken l s) (AllByRecursion (W l.ctype))
+  initials_have d taken l =
+      if_then (IsConverted l.ctype) (AllByRecursion (W l.ctype)) (initial_values l.ctype d.initial s) _ (values_have l.ctype d.initial) (λ x h.
+      if_unbroken (AllByRecursion (W l.ctype)) d.place (rule_of d.name taken l d.initial x) x.values (λ q.
+      let b = (named_rule d.name taken l d.initial x q).1 in
+      h (all_convert l d.initial x.all b.void b.unconverted).0))
 
-  pub initials_have : (place : Place) (l : Local) (given : Option Initial) → IfGood (initial_values place l given s) (AllByRecursion (W l.ctype))
-  initials_have place l None = tt
-  initials_have place l (Some (initial.Value node)) =
-      if_then (IsConverted l.ctype) (AllByRecursion (W l.ctype)) (converted_value l.ctype s node none_converted) _ (value_converted l.ctype node none_converted (λ q. tt))
-      (λ x h. single_have l.ctype place l.size x h)
-  initials_have place l (Some (initial.Values nodes)) =
-      if_then (IsConverted l.ctype) (AllByRecursion (W l.ctype)) (converted_values l.ctype s nodes) _ (values_converted l.ctype nodes) (λ x h. listed_have l.ctype place l.size x h)
-  initials_have place l (Some (initial.Chars bytes)) = tt
+-- a local that is given values has a name of its own
+pub values_new : (d : Declarator) (taken : Bool) (l : Local) (s : Scope) → IfGood (local_values d taken l s) (λ es. (is_some d.name ≡ true) × (taken ≡ false))
+values_new d taken l s =
+    let New : List Expr → Type 0 = λ es. (is_some d.name ≡ true) × (taken ≡ false) in
+    if_then (λ x. Unit {0}) New (initial_values l.ctype d.initial s) _ (if_any (initial_values l.ctype d.initial s)) (λ x u.
+    if_unbroken New d.place (rule_of d.name taken l d.initial x) x.values (λ q.
+    let n = named_rule d.name taken l d.initial x q in
+    (n.0, n.1.redeclared)))
 
 -- ---- how many there are
 
 abbrev Fit : Local → List Expr → Type 0
 Fit l es = nat_le (length es) (words_of_size l.size) ≡ true
 
-one_fits : (place : Place) (t : CType) (size : Option ℕ) (x : Converted) → length x.values ≡ 1 → IfGood (single_value place size x) (λ es. nat_le (length es) (words_of_size size) ≡ true)
-unfolding single_value
-one_fits place t None x h = if_kept (λ es. nat_le (length es) 1 ≡ true) (not x.all) place 5 (Good x.values) (λ q. ap (λ n. nat_le n 1) h)
-one_fits place t (Some n) x h = tt
-
-listed_fit : (place : Place) (size : Option ℕ) (x : Converted) → IfGood (listed_values place size x) (λ es. nat_le (length es) (words_of_size size) ≡ true)
-unfolding listed_values
-listed_fit place None x = if_kept (λ es. nat_le (length es) 1 ≡ true) (not x.all) place 5 _ (λ q. tt)
-listed_fit place (Some n) x =
-    if_kept (λ es. nat_le (length es) n ≡ true) (not x.all) place 5 _ (λ q.
-    if_kept (λ es. nat_le (length es) n ≡ true) (not (nat_le (length x.values) n)) place 10 (Good x.values) (λ r. not-false (nat_le (length x.values) n) r))
-
 none_fit : (n : ℕ) → nat_le 0 n ≡ true
 none_fit n = grind arith
 
-pub initials_fit : (place : Place) (l : Local) (given : Option Initial) (s : Scope) → IfGood (initial_values place l given s) (Fit l)
-initials_fit place l None s = none_fit (words_of_size l.size)
-initials_fit place l (Some (initial.Value node)) s =
-    if_then (λ x. length x.values ≡ 1) (Fit l) (converted_value l.ctype s node none_converted) _
-    (if_then (λ e. Unit {0}) (λ x. length x.values ≡ 1) (value_judgement s node) _ (if_any (value_judgement s node)) (λ e u. refl)) (λ x h. one_fits place l.ctype l.size x h)
-initials_fit place l (Some (initial.Values nodes)) s =
-    if_then (λ x. Unit {0}) (Fit l) (converted_values l.ctype s nodes) _ (if_any (converted_values l.ctype s nodes)) (λ x u. listed_fit place l.size x)
-initials_fit place l (Some (initial.Chars bytes)) s = tt
+one_fits : (size : Option ℕ) (n : ℕ) → (is_some size && true) ≡ false → n ≡ 1 → nat_le n (words_of_size size) ≡ true
+one_fits None n h q = ap (λ m. nat_le m 1) q
+one_fits (Some m) n h q = absurd (cc)
+
+all_fit : (size : Option ℕ) (n : ℕ) → not (has_room size n) ≡ false → nat_le n (words_of_size size) ≡ true
+all_fit None n h = absurd (cc)
+all_fit (Some m) n h = not-false (nat_le n m) h
+
+-- one value is given alone
+abbrev IsOne : Option Initial → Converted → Type 0
+IsOne (Some (initial.Value node)) x = length x.values ≡ 1
+IsOne (Some (initial.Values nodes)) x = Unit {0}
+IsOne _ x = length x.values ≡ 0
+
+given_one : (t : CType) (given : Option Initial) (s : Scope) → IfGood (initial_values t given s) (IsOne given)
+given_one t None s = refl
+given_one t (Some (initial.Value node)) s =
+    if_then (λ e. Unit {0}) (λ x. length x.values ≡ 1) (value_judgement s node) _ (if_any (value_judgement s node)) (λ e u. refl)
+given_one t (Some (initial.Values nodes)) s = if_any (converted_values t s nodes)
+given_one t (Some (initial.Chars bytes)) s = refl
+
+given_fit : (l : Local) (given : Option Initial) (x : Converted) → IsOne given x → (is_some l.size && is_single given) ≡ false →
+    is_overfull false l given (length x.values) ≡ false → Fit l x.values
+given_fit l None x n q r = subst (λ m. nat_le m (words_of_size l.size) ≡ true) (sym n) (none_fit (words_of_size l.size))
+given_fit l (Some (initial.Value node)) x n q r = one_fits l.size (length x.values) q n
+given_fit l (Some (initial.Values nodes)) x n q r = all_fit l.size (length x.values) r
+given_fit l (Some (initial.Chars bytes)) x n q r = absurd (cc)
+
+pub initials_fit : (d : Declarator) (taken : Bool) (l : Local) (s : Scope) → IfGood (local_values d taken l s) (Fit l)
+initials_fit d taken l s =
+    if_then (IsOne d.initial) (Fit l) (initial_values l.ctype d.initial s) _ (given_one l.ctype d.initial s) (λ x n.
+    if_unbroken (Fit l) d.place (rule_of d.name taken l d.initial x) x.values (λ q.
+    let b = (named_rule d.name taken l d.initial x q).1 in
+    given_fit l d.initial x n (all_convert l d.initial x.all b.void b.unconverted).1 (has_extents false l d.initial (length x.values) b.extents).1))

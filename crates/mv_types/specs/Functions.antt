@@ -23,6 +23,7 @@ use Rattle.mv_judge.specs.Calls.{known_arity, known_params}
 use Rattle.mv_judge.specs.Judged.{Judged, Good, Broken, and_then}
 use Rattle.mv_outline.specs.Names.{place_of}
 use Rattle.mv_declare.specs.Declarators.{signature_of}
+use Rattle.mv_declare.specs.Initials.{plain_values}
 use Rattle.mv_declare.specs.Parameters.{parameters_judgement}
 use Rattle.mv_declare.specs.Turns.{Behind}
 use Rattle.mv_statement_rules.specs.Statements.{body_judgement}
@@ -135,10 +136,12 @@ rule_of d signature body c b =
     broken_rule (may_declare c.scope.signatures signature (is_some body) b.meaning b.builtin) (is_some body && is_defined_at c.functions b.number)
     (is_some d.initial)
 
+-- The initial value is judged before the declarator, and breaks a rule of it. A name that is new means the function in it.
 abbrev pub function_behind : Foreknown → Declarator → List ℕ → CType → (signature : ℕ) → Option Line → Contents → Before → Judged Contents
 function_behind k d name result signature body c b =
-    unless_broken d.place (rule_of d signature body c b)
-    (defined k name result (params_of d) body b.number (in_scope c (function_scope k name signature b.meaning b.builtin c.scope)))
+    let s = function_scope k name signature b.meaning b.builtin c.scope in
+    and_then (plain_values d.initial s) (λ x.
+    unless_broken d.place (rule_of d signature body c b) (defined k name result (params_of d) body b.number (in_scope c s)))
 
 -- by the result, the number of its type and the block that follows if it is defined
 unfoldable pub function_judgement : Foreknown → Declarator → List ℕ → CType → (signature : ℕ) → Option Line → Contents → Judged Contents

@@ -1,23 +1,24 @@
 -- Objects at file scope: how often one may be declared, and what its declarations come to (C11 6.7, 6.9.2).
-use Rattle.std.specs.Prelude.{ℕ, Bool, true, false, ◌&&◌, ◌||◌, not, nat_eq, is_none, is_some, if◌then◌else◌, List, [], ◌∷◌, ◌++◌, length, Option, Some, None, slice_get, slice_set}
-use Rattle.mv_ast.specs.declared.place.Place.{Place}
+use Rattle.std.specs.Prelude.{ℕ, Bool, true, false, ◌&&◌, ◌||◌, not, nat_eq, is_some, if◌then◌else◌, List, [], ◌∷◌, ◌++◌, length, Option, Some, None, slice_get, slice_set}
 use Rattle.mv_ast.specs.declared.program.Local.{Local}
 use Rattle.mv_ast.specs.declared.unit.Declarator.{Declarator}
+use Rattle.mv_ast.specs.declared.unit.Initial.{Initial}
 use Rattle.std.specs.Cmp.Lexicographic.{pointwise}
 use Rattle.mv_scope.specs.declared.meaning.Meaning.{Meaning}
 use Rattle.mv_scope.specs.declared.meaning.Meaning.TheVariants as meaning
 use Rattle.mv_scope.specs.declared.meaning.Storage.{Storage}
 use Rattle.mv_scope.specs.declared.meaning.Storage.TheVariants as storage
 use Rattle.mv_scope.specs.declared.scope.Scope.{Scope}
-use Rattle.mv_scope.specs.Conversions.{same_type}
+use Rattle.mv_scope.specs.Conversions.{same_type, is_void}
 use Rattle.mv_scope.specs.Scoped.{declared}
 use Rattle.mv_scope.specs.Spaces.{named}
-use Rattle.mv_judge.specs.RuleNumbers as rules
-use Rattle.mv_judge.specs.Judged.{Judged, Good, Broken, and_then}
+use Rattle.mv_judge.specs.Judged.{Judged, Good, and_then}
 use Rattle.mv_outline.specs.Names.{place_of}
 use Rattle.mv_declare.specs.declared.attributes.Attribute.{Attribute}
-use Rattle.mv_declare.specs.declared.declarators.Entity.{Entity}
-use Rattle.mv_declare.specs.Globals.{object_type, global_words, domain_of}
+use Rattle.mv_declare.specs.declared.globals.Words.{Words}
+use Rattle.mv_declare.specs.declared.objects.Breaches.{Breaches}
+use Rattle.mv_declare.specs.Globals.{global_words, domain_of}
+use Rattle.mv_declare.specs.Objects.{is_unconverted, breaks_extents, least, unless_broken}
 use Rattle.mv_types.specs.declared.contents.Contents.{Contents}
 use Rattle.mv_types.specs.declared.contents.Foreknown.{Foreknown}
 use Rattle.mv_types.specs.declared.contents.Object.{Object}
@@ -64,20 +65,15 @@ abbrev pub may_declare : Option Meaning → List Object → Local → (given : B
 may_declare None objects l given domain = true
 may_declare (Some m) objects l given domain = agrees_with (object_at objects (number_of m)) l given domain
 
--- redeclarations: the name is declared already, in a way that doesn't go with this; declarations: a block follows
-abbrev pub broken_rule : (allowed block : Bool) → Option ℕ
-broken_rule allowed block = if not allowed then Some rules.redeclarations else if block then Some rules.declarations else None
-
-abbrev pub unless_broken : Place → Option ℕ → Local → Judged Local
-unless_broken place None l = Good l
-unless_broken place (Some rule) l = Broken place rule
-
--- The type and the size of a declared object. It may be of type `void` or an array without a size (against the rules `void` and `extents`); where its name is
--- declared already, that doesn't go with it.
-unfoldable pub type_by_rules : Place → Option Meaning → List Object → Judged Local → (given block : Bool) → Option (List ℕ) → Judged Local
-type_by_rules place before objects (Broken p rule) given block domain = if is_none before then Broken p rule else Broken place rules.redeclarations
-type_by_rules place before objects (Good l) given block domain =
-    unless_broken place (broken_rule (may_declare before objects l given domain) block) l
+-- The rules that a declared object breaks. One of type `void` or without a size (against the rules `void` and `extents`) goes with none of its name.
+abbrev pub breaches : Option Meaning → List Object → Local → Option Initial → Words → Option (List ℕ) → (block : Bool) → Breaches
+breaches before objects l values x domain block = record {
+  redeclared = not (may_declare before objects l (is_some values) domain);
+  unconverted = is_unconverted l values x.all;
+  void = is_void l.ctype;
+  extents = breaks_extents true l values (length x.words);
+  block = block;
+}
 
 -- ---- what declarations come to
 
@@ -130,18 +126,18 @@ abbrev pub domain_by : Scope → Option ℕ → Option Attribute → Option (Lis
 domain_by s enumeration None = None
 domain_by s enumeration (Some a) = Some (domain_of s enumeration a)
 
--- Its name means the object in its own initial value.
-abbrev pub initialised : Foreknown → Declarator → List ℕ → Option Meaning → Option (List ℕ) → Local → Contents → Judged Contents
-initialised k d name before domain l c =
+-- the words that an object is given, which are judged before its declarator
+abbrev pub object_words : Declarator → Option Meaning → List Object → Local → Option (List ℕ) → (block : Bool) → Scope → Judged (List ℕ)
+object_words d before objects l domain block s =
+    and_then (global_words l d.initial s) (λ x. unless_broken d.place (least (breaches before objects l d.initial x domain block)) x.words)
+
+-- A name that is new means the object in its own initial value.
+abbrev pub object_behind : Foreknown → Declarator → List ℕ → Local → Option (List ℕ) → (block : Bool) → Contents → Option Meaning → Judged Contents
+object_behind k d name l domain block c before =
     let s = object_scope k name before l (length c.objects) c.scope in
-    and_then (global_words d.place l d.initial s) (λ words.
+    and_then (object_words d before c.objects l domain block s) (λ words.
     Good (record c { scope = s; objects = objects_behind c.objects name before l words (is_some d.initial) domain }))
 
--- by what its name means before it, the domain that the declaration gives it, and whether a block follows
-abbrev pub object_behind : Foreknown → Declarator → List ℕ → Entity → Option (List ℕ) → (block : Bool) → Contents → Option Meaning → Judged Contents
-object_behind k d name e domain block c before =
-    and_then (type_by_rules d.place before c.objects (object_type d.place e d.initial) (is_some d.initial) block domain) (λ l.
-    initialised k d name before domain l c)
-
-unfoldable pub object_judgement : Foreknown → Declarator → List ℕ → Entity → Option (List ℕ) → (block : Bool) → Contents → Judged Contents
-object_judgement k d name e domain block c = object_behind k d name e domain block c (named name c.scope.names.here)
+-- by the domain that the declaration gives it, and whether a block follows
+unfoldable pub object_judgement : Foreknown → Declarator → List ℕ → Local → Option (List ℕ) → (block : Bool) → Contents → Judged Contents
+object_judgement k d name l domain block c = object_behind k d name l domain block c (named name c.scope.names.here)

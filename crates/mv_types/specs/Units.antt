@@ -7,12 +7,14 @@ use Rattle.mv_ast.specs.declared.program.Program.{Program}
 use Rattle.mv_ast.specs.declared.program.Signature.{Signature}
 use Rattle.mv_ast.specs.declared.program.Switch.{Switch}
 use Rattle.mv_ast.specs.declared.unit.Declarator.{Declarator}
+use Rattle.mv_ast.specs.declared.unit.Initial.{Initial}
 use Rattle.mv_ast.specs.declared.unit.Item.{Item}
 use Rattle.mv_ast.specs.declared.unit.Line.{Line}
 use Rattle.mv_ast.specs.declared.unit.Specs.{out-Specs}
 use Rattle.mv_ast.specs.declared.unit.Unit as unit
 use Rattle.mv_scope.specs.declared.meaning.Meaning.{Meaning}
 use Rattle.mv_scope.specs.declared.meaning.Meaning.TheVariants as meaning
+use Rattle.mv_scope.specs.declared.scope.Scope.{Scope}
 use Rattle.mv_scope.specs.Conversions.{int, same_signature}
 use Rattle.mv_scope.specs.Spaces.{named}
 use Rattle.mv_judge.specs.RuleNumbers as rules
@@ -25,7 +27,9 @@ use Rattle.mv_declare.specs.declared.declarators.Entity.TheVariants as entity
 use Rattle.mv_declare.specs.declared.globals.Designated.{Designated}
 use Rattle.mv_declare.specs.declared.specifiers.Specified.{Specified}
 use Rattle.mv_declare.specs.Declarators.{signature_of}
-use Rattle.mv_declare.specs.Globals.{file_declarator}
+use Rattle.mv_declare.specs.Globals.{file_declarator, global_words}
+use Rattle.mv_declare.specs.Initials.{array_size, plain_values}
+use Rattle.mv_declare.specs.Objects.{scalar, sized}
 use Rattle.mv_declare.specs.Specifiers.{specifiers}
 use Rattle.mv_declare.specs.Turns.{through}
 use Rattle.mv_uses.specs.Uses.{switches_named}
@@ -40,11 +44,19 @@ use Rattle.mv_types.specs.Objects.{object_judgement, domain_by}
 
 abbrev pub by_entity : Foreknown → Specified → Option Line → Declarator → List ℕ → Entity → Option Attribute → Contents → Judged Contents
 by_entity k b body d name (entity.Function signature) a c = function_judgement k d name b.ctype signature body c
-by_entity k b body d name e a c = object_judgement k d name e (domain_by c.scope b.enumeration a) (is_some body) c
+by_entity k b body d name (entity.Scalar t fixed) a c = object_judgement k d name (scalar t) (domain_by c.scope b.enumeration a) (is_some body) c
+by_entity k b body d name (entity.Array t fixed size) a c =
+    object_judgement k d name (sized t (array_size size d.initial)) (domain_by c.scope b.enumeration a) (is_some body) c
+
+-- the initial value of a declarator without a name
+abbrev pub nameless_values : Entity → Option Initial → Scope → Judged (Unit {0})
+nameless_values (entity.Function signature) values s = and_then (plain_values values s) (λ x. Good tt)
+nameless_values (entity.Scalar t fixed) values s = and_then (global_words (scalar t) values s) (λ x. Good tt)
+nameless_values (entity.Array t fixed size) values s = and_then (global_words (sized t (array_size size values)) values s) (λ x. Good tt)
 
 -- declarations: there is no name
 unfoldable pub named_declarator : Foreknown → Specified → Option Line → Declarator → Option (List ℕ) → Designated → Contents → Judged Contents
-named_declarator k b body d None e c = Broken d.place rules.declarations
+named_declarator k b body d None e c = and_then (nameless_values e.entity d.initial c.scope) (λ done. Broken d.place rules.declarations)
 named_declarator k b body d (Some name) e c = by_entity k b body d name e.entity e.attribute c
 
 -- what a declarator says of a `const` object is said with `const`

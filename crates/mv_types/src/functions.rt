@@ -14,6 +14,7 @@ use crate::contents::{Contents, Foreknown};
 use crate::foreknown::{attributed_number, number_among};
 use mv_ast::program::{CType, Function, Known, Signature, Stmt};
 use mv_ast::unit::{Declarator, Line, Shape};
+use mv_declare::initials::check_plain_values;
 use mv_declare::parameters::declare_parameters;
 use mv_judge::error::RuleError;
 use mv_judge::rules;
@@ -354,7 +355,7 @@ fn rule_of(
     broken_rule(allowed, twice, declarator.initial.is_some())
 }
 
-// Declares a function under a name, which stands for this before it.
+// Declares a function under a name, which stands for this before it, behind its initial value, which no function may have.
 fn declare_behind(
     alloc: Global,
     known: &Foreknown,
@@ -369,23 +370,18 @@ fn declare_behind(
     requires { before.meaning ≡ named name.now contents.old.scope.names.here }
     ensures { IsContinued (spec.function_behind known.now declarator.now name.now result_type signature body.now contents.old before) result contents.new }
 {
-    if let Some(rule) = rule_of(declarator, signature, body, contents, before) {
-        return Err(RuleError::Rule(declarator.place, rule));
-    }
+    let broken = rule_of(declarator, signature, body, contents, before);
     let Before {
         meaning,
         builtin,
         number,
     } = before;
-    declare_name(
-        alloc,
-        known,
-        &mut contents.scope,
-        name,
-        signature,
-        meaning,
-        builtin,
-    )?;
+    let scope = &mut contents.scope;
+    declare_name(alloc, known, scope, name, signature, meaning, builtin)?;
+    check_plain_values(alloc, &declarator.initial, scope)?;
+    if let Some(rule) = broken {
+        return Err(RuleError::Rule(declarator.place, rule));
+    }
     define(
         alloc,
         known,

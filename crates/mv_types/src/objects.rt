@@ -1,27 +1,24 @@
 // Objects at file scope (C11 6.7, 6.9.2).
 
-ghost use Rattle.std.specs.Prelude.{◌≡◌, IfOk, OnOk, is_some, slice_get};
+ghost use Rattle.std.specs.Prelude.{◌≡◌, IfOk, OnOk, slice_get};
 ghost use Rattle.mv_scope.specs.Spaces.{named};
 ghost use Rattle.mv_judge.specs.Judged.{IsJudged};
-ghost use Rattle.mv_declare.specs.Globals.{object_type};
 ghost use Rattle.mv_types.specs.Contents.{IsContinued};
 ghost use Rattle.mv_types.specs.Objects as spec;
 
 use crate::contents::{Contents, Foreknown, Object};
 use crate::foreknown::number_among;
-use mv_ast::place::Place;
 use mv_ast::program;
 use mv_ast::program::Local;
 use mv_ast::unit::{Declarator, Initial};
 use mv_declare::attributes::Attribute;
-use mv_declare::declarators::Entity;
 use mv_declare::domain::Domain;
-use mv_declare::globals::{domain_of, global_words, object_type};
+use mv_declare::globals::{Words, domain_of, global_words};
+use mv_declare::objects::{Breaches, breaks_extents, is_unconverted, least};
 use mv_judge::error::RuleError;
-use mv_judge::rules;
 use mv_num::list::List;
 use mv_num::text::Text;
-use mv_scope::convert::same_type;
+use mv_scope::convert::{is_void, same_type};
 use mv_scope::meaning::{Elements, Meaning, Storage, Variable};
 use mv_scope::scope::Scope;
 use std::alloc::{AllocError, Global};
@@ -100,48 +97,24 @@ fn may_declare(
     }
 }
 
-// The rules that a known type leaves to be looked at.
-fn broken_rule(allowed: bool, block: bool) -> Option<u8>
-    ensures { result ≡ spec.broken_rule allowed block }
-{
-    if !allowed {
-        Some(rules::REDECLARATIONS)
-    } else if block {
-        Some(rules::DECLARATIONS)
-    } else {
-        None
-    }
-}
-
-// The type and the size of an object that is declared.
-#[tactic(auto, unfolding(crate::specs::Objects::type_by_rules))]
-fn type_by_rules(
-    place: Place,
+// The rules that a declared object breaks.
+fn breaches(
     before: Option<Meaning>,
     objects: &List<Object>,
-    entity: Entity,
+    local: Local,
     initial: &Option<Initial>,
-    block: bool,
+    words: &Words,
     domain: &Option<Domain>,
-) -> Result<Local, RuleError>
-    ensures { IsJudged (spec.type_by_rules place before objects.now (object_type place entity initial.now) (is_some initial.now) block domain.now) result }
+    block: bool,
+) -> Breaches
+    ensures { result ≡ spec.breaches before objects.now local initial.now words.now domain.now block }
 {
-    match object_type(place, entity, initial) {
-        Err(RuleError::Memory) => Err(RuleError::Memory),
-        Err(RuleError::Rule(at, rule)) => {
-            if before.is_none() {
-                Err(RuleError::Rule(at, rule))
-            } else {
-                Err(RuleError::Rule(place, rules::REDECLARATIONS))
-            }
-        }
-        Ok(local) => {
-            let allowed = may_declare(before, objects, local, initial.is_some(), domain);
-            match broken_rule(allowed, block) {
-                Some(rule) => Err(RuleError::Rule(place, rule)),
-                None => Ok(local),
-            }
-        }
+    Breaches {
+        redeclared: !may_declare(before, objects, local, initial.is_some(), domain),
+        unconverted: is_unconverted(local, initial, words.all),
+        void: is_void(local.ctype),
+        extents: breaks_extents(true, local, initial, words.words.len()),
+        block,
     }
 }
 
@@ -279,46 +252,6 @@ fn put_object(
     }
 }
 
-// Declares an object of a type, with its initial value, in which its name means it already.
-fn initialise(
-    alloc: Global,
-    known: &Foreknown,
-    declarator: &Declarator,
-    name: &[u8],
-    before: Option<Meaning>,
-    domain: Option<Domain>,
-    local: Local,
-    contents: &mut Contents,
-) -> Result<(), RuleError>
-    requires { before ≡ named name.now contents.old.scope.names.here }
-    ensures { IsContinued (spec.initialised known.now declarator.now name.now before domain local contents.old) result contents.new }
-{
-    let number = contents.objects.len();
-    let place = declarator.place;
-    let initial = &declarator.initial;
-    declare_name(
-        alloc,
-        known,
-        &mut contents.scope,
-        name,
-        before,
-        local,
-        number,
-    )?;
-    let words = global_words(alloc, place, local, initial, &contents.scope)?;
-    put_object(
-        alloc,
-        &mut contents.objects,
-        name,
-        before,
-        local,
-        words,
-        initial.is_some(),
-        domain,
-    )?;
-    Ok(())
-}
-
 /// The domain of a switch that a declaration gives it, if it has the attribute.
 pub fn domain_by(
     alloc: Global,
@@ -337,34 +270,54 @@ pub fn domain_by(
     }
 }
 
-// Declares an object under a name, which means this before it.
+// The words that an object is given, which are judged before its declarator.
+fn object_words(
+    alloc: Global,
+    declarator: &Declarator,
+    before: Option<Meaning>,
+    objects: &List<Object>,
+    local: Local,
+    domain: &Option<Domain>,
+    block: bool,
+    scope: &Scope,
+) -> Result<List<u32>, RuleError>
+    ensures { IsJudged (spec.object_words declarator.now before objects.now local domain.now block scope.now) result }
+{
+    let initial = &declarator.initial;
+    let words = global_words(alloc, local, initial, scope)?;
+    match least(breaches(before, objects, local, initial, &words, domain, block)) {
+        None => Ok(words.words),
+        Some(rule) => {
+            drop(words);
+            Err(RuleError::Rule(declarator.place, rule))
+        }
+    }
+}
+
+// Declares an object under a name, which means this before it, behind its initial value, in which a name that is new means it already.
 fn declare_behind(
     alloc: Global,
     known: &Foreknown,
     declarator: &Declarator,
     name: &[u8],
-    entity: Entity,
+    local: Local,
     domain: Option<Domain>,
     block: bool,
     before: Option<Meaning>,
     contents: &mut Contents,
 ) -> Result<(), RuleError>
     requires { before ≡ named name.now contents.old.scope.names.here }
-    ensures { IsContinued (spec.object_behind known.now declarator.now name.now entity domain block contents.old before) result contents.new }
+    ensures { IsContinued (spec.object_behind known.now declarator.now name.now local domain block contents.old before) result contents.new }
 {
-    let initial = &declarator.initial;
-    let local = type_by_rules(
-        declarator.place,
-        before,
-        &contents.objects,
-        entity,
-        initial,
-        block,
-        &domain,
+    let objects = &mut contents.objects;
+    let scope = &mut contents.scope;
+    declare_name(alloc, known, scope, name, before, local, objects.len())?;
+    let words = object_words(
+        alloc, declarator, before, objects, local, &domain, block, scope,
     )?;
-    initialise(
-        alloc, known, declarator, name, before, domain, local, contents,
-    )
+    let given = declarator.initial.is_some();
+    put_object(alloc, objects, name, before, local, words, given, domain)?;
+    Ok(())
 }
 
 /// Declares an object under a name, with the domain that this declaration gives it and whether a block follows.
@@ -374,15 +327,15 @@ pub fn declare(
     known: &Foreknown,
     declarator: &Declarator,
     name: &[u8],
-    entity: Entity,
+    local: Local,
     domain: Option<Domain>,
     block: bool,
     contents: &mut Contents,
 ) -> Result<(), RuleError>
-    ensures { IsContinued (spec.object_judgement known.now declarator.now name.now entity domain block contents.old) result contents.new }
+    ensures { IsContinued (spec.object_judgement known.now declarator.now name.now local domain block contents.old) result contents.new }
 {
     let before = contents.scope.names.here.find(name);
     declare_behind(
-        alloc, known, declarator, name, entity, domain, block, before, contents,
+        alloc, known, declarator, name, local, domain, block, before, contents,
     )
 }

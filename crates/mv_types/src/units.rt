@@ -2,7 +2,7 @@
 
 ghost use Rattle.std.specs.Prelude.{◌≡◌, IfOk, None, replicate};
 ghost use Rattle.std.specs.List.{list_any};
-ghost use Rattle.mv_judge.specs.Judged.{and_then};
+ghost use Rattle.mv_judge.specs.Judged.{and_then, IsJudged};
 ghost use Rattle.mv_declare.specs.declared.attributes.Position.TheVariants as position;
 ghost use Rattle.mv_declare.specs.Specifiers.{specifiers};
 ghost use Rattle.mv_declare.specs.Turns.{through, IsBehind};
@@ -10,17 +10,19 @@ ghost use Rattle.mv_types.specs.Completed.{IsCompleted};
 ghost use Rattle.mv_types.specs.Contents.{nothing_declared, IsContinued};
 ghost use Rattle.mv_types.specs.Foreknown.{is_fixed};
 ghost use Rattle.mv_types.specs.Objects.{object_judgement, domain_by};
-ghost use Rattle.mv_types.specs.Units.{base_of, by_entity, named_declarator, declarator_judgement, declares_constant, holders, declares_nothing, names_judgement, item_judgement, program_judgement, unit_judgement};
+ghost use Rattle.mv_types.specs.Units.{base_of, by_entity, nameless_values, named_declarator, declarator_judgement, declares_constant, holders, declares_nothing, names_judgement, item_judgement, program_judgement, unit_judgement};
 
 use crate::contents::{Completed, Contents, Foreknown};
 use crate::foreknown::{foreknown_of, is_function, name_of};
 use crate::program::complete;
 use crate::{functions, objects};
-use mv_ast::program::Function;
-use mv_ast::unit::{Declarator, Item, Line, Unit};
-use mv_declare::attributes::{Position, shared};
+use mv_ast::program::{Function, Local};
+use mv_ast::unit::{Declarator, Initial, Item, Line, Unit};
+use mv_declare::attributes::{Attribute, Position, shared};
 use mv_declare::declarators::Entity;
-use mv_declare::globals::{Designated, file_declarator};
+use mv_declare::globals::{Designated, file_declarator, global_words};
+use mv_declare::initials::{array_size, check_plain_values};
+use mv_declare::objects::{scalar, sized};
 use mv_declare::specifiers::{Specified, specifiers};
 use mv_judge::error::RuleError;
 use mv_judge::rules;
@@ -45,15 +47,15 @@ fn declare_object(
     block: bool,
     declarator: &Declarator,
     name: &[u8],
-    designated: Designated,
+    local: Local,
+    attribute: Option<Attribute>,
     contents: &mut Contents,
 ) -> Result<(), RuleError>
-    ensures { IsContinued (object_judgement known.now declarator.now name.now designated.entity (domain_by contents.old.scope enumeration designated.attribute) block contents.old) result contents.new }
+    ensures { IsContinued (object_judgement known.now declarator.now name.now local (domain_by contents.old.scope enumeration attribute) block contents.old) result contents.new }
 {
-    let Designated { entity, attribute } = designated;
     let domain = objects::domain_by(alloc, &contents.scope, enumeration, attribute)?;
     objects::declare(
-        alloc, known, declarator, name, entity, domain, block, contents,
+        alloc, known, declarator, name, local, domain, block, contents,
     )
 }
 
@@ -70,21 +72,47 @@ fn by_entity(
 ) -> Result<(), RuleError>
     ensures { IsContinued (by_entity known.now base.now body.now declarator.now name.now designated.entity designated.attribute contents.old) result contents.new }
 {
-    match designated.entity {
-        Entity::Function(signature) => functions::declare(
-            alloc, known, declarator, name, base.ctype, signature, body, contents,
-        ),
-        Entity::Scalar(_, _) | Entity::Array(_, _, _) => declare_object(
-            alloc,
-            known,
-            base.enumeration,
-            body.is_some(),
-            declarator,
-            name,
-            designated,
-            contents,
-        ),
-    }
+    let Designated { entity, attribute } = designated;
+    let local = match entity {
+        Entity::Function(signature) => {
+            return functions::declare(
+                alloc, known, declarator, name, base.ctype, signature, body, contents,
+            );
+        }
+        Entity::Scalar(ctype, _) => scalar(ctype),
+        Entity::Array(ctype, _, size) => sized(ctype, array_size(size, &declarator.initial)?),
+    };
+    let enumeration = base.enumeration;
+    let block = body.is_some();
+    declare_object(
+        alloc,
+        known,
+        enumeration,
+        block,
+        declarator,
+        name,
+        local,
+        attribute,
+        contents,
+    )
+}
+
+// Judges the initial value of a declarator without a name.
+fn check_nameless_values(
+    alloc: Global,
+    entity: Entity,
+    initial: &Option<Initial>,
+    scope: &Scope,
+) -> Result<(), RuleError>
+    ensures { IsJudged (nameless_values entity initial.now scope.now) result }
+{
+    let local = match entity {
+        Entity::Function(_) => return check_plain_values(alloc, initial, scope),
+        Entity::Scalar(ctype, _) => scalar(ctype),
+        Entity::Array(ctype, _, size) => sized(ctype, array_size(size, initial)?),
+    };
+    drop(global_words(alloc, local, initial, scope)?);
+    Ok(())
 }
 
 #[tactic(auto, unfolding(crate::specs::Units::named_declarator))]
@@ -100,7 +128,11 @@ fn named_declarator(
     ensures { IsContinued (named_declarator known.now base.now body.now declarator.now declarator.now.name designated contents.old) result contents.new }
 {
     match &declarator.name {
-        None => Err(RuleError::Rule(declarator.place, rules::DECLARATIONS)),
+        None => {
+            let initial = &declarator.initial;
+            check_nameless_values(alloc, designated.entity, initial, &contents.scope)?;
+            Err(RuleError::Rule(declarator.place, rules::DECLARATIONS))
+        }
         Some(name) => by_entity(
             alloc,
             known,

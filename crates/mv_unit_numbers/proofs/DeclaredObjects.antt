@@ -1,10 +1,10 @@
 -- The objects of a unit through its items.
-use Rattle.std.proofs.Common.{◌≡◌, ℕ, refl, sym, ◌∙◌, ap, subst, Bool, true, false, ◌&&◌, ◌||◌, not, is_none, is_some, if◌then◌else◌, List, [], ◌∷◌, ◌++◌, length, Option, Some, None, slice_get}
+use Rattle.std.proofs.Common.{◌≡◌, ℕ, refl, sym, ◌∙◌, ap, subst, Bool, true, false, ◌&&◌, ◌||◌, not, is_some, if◌then◌else◌, List, [], ◌∷◌, ◌++◌, length, Option, Some, None, slice_get}
 use Rattle.std.specs.Prelude.{slice_set}
 use Rattle.std.proofs.Math.Bool.{or_comm}
+use Rattle.std.proofs.lemmas.Bool.{not-false}
 use Rattle.std.specs.List.{AllByRecursion}
 use Rattle.std.proofs.lemmas.List.{append-nil}
-use Rattle.mv_ast.specs.declared.place.Place.{Place}
 use Rattle.mv_ast.specs.declared.program.CType.{CType}
 use Rattle.mv_ast.specs.declared.program.Known.{Known}
 use Rattle.mv_ast.specs.declared.program.Local.{Local}
@@ -16,7 +16,6 @@ use Rattle.mv_ast.specs.declared.unit.Specs.{out-Specs}
 use Rattle.mv_scope.specs.declared.meaning.Meaning.{Meaning}
 use Rattle.mv_scope.specs.declared.scope.Scope.{Scope}
 use Rattle.mv_scope.specs.Spaces.{named}
-use Rattle.mv_judge.specs.Judged.{Judged, Good, Broken}
 use Rattle.mv_outline.specs.declared.outline.Wanted.TheVariants as wanted
 use Rattle.mv_outline.specs.Outlined.{is_function, is_filled, is_marked, all_names}
 use Rattle.mv_declare.specs.declared.attributes.Attribute.{Attribute}
@@ -27,7 +26,9 @@ use Rattle.mv_declare.specs.declared.globals.Designated.{Designated}
 use Rattle.mv_declare.specs.declared.specifiers.Specified.{Specified}
 use Rattle.mv_declare.specs.Attributes.{attributes, holder_of}
 use Rattle.mv_declare.specs.Declarators.{designated}
-use Rattle.mv_declare.specs.Globals.{file_declarator, global_words, object_type}
+use Rattle.mv_declare.specs.Globals.{file_declarator, global_words}
+use Rattle.mv_declare.specs.Initials.{array_size, plain_values}
+use Rattle.mv_declare.specs.Objects.{scalar, sized, least}
 use Rattle.mv_declare.specs.Parameters.{parameters_judgement}
 use Rattle.mv_declare.specs.Specifiers.{specifiers, scalar_kind}
 use Rattle.mv_declare.specs.Turns.{through}
@@ -44,9 +45,11 @@ use Rattle.mv_types.specs.declared.functions.Before.{Before}
 use Rattle.mv_types.specs.Contents.{nothing_declared, in_scope}
 use Rattle.mv_types.specs.Foreknown.{is_attributed}
 use Rattle.mv_types.specs.Functions.{function_meaning, function_scope, params_of, body_entered, definition_parameters, function_of, defined, before_of, rule_of, function_judgement}
-use Rattle.mv_types.specs.Objects.{number_of, object_at, agrees_with, may_declare, broken_rule, unless_broken, type_by_rules, object_meaning, object_scope, new_object, again, replaced, objects_again, objects_behind, domain_by, initialised, object_judgement}
-use Rattle.mv_types.specs.Units.{by_entity, named_declarator, base_of, declarator_judgement, holders, item_judgement}
+use Rattle.mv_types.specs.Objects.{number_of, object_at, agrees_with, may_declare, breaches, object_words, object_meaning, object_scope, new_object, again, replaced, objects_again, objects_behind, domain_by, object_behind, object_judgement}
+use Rattle.mv_types.specs.Units.{by_entity, nameless_values, named_declarator, base_of, declarator_judgement, holders, item_judgement}
 use Rattle.mv_unit_numbers.proofs.Designated.{is_function_entity, file_alike}
+use Rattle.mv_typed_bodies.proofs.Unbroken.{unbroken}
+use Rattle.mv_typed_bodies.proofs.Unbroken.{if_unbroken as object_unbroken}
 use Rattle.mv_unit_numbers.proofs.Functions.{if_unbroken}
 use Rattle.mv_unit_numbers.proofs.Items.{one, items_done}
 use Rattle.mv_unit_numbers.proofs.Marks.{specifiers_marked, file_marked}
@@ -57,20 +60,13 @@ use Rattle.mv_typing.proofs.Plain.{IsPlain}
 
 -- ---- what a declaration of an object may be
 
-type_allows : (place : Place) (before : Option Meaning) (objects : List Object) (j : Judged Local) (given block : Bool) (domain : Option (List ℕ)) →
-    IfGood (type_by_rules place before objects j given block domain) (λ l. may_declare before objects l given domain ≡ true)
-unfolding type_by_rules
-type_allows place before objects (Broken p rule) given block domain = by (is_none before)
-  where
-    by : (b : Bool) → IfGood (if b then Broken p rule else Broken place 2) (λ l. may_declare before objects l given domain ≡ true)
-    by true = tt
-    by false = tt
-type_allows place before objects (Good l) given block domain = by (may_declare before objects l given domain) block refl
-  where
-    by : (a b : Bool) → may_declare before objects l given domain ≡ a → IfGood (unless_broken place (broken_rule a b) l) (λ x. may_declare before objects x given domain ≡ true)
-    by false b q = tt
-    by true true q = tt
-    by true false q = q
+words_allowed : (d : Declarator) (before : Option Meaning) (objects : List Object) (l : Local) (domain : Option (List ℕ)) (block : Bool) (s : Scope) →
+    IfGood (object_words d before objects l domain block s) (λ words. may_declare before objects l (is_some d.initial) domain ≡ true)
+words_allowed d before objects l domain block s =
+    let May : List ℕ → Type 0 = λ words. may_declare before objects l (is_some d.initial) domain ≡ true in
+    if_then (λ x. Unit {0}) May (global_words l d.initial s) _ (if_any (global_words l d.initial s)) (λ x u.
+    let b = breaches before objects l d.initial x domain block in
+    object_unbroken May d.place (least b) x.words (λ q. not-false (may_declare before objects l (is_some d.initial) domain) (unbroken b q).redeclared))
 
 -- an object that is declared once more
 abbrev IsKnown : List Object → Meaning → Type 0
@@ -155,43 +151,39 @@ module _ (k : Foreknown) (bodies : BodyGrows) (fit : ParametersFit) where
   function_adds d name result signature body c =
       let b : Before = before_of k name c.scope in
       let s : Scope = function_scope k name signature b.meaning b.builtin c.scope in
+      if_then (λ x. Unit {0}) (SameObjects c) (plain_values d.initial s) _ (if_any (plain_values d.initial s)) (λ x u.
       if_unbroken (SameObjects c) d (rule_of d signature body c b) (defined k name result (params_of d) body b.number (in_scope c s))
       (if_more (SameObjects (in_scope c s)) (SameObjects c) (defined k name result (params_of d) body b.number (in_scope c s))
       (λ t q. (q.0, adds_joined (here c.scope) (here s) (here t.scope) (scope_adds name signature b.meaning b.builtin c.scope) q.1))
-      (defined_adds name result (params_of d) body b.number (in_scope c s)))
+      (defined_adds name result (params_of d) body b.number (in_scope c s))))
 
   -- ---- objects
 
   abbrev Next : List (List ℕ) → List (List ℕ) → Bool → List ℕ → Contents → Type 0
   Next xs ys mark name = Of (xs ++ name ∷ []) (ys ++ if_marked mark name)
 
-  initialised_of : (d : Declarator) (name : List ℕ) (before : Option Meaning) (domain : Option (List ℕ)) (l : Local) (c : Contents) (mark : Bool) (xs ys : List (List ℕ)) →
-      named name (here c.scope) ≡ before → Of xs ys c → may_declare before c.objects l (is_some d.initial) domain ≡ true → is_some domain ≡ mark →
-      IfGood (initialised k d name before domain l c) (Next xs ys mark name)
+  behind_of : (d : Declarator) (name : List ℕ) (before : Option Meaning) (domain : Option (List ℕ)) (l : Local) (block : Bool) (c : Contents) (mark : Bool) (xs ys : List (List ℕ)) →
+      named name (here c.scope) ≡ before → Of xs ys c → is_some domain ≡ mark → IfGood (object_behind k d name l domain block c before) (Next xs ys mark name)
   unfolding object_scope objects_behind
-  initialised_of d name None domain l c mark xs ys q h may e =
-      let words = global_words d.place l d.initial (object_scope k name None l (length c.objects) c.scope) in
+  behind_of d name None domain l block c mark xs ys q h e =
+      let words = object_words d None c.objects l domain block (object_scope k name None l (length c.objects) c.scope) in
       if_then (λ w. Unit {0}) (Next xs ys mark name) words _ (if_any words) (λ w u.
       one_new xs ys (here c.scope) c.objects name h (object_meaning k name (length c.objects) l l.size) (new_object name l w (is_some d.initial) domain) mark q
       (number_is k name (length c.objects) l l.size) refl e)
-  initialised_of d name (Some m) domain l c mark xs ys q h may e =
-      let words = global_words d.place l d.initial (object_scope k name (Some m) l (length c.objects) c.scope) in
+  behind_of d name (Some m) domain l block c mark xs ys q h e =
+      let s : Scope = object_scope k name (Some m) l (length c.objects) c.scope in
+      if_then (λ w. may_declare (Some m) c.objects l (is_some d.initial) domain ≡ true) (Next xs ys mark name) (object_words d (Some m) c.objects l domain block s) _
+      (words_allowed d (Some m) c.objects l domain block s) (λ w may.
       let x = known_object c.objects m l (is_some d.initial) domain may in
       let y = h.means name m x.0 q x.2 in
-      if_then (λ w. Unit {0}) (Next xs ys mark name) words _ (if_any words) (λ w u.
       subst (AreObjects (xs ++ name ∷ []) (ys ++ if_marked mark name) (here c.scope)) (sym (replaced_is c.objects m x.0 y.0 w (is_some d.initial) domain x.2 y.1))
       (one_again xs ys (here c.scope) c.objects name h x.0 y.0 y.1 y.2 (again y.0 w (is_some d.initial) domain) refl mark
       (either_some y.0.domain domain ∙ ap (λ b. is_some y.0.domain || b) e)))
 
-  object_of : (d : Declarator) (name : List ℕ) (e : Entity) (domain : Option (List ℕ)) (block : Bool) (c : Contents) (mark : Bool) (xs ys : List (List ℕ)) →
-      Of xs ys c → is_some domain ≡ mark → IfGood (object_judgement k d name e domain block c) (Next xs ys mark name)
+  object_of : (d : Declarator) (name : List ℕ) (l : Local) (domain : Option (List ℕ)) (block : Bool) (c : Contents) (mark : Bool) (xs ys : List (List ℕ)) →
+      Of xs ys c → is_some domain ≡ mark → IfGood (object_judgement k d name l domain block c) (Next xs ys mark name)
   unfolding object_judgement
-  object_of d name e domain block c mark xs ys h q =
-      let before = named name (here c.scope) in
-      let typed = type_by_rules d.place before c.objects (object_type d.place e d.initial) (is_some d.initial) block domain in
-      if_then (λ l. may_declare before c.objects l (is_some d.initial) domain ≡ true) (Next xs ys mark name) typed _
-      (type_allows d.place before c.objects (object_type d.place e d.initial) (is_some d.initial) block domain)
-      (λ l may. initialised_of d name before domain l c mark xs ys refl h may q)
+  object_of d name l domain block c mark xs ys h q = behind_of d name (named name (here c.scope)) domain l block c mark xs ys refl h q
 
   -- ---- declarators
 
@@ -214,16 +206,17 @@ module _ (k : Foreknown) (bodies : BodyGrows) (fit : ParametersFit) where
   entity_of b body d name (entity.Function signature) a c xs ys h false mark q r = absurd (cc)
   entity_of b body d name (entity.Scalar t fixed) a c xs ys h true mark q r = absurd (cc)
   entity_of b body d name (entity.Scalar t fixed) a c xs ys h false mark q r =
-      object_of d name (entity.Scalar t fixed) (domain_by c.scope b.enumeration a) (is_some body) c mark xs ys h (domain_some c.scope b.enumeration a ∙ r)
+      object_of d name (scalar t) (domain_by c.scope b.enumeration a) (is_some body) c mark xs ys h (domain_some c.scope b.enumeration a ∙ r)
   entity_of b body d name (entity.Array t fixed size) a c xs ys h true mark q r = absurd (cc)
   entity_of b body d name (entity.Array t fixed size) a c xs ys h false mark q r =
-      object_of d name (entity.Array t fixed size) (domain_by c.scope b.enumeration a) (is_some body) c mark xs ys h (domain_some c.scope b.enumeration a ∙ r)
+      object_of d name (sized t (array_size size d.initial)) (domain_by c.scope b.enumeration a) (is_some body) c mark xs ys h (domain_some c.scope b.enumeration a ∙ r)
 
   named_of : (b : Specified) (body : Option Line) (d : Declarator) (name : Option (List ℕ)) (e : Designated) (c : Contents) (xs ys : List (List ℕ)) → Of xs ys c →
       (function mark : Bool) → is_function_entity e.entity ≡ function → is_some e.attribute ≡ mark →
       IfGood (named_declarator k b body d name e c) (Behind xs ys function mark (or_nothing name))
   unfolding named_declarator
-  named_of b body d None e c xs ys h function mark q r = tt
+  named_of b body d None e c xs ys h function mark q r =
+      if_then (λ u. Unit {0}) (Behind xs ys function mark []) (nameless_values e.entity d.initial c.scope) _ (if_any (nameless_values e.entity d.initial c.scope)) (λ u v. tt)
   named_of b body d (Some name) e c xs ys h function mark q r = entity_of b body d name e.entity e.attribute c xs ys h function mark q r
 
   -- what is known of the specifiers of an item

@@ -9,6 +9,7 @@ use Rattle.std.proofs.lemmas.Option.{slice_get_within, slice_get-get_or}
 use Rattle.std.proofs.lemmas.Bool.{and_from}
 use Rattle.mv_ast.specs.declared.program.CType.{CType}
 use Rattle.mv_ast.specs.declared.program.Function.{Function}
+use Rattle.mv_ast.specs.declared.program.Local.{Local}
 use Rattle.mv_ast.specs.declared.unit.Declarator.{Declarator}
 use Rattle.mv_ast.specs.declared.unit.Item.{Item}
 use Rattle.mv_ast.specs.declared.unit.Line.{Line}
@@ -26,7 +27,9 @@ use Rattle.mv_declare.specs.declared.declarators.Entity.{Entity}
 use Rattle.mv_declare.specs.declared.declarators.Entity.TheVariants as entity
 use Rattle.mv_declare.specs.declared.globals.Designated.{Designated}
 use Rattle.mv_declare.specs.declared.specifiers.Specified.{Specified}
-use Rattle.mv_declare.specs.Globals.{file_declarator, global_words, object_type}
+use Rattle.mv_declare.specs.Globals.{file_declarator}
+use Rattle.mv_declare.specs.Initials.{array_size, plain_values}
+use Rattle.mv_declare.specs.Objects.{scalar, sized}
 use Rattle.mv_declare.specs.Parameters.{parameters_judgement}
 use Rattle.mv_declare.specs.Specifiers.{specifiers}
 use Rattle.mv_declare.specs.Turns.{through}
@@ -39,8 +42,8 @@ use Rattle.mv_types.specs.declared.functions.Before.{Before}
 use Rattle.mv_types.specs.Contents.{nothing_declared, in_scope, present}
 use Rattle.mv_types.specs.Foreknown.{foreknown, is_attributed}
 use Rattle.mv_types.specs.Functions.{is_defined, is_defined_at, body_entered, params_of, definition_parameters, function_of, function_scope, defined, unless_broken, before_of, rule_of, function_judgement}
-use Rattle.mv_types.specs.Objects.{type_by_rules, object_judgement, domain_by, object_scope}
-use Rattle.mv_types.specs.Units.{by_entity, named_declarator, base_of, declarator_judgement, holders, item_judgement}
+use Rattle.mv_types.specs.Objects.{object_words, object_judgement, domain_by, object_scope}
+use Rattle.mv_types.specs.Units.{by_entity, nameless_values, named_declarator, base_of, declarator_judgement, holders, item_judgement}
 use Rattle.mv_unit_numbers.specs.Numbers.{AreDefined, IsForeknown}
 use Rattle.mv_unit_numbers.proofs.Lists.{all_both, set_there}
 use Rattle.mv_unit_numbers.proofs.NameLists.{Different, name_is, among_here, among_last, among_once, among_kept, among_different, at_place, place_there, place_among, or_nothing}
@@ -138,15 +141,13 @@ module _ (k : Foreknown) (different : Different k.outline.functions) where
 
   -- ---- objects
 
-  same_functions : (d : Declarator) (name : List ℕ) (e : Entity) (domain : Option (List ℕ)) (block : Bool) (c : Contents) →
-      IfGood (object_judgement k d name e domain block c) (λ t. t.functions ≡ c.functions)
+  same_functions : (d : Declarator) (name : List ℕ) (l : Local) (domain : Option (List ℕ)) (block : Bool) (c : Contents) →
+      IfGood (object_judgement k d name l domain block c) (λ t. t.functions ≡ c.functions)
   unfolding object_judgement
-  same_functions d name e domain block c =
+  same_functions d name l domain block c =
       let before = named name c.scope.names.here in
-      let typed = type_by_rules d.place before c.objects (object_type d.place e d.initial) (is_some d.initial) block domain in
-      if_then (λ l. Unit {0}) (λ t. t.functions ≡ c.functions) typed _ (if_any typed) (λ l u.
-      let words = global_words d.place l d.initial (object_scope k name before l (length c.objects) c.scope) in
-      if_then (λ w. Unit {0}) (λ t. t.functions ≡ c.functions) words _ (if_any words) (λ w v. refl))
+      let words = object_words d before c.objects l domain block (object_scope k name before l (length c.objects) c.scope) in
+      if_then (λ w. Unit {0}) (λ t. t.functions ≡ c.functions) words _ (if_any words) (λ w u. refl)
 
   -- ---- functions
 
@@ -181,19 +182,20 @@ module _ (k : Foreknown) (different : Different k.outline.functions) where
   function_right done d name result signature body c h g =
       let b : Before = before_of k name c.scope in
       let next : Contents = in_scope c (function_scope k name signature b.meaning b.builtin c.scope) in
+      if_then (λ x. Unit {0}) (Right (onward done name body)) (plain_values d.initial next.scope) _ (if_any (plain_values d.initial next.scope)) (λ x u.
       if_unbroken (Right (onward done name body)) d (rule_of d signature body c b) (defined k name result (params_of d) body b.number next)
-      (defined_right done name result (params_of d) body next h g)
+      (defined_right done name result (params_of d) body next h g))
 
   -- ---- declarators
 
   abbrev behind : List (List ℕ) → Bool → List ℕ → Option Line → List (List ℕ)
   behind done function name body = done ++ (if function && is_there body then name ∷ [] else [])
 
-  object_right : (done : List (List ℕ)) (d : Declarator) (name : List ℕ) (e : Entity) (domain : Option (List ℕ)) (block : Bool) (c : Contents) → Right done c →
-      IfGood (object_judgement k d name e domain block c) (Right (done ++ []))
-  object_right done d name e domain block c h =
-      if_more (λ t. t.functions ≡ c.functions) (Right (done ++ [])) (object_judgement k d name e domain block c)
-      (λ t q. subst (AreRight (done ++ [])) (sym q) (nothing_more done c.functions h)) (same_functions d name e domain block c)
+  object_right : (done : List (List ℕ)) (d : Declarator) (name : List ℕ) (l : Local) (domain : Option (List ℕ)) (block : Bool) (c : Contents) → Right done c →
+      IfGood (object_judgement k d name l domain block c) (Right (done ++ []))
+  object_right done d name l domain block c h =
+      if_more (λ t. t.functions ≡ c.functions) (Right (done ++ [])) (object_judgement k d name l domain block c)
+      (λ t q. subst (AreRight (done ++ [])) (sym q) (nothing_more done c.functions h)) (same_functions d name l domain block c)
 
   entity_right : (done : List (List ℕ)) (b : Specified) (body : Option Line) (d : Declarator) (name : List ℕ) (e : Entity) (a : Option Attribute) (c : Contents) → Right done c →
       (function : Bool) → is_function_entity e ≡ function → (function && is_there body ≡ true → is_among name names ≡ true) →
@@ -201,15 +203,16 @@ module _ (k : Foreknown) (different : Different k.outline.functions) where
   entity_right done b body d name (entity.Function signature) a c h true q g = function_right done d name b.ctype signature body c h g
   entity_right done b body d name (entity.Function signature) a c h false q g = absurd (cc)
   entity_right done b body d name (entity.Scalar t fixed) a c h true q g = absurd (cc)
-  entity_right done b body d name (entity.Scalar t fixed) a c h false q g = object_right done d name (entity.Scalar t fixed) (domain_by c.scope b.enumeration a) (is_some body) c h
+  entity_right done b body d name (entity.Scalar t fixed) a c h false q g = object_right done d name (scalar t) (domain_by c.scope b.enumeration a) (is_some body) c h
   entity_right done b body d name (entity.Array t fixed size) a c h true q g = absurd (cc)
-  entity_right done b body d name (entity.Array t fixed size) a c h false q g = object_right done d name (entity.Array t fixed size) (domain_by c.scope b.enumeration a) (is_some body) c h
+  entity_right done b body d name (entity.Array t fixed size) a c h false q g = object_right done d name (sized t (array_size size d.initial)) (domain_by c.scope b.enumeration a) (is_some body) c h
 
   named_right : (done : List (List ℕ)) (b : Specified) (body : Option Line) (d : Declarator) (name : Option (List ℕ)) (e : Designated) (c : Contents) → Right done c →
       (function : Bool) → is_function_entity e.entity ≡ function → (function && is_there body ≡ true → is_among (or_nothing name) names ≡ true) →
       IfGood (named_declarator k b body d name e c) (Right (behind done function (or_nothing name) body))
   unfolding named_declarator
-  named_right done b body d None e c h function q g = tt
+  named_right done b body d None e c h function q g =
+      if_then (λ u. Unit {0}) (Right (behind done function [] body)) (nameless_values e.entity d.initial c.scope) _ (if_any (nameless_values e.entity d.initial c.scope)) (λ u v. tt)
   named_right done b body d (Some name) e c h function q g = entity_right done b body d name e.entity e.attribute c h function q g
 
   declarator_right : (i : Item) (b : Specified) → Unit {0} → (d : Declarator) → IsNamed wanted.DefinedFunctions names i d → (xs ys : List (List ℕ)) (c : Contents) → Right xs c →

@@ -18,7 +18,7 @@ use Rattle.mv_declare.specs.declared.attributes.Position.{Position}
 use Rattle.mv_declare.specs.declared.attributes.Position.TheVariants as position
 use Rattle.mv_declare.specs.declared.specifiers.Said.{Said}
 use Rattle.mv_declare.specs.declared.specifiers.Specified.{Specified}
-use Rattle.mv_declare.specs.Attributes.{given_domain, holds, held, attribute, attributes, holder_of, holder_of_all}
+use Rattle.mv_declare.specs.Attributes.{given_domain, switch_kind, holds, held, attribute, attributes, holder_of, holder_of_all}
 use Rattle.mv_declare.specs.Declarators.{designated}
 use Rattle.mv_declare.specs.Globals.{file_declarator}
 use Rattle.mv_declare.specs.Specifiers.{enumeration_of, count_before_list, nothing_said, enum_specifier, enum_specifiers, kind_of, scalar_kind, type_by_rules, specifiers}
@@ -34,7 +34,7 @@ held_there place h before a = if_kept (λ b. is_some b ≡ true) (is_some before
 attribute_there : (h : Holder) (k : Option Kind) (s : Scope) (m : Mark) (before : Option Attribute) → IfGood (attribute h k s m before) (λ b. is_some b ≡ true)
 attribute_there h k s m before =
     let f = out-Mark m in
-    if_then (λ a. Unit {0}) (λ b. is_some b ≡ true) (given_domain k s f.values) _ (if_any (given_domain k s f.values)) (λ a u. held_there f.place h before a)
+    if_then (λ a. Unit {0}) (λ b. is_some b ≡ true) (given_domain (switch_kind h k) s f.values) _ (if_any (given_domain (switch_kind h k) s f.values)) (λ a u. held_there f.place h before a)
 
 attributes_there : (h : Holder) (k : Option Kind) (s : Scope) (ms : List Mark) (before : Option Attribute) →
     IfGood (attributes h k s ms before) (λ a. is_some a ≡ (is_filled ms || is_some before))
@@ -79,7 +79,7 @@ specifiers_marked position names specs s =
     (λ x q.
     let given = attributes h k x.0 (drop x.1.used f.marks) x.1.attribute in
     if_then (λ a. is_some a ≡ Left f.marks x) (λ d. is_some d.1.attribute ≡ is_filled f.marks) given _ (attributes_there h k x.0 (drop x.1.used f.marks) x.1.attribute) (λ a r.
-    if_then (λ t. Unit {0}) (λ d. is_some d.1.attribute ≡ is_filled f.marks) (type_by_rules position x.1.again specs x.0) _ (if_any (type_by_rules position x.1.again specs x.0)) (λ t u. r ∙ q)))
+    if_then (λ t. Unit {0}) (λ d. is_some d.1.attribute ≡ is_filled f.marks) (type_by_rules position x.1.undeclared x.1.again specs x.0) _ (if_any (type_by_rules position x.1.undeclared x.1.again specs x.0)) (λ t u. r ∙ q)))
 
 -- ---- declarators
 

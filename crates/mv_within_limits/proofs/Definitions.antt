@@ -1,5 +1,5 @@
 -- Functions and objects at file scope: what a declarator adds to the contents is at most four times as many nodes as the declarator and its body.
-use Rattle.std.proofs.Common.{◌≡◌, ℕ, zero, suc, ◌+◌, ◌*◌, ◌≤◌, Bool, true, false, not, ◌||◌, refl, ap, arith, Option, Some, None, is_some, if◌then◌else◌, List, [], ◌∷◌, ◌++◌, map, length, length-append, slice_get}
+use Rattle.std.proofs.Common.{◌≡◌, ℕ, zero, suc, ◌+◌, ◌*◌, ◌≤◌, Bool, true, false, refl, ap, arith, Option, Some, None, is_some, if◌then◌else◌, List, [], ◌∷◌, map, length, length-append, slice_get}
 use Rattle.std.specs.Prelude.{sum, slice_set, unwrap_or}
 use Rattle.std.proofs.lemmas.List.{length-map}
 use Rattle.std.proofs.lemmas.List.Sums.{sum_by-cons}
@@ -21,12 +21,12 @@ use Rattle.mv_ast.specs.Counts.{stmt_nodes, nodes}
 use Rattle.mv_ast.specs.Operators.{converted}
 use Rattle.mv_scope.specs.declared.meaning.Meaning.{Meaning}
 use Rattle.mv_scope.specs.declared.scope.Scope.{Scope}
-use Rattle.mv_judge.specs.Judged.{Judged, Good}
+use Rattle.mv_judge.specs.Judged.{Judged}
 use Rattle.mv_judge.specs.Judgements.{value_judgement}
-use Rattle.mv_declare.specs.declared.declarators.Entity.{Entity}
 use Rattle.mv_declare.specs.declared.globals.Words.{Words}
-use Rattle.mv_declare.specs.Globals.{constant_word, object_type, word_or_broken, first_word, no_words, first_words, single_word, listed_words, string_fits, room_behind, string_words, global_words}
-use Rattle.mv_declare.specs.Initials.{has_room}
+use Rattle.mv_declare.specs.Globals.{constant_word, word_or_broken, first_word, no_words, first_words, room_behind, string_words, global_words}
+use Rattle.mv_declare.specs.Initials.{plain_values}
+use Rattle.mv_declare.specs.Objects.{least}
 use Rattle.mv_declare.specs.Parameters.{parameters_judgement}
 use Rattle.mv_declare.specs.Turns.{through}
 use Rattle.mv_statement_rules.specs.Statements.{body_judgement}
@@ -37,9 +37,10 @@ use Rattle.mv_types.specs.declared.functions.Before.{Before}
 use Rattle.mv_types.specs.Contents.{in_scope}
 use Rattle.mv_types.specs.Foreknown.{is_attributed}
 use Rattle.mv_types.specs.Functions.{params_of, params_of_form, body_entered, left_with, function_of, defined, unless_broken, rule_of, before_of, function_scope, function_judgement}
-use Rattle.mv_types.specs.Objects.{object_scope, new_object, again, replaced, objects_again, objects_behind, number_of, type_by_rules, initialised, object_judgement}
+use Rattle.mv_types.specs.Objects.{object_scope, new_object, again, replaced, objects_again, objects_behind, number_of, breaches, object_words, object_judgement}
 use Rattle.mv_scope.specs.Spaces.{named}
-use Rattle.mv_typed_bodies.proofs.Judging.{IfGood, if_any, if_then, if_kept, if_more}
+use Rattle.mv_typed_bodies.proofs.Judging.{IfGood, if_any, if_then, if_more}
+use Rattle.mv_typed_bodies.proofs.Unbroken.{if_unbroken}
 use Rattle.mv_typed_bodies.proofs.Parameters.{Adds, parameters_add}
 use Rattle.mv_within_limits.specs.Nodes.{initial_nodes, shape_count, declarator_count, param_count, declarator_nodes, line_nodes, body_nodes}
 use Rattle.mv_within_limits.proofs.Totals.{total, total_append, sum_total, stmts_nodes}
@@ -138,8 +139,9 @@ unfolding function_judgement
 function_adds k d name result signature body c =
     let b : Before = before_of k name c.scope in
     let s : Scope = function_scope k name signature b.meaning b.builtin c.scope in
+    if_then (λ x. Unit {0}) (Adding c (declarator_nodes d + body_nodes body)) (plain_values d.initial s) _ (if_any (plain_values d.initial s)) (λ x u.
     unless_few d.place (rule_of d signature body c b) (defined k name result (params_of d) body b.number (in_scope c s)) (Adding c (declarator_nodes d + body_nodes body))
-    (defined_few k d name result body b.number (in_scope c s))
+    (defined_few k d name result body b.number (in_scope c s)))
 
 -- ---- words
 
@@ -163,35 +165,32 @@ all_words t s (n ∷ ns) x =
 abbrev FewWords : ℕ → List ℕ → Type 0
 FewWords n ws = length ws ≤ n
 
-single_few : (place : Place) (size : Option ℕ) (x : Words) (n : ℕ) → length x.words ≤ n → IfGood (single_word place size x) (FewWords n)
-unfolding single_word
-single_few place size x n h = if_kept (FewWords n) (is_some size || not x.all) place 5 (Good x.words) (λ q. h)
-
-listed_few : (place : Place) (size : Option ℕ) (x : Words) (n : ℕ) → length x.words ≤ n → IfGood (listed_words place size x) (FewWords n)
-unfolding listed_words
-listed_few place size x n h =
-    if_kept (FewWords n) (not x.all) place 5 _ (λ q. if_kept (FewWords n) (not (has_room size (length x.words))) place 10 (Good x.words) (λ r. h))
-
 zero_behind : (b : Bool) → length (if◌then◌else◌ {A = List ℕ} b (0 ∷ []) []) ≤ 1
 zero_behind true = omega arith
 zero_behind false = omega arith
 
-string_few : (place : Place) (l : Local) (bytes : List ℕ) → IfGood (string_words place l bytes) (FewWords (1 + length bytes))
-unfolding string_words
-string_few place l bytes =
-    let last : List ℕ = if room_behind l.size (length bytes) then 0 ∷ [] else [] in
-    if_kept (FewWords (1 + length bytes)) (not (string_fits l (length bytes))) place 10 (Good (map (converted l.ctype) bytes ++ last))
-    (λ q. omega (arith, length-append (map (converted l.ctype) bytes) last, length-map bytes (converted l.ctype), zero_behind (room_behind l.size (length bytes))))
+-- at most so many words are given, and the 0 of a string
+abbrev GivenFew : Option Initial → Words → Type 0
+GivenFew given x = FewWords (1 + initial_nodes given) x.words
 
-words_few : (place : Place) (l : Local) (given : Option Initial) (s : Scope) → IfGood (global_words place l given s) (FewWords (1 + initial_nodes given))
-words_few place l None s = omega arith
-words_few place l (Some (initial.Value node)) s =
-    if_then (MoreWords no_words 1) (FewWords (1 + initial_nodes (Some (initial.Value node)))) (first_word l.ctype s node no_words) _ (first_more l.ctype s node no_words)
-    (λ x h. single_few place l.size x (1 + initial_nodes (Some (initial.Value node))) (omega (arith, h)))
-words_few place l (Some (initial.Values ns)) s =
-    if_then (MoreWords no_words (length ns)) (FewWords (1 + initial_nodes (Some (initial.Values ns)))) (first_words l.ctype s ns) _ (all_words l.ctype s ns no_words)
-    (λ x h. listed_few place l.size x (1 + initial_nodes (Some (initial.Values ns))) (omega (arith, h)))
-words_few place l (Some (initial.Chars bytes)) s = string_few place l bytes
+string_few : (l : Local) (bytes : List ℕ) → GivenFew (Some (initial.Chars bytes)) (string_words l bytes)
+string_few l bytes =
+    let last : List ℕ = if room_behind l.size (length bytes) then 0 ∷ [] else [] in
+    omega (arith, length-append (map (converted l.ctype) bytes) last, length-map bytes (converted l.ctype), zero_behind (room_behind l.size (length bytes)))
+
+given_few : (l : Local) (given : Option Initial) (s : Scope) → IfGood (global_words l given s) (GivenFew given)
+given_few l None s = omega arith
+given_few l (Some (initial.Value node)) s =
+    if_more (MoreWords no_words 1) (GivenFew (Some (initial.Value node))) (first_word l.ctype s node no_words) (λ x h. omega (arith, h)) (first_more l.ctype s node no_words)
+given_few l (Some (initial.Values ns)) s =
+    if_more (MoreWords no_words (length ns)) (GivenFew (Some (initial.Values ns))) (first_words l.ctype s ns) (λ x h. omega (arith, h)) (all_words l.ctype s ns no_words)
+given_few l (Some (initial.Chars bytes)) s = string_few l bytes
+
+words_few : (d : Declarator) (before : Option Meaning) (objects : List Object) (l : Local) (domain : Option (List ℕ)) (block : Bool) (s : Scope) →
+    IfGood (object_words d before objects l domain block s) (FewWords (1 + initial_nodes d.initial))
+words_few d before objects l domain block s =
+    if_then (GivenFew d.initial) (FewWords (1 + initial_nodes d.initial)) (global_words l d.initial s) _ (given_few l d.initial s) (λ x h.
+    if_unbroken (FewWords (1 + initial_nodes d.initial)) d.place (least (breaches before objects l d.initial x domain block)) x.words (λ q. h))
 
 -- ---- objects
 
@@ -218,17 +217,12 @@ unfolding objects_behind
 behind_few xs name None l words given domain = omega (arith, total_append object_weight xs (new_object name l words given domain ∷ []))
 behind_few xs name (Some m) l words given domain = omega (arith, again_few xs (number_of m) words given domain)
 
-initialised_few : (k : Foreknown) (d : Declarator) (name : List ℕ) (before : Option Meaning) (domain : Option (List ℕ)) (l : Local) (c : Contents) →
-    IfGood (initialised k d name before domain l c) (Adding c (declarator_nodes d))
-initialised_few k d name before domain l c =
-    let s : Scope = object_scope k name before l (length c.objects) c.scope in
-    if_then (FewWords (1 + initial_nodes d.initial)) (Adding c (declarator_nodes d)) (global_words d.place l d.initial s) _ (words_few d.place l d.initial s)
-    (λ words h. omega (arith, h, behind_few c.objects name before l words (is_some d.initial) domain, declarator_has d))
-
-pub object_adds : (k : Foreknown) (d : Declarator) (name : List ℕ) (e : Entity) (domain : Option (List ℕ)) (block : Bool) (c : Contents) →
-    IfGood (object_judgement k d name e domain block c) (Adding c (declarator_nodes d))
+pub object_adds : (k : Foreknown) (d : Declarator) (name : List ℕ) (l : Local) (domain : Option (List ℕ)) (block : Bool) (c : Contents) →
+    IfGood (object_judgement k d name l domain block c) (Adding c (declarator_nodes d))
 unfolding object_judgement
-object_adds k d name e domain block c =
+object_adds k d name l domain block c =
     let before : Option Meaning = named name c.scope.names.here in
-    let ruled = type_by_rules d.place before c.objects (object_type d.place e d.initial) (is_some d.initial) block domain in
-    if_then (λ l. Unit {0}) (Adding c (declarator_nodes d)) ruled _ (if_any ruled) (λ l u. initialised_few k d name before domain l c)
+    let s : Scope = object_scope k name before l (length c.objects) c.scope in
+    if_then (FewWords (1 + initial_nodes d.initial)) (Adding c (declarator_nodes d)) (object_words d before c.objects l domain block s) _
+    (words_few d before c.objects l domain block s)
+    (λ words h. omega (arith, h, behind_few c.objects name before l words (is_some d.initial) domain, declarator_has d))

@@ -1,6 +1,5 @@
 -- What local declarations come to: a local for each declarator, and a statement that clears it with its values.
-use Rattle.std.proofs.Common.{◌≡◌, ℕ, ◌+◌, ◌*◌, ◌≤◌, Bool, not, ◌||◌, refl, ap, arith, Option, Some, None, is_some, List, [], ◌∷◌, map, length, length-append}
-use Rattle.mv_ast.specs.declared.place.Place.{Place}
+use Rattle.std.proofs.Common.{◌≡◌, ℕ, ◌+◌, ◌*◌, ◌≤◌, Bool, true, false, if◌then◌else◌, refl, ap, arith, Option, Some, None, List, [], ◌∷◌, map, length, length-append}
 use Rattle.mv_ast.specs.declared.program.CType.{CType}
 use Rattle.mv_ast.specs.declared.program.Expr.{Expr}
 use Rattle.mv_ast.specs.declared.program.Local.{Local}
@@ -13,22 +12,23 @@ use Rattle.mv_ast.specs.declared.unit.Specs.{Specs}
 use Rattle.mv_ast.specs.Counts.{expr_nodes, stmt_nodes}
 use Rattle.mv_scope.specs.declared.meaning.Meaning.{Meaning}
 use Rattle.mv_scope.specs.declared.scope.Scope.{Scope}
-use Rattle.mv_scope.specs.Conversions.{is_void, converted_to}
-use Rattle.mv_judge.specs.Judged.{Good}
+use Rattle.mv_scope.specs.Conversions.{converted_to}
+use Rattle.mv_scope.specs.Scoped.{declared, with_local}
 use Rattle.mv_judge.specs.Judgements.{value_judgement}
 use Rattle.mv_declare.specs.declared.attributes.Position.TheVariants as position
 use Rattle.mv_declare.specs.declared.declarators.Entity.{Entity}
 use Rattle.mv_declare.specs.declared.declarators.Entity.TheVariants as entity
 use Rattle.mv_declare.specs.declared.initials.Converted.{Converted}
-use Rattle.mv_declare.specs.declared.locals.Numbered.{Numbered}
 use Rattle.mv_declare.specs.Attributes.{attributes, nothing_holds}
-use Rattle.mv_declare.specs.Declarators.{designated}
+use Rattle.mv_declare.specs.Declarators.{is_taken_by, designated}
 use Rattle.mv_declare.specs.Enumerators.{is_taken}
-use Rattle.mv_declare.specs.Initials.{array_size, has_room, initial_values, converted_value, none_converted, single_value, listed_values}
-use Rattle.mv_declare.specs.Locals.{scalar, scalar_meaning, local_declared, sized_array, new_object, new_local, cleared, local, locals_judgement}
+use Rattle.mv_declare.specs.Initials.{array_size, initial_values, plain_values, converted_value, none_converted}
+use Rattle.mv_declare.specs.Locals.{scalar_meaning, array_meaning, own_scope, rule_of, local_values, object, by_entity, local, locals_judgement}
+use Rattle.mv_declare.specs.Objects.{scalar, sized}
 use Rattle.mv_declare.specs.Specifiers.{specifiers}
 use Rattle.mv_declare.specs.Turns.{through, next_part, in_turn}
-use Rattle.mv_typed_bodies.proofs.Judging.{IfGood, if_any, if_then, if_kept, if_more}
+use Rattle.mv_typed_bodies.proofs.Judging.{IfGood, if_any, if_then, if_more}
+use Rattle.mv_typed_bodies.proofs.Unbroken.{if_unbroken}
 use Rattle.mv_typed_bodies.proofs.Specified.{Specifies, specifiers_specify}
 use Rattle.mv_typed_bodies.proofs.Designated.{Designates, shape_designates}
 use Rattle.mv_within_limits.specs.Nodes.{node_nodes, initial_nodes, shape_count, declarator_count, param_count, declarator_nodes}
@@ -65,50 +65,34 @@ module _ (t : CType) (s : Scope) where
 abbrev AreFew : ℕ → List Expr → Type 0
 AreFew n es = total value_nodes es ≤ 2 * n
 
-single_few : (place : Place) (size : Option ℕ) (x : Converted) (n : ℕ) → AreFew n x.values → IfGood (single_value place size x) (AreFew n)
-unfolding single_value
-single_few place size x n h = if_kept (AreFew n) (is_some size || not x.all) place 5 (Good x.values) (λ q. h)
+abbrev GivenFew : Option Initial → Converted → Type 0
+GivenFew given x = AreFew (initial_nodes given) x.values
 
-listed_few : (place : Place) (size : Option ℕ) (x : Converted) (n : ℕ) → AreFew n x.values → IfGood (listed_values place size x) (AreFew n)
-unfolding listed_values
-listed_few place size x n h =
-    if_kept (AreFew n) (not x.all) place 5 _ (λ q. if_kept (AreFew n) (not (has_room size (length x.values))) place 10 (Good x.values) (λ r. h))
+given_few : (t : CType) (given : Option Initial) (s : Scope) → IfGood (initial_values t given s) (GivenFew given)
+given_few t None s = omega arith
+given_few t (Some (initial.Value node)) s =
+    if_more (More none_converted (1 + 2 * node_nodes node)) (GivenFew (Some (initial.Value node))) (converted_value t s node none_converted) (λ x h. omega (arith, h))
+    (one_more t s node none_converted)
+given_few t (Some (initial.Values nodes)) s =
+    if_more (More none_converted (length nodes + 2 * total node_nodes nodes)) (GivenFew (Some (initial.Values nodes))) (through (converted_value t s) nodes none_converted)
+    (λ x h. omega (arith, h, sum_total node_nodes nodes)) (all_more t s nodes none_converted)
+given_few t (Some (initial.Chars bytes)) s = omega arith
 
-values_few : (place : Place) (l : Local) (given : Option Initial) (s : Scope) → IfGood (initial_values place l given s) (AreFew (initial_nodes given))
-values_few place l None s = omega arith
-values_few place l (Some (initial.Value node)) s =
-    if_then (More none_converted (1 + 2 * node_nodes node)) (AreFew (1 + node_nodes node)) (converted_value l.ctype s node none_converted) _ (one_more l.ctype s node none_converted)
-    (λ x h. single_few place l.size x (1 + node_nodes node) (omega (arith, h)))
-values_few place l (Some (initial.Values nodes)) s =
-    if_then (More none_converted (length nodes + 2 * total node_nodes nodes)) (AreFew (initial_nodes (Some (initial.Values nodes)))) (through (converted_value l.ctype s) nodes none_converted) _
-    (all_more l.ctype s nodes none_converted)
-    (λ x h. listed_few place l.size x (initial_nodes (Some (initial.Values nodes))) (omega (arith, h, sum_total node_nodes nodes)))
-values_few place l (Some (initial.Chars bytes)) s = tt
+values_few : (d : Declarator) (taken : Bool) (l : Local) (s : Scope) → IfGood (local_values d taken l s) (AreFew (initial_nodes d.initial))
+values_few d taken l s =
+    if_then (GivenFew d.initial) (AreFew (initial_nodes d.initial)) (initial_values l.ctype d.initial s) _ (given_few l.ctype d.initial s) (λ x h.
+    if_unbroken (AreFew (initial_nodes d.initial)) d.place (rule_of d.name taken l d.initial x) x.values (λ q. h))
 
 -- ---- one more local
 
-abbrev IsOneMore : Scope → Scope × Numbered → Type 0
-IsOneMore s n = length n.0.locals ≡ 1 + length s.locals
-
-declared_more : (s : Scope) (name : List ℕ) (l : Local) (m : Meaning) → IfGood (local_declared s name l m) (IsOneMore s)
-declared_more s name l m = omega (arith, length-append s.locals (l ∷ []))
-
-array_more : (place : Place) (name : List ℕ) (t : CType) (fixed : Bool) (size : Option ℕ) (s : Scope) → IfGood (sized_array place name t fixed size s) (IsOneMore s)
-array_more place name t fixed None s = tt
-array_more place name t fixed (Some n) s = omega (arith, length-append s.locals ((record { ctype = t; size = Some n }) ∷ []))
-
-object_more : (place : Place) (name : List ℕ) (e : Entity) (given : Option Initial) (s : Scope) → IfGood (new_object place name e given s) (IsOneMore s)
-object_more place name (entity.Scalar t fixed) given s =
-    if_kept (IsOneMore s) (is_void t) place 8 (local_declared s name (scalar t) (scalar_meaning (length s.locals) t fixed))
-    (λ q. declared_more s name (scalar t) (scalar_meaning (length s.locals) t fixed))
-object_more place name (entity.Array t fixed size) given s =
-    if_kept (IsOneMore s) (is_void t) place 8 (sized_array place name t fixed (array_size size given) s) (λ q. array_more place name t fixed (array_size size given) s)
-object_more place name (entity.Function g) given s = tt
-
-local_more : (place : Place) (name : Option (List ℕ)) (e : Entity) (given : Option Initial) (s : Scope) → IfGood (new_local place name e given s) (IsOneMore s)
-unfolding new_local
-local_more place None e given s = tt
-local_more place (Some name) e given s = if_kept (IsOneMore s) (is_taken s name) place 2 (new_object place name e given s) (λ q. object_more place name e given s)
+own_more : (s : Scope) (name : Option (List ℕ)) (l : Local) (m : Meaning) → length (own_scope s name l m).locals ≤ 1 + length s.locals
+unfolding own_scope
+own_more s None l m = omega arith
+own_more s (Some name) l m = by (is_taken s name)
+  where
+    by : (b : Bool) → length (if◌then◌else◌ {A = Scope} b s (declared (with_local s l) name m)).locals ≤ 1 + length s.locals
+    by true = omega arith
+    by false = omega (arith, length-append s.locals (l ∷ []))
 
 -- ---- declarators
 
@@ -122,10 +106,18 @@ StmtFew s n d = length d.0.locals + stmt_nodes d.1 ≤ length s.locals + 4 * n
 abbrev pub LinesFew : Scope × List Stmt → ℕ → Scope × List Stmt → Type 0
 LinesFew d n e = length e.0.locals + stmts_nodes e.1 ≤ (length d.0.locals + stmts_nodes d.1) + 4 * n
 
-cleared_few : (s : Scope) (n : Scope × Numbered) (d : Declarator) → length n.0.locals ≡ 1 + length s.locals → IfGood (cleared n.0 n.1 d.place d.initial) (StmtFew s (declarator_nodes d))
-cleared_few s n d h =
-    if_then (AreFew (initial_nodes d.initial)) (StmtFew s (declarator_nodes d)) (initial_values d.place n.1.local d.initial n.0) _ (values_few d.place n.1.local d.initial n.0)
-    (λ es k. omega (arith, h, k, nodes_clear n.1.number es, values_both es, declarator_has d))
+object_few : (s e : Scope) (d : Declarator) (l : Local) (m : Meaning) → length e.locals ≡ length s.locals → IfGood (object d l m e) (StmtFew s (declarator_nodes d))
+object_few s e d l m q =
+    let taken : Bool = is_taken_by e d.name in
+    let own : Scope = own_scope e d.name l m in
+    if_then (AreFew (initial_nodes d.initial)) (StmtFew s (declarator_nodes d)) (local_values d taken l own) _ (values_few d taken l own)
+    (λ es k. omega (arith, q, own_more e d.name l m, k, nodes_clear (length e.locals) es, values_both es, declarator_has d))
+
+entity_few : (s e : Scope) (d : Declarator) (x : Entity) → length e.locals ≡ length s.locals → IfGood (by_entity d x e) (StmtFew s (declarator_nodes d))
+entity_few s e d (entity.Scalar t fixed) q = object_few s e d (scalar t) (scalar_meaning (length e.locals) t fixed) q
+entity_few s e d (entity.Array t fixed size) q = object_few s e d (sized t (array_size size d.initial)) (array_meaning (length e.locals) t fixed) q
+entity_few s e d (entity.Function g) q =
+    if_then (λ x. Unit {0}) (StmtFew s (declarator_nodes d)) (plain_values d.initial e) _ (if_any (plain_values d.initial e)) (λ x u. tt)
 
 module _ (t : CType) (fixed : Bool) (designates : (d : Declarator) (s : Scope) → IfGood (designated d.shape t fixed s) (Designates s)) where
   local_few : (d : Declarator) (s : Scope) → IfGood (local t fixed d s) (StmtFew s (declarator_nodes d))
@@ -133,8 +125,7 @@ module _ (t : CType) (fixed : Bool) (designates : (d : Declarator) (s : Scope) �
       if_then (Designates s) (StmtFew s (declarator_nodes d)) (designated d.shape t fixed s) _ (designates d s) (λ e g.
       let given = attributes nothing_holds None e.0 d.marks None in
       if_then (λ a. Unit {0}) (StmtFew s (declarator_nodes d)) given _ (if_any given) (λ a u.
-      if_then (IsOneMore e.0) (StmtFew s (declarator_nodes d)) (new_local d.place d.name e.1 d.initial e.0) _ (local_more d.place d.name e.1 d.initial e.0) (λ n h.
-      cleared_few s n d (let q : length e.0.locals ≡ length s.locals = ap length g.declares.same in omega (arith, h, q)))))
+      entity_few s e.0 d e.1 (ap length g.declares.same)))
 
   pub locals_through : (names : List Declarator) (d : Scope × List Stmt) → IfGood (in_turn (map (local t fixed) names) d) (LinesFew d (total declarator_nodes names))
   locals_through [] d = omega arith

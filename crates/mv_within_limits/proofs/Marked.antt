@@ -25,12 +25,12 @@ use Rattle.mv_declare.specs.declared.attributes.Position.TheVariants as position
 use Rattle.mv_declare.specs.declared.specifiers.Enumeration.{Enumeration}
 use Rattle.mv_declare.specs.declared.specifiers.Said.{Said}
 use Rattle.mv_declare.specs.declared.specifiers.Specified.{Specified}
-use Rattle.mv_declare.specs.Attributes.{given_domain, is_main, shape_holder, holder_of, both_hold, all_hold, holder_of_all, holds, held, attribute, attributes}
+use Rattle.mv_declare.specs.Attributes.{given_domain, switch_kind, is_main, shape_holder, holder_of, both_hold, all_hold, holder_of_all, holds, held, attribute, attributes}
 use Rattle.mv_declare.specs.Declarators.{designated}
 use Rattle.mv_declare.specs.Globals.{file_declarator}
 use Rattle.mv_declare.specs.Specifiers.{enumeration_of, count_before_list, nothing_said, enum_specifier, enum_specifiers, scalar_kind, kind_of, specifiers}
 use Rattle.mv_declare.specs.Turns.{Behind, through}
-use Rattle.mv_judge.specs.TypeNames.{type_of}
+use Rattle.mv_judge.specs.TypeNames.{undeclared_enum, type_of}
 use Rattle.mv_types.specs.declared.contents.Contents.{Contents}
 use Rattle.mv_types.specs.declared.contents.Foreknown.{Foreknown}
 use Rattle.mv_types.specs.declared.foreknown.Said.TheVariants as said
@@ -95,7 +95,7 @@ module _ (h : Holder) (none : HoldsNone h) (k : Option Kind) where
   attributes_none s m ms before =
       let f = out-Mark m in
       if_then (λ a. ⊥) (λ a. ⊥) (attribute h k s m before) (through (attribute h k s) ms)
-      (if_then (λ a. Unit {0}) (λ a. ⊥) (given_domain k s f.values) _ (if_any (given_domain k s f.values)) (λ a u. held_none f.place before a)) (λ a z. absurd z)
+      (if_then (λ a. Unit {0}) (λ a. ⊥) (given_domain (switch_kind h k) s f.values) _ (if_any (given_domain (switch_kind h k) s f.values)) (λ a u. held_none f.place before a)) (λ a z. absurd z)
 
   filled_none : (s : Scope) (marks : List Mark) (before : Option Attribute) → is_filled marks ≡ true → IfGood (attributes h k s marks before) (λ a. ⊥)
   filled_none s [] before q = absurd (cc)
@@ -107,15 +107,15 @@ module _ (h : Holder) (none : HoldsNone h) (k : Option Kind) where
     abbrev Unused : Scope × Said → Type 0
     Unused x = x.1.used ≡ 0
 
-    abbrev last : Said → ℕ → Option Attribute → Scope × Enumeration → Behind Said
-    last x n a d = behind d.0 (record { used = 0 + n; attribute = a; number = d.1.number; again = x.again || d.1.again })
+    abbrev last : (undeclared : Bool) → Said → ℕ → Option Attribute → Scope × Enumeration → Behind Said
+    last u x n a d = behind d.0 (record { used = 0 + n; attribute = a; number = d.1.number; again = x.again || d.1.again; undeclared = x.undeclared || u })
 
     abbrev enumerated : EnumSpec → Scope → Said → ℕ → Option Attribute → Behind Said
-    enumerated e s x n a = and_then (enumeration_of s (out-EnumSpec e).tag (out-EnumSpec e).members) (last x n a)
+    enumerated e s x n a = and_then (enumeration_of s (out-EnumSpec e).tag (out-EnumSpec e).members) (last (undeclared_enum s e) x n a)
 
     none_used : (e : EnumSpec) (s : Scope) (x : Said) (a : Option Attribute) → IfGood (enumerated e s x 0 a) Unused
     none_used e s x a =
-        if_then (λ (d : Scope × Enumeration). Unit {0}) Unused (enumeration_of s (out-EnumSpec e).tag (out-EnumSpec e).members) (last x 0 a)
+        if_then (λ (d : Scope × Enumeration). Unit {0}) Unused (enumeration_of s (out-EnumSpec e).tag (out-EnumSpec e).members) (last (undeclared_enum s e) x 0 a)
         (if_any (enumeration_of s (out-EnumSpec e).tag (out-EnumSpec e).members)) (λ d v. refl)
 
     enum_unused : (e : EnumSpec) (s : Scope) (x : Said) → IfGood (enum_specifier h k (m ∷ ms) e (s, record x { used = 0 })) Unused

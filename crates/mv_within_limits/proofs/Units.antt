@@ -20,6 +20,8 @@ use Rattle.mv_declare.specs.declared.declarators.Entity.TheVariants as entity
 use Rattle.mv_declare.specs.declared.globals.Designated.{Designated}
 use Rattle.mv_declare.specs.declared.specifiers.Specified.{Specified}
 use Rattle.mv_declare.specs.Globals.{file_declarator}
+use Rattle.mv_declare.specs.Initials.{array_size}
+use Rattle.mv_declare.specs.Objects.{scalar, sized}
 use Rattle.mv_declare.specs.Specifiers.{specifiers}
 use Rattle.mv_declare.specs.Turns.{through}
 use Rattle.mv_types.specs.declared.contents.Contents.{Contents}
@@ -29,7 +31,7 @@ use Rattle.mv_types.specs.Contents.{nothing_declared, in_scope, present, switche
 use Rattle.mv_types.specs.Foreknown.{foreknown}
 use Rattle.mv_types.specs.Functions.{definition_parameters}
 use Rattle.mv_types.specs.Objects.{domain_by}
-use Rattle.mv_types.specs.Units.{by_entity, named_declarator, base_of, declarator_judgement, holders, declares_nothing, item_judgement, main_of, with_switches, program_of, program_or_broken, program_judgement, unit_judgement}
+use Rattle.mv_types.specs.Units.{by_entity, nameless_values, named_declarator, base_of, declarator_judgement, holders, declares_nothing, item_judgement, main_of, with_switches, program_of, program_or_broken, program_judgement, unit_judgement}
 use Rattle.mv_scope.specs.Spaces.{named}
 use Rattle.mv_typed_bodies.proofs.Judging.{IfGood, of_good, if_any, if_then, if_kept, if_more}
 use Rattle.mv_lowered_programs.specs.WellFormed.{program_nodes}
@@ -47,14 +49,15 @@ module _ (k : Foreknown) (b : Specified) (body : Option Line) where
   entity_adds d name (entity.Function signature) a c = function_adds k d name b.ctype signature body c
   entity_adds d name (entity.Scalar t fixed) a c =
       if_more (Adding c (declarator_nodes d)) (Adding c (size d)) (by_entity k b body d name (entity.Scalar t fixed) a c) (λ x h. omega (arith, h))
-      (object_adds k d name (entity.Scalar t fixed) (domain_by c.scope b.enumeration a) (is_some body) c)
+      (object_adds k d name (scalar t) (domain_by c.scope b.enumeration a) (is_some body) c)
   entity_adds d name (entity.Array t fixed n) a c =
       if_more (Adding c (declarator_nodes d)) (Adding c (size d)) (by_entity k b body d name (entity.Array t fixed n) a c) (λ x h. omega (arith, h))
-      (object_adds k d name (entity.Array t fixed n) (domain_by c.scope b.enumeration a) (is_some body) c)
+      (object_adds k d name (sized t (array_size n d.initial)) (domain_by c.scope b.enumeration a) (is_some body) c)
 
   named_adds : (d : Declarator) (name : Option (List ℕ)) (e : Designated) (c : Contents) → IfGood (named_declarator k b body d name e c) (Adding c (size d))
   unfolding named_declarator
-  named_adds d None e c = tt
+  named_adds d None e c =
+      if_then (λ u. Unit {0}) (Adding c (size d)) (nameless_values e.entity d.initial c.scope) _ (if_any (nameless_values e.entity d.initial c.scope)) (λ u v. tt)
   named_adds d (Some name) e c = entity_adds d name e.entity e.attribute c
 
   declarator_adds : (d : Declarator) (c : Contents) → IfGood (declarator_judgement k b body d c) (Adding c (size d))
