@@ -14,7 +14,7 @@ use Rattle.mv_parser.specs.Verdict.{IsShallow, IsTooDeep, IsBroken}
 use Rattle.mv_parser.proofs.Levels as level
 use Rattle.mv_judge.specs.Judged.{Judged, Good, Broken}
 use Rattle.mv_types.specs.Units.{unit_judgement}
-use Rattle.mv_limits.specs.Limits.{first_exceeded}
+use Rattle.mv_limits.specs.Ordered.{first_excess}
 use Rattle.mv_limits.specs.declared.excess.Exceeded.{Exceeded}
 use Rattle.mv_front.specs.Refusals.{at_place, of_rule, counted}
 use Rattle.mv_front.specs.Verdicts.{IsUnit, IsProgram, IsRefused, long_source, long_name, no_token, unsupported, too_deep, no_unit, broken_rule, over_limit}
@@ -45,7 +45,7 @@ data NoUnit (text : List ℕ) : Refusal → Type 0 where
 data NoProgram (text : List ℕ) : Refusal → Type 0 where
   rule : (u : tree.Unit) (place : Place) (number : ℕ) → IsUnit text u → unit_judgement u ≡ Broken place number → NoProgram text (of_rule place number)
   limit : (u : tree.Unit) (p : Program) (number count : ℕ) → IsUnit text u → unit_judgement u ≡ Good p →
-      first_exceeded p ≡ Some (record { limit = number; count = count }) → NoProgram text (counted 7 number count)
+      first_excess u p ≡ Some (record { limit = number; count = count }) → NoProgram text (counted 7 number count)
 
 sorted : {text : List ℕ} {r : Refusal} → IsRefused text r → NoTokens text r ⊎ (NoUnit text r ⊎ NoProgram text r)
 sorted (long_source h) = inl (long h)
@@ -105,6 +105,9 @@ unit_of (limit u p number count is good h) = (u, is)
 same_judgement : {text : List ℕ} (u v : tree.Unit) → IsUnit text u → IsUnit text v → unit_judgement u ≡ unit_judgement v
 same_judgement {text = text} u v is there = ap unit_judgement (one_unit text u v is.reads there.reads)
 
+same_excess : {text : List ℕ} (u v : tree.Unit) (p q : Program) → IsUnit text u → IsUnit text v → p ≡ q → first_excess u p ≡ first_excess v q
+same_excess {text = text} u v p q is there e = ap (λ w. first_excess w p) (one_unit text u v is.reads there.reads) ∙ ap (λ z. first_excess v z) e
+
 good_or_broken : (p : Program) (place : Place) (number : ℕ) (j : Judged Program) → j ≡ Good p → j ≡ Broken place number → ⊥
 good_or_broken p place number j e f = let g : Good p ≡ Broken place number = sym e ∙ f in cc
 
@@ -129,7 +132,7 @@ one_checking (limit u p number count is good h) (rule v at other there k) =
     absurd (good_or_broken p at other (unit_judgement u) good (same_judgement u v is there ∙ k))
 one_checking (limit u p number count is good h) (limit v q other many there fine k) =
     let same : p ≡ q = one_good p q (sym good ∙ same_judgement u v is there ∙ fine) in
-    let excess = one_excess _ _ (sym h ∙ ap first_exceeded same ∙ k) in
+    let excess = one_excess _ _ (sym h ∙ same_excess u v p q is there same ∙ k) in
     ap (λ (e : Exceeded). counted 7 e.limit e.count) excess
 
 -- ---- the laws
@@ -143,7 +146,7 @@ no_program text p r h (rule u place number is k) =
     good_or_broken p place number (unit_judgement u) (same_judgement u h.unit is h.reads ∙ h.good) k
 no_program text p r h (limit u q number count is good k) =
     let same : p ≡ q = one_good p q (sym h.good ∙ same_judgement h.unit u h.reads is ∙ good) in
-    none_or_excess _ (sym h.within ∙ ap first_exceeded same ∙ k)
+    none_or_excess _ (sym h.within ∙ same_excess h.unit u p q h.reads is same ∙ k)
 
 pub not_both : (text : List ℕ) (p : Program) (r : Refusal) → IsProgram text p → IsRefused text r → ⊥
 not_both text p r h refused = go (sorted refused)

@@ -96,17 +96,7 @@ first_some (Some e ∷ os) = Some e
 abbrev pub first_exceeded : Program → Option Exceeded
 first_exceeded p = first_some (map excess (limits p))
 
--- ---- limits 1 to 4, which a few counts of a program decide
-
-abbrev pub counts_of : Program → Counts
-counts_of p = record {
-  functions = length p.functions;
-  globals = length p.globals;
-  parameters = first_above 8 (parameters_limit p).counts;
-  switches = length p.switches;
-}
-
--- the least of them that a program with these counts exceeds
+-- the least of limits 1 to 4 that a program with these counts exceeds
 abbrev pub exceeded_by_counts : Counts → Option Exceeded
 exceeded_by_counts c =
     first_some
@@ -115,8 +105,3 @@ exceeded_by_counts c =
     reported 3 c.parameters ∷
     reported 4 (first_above 64 (c.switches ∷ [])) ∷
     [])
-
--- ---- limits 5 to 8, for which the program itself is looked at
-
-abbrev pub exceeded_by_contents : Program → Option Exceeded
-exceeded_by_contents p = first_some (map excess (values_limit p ∷ switches_of_function_limit p ∷ assignments_limit p ∷ elements_limit p ∷ []))

@@ -3,16 +3,19 @@
 ghost use Rattle.std.specs.Prelude.{◌≡◌, ◌≤◌, [], ◌∷◌, None, map, IsTrue, length, nat_lt};
 ghost use Rattle.mv_ast.specs.Counts.{assignments, product_of};
 ghost use Rattle.mv_ast.specs.Plans.{switch_domain};
-ghost use Rattle.mv_limits.specs.Limits.{first_above, counts_of, elements, own_switches, global_sizes, local_sizes, parameters_limit, values_limit, switches_of_function_limit, assignments_limit, elements_limit};
+ghost use Rattle.mv_limits.specs.Limits.{first_above, elements, own_switches, global_sizes, local_sizes, parameters_limit, values_limit, switches_of_function_limit, assignments_limit, elements_limit};
+ghost use Rattle.mv_limits.specs.Ordered.{counts_of, ordered_parameters};
 
+use crate::parameters::parameters_of_unit;
 use mv_ast::program::{Function, Local, Program};
+use mv_ast::unit::Unit;
 
-/// The counts of a program that decide the first four limits.
+/// The counts of a unit and its program that decide the first four limits.
 #[derive(Clone, Copy, Debug, PartialEq, Eq)]
 pub struct Counts {
     pub functions: u64,
     pub globals: u64,
-    /// The first number of parameters, of a type or a defined function, that is too many.
+    /// The first number of parameters, of a function or of the type of a function pointer, that is too many.
     pub parameters: Option<u64>,
     pub switches: u64,
 }
@@ -31,7 +34,7 @@ pub fn above(greatest: u64, count: u64) -> Option<u64>
     if count > greatest { Some(count) } else { None }
 }
 
-fn parameters(program: &Program) -> Option<u64>
+fn parameters_of_program(program: &Program) -> Option<u64>
     ensures { result ≡ first_above 8 (parameters_limit program.now).counts }
 {
     let of_types = program
@@ -47,14 +50,24 @@ fn parameters(program: &Program) -> Option<u64>
     of_types.chain(of_functions).find(|count| *count > 8)
 }
 
-/// The counts of a program.
-pub fn counts_of(program: &Program) -> Counts
-    ensures { result ≡ counts_of program.now }
+#[tactic(auto, using(crate::proofs::Forms::in_both))]
+fn parameters(unit: &Unit, program: &Program) -> Option<u64>
+    ensures { result ≡ first_above 8 (ordered_parameters unit.now program.now).counts }
+{
+    match parameters_of_unit(unit) {
+        Some(count) => Some(count),
+        None => parameters_of_program(program),
+    }
+}
+
+/// The counts of a unit and its program.
+pub fn counts_of(unit: &Unit, program: &Program) -> Counts
+    ensures { result ≡ counts_of unit.now program.now }
 {
     Counts {
         functions: program.functions.len() as u64,
         globals: program.globals.len() as u64,
-        parameters: parameters(program),
+        parameters: parameters(unit, program),
         switches: program.switches.len() as u64,
     }
 }
@@ -87,7 +100,8 @@ pub fn switches_of_functions(program: &Program) -> Option<u64>
     functions.map(|f| own_switches(f)).find(|count| *count > 6)
 }
 
-fn elements(size: Option<u32>) -> u64
+// The elements of an array.
+pub fn elements(size: Option<u32>) -> u64
     ensures { result ≡ elements size }
 {
     match size {
@@ -107,7 +121,8 @@ fn global_elements(program: &Program) -> Option<u64>
         .find(|count| *count > 262_144)
 }
 
-fn elements_of(locals: &[Local]) -> Option<u64>
+// The first array of some locals that is too long.
+pub fn elements_of(locals: &[Local]) -> Option<u64>
     ensures { result ≡ first_above 262144 (map (λ l. elements l.size) locals.now) }
 {
     locals
@@ -176,7 +191,7 @@ pub fn most_assignments(program: &Program) -> Option<u64>
     None
 }
 
-/// The first array that is too long.
+// The first array that is too long, of the globals and then of the locals.
 pub fn all_elements(program: &Program) -> Option<u64>
     ensures { result ≡ first_above 262144 (elements_limit program.now).counts }
 {

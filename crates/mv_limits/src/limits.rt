@@ -1,12 +1,15 @@
 // The limits, by their numbers.
 
 ghost use Rattle.std.specs.Prelude.{◌≡◌, None};
-ghost use Rattle.mv_limits.specs.Limits.{reported, excess, values_limit, switches_of_function_limit, assignments_limit, elements_limit, first_exceeded, exceeded_by_contents, exceeded_by_counts};
+ghost use Rattle.mv_limits.specs.Limits.{reported, excess, values_limit, switches_of_function_limit, assignments_limit, exceeded_by_counts};
+ghost use Rattle.mv_limits.specs.Ordered.{ordered_elements, first_excess, exceeded_by_contents};
 
 use crate::counts;
 use crate::counts::{Counts, above};
+use crate::elements::ordered_elements;
 use crate::excess::Exceeded;
 use mv_ast::program::Program;
+use mv_ast::unit::Unit;
 
 fn reported(limit: u8, count: Option<u64>) -> Option<Exceeded>
     ensures { result ≡ reported limit count }
@@ -41,15 +44,15 @@ fn assignments(program: &Program) -> Option<Exceeded>
 }
 
 #[tactic(auto, unfolding(crate::specs::Limits::excess))]
-fn elements(program: &Program) -> Option<Exceeded>
-    ensures { result ≡ excess (elements_limit program.now) }
+fn elements(unit: &Unit, program: &Program) -> Option<Exceeded>
+    ensures { result ≡ excess (ordered_elements unit.now program.now) }
 {
-    reported(8, counts::all_elements(program))
+    reported(8, ordered_elements(unit, program))
 }
 
 // The least of limits 5 to 8 that a program exceeds.
-fn exceeded_by_contents(program: &Program) -> Option<Exceeded>
-    ensures { result ≡ exceeded_by_contents program.now }
+fn exceeded_by_contents(unit: &Unit, program: &Program) -> Option<Exceeded>
+    ensures { result ≡ exceeded_by_contents unit.now program.now }
 {
     if let Some(excess) = values(program) {
         return Some(excess);
@@ -60,7 +63,7 @@ fn exceeded_by_contents(program: &Program) -> Option<Exceeded>
     if let Some(excess) = assignments(program) {
         return Some(excess);
     }
-    elements(program)
+    elements(unit, program)
 }
 
 /// The least of limits 1 to 4 that a program with these counts exceeds. What it answers is what `exceeded` does of such a program.
@@ -79,13 +82,13 @@ pub fn exceeded_by_counts(counts: &Counts) -> Option<Exceeded>
     reported(4, above(64, counts.switches))
 }
 
-/// The least limit that a program exceeds, with the count of the first part in order of declaration that exceeds it.
+/// The least limit that the program of a unit exceeds, with the count of the first part in order of declaration that exceeds it.
 #[tactic(auto, using(crate::proofs::Firsts::by_counts))]
-pub fn exceeded(program: &Program) -> Option<Exceeded>
-    ensures { result ≡ first_exceeded program.now }
+pub fn exceeded(unit: &Unit, program: &Program) -> Option<Exceeded>
+    ensures { result ≡ first_excess unit.now program.now }
 {
-    match exceeded_by_counts(&counts::counts_of(program)) {
+    match exceeded_by_counts(&counts::counts_of(unit, program)) {
         Some(excess) => Some(excess),
-        None => exceeded_by_contents(program),
+        None => exceeded_by_contents(unit, program),
     }
 }

@@ -10,7 +10,9 @@ use Rattle.mv_ast.specs.declared.program.Function.{Function}
 use Rattle.mv_ast.specs.declared.program.Switch.{Switch}
 use Rattle.mv_limits.specs.declared.counts.Counts.{Counts}
 use Rattle.mv_limits.specs.declared.excess.Exceeded.{Exceeded}
-use Rattle.mv_limits.specs.Limits.{first_above, first_exceeded, counts_of, exceeded_by_counts, exceeded_by_contents}
+use Rattle.mv_ast.specs.declared.unit.Unit as unit
+use Rattle.mv_limits.specs.Limits.{first_above, exceeded_by_counts}
+use Rattle.mv_limits.specs.Ordered.{unit_parameters, first_excess, counts_of, exceeded_by_contents}
 use Rattle.mv_limits.proofs.Firsts.{by_counts}
 use Rattle.mv_types.specs.declared.contents.Completed.{Completed}
 use Rattle.mv_types.specs.declared.contents.Object.{Object}
@@ -56,6 +58,14 @@ parameters_counted types switches fs =
     (ap (λ o. option_or (first_above 8 types) o) (first_defined fs ∙ ap (λ ns. first_above 8 ns) (sym (same_params switches (present fs)))) ∙
     sym (find-append (λ c. nat_lt 8 c) types (map (λ f. f.params) (map (with_switches switches) (present fs)))))
 
+-- and behind those that the text tells
+told_counted : (told types : List ℕ) (switches : List Switch) (fs : List (Option Function)) →
+    first_above 8 (told ++ (types ++ map params_or_none fs)) ≡ first_above 8 (told ++ (types ++ map (λ f. f.params) (map (with_switches switches) (present fs))))
+told_counted told types switches fs =
+    find-append (λ c. nat_lt 8 c) told (types ++ map params_or_none fs) ∙
+    (ap (λ o. option_or (first_above 8 told) o) (parameters_counted types switches fs) ∙
+    sym (find-append (λ c. nat_lt 8 c) told (types ++ map (λ f. f.params) (map (with_switches switches) (present fs)))))
+
 -- ---- all counts
 
 abbrev made : ℕ → ℕ → Option ℕ → ℕ → Counts
@@ -64,20 +74,20 @@ made f g p s = record { functions = f; globals = g; parameters = p; switches = s
 alike : (f g F G : ℕ) (p P : Option ℕ) (s S : ℕ) → f ≡ F → g ≡ G → p ≡ P → s ≡ S → made f g p s ≡ made F G P S
 alike f g F G p P s S e1 e2 e3 e4 = cc
 
-pub counted : (u : Completed) (f g : ℕ) (p : Option ℕ) (s : ℕ) → f ≡ count_by (λ f. is_some f) u.contents.functions → g ≡ length u.contents.objects →
-    p ≡ first_above 8 (map (λ s. length s.params) u.contents.scope.signatures ++ map params_or_none u.contents.functions) →
-    s ≡ count_by (λ o. is_some o.domain) u.contents.objects → made f g p s ≡ counts_of (completed_program u)
+pub counted : (t : unit.Unit) (u : Completed) (f g : ℕ) (p : Option ℕ) (s : ℕ) → f ≡ count_by (λ f. is_some f) u.contents.functions → g ≡ length u.contents.objects →
+    p ≡ first_above 8 (unit_parameters t ++ (map (λ s. length s.params) u.contents.scope.signatures ++ map params_or_none u.contents.functions)) →
+    s ≡ count_by (λ o. is_some o.domain) u.contents.objects → made f g p s ≡ counts_of t (completed_program u)
 unfolding program_of
-counted u f g p s e1 e2 e3 e4 =
+counted t u f g p s e1 e2 e3 e4 =
     let c = u.contents in
     let switches : List Switch = switches_from 0 c.objects in
     alike f g _ _ p _ s _
     (e1 ∙ (sym (defined_counted c.functions) ∙ sym (length-map (present c.functions) (with_switches switches))))
     (e2 ∙ sym (length-map c.objects (λ (o : Object). o.global)))
-    (e3 ∙ parameters_counted (map (λ s. length s.params) c.scope.signatures) switches c.functions)
+    (e3 ∙ told_counted (unit_parameters t) (map (λ s. length s.params) c.scope.signatures) switches c.functions)
     (e4 ∙ sym (switches_counted 0 c.objects))
 
 -- what the counts exceed is what the program does
-pub excess_counted : (u : Completed) (e : Exceeded) → exceeded_by_counts (counts_of (completed_program u)) ≡ Some e →
-    first_exceeded (completed_program u) ≡ Some e
-excess_counted u e h = by_counts (completed_program u) ∙ ap (λ o. option_or o (exceeded_by_contents (completed_program u))) h
+pub excess_counted : (t : unit.Unit) (u : Completed) (e : Exceeded) → exceeded_by_counts (counts_of t (completed_program u)) ≡ Some e →
+    first_excess t (completed_program u) ≡ Some e
+excess_counted t u e h = by_counts t (completed_program u) ∙ ap (λ o. option_or o (exceeded_by_contents t (completed_program u))) h

@@ -16,32 +16,32 @@ use mv_judge::error::RuleError;
 use mv_limits::limits::{exceeded, exceeded_by_counts};
 use std::alloc::{AllocError, Global};
 
-fn within_limits(program: Program) -> Result<Program, TypeError>
-    ensures { IsChecked (Good program) result }
+fn within_limits(unit: &Unit, program: Program) -> Result<Program, TypeError>
+    ensures { IsChecked unit.now (Good program) result }
 {
-    match exceeded(&program) {
+    match exceeded(unit, &program) {
         None => Ok(program),
         Some(excess) => Err(TypeError::Limit(excess.limit, excess.count)),
     }
 }
 
 #[tactic(auto, using(crate::proofs::Answers::same_answer))]
-fn made(alloc: Global, completed: Completed) -> Result<Program, TypeError>
-    ensures { IsChecked (Good (completed_program completed)) result }
+fn made(alloc: Global, unit: &Unit, completed: Completed) -> Result<Program, TypeError>
+    ensures { IsChecked unit.now (Good (completed_program completed)) result }
 {
     let Completed { contents, main } = completed;
     match program_of(alloc, contents, main) {
-        Ok(program) => within_limits(program),
+        Ok(program) => within_limits(unit, program),
         Err(error) => Err(TypeError::Memory(error)),
     }
 }
 
 // The limits that counts decide are tested before the program is made: behind them it has few functions and switches.
-fn limited(alloc: Global, completed: Completed) -> Result<Program, TypeError>
-    ensures { IsChecked (Good (completed_program completed)) result }
+fn limited(alloc: Global, unit: &Unit, completed: Completed) -> Result<Program, TypeError>
+    ensures { IsChecked unit.now (Good (completed_program completed)) result }
 {
-    match exceeded_by_counts(&counts_of(&completed)) {
-        None => made(alloc, completed),
+    match exceeded_by_counts(&counts_of(unit, &completed)) {
+        None => made(alloc, unit, completed),
         Some(excess) => {
             drop(completed);
             Err(TypeError::Limit(excess.limit, excess.count))
@@ -53,10 +53,10 @@ fn limited(alloc: Global, completed: Completed) -> Result<Program, TypeError>
 /// where none is and the program exceeds a limit, and `Memory` for want of memory.
 #[tactic(auto, using(crate::proofs::Answers::answers))]
 pub fn check(alloc: Global, unit: &Unit) -> Result<Program, TypeError>
-    ensures { IsChecked (unit_judgement unit.now) result }
+    ensures { IsChecked unit.now (unit_judgement unit.now) result }
 {
     match judge(alloc, unit) {
-        Ok(completed) => limited(alloc, completed),
+        Ok(completed) => limited(alloc, unit, completed),
         Err(RuleError::Rule(place, rule)) => Err(TypeError::Rule(place, rule)),
         Err(RuleError::Memory) => Err(TypeError::Memory(AllocError)),
     }

@@ -1,12 +1,15 @@
-// The counts of the program that a unit comes to, before it is made.
+// The counts of a unit and the program that it comes to, before the program is made.
 
 ghost use Rattle.std.specs.Prelude.{◌≡◌, ◌++◌, length, map, is_some, count_by};
-ghost use Rattle.mv_limits.specs.Limits.{first_above, counts_of};
+ghost use Rattle.mv_limits.specs.Limits.{first_above};
+ghost use Rattle.mv_limits.specs.Ordered.{counts_of, unit_parameters};
 ghost use Rattle.mv_types.specs.Completed.{completed_program, params_or_none};
 
 use crate::contents::{Completed, Object};
 use mv_ast::program::{Function, Signature};
+use mv_ast::unit::Unit;
 use mv_limits::counts::{Counts, are_too_many_parameters};
+use mv_limits::parameters::parameters_of_unit;
 
 fn count_defined(functions: &[Option<Function>]) -> u64
     ensures { result ≡ count_by (λ f. is_some f) functions.now }
@@ -36,8 +39,8 @@ fn params_or_none(function: &Option<Function>) -> u64
     }
 }
 
-// The first number of parameters that is too many.
-fn parameters(signatures: &[Signature], functions: &[Option<Function>]) -> Option<u64>
+// The first number of parameters of some types and functions that is too many.
+fn parameters_of(signatures: &[Signature], functions: &[Option<Function>]) -> Option<u64>
     ensures { result ≡ first_above 8 (map (λ s. length s.params) signatures.now ++ map params_or_none functions.now) }
 {
     let of_types = signatures.iter().map(|s| s.params.len() as u64);
@@ -47,10 +50,21 @@ fn parameters(signatures: &[Signature], functions: &[Option<Function>]) -> Optio
         .find(|count| are_too_many_parameters(*count))
 }
 
-/// The counts of the program that a unit comes to.
+// The first number of parameters that is too many, in the order of the text.
+#[tactic(auto, using(mv_limits::proofs::Forms::in_both))]
+fn parameters(unit: &Unit, signatures: &[Signature], functions: &[Option<Function>]) -> Option<u64>
+    ensures { result ≡ first_above 8 (unit_parameters unit.now ++ (map (λ s. length s.params) signatures.now ++ map params_or_none functions.now)) }
+{
+    match parameters_of_unit(unit) {
+        Some(count) => Some(count),
+        None => parameters_of(signatures, functions),
+    }
+}
+
+/// The counts of a unit and the program that it comes to.
 #[tactic(auto, using(crate::proofs::Counted::counted))]
-pub fn counts_of(completed: &Completed) -> Counts
-    ensures { result ≡ counts_of (completed_program completed.now) }
+pub fn counts_of(unit: &Unit, completed: &Completed) -> Counts
+    ensures { result ≡ counts_of unit.now (completed_program completed.now) }
 {
     let contents = &completed.contents;
     let signatures = contents.scope.signatures.as_slice();
@@ -58,7 +72,7 @@ pub fn counts_of(completed: &Completed) -> Counts
     Counts {
         functions: count_defined(functions),
         globals: contents.objects.len() as u64,
-        parameters: parameters(signatures, functions),
+        parameters: parameters(unit, signatures, functions),
         switches: count_switches(contents.objects.as_slice()),
     }
 }

@@ -3,7 +3,7 @@
 //!
 //! - `check`: the program of a unit that breaks no rule and is within the limits; the first place at which a rule is
 //!   broken, with the least rule there; or, where none is, the least limit that is passed, with the first count that
-//!   passes it. `specs/Units.antt` has the judgement on a unit, item by item and declarator by declarator over what was
+//!   passes it in the order of the text. `specs/Units.antt` has the judgement on a unit, item by item and declarator by declarator over what was
 //!   declared before; `specs/Objects.antt` and `specs/Functions.antt` say how often an object or a function may be
 //!   declared, and what its declarations come to; `specs/Foreknown.antt` what is known of names from the start
 //!   ([docs/declarations.md](declarations.md)).
