@@ -9,6 +9,7 @@ use Rattle.mv_ast.specs.declared.program.CType.{CType}
 use Rattle.mv_ast.specs.declared.program.CType.TheVariants as ctype
 use Rattle.mv_ast.specs.declared.program.Expr.{Expr}
 use Rattle.mv_ast.specs.declared.program.Local.{Local}
+use Rattle.mv_ast.specs.declared.program.Signature.{Signature}
 use Rattle.mv_ast.specs.declared.program.Stmt.{Stmt}
 use Rattle.mv_ast.specs.declared.program.Stmt.TheVariants as stmt
 use Rattle.mv_ast.specs.declared.unit.Declarator.{Declarator, Declarator-F, fold-Declarator}
@@ -140,8 +141,9 @@ abbrev pub switch_kind : List Bearer → Option Kind → Option Kind
 switch_kind [] k = None
 switch_kind (b ∷ bs) k = if list_any (λ x. not (is_switch x)) (b ∷ bs) then None else k
 
+-- a constant in the list of an attribute that makes no switches is a value of none
 abbrev pub value_concluded : Option Kind → Place → Scope → List ℕ → Constant → Judged (List ℕ)
-value_concluded None place scope before c = Good (before ++ c.value ∷ [])
+value_concluded None place scope before c = Good before
 value_concluded (Some k) place scope before c = concluded place scope (node.DomainValue k before c) (before ++ c.value ∷ [])
 
 -- a value in the list of an attribute, behind others
@@ -157,7 +159,7 @@ abbrev pub attribute : List Bearer → Option Kind → Scope → Mark → Option
 attribute bearers k scope m before =
     let f = out-Mark m in
     and_then (attribution (switch_kind bearers k) scope f.values) (λ a.
-    concluded f.place scope (node.Attribute bearers (is_some before) (is_some f.values)) (Some a))
+    concluded f.place scope (node.Attribute bearers (is_some before) (is_some a)) (Some a))
 
 abbrev pub attributes : List Bearer → Option Kind → Scope → List Mark → Option Attribution → Judged (Option Attribution)
 attributes bearers k scope = in_order (attribute bearers k scope)
@@ -250,10 +252,11 @@ specifiers local bearers specs scope =
 -- ---- types of functions, and parameters (C11 6.7.6.3)
 
 -- the number of a function's type, which is declared by its first use
+abbrev pub numbered : Signature → Scope → Scope × ℕ
+numbered t s = (record s { signatures = with_signature t s.signatures }, place_of t s.signatures)
+
 abbrev pub function_type : CType → Scope × List CType → Scope × ℕ
-function_type result d =
-    let t = record { result = result; params = d.1 } in
-    (record (block_left d.0) { signatures = with_signature t d.0.signatures }, place_of t d.0.signatures)
+function_type result d = numbered (record { result = result; params = d.1 }) (block_left d.0)
 
 -- what the parts of declarators are found to be, behind the type that specifiers name and whether `const` is among them
 abbrev pub Shapes : Type 0
@@ -369,27 +372,25 @@ named_unless taken s name None = s
 named_unless taken s name (Some m) = if taken then s else declared s name m
 
 -- the scope of a local's own initial value: its name means it
-abbrev pub local_named : Scope → List ℕ → Declared → Scope
-local_named s name d = named_unless (stands_here s name) s name (local_meaning s d)
+abbrev pub local_named : Scope → Option (List ℕ) → Declared → Scope
+local_named s None d = s
+local_named s (Some name) d = named_unless (stands_here s name) s name (local_meaning s d)
 
 -- the statement that clears a local and gives it its values, and the scope behind it
 abbrev pub local_found : Scope → Scope → Declared → Given → Scope × Stmt
 local_found before s d g =
     (with_local s (local_of (type_or_void d) (local_size d g)), stmt.Clear (length before.locals) (map (converted_to (type_or_void d)) (expressions_of g)))
 
-abbrev pub named_local : Place → List ℕ → Option Initial → Scope × Declared → Found Stmt
-named_local place name values e =
-    let s = local_named e.0 name e.1 in
-    and_then (given value_judgement values s) (λ g. concluded place e.0 (node.Local name e.1 g) (local_found e.0 s e.1 g))
-
-abbrev pub local_by_name : Place → Option (List ℕ) → Option Initial → Scope × Declared → Found Stmt
-local_by_name place None values e = concluded place e.0 node.Nameless (e.0, stmt.Block [])
-local_by_name place (Some name) values e = named_local place name values e
+abbrev pub local_node : Option (List ℕ) → Declared → Given → node.Node
+local_node None d g = node.Nameless
+local_node (Some name) d g = node.Local name d g
 
 abbrev pub local : CType → Bool → Declarator → Scope → Found Stmt
 local t fixed d s =
     and_then (declared_as d.shape t fixed s) (λ e.
-    and_then (attributes (node.LocalObject ∷ []) None e.0 d.marks None) (λ a. local_by_name d.place d.name d.initial e))
+    and_then (attributes (node.LocalObject ∷ []) None e.0 d.marks None) (λ a.
+    let own = local_named e.0 d.name e.1 in
+    and_then (given value_judgement d.initial own) (λ g. concluded d.place e.0 (local_node d.name e.1 g) (local_found e.0 own e.1 g))))
 
 -- a declaration in a block, as the statements that clear its locals and give them their values
 abbrev pub local_declaration : Scope → Specs → List Declarator → Found (List Stmt)
