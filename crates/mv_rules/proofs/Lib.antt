@@ -6,3 +6,4 @@ pub mod Specifiers
 pub mod Tags
 pub mod Bases
 pub mod Shapes
+pub mod Initials
