@@ -7,3 +7,5 @@ pub mod Tags
 pub mod Bases
 pub mod Shapes
 pub mod Initials
+pub mod Parameters
+pub mod Locals

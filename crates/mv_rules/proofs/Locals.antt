@@ -1,0 +1,215 @@
+-- Declarations in a block agree.
+use Rattle.std.proofs.Common.{◌≡◌, ℕ, suc, ◌+◌, refl, arith, sym, ◌∙◌, ap, Bool, true, false, ◌||◌, ◌&&◌, not, nat_eq, nat_le, is_some, unwrap_or, if◌then◌else◌, Option, Some, None, List, [], ◌∷◌, ◌++◌, map, length}
+use Rattle.std.proofs.lemmas.Bool.Decides.{nat_tests}
+use Rattle.std.proofs.lemmas.List.{length-map}
+use Rattle.mv_ast.specs.declared.place.Place.{Place}
+use Rattle.mv_ast.specs.declared.program.CType.{CType}
+use Rattle.mv_ast.specs.declared.program.Expr.{Expr}
+use Rattle.mv_ast.specs.declared.program.Local.{Local}
+use Rattle.mv_ast.specs.declared.program.Stmt.{Stmt}
+use Rattle.mv_ast.specs.declared.program.Stmt.TheVariants as stmt
+use Rattle.mv_ast.specs.declared.unit.Declarator.{Declarator}
+use Rattle.mv_ast.specs.declared.unit.Initial.{Initial}
+use Rattle.mv_ast.specs.declared.unit.Initial.TheVariants as initial
+use Rattle.mv_ast.specs.declared.unit.Node.{Node}
+use Rattle.mv_ast.specs.declared.unit.Specs.{Specs, out-Specs}
+use Rattle.mv_scope.specs.declared.meaning.Meaning.{Meaning}
+use Rattle.mv_scope.specs.declared.scope.Scope.{Scope}
+use Rattle.mv_scope.specs.Constants.{converts}
+use Rattle.mv_scope.specs.Conversions.{is_void, converted_to}
+use Rattle.mv_scope.specs.Scoped.{declared, with_local}
+use Rattle.mv_judge.specs.declared.constant.Constant.{Constant}
+use Rattle.mv_judge.specs.Judged.{Judged, Good, Broken, and_then, each}
+use Rattle.mv_judge.specs.Judgements.{value_judgement}
+use Rattle.mv_declare.specs.declared.attributes.Position.TheVariants as position
+use Rattle.mv_declare.specs.declared.declarators.Entity.{Entity}
+use Rattle.mv_declare.specs.declared.declarators.Entity.TheVariants as entity
+use Rattle.mv_declare.specs.declared.initials.Converted.{Converted}
+use Rattle.mv_declare.specs.Constants.{is_positive, is_negative}
+use Rattle.mv_declare.specs.Initials.{initial_values}
+use Rattle.mv_declare.specs.Initials as code_initials
+use Rattle.mv_declare.specs.Objects.{scalar, sized, least}
+use Rattle.mv_declare.specs.Objects as objects
+use Rattle.mv_declare.specs.Locals.{scalar_meaning, array_meaning, own_scope, local_values, rule_of_function, by_entity}
+use Rattle.mv_declare.specs.Locals as code
+use Rattle.mv_rules.specs.Nodes.{Declared, Given, Nothing, Value, Values, Characters}
+use Rattle.mv_rules.specs.Nodes as node
+use Rattle.mv_rules.specs.Rules.{all_convert, array_size, converts_given, fits_extent, filled, is_string, has_room, stands_here, first_broken, unless_broken, concluded}
+use Rattle.mv_rules.specs.Declarations.{given, expressions_of, type_or_void, local_of, local_size, local_meaning, local_named, local_found, local_node, local}
+use Rattle.mv_rules.proofs.Agreement.{mapped, over, attribution_of, declared_of, base_of_specified, LocalDeclarationAgrees}
+use Rattle.mv_rules.proofs.Parts.{then_from, found_in_turn}
+use Rattle.mv_rules.proofs.Attributes.{attributes_agree}
+use Rattle.mv_rules.proofs.Bases.{specifiers_agree, holders_agree}
+use Rattle.mv_rules.proofs.Shapes.{declared_agrees}
+use Rattle.mv_rules.proofs.Initials.{given_same, values_of, converted_all, values_agree}
+
+-- ---- what is given
+
+-- that a value has the form of its tree, and a list as many values
+abbrev HasForm : Option Initial → Given → Type 0
+HasForm None Nothing = Unit {0}
+HasForm (Some (initial.Value n)) (Value e) = Unit {0}
+HasForm (Some (initial.Values ns)) (Values es) = length ns ≡ length es
+HasForm (Some (initial.Chars bytes)) (Characters more) = bytes ≡ more
+HasForm _ _ = ⊥
+
+abbrev IfGood : {A : Type 0} → (A → Type 0) → Judged A → Type 0
+IfGood P (Good a) = P a
+IfGood P (Broken place rule) = Unit {0}
+
+as_many : (ns : List Node) (f : Node → Judged Expr) → IfGood (λ es. length ns ≡ length es) (each (map f ns))
+as_many [] f = refl
+as_many (n ∷ ns) f = by (f n) (each (map f ns)) (as_many ns f)
+  where
+    by : (j : Judged Expr) (k : Judged (List Expr)) → IfGood (λ es. length ns ≡ length es) k →
+        IfGood (λ es. length (n ∷ ns) ≡ length es) (and_then j (λ e. and_then k (λ rest. Good (e ∷ rest))))
+    by (Good e) (Good es) h = ap suc h
+    by (Good e) (Broken place rule) h = tt
+    by (Broken place rule) k h = tt
+
+formed : (values : Option Initial) (s : Scope) → IfGood (HasForm values) (given value_judgement values s)
+formed None s = tt
+formed (Some (initial.Value n)) s = by (value_judgement s n)
+  where
+    by : (j : Judged Expr) → IfGood (HasForm (Some (initial.Value n))) (and_then j (λ e. Good (Value e)))
+    by (Good e) = tt
+    by (Broken place rule) = tt
+formed (Some (initial.Values ns)) s = by (each (map (value_judgement s) ns)) (as_many ns (value_judgement s))
+  where
+    by : (j : Judged (List Expr)) → IfGood (λ es. length ns ≡ length es) j → IfGood (HasForm (Some (initial.Values ns))) (and_then j (λ es. Good (Values es)))
+    by (Good es) h = h
+    by (Broken place rule) h = tt
+formed (Some (initial.Chars bytes)) s = refl
+
+-- ---- sizes
+
+not_none : (n : ℕ) → nat_eq (suc n) 0 ≡ false
+not_none n = grind (arith, nat_tests)
+
+one_behind : (n : ℕ) → suc n ≡ n + 1
+one_behind n = omega arith
+
+sizes_agree : (size : Option Constant) (values : Option Initial) (g : Given) → HasForm values g → code_initials.array_size size values ≡ array_size size g
+sizes_agree (Some c) values g h = refl
+sizes_agree None None Nothing h = refl
+sizes_agree None (Some (initial.Value n)) (Value e) h = refl
+sizes_agree None (Some (initial.Values ns)) (Values es) h = ap code_initials.unless_zero h ∙ by es
+  where
+    by : (es : List Expr) → code_initials.unless_zero (length es) ≡ array_size None (Values es)
+    by [] = refl
+    by (e ∷ es) = ap (λ b. if b then None else Some (suc (length es))) (not_none (length es))
+sizes_agree None (Some (initial.Chars bytes)) (Characters more) h = ap (λ b. Some (length b + 1)) h
+sizes_agree None values g h = elim h [ ]
+
+-- a size is at least 1
+abbrev IsSize : Option ℕ → Type 0
+IsSize None = Unit {0}
+IsSize (Some n) = nat_eq n 0 ≡ false
+
+size_is : (size : Option Constant) (g : Given) → IsSize (array_size size g)
+size_is (Some c) g = by (nat_eq c.value 0) (is_negative c) refl
+  where
+    by : (none negative : Bool) → nat_eq c.value 0 ≡ none → IsSize (if not none && not negative then Some c.value else None)
+    by true negative q = tt
+    by false true q = tt
+    by false false q = q
+size_is None Nothing = tt
+size_is None (Value e) = tt
+size_is None (Values []) = tt
+size_is None (Values (e ∷ es)) = not_none (length es)
+size_is None (Characters bytes) = ap (λ n. nat_eq n 0) (sym (one_behind (length bytes))) ∙ not_none (length bytes)
+
+-- ---- objects
+
+-- the rules of an object, and what it is if it breaks none
+outcome : (place : Place) (taken unconverted void extents : Bool) (found : Scope × Stmt) (es : List Expr) (own : Scope) (n : ℕ) →
+    (taken ≡ false → extents ≡ false → found ≡ (own, stmt.Clear n es)) →
+    unless_broken place (first_broken ((2, taken) ∷ (5, unconverted) ∷ (8, void) ∷ (10, extents) ∷ [])) found ≡
+        and_then (objects.unless_broken place (least (record { redeclared = taken; unconverted = unconverted; void = void; extents = extents; block = false })) es)
+        (λ es. Good (own, stmt.Clear n es))
+unfolding least
+outcome place true unconverted void extents found es own n h = refl
+outcome place false true void extents found es own n h = refl
+outcome place false false true extents found es own n h = refl
+outcome place false false false true found es own n h = refl
+outcome place false false false false found es own n h = ap Good (h refl refl)
+
+or_false : (b : Bool) → b ≡ (b || false)
+or_false true = refl
+or_false false = refl
+
+or_true : (b : Bool) → true ≡ (b || true)
+or_true true = refl
+or_true false = refl
+
+abbrev count : CType → Given → ℕ
+count t g = length (map (converted_to t) (expressions_of g))
+
+module _ (t : CType) (fixed : Bool) where
+  scalar_converts : (values : Option Initial) (g : Given) → HasForm values g →
+      (not (is_void t) && not (converts_given (node.Scalar t fixed) g)) ≡ objects.is_unconverted (scalar t) values (converted_all t g)
+  scalar_converts None Nothing h = refl
+  scalar_converts (Some (initial.Value n)) (Value e) h = ap (λ b. not (is_void t) && b) (or_false (not (converts e t)))
+  scalar_converts (Some (initial.Values ns)) (Values es) h = ap (λ b. not (is_void t) && b) (or_false (not (all_convert t es)))
+  scalar_converts (Some (initial.Chars bytes)) (Characters more) h = refl
+  scalar_converts values g h = elim h [ ]
+
+  scalar_extents : (values : Option Initial) (g : Given) → HasForm values g →
+      (is_string g || not (fits_extent (node.Scalar t fixed) g)) ≡ objects.breaks_extents false (scalar t) values (count t g)
+  scalar_extents None Nothing h = refl
+  scalar_extents (Some (initial.Value n)) (Value e) h = refl
+  scalar_extents (Some (initial.Values ns)) (Values es) h = refl
+  scalar_extents (Some (initial.Chars bytes)) (Characters more) h = refl
+  scalar_extents values g h = elim h [ ]
+
+  array_converts : (size : Option Constant) (o : Option ℕ) (values : Option Initial) (g : Given) → HasForm values g →
+      (not (is_void t) && not (converts_given (node.Array t fixed size) g)) ≡ objects.is_unconverted (sized t o) values (converted_all t g)
+  array_converts size o None Nothing h = refl
+  array_converts size o (Some (initial.Value n)) (Value e) h = ap (λ b. not (is_void t) && b) (or_true (not (converts e t)))
+  array_converts size o (Some (initial.Values ns)) (Values es) h = ap (λ b. not (is_void t) && b) (or_false (not (all_convert t es)))
+  array_converts size o (Some (initial.Chars bytes)) (Characters more) h = refl
+  array_converts size o values g h = elim h [ ]
+
+  none_fit : (n : ℕ) → nat_le 0 n ≡ true
+  none_fit n = grind (arith, nat_tests)
+
+  array_extents : (o : Option ℕ) → IsSize o → (values : Option Initial) (g : Given) → HasForm values g →
+      (is_string g || not (has_room o (filled g))) ≡ objects.breaks_extents false (sized t o) values (count t g)
+  array_extents None q None Nothing h = refl
+  array_extents None q (Some (initial.Value n)) (Value e) h = refl
+  array_extents None q (Some (initial.Values ns)) (Values es) h = refl
+  array_extents None q (Some (initial.Chars bytes)) (Characters more) h = refl
+  array_extents (Some n) q None Nothing h = ap not (none_fit n) ∙ sym (ap (λ b. b || false) q)
+  array_extents (Some n) q (Some (initial.Value m)) (Value e) h = ap not (none_fit n) ∙ sym (ap (λ b. b || false) q)
+  array_extents (Some n) q (Some (initial.Values ns)) (Values es) h =
+      ap (λ k. not (nat_le k n)) (sym (length-map es (converted_to t))) ∙ sym (ap (λ b. b || not (nat_le (count t (Values es)) n)) q)
+  array_extents (Some n) q (Some (initial.Chars bytes)) (Characters more) h = sym (ap (λ b. b || true) q)
+  array_extents o q values g h = elim h [ ]
+
+-- ---- what follows values
+
+module _ (t : CType) (values : Option Initial) (own other : Scope) (same : given value_judgement values other ≡ given value_judgement values own) {R : Type 0}
+    (next : Given → Judged R) (rest : Converted → Judged R) (agree : (g : Given) → HasForm values g → next g ≡ rest (values_of t g)) where
+  values_then : and_then (given value_judgement values other) next ≡ and_then (initial_values t values own) rest
+  values_then =
+      ap (λ j. and_then j next) same ∙
+      (by (given value_judgement values own) (formed values own) ∙ ap (λ j. and_then j rest) (sym (values_agree t own values)))
+    where
+      by : (j : Judged Given) → IfGood (HasForm values) j → and_then j next ≡ and_then (mapped (values_of t) j) rest
+      by (Good g) h = agree g h
+      by (Broken place rule) h = refl
+
+-- ---- the scope of a local's own initial value
+
+abbrev named_in : Bool → Scope → List ℕ → Meaning → Scope
+named_in taken s name m = if taken then s else declared s name m
+
+own_same : (values : Option Initial) (s : Scope) (name : List ℕ) (l : Local) (m : Meaning) (taken : Bool) →
+    given value_judgement values (named_in taken s name m) ≡ given value_judgement values (if taken then s else declared (with_local s l) name m)
+own_same values s name l m true = refl
+own_same values s name l m false = sym (given_same (declared s name m) (s.locals ++ l ∷ []) values)
+
+with_own : (s : Scope) (name : List ℕ) (l : Local) (m : Meaning) (c : Stmt) (taken : Bool) → taken ≡ false →
+    ◌≡◌ {A = Scope × Stmt} (with_local (named_in taken s name m) l, c) (if taken then s else declared (with_local s l) name m, c)
+with_own s name l m c true q = absurd (cc)
+with_own s name l m c false q = refl
