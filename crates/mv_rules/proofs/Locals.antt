@@ -4,6 +4,7 @@ use Rattle.std.proofs.lemmas.Bool.Decides.{nat_tests}
 use Rattle.std.proofs.lemmas.List.{length-map}
 use Rattle.mv_ast.specs.declared.place.Place.{Place}
 use Rattle.mv_ast.specs.declared.program.CType.{CType}
+use Rattle.mv_ast.specs.declared.program.CType.TheVariants as ctype
 use Rattle.mv_ast.specs.declared.program.Expr.{Expr}
 use Rattle.mv_ast.specs.declared.program.Local.{Local}
 use Rattle.mv_ast.specs.declared.program.Stmt.{Stmt}
@@ -32,12 +33,13 @@ use Rattle.mv_declare.specs.Objects.{scalar, sized, least}
 use Rattle.mv_declare.specs.Objects as objects
 use Rattle.mv_declare.specs.Locals.{scalar_meaning, array_meaning, own_scope, local_values, rule_of_function, by_entity}
 use Rattle.mv_declare.specs.Locals as code
+use Rattle.mv_declare.specs.Declarators as code_declarators
 use Rattle.mv_rules.specs.Nodes.{Declared, Given, Nothing, Value, Values, Characters}
 use Rattle.mv_rules.specs.Nodes as node
-use Rattle.mv_rules.specs.Rules.{all_convert, array_size, converts_given, fits_extent, filled, is_string, has_room, stands_here, first_broken, unless_broken, concluded}
-use Rattle.mv_rules.specs.Declarations.{given, expressions_of, type_or_void, local_of, local_size, local_meaning, local_named, local_found, local_node, local}
+use Rattle.mv_rules.specs.Rules.{all_convert, array_size, converts_given, fits_extent, filled, is_string, has_room, stands_here, first_broken, least_broken, unless_broken, concluded}
+use Rattle.mv_rules.specs.Declarations.{given, expressions_of, type_or_void, local_of, local_size, local_meaning, named_unless, local_named, local_found, local_node, local}
 use Rattle.mv_rules.proofs.Agreement.{mapped, over, attribution_of, declared_of, base_of_specified, LocalDeclarationAgrees}
-use Rattle.mv_rules.proofs.Parts.{then_from, found_in_turn}
+use Rattle.mv_rules.proofs.Parts.{then_from, then_then, found_in_turn}
 use Rattle.mv_rules.proofs.Attributes.{attributes_agree}
 use Rattle.mv_rules.proofs.Bases.{specifiers_agree, holders_agree}
 use Rattle.mv_rules.proofs.Shapes.{declared_agrees}
@@ -213,3 +215,120 @@ with_own : (s : Scope) (name : List ℕ) (l : Local) (m : Meaning) (c : Stmt) (t
     ◌≡◌ {A = Scope × Stmt} (with_local (named_in taken s name m) l, c) (if taken then s else declared (with_local s l) name m, c)
 with_own s name l m c true q = absurd (cc)
 with_own s name l m c false q = refl
+
+-- ---- a declarator
+
+module _ (place : Place) (values : Option Initial) (s : Scope) (t : CType) (fixed : Bool) where
+  abbrev clear : Given → Stmt
+  clear g = stmt.Clear (length s.locals) (map (converted_to t) (expressions_of g))
+
+  -- how the code concludes
+  abbrev code_concludes : Option (List ℕ) → Local → Meaning → Converted → Judged (Scope × Stmt)
+  code_concludes name l m x =
+      and_then (objects.unless_broken place (code.rule_of name (code_declarators.is_taken_by s name) l values x) x.values)
+      (λ es. Good (own_scope s name l m, stmt.Clear (length s.locals) es))
+
+  abbrev rules_conclude : Option (List ℕ) → Declared → Given → Judged (Scope × Stmt)
+  rules_conclude name d g = concluded place s (local_node name d g) (local_found s (local_named s name d) d g)
+
+  scalar_concluded : (name : Option (List ℕ)) (g : Given) → HasForm values g →
+      rules_conclude name (node.Scalar t fixed) g ≡ code_concludes name (scalar t) (scalar_meaning (length s.locals) t fixed) (values_of t g)
+  unfolding own_scope
+  scalar_concluded None g h = refl
+  scalar_concluded (Some name) g h =
+      ap (λ u. unless_broken place (first_broken ((2, taken) ∷ (5, u) ∷ (8, is_void t) ∷ (10, is_string g || not (fits_extent (node.Scalar t fixed) g)) ∷ [])) found)
+      (scalar_converts t fixed values g h) ∙
+      (ap (λ x. unless_broken place (first_broken ((2, taken) ∷ (5, objects.is_unconverted (scalar t) values (converted_all t g)) ∷ (8, is_void t) ∷ (10, x) ∷ [])) found)
+      (scalar_extents t fixed values g h) ∙
+      outcome place taken (objects.is_unconverted (scalar t) values (converted_all t g)) (is_void t) (objects.breaks_extents false (scalar t) values (count t g)) found
+      (map (converted_to t) (expressions_of g)) (own_scope s (Some name) (scalar t) (scalar_meaning (length s.locals) t fixed)) (length s.locals)
+      (λ q r. with_own s name (scalar t) (scalar_meaning (length s.locals) t fixed) (clear g) taken q))
+    where
+      taken : Bool
+      taken = stands_here s name
+      found : Scope × Stmt
+      found = local_found s (local_named s (Some name) (node.Scalar t fixed)) (node.Scalar t fixed) g
+
+  module _ (size : Option Constant) where
+    array_concluded : (name : Option (List ℕ)) (g : Given) → HasForm values g → (o : Option ℕ) → array_size size g ≡ o → IsSize o →
+        unless_broken place (least_broken s (local_node name (node.Array t fixed size) g))
+            (with_local (local_named s name (node.Array t fixed size)) (local_of t o), clear g) ≡
+            code_concludes name (sized t o) (array_meaning (length s.locals) t fixed) (values_of t g)
+    unfolding own_scope
+    array_concluded None g h o q is = refl
+    array_concluded (Some name) g h o q is =
+        ap (λ u. unless_broken place (first_broken ((2, taken) ∷ (5, u) ∷ (8, is_void t) ∷ (10, is_string g || not (has_room (array_size size g) (filled g))) ∷ [])) found)
+        (array_converts t fixed size o values g h) ∙
+        (ap (λ x. unless_broken place (first_broken ((2, taken) ∷ (5, objects.is_unconverted (sized t o) values (converted_all t g)) ∷ (8, is_void t) ∷ (10, x) ∷ [])) found)
+        (ap (λ n. is_string g || not (has_room n (filled g))) q ∙ array_extents t fixed o is values g h) ∙
+        outcome place taken (objects.is_unconverted (sized t o) values (converted_all t g)) (is_void t) (objects.breaks_extents false (sized t o) values (count t g)) found
+        (map (converted_to t) (expressions_of g)) (own_scope s (Some name) (sized t o) (array_meaning (length s.locals) t fixed)) (length s.locals) (by o))
+      where
+        taken : Bool
+        taken = stands_here s name
+        found : Scope × Stmt
+        found = (with_local (local_named s (Some name) (node.Array t fixed size)) (local_of t o), clear g)
+        by : (o : Option ℕ) → taken ≡ false → objects.breaks_extents false (sized t o) values (count t g) ≡ false →
+            ◌≡◌ {A = Scope × Stmt} (with_local (local_named s (Some name) (node.Array t fixed size)) (local_of t o), clear g)
+            (own_scope s (Some name) (sized t o) (array_meaning (length s.locals) t fixed), clear g)
+        by None q r = absurd (cc)
+        by (Some n) q r = with_own s name (sized t (Some n)) (array_meaning (length s.locals) t fixed) (clear g) taken q
+
+function_concluded : (place : Place) (name : Option (List ℕ)) (s : Scope) (f : ℕ) (g : Given) (found : Scope × Stmt) →
+    concluded place s (local_node name (node.Function f) g) found ≡ Broken place (rule_of_function s name)
+unfolding rule_of_function
+function_concluded place None s f g found = refl
+function_concluded place (Some name) s f g found = by (stands_here s name)
+  where
+    by : (taken : Bool) → unless_broken place (first_broken ((2, taken) ∷ (22, true) ∷ [])) found ≡ Broken place (if taken then 2 else 22)
+    by true = refl
+    by false = refl
+
+function_scope : (name : Option (List ℕ)) (s : Scope) (f : ℕ) → local_named s name (node.Function f) ≡ s
+function_scope None s f = refl
+function_scope (Some name) s f = refl
+
+own_agrees : (values : Option Initial) (s : Scope) (name : Option (List ℕ)) (l : Local) (d : Declared) (m : Meaning) → local_meaning s d ≡ Some m →
+    given value_judgement values (local_named s name d) ≡ given value_judgement values (own_scope s name l m)
+unfolding own_scope
+own_agrees values s None l d m q = refl
+own_agrees values s (Some name) l d m q =
+    ap (λ found. given value_judgement values (named_unless (stands_here s name) s name found)) q ∙ own_same values s name l m (stands_here s name)
+
+by_entity_agrees : (d : Declarator) (e : Entity) (s : Scope) →
+    and_then (given value_judgement d.initial (local_named s d.name (declared_of e)))
+        (λ g. concluded d.place s (local_node d.name (declared_of e) g) (local_found s (local_named s d.name (declared_of e)) (declared_of e) g)) ≡ by_entity d e s
+by_entity_agrees d (entity.Scalar t fixed) s =
+    values_then t d.initial (own_scope s d.name (scalar t) m) (local_named s d.name (node.Scalar t fixed)) (own_agrees d.initial s d.name (scalar t) (node.Scalar t fixed) m refl)
+    (rules_conclude d.place d.initial s t fixed d.name (node.Scalar t fixed)) (code_concludes d.place d.initial s t fixed d.name (scalar t) m)
+    (scalar_concluded d.place d.initial s t fixed d.name) ∙
+    sym (then_then _ _ (initial_values t d.initial (own_scope s d.name (scalar t) m)))
+  where
+    m : Meaning
+    m = scalar_meaning (length s.locals) t fixed
+by_entity_agrees d (entity.Array t fixed size) s =
+    values_then t d.initial (own_scope s d.name l m) (local_named s d.name (node.Array t fixed size)) (own_agrees d.initial s d.name l (node.Array t fixed size) m refl)
+    (rules_conclude d.place d.initial s t fixed d.name (node.Array t fixed size)) (code_concludes d.place d.initial s t fixed d.name l m)
+    (λ g h. array_concluded d.place d.initial s t fixed size d.name g h (array_size size g) refl (size_is size g) ∙
+    ap (λ o. code_concludes d.place d.initial s t fixed d.name (sized t o) m (values_of t g)) (sym (sizes_agree size d.initial g h))) ∙
+    sym (then_then _ _ (initial_values t d.initial (own_scope s d.name l m)))
+  where
+    m : Meaning
+    m = array_meaning (length s.locals) t fixed
+    l : Local
+    l = sized t (code_initials.array_size size d.initial)
+by_entity_agrees d (entity.Function f) s =
+    values_then ctype.Void d.initial s (local_named s d.name (node.Function f)) (ap (given value_judgement d.initial) (function_scope d.name s f)) _ _
+    (λ g h. function_concluded d.place d.name s f g (local_found s (local_named s d.name (node.Function f)) (node.Function f) g))
+
+local_agrees : (t : CType) (fixed : Bool) (d : Declarator) (s : Scope) → local t fixed d s ≡ code.local t fixed d s
+local_agrees t fixed d s =
+    then_from (over declared_of) _ _
+    (λ e. then_from attribution_of _ _ (λ a. by_entity_agrees d e.1 e.0) _ _ (attributes_agree (node.LocalObject ∷ []) None e.0 d.marks None))
+    _ _ (declared_agrees d.shape t fixed s)
+
+pub local_declaration_agrees : LocalDeclarationAgrees
+local_declaration_agrees s specs ds =
+    then_from (over base_of_specified) _ _
+    (λ b. found_in_turn (local b.1.ctype b.1.fixed) (code.local b.1.ctype b.1.fixed) (local_agrees b.1.ctype b.1.fixed) ds (b.0, []))
+    _ _ (specifiers_agree position.Block (map (λ d. node.LocalObject) ds) ds specs s (holders_agree position.Block (out-Specs specs).fixed (λ d. node.LocalObject) (λ d. refl) ds))
