@@ -9,3 +9,4 @@ pub mod Shapes
 pub mod Initials
 pub mod Parameters
 pub mod Locals
+pub mod Pieces
