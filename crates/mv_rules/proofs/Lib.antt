@@ -10,3 +10,4 @@ pub mod Initials
 pub mod Parameters
 pub mod Locals
 pub mod Pieces
+pub mod Statements
