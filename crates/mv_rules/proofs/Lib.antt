@@ -1,3 +1,5 @@
 pub mod Agreement
 pub mod Parts
 pub mod Attributes
+pub mod Values
+pub mod Program
