@@ -3,3 +3,4 @@ pub mod Parts
 pub mod Attributes
 pub mod Values
 pub mod Program
+pub mod Routines
