@@ -4,3 +4,4 @@ pub mod Attributes
 pub mod Values
 pub mod Program
 pub mod Routines
+pub mod Objects
