@@ -5,3 +5,9 @@ pub mod Values
 pub mod Program
 pub mod Routines
 pub mod Objects
+pub mod Enums
+pub mod Specifiers
+pub mod Tags
+pub mod Bases
+pub mod Shapes
+pub mod Initials

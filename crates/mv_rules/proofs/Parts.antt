@@ -34,6 +34,14 @@ module _ {A B D : Type 0} (g : B → D) (next : A → Judged D) (rest : A → Ju
   pub then_to : (j k : Judged A) → j ≡ k → and_then j next ≡ mapped g (and_then k rest)
   then_to j k e = ap (λ x. and_then x next) e ∙ after_to k
 
+module _ {A C B : Type 0} (f : A → C) (next : C → Judged B) (rest : A → Judged B) (agree : (a : A) → next (f a) ≡ rest a) where
+  after_from : (j : Judged A) → and_then (mapped f j) next ≡ and_then j rest
+  after_from (Good a) = agree a
+  after_from (Broken place rule) = refl
+
+  pub then_from : (j : Judged C) (k : Judged A) → j ≡ mapped f k → and_then j next ≡ and_then k rest
+  then_from j k e = ap (λ x. and_then x next) e ∙ after_from k
+
 module _ {A B C : Type 0} (next : A → Judged B) (rest : B → Judged C) where
   pub then_then : (j : Judged A) → and_then (and_then j next) rest ≡ and_then j (λ a. and_then (next a) rest)
   then_then (Good a) = refl

@@ -38,7 +38,8 @@ use Rattle.mv_judge.specs.Judged.{Judged, Good, Broken, and_then, each}
 use Rattle.mv_judge.specs.Judgements.{value_judgement}
 use Rattle.mv_judge.specs.TypeNames.{named_type}
 use Rattle.mv_judge.specs.TypeNames as names
-use Rattle.mv_declare.specs.Constants.{is_value_of, int_of, next_int}
+use Rattle.mv_declare.specs.Constants.{int_of, next_int}
+use Rattle.mv_declare.specs.ValueSets.{with_member}
 use Rattle.mv_rules.specs.Nodes.{Declared, Scalar, Array, Function, Given, Nothing, Value, Values, Characters, Enumeration, Undeclared, Again, Numbered, Bearer}
 use Rattle.mv_rules.specs.Nodes as node
 use Rattle.mv_rules.specs.Rules.{object_type, array_size, stands_here, concluded}
@@ -118,13 +119,13 @@ new_enumeration (Some tag) e =
     if is_some (named tag e.scope.tags.here) then (e.scope, Again)
     else (tag_declared (with_enumeration e.scope e.values) tag (meaning.Tag (length e.scope.enumerations)), Numbered (Some (length e.scope.enumerations)))
 
+abbrev pub enumeration_of : Option (List ℕ) → Option (List Member) → Scope → Found Enumeration
+enumeration_of tag None scope = Good (scope, enumeration_without_list scope tag)
+enumeration_of tag (Some members) scope =
+    and_then (in_order enumerator members (record { scope = scope; following = Some 0; values = [] })) (λ e. Good (new_enumeration tag e))
+
 abbrev pub enumeration : EnumSpec → Scope → Found Enumeration
-enumeration e scope = by_list (out-EnumSpec e).tag (out-EnumSpec e).members
-  where
-    by_list : Option (List ℕ) → Option (List Member) → Found Enumeration
-    by_list tag None = Good (scope, enumeration_without_list scope tag)
-    by_list tag (Some members) =
-        and_then (in_order enumerator members (record { scope = scope; following = Some 0; values = [] })) (λ e. Good (new_enumeration tag e))
+enumeration e scope = let f = out-EnumSpec e in enumeration_of f.tag f.members scope
 
 -- ---- attributes
 
@@ -141,9 +142,9 @@ abbrev pub switch_kind : List Bearer → Option Kind → Option Kind
 switch_kind [] k = None
 switch_kind (b ∷ bs) k = if list_any (λ x. not (is_switch x)) (b ∷ bs) then None else k
 
--- a constant in the list of an attribute that makes no switches is a value of none
+-- nothing is asked of a value in the list of an attribute that makes no switches
 abbrev pub value_concluded : Option Kind → Place → Scope → List ℕ → Constant → Judged (List ℕ)
-value_concluded None place scope before c = Good before
+value_concluded None place scope before c = Good (with_member before c.value)
 value_concluded (Some k) place scope before c = concluded place scope (node.DomainValue k before c) (before ++ c.value ∷ [])
 
 -- a value in the list of an attribute, behind others
@@ -175,12 +176,12 @@ pub data Specifier : Type 0 where
 abbrev pub is_before : Place → Place → Bool
 is_before p q = nat_lt p.line q.line || (nat_eq p.line q.line && nat_lt p.column q.column)
 
+abbrev pub is_before_list : Place → Option (List Member) → Bool
+is_before_list place (Some (first ∷ rest)) = is_before place (out-Member first).place
+is_before_list place _ = false
+
 abbrev pub stands_before : Mark → EnumSpec → Bool
-stands_before m e = before_list (out-EnumSpec e).members
-  where
-    before_list : Option (List Member) → Bool
-    before_list (Some (first ∷ rest)) = is_before ((out-Mark m).place) ((out-Member first).place)
-    before_list _ = false
+stands_before m e = is_before_list (out-Mark m).place (out-EnumSpec e).members
 
 abbrev pub specifiers_in_order : List EnumSpec → List Mark → List Specifier
 specifiers_in_order [] ms = map Attribute ms

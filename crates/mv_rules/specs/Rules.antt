@@ -36,6 +36,10 @@ object_type (Scalar t constant) = Some t
 object_type (Array t constant size) = Some t
 object_type (Function signature) = None
 
+abbrev pub is_object : Declared → Bool
+is_object (Function signature) = false
+is_object _ = true
+
 abbrev pub is_type_void : Option CType → Bool
 is_type_void None = false
 is_type_void (Some t) = is_void t
@@ -209,7 +213,7 @@ breaks_constants _ = false
 -- extents: an array size is below 1 or missing without values, there are more values than elements, a scalar has a list, or a string initialises anything
 -- other than a global array of a char type
 abbrev pub breaks_extents : Node → Bool
-breaks_extents (node.Local name d given) = is_string given || not (fits_extent d given)
+breaks_extents (node.Local name d given) = is_object d && (is_string given || not (fits_extent d given))
 breaks_extents (node.Object name d given domain earlier block) = (is_string given && not (is_char_array d)) || not (fits_extent d given)
 breaks_extents _ = false
 
@@ -261,10 +265,6 @@ breaks_enumerators _ = false
 abbrev pub is_scalar : Declared → Bool
 is_scalar (Scalar t constant) = true
 is_scalar _ = false
-
-abbrev pub is_object : Declared → Bool
-is_object (Function signature) = false
-is_object _ = true
 
 -- declarations: the type words and enums together name no type, `static` stands on a local or parameter, a declaration has neither a name nor an enum, a
 -- defined function's parameter has no name, a block follows a declarator that declares no function, or a function has an initial value or is declared in a block
