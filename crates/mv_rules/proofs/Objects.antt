@@ -21,6 +21,7 @@ use Rattle.mv_scope.specs.declared.meaning.Storage.TheVariants as storage
 use Rattle.mv_scope.specs.declared.scope.Scope.{Scope}
 use Rattle.mv_scope.specs.Constants.{converts}
 use Rattle.mv_scope.specs.Conversions.{is_void, same_type}
+use Rattle.mv_scope.specs.Scoped.{declared}
 use Rattle.mv_judge.specs.declared.constant.Constant.{Constant}
 use Rattle.mv_judge.specs.Judged.{Judged, Good, Broken, and_then}
 use Rattle.mv_declare.specs.declared.globals.Words.{Words}
@@ -40,8 +41,9 @@ use Rattle.mv_rules.specs.Nodes.{Declared, Scalar, Array, Given, Nothing, Value,
 use Rattle.mv_rules.specs.Nodes as node
 use Rattle.mv_rules.specs.Rules.{all_convert, converts_given, array_size, filled, fits_extent, is_string, is_char, is_char_array, is_void_object, is_size, has_type, is_given, same_domain, allows_object, meaning_here, unless_broken, first_broken, concluded}
 use Rattle.mv_rules.specs.Declarations.{given, local_size, type_or_void, named_unless}
-use Rattle.mv_rules.specs.Units.{Declarations, constant_expression, word_of, first_words, last_zero, global_in, global_number, global_at, object_meaning, first_of, new_global, declared_again, with_global, object}
+use Rattle.mv_rules.specs.Units.{Declarations, constant_expression, word_of, first_words, last_zero, global_in, global_number, global_at, object_meaning, first_of, new_global, declared_again, with_global, object_named, object_found, earlier, object}
 use Rattle.mv_rules.proofs.Agreement.{mapped}
+use Rattle.mv_rules.proofs.Parts.{then_then}
 use Rattle.mv_rules.proofs.Program.{object_of, contents_of}
 use Rattle.mv_rules.proofs.Values.{IsOf, IfIsOf, given_is, added, add_word, words_of, words_agree, all_convert_added, words_added}
 use Rattle.mv_rules.proofs.Routines.{given_same}
@@ -298,12 +300,13 @@ module _ (name : List ℕ) (domain : Option (List ℕ)) (e : Declared) (v : Opti
 
 -- ---- the least rule
 
-module _ (place : Place) (made : Contents) (found : Declarations) where
+module _ (place : Place) (words : List ℕ) (made : List ℕ → Contents) (found : Declarations) where
   abbrev chain : Bool → Bool → Bool → Bool → Bool → Judged Contents
   chain redeclared unconverted void extents block =
-      code_objects.unless_broken place (least (record { redeclared = redeclared; unconverted = unconverted; void = void; extents = extents; block = block })) made
+      and_then (code_objects.unless_broken place (least (record { redeclared = redeclared; unconverted = unconverted; void = void; extents = extents; block = block })) words)
+      (λ ws. Good (made ws))
 
-  chain_same : (redeclared unconverted void extents block : Bool) → (redeclared ≡ false → made ≡ contents_of found) → chain redeclared unconverted void extents block ≡
+  chain_same : (redeclared unconverted void extents block : Bool) → (redeclared ≡ false → made words ≡ contents_of found) → chain redeclared unconverted void extents block ≡
       mapped contents_of (unless_broken place (first_broken ((2, redeclared) ∷ (5, unconverted) ∷ (8, void) ∷ (10, extents) ∷ (22, block) ∷ [])) found)
   unfolding least
   chain_same true unconverted void extents block h = refl
@@ -312,3 +315,106 @@ module _ (place : Place) (made : Contents) (found : Declarations) where
   chain_same false false false true block h = refl
   chain_same false false false false true h = refl
   chain_same false false false false false h = ap Good (h refl)
+
+-- ---- the whole declarator
+
+-- an object's facts, by what it is given
+pub record AreRules (e : Declared) (v : Option Initial) (g : Given) : Type 0 where
+  goes : (old : Global) (rest : Bool) → (same_type old.ctype (object_local e g).ctype && (code.same_size old.size (object_local e g).size && rest)) ≡ (has_type old e g && rest)
+  unconverted : is_unconverted (object_local e g) v (words_of (object_local e g) g).all ≡ (not (is_void_object e) && not (converts_given e g))
+  void : is_void (object_local e g).ctype ≡ is_void_object e
+  extents : breaks_extents true (object_local e g) v (length (words_of (object_local e g) g).words) ≡ ((is_string g && not (is_char_array e)) || not (fits_extent e g))
+
+scalar_rules : (t : CType) (fixed : Bool) (v : Option Initial) (g : Given) → IsOf v g → AreRules (Scalar t fixed) v g
+scalar_rules t fixed v g is = record {
+  goes = λ old rest.
+      ap (λ b. same_type old.ctype t && (b && rest)) (size_none old.size) ∙ and_and (same_type old.ctype t) (is_none old.size) rest;
+  unconverted = unconverted_scalar t fixed v g is;
+  void = refl;
+  extents = extents_scalar t fixed v g is;
+}
+
+array_rules : (t : CType) (fixed : Bool) (size : Option Constant) (v : Option Initial) (g : Given) → IsOf v g → AreRules (Array t fixed size) v g
+array_rules t fixed size v g is = record {
+  goes = λ old rest.
+      ap (λ b. same_type old.ctype t && (b && rest)) (size_some old.size (array_size size g)) ∙ and_and (same_type old.ctype t) (is_size old.size (array_size size g)) rest;
+  unconverted = unconverted_array t fixed size (array_size size g) v g is;
+  void = refl;
+  extents = extents_array t fixed size v g is;
+}
+
+module _ (items : List Item) (d : Declarator) (name : List ℕ) (domain : Option (List ℕ)) (block : Bool) (c : Declarations) where
+  abbrev before : Option Meaning
+  before = meaning_here c.scope name
+
+  -- the contents behind it
+  abbrev made : Scope → Local → List ℕ → Contents
+  made s l words = record (contents_of c) { scope = s; objects = objects_behind (map object_of c.globals) name before l words (is_some d.initial) domain }
+
+  abbrev judged : Scope → Local → Words → Judged Contents
+  judged s l x =
+      and_then (code_objects.unless_broken d.place (least (code.breaches before (map object_of c.globals) l d.initial x domain block)) x.words) (λ words. Good (made s l words))
+
+  abbrev concluded_object : Scope → Declared → Given → Judged Declarations
+  concluded_object s e g = concluded d.place c.scope (node.Object name e g domain (earlier c name) block) (object_found name s (new_global name e g domain) c)
+
+  given_agrees : (s : Scope) (e : Declared) (g : Given) → IsOf d.initial g → AreRules e d.initial g →
+      judged s (object_local e g) (words_of (object_local e g) g) ≡ mapped contents_of (concluded_object s e g)
+  given_agrees s e g is rules =
+      let l = object_local e g in
+      let x = words_of l g in
+      let found = object_found name s (new_global name e g domain) c in
+      let twice = is_some before && not (allows_object (earlier c name) e g domain) in
+      let unconverted = not (is_void_object e) && not (converts_given e g) in
+      let misfit = (is_string g && not (is_char_array e)) || not (fits_extent e g) in
+      ap (λ b. chain d.place x.words (made s l) found b (is_unconverted l d.initial x.all) (is_void l.ctype) (breaks_extents true l d.initial (length x.words)) block)
+      (redeclared_same name domain e d.initial g is rules.goes c.globals before) ∙
+      (ap (λ b. chain d.place x.words (made s l) found twice b (is_void l.ctype) (breaks_extents true l d.initial (length x.words)) block) rules.unconverted ∙
+      (ap (λ b. chain d.place x.words (made s l) found twice unconverted b (breaks_extents true l d.initial (length x.words)) block) rules.void ∙
+      (ap (λ b. chain d.place x.words (made s l) found twice unconverted (is_void_object e) b block) rules.extents ∙
+      chain_same d.place x.words (made s l) found twice unconverted (is_void_object e) misfit block (λ allowed.
+      ap (λ os. record (contents_of c) { scope = s; objects = os }) (objects_same name domain e d.initial g is rules.goes c.globals before allowed)))))
+
+  -- with the values that it is given
+  by_given : (s : Scope) (l : Local) (e : Declared) (j : Judged Given) → IfIsOf d.initial j → ((g : Given) → IsOf d.initial g → AreRules e d.initial g) →
+      ((g : Given) → IsOf d.initial g → l ≡ object_local e g) →
+      and_then (mapped (words_of l) j) (judged s l) ≡ mapped contents_of (and_then j (concluded_object s e))
+  by_given s l e (Broken place rule) is rules size = refl
+  by_given s l e (Good g) is rules size = ap (λ z. judged s z (words_of z g)) (size g is) ∙ given_agrees s e g is (rules g is)
+
+  scope_same : (l : Local) (e : Declared) (m : Option Meaning) → ((n : ℕ) → Some (code.object_meaning (foreknown items) name n l l.size) ≡ object_meaning items name n e) →
+      object_scope (foreknown items) name m l (length (map object_of c.globals)) c.scope ≡ named_unless (is_some m) c.scope name (object_meaning items name (length c.globals) e)
+  unfolding object_scope
+  scope_same l e None means =
+      ap (λ n. declared c.scope name (code.object_meaning (foreknown items) name n l l.size)) (length-map c.globals object_of) ∙
+      ap (λ o. named_unless false c.scope name o) (means (length c.globals))
+  scope_same l e (Some m) means = by (object_meaning items name (length c.globals) e)
+    where
+      by : (o : Option Meaning) → c.scope ≡ named_unless true c.scope name o
+      by None = refl
+      by (Some z) = refl
+
+  whole : (l : Local) (e : Declared) → ((n : ℕ) → Some (code.object_meaning (foreknown items) name n l l.size) ≡ object_meaning items name n e) →
+      ((g : Given) → IsOf d.initial g → AreRules e d.initial g) → ((g : Given) → IsOf d.initial g → l ≡ object_local e g) →
+      object_judgement (foreknown items) d name l domain block (contents_of c) ≡ mapped contents_of (object items d name e domain block c)
+  unfolding object_judgement
+  whole l e means rules size =
+      let s = object_named items name e c in
+      ap (λ s. and_then (code.object_words d before (map object_of c.globals) l domain block s) (λ words. Good (made s l words))) (scope_same l e before means) ∙
+      (then_then (λ (x : Words). code_objects.unless_broken d.place (least (code.breaches before (map object_of c.globals) l d.initial x domain block)) x.words)
+      (λ words. Good (made s l words)) (global_words l d.initial s) ∙
+      (ap (λ j. and_then j (judged s l)) (words_agree l d.initial s) ∙
+      by_given s l e (given constant_expression d.initial s) (given_is constant_expression d.initial s) rules size))
+
+  pub scalar_agrees : (t : CType) (fixed : Bool) →
+      object_judgement (foreknown items) d name (scalar t) domain block (contents_of c) ≡ mapped contents_of (object items d name (Scalar t fixed) domain block c)
+  unfolding foreknown
+  scalar_agrees t fixed = whole (scalar t) (Scalar t fixed) (λ n. refl) (scalar_rules t fixed d.initial) (λ g is. refl)
+
+  pub array_agrees : (t : CType) (fixed : Bool) (size : Option Constant) →
+      object_judgement (foreknown items) d name (sized t (code_initials.array_size size d.initial)) domain block (contents_of c) ≡
+      mapped contents_of (object items d name (Array t fixed size) domain block c)
+  unfolding foreknown
+  array_agrees t fixed size =
+      whole (sized t (code_initials.array_size size d.initial)) (Array t fixed size) (λ n. refl) (array_rules t fixed size d.initial)
+      (λ g is. ap (array t) (size_same size d.initial g is))
