@@ -1,6 +1,10 @@
 pub mod Agreement
 pub mod Parts
 pub mod Attributes
+pub mod Values
+pub mod Program
+pub mod Routines
+pub mod Objects
 pub mod Enums
 pub mod Specifiers
 pub mod Tags

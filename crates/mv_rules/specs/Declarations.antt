@@ -359,7 +359,7 @@ expressions_of (Characters bytes) = []
 -- ---- declarations in a block
 
 abbrev pub local_size : Declared → Given → Option ℕ
-local_size (Array t constant size) g = array_size size g
+local_size (Array t constant size) g = Some (array_size size g)
 local_size _ g = None
 
 -- The next local has the name, unless the innermost block has it already. A function in a block declares nothing.

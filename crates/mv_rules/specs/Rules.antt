@@ -60,16 +60,15 @@ converts_given (Array t constant size) (Values es) = all_convert t es
 converts_given _ _ = true
 
 -- how many elements an array has that is written without a size: one for each value, and a string's characters with the 0 behind them
-abbrev pub given_size : Given → Option ℕ
-given_size (Values []) = None
-given_size (Values (e ∷ es)) = Some (length (e ∷ es))
-given_size (Characters bytes) = Some (length bytes + 1)
-given_size _ = None
+abbrev pub given_size : Given → ℕ
+given_size (Values es) = length es
+given_size (Characters bytes) = length bytes + 1
+given_size _ = 0
 
--- the size of an array, if it has one that is at least 1
-abbrev pub array_size : Option Constant → Given → Option ℕ
+-- the size of an array, or 0 where it has none that is at least 1
+abbrev pub array_size : Option Constant → Given → ℕ
 array_size None given = given_size given
-array_size (Some c) given = if is_positive c then Some c.value else None
+array_size (Some c) given = if is_positive c then c.value else 0
 
 -- how many elements the initial value fills; a string's 0 is left out where there is no room for it
 abbrev pub filled : Given → ℕ
@@ -78,14 +77,10 @@ filled (Value e) = 0
 filled (Values es) = length es
 filled (Characters bytes) = length bytes
 
-abbrev pub has_room : Option ℕ → ℕ → Bool
-has_room None n = false
-has_room (Some size) n = nat_le n size
-
 -- whether an array has a size that is at least 1 and room for its values, and a scalar no list
 abbrev pub fits_extent : Declared → Given → Bool
 fits_extent (Scalar t constant) (Values es) = false
-fits_extent (Array t constant size) given = has_room (array_size size given) (filled given)
+fits_extent (Array t constant size) given = not (nat_eq (array_size size given) 0) && nat_le (filled given) (array_size size given)
 fits_extent _ _ = true
 
 abbrev pub is_string : Given → Bool
@@ -110,15 +105,14 @@ meaning_here scope name = named name scope.names.here
 abbrev pub stands_here : Scope → List ℕ → Bool
 stands_here scope name = is_some (meaning_here scope name)
 
-abbrev pub same_size : Option ℕ → Option ℕ → Bool
-same_size None None = true
-same_size (Some m) (Some n) = nat_eq m n
-same_size _ _ = false
+abbrev pub is_size : Option ℕ → ℕ → Bool
+is_size None n = false
+is_size (Some m) n = nat_eq m n
 
 -- the same type: of a scalar, or of an array with its size
 abbrev pub has_type : Global → Declared → Given → Bool
 has_type g (Scalar t constant) given = same_type g.ctype t && is_none g.size
-has_type g (Array t constant size) given = same_type g.ctype t && (is_some g.size && same_size g.size (array_size size given))
+has_type g (Array t constant size) given = same_type g.ctype t && is_size g.size (array_size size given)
 has_type g (Function signature) given = false
 
 abbrev pub is_given : Given → Bool

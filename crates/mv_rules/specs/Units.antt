@@ -1,6 +1,5 @@
 -- What declarations at file scope come to, and the program that a unit is where it breaks no rule (C11 6.9).
-use Rattle.std.specs.Prelude.{ℕ, suc, Bool, true, false, ◌&&◌, ◌||◌, not, nat_eq, is_some, unwrap_or, if◌then◌else◌, List, [], ◌∷◌, ◌++◌, map, length, replicate, Option, Some, None, slice_get, slice_set, codes}
-use Rattle.std.specs.List.{list_any, flat_map}
+use Rattle.std.specs.Prelude.{ℕ, suc, Bool, true, false, ◌&&◌, ◌||◌, nat_lt, is_some, unwrap_or, if◌then◌else◌, List, [], ◌∷◌, ◌++◌, map, length, replicate, Option, Some, None, slice_get, slice_set, codes}
 use Rattle.mv_ast.specs.declared.place.Place.{Place}
 use Rattle.mv_ast.specs.declared.program.CType.{CType}
 use Rattle.mv_ast.specs.declared.program.CType.TheVariants as ctype
@@ -23,6 +22,7 @@ use Rattle.mv_ast.specs.declared.unit.Unit as tree
 use Rattle.mv_ast.specs.Operators.{converted}
 use Rattle.mv_scope.specs.declared.meaning.Meaning.{Meaning}
 use Rattle.mv_scope.specs.declared.meaning.Meaning.TheVariants as meaning
+use Rattle.mv_scope.specs.declared.meaning.Storage.{Storage}
 use Rattle.mv_scope.specs.declared.meaning.Storage.TheVariants as storage
 use Rattle.mv_scope.specs.declared.scope.Scope.{Scope}
 use Rattle.mv_scope.specs.Conversions.{int, same_signature}
@@ -33,13 +33,14 @@ use Rattle.mv_judge.specs.Judgements.{value_judgement}
 use Rattle.mv_outline.specs.declared.outline.Wanted.TheVariants as wanted
 use Rattle.mv_outline.specs.Names.{among, is_among, place_of}
 use Rattle.mv_outline.specs.Outlined as outlined
+use Rattle.mv_outline.specs.Outlined.{name_of}
 use Rattle.mv_declare.specs.Globals.{constant_word, distinct}
 use Rattle.mv_types.specs.declared.foreknown.Said.TheVariants as said
 use Rattle.mv_types.specs.Foreknown as foreknown
 use Rattle.mv_uses.specs.Uses.{switches_named}
 use Rattle.mv_rules.specs.Nodes.{Declared, Scalar, Array, Function, Given, Nothing, Value, Values, Characters, Bearer, Global}
 use Rattle.mv_rules.specs.Nodes as node
-use Rattle.mv_rules.specs.Rules.{object_type, array_size, meaning_here, stands_here, is_given, concluded}
+use Rattle.mv_rules.specs.Rules.{meaning_here, stands_here, is_empty, is_given, concluded}
 use Rattle.mv_rules.specs.Declarations.{Found, in_order, Base, Attribution, attributes, scalar_kind, specifiers, declared_as, parameters, given, expressions_of, is_constant, type_or_void, local_size, named_unless}
 use Rattle.mv_rules.specs.Statements.{body}
 
@@ -83,7 +84,7 @@ behind s c = record { scope = s; globals = c.globals; functions = c.functions }
 
 -- ---- attributes
 
--- what an attribute among the specifiers or behind a declarator stands on
+-- what an attribute stands on, by the declarator that it holds for
 abbrev pub bearer_of_form : {A B C : Type 0} → (main constant : Bool) → Shape-F A B C → Bearer
 bearer_of_form main constant shape.Plain = if constant then node.ConstantObject else node.Switch
 bearer_of_form main constant (shape.Array size) = node.Array
@@ -91,9 +92,12 @@ bearer_of_form main constant (shape.Function params) = if main then node.Main el
 bearer_of_form main constant (shape.Pointer fixed params) = node.FunctionPointer
 bearer_of_form main constant (shape.PointerArray fixed size params) = node.Array
 
-abbrev pub bearer : List Item → Declarator → Bearer
-bearer items d =
-    let name = unwrap_or d.name [] in bearer_of_form (is_named name (codes "main")) (is_constant_object items name) (out-Shape d.shape)
+abbrev pub bearer : (constant : Bool) → Declarator → Bearer
+bearer constant d = bearer_of_form (is_named (name_of d) (codes "main")) constant (out-Shape d.shape)
+
+-- An attribute among specifiers stands on all that the declarators declare. An object is `const` by these specifiers or by another declaration.
+abbrev pub bearers : List Item → (constant : Bool) → List Declarator → List Bearer
+bearers items constant ds = map (λ d. bearer (constant || is_constant_object items (name_of d)) d) ds
 
 -- ---- objects
 
@@ -101,15 +105,19 @@ bearer items d =
 abbrev pub constant_expression : Scope → Node → Judged Expr
 constant_expression s n = and_then (value_judgement s n) (λ e. concluded n.place s (node.Needed (constant_word e)) e)
 
--- the first words of an object; a string's 0 stands behind its characters where there is room for it
-abbrev pub padded : Option ℕ → List ℕ → List ℕ
-padded None words = words
-padded (Some size) words = if nat_eq size (length words) then words else words ++ 0 ∷ []
+-- the 0 behind so many characters of a string, where there is room for it
+abbrev pub last_zero : Option ℕ → ℕ → List ℕ
+last_zero None n = []
+last_zero (Some size) n = if nat_lt n size then 0 ∷ [] else []
+
+-- the word of a value
+abbrev pub word_of : CType → Expr → ℕ
+word_of t e = converted t (unwrap_or (constant_word e) 0)
 
 abbrev pub first_words : CType → Option ℕ → Given → Option (List ℕ)
 first_words t size Nothing = None
-first_words t size (Characters bytes) = Some (padded size (map (converted t) bytes))
-first_words t size g = Some (map (λ e. converted t (unwrap_or (constant_word e) 0)) (expressions_of g))
+first_words t size (Characters bytes) = Some (map (converted t) bytes ++ last_zero size (length bytes))
+first_words t size g = Some (map (word_of t) (expressions_of g))
 
 -- 0 and 1, or the different values of the enumeration that is the type
 abbrev pub default_domain : Scope → Option ℕ → List ℕ
@@ -122,17 +130,13 @@ domain s enumeration None = None
 domain s enumeration (Some a) = Some (unwrap_or a (default_domain s enumeration))
 
 -- the object that a name means
+abbrev pub global_in : Storage → Option ℕ
+global_in (storage.Global g) = Some g
+global_in (storage.Local l) = None
+
 abbrev pub global_number : Option Meaning → Option ℕ
-global_number (Some (meaning.Object v)) = in_storage v.storage
-  where
-    in_storage : storage.Storage → Option ℕ
-    in_storage (storage.Global g) = Some g
-    in_storage (storage.Local l) = None
-global_number (Some (meaning.Array e)) = in_storage e.storage
-  where
-    in_storage : storage.Storage → Option ℕ
-    in_storage (storage.Global g) = Some g
-    in_storage (storage.Local l) = None
+global_number (Some (meaning.Object v)) = global_in v.storage
+global_number (Some (meaning.Array e)) = global_in e.storage
 global_number _ = None
 
 abbrev pub global_at : List Global → Option ℕ → Option Global
@@ -171,7 +175,7 @@ new_global name d g domain = record {
 
 -- a global with what one more declaration says of it
 abbrev pub declared_again : Global → Global → Global
-declared_again old new = record old { words = first_of old.words new.words; domain = first_of old.domain new.domain }
+declared_again old new = record old { words = first_of new.words old.words; domain = first_of old.domain new.domain }
 
 abbrev pub with_global : List Global → Option ℕ → Option Global → Global → List Global
 with_global gs (Some n) (Some old) new = slice_set gs n (declared_again old new)
@@ -261,8 +265,16 @@ abbrev pub by_form : List Item → Base → Option Attribution → Option Line �
 by_form items base a b d name c (Function signature) = routine items d name base.ctype signature b c
 by_form items base a b d name c e = object items d name e (domain c.scope base.enumeration a) (is_some b) c
 
+-- the values of an object are constants
+abbrev pub value_of_form : Declared → Scope → Node → Judged Expr
+value_of_form (Function signature) = value_judgement
+value_of_form e = constant_expression
+
+abbrev pub nameless : Declarator → Declared → Declarations → Judged Declarations
+nameless d e c = and_then (given (value_of_form e) d.initial c.scope) (λ g. concluded d.place c.scope node.Nameless c)
+
 abbrev pub by_name : List Item → Base → Option Attribution → Option Line → Declarator → Declared → Option (List ℕ) → Declarations → Judged Declarations
-by_name items base a b d e None c = concluded d.place c.scope node.Nameless c
+by_name items base a b d e None c = nameless d e c
 by_name items base a b d e (Some name) c = by_form items base a b d name c e
 
 -- the parameters of a declarator that a block follows are judged as those of a function that is defined
@@ -274,21 +286,16 @@ defined_parameters d (Some b) s = and_then (parameters (params_of d) (function_e
 abbrev pub declarator : List Item → Base → Option Line → Declarator → Declarations → Judged Declarations
 declarator items base b d c =
     and_then (defined_parameters d b c.scope) (λ s.
-    and_then (declared_as d.shape base.ctype (is_constant_object items (unwrap_or d.name [])) s) (λ e.
-    and_then (attributes (bearer items d ∷ []) (scalar_kind base.ctype) e.0 d.marks base.attribute) (λ a.
+    and_then (declared_as d.shape base.ctype (is_constant_object items (name_of d)) s) (λ e.
+    and_then (attributes (bearer (is_constant_object items (name_of d)) d ∷ []) (scalar_kind base.ctype) e.0 d.marks base.attribute) (λ a.
     by_name items base a b d e.1 d.name (behind e.0 c))))
 
-module _ {A : Type 0} where
-  abbrev pub is_nothing : List A → Bool
-  is_nothing [] = true
-  is_nothing (x ∷ xs) = false
-
 abbrev pub declares_nothing : Item → Bool
-declares_nothing i = is_nothing i.names && is_nothing (out-Specs i.specs).tags
+declares_nothing i = is_empty i.names && is_empty (out-Specs i.specs).tags
 
 abbrev pub item : List Item → Item → Declarations → Judged Declarations
 item items i c =
-    and_then (specifiers false (map (bearer items) i.names) i.specs c.scope) (λ b.
+    and_then (specifiers false (bearers items (out-Specs i.specs).fixed i.names) i.specs c.scope) (λ b.
     and_then (concluded (out-Specs i.specs).place b.0 (node.Declaration (declares_nothing i)) (behind b.0 c))
     (in_order (declarator items b.1 i.body) i.names))
 
