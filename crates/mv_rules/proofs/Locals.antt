@@ -26,18 +26,18 @@ use Rattle.mv_declare.specs.declared.attributes.Position.TheVariants as position
 use Rattle.mv_declare.specs.declared.declarators.Entity.{Entity}
 use Rattle.mv_declare.specs.declared.declarators.Entity.TheVariants as entity
 use Rattle.mv_declare.specs.declared.initials.Converted.{Converted}
-use Rattle.mv_declare.specs.Constants.{is_positive, is_negative}
+use Rattle.mv_declare.specs.Constants.{is_positive}
 use Rattle.mv_declare.specs.Initials.{initial_values}
 use Rattle.mv_declare.specs.Initials as code_initials
-use Rattle.mv_declare.specs.Objects.{scalar, sized, least}
+use Rattle.mv_declare.specs.Objects.{scalar, array, sized, least}
 use Rattle.mv_declare.specs.Objects as objects
 use Rattle.mv_declare.specs.Locals.{scalar_meaning, array_meaning, own_scope, local_values, rule_of_function, by_entity}
 use Rattle.mv_declare.specs.Locals as code
 use Rattle.mv_declare.specs.Declarators as code_declarators
 use Rattle.mv_rules.specs.Nodes.{Declared, Given, Nothing, Value, Values, Characters}
 use Rattle.mv_rules.specs.Nodes as node
-use Rattle.mv_rules.specs.Rules.{all_convert, array_size, converts_given, fits_extent, filled, is_string, has_room, stands_here, first_broken, least_broken, unless_broken, concluded}
-use Rattle.mv_rules.specs.Declarations.{given, expressions_of, type_or_void, local_of, local_size, local_meaning, named_unless, local_named, local_found, local_node, local}
+use Rattle.mv_rules.specs.Rules.{all_convert, array_size, converts_given, fits_extent, filled, is_string, stands_here, first_broken, unless_broken, concluded}
+use Rattle.mv_rules.specs.Declarations.{given, expressions_of, type_or_void, local_meaning, named_unless, local_named, local_found, local_node, local}
 use Rattle.mv_rules.proofs.Agreement.{mapped, over, attribution_of, declared_of, base_of_specified, LocalDeclarationAgrees}
 use Rattle.mv_rules.proofs.Parts.{then_from, then_then, found_in_turn}
 use Rattle.mv_rules.proofs.Attributes.{attributes_agree}
@@ -85,47 +85,30 @@ formed (Some (initial.Chars bytes)) s = refl
 
 -- ---- sizes
 
-not_none : (n : ℕ) → nat_eq (suc n) 0 ≡ false
-not_none n = grind (arith, nat_tests)
+none_if_zero : (n : ℕ) → unwrap_or (code_initials.unless_zero n) 0 ≡ n
+none_if_zero n = by (nat_eq n 0) refl
+  where
+    by : (none : Bool) → nat_eq n 0 ≡ none → unwrap_or (if none then None else Some n) 0 ≡ n
+    by true q = grind (arith, nat_tests)
+    by false q = refl
 
-one_behind : (n : ℕ) → suc n ≡ n + 1
-one_behind n = omega arith
-
-sizes_agree : (size : Option Constant) (values : Option Initial) (g : Given) → HasForm values g → code_initials.array_size size values ≡ array_size size g
-sizes_agree (Some c) values g h = refl
+sizes_agree : (size : Option Constant) (values : Option Initial) (g : Given) → HasForm values g → unwrap_or (code_initials.array_size size values) 0 ≡ array_size size g
+sizes_agree (Some c) values g h = by (is_positive c)
+  where
+    by : (positive : Bool) → unwrap_or (if positive then Some c.value else None) 0 ≡ (if positive then c.value else 0)
+    by true = refl
+    by false = refl
 sizes_agree None None Nothing h = refl
 sizes_agree None (Some (initial.Value n)) (Value e) h = refl
-sizes_agree None (Some (initial.Values ns)) (Values es) h = ap code_initials.unless_zero h ∙ by es
-  where
-    by : (es : List Expr) → code_initials.unless_zero (length es) ≡ array_size None (Values es)
-    by [] = refl
-    by (e ∷ es) = ap (λ b. if b then None else Some (suc (length es))) (not_none (length es))
-sizes_agree None (Some (initial.Chars bytes)) (Characters more) h = ap (λ b. Some (length b + 1)) h
+sizes_agree None (Some (initial.Values ns)) (Values es) h = none_if_zero (length ns) ∙ h
+sizes_agree None (Some (initial.Chars bytes)) (Characters more) h = ap (λ b. length b + 1) h
 sizes_agree None values g h = elim h [ ]
-
--- a size is at least 1
-abbrev IsSize : Option ℕ → Type 0
-IsSize None = Unit {0}
-IsSize (Some n) = nat_eq n 0 ≡ false
-
-size_is : (size : Option Constant) (g : Given) → IsSize (array_size size g)
-size_is (Some c) g = by (nat_eq c.value 0) (is_negative c) refl
-  where
-    by : (none negative : Bool) → nat_eq c.value 0 ≡ none → IsSize (if not none && not negative then Some c.value else None)
-    by true negative q = tt
-    by false true q = tt
-    by false false q = q
-size_is None Nothing = tt
-size_is None (Value e) = tt
-size_is None (Values []) = tt
-size_is None (Values (e ∷ es)) = not_none (length es)
-size_is None (Characters bytes) = ap (λ n. nat_eq n 0) (sym (one_behind (length bytes))) ∙ not_none (length bytes)
 
 -- ---- objects
 
 -- the rules of an object, and what it is if it breaks none
 outcome : (place : Place) (taken unconverted void extents : Bool) (found : Scope × Stmt) (es : List Expr) (own : Scope) (n : ℕ) →
-    (taken ≡ false → extents ≡ false → found ≡ (own, stmt.Clear n es)) →
+    (taken ≡ false → found ≡ (own, stmt.Clear n es)) →
     unless_broken place (first_broken ((2, taken) ∷ (5, unconverted) ∷ (8, void) ∷ (10, extents) ∷ [])) found ≡
         and_then (objects.unless_broken place (least (record { redeclared = taken; unconverted = unconverted; void = void; extents = extents; block = false })) es)
         (λ es. Good (own, stmt.Clear n es))
@@ -134,7 +117,7 @@ outcome place true unconverted void extents found es own n h = refl
 outcome place false true void extents found es own n h = refl
 outcome place false false true extents found es own n h = refl
 outcome place false false false true found es own n h = refl
-outcome place false false false false found es own n h = ap Good (h refl refl)
+outcome place false false false false found es own n h = ap Good (h refl)
 
 or_false : (b : Bool) → b ≡ (b || false)
 or_false true = refl
@@ -164,29 +147,29 @@ module _ (t : CType) (fixed : Bool) where
   scalar_extents (Some (initial.Chars bytes)) (Characters more) h = refl
   scalar_extents values g h = elim h [ ]
 
-  array_converts : (size : Option Constant) (o : Option ℕ) (values : Option Initial) (g : Given) → HasForm values g →
-      (not (is_void t) && not (converts_given (node.Array t fixed size) g)) ≡ objects.is_unconverted (sized t o) values (converted_all t g)
-  array_converts size o None Nothing h = refl
-  array_converts size o (Some (initial.Value n)) (Value e) h = ap (λ b. not (is_void t) && b) (or_true (not (converts e t)))
-  array_converts size o (Some (initial.Values ns)) (Values es) h = ap (λ b. not (is_void t) && b) (or_false (not (all_convert t es)))
-  array_converts size o (Some (initial.Chars bytes)) (Characters more) h = refl
-  array_converts size o values g h = elim h [ ]
+  array_converts : (size : Option Constant) (n : ℕ) (values : Option Initial) (g : Given) → HasForm values g →
+      (not (is_void t) && not (converts_given (node.Array t fixed size) g)) ≡ objects.is_unconverted (array t n) values (converted_all t g)
+  array_converts size n None Nothing h = refl
+  array_converts size n (Some (initial.Value e)) (Value x) h = ap (λ b. not (is_void t) && b) (or_true (not (converts x t)))
+  array_converts size n (Some (initial.Values ns)) (Values es) h = ap (λ b. not (is_void t) && b) (or_false (not (all_convert t es)))
+  array_converts size n (Some (initial.Chars bytes)) (Characters more) h = refl
+  array_converts size n values g h = elim h [ ]
 
   none_fit : (n : ℕ) → nat_le 0 n ≡ true
   none_fit n = grind (arith, nat_tests)
 
-  array_extents : (o : Option ℕ) → IsSize o → (values : Option Initial) (g : Given) → HasForm values g →
-      (is_string g || not (has_room o (filled g))) ≡ objects.breaks_extents false (sized t o) values (count t g)
-  array_extents None q None Nothing h = refl
-  array_extents None q (Some (initial.Value n)) (Value e) h = refl
-  array_extents None q (Some (initial.Values ns)) (Values es) h = refl
-  array_extents None q (Some (initial.Chars bytes)) (Characters more) h = refl
-  array_extents (Some n) q None Nothing h = ap not (none_fit n) ∙ sym (ap (λ b. b || false) q)
-  array_extents (Some n) q (Some (initial.Value m)) (Value e) h = ap not (none_fit n) ∙ sym (ap (λ b. b || false) q)
-  array_extents (Some n) q (Some (initial.Values ns)) (Values es) h =
-      ap (λ k. not (nat_le k n)) (sym (length-map es (converted_to t))) ∙ sym (ap (λ b. b || not (nat_le (count t (Values es)) n)) q)
-  array_extents (Some n) q (Some (initial.Chars bytes)) (Characters more) h = sym (ap (λ b. b || true) q)
-  array_extents o q values g h = elim h [ ]
+  no_room : (none fits : Bool) → not (not none && fits) ≡ (none || not fits)
+  no_room true fits = refl
+  no_room false fits = refl
+
+  array_extents : (n : ℕ) (values : Option Initial) (g : Given) → HasForm values g →
+      (is_string g || not (not (nat_eq n 0) && nat_le (filled g) n)) ≡ objects.breaks_extents false (array t n) values (count t g)
+  array_extents n None Nothing h = no_room (nat_eq n 0) (nat_le 0 n) ∙ ap (λ b. nat_eq n 0 || not b) (none_fit n)
+  array_extents n (Some (initial.Value m)) (Value e) h = no_room (nat_eq n 0) (nat_le 0 n) ∙ ap (λ b. nat_eq n 0 || not b) (none_fit n)
+  array_extents n (Some (initial.Values ns)) (Values es) h =
+      no_room (nat_eq n 0) (nat_le (length es) n) ∙ ap (λ k. nat_eq n 0 || not (nat_le k n)) (sym (length-map es (converted_to t)))
+  array_extents n (Some (initial.Chars bytes)) (Characters more) h = or_true (nat_eq n 0)
+  array_extents n values g h = elim h [ ]
 
 -- ---- what follows values
 
@@ -242,37 +225,32 @@ module _ (place : Place) (values : Option Initial) (s : Scope) (t : CType) (fixe
       (scalar_extents t fixed values g h) ∙
       outcome place taken (objects.is_unconverted (scalar t) values (converted_all t g)) (is_void t) (objects.breaks_extents false (scalar t) values (count t g)) found
       (map (converted_to t) (expressions_of g)) (own_scope s (Some name) (scalar t) (scalar_meaning (length s.locals) t fixed)) (length s.locals)
-      (λ q r. with_own s name (scalar t) (scalar_meaning (length s.locals) t fixed) (clear g) taken q))
+      (λ q. with_own s name (scalar t) (scalar_meaning (length s.locals) t fixed) (clear g) taken q))
     where
       taken : Bool
       taken = stands_here s name
       found : Scope × Stmt
       found = local_found s (local_named s (Some name) (node.Scalar t fixed)) (node.Scalar t fixed) g
 
-  module _ (size : Option Constant) where
-    array_concluded : (name : Option (List ℕ)) (g : Given) → HasForm values g → (o : Option ℕ) → array_size size g ≡ o → IsSize o →
-        unless_broken place (least_broken s (local_node name (node.Array t fixed size) g))
-            (with_local (local_named s name (node.Array t fixed size)) (local_of t o), clear g) ≡
-            code_concludes name (sized t o) (array_meaning (length s.locals) t fixed) (values_of t g)
-    unfolding own_scope
-    array_concluded None g h o q is = refl
-    array_concluded (Some name) g h o q is =
-        ap (λ u. unless_broken place (first_broken ((2, taken) ∷ (5, u) ∷ (8, is_void t) ∷ (10, is_string g || not (has_room (array_size size g) (filled g))) ∷ [])) found)
-        (array_converts t fixed size o values g h) ∙
-        (ap (λ x. unless_broken place (first_broken ((2, taken) ∷ (5, objects.is_unconverted (sized t o) values (converted_all t g)) ∷ (8, is_void t) ∷ (10, x) ∷ [])) found)
-        (ap (λ n. is_string g || not (has_room n (filled g))) q ∙ array_extents t fixed o is values g h) ∙
-        outcome place taken (objects.is_unconverted (sized t o) values (converted_all t g)) (is_void t) (objects.breaks_extents false (sized t o) values (count t g)) found
-        (map (converted_to t) (expressions_of g)) (own_scope s (Some name) (sized t o) (array_meaning (length s.locals) t fixed)) (length s.locals) (by o))
-      where
-        taken : Bool
-        taken = stands_here s name
-        found : Scope × Stmt
-        found = (with_local (local_named s (Some name) (node.Array t fixed size)) (local_of t o), clear g)
-        by : (o : Option ℕ) → taken ≡ false → objects.breaks_extents false (sized t o) values (count t g) ≡ false →
-            ◌≡◌ {A = Scope × Stmt} (with_local (local_named s (Some name) (node.Array t fixed size)) (local_of t o), clear g)
-            (own_scope s (Some name) (sized t o) (array_meaning (length s.locals) t fixed), clear g)
-        by None q r = absurd (cc)
-        by (Some n) q r = with_own s name (sized t (Some n)) (array_meaning (length s.locals) t fixed) (clear g) taken q
+  array_concluded : (size : Option Constant) (name : Option (List ℕ)) (g : Given) → HasForm values g →
+      rules_conclude name (node.Array t fixed size) g ≡ code_concludes name (array t (array_size size g)) (array_meaning (length s.locals) t fixed) (values_of t g)
+  unfolding own_scope
+  array_concluded size None g h = refl
+  array_concluded size (Some name) g h =
+      ap (λ u. unless_broken place (first_broken ((2, taken) ∷ (5, u) ∷ (8, is_void t) ∷ (10, is_string g || not (not (nat_eq n 0) && nat_le (filled g) n)) ∷ [])) found)
+      (array_converts t fixed size n values g h) ∙
+      (ap (λ x. unless_broken place (first_broken ((2, taken) ∷ (5, objects.is_unconverted (array t n) values (converted_all t g)) ∷ (8, is_void t) ∷ (10, x) ∷ [])) found)
+      (array_extents t fixed n values g h) ∙
+      outcome place taken (objects.is_unconverted (array t n) values (converted_all t g)) (is_void t) (objects.breaks_extents false (array t n) values (count t g)) found
+      (map (converted_to t) (expressions_of g)) (own_scope s (Some name) (array t n) (array_meaning (length s.locals) t fixed)) (length s.locals)
+      (λ q. with_own s name (array t n) (array_meaning (length s.locals) t fixed) (clear g) taken q))
+    where
+      n : ℕ
+      n = array_size size g
+      taken : Bool
+      taken = stands_here s name
+      found : Scope × Stmt
+      found = local_found s (local_named s (Some name) (node.Array t fixed size)) (node.Array t fixed size) g
 
 function_concluded : (place : Place) (name : Option (List ℕ)) (s : Scope) (f : ℕ) (g : Given) (found : Scope × Stmt) →
     concluded place s (local_node name (node.Function f) g) found ≡ Broken place (rule_of_function s name)
@@ -309,8 +287,8 @@ by_entity_agrees d (entity.Scalar t fixed) s =
 by_entity_agrees d (entity.Array t fixed size) s =
     values_then t d.initial (own_scope s d.name l m) (local_named s d.name (node.Array t fixed size)) (own_agrees d.initial s d.name l (node.Array t fixed size) m refl)
     (rules_conclude d.place d.initial s t fixed d.name (node.Array t fixed size)) (code_concludes d.place d.initial s t fixed d.name l m)
-    (λ g h. array_concluded d.place d.initial s t fixed size d.name g h (array_size size g) refl (size_is size g) ∙
-    ap (λ o. code_concludes d.place d.initial s t fixed d.name (sized t o) m (values_of t g)) (sym (sizes_agree size d.initial g h))) ∙
+    (λ g h. array_concluded d.place d.initial s t fixed size d.name g h ∙
+    ap (λ n. code_concludes d.place d.initial s t fixed d.name (array t n) m (values_of t g)) (sym (sizes_agree size d.initial g h))) ∙
     sym (then_then _ _ (initial_values t d.initial (own_scope s d.name l m)))
   where
     m : Meaning
