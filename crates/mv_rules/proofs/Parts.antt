@@ -1,9 +1,9 @@
 -- Judgements on parts in their order agree where those on each part do.
-use Rattle.std.proofs.Common.{◌≡◌, ℕ, refl, sym, ◌∙◌, ap, Bool, true, false, if◌then◌else◌, Option, Some, None, List, [], ◌∷◌, ◌++◌, map}
+use Rattle.std.proofs.Common.{◌≡◌, ℕ, refl, sym, ◌∙◌, ap, Bool, true, false, if◌then◌else◌, List, [], ◌∷◌, ◌++◌, map}
 use Rattle.mv_ast.specs.declared.place.Place.{Place}
 use Rattle.mv_scope.specs.declared.scope.Scope.{Scope}
 use Rattle.mv_judge.specs.Judged.{Judged, Good, Broken, and_then}
-use Rattle.mv_declare.specs.Turns.{Behind, through, next_part, in_turn}
+use Rattle.mv_declare.specs.Turns.{through, next_part, in_turn}
 use Rattle.mv_rules.specs.Rules.{first_broken, unless_broken}
 use Rattle.mv_rules.specs.Declarations.{Found, in_order, found_next}
 use Rattle.mv_rules.proofs.Agreement.{mapped}

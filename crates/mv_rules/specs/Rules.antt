@@ -1,6 +1,6 @@
 -- The rules of declarations and statements, in their order: each is a test on one node whose parts break none, in its scope. Rules that only expressions
 -- break (assignments, calls, indexes, switch assignments, plan arguments, placements) are those of expressions.
-use Rattle.std.specs.Prelude.{ℕ, ◌+◌, Bool, true, false, ◌&&◌, ◌||◌, not, nat_eq, nat_le, is_none, is_some, if◌then◌else◌, List, [], ◌∷◌, map, length, Option, Some, None, slice_get}
+use Rattle.std.specs.Prelude.{ℕ, ◌+◌, Bool, true, false, ◌&&◌, ◌||◌, not, nat_eq, nat_le, is_none, is_some, if◌then◌else◌, List, [], ◌∷◌, length, Option, Some, None, slice_get}
 use Rattle.std.specs.List.{list_any}
 use Rattle.std.specs.Cmp.Lexicographic.{pointwise}
 use Rattle.mv_num.specs.declared.kind.Kind.TheVariants as kind
