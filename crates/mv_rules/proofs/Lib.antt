@@ -11,3 +11,4 @@ pub mod Tags
 pub mod Bases
 pub mod Shapes
 pub mod Initials
+pub mod Declarators
