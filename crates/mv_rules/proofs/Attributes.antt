@@ -21,7 +21,7 @@ use Rattle.mv_rules.specs.Nodes as node
 use Rattle.mv_rules.specs.Rules.{bears_none, is_empty, is_function, concluded}
 use Rattle.mv_rules.specs.Declarations.{Attribution, constant, is_switch, switch_kind, value_concluded, listed_value, attribution, attribute}
 use Rattle.mv_rules.proofs.Agreement.{mapped, attribution_of, holder, AttributesAgree}
-use Rattle.mv_rules.proofs.Parts.{then_same, then_mapped, then_to, in_order_same, in_order_mapped, one_rule}
+use Rattle.mv_rules.proofs.Parts.{or_true, then_same, then_mapped, then_to, in_order_same, in_order_mapped, one_rule}
 
 -- ---- constants
 
@@ -61,10 +61,6 @@ kind_agrees (b ∷ bs) k = by (list_any (λ x. not (is_switch x)) (b ∷ bs))
     by : (any : Bool) → (if any then None else k) ≡ (if not any then k else None)
     by true = refl
     by false = refl
-
-or_true : (b : Bool) → true ≡ b || true
-or_true true = refl
-or_true false = refl
 
 -- what is no switch bears none or is a function
 others : (bs : List Bearer) → list_any (λ b. not (is_switch b)) bs ≡ list_any bears_none bs || list_any is_function bs

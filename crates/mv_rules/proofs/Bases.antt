@@ -24,8 +24,9 @@ use Rattle.mv_rules.specs.Nodes as node
 use Rattle.mv_rules.specs.Rules.{bears_none, is_again, is_undeclared, first_broken, unless_broken, concluded}
 use Rattle.mv_rules.specs.Declarations.{Found, in_order, is_switch, Attribution, Base, base_of, type_of_words, kind_named, scalar_kind, kind_if_good, specifiers_in_order, Specified, specifier, last_number}
 use Rattle.mv_rules.proofs.Agreement.{mapped, over, base_of_specified, holder, is_local, SpecifiersAgree}
+use Rattle.mv_rules.proofs.Parts.{IfGood}
 use Rattle.mv_rules.proofs.Specifiers.{any_more, attribute_of, there_and_back, in_order_of_text}
-use Rattle.mv_rules.proofs.Tags.{IfGood, declared_behind}
+use Rattle.mv_rules.proofs.Tags.{declared_behind}
 
 module _ {A B C : Type 0} (P : A → Type 0) (g : B → C) (next : A → Judged C) (rest : A → Judged B) (agree : (a : A) → P a → next a ≡ mapped g (rest a)) where
   then_known : (j : Judged A) → IfGood P j → and_then j next ≡ mapped g (and_then j rest)

@@ -1,10 +1,6 @@
 pub mod Agreement
 pub mod Parts
 pub mod Attributes
-pub mod Values
-pub mod Program
-pub mod Routines
-pub mod Objects
 pub mod Enums
 pub mod Specifiers
 pub mod Tags
@@ -15,3 +11,8 @@ pub mod Parameters
 pub mod Locals
 pub mod Pieces
 pub mod Statements
+pub mod Values
+pub mod Program
+pub mod Routines
+pub mod Objects
+pub mod Declarators

@@ -39,7 +39,7 @@ use Rattle.mv_rules.specs.Nodes as node
 use Rattle.mv_rules.specs.Rules.{all_convert, array_size, converts_given, fits_extent, filled, is_string, stands_here, first_broken, unless_broken, concluded}
 use Rattle.mv_rules.specs.Declarations.{given, expressions_of, local_meaning, named_unless, local_named, local_found, local_node, local}
 use Rattle.mv_rules.proofs.Agreement.{mapped, over, attribution_of, declared_of, base_of_specified, LocalDeclarationAgrees}
-use Rattle.mv_rules.proofs.Parts.{then_from, then_then, found_in_turn}
+use Rattle.mv_rules.proofs.Parts.{or_true, or_false, IfGood, then_from, then_then, found_in_turn}
 use Rattle.mv_rules.proofs.Attributes.{attributes_agree}
 use Rattle.mv_rules.proofs.Bases.{specifiers_agree, holders_agree}
 use Rattle.mv_rules.proofs.Shapes.{declared_agrees}
@@ -54,10 +54,6 @@ HasForm (Some (initial.Value n)) (Value e) = Unit {0}
 HasForm (Some (initial.Values ns)) (Values es) = length ns ≡ length es
 HasForm (Some (initial.Chars bytes)) (Characters more) = bytes ≡ more
 HasForm _ _ = ⊥
-
-abbrev IfGood : {A : Type 0} → (A → Type 0) → Judged A → Type 0
-IfGood P (Good a) = P a
-IfGood P (Broken place rule) = Unit {0}
 
 as_many : (ns : List Node) (f : Node → Judged Expr) → IfGood (λ es. length ns ≡ length es) (each (map f ns))
 as_many [] f = refl
@@ -118,14 +114,6 @@ outcome place false true void extents found es own n h = refl
 outcome place false false true extents found es own n h = refl
 outcome place false false false true found es own n h = refl
 outcome place false false false false found es own n h = ap Good (h refl)
-
-or_false : (b : Bool) → b ≡ (b || false)
-or_false true = refl
-or_false false = refl
-
-or_true : (b : Bool) → true ≡ (b || true)
-or_true true = refl
-or_true false = refl
 
 abbrev count : CType → Given → ℕ
 count t g = length (map (converted_to t) (expressions_of g))

@@ -7,6 +7,7 @@ use Rattle.mv_statement_rules.specs.declared.arms.Arms.{Arms}
 use Rattle.mv_statement_rules.specs.SwitchBodies.{no_arm, no_arms, has_statements, at_label, with_case, with_default, with_statement, arms_of}
 use Rattle.mv_rules.specs.Rules.{is_empty}
 use Rattle.mv_rules.specs.Statements.{Piece, Labelled, Otherwise, Statement, labels, has_default, arms, arms_behind, labelled_behind, with_label, with_other}
+use Rattle.mv_rules.proofs.Parts.{or_true, or_false}
 
 -- the arms with one more piece
 abbrev pub with_piece : Piece → Arms → Arms
@@ -54,14 +55,6 @@ labels_gather (Statement s ∷ ps) a = labels_gather ps (with_statement s a)
 
 pub labels_agree : (ps : List Piece) → (gathered ps).labels ≡ labels ps
 labels_agree ps = labels_gather ps no_arms
-
-or_false : (b : Bool) → b ≡ (b || false)
-or_false true = refl
-or_false false = refl
-
-or_true : (b : Bool) → true ≡ (b || true)
-or_true true = refl
-or_true false = refl
 
 other_gather : (ps : List Piece) (a : Arms) → (gather ps a).other ≡ (a.other || has_default ps)
 other_gather [] a = or_false a.other

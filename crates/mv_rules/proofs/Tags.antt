@@ -21,15 +21,12 @@ use Rattle.mv_rules.specs.Nodes.{Bearer, Enumeration, Again, Numbered}
 use Rattle.mv_rules.specs.Nodes as node
 use Rattle.mv_rules.specs.Rules.{is_undeclared, least_broken, unless_broken}
 use Rattle.mv_rules.specs.Declarations.{in_order, enumerator, enumerator_value, Enumerators, with_enumerator, with_enumeration, new_enumeration, enumeration_named, enumeration_of, enumeration, Attribution, attribute, Specifier, Enum, Attribute as Marked, stands_before, specifiers_in_order, Specified, specifier}
+use Rattle.mv_rules.proofs.Parts.{IfGood}
 use Rattle.mv_rules.proofs.Specifiers.{any_more}
 
 -- ---- what holds of what is found, if it is
 
 module _ {A : Type 0} where
-  abbrev pub IfGood : (A → Type 0) → Judged A → Type 0
-  IfGood P (Good a) = P a
-  IfGood P (Broken place rule) = Unit {0}
-
   pub if_any : (j : Judged A) → IfGood (λ a. Unit {0}) j
   if_any (Good a) = tt
   if_any (Broken place rule) = tt

@@ -92,8 +92,12 @@ bearer_of_form main constant (shape.Function params) = if main then node.Main el
 bearer_of_form main constant (shape.Pointer fixed params) = node.FunctionPointer
 bearer_of_form main constant (shape.PointerArray fixed size params) = node.Array
 
+abbrev pub is_main : Option (List ℕ) → Bool
+is_main None = false
+is_main (Some name) = is_named name (codes "main")
+
 abbrev pub bearer : (constant : Bool) → Declarator → Bearer
-bearer constant d = bearer_of_form (is_named (name_of d) (codes "main")) constant (out-Shape d.shape)
+bearer constant d = bearer_of_form (is_main d.name) constant (out-Shape d.shape)
 
 -- An attribute among specifiers stands on all that the declarators declare. An object is `const` by these specifiers or by another declaration.
 abbrev pub bearers : List Item → (constant : Bool) → List Declarator → List Bearer
