@@ -130,11 +130,11 @@ enumeration e scope = let f = out-EnumSpec e in enumeration_of f.tag f.members s
 abbrev pub Attribution : Type 0
 Attribution = Option (List ℕ)
 
--- the type of the switches that an attribute makes, if it stands on such alone
 abbrev pub is_switch : Bearer → Bool
 is_switch node.Switch = true
 is_switch _ = false
 
+-- the type of the switches that an attribute makes, if it stands on such alone
 abbrev pub switch_kind : List Bearer → Option Kind → Option Kind
 switch_kind [] k = None
 switch_kind (b ∷ bs) k = if list_any (λ x. not (is_switch x)) (b ∷ bs) then None else k
@@ -371,7 +371,7 @@ abbrev pub named_unless : Bool → Scope → List ℕ → Option Meaning → Sco
 named_unless taken s name None = s
 named_unless taken s name (Some m) = if taken then s else declared s name m
 
--- the scope of a local's own initial value: its name means it
+-- the scope of a local's own initial value: a name that is new means the local
 abbrev pub local_named : Scope → Option (List ℕ) → Declared → Scope
 local_named s None d = s
 local_named s (Some name) d = named_unless (stands_here s name) s name (local_meaning s d)
