@@ -1,0 +1,5 @@
+pub mod Nodes
+pub mod Rules
+pub mod Declarations
+pub mod Statements
+pub mod Units
