@@ -1,5 +1,5 @@
 -- The domain of an attribute that is written with values has some.
-use Rattle.std.proofs.Common.{◌≡◌, ℕ, zero, suc, ◌≤◌, ◌+◌, ◌++◌, arith, refl, not, ◌||◌, is_some, List, [], ◌∷◌, length, length-append, Option, Some, None, take, drop}
+use Rattle.std.proofs.Common.{◌≡◌, ℕ, zero, suc, ◌≤◌, ◌+◌, ◌++◌, arith, refl, Bool, true, false, not, if◌then◌else◌, ◌||◌, is_some, List, [], ◌∷◌, length, length-append, Option, Some, None, take, drop}
 use Rattle.std.specs.List.{AllByRecursion}
 use Rattle.mv_num.specs.declared.kind.Kind.{Kind}
 use Rattle.mv_ast.specs.declared.place.Place.{Place}
@@ -12,8 +12,10 @@ use Rattle.mv_judge.specs.Judged.{Good}
 use Rattle.mv_judge.specs.NeededConstants.{constant_judgement}
 use Rattle.mv_declare.specs.declared.attributes.Attribute.{Attribute}
 use Rattle.mv_declare.specs.declared.attributes.Holder.{Holder}
-use Rattle.mv_declare.specs.Attributes.{fits, with_value, domain_value, domain, given_domain, holds, held, attribute, attributes}
+use Rattle.mv_declare.specs.Attributes.{switch_kind, with_value, domain_value, domain, given_domain, holds, held, attribute, attributes}
+use Rattle.mv_declare.specs.Constants.{is_value_of}
 use Rattle.mv_declare.specs.Turns.{through}
+use Rattle.mv_declare.specs.ValueSets.{with_member}
 use Rattle.mv_typed_bodies.proofs.Judging.{IfGood, if_any, if_then, if_kept, if_more, if_through}
 use Rattle.mv_typed_bodies.proofs.Lists.{each_any}
 use Rattle.mv_unit_names.specs.Written.{HasValues}
@@ -33,10 +35,25 @@ all_drop P (suc n) (x ∷ xs) h = all_drop P n xs h.1
 
 -- ---- domains
 
+last_some : (vs : List ℕ) (v : ℕ) → HasSome (vs ++ v ∷ [])
+last_some vs v = omega (arith, length-append vs (v ∷ []))
+
+among_some : (vs : List ℕ) (v : ℕ) → is_among v vs ≡ true → HasSome vs
+among_some [] v q = absurd (cc)
+among_some (w ∷ ws) v q = omega arith
+
+member_some : (vs : List ℕ) (v : ℕ) → HasSome (with_member vs v)
+member_some vs v = by (is_among v vs) refl
+  where
+    by : (b : Bool) → is_among v vs ≡ b → HasSome (if b then vs else vs ++ v ∷ [])
+    by true q = among_some vs v q
+    by false q = last_some vs v
+
 value_some : (place : Place) (k : Option Kind) (vs : List ℕ) (c : Constant) → IfGood (with_value place k vs c) HasSome
 unfolding with_value
-value_some place k vs c =
-    if_kept HasSome (not (fits k c) || is_among c.value vs) place 16 (Good (vs ++ c.value ∷ [])) (λ q. omega (arith, length-append vs (c.value ∷ [])))
+value_some place None vs c = member_some vs c.value
+value_some place (Some k) vs c =
+    if_kept HasSome (not (is_value_of k c) || is_among c.value vs) place 16 (Good (vs ++ c.value ∷ [])) (λ q. last_some vs c.value)
 
 domain_value_some : (k : Option Kind) (s : Scope) (node : Node) (vs : List ℕ) → IfGood (domain_value k s node vs) HasSome
 domain_value_some k s node vs =
@@ -74,7 +91,7 @@ values_some (Some values) h = h values refl
 attribute_some : (h : Holder) (k : Option Kind) (s : Scope) (m : Mark) (before : Option Attribute) → HasValues m → IfGood (attribute h k s m before) (IfSome IsFilledAttribute)
 attribute_some h k s m before v =
     let f = out-Mark m in
-    if_then IsFilledAttribute (IfSome IsFilledAttribute) (given_domain k s f.values) _ (given_some k s f.values (values_some f.values v)) (λ a g. held_some f.place h before a g)
+    if_then IsFilledAttribute (IfSome IsFilledAttribute) (given_domain (switch_kind h k) s f.values) _ (given_some (switch_kind h k) s f.values (values_some f.values v)) (λ a g. held_some f.place h before a g)
 
 abbrev Next : Option Attribute → Option Attribute → Type 0
 Next a b = IfSome IsFilledAttribute a → IfSome IsFilledAttribute b

@@ -21,7 +21,9 @@ use Rattle.mv_declare.specs.declared.globals.Designated.{Designated}
 use Rattle.mv_declare.specs.declared.specifiers.Specified.{Specified}
 use Rattle.mv_declare.specs.Attributes.{attributes, holder_of}
 use Rattle.mv_declare.specs.Declarators.{designated}
-use Rattle.mv_declare.specs.Globals.{object_type, global_words, domain_or, default_domain, file_declarator}
+use Rattle.mv_declare.specs.Globals.{domain_or, default_domain, file_declarator}
+use Rattle.mv_declare.specs.Initials.{array_size, plain_values}
+use Rattle.mv_declare.specs.Objects.{scalar, sized}
 use Rattle.mv_declare.specs.Parameters.{parameters_judgement}
 use Rattle.mv_declare.specs.Specifiers.{scalar_kind}
 use Rattle.mv_typed_bodies.specs.Bodies.{Keeps, Grows, BodyGrows, ParametersFit}
@@ -40,8 +42,8 @@ use Rattle.mv_types.specs.Contents.{in_scope, with_function}
 use Rattle.mv_types.specs.Foreknown.{is_attributed}
 use Rattle.mv_types.specs.Functions as functions
 use Rattle.mv_types.specs.Functions.{body_entered, body_left, function_of, function_scope, params_of, defined, before_of, rule_of, function_behind, function_judgement, definition_parameters}
-use Rattle.mv_types.specs.Objects.{number_of, type_by_rules, object_scope, new_object, either_domain, again, replaced, objects_again, objects_behind, initialised, object_behind, object_judgement, domain_by}
-use Rattle.mv_types.specs.Units.{by_entity, named_declarator, base_of, declarator_judgement}
+use Rattle.mv_types.specs.Objects.{number_of, object_words, object_scope, new_object, either_domain, again, replaced, objects_again, objects_behind, object_behind, object_judgement, domain_by}
+use Rattle.mv_types.specs.Units.{by_entity, nameless_values, named_declarator, base_of, declarator_judgement}
 use Rattle.mv_file_scope.proofs.Functions.{IsBuilt, built_good}
 use Rattle.mv_formed_globals.proofs.Tests.{all_set}
 use Rattle.mv_source_facts.specs.Facts.{IsName}
@@ -113,27 +115,23 @@ module _ (words : List ℕ) (given : Bool) (domain : Option (List ℕ)) (some : 
   behind_written objects name (Some m) l n h = again_written objects (number_of m) h
 
 module _ (k : Foreknown) (d : Declarator) (name : List ℕ) (n : IsName name) (domain : Option (List ℕ)) (some : IfSome HasSome domain) (c : Contents) (h : AreWritten c) where
-  initialised_written : (before : Option Meaning) (l : Local) → IfGood (initialised k d name before domain l c) (IsWrittenBehind c)
-  initialised_written before l =
+  behind_has : (l : Local) (block : Bool) (before : Option Meaning) → IfGood (object_behind k d name l domain block c before) (IsWrittenBehind c)
+  behind_has l block before =
       let s : Scope = object_scope k name before l (length c.objects) c.scope in
       let w : Widens c.scope s = object_scope_widens k name before l (length c.objects) c.scope in
-      if_then (λ words. Unit {0}) (IsWrittenBehind c) (global_words d.place l d.initial s) _ (if_any (global_words d.place l d.initial s)) (λ words u. record {
+      let words = object_words d before c.objects l domain block s in
+      if_then (λ ws. Unit {0}) (IsWrittenBehind c) words _ (if_any words) (λ ws u. record {
         written = record {
           tags = tags_kept c.scope s w.tags w.enumerations h.tags;
-          objects = behind_written words (is_some d.initial) domain some c.objects name before l n h.objects;
+          objects = behind_written ws (is_some d.initial) domain some c.objects name before l n h.objects;
           functions = h.functions;
         };
         enumerations = w.enumerations;
       })
 
-  behind_has : (e : Entity) (block : Bool) (before : Option Meaning) → IfGood (object_behind k d name e domain block c before) (IsWrittenBehind c)
-  behind_has e block before =
-      let t = type_by_rules d.place before c.objects (object_type d.place e d.initial) (is_some d.initial) block domain in
-      if_then (λ l. Unit {0}) (IsWrittenBehind c) t _ (if_any t) (λ l u. initialised_written before l)
-
-  object_written : (e : Entity) (block : Bool) → IfGood (object_judgement k d name e domain block c) (IsWrittenBehind c)
+  object_written : (l : Local) (block : Bool) → IfGood (object_judgement k d name l domain block c) (IsWrittenBehind c)
   unfolding object_judgement
-  object_written e block = behind_has e block (named name c.scope.names.here)
+  object_written l block = behind_has l block (named name c.scope.names.here)
 
 domain_some : (s : Scope) (enumeration : Option ℕ) (a : Option Attribute) → IfSome (Has s) enumeration → IfSome IsFilledAttribute a → IfSome HasSome (domain_by s enumeration a)
 domain_some s enumeration None h k = tt
@@ -207,11 +205,12 @@ module _ (fit : ParametersFit) (grow : BodyGrows) where
         let b : Before = before_of k name c.scope in
         let e : Contents = in_scope c (function_scope k name signature b.meaning b.builtin c.scope) in
         let w : Widens c.scope e.scope = function_scope_widens signature b c.scope in
+        if_then (λ x. Unit {0}) (IsWrittenBehind c) (plain_values d.initial e.scope) _ (if_any (plain_values d.initial e.scope)) (λ x u.
         unless_written c d.place (rule_of d signature body c b) (defined k name result (params_of d) body b.number e)
         (if_more (IsWrittenBehind e) (IsWrittenBehind c) (defined k name result (params_of d) body b.number e) (λ a g. record {
           written = g.written;
           enumerations = keeps_joined c.scope.enumerations e.scope.enumerations a.scope.enumerations w.enumerations g.enumerations;
-        }) (defined_written result (params_of d) body b.number e (written_in c e.scope w h)))
+        }) (defined_written result (params_of d) body b.number e (written_in c e.scope w h))))
 
   -- ---- declarators
 
@@ -220,15 +219,16 @@ module _ (fit : ParametersFit) (grow : BodyGrows) where
         (c : Contents) → IfSome (Has c.scope) b.enumeration → AreWritten c → IfGood (by_entity k b body d name e a c) (IsWrittenBehind c)
     entity_written b body d name n (entity.Function signature) a f c m h = function_written k name n d b.ctype signature body c h
     entity_written b body d name n (entity.Scalar t fixed) a f c m h =
-        object_written k d name n (domain_by c.scope b.enumeration a) (domain_some c.scope b.enumeration a m f) c h (entity.Scalar t fixed) (is_some body)
+        object_written k d name n (domain_by c.scope b.enumeration a) (domain_some c.scope b.enumeration a m f) c h (scalar t) (is_some body)
     entity_written b body d name n (entity.Array t fixed size) a f c m h =
-        object_written k d name n (domain_by c.scope b.enumeration a) (domain_some c.scope b.enumeration a m f) c h (entity.Array t fixed size) (is_some body)
+        object_written k d name n (domain_by c.scope b.enumeration a) (domain_some c.scope b.enumeration a m f) c h (sized t (array_size size d.initial)) (is_some body)
 
     named_written : (b : Specified) (body : Option Line) (d : Declarator) (name : Option (List ℕ)) → ((n : List ℕ) → name ≡ Some n → IsName n) → (e : Designated) →
         IfSome IsFilledAttribute e.attribute → (c : Contents) → IfSome (Has c.scope) b.enumeration → AreWritten c →
         IfGood (named_declarator k b body d name e c) (IsWrittenBehind c)
     unfolding named_declarator
-    named_written b body d None n e f c m h = tt
+    named_written b body d None n e f c m h =
+        if_then (λ u. Unit {0}) (IsWrittenBehind c) (nameless_values e.entity d.initial c.scope) _ (if_any (nameless_values e.entity d.initial c.scope)) (λ u v. tt)
     named_written b body d (Some name) n e f c m h = entity_written b body d name (n name refl) e.entity e.attribute f c m h
 
     -- what a declarator designates, and the scope behind it

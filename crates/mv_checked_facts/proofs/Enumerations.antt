@@ -239,5 +239,5 @@ specifiers_filled position names specs w s i =
     let rest : List Mark = drop x.1.used f.marks in
     if_then (IfSome IsFilledAttribute) IsFilledBehind (attributes h k x.0 rest x.1.attribute) _
     (attributes_some h k x.0 rest (all_drop HasValues x.1.used f.marks w.marks) x.1.attribute g.attribute) (λ a q.
-    if_then (λ t. Unit {0}) IsFilledBehind (type_by_rules position x.1.again specs x.0) _ (if_any (type_by_rules position x.1.again specs x.0)) (λ t u.
+    if_then (λ t. Unit {0}) IsFilledBehind (type_by_rules position x.1.undeclared x.1.again specs x.0) _ (if_any (type_by_rules position x.1.undeclared x.1.again specs x.0)) (λ t u.
     record { tags = g.tags; number = g.number; attribute = q })))

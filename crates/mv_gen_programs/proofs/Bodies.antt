@@ -25,7 +25,7 @@ use Rattle.mv_judge.specs.Judged.{Judged, Good, and_then}
 use Rattle.mv_judge.specs.Judgements.{judgement, value_judgement}
 use Rattle.mv_judge.specs.Rules.{meet, takes_two}
 use Rattle.mv_judge.specs.Seen.{object_of_variable, value_of}
-use Rattle.mv_declare.specs.Locals.{scalar}
+use Rattle.mv_declare.specs.Objects.{scalar}
 use Rattle.mv_statement_rules.specs.Statements.{body_judgement}
 use Rattle.mv_statement_rules.specs.Surroundings.{in_function}
 use Rattle.mv_gen_programs.proofs.Lines.{switch_name}

@@ -26,7 +26,7 @@ use Rattle.mv_declare.specs.declared.specifiers.Specified.{Specified}
 use Rattle.mv_declare.specs.Attributes.{held, holder_of}
 use Rattle.mv_declare.specs.Declarators.{designated, parameter, new_parameter, Shapes, Declarators, Params, shape_step, declarator_step, param_step}
 use Rattle.mv_declare.specs.Globals.{file_declarator}
-use Rattle.mv_declare.specs.Locals.{scalar}
+use Rattle.mv_declare.specs.Objects.{scalar}
 use Rattle.mv_declare.specs.Parameters.{parameters_judgement, new_defined}
 use Rattle.mv_declare.specs.Specifiers.{specifiers, type_by_rules}
 use Rattle.mv_types.specs.declared.contents.Contents.{Contents}

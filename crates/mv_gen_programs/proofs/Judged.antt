@@ -36,8 +36,7 @@ use Rattle.mv_declare.specs.declared.specifiers.Specified.{Specified}
 use Rattle.mv_declare.specs.Attributes.{held, holder_of, with_value}
 use Rattle.mv_declare.specs.Constants.{is_value_of}
 use Rattle.mv_declare.specs.Declarators.{designated, Shapes, Declarators, Params, shape_step, declarator_step, param_step}
-use Rattle.mv_declare.specs.Globals.{object_type}
-use Rattle.mv_declare.specs.Locals.{scalar}
+use Rattle.mv_declare.specs.Objects.{scalar, least}
 use Rattle.mv_declare.specs.Specifiers.{specifiers, type_by_rules}
 use Rattle.mv_declare.specs.Turns.{through}
 use Rattle.mv_types.specs.declared.contents.Contents.{Contents}
@@ -45,7 +44,6 @@ use Rattle.mv_types.specs.declared.contents.Foreknown.{Foreknown}
 use Rattle.mv_types.specs.declared.contents.Object.{Object}
 use Rattle.mv_types.specs.Contents.{in_scope}
 use Rattle.mv_types.specs.Functions.{function_judgement, function_scope, broken_rule, params_of}
-use Rattle.mv_types.specs.Objects as objects
 use Rattle.mv_types.specs.Objects.{object_judgement, object_scope, objects_behind}
 use Rattle.mv_types.specs.Units.{item_judgement, declarator_judgement, named_declarator, names_judgement, holders}
 use Rattle.mv_gen.specs.Generated.{drawn, form_of, switch_of, constant_of}
@@ -205,7 +203,7 @@ switch_objects =
 switches_declared : (count : ℕ) (p : Places) (functions : List (Option Function)) →
     through (declarator_judgement (known count) switch_int None) (switch_declarators p) (record { scope = file_scope [] []; objects = []; functions = functions })
     ≡ Good (contents_at [] [] switch_objects functions)
-unfolding declarator_judgement named_declarator object_judgement object_type objects.type_by_rules object_scope objects_behind
+unfolding declarator_judgement named_declarator object_judgement least object_scope objects_behind
 switches_declared count p functions = simp plain_designated
 
 pub switches_judged : (count : ℕ) (p : Places) (functions : List (Option Function)) →
@@ -230,7 +228,7 @@ plain_int = record { ctype = int; fixed = false; enumeration = None; attribute =
 object_declared : (count : ℕ) (p : Places) (names : Names) (signatures : List Signature) (functions : List (Option Function)) → named (codes "acc") names ≡ None →
     declarator_judgement (known count) plain_int None (plain_declarator (p 1) (codes "acc")) (contents_at names signatures switch_objects functions)
     ≡ Good (contents_at (names ++ (codes "acc", meaning.Object object_variable) ∷ []) signatures all_objects functions)
-unfolding declarator_judgement named_declarator object_judgement object_type objects.type_by_rules object_scope objects_behind
+unfolding declarator_judgement named_declarator object_judgement least object_scope objects_behind
 object_declared count p names signatures functions fresh = rw (plain_designated int false (file_scope (switch_meanings ++ names) signatures)) (rw fresh refl)
 
 pub object_judged : (count : ℕ) (p : Places) (names : Names) (signatures : List Signature) (functions : List (Option Function)) → named (codes "acc") names ≡ None →

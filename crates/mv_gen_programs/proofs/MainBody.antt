@@ -42,7 +42,9 @@ use Rattle.mv_judge.specs.TypeNames.{named_kind}
 use Rattle.mv_declare.specs.declared.attributes.Position.{Position}
 use Rattle.mv_declare.specs.declared.declarators.Entity.TheVariants as entity
 use Rattle.mv_declare.specs.Declarators.{designated, Shapes, Declarators, Params, shape_step, declarator_step, param_step}
-use Rattle.mv_declare.specs.Locals.{scalar, new_local}
+use Rattle.mv_declare.specs.Locals.{own_scope}
+use Rattle.mv_declare.specs.Objects.{scalar}
+use Rattle.mv_declare.specs.Objects.{least as object_least}
 use Rattle.mv_declare.specs.Specifiers.{specifiers, type_by_rules}
 use Rattle.mv_statement_rules.specs.declared.around.Around.{Around}
 use Rattle.mv_statement_rules.specs.Statements.{judges_of, lines_in_turn, body_judgement}
@@ -188,7 +190,7 @@ module _ (names : Names) (count : ℕ) (are : AreNames names count) (around : Ar
   v = block_entered u
 
   local_line_is : (p : Places) → GivesLine (local_tree p) around (main_scope names) s (stmt.Clear 0 [])
-  unfolding new_local
+  unfolding own_scope object_least
   local_line_is p = declare_line (p 0) around (main_scope names) s (int_specs (p 0)) _ (stmt.Clear 0 [])
       (rw (int_specified _ _ (p 0) (main_scope names), plain_designated int false (main_scope names)) refl)
 

@@ -21,7 +21,7 @@ use Rattle.mv_scope.specs.Conversions.{int, typed}
 use Rattle.mv_ast.specs.declared.unit.Act.TheVariants as a
 use Rattle.mv_grammar.specs.Statements.{line_at}
 use Rattle.mv_judge.specs.Judged.{Judged, Good, and_then}
-use Rattle.mv_declare.specs.Locals.{scalar}
+use Rattle.mv_declare.specs.Objects.{scalar}
 use Rattle.mv_declare.specs.Turns.{through}
 use Rattle.mv_uses.specs.Uses.{expr_globals, stmt_globals, switches_named, numbers_from, form_layer, target_layer, expr_layer, stmt_layer, arm_layer}
 use Rattle.mv_types.specs.declared.contents.Contents.{Contents}
