@@ -8,36 +8,7 @@ use Rattle.std.proofs.lemmas.List.{map-append, length-map, take_more}
 use Rattle.std.proofs.lemmas.List.Sums.{fold-append}
 use Rattle.std.proofs.lemmas.List.Elements.{filter-append}
 use Rattle.std.proofs.Math.ListN.{get_or-map}
-use Rattle.indexmap.specs.IndexSet.{insert_key}
 use Rattle.mv_outline.specs.Names.{is_among, with_name, each_once, place_of, names_of}
-
-pub among_keys : (name : List ℕ) (ks : List (Vec ℕ Global)) →
-    list_any (λ k. pointwise nat_eq name k.items) ks ≡ is_among name (names_of ks)
-among_keys name [] = refl
-among_keys name (k ∷ ks) = ap (λ b. pointwise nat_eq name k.items || b) (among_keys name ks)
-
-others_before : (name : List ℕ) (ks : List (Vec ℕ Global)) →
-    prefix_len (λ k. not (pointwise nat_eq name k.items)) ks ≡ prefix_len (λ n. not (pointwise nat_eq name n)) (names_of ks)
-others_before name [] = refl
-others_before name (k ∷ ks) = ap (λ n. cond (not (pointwise nat_eq name k.items)) (1 + n) 0) (others_before name ks)
-
-pub place_in_keys : (name : List ℕ) (ks : List (Vec ℕ Global)) →
-    position (λ k. pointwise nat_eq name k.items) ks ≡ place_of name (names_of ks)
-place_in_keys name ks = by _ _ (others_before name ks) _ _ (sym (length-map ks (λ k. k.items)))
-  where
-    by : (a b : ℕ) → a ≡ b → (m n : ℕ) → m ≡ n → cond (nat_lt a m) (Some a) None ≡ cond (nat_lt b n) (Some b) None
-    by a b e m n f = cc
-
-pub added : (key : Vec ℕ Global) (ks : List (Vec ℕ Global)) →
-    names_of (insert_key (λ a b. pointwise nat_eq a.items b.items) ks key) ≡ with_name (names_of ks) key.items
-added key ks = by (list_any (λ k. pointwise nat_eq key.items k.items) ks) (is_among key.items (names_of ks)) (among_keys key.items ks)
-  where
-    by : (b c : Bool) → b ≡ c →
-        names_of (if b then ks else ks ++ key ∷ []) ≡ (if c then names_of ks else names_of ks ++ key.items ∷ [])
-    by true true e = refl
-    by false false e = map-append (λ k. k.items) ks (key ∷ [])
-    by true false e = cc
-    by false true e = cc
 
 -- the name of one key more
 pub next_kept : (others : List (List ℕ)) (ks : List (Vec ℕ Global)) (i : ℕ) (k : Vec ℕ Global) → i < length ks → k ≡ get_or ks i k →

@@ -1,2 +1,3 @@
 mod KeyLists
 mod OneMore
+mod Places

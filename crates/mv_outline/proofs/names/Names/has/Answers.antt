@@ -1,7 +1,11 @@
 use Rattle.std.proofs.Common.{◌∙◌, ap}
-use Rattle.mv_outline.specs.Names.{is_among}
-use Rattle.mv_outline.proofs.KeyLists.{among_keys}
+use Rattle.std.specs.Option.{is_some}
+use Rattle.mv_outline.specs.Names.{is_among, names_of}
+use Rattle.mv_outline.proofs.Places.{has_place}
 use Rattle.mv_outline.proofs.names.Names.has.Goals as goal
 
 pub returns : goal.returns
-returns c = c.contains.ensures ∙ (among_keys c.args.name.now c.self.inside.names.keys ∙ ap (is_among c.args.name.now) c.self.view_is)
+returns c =
+    let name = c.args.name.now in
+    let names = names_of c.self.inside.names.items in
+    c.contains_key.ensures ∙ (ap is_some (c.self.invariant name) ∙ (has_place name names ∙ ap (is_among name) c.self.view_is))
