@@ -18,6 +18,7 @@ pub mod Known
 pub mod Judged
 pub mod Made
 pub mod Program
+mod FewParameters
 pub mod Limited
 pub mod Folded
 pub mod Counted

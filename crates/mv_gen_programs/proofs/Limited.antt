@@ -9,9 +9,11 @@ use Rattle.mv_ast.specs.Counts.{assignments, product_of}
 use Rattle.mv_ast.specs.Plans.{switch_domain}
 use Rattle.mv_limits.specs.declared.excess.Exceeded.{Exceeded}
 use Rattle.mv_limits.specs.Limits.{Limit, elements, functions_limit, globals_limit, parameters_limit, switches_limit, values_limit, own_switches as counted_switches, switches_of_function_limit, assignments_limit, elements_limit, first_above, reported, excess, first_some, first_exceeded}
+use Rattle.mv_limits.proofs.Orders.{none_in_order}
 use Rattle.mv_front.specs.Verdicts.{IsProgram}
 use Rattle.mv_gen.specs.Generated.{drawn, functions, form_of, switch_of, constant_of, generated}
 use Rattle.mv_gen_programs.proofs.Bodies.{four}
+use Rattle.mv_gen_programs.proofs.FewParameters.{few_parameters}
 use Rattle.mv_gen_programs.proofs.Judged.{main_function}
 use Rattle.mv_gen_programs.proofs.Read.{unit_of, unit_reads}
 use Rattle.mv_gen_programs.proofs.Shallow.{unit_shallow}
@@ -105,5 +107,5 @@ is_program seed = record {
   unit = unit_of seed;
   reads = record { reads = unit_reads seed; shallow = unit_shallow seed };
   good = unit_good seed;
-  within = none_exceeded seed (functions seed) (omega arith);
+  within = none_in_order (unit_of seed) (program seed) (few_parameters seed) (none_exceeded seed (functions seed) (omega arith));
 }

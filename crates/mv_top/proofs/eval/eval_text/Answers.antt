@@ -1,10 +1,11 @@
 use Rattle.std.proofs.Common.{arith, refl}
 use Rattle.mv_front.proofs.Few.{few_functions}
 use Rattle.mv_top.proofs.Texts.{evaluation_done, not_evaluated}
+use Rattle.mv_limits.proofs.Orders.{none_exceeded}
 use Rattle.mv_top.proofs.eval.eval_text.Goals as goal
 
 pub eval-requires : goal.eval-requires
-eval-requires g c = omega (arith, few_functions c.in-Ok.program c.in-Ok.ensures.accepted.within)
+eval-requires g c = omega (arith, few_functions c.in-Ok.program (none_exceeded c.in-Ok.ensures.accepted.unit c.in-Ok.program c.in-Ok.ensures.accepted.within))
 
 pub returns-in-Ok : goal.returns-in-Ok
 returns-in-Ok g c way =
