@@ -27,20 +27,6 @@ fn picked(oracle: &mut Box<dyn FetchOracle>, address: u32, choices: u64) -> u64
     oracle.pick(address, choices)
 }
 
-// The word that is fetched at an address that has no choice or more than one.
-#[cold]
-#[inline(never)]
-fn fetched_of_more(memory: &Memory, address: u32, oracle: &mut Box<dyn FetchOracle>) -> Option<u32>
-    ensures { Fetched result (choices memory.now.held address) (way oracle.old) (way oracle.new) }
-{
-    let choices = memory.choices(address);
-    if choices == 0 {
-        return None;
-    }
-    let pick = picked(oracle, address, choices);
-    Some(memory.fetch(address, pick))
-}
-
 // The word that is fetched at an address, by the oracle's pick; none where there is no choice.
 #[inline(always)]
 fn fetched(memory: &Memory, address: u32, oracle: &mut Box<dyn FetchOracle>) -> Option<u32>
@@ -50,7 +36,12 @@ fn fetched(memory: &Memory, address: u32, oracle: &mut Box<dyn FetchOracle>) -> 
         let _pick = picked(oracle, address, 1);
         return Some(word);
     }
-    fetched_of_more(memory, address, oracle)
+    let choices = memory.choices(address);
+    if choices == 0 {
+        return None;
+    }
+    let pick = picked(oracle, address, choices);
+    Some(memory.fetch(address, pick))
 }
 
 // The instruction at pc, up to what the environment has to do of it.
