@@ -15,7 +15,7 @@ use Rattle.mv_isa.specs.Execution.{Access, Outcome, Goes, reg, put, upper, sets,
 use Rattle.mv_isa.specs.Code.{LineFits, IsPlace, IsCondition, distance, nop, branch_instr, inverse, upper_part, lower_part}
 use Rattle.mv_isa.specs.Standing.{InstrStands, ShortBranch, LongBranch, JumpStands, EntryStands, SlotStands, LineStands}
 use Rattle.mv_isa.specs.LineSteps.{branch_holds, named, Leads, BranchRuns, LineRuns, LinesRun}
-use Rattle.mv_isa.proofs.Addresses.{jump_leads, entry_gives}
+use Rattle.mv_isa.proofs.Addresses.{jump_leads}
 use Rattle.mv_isa.proofs.RoundTrip.{decode-encode}
 
 -- Words of distances.
