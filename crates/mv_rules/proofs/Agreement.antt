@@ -24,10 +24,12 @@ use Rattle.mv_declare.specs.Declarators.{designated}
 use Rattle.mv_declare.specs.Specifiers as code_specifiers
 use Rattle.mv_declare.specs.Locals.{locals_judgement}
 use Rattle.mv_declare.specs.Parameters.{parameters_judgement}
+use Rattle.mv_statement_rules.specs.Statements.{body_judgement}
 use Rattle.mv_rules.specs.Nodes.{Declared, Bearer}
 use Rattle.mv_rules.specs.Nodes as node
 use Rattle.mv_rules.specs.Rules.{bears_none, is_empty}
 use Rattle.mv_rules.specs.Declarations.{Attribution, Base, attributes, is_switch, specifiers, declared_as, parameters, local_declaration}
+use Rattle.mv_rules.specs.Statements.{body}
 
 -- ---- what is found, in other words
 
@@ -77,3 +79,6 @@ ParametersAgree = (s : Scope) (ps : List Param) → parameters ps s ≡ paramete
 
 abbrev pub LocalDeclarationAgrees : Type 0
 LocalDeclarationAgrees = (s : Scope) (specs : Specs) (ds : List Declarator) → local_declaration s specs ds ≡ locals_judgement s specs ds
+
+abbrev pub BodyAgrees : Type 0
+BodyAgrees = (t : CType) (b : Line) (s : Scope) → body t b s ≡ body_judgement t b s

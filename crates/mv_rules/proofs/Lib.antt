@@ -12,3 +12,7 @@ pub mod Bases
 pub mod Shapes
 pub mod Initials
 pub mod Declarators
+pub mod Parameters
+pub mod Locals
+pub mod Pieces
+pub mod Units

@@ -18,7 +18,7 @@ use Rattle.mv_judge.specs.declared.constant.Constant.{Constant}
 use Rattle.mv_judge.specs.Judged.{Judged, Good, Broken, and_then}
 use Rattle.mv_judge.specs.Judgements.{value_judgement, effect_judgement}
 use Rattle.mv_rules.specs.Nodes as node
-use Rattle.mv_rules.specs.Rules.{concluded}
+use Rattle.mv_rules.specs.Rules.{is_empty, concluded}
 use Rattle.mv_rules.specs.Declarations.{Found, in_order, constant, local_declaration}
 
 -- ---- what stands around a statement (C11 6.8.6)
@@ -61,10 +61,6 @@ has_default (Labelled v ∷ ps) = has_default ps
 has_default (Otherwise ∷ ps) = true
 has_default (Statement s ∷ ps) = has_default ps
 
-abbrev pub begins_arm : Arm → List Stmt → Bool
-begins_arm a [] = false
-begins_arm a (s ∷ ss) = true
-
 abbrev pub empty_arm : Arm
 empty_arm = record { labels = []; other = false; body = [] }
 
@@ -76,7 +72,7 @@ with_other a = record a { other = true }
 
 -- Labels that follow one another are those of one arm; one behind a statement begins the next arm.
 abbrev pub labelled_behind : (Arm → Arm) → Arm → (Arm → List Arm) → List Arm
-labelled_behind label a rest = if begins_arm a a.body then a ∷ rest (label empty_arm) else rest (label a)
+labelled_behind label a rest = if is_empty a.body then rest (label a) else a ∷ rest (label empty_arm)
 
 -- the arms that pieces make behind the beginning of one
 abbrev pub arms_behind : Arm → List Piece → List Arm
