@@ -43,14 +43,14 @@ use Rattle.mv_rules.specs.Nodes as node
 use Rattle.mv_rules.specs.Rules.{bears_none, is_empty, concluded}
 use Rattle.mv_rules.specs.Declarations.{Attribution, Base, attributes, is_switch, declared_as, given, scalar_kind}
 use Rattle.mv_rules.specs.Units.{Declarations, behind, is_constant_object, bearer_of_form, is_main, bearer, bearers, constant_expression, default_domain, domain, by_form, nameless, by_name, defined_parameters, declarator}
-use Rattle.mv_rules.proofs.Agreement.{mapped, over, attribution_of, declared_of, base_of_specified, holder, ParametersAgree}
+use Rattle.mv_rules.proofs.Agreement.{mapped, over, attribution_of, declared_of, base_of_specified, holder, ParametersAgree, BodyAgrees}
 use Rattle.mv_rules.proofs.Attributes.{attributes_agree}
 use Rattle.mv_rules.proofs.Bases.{holders_agree}
 use Rattle.mv_rules.proofs.Parts.{then_to}
 use Rattle.mv_rules.proofs.Shapes.{declared_agrees}
 use Rattle.mv_rules.proofs.Program.{contents_of}
 use Rattle.mv_rules.proofs.Values.{converted_of, initial_agrees, words_of, words_agree}
-use Rattle.mv_rules.proofs.Routines.{BodyAgrees, defined_parameters_agree, routine_agrees}
+use Rattle.mv_rules.proofs.Routines.{defined_parameters_agree, routine_agrees}
 use Rattle.mv_rules.proofs.Objects.{scalar_agrees, array_agrees}
 
 -- ---- what an attribute stands on

@@ -21,11 +21,10 @@ use Rattle.mv_rules.specs.Nodes as node
 use Rattle.mv_rules.specs.Rules.{is_empty, concluded}
 use Rattle.mv_rules.specs.Declarations.{Base, in_order, specifiers}
 use Rattle.mv_rules.specs.Units.{Declarations, none_declared, behind, bearers, declarator, declares_nothing, item, unit_end, judged_by_rules}
-use Rattle.mv_rules.proofs.Agreement.{mapped, over, base_of_specified, ParametersAgree}
+use Rattle.mv_rules.proofs.Agreement.{mapped, over, base_of_specified, ParametersAgree, BodyAgrees}
 use Rattle.mv_rules.proofs.Bases.{specifiers_agree}
 use Rattle.mv_rules.proofs.Parts.{then_mapped}
 use Rattle.mv_rules.proofs.Program.{contents_of, unit_end_agrees}
-use Rattle.mv_rules.proofs.Routines.{BodyAgrees}
 use Rattle.mv_rules.proofs.Declarators.{held_by_all, declarator_agrees}
 
 -- ---- parts in their order
