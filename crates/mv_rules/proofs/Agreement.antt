@@ -1,9 +1,8 @@
 -- What it is for the definitions by rules to agree with the judgements in the order of the code: what one finds is what the other finds, in other words.
-use Rattle.std.proofs.Common.{◌≡◌, ℕ, Bool, ◌||◌, not, List, Option, Some, None, map}
+use Rattle.std.proofs.Common.{◌≡◌, Bool, ◌||◌, not, List, Option, Some, None}
 use Rattle.std.specs.List.{list_any}
 use Rattle.mv_num.specs.declared.kind.Kind.{Kind}
 use Rattle.mv_ast.specs.declared.program.CType.{CType}
-use Rattle.mv_ast.specs.declared.program.Stmt.{Stmt}
 use Rattle.mv_ast.specs.declared.unit.Declarator.{Declarator}
 use Rattle.mv_ast.specs.declared.unit.Line.{Line}
 use Rattle.mv_ast.specs.declared.unit.Mark.{Mark}
@@ -15,7 +14,6 @@ use Rattle.mv_judge.specs.Judged.{Judged, Good, Broken}
 use Rattle.mv_declare.specs.declared.attributes.Attribute.{Attribute}
 use Rattle.mv_declare.specs.declared.attributes.Holder.{Holder}
 use Rattle.mv_declare.specs.declared.attributes.Position.{Position}
-use Rattle.mv_declare.specs.declared.attributes.Position.TheVariants as position
 use Rattle.mv_declare.specs.declared.declarators.Entity.{Entity}
 use Rattle.mv_declare.specs.declared.declarators.Entity.TheVariants as entity
 use Rattle.mv_declare.specs.declared.specifiers.Specified.{Specified}

@@ -10,7 +10,7 @@ use Rattle.mv_ast.specs.Plans.{is_among}
 use Rattle.mv_scope.specs.declared.scope.Scope.{Scope}
 use Rattle.mv_scope.specs.Constants.{constant_value}
 use Rattle.mv_judge.specs.declared.constant.Constant.{Constant}
-use Rattle.mv_judge.specs.Judged.{Judged, Good, Broken, and_then}
+use Rattle.mv_judge.specs.Judged.{Good, Broken}
 use Rattle.mv_judge.specs.NeededConstants.{unless_inconstant, constant_judgement}
 use Rattle.mv_declare.specs.declared.attributes.Attribute.{Attribute}
 use Rattle.mv_declare.specs.Constants.{is_value_of}
@@ -19,9 +19,9 @@ use Rattle.mv_declare.specs.Attributes as code
 use Rattle.mv_rules.specs.Nodes.{Bearer}
 use Rattle.mv_rules.specs.Nodes as node
 use Rattle.mv_rules.specs.Rules.{bears_none, is_empty, is_function, concluded}
-use Rattle.mv_rules.specs.Declarations.{Attribution, in_order, constant, constant_of, is_switch, switch_kind, value_concluded, listed_value, attribution, attribute, attributes}
+use Rattle.mv_rules.specs.Declarations.{Attribution, constant, is_switch, switch_kind, value_concluded, listed_value, attribution, attribute}
 use Rattle.mv_rules.proofs.Agreement.{mapped, attribution_of, holder, AttributesAgree}
-use Rattle.mv_rules.proofs.Parts.{then_same, then_mapped, then_to, in_order_same, in_order_mapped, one_rule}
+use Rattle.mv_rules.proofs.Parts.{or_true, then_same, then_mapped, then_to, in_order_same, in_order_mapped, one_rule}
 
 -- ---- constants
 
@@ -62,10 +62,6 @@ kind_agrees (b ∷ bs) k = by (list_any (λ x. not (is_switch x)) (b ∷ bs))
     by true = refl
     by false = refl
 
-or_true : (b : Bool) → true ≡ b || true
-or_true true = refl
-or_true false = refl
-
 -- what is no switch bears none or is a function
 others : (bs : List Bearer) → list_any (λ b. not (is_switch b)) bs ≡ list_any bears_none bs || list_any is_function bs
 others [] = refl
@@ -103,6 +99,7 @@ attribute_held bs place s before a =
     behind : (b : Bool) → (if b then Broken place 14 else Good (Some a.values)) ≡ mapped attribution_of (if b then Broken place 14 else Good (Some a))
     behind true = refl
     behind false = refl
+
     by : (before : Option Attribute) → (if is_some (attribution_of before) || not (code.holds (holder bs) a) then Broken place 14 else Good (Some a.values)) ≡
         mapped attribution_of (if is_some before || not (code.holds (holder bs) a) then Broken place 14 else Good (Some a))
     by None = behind (not (code.holds (holder bs) a))

@@ -1,5 +1,5 @@
 -- What specifiers say of the declarators behind them agrees.
-use Rattle.std.proofs.Common.{◌≡◌, ℕ, refl, sym, ◌∙◌, ap, Bool, true, false, ◌||◌, ◌&&◌, not, is_none, unwrap_or, if◌then◌else◌, Option, Some, None, List, [], ◌∷◌, ◌++◌, map, length, drop}
+use Rattle.std.proofs.Common.{◌≡◌, ℕ, refl, sym, ◌∙◌, ap, Bool, true, false, ◌||◌, ◌&&◌, not, is_none, unwrap_or, if◌then◌else◌, Option, Some, None, List, [], ◌∷◌, ◌++◌, map, drop}
 use Rattle.std.specs.List.{list_any}
 use Rattle.std.proofs.lemmas.List.{append_assoc, append-nil, length-map}
 use Rattle.mv_num.specs.declared.kind.Kind.{Kind}
@@ -7,8 +7,6 @@ use Rattle.mv_ast.specs.declared.place.Place.{Place}
 use Rattle.mv_ast.specs.declared.program.CType.{CType}
 use Rattle.mv_ast.specs.declared.program.CType.TheVariants as ctype
 use Rattle.mv_ast.specs.declared.unit.Declarator.{Declarator}
-use Rattle.mv_ast.specs.declared.unit.EnumSpec.{EnumSpec, out-EnumSpec}
-use Rattle.mv_ast.specs.declared.unit.Mark.{Mark}
 use Rattle.mv_ast.specs.declared.unit.Specs.{Specs, out-Specs}
 use Rattle.mv_scope.specs.declared.scope.Scope.{Scope}
 use Rattle.mv_judge.specs.Judged.{Judged, Good, Broken, and_then}
@@ -16,20 +14,19 @@ use Rattle.mv_judge.specs.TypeNames.{any_is, undeclared_enum, type_of, type_or_b
 use Rattle.mv_declare.specs.declared.attributes.Attribute.{Attribute}
 use Rattle.mv_declare.specs.declared.attributes.Holder.{Holder}
 use Rattle.mv_declare.specs.declared.attributes.Position.{Position}
-use Rattle.mv_declare.specs.declared.attributes.Position.TheVariants as position
-use Rattle.mv_declare.specs.declared.specifiers.Said.{Said}
 use Rattle.mv_declare.specs.declared.specifiers.Specified as code_specified
 use Rattle.mv_declare.specs.Attributes as code
 use Rattle.mv_declare.specs.Specifiers.{type_by_rules, at_file, enum_specifier, nothing_said}
 use Rattle.mv_declare.specs.Specifiers as code_specifiers
-use Rattle.mv_declare.specs.Turns.{Behind, through}
+use Rattle.mv_declare.specs.Turns.{Behind}
 use Rattle.mv_rules.specs.Nodes.{Bearer}
 use Rattle.mv_rules.specs.Nodes as node
 use Rattle.mv_rules.specs.Rules.{bears_none, is_again, is_undeclared, first_broken, unless_broken, concluded}
-use Rattle.mv_rules.specs.Declarations.{Found, in_order, is_switch, Attribution, Base, base_of, type_of_words, kind_named, scalar_kind, kind_if_good, specifiers_in_order, Specified, specifier, last_number, specifiers}
-use Rattle.mv_rules.proofs.Agreement.{mapped, over, attribution_of, base_of_specified, holder, is_local, SpecifiersAgree}
+use Rattle.mv_rules.specs.Declarations.{Found, in_order, is_switch, Attribution, Base, base_of, type_of_words, kind_named, scalar_kind, kind_if_good, specifiers_in_order, Specified, specifier, last_number}
+use Rattle.mv_rules.proofs.Agreement.{mapped, over, base_of_specified, holder, is_local, SpecifiersAgree}
+use Rattle.mv_rules.proofs.Parts.{IfGood}
 use Rattle.mv_rules.proofs.Specifiers.{any_more, attribute_of, there_and_back, in_order_of_text}
-use Rattle.mv_rules.proofs.Tags.{IfGood, declared_behind}
+use Rattle.mv_rules.proofs.Tags.{declared_behind}
 
 module _ {A B C : Type 0} (P : A → Type 0) (g : B → C) (next : A → Judged C) (rest : A → Judged B) (agree : (a : A) → P a → next a ≡ mapped g (rest a)) where
   then_known : (j : Judged A) → IfGood P j → and_then j next ≡ mapped g (and_then j rest)
@@ -43,6 +40,7 @@ kinds_agree s specs = by (type_of s specs)
     by_type : (t : CType) → scalar_kind t ≡ code_specifiers.scalar_kind t
     by_type (ctype.Scalar k) = refl
     by_type t = refl
+
     by : (j : Judged CType) → kind_if_good j ≡ code_specifiers.kind_of j
     by (Good t) = by_type t
     by (Broken place rule) = refl
@@ -57,7 +55,7 @@ module _ (p : Position) (specs : Specs) where
 
   concludes : (y : Specified) → (list_any is_undeclared y.enums ≡ false → any_is (map (undeclared_enum y.scope) (out-Specs specs).tags) ≡ false) →
       concluded (out-Specs specs).place y.scope (node.Specifiers ((out-Specs specs).hidden && is_local p) y.enums (type_of_words specs)) (base_of specs y) ≡
-          mapped (over base_of_specified) (end y.scope (last_number y.enums) (list_any is_again y.enums) (list_any is_undeclared y.enums) (attribute_of y.attribute))
+      mapped (over base_of_specified) (end y.scope (last_number y.enums) (list_any is_again y.enums) (list_any is_undeclared y.enums) (attribute_of y.attribute))
   unfolding type_by_rules
   concludes y h =
       by (list_any is_undeclared y.enums) (list_any is_again y.enums) ((out-Specs specs).hidden && is_local p)
@@ -68,13 +66,16 @@ module _ (p : Position) (specs : Specs) where
     where
       place : Place
       place = (out-Specs specs).place
+
       found : (undeclared again misplaced any : Bool) → Option CType → Found Base
       found undeclared again misplaced any t =
           mapped (over base_of_specified) (and_then
           (if undeclared then Broken place 1 else if again then Broken place 2 else if misplaced then Broken place 22 else if any then Broken place 1 else type_or_broken place t)
           (λ t. Good (y.scope, specified t (last_number y.enums) (attribute_of y.attribute))))
+
       base : Option CType → Option Attribution → Scope × Base
       base t a = (y.scope, record { ctype = unwrap_or t ctype.Void; constant = (out-Specs specs).fixed; enumeration = last_number y.enums; attribute = a })
+
       by : (undeclared again misplaced any : Bool) (t : Option CType) → (undeclared ≡ false → any ≡ false) →
           unless_broken place (first_broken ((1, undeclared) ∷ (2, again) ∷ (22, misplaced || is_none t) ∷ [])) (base t y.attribute) ≡ found undeclared again misplaced any t
       by true again misplaced any t h = refl

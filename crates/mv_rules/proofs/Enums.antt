@@ -1,5 +1,5 @@
 -- Enums agree, each with what the code says of it besides.
-use Rattle.std.proofs.Common.{◌≡◌, ℕ, refl, sym, ◌∙◌, ap, Bool, true, false, ◌||◌, is_some, is_none, unwrap_or, if◌then◌else◌, Option, Some, None, List, [], ◌∷◌, ◌++◌, length}
+use Rattle.std.proofs.Common.{◌≡◌, ℕ, refl, sym, ◌∙◌, ap, Bool, true, false, is_some, is_none, unwrap_or, if◌then◌else◌, Option, Some, None, List, [], ◌∷◌, ◌++◌, length}
 use Rattle.mv_ast.specs.declared.place.Place.{Place}
 use Rattle.mv_ast.specs.declared.unit.EnumSpec.{EnumSpec, out-EnumSpec}
 use Rattle.mv_ast.specs.declared.unit.Member.{Member, out-Member}
@@ -22,7 +22,7 @@ use Rattle.mv_rules.specs.Nodes.{Enumeration, Undeclared, Again, Numbered}
 use Rattle.mv_rules.specs.Nodes as node
 use Rattle.mv_rules.specs.Rules.{stands_here, is_again, first_broken, unless_broken, concluded}
 use Rattle.mv_rules.specs.Rules as rules
-use Rattle.mv_rules.specs.Declarations.{Found, in_order, Enumerators, enumerator_value, with_enumerator, enumerator, number_of_tag, enumeration_named, with_enumeration, new_enumeration, enumeration_of, enumeration, number_of_enumeration}
+use Rattle.mv_rules.specs.Declarations.{in_order, Enumerators, enumerator_value, with_enumerator, enumerator, number_of_tag, enumeration_named, with_enumeration, new_enumeration, enumeration_of, enumeration, number_of_enumeration}
 use Rattle.mv_rules.proofs.Agreement.{mapped}
 use Rattle.mv_rules.proofs.Parts.{then_same, then_to, in_order_mapped}
 use Rattle.mv_rules.proofs.Attributes.{constant_agrees}
@@ -38,13 +38,13 @@ given_agrees s following (Some n) = then_same _ _ (λ c. refl) _ _ (constant_agr
 
 named_agrees : (place : Place) (name : List ℕ) (x : Enumerating) (v : Option ℕ) →
     concluded place x.0 (node.Enumerator name v) (with_enumerator (enumerators_of x) name (unwrap_or v 0)) ≡
-        mapped enumerators_of (and_then (new_enumerator place name x.0 v) (λ d. Good (d.0, next_int d.1, x.2 ++ d.1 ∷ [])))
+    mapped enumerators_of (and_then (new_enumerator place name x.0 v) (λ d. Good (d.0, next_int d.1, x.2 ++ d.1 ∷ [])))
 unfolding new_enumerator
 named_agrees place name x v = by (stands_here x.0 name) v
   where
     by : (taken : Bool) (v : Option ℕ) →
         unless_broken place (first_broken ((2, taken) ∷ (21, is_none v) ∷ [])) (with_enumerator (enumerators_of x) name (unwrap_or v 0)) ≡
-            mapped enumerators_of (and_then (if taken then Broken place 2 else enumerator_of place name x.0 v) (λ d. Good (d.0, next_int d.1, x.2 ++ d.1 ∷ [])))
+        mapped enumerators_of (and_then (if taken then Broken place 2 else enumerator_of place name x.0 v) (λ d. Good (d.0, next_int d.1, x.2 ++ d.1 ∷ [])))
     by true v = refl
     by false None = refl
     by false (Some v) = refl
@@ -74,7 +74,7 @@ module _ {R : Type 0} (next : Scope → said.Enumeration → Bool → Judged R) 
   abbrev Agrees : Option (List ℕ) → Option (List Member) → Scope → Type 0
   Agrees tag members s =
       and_then (specifiers.enumeration_of s tag members) (λ d. next d.0 d.1 (is_undeclared s tag (is_none members))) ≡
-          and_then (enumeration_of tag members s) (λ d. next d.0 (said_of d.1) (rules.is_undeclared d.1))
+      and_then (enumeration_of tag members s) (λ d. next d.0 (said_of d.1) (rules.is_undeclared d.1))
 
   tag_agrees : (s : Scope) (m : Option Meaning) →
       next s (record { number = specifiers.number_of_tag m; again = false }) (is_none m) ≡ next s (said_of (enumeration_named m)) (rules.is_undeclared (enumeration_named m))
@@ -83,13 +83,14 @@ module _ {R : Type 0} (next : Scope → said.Enumeration → Bool → Judged R) 
 
   new_agrees : (tag : Option (List ℕ)) (s : Scope) (x : Enumerating) →
       next (tagged tag x.0 x.2).0 (tagged tag x.0 x.2).1 (is_undeclared s tag false) ≡
-          next (new_enumeration tag (enumerators_of x)).0 (said_of (new_enumeration tag (enumerators_of x)).1) (rules.is_undeclared (new_enumeration tag (enumerators_of x)).1)
+      next (new_enumeration tag (enumerators_of x)).0 (said_of (new_enumeration tag (enumerators_of x)).1) (rules.is_undeclared (new_enumeration tag (enumerators_of x)).1)
   unfolding tagged
   new_agrees None s x = refl
   new_agrees (Some tag) s x = by (is_some (named tag x.0.tags.here))
     where
       fresh : Scope
       fresh = tag_declared (with_enumeration x.0 x.2) tag (meaning.Tag (length x.0.enumerations))
+
       by : (taken : Bool) →
           (let d : Scope × said.Enumeration = if taken then (x.0, record { number = None; again = true }) else (fresh, record { number = Some (length x.0.enumerations); again = false }) in
           next d.0 d.1 false) ≡
@@ -100,7 +101,7 @@ module _ {R : Type 0} (next : Scope → said.Enumeration → Bool → Judged R) 
 
   listed_agrees : (tag : Option (List ℕ)) (s : Scope) (j : Judged Enumerating) →
       and_then (and_then (and_then j values_behind) (λ d. Good (tagged tag d.0 d.1))) (λ d. next d.0 d.1 (is_undeclared s tag false)) ≡
-          and_then (and_then (mapped enumerators_of j) (λ e. Good (new_enumeration tag e))) (λ d. next d.0 (said_of d.1) (rules.is_undeclared d.1))
+      and_then (and_then (mapped enumerators_of j) (λ e. Good (new_enumeration tag e))) (λ d. next d.0 (said_of d.1) (rules.is_undeclared d.1))
   listed_agrees tag s (Good x) = new_agrees tag s x
   listed_agrees tag s (Broken place rule) = refl
 
@@ -114,5 +115,5 @@ module _ {R : Type 0} (next : Scope → said.Enumeration → Bool → Judged R) 
   -- what follows an enum by what the code finds of it, and whether it names a tag that isn't declared
   pub enumeration_then : (e : EnumSpec) (s : Scope) →
       and_then (specifiers.enumeration_of s (out-EnumSpec e).tag (out-EnumSpec e).members) (λ d. next d.0 d.1 (undeclared_enum s e)) ≡
-          and_then (enumeration e s) (λ d. next d.0 (said_of d.1) (rules.is_undeclared d.1))
+      and_then (enumeration e s) (λ d. next d.0 (said_of d.1) (rules.is_undeclared d.1))
   enumeration_then e s = of_agrees (out-EnumSpec e).tag (out-EnumSpec e).members s

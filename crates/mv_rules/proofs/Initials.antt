@@ -1,38 +1,33 @@
 -- Initial values agree, and the scope's locals are nothing to a value.
-use Rattle.std.proofs.Common.{◌≡◌, ℕ, refl, sym, ◌∙◌, ap, Bool, true, false, ◌||◌, ◌&&◌, not, is_none, Option, Some, None, List, [], ◌∷◌, ◌++◌, map, length}
+use Rattle.std.proofs.Common.{◌≡◌, ℕ, refl, sym, ◌∙◌, ap, Bool, true, false, ◌||◌, ◌&&◌, not, is_none, Option, Some, None, List, [], ◌∷◌, ◌++◌, map}
 use Rattle.std.specs.List.{list_any}
 use Rattle.std.proofs.lemmas.List.{append_assoc, append-nil}
 use Rattle.mv_ast.specs.declared.place.Place.{Place}
 use Rattle.mv_ast.specs.declared.program.CType.{CType}
 use Rattle.mv_ast.specs.declared.program.Expr.{Expr}
 use Rattle.mv_ast.specs.declared.program.Local.{Local}
-use Rattle.mv_ast.specs.declared.unit.EnumSpec.{EnumSpec-F}
 use Rattle.mv_ast.specs.declared.unit.Initial.{Initial}
 use Rattle.mv_ast.specs.declared.unit.Initial.TheVariants as initial
 use Rattle.mv_ast.specs.declared.unit.Node.{Node, fold-Node}
-use Rattle.mv_ast.specs.declared.unit.What.{What-F}
 use Rattle.mv_ast.specs.declared.unit.What.TheOpen as what
 use Rattle.mv_scope.specs.declared.scope.Scope.{Scope}
 use Rattle.mv_scope.specs.Constants.{converts}
 use Rattle.mv_scope.specs.Conversions.{converted_to}
-use Rattle.mv_scope.specs.Scoped.{tag_of}
-use Rattle.mv_judge.specs.declared.seen.Seen.{Seen}
 use Rattle.mv_judge.specs.declared.seen.Use.{Use}
 use Rattle.mv_judge.specs.declared.seen.Use.TheVariants as «use»
 use Rattle.mv_judge.specs.Breaches.{by_itself}
 use Rattle.mv_judge.specs.Found.{Layer}
 use Rattle.mv_judge.specs.Judged.{Judged, Good, Broken, and_then, each}
-use Rattle.mv_judge.specs.Judgements.{Judges, Parts, with_parts, mark_step, member_step, node_step, specs_step, enum_step, value_judgement}
+use Rattle.mv_judge.specs.Judgements.{Judges, with_parts, mark_step, member_step, node_step, specs_step, value_judgement}
 use Rattle.mv_judge.specs.Seen.{value_of}
 use Rattle.mv_judge.specs.TypeNames.{is_undeclared}
 use Rattle.mv_declare.specs.declared.initials.Converted.{Converted}
-use Rattle.mv_declare.specs.Initials.{with_converted, converted_value, none_converted, converted_values, initial_values}
+use Rattle.mv_declare.specs.Initials.{with_converted, converted_value, none_converted, initial_values}
 use Rattle.mv_declare.specs.Turns.{through}
 use Rattle.mv_rules.specs.Nodes.{Given, Nothing, Value, Values, Characters}
 use Rattle.mv_rules.specs.Rules.{all_convert}
 use Rattle.mv_rules.specs.Declarations.{given, expressions_of}
 use Rattle.mv_rules.proofs.Agreement.{mapped}
-use Rattle.mv_rules.proofs.Parts.{then_to}
 
 -- ---- a scope with other locals
 
@@ -107,9 +102,10 @@ module _ (t : CType) (s : Scope) where
       on : (e : Expr) (j : Judged (List Expr)) → mapped (behind (with_converted t x e)) j ≡ mapped (behind x) (and_then j (λ rest. Good (e ∷ rest)))
       on e (Good es) = ap Good (one_more x e es)
       on e (Broken place rule) = refl
+
       by : (j : Judged Expr) → ((x : Converted) → through (converted_value t s) ns x ≡ mapped (behind x) (each (map (value_judgement s) ns))) →
           and_then (and_then j (λ e. Good (with_converted t x e))) (through (converted_value t s) ns) ≡
-              mapped (behind x) (and_then j (λ e. and_then (each (map (value_judgement s) ns)) (λ rest. Good (e ∷ rest))))
+          mapped (behind x) (and_then j (λ e. and_then (each (map (value_judgement s) ns)) (λ rest. Good (e ∷ rest))))
       by (Good e) h = h (with_converted t x e) ∙ on e (each (map (value_judgement s) ns))
       by (Broken place rule) h = refl
 

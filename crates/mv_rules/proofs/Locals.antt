@@ -1,5 +1,5 @@
 -- Declarations in a block agree.
-use Rattle.std.proofs.Common.{◌≡◌, ℕ, suc, ◌+◌, refl, arith, sym, ◌∙◌, ap, Bool, true, false, ◌||◌, ◌&&◌, not, nat_eq, nat_le, is_some, unwrap_or, if◌then◌else◌, Option, Some, None, List, [], ◌∷◌, ◌++◌, map, length}
+use Rattle.std.proofs.Common.{◌≡◌, ℕ, suc, ◌+◌, refl, arith, sym, ◌∙◌, ap, Bool, true, false, ◌||◌, ◌&&◌, not, nat_eq, nat_le, unwrap_or, if◌then◌else◌, Option, Some, None, List, [], ◌∷◌, ◌++◌, map, length}
 use Rattle.std.proofs.lemmas.Bool.Decides.{nat_tests}
 use Rattle.std.proofs.lemmas.List.{length-map}
 use Rattle.mv_ast.specs.declared.place.Place.{Place}
@@ -13,7 +13,7 @@ use Rattle.mv_ast.specs.declared.unit.Declarator.{Declarator}
 use Rattle.mv_ast.specs.declared.unit.Initial.{Initial}
 use Rattle.mv_ast.specs.declared.unit.Initial.TheVariants as initial
 use Rattle.mv_ast.specs.declared.unit.Node.{Node}
-use Rattle.mv_ast.specs.declared.unit.Specs.{Specs, out-Specs}
+use Rattle.mv_ast.specs.declared.unit.Specs.{out-Specs}
 use Rattle.mv_scope.specs.declared.meaning.Meaning.{Meaning}
 use Rattle.mv_scope.specs.declared.scope.Scope.{Scope}
 use Rattle.mv_scope.specs.Constants.{converts}
@@ -37,9 +37,9 @@ use Rattle.mv_declare.specs.Declarators as code_declarators
 use Rattle.mv_rules.specs.Nodes.{Declared, Given, Nothing, Value, Values, Characters}
 use Rattle.mv_rules.specs.Nodes as node
 use Rattle.mv_rules.specs.Rules.{all_convert, array_size, converts_given, fits_extent, filled, is_string, stands_here, first_broken, unless_broken, concluded}
-use Rattle.mv_rules.specs.Declarations.{given, expressions_of, type_or_void, local_meaning, named_unless, local_named, local_found, local_node, local}
+use Rattle.mv_rules.specs.Declarations.{given, expressions_of, local_meaning, named_unless, local_named, local_found, local_node, local}
 use Rattle.mv_rules.proofs.Agreement.{mapped, over, attribution_of, declared_of, base_of_specified, LocalDeclarationAgrees}
-use Rattle.mv_rules.proofs.Parts.{then_from, then_then, found_in_turn}
+use Rattle.mv_rules.proofs.Parts.{or_true, or_false, IfGood, then_from, then_then, found_in_turn}
 use Rattle.mv_rules.proofs.Attributes.{attributes_agree}
 use Rattle.mv_rules.proofs.Bases.{specifiers_agree, holders_agree}
 use Rattle.mv_rules.proofs.Shapes.{declared_agrees}
@@ -54,10 +54,6 @@ HasForm (Some (initial.Value n)) (Value e) = Unit {0}
 HasForm (Some (initial.Values ns)) (Values es) = length ns ≡ length es
 HasForm (Some (initial.Chars bytes)) (Characters more) = bytes ≡ more
 HasForm _ _ = ⊥
-
-abbrev IfGood : {A : Type 0} → (A → Type 0) → Judged A → Type 0
-IfGood P (Good a) = P a
-IfGood P (Broken place rule) = Unit {0}
 
 as_many : (ns : List Node) (f : Node → Judged Expr) → IfGood (λ es. length ns ≡ length es) (each (map f ns))
 as_many [] f = refl
@@ -110,22 +106,14 @@ sizes_agree None values g h = elim h [ ]
 outcome : (place : Place) (taken unconverted void extents : Bool) (found : Scope × Stmt) (es : List Expr) (own : Scope) (n : ℕ) →
     (taken ≡ false → found ≡ (own, stmt.Clear n es)) →
     unless_broken place (first_broken ((2, taken) ∷ (5, unconverted) ∷ (8, void) ∷ (10, extents) ∷ [])) found ≡
-        and_then (objects.unless_broken place (least (record { redeclared = taken; unconverted = unconverted; void = void; extents = extents; block = false })) es)
-        (λ es. Good (own, stmt.Clear n es))
+    and_then (objects.unless_broken place (least (record { redeclared = taken; unconverted = unconverted; void = void; extents = extents; block = false })) es)
+    (λ es. Good (own, stmt.Clear n es))
 unfolding least
 outcome place true unconverted void extents found es own n h = refl
 outcome place false true void extents found es own n h = refl
 outcome place false false true extents found es own n h = refl
 outcome place false false false true found es own n h = refl
 outcome place false false false false found es own n h = ap Good (h refl)
-
-or_false : (b : Bool) → b ≡ (b || false)
-or_false true = refl
-or_false false = refl
-
-or_true : (b : Bool) → true ≡ (b || true)
-or_true true = refl
-or_true false = refl
 
 abbrev count : CType → Given → ℕ
 count t g = length (map (converted_to t) (expressions_of g))
@@ -229,6 +217,7 @@ module _ (place : Place) (values : Option Initial) (s : Scope) (t : CType) (fixe
     where
       taken : Bool
       taken = stands_here s name
+
       found : Scope × Stmt
       found = local_found s (local_named s (Some name) (node.Scalar t fixed)) (node.Scalar t fixed) g
 
@@ -247,8 +236,10 @@ module _ (place : Place) (values : Option Initial) (s : Scope) (t : CType) (fixe
     where
       n : ℕ
       n = array_size size g
+
       taken : Bool
       taken = stands_here s name
+
       found : Scope × Stmt
       found = local_found s (local_named s (Some name) (node.Array t fixed size)) (node.Array t fixed size) g
 
@@ -275,7 +266,7 @@ own_agrees values s (Some name) l d m q =
 
 by_entity_agrees : (d : Declarator) (e : Entity) (s : Scope) →
     and_then (given value_judgement d.initial (local_named s d.name (declared_of e)))
-        (λ g. concluded d.place s (local_node d.name (declared_of e) g) (local_found s (local_named s d.name (declared_of e)) (declared_of e) g)) ≡ by_entity d e s
+    (λ g. concluded d.place s (local_node d.name (declared_of e) g) (local_found s (local_named s d.name (declared_of e)) (declared_of e) g)) ≡ by_entity d e s
 by_entity_agrees d (entity.Scalar t fixed) s =
     values_then t d.initial (own_scope s d.name (scalar t) m) (local_named s d.name (node.Scalar t fixed)) (own_agrees d.initial s d.name (scalar t) (node.Scalar t fixed) m refl)
     (rules_conclude d.place d.initial s t fixed d.name (node.Scalar t fixed)) (code_concludes d.place d.initial s t fixed d.name (scalar t) m)
@@ -293,6 +284,7 @@ by_entity_agrees d (entity.Array t fixed size) s =
   where
     m : Meaning
     m = array_meaning (length s.locals) t fixed
+
     l : Local
     l = sized t (code_initials.array_size size d.initial)
 by_entity_agrees d (entity.Function f) s =

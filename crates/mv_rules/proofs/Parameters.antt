@@ -1,10 +1,10 @@
 -- The parameters of functions that are defined agree.
-use Rattle.std.proofs.Common.{◌≡◌, ℕ, refl, sym, ◌∙◌, ap, Bool, true, false, if◌then◌else◌, Option, Some, None, List, [], ◌∷◌}
+use Rattle.std.proofs.Common.{◌≡◌, ℕ, refl, Bool, true, false, if◌then◌else◌, Option, Some, None, List, [], ◌∷◌}
 use Rattle.mv_ast.specs.declared.place.Place.{Place}
 use Rattle.mv_ast.specs.declared.unit.Param.{Param}
 use Rattle.mv_scope.specs.declared.scope.Scope.{Scope}
 use Rattle.mv_scope.specs.Conversions.{is_void}
-use Rattle.mv_judge.specs.Judged.{Judged, Good, Broken, and_then}
+use Rattle.mv_judge.specs.Judged.{Good, Broken}
 use Rattle.mv_declare.specs.declared.attributes.Position.TheVariants as position
 use Rattle.mv_declare.specs.declared.declarators.Entity.{Entity}
 use Rattle.mv_declare.specs.declared.declarators.Entity.TheVariants as entity
@@ -34,6 +34,7 @@ defined_concluded place (Some name) (entity.Scalar t fixed) s = by (stands_here 
   where
     found : Scope
     found = defined_parameter (Some name) (node.Scalar t fixed) s
+
     by : (taken void : Bool) → unless_broken place (first_broken ((2, taken) ∷ (8, void) ∷ [])) found ≡
         (if taken then Broken place 2 else if void then Broken place 8 else Good found)
     by true void = refl

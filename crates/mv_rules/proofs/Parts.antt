@@ -1,12 +1,25 @@
 -- Judgements on parts in their order agree where those on each part do.
-use Rattle.std.proofs.Common.{◌≡◌, ℕ, refl, sym, ◌∙◌, ap, Bool, true, false, if◌then◌else◌, Option, Some, None, List, [], ◌∷◌, ◌++◌, map}
+use Rattle.std.proofs.Common.{◌≡◌, ℕ, refl, sym, ◌∙◌, ap, Bool, true, false, ◌||◌, if◌then◌else◌, List, [], ◌∷◌, ◌++◌, map}
 use Rattle.mv_ast.specs.declared.place.Place.{Place}
 use Rattle.mv_scope.specs.declared.scope.Scope.{Scope}
 use Rattle.mv_judge.specs.Judged.{Judged, Good, Broken, and_then}
-use Rattle.mv_declare.specs.Turns.{Behind, through, next_part, in_turn}
+use Rattle.mv_declare.specs.Turns.{through, next_part, in_turn}
 use Rattle.mv_rules.specs.Rules.{first_broken, unless_broken}
 use Rattle.mv_rules.specs.Declarations.{Found, in_order, found_next}
 use Rattle.mv_rules.proofs.Agreement.{mapped}
+
+pub or_true : (b : Bool) → true ≡ b || true
+or_true true = refl
+or_true false = refl
+
+pub or_false : (b : Bool) → b ≡ b || false
+or_false true = refl
+or_false false = refl
+
+-- what holds of what is found, if it is
+abbrev pub IfGood : {A : Type 0} → (A → Type 0) → Judged A → Type 0
+IfGood P (Good a) = P a
+IfGood P (Broken place rule) = Unit {0}
 
 -- ---- a part and what follows it
 

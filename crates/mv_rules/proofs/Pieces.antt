@@ -1,12 +1,13 @@
 -- The arms of a `switch` that pieces make are those that are made one piece after the other.
-use Rattle.std.proofs.Common.{◌≡◌, ℕ, refl, sym, ◌∙◌, ap, Bool, true, false, ◌||◌, if◌then◌else◌, List, [], ◌∷◌, ◌++◌}
+use Rattle.std.proofs.Common.{◌≡◌, refl, sym, ◌∙◌, ap, Bool, true, false, ◌||◌, if◌then◌else◌, List, [], ◌∷◌, ◌++◌}
 use Rattle.std.proofs.lemmas.List.{append_assoc, append-nil}
 use Rattle.mv_ast.specs.declared.program.Arm.{Arm}
 use Rattle.mv_ast.specs.declared.program.Stmt.{Stmt}
 use Rattle.mv_statement_rules.specs.declared.arms.Arms.{Arms}
-use Rattle.mv_statement_rules.specs.SwitchBodies.{no_arm, no_arms, has_statements, at_label, labelled, labelled_other, with_case, with_default, with_statement, arms_of}
+use Rattle.mv_statement_rules.specs.SwitchBodies.{no_arm, no_arms, has_statements, at_label, with_case, with_default, with_statement, arms_of}
 use Rattle.mv_rules.specs.Rules.{is_empty}
 use Rattle.mv_rules.specs.Statements.{Piece, Labelled, Otherwise, Statement, labels, has_default, arms, arms_behind, labelled_behind, with_label, with_other}
+use Rattle.mv_rules.proofs.Parts.{or_true, or_false}
 
 -- the arms with one more piece
 abbrev pub with_piece : Piece → Arms → Arms
@@ -55,14 +56,6 @@ labels_gather (Statement s ∷ ps) a = labels_gather ps (with_statement s a)
 pub labels_agree : (ps : List Piece) → (gathered ps).labels ≡ labels ps
 labels_agree ps = labels_gather ps no_arms
 
-or_false : (b : Bool) → b ≡ (b || false)
-or_false true = refl
-or_false false = refl
-
-or_true : (b : Bool) → true ≡ (b || true)
-or_true true = refl
-or_true false = refl
-
 other_gather : (ps : List Piece) (a : Arms) → (gather ps a).other ≡ (a.other || has_default ps)
 other_gather [] a = or_false a.other
 other_gather (Labelled v ∷ ps) a = other_gather ps (with_case v a) ∙ ap (λ b. b || has_default ps) (other_kept a)
@@ -80,7 +73,7 @@ label_agrees a label ps = by a.last.body
   where
     by : (ss : List Stmt) →
         (if has_statements ss then record a { done = a.done ++ a.last ∷ []; last = no_arm } else a).done ++
-            arms_behind (label (if has_statements ss then record a { done = a.done ++ a.last ∷ []; last = no_arm } else a).last) ps ≡
+        arms_behind (label (if has_statements ss then record a { done = a.done ++ a.last ∷ []; last = no_arm } else a).last) ps ≡
         a.done ++ (if is_empty ss then arms_behind (label a.last) ps else a.last ∷ arms_behind (label no_arm) ps)
     by [] = refl
     by (s ∷ ss) = append_assoc a.done (a.last ∷ []) (arms_behind (label no_arm) ps)

@@ -1,5 +1,5 @@
 -- What declarators declare agrees, by induction over them.
-use Rattle.std.proofs.Common.{◌≡◌, ℕ, refl, sym, ◌∙◌, ap, subst, Bool, true, false, ◌||◌, ◌&&◌, not, is_some, is_none, if◌then◌else◌, Option, Some, None, List, [], ◌∷◌, ◌++◌, map}
+use Rattle.std.proofs.Common.{◌≡◌, ℕ, refl, sym, ◌∙◌, ap, subst, Bool, true, false, if◌then◌else◌, Option, Some, None, List, [], ◌∷◌, ◌++◌, map}
 use Rattle.mv_ast.specs.declared.place.Place.{Place}
 use Rattle.mv_ast.specs.declared.program.CType.{CType}
 use Rattle.mv_ast.specs.declared.unit.Declarator.{Declarator, Declarator-F, roll-Declarator, map-Declarator, fold-Declarator, fold-roll-Declarator}
@@ -17,12 +17,11 @@ use Rattle.mv_declare.specs.declared.declarators.Entity.TheVariants as entity
 use Rattle.mv_declare.specs.declared.specifiers.Specified.{Specified}
 use Rattle.mv_declare.specs.Declarators.{is_taken_by, new_parameter, parameter_of, size_of}
 use Rattle.mv_declare.specs.Declarators as code
-use Rattle.mv_declare.specs.Specifiers as code_specifiers
-use Rattle.mv_declare.specs.Turns.{Behind, through, next_part, in_turn}
+use Rattle.mv_declare.specs.Turns.{Behind, next_part, in_turn}
 use Rattle.mv_rules.specs.Nodes.{Declared, Bearer}
 use Rattle.mv_rules.specs.Nodes as node
 use Rattle.mv_rules.specs.Rules.{stands_here, first_broken, unless_broken, concluded}
-use Rattle.mv_rules.specs.Declarations.{Found, in_order, found_next, Base, specifiers, Shapes, Declarators, Params, written_size, parameter_types, function_type, shape_step, type_or_void, parameter_declared, declarator_step, param_step, declared_as}
+use Rattle.mv_rules.specs.Declarations.{Found, in_order, found_next, Shapes, Declarators, Params, written_size, parameter_types, function_type, shape_step, type_or_void, parameter_declared, declarator_step, param_step, declared_as}
 use Rattle.mv_rules.proofs.Agreement.{mapped, over, attribution_of, declared_of, base_of_specified, DeclaredAgrees}
 use Rattle.mv_rules.proofs.Parts.{then_same, then_to, then_from}
 use Rattle.mv_rules.proofs.Attributes.{constant_agrees, attributes_agree}
@@ -59,6 +58,7 @@ parameter_concluded place None (entity.Scalar t fixed) s = by (is_void t)
   where
     found : Scope × CType
     found = (s, t)
+
     by : (b : Bool) → unless_broken place (first_broken ((8, b) ∷ [])) found ≡ (if b then Broken place 8 else Good found)
     by true = refl
     by false = refl
@@ -68,6 +68,7 @@ parameter_concluded place (Some name) (entity.Scalar t fixed) s = by (stands_her
   where
     found : Scope × CType
     found = (parameter_declared (Some name) (node.Scalar t fixed) s, t)
+
     by : (taken void : Bool) → unless_broken place (first_broken ((2, taken) ∷ (8, void) ∷ [])) found ≡
         (if taken then Broken place 2 else if void then Broken place 8 else Good found)
     by true void = refl
@@ -77,6 +78,7 @@ parameter_concluded place (Some name) (entity.Array t fixed size) s = by (stands
   where
     found : Scope × CType
     found = (parameter_declared (Some name) (node.Array t fixed size) s, t)
+
     by : (taken : Bool) → unless_broken place (first_broken ((2, taken) ∷ (22, true) ∷ [])) found ≡
         (if taken then Broken place 2 else Broken place 22)
     by true = refl
@@ -85,6 +87,7 @@ parameter_concluded place (Some name) (entity.Function f) s = by (stands_here s 
   where
     found : Scope × CType
     found = (parameter_declared (Some name) (node.Function f) s, type_or_void (node.Function f))
+
     by : (taken : Bool) → unless_broken place (first_broken ((2, taken) ∷ (22, true) ∷ [])) found ≡
         (if taken then Broken place 2 else Broken place 22)
     by true = refl
@@ -130,7 +133,7 @@ types_in_order (p ∷ ps) d =
 type_then : {B C : Type 0} (g : B → C) (t : CType) (ps : List P) (s : Scope) (next : Scope × ℕ → Judged C) (rest : Scope × ℕ → Judged B) →
     ((f : Scope × ℕ) → next f ≡ mapped g (rest f)) →
     and_then (parameter_types (map param_found (map (λ (p : P). p.0) ps)) s) (λ d. next (function_type t d)) ≡
-        mapped g (and_then (code.function_type t (map code.parameter (map (λ (p : P). p.0) ps)) s) rest)
+    mapped g (and_then (code.function_type t (map code.parameter (map (λ (p : P). p.0) ps)) s) rest)
 type_then g t ps s next rest h =
     then_to g _ (λ d. rest (function_type t d)) (λ d. h (function_type t d)) _ (in_turn (map code.parameter (map (λ (p : P). p.0) ps)) (block_entered s, []))
     (types_in_order ps (block_entered s, [])) ∙

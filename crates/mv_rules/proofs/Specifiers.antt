@@ -1,26 +1,24 @@
 -- Specifiers agree: enums and attributes in the order of the text.
-use Rattle.std.proofs.Common.{◌≡◌, ℕ, suc, ◌+◌, refl, sym, ◌∙◌, ap, arith, Bool, true, false, ◌||◌, ◌&&◌, not, if◌then◌else◌, Option, Some, None, List, [], ◌∷◌, ◌++◌, map, length, take, drop}
+use Rattle.std.proofs.Common.{◌≡◌, ℕ, suc, ◌+◌, refl, sym, ◌∙◌, ap, arith, Bool, true, false, ◌||◌, if◌then◌else◌, Option, Some, None, List, [], ◌∷◌, ◌++◌, map, take, drop}
 use Rattle.std.specs.List.{list_any}
 use Rattle.std.proofs.lemmas.List.{drop-drop}
 use Rattle.mv_num.specs.declared.kind.Kind.{Kind}
-use Rattle.mv_ast.specs.declared.place.Place.{Place}
 use Rattle.mv_ast.specs.declared.unit.EnumSpec.{EnumSpec, out-EnumSpec}
 use Rattle.mv_ast.specs.declared.unit.Mark.{Mark, out-Mark}
-use Rattle.mv_ast.specs.declared.unit.Member.{Member, out-Member}
+use Rattle.mv_ast.specs.declared.unit.Member.{Member}
 use Rattle.mv_scope.specs.declared.scope.Scope.{Scope}
 use Rattle.mv_judge.specs.Judged.{Judged, Good, Broken, and_then}
 use Rattle.mv_judge.specs.TypeNames.{undeclared_enum}
 use Rattle.mv_declare.specs.declared.attributes.Attribute.{Attribute}
-use Rattle.mv_declare.specs.declared.attributes.Holder.{Holder}
 use Rattle.mv_declare.specs.declared.specifiers.Enumeration as said
 use Rattle.mv_declare.specs.declared.specifiers.Said.{Said}
 use Rattle.mv_declare.specs.Attributes as code
 use Rattle.mv_declare.specs.Specifiers.{count_before_list, count_before, enum_specifier}
 use Rattle.mv_declare.specs.Specifiers as specifiers
-use Rattle.mv_declare.specs.Turns.{Behind, through}
+use Rattle.mv_declare.specs.Turns.{through}
 use Rattle.mv_rules.specs.Nodes.{Bearer, Enumeration}
 use Rattle.mv_rules.specs.Rules.{is_again, is_undeclared}
-use Rattle.mv_rules.specs.Declarations.{Found, in_order, Attribution, attribute, attributes, Specifier, Enum, Attribute as Marked, is_before_list, stands_before, specifiers_in_order, Specified, specifier, enumeration, number_of_enumeration, last_number}
+use Rattle.mv_rules.specs.Declarations.{in_order, Attribution, attribute, attributes, Specifier, Enum, Attribute as Marked, is_before_list, stands_before, specifiers_in_order, Specified, specifier, enumeration, number_of_enumeration, last_number}
 use Rattle.mv_rules.proofs.Agreement.{mapped, attribution_of, holder}
 use Rattle.mv_rules.proofs.Parts.{then_same, then_to, then_then, in_order_append}
 use Rattle.mv_rules.proofs.Attributes.{attributes_agree}
@@ -72,8 +70,10 @@ in_text e es (m ∷ ms) = by (stands_before m e) (in_text e es ms) ∙ ap (split
   where
     count : ℕ
     count = count_before_list (out-EnumSpec e).members ms
+
     more : suc count ≡ 1 + count
     more = omega arith
+
     by : (b : Bool) → specifiers_in_order (e ∷ es) ms ≡ split_at e es ms count → (if b then Marked m ∷ specifiers_in_order (e ∷ es) ms else Enum e ∷ specifiers_in_order es (m ∷ ms)) ≡
         split_at e es (m ∷ ms) (if b then 1 + count else 0)
     by true h = ap (λ rest. Marked m ∷ rest) h ∙ ap (split_at e es (m ∷ ms)) more
@@ -131,13 +131,16 @@ module _ {B C D E : Type 0} (x : B → C) (next : C → Judged D) (last : D → 
 module _ (bs : List Bearer) (k : Option Kind) (marks : List Mark) {R : Type 0} (end : Scope → (number : Option ℕ) → (again undeclared : Bool) → Option Attribute → Judged R) where
   -- what the code has seen where the rules have seen this, and so many of the attributes
   abbrev seen : ℕ → Specified → Scope × Said
-  seen used y = (y.scope, record {
-    used = used;
-    attribute = attribute_of y.attribute;
-    number = last_number y.enums;
-    again = list_any is_again y.enums;
-    undeclared = list_any is_undeclared y.enums;
-  })
+  seen used y = (
+    y.scope,
+    record {
+      used = used;
+      attribute = attribute_of y.attribute;
+      number = last_number y.enums;
+      again = list_any is_again y.enums;
+      undeclared = list_any is_undeclared y.enums;
+    },
+  )
 
   abbrev code_end : Scope × Said → Judged R
   code_end x = and_then (code.attributes (holder bs) k x.0 (drop x.1.used marks) x.1.attribute) (λ a. end x.0 x.1.number x.1.again x.1.undeclared a)
@@ -148,21 +151,26 @@ module _ (bs : List Bearer) (k : Option Kind) (marks : List Mark) {R : Type 0} (
   abbrev with_enum : Specified → Option Attribution → Scope × Enumeration → Specified
   with_enum y a d = record { scope = d.0; enums = y.enums ++ d.1 ∷ []; attribute = a }
 
-  seen_more : (used : ℕ) (y : Specified) (a : Option Attribution) (d : Scope × Enumeration) →
-      (d.0, record {
-        used = used;
-        attribute = attribute_of a;
-        number = number_of_enumeration d.1;
-        again = list_any is_again y.enums || is_again d.1;
-        undeclared = list_any is_undeclared y.enums || is_undeclared d.1;
-      }) ≡ seen used (with_enum y a d)
-  seen_more used y a d = λ i. (d.0, record {
-    used = used;
-    attribute = attribute_of a;
-    number = sym (last_more y.enums d.1) i;
-    again = sym (any_more is_again y.enums d.1) i;
-    undeclared = sym (any_more is_undeclared y.enums d.1) i;
-  })
+  seen_more : (used : ℕ) (y : Specified) (a : Option Attribution) (d : Scope × Enumeration) → (
+    d.0,
+    record {
+      used = used;
+      attribute = attribute_of a;
+      number = number_of_enumeration d.1;
+      again = list_any is_again y.enums || is_again d.1;
+      undeclared = list_any is_undeclared y.enums || is_undeclared d.1;
+    },
+  ) ≡ seen used (with_enum y a d)
+  seen_more used y a d = λ i. (
+    d.0,
+    record {
+      used = used;
+      attribute = attribute_of a;
+      number = sym (last_more y.enums d.1) i;
+      again = sym (any_more is_again y.enums d.1) i;
+      undeclared = sym (any_more is_undeclared y.enums d.1) i;
+    },
+  )
 
   -- no enum is left
   only_marks : (used : ℕ) (y : Specified) → code_end (seen used y) ≡ and_then (in_order (specifier bs k) (map Marked (drop used marks)) y) rules_end
@@ -173,23 +181,26 @@ module _ (bs : List Bearer) (k : Option Kind) (marks : List Mark) {R : Type 0} (
     where
       by : (j : Judged (Option Attribution)) →
           and_then (mapped attribute_of j) (λ a. end y.scope (last_number y.enums) (list_any is_again y.enums) (list_any is_undeclared y.enums) a) ≡
-              and_then (mapped (with_attribute bs k y) j) rules_end
+          and_then (mapped (with_attribute bs k y) j) rules_end
       by (Good a) = refl
       by (Broken place rule) = refl
 
   -- an enum, and the attributes before its list
   state_behind : Specified → ℕ → Option Attribute → Scope → said.Enumeration → Bool → Scope × Said
-  state_behind y used a s c undeclared = (s, record {
-    used = used;
-    attribute = a;
-    number = c.number;
-    again = list_any is_again y.enums || c.again;
-    undeclared = list_any is_undeclared y.enums || undeclared;
-  })
+  state_behind y used a s c undeclared = (
+    s,
+    record {
+      used = used;
+      attribute = a;
+      number = c.number;
+      again = list_any is_again y.enums || c.again;
+      undeclared = list_any is_undeclared y.enums || undeclared;
+    },
+  )
 
   pub in_order_of_text : (tags : List EnumSpec) (used : ℕ) (y : Specified) →
       and_then (through (enum_specifier (holder bs) k marks) tags (seen used y)) code_end ≡
-          and_then (in_order (specifier bs k) (specifiers_in_order tags (drop used marks)) y) rules_end
+      and_then (in_order (specifier bs k) (specifiers_in_order tags (drop used marks)) y) rules_end
   unfolding state_behind
   in_order_of_text [] used y = only_marks used y
   in_order_of_text (e ∷ tags) used y =
@@ -204,24 +215,30 @@ module _ (bs : List Bearer) (k : Option Kind) (marks : List Mark) {R : Type 0} (
     where
       rest : List Mark
       rest = drop used marks
+
       n : ℕ
       n = count_before_list (out-EnumSpec e).members rest
+
       later : List Specifier
       later = specifiers_in_order tags (drop n rest)
+
       behind : Option Attribute → Judged R
       behind a =
           and_then (specifiers.enumeration_of y.scope (out-EnumSpec e).tag (out-EnumSpec e).members) (λ d.
           and_then (through (enum_specifier (holder bs) k marks) tags (state_behind y (used + n) a d.0 d.1 (undeclared_enum y.scope e))) code_end)
+
       Later : Type 0
       Later = (used : ℕ) (y : Specified) → and_then (through (enum_specifier (holder bs) k marks) tags (seen used y)) code_end ≡
           and_then (in_order (specifier bs k) (specifiers_in_order tags (drop used marks)) y) rules_end
+
       one : (a : Option Attribution) → Later → (d : Scope × Enumeration) →
           and_then (through (enum_specifier (holder bs) k marks) tags (state_behind y (used + n) (attribute_of a) d.0 (said_of d.1) (is_undeclared d.1))) code_end ≡
-              and_then (in_order (specifier bs k) later (with_enum y a d)) rules_end
+          and_then (in_order (specifier bs k) later (with_enum y a d)) rules_end
       one a h d =
           ap (λ x. and_then (through (enum_specifier (holder bs) k marks) tags x) code_end) (seen_more (used + n) y a d) ∙
           (h (used + n) (with_enum y a d) ∙
           ap (λ ms. and_then (in_order (specifier bs k) (specifiers_in_order tags ms) (with_enum y a d)) rules_end) (sym (drop-drop n used marks)))
+
       by : (j : Judged (Option Attribution)) → Later → and_then (mapped attribute_of j) behind ≡
           and_then (and_then (mapped (with_attribute bs k y) j) (in_order (specifier bs k) (Enum e ∷ later))) rules_end
       by (Good a) h =

@@ -1,5 +1,5 @@
 -- Statements agree, by induction over the lines of a body.
-use Rattle.std.proofs.Common.{◌≡◌, ℕ, refl, sym, ◌∙◌, ap, subst, Bool, true, false, ◌||◌, ◌&&◌, not, if◌then◌else◌, Option, Some, None, List, [], ◌∷◌, ◌++◌, map}
+use Rattle.std.proofs.Common.{◌≡◌, ℕ, refl, sym, ◌∙◌, ap, subst, Bool, true, false, ◌&&◌, not, if◌then◌else◌, Option, Some, None, List, [], ◌∷◌, ◌++◌, map}
 use Rattle.mv_ast.specs.declared.place.Place.{Place}
 use Rattle.mv_ast.specs.declared.program.CType.{CType}
 use Rattle.mv_ast.specs.declared.program.Expr.{Expr}
@@ -14,7 +14,7 @@ use Rattle.mv_ast.specs.Plans.{is_among}
 use Rattle.mv_scope.specs.declared.scope.Scope.{Scope}
 use Rattle.mv_scope.specs.Constants.{converts}
 use Rattle.mv_scope.specs.Conversions.{is_integer, is_void, promotion, promoted, converted_to}
-use Rattle.mv_scope.specs.Scoped.{block_entered, block_left}
+use Rattle.mv_scope.specs.Scoped.{block_entered}
 use Rattle.mv_judge.specs.declared.constant.Constant.{Constant}
 use Rattle.mv_judge.specs.Judged.{Judged, Good, Broken, and_then}
 use Rattle.mv_judge.specs.Judgements.{value_judgement, effect_judgement}
@@ -24,13 +24,13 @@ use Rattle.mv_statement_rules.specs.declared.arms.Arms.{Arms}
 use Rattle.mv_statement_rules.specs.Statements.{returned, switched, switch_of}
 use Rattle.mv_statement_rules.specs.Statements as code
 use Rattle.mv_statement_rules.specs.Surroundings.{in_function, in_loop, in_switch}
-use Rattle.mv_statement_rules.specs.SwitchBodies.{arms_of, case_label, default_label, converts_constant, with_case, with_default, with_statement}
+use Rattle.mv_statement_rules.specs.SwitchBodies.{arms_of, case_label, default_label, converts_constant, with_case, with_default}
 use Rattle.mv_rules.specs.Nodes as node
 use Rattle.mv_rules.specs.Rules.{first_broken, unless_broken, concluded}
-use Rattle.mv_rules.specs.Declarations.{Found, constant}
-use Rattle.mv_rules.specs.Statements.{Surroundings, function_around, loop_around, switch_around, Piece, Labelled, Otherwise, Statement, labels, has_default, arms, Judges, Layer, lines, pieces, optional, alone, alone_if_any, first_clause, is_block, arms_if_any, for_behind, statement_of, line_of, piece_of, switch_body_of, function_body_of, act_step, line_step, judges, convert_result, express}
+use Rattle.mv_rules.specs.Declarations.{Found}
+use Rattle.mv_rules.specs.Statements.{Surroundings, Piece, Labelled, Otherwise, Statement, labels, has_default, arms, Judges, Layer, lines, pieces, optional, alone, is_block, arms_if_any, for_behind, statement_of, line_of, piece_of, switch_body_of, function_body_of, act_step, line_step, judges}
 use Rattle.mv_rules.proofs.Agreement.{mapped, over, BodyAgrees}
-use Rattle.mv_rules.proofs.Parts.{then_same, then_mapped, then_to, then_from, then_then, one_rule}
+use Rattle.mv_rules.proofs.Parts.{then_same, then_mapped, then_to, then_from, then_then}
 use Rattle.mv_rules.proofs.Attributes.{constant_agrees}
 use Rattle.mv_rules.proofs.Locals.{local_declaration_agrees}
 use Rattle.mv_rules.proofs.Pieces.{gathered, gathered_more, labels_agree, other_agrees, arms_agree}
@@ -60,14 +60,16 @@ module _ {A : Type 0} (place : Place) (found : A) where
 
 switch_concluded : (place : Place) (e : Expr) (s : Scope) (body : Option (List Piece)) →
     and_then {B = Scope × Stmt} (switched place e (if_block body)) (λ r. Good (s, r)) ≡
-        concluded place s (node.Switch e.ctype (is_block body)) (s, stmt.Switch (promoted e) (arms_if_any body))
+    concluded place s (node.Switch e.ctype (is_block body)) (s, stmt.Switch (promoted e) (arms_if_any body))
 unfolding switched
 switch_concluded place e s None = by (is_integer e.ctype)
   where
     found : Scope × Stmt
     found = (s, stmt.Switch (promoted e) [])
+
     left : Stmt → Behind Stmt
     left r = Good (s, r)
+
     by : (b : Bool) → and_then (if not b then Broken place 3 else Broken place 11) left ≡ unless_broken place (first_broken ((3, not b) ∷ (11, true) ∷ [])) found
     by true = refl
     by false = refl
@@ -75,8 +77,10 @@ switch_concluded place e s (Some ps) = by (is_integer e.ctype)
   where
     found : Scope × Stmt
     found = (s, stmt.Switch (promoted e) (arms ps))
+
     left : Stmt → Behind Stmt
     left r = Good (s, r)
+
     by : (b : Bool) → and_then (if not b then Broken place 3 else Good (stmt.Switch (promoted e) (arms_of (gathered ps)))) left ≡
         unless_broken place (first_broken ((3, not b) ∷ [])) found
     by true = ap (λ found. Good (s, stmt.Switch (promoted e) found)) (arms_agree ps)
@@ -89,8 +93,10 @@ return_concluded place t s e = by (is_void t) (converts e t)
   where
     found : Scope × Stmt
     found = (s, stmt.Return (Some (converted_to t e)))
+
     left : Stmt → Behind Stmt
     left r = Good (s, r)
+
     by : (void fits : Bool) → unless_broken place (first_broken ((5, not void && not fits) ∷ (13, void) ∷ [])) found ≡
         and_then (if void then Broken place 13 else if not fits then Broken place 5 else Good (stmt.Return (Some (converted_to t e)))) left
     by true fits = refl
@@ -101,7 +107,7 @@ return_concluded place t s e = by (is_void t) (converts e t)
 
 case_concluded : (place : Place) (t : CType) (s : Scope) (ps : List Piece) (c : Constant) →
     and_then (case_label place t c (gathered ps)) (λ a. Good (s, a)) ≡
-        mapped (over gathered) (concluded place s (node.Case t (labels ps) c) (s, ps ++ Labelled (converted t c.value) ∷ []))
+    mapped (over gathered) (concluded place s (node.Case t (labels ps) c) (s, ps ++ Labelled (converted t c.value) ∷ []))
 unfolding case_label
 case_concluded place t s ps c =
     ap (λ among. and_then (choice (converts_constant c t) among) left) (ap (is_among v) (labels_agree ps)) ∙
@@ -109,12 +115,16 @@ case_concluded place t s ps c =
   where
     v : ℕ
     v = converted t c.value
+
     left : Arms → Behind Arms
     left a = Good (s, a)
+
     choice : (converts among : Bool) → Judged Arms
     choice converts among = if not converts then Broken place 5 else if among then Broken place 11 else Good (with_case v (gathered ps))
+
     found : Scope × List Piece
     found = (s, ps ++ Labelled v ∷ [])
+
     by : (converts among : Bool) → and_then (choice converts among) left ≡
         mapped (over gathered) (unless_broken place (first_broken ((5, not converts) ∷ (11, among) ∷ [])) found)
     by true true = refl
@@ -123,16 +133,19 @@ case_concluded place t s ps c =
 
 default_concluded : (place : Place) (s : Scope) (ps : List Piece) →
     and_then (default_label place (gathered ps)) (λ a. Good (s, a)) ≡
-        mapped (over gathered) (concluded place s (node.Default (has_default ps)) (s, ps ++ Otherwise ∷ []))
+    mapped (over gathered) (concluded place s (node.Default (has_default ps)) (s, ps ++ Otherwise ∷ []))
 unfolding default_label
 default_concluded place s ps = ap (λ other. and_then (choice other) left) (other_agrees ps) ∙ by (has_default ps)
   where
     left : Arms → Behind Arms
     left a = Good (s, a)
+
     choice : Bool → Judged Arms
     choice other = if other then Broken place 11 else Good (with_default (gathered ps))
+
     found : Scope × List Piece
     found = (s, ps ++ Otherwise ∷ [])
+
     by : (other : Bool) → and_then (choice other) left ≡ mapped (over gathered) (unless_broken place (first_broken ((11, other) ∷ [])) found)
     by true = refl
     by false = ap (λ a. Good (s, a)) (sym (gathered_more ps Otherwise))
@@ -219,6 +232,7 @@ statement_agrees (act.Return None) place a s = by (is_void a.returns)
   where
     found : Scope × Stmt
     found = (s, stmt.Return None)
+
     by : (void : Bool) → unless_broken place (first_broken ((13, not void) ∷ [])) found ≡ (if void then Good found else Broken place 13)
     by true = refl
     by false = refl

@@ -1,5 +1,5 @@
 -- Enums keep the tags that are declared, and what is declared before an enum is declared behind all specifiers.
-use Rattle.std.proofs.Common.{◌≡◌, ℕ, refl, sym, ◌∙◌, ap, Bool, true, false, ◌||◌, ◌&&◌, is_some, is_none, unwrap_or, if◌then◌else◌, Option, Some, None, List, [], ◌∷◌, ◌++◌, length, map}
+use Rattle.std.proofs.Common.{◌≡◌, ℕ, refl, sym, ◌∙◌, ap, Bool, true, false, ◌||◌, is_some, is_none, unwrap_or, if◌then◌else◌, Option, Some, None, List, [], ◌∷◌, ◌++◌, length, map}
 use Rattle.std.specs.List.{list_any}
 use Rattle.std.specs.Cmp.Lexicographic.{pointwise}
 use Rattle.std.specs.Prelude.{nat_eq}
@@ -20,16 +20,13 @@ use Rattle.mv_judge.specs.TypeNames as names
 use Rattle.mv_rules.specs.Nodes.{Bearer, Enumeration, Again, Numbered}
 use Rattle.mv_rules.specs.Nodes as node
 use Rattle.mv_rules.specs.Rules.{is_undeclared, least_broken, unless_broken}
-use Rattle.mv_rules.specs.Declarations.{Found, in_order, enumerator, enumerator_value, Enumerators, with_enumerator, with_enumeration, new_enumeration, enumeration_named, enumeration_of, enumeration, Attribution, attribute, Specifier, Enum, Attribute as Marked, stands_before, specifiers_in_order, Specified, specifier}
+use Rattle.mv_rules.specs.Declarations.{in_order, enumerator, enumerator_value, Enumerators, with_enumerator, with_enumeration, new_enumeration, enumeration_named, enumeration_of, enumeration, Attribution, attribute, Specifier, Enum, Attribute as Marked, stands_before, specifiers_in_order, Specified, specifier}
+use Rattle.mv_rules.proofs.Parts.{IfGood}
 use Rattle.mv_rules.proofs.Specifiers.{any_more}
 
 -- ---- what holds of what is found, if it is
 
 module _ {A : Type 0} where
-  abbrev pub IfGood : (A → Type 0) → Judged A → Type 0
-  IfGood P (Good a) = P a
-  IfGood P (Broken place rule) = Unit {0}
-
   pub if_any : (j : Judged A) → IfGood (λ a. Unit {0}) j
   if_any (Good a) = tt
   if_any (Broken place rule) = tt
@@ -112,6 +109,7 @@ new_leaves (Some tag) members s e q = by (is_some (named tag e.scope.tags.here))
   where
     fresh : Scope
     fresh = tag_declared (with_enumeration e.scope e.values) tag (meaning.Tag (length e.scope.enumerations))
+
     by : (b : Bool) → Leaves (Some tag) (Some members) s (if b then (e.scope, Again) else (fresh, Numbered (Some (length e.scope.enumerations))))
     by true = (grows_same s e.scope q, refl)
     by false = (λ t h. grows_same s e.scope q t (grows_tagged (with_enumeration e.scope e.values) tag (meaning.Tag (length e.scope.enumerations)) t h), refl)
@@ -177,14 +175,16 @@ module _ (bs : List Bearer) (k : Option Kind) where
     where
       joined : (d : Scope × Enumeration) → Leaves (out-EnumSpec e).tag (out-EnumSpec e).members y.scope d → (z : Specified) →
           Ends (enums_in l) (record { scope = d.0; enums = y.enums ++ d.1 ∷ []; attribute = y.attribute }) z → Ends (e ∷ enums_in l) y z
-      joined d p z q = (λ t h. p.0 t (q.0 t h), λ h.
-          let more = sym (any_more is_undeclared y.enums d.1) ∙ (q.1 h).0 in
-          (
-            first_false (list_any is_undeclared y.enums) (is_undeclared d.1) more,
-            both_false (undeclared_enum z.scope e) (any_is (map (undeclared_enum z.scope) (enums_in l)))
-            (enum_grows (out-EnumSpec e).tag (is_none (out-EnumSpec e).members) y.scope z.scope (λ t g. p.0 t (q.0 t g))
-            (p.1 ∙ second_false (list_any is_undeclared y.enums) (is_undeclared d.1) more)) (q.1 h).1,
-          ))
+      joined d p z q = (
+        λ t h. p.0 t (q.0 t h),
+        λ h.
+            let more = sym (any_more is_undeclared y.enums d.1) ∙ (q.1 h).0 in (
+              first_false (list_any is_undeclared y.enums) (is_undeclared d.1) more,
+              both_false (undeclared_enum z.scope e) (any_is (map (undeclared_enum z.scope) (enums_in l)))
+                  (enum_grows (out-EnumSpec e).tag (is_none (out-EnumSpec e).members) y.scope z.scope (λ t g. p.0 t (q.0 t g))
+                  (p.1 ∙ second_false (list_any is_undeclared y.enums) (is_undeclared d.1) more)) (q.1 h).1,
+            ),
+      )
 
   enums_alone : (es : List EnumSpec) → enums_in (map Enum es) ≡ es
   enums_alone [] = refl

@@ -1,9 +1,7 @@
 -- What the parts of declarations are found to be, in the order of the text, and in which scope each is judged (C11 6.7).
-use Rattle.std.specs.Prelude.{ℕ, ◌+◌, Bool, true, false, ◌&&◌, ◌||◌, not, nat_eq, nat_lt, is_some, unwrap_or, if◌then◌else◌, List, [], ◌∷◌, ◌++◌, map, length, Option, Some, None, codes}
+use Rattle.std.specs.Prelude.{ℕ, Bool, true, false, ◌&&◌, ◌||◌, not, nat_eq, nat_lt, is_some, unwrap_or, if◌then◌else◌, List, [], ◌∷◌, ◌++◌, map, length, Option, Some, None}
 use Rattle.std.specs.List.{list_any}
 use Rattle.mv_num.specs.declared.kind.Kind.{Kind}
-use Rattle.mv_num.specs.declared.kind.Kind.TheVariants as kind
-use Rattle.mv_num.specs.Words.{add}
 use Rattle.mv_ast.specs.declared.place.Place.{Place}
 use Rattle.mv_ast.specs.declared.program.CType.{CType}
 use Rattle.mv_ast.specs.declared.program.CType.TheVariants as ctype
@@ -12,15 +10,15 @@ use Rattle.mv_ast.specs.declared.program.Local.{Local}
 use Rattle.mv_ast.specs.declared.program.Signature.{Signature}
 use Rattle.mv_ast.specs.declared.program.Stmt.{Stmt}
 use Rattle.mv_ast.specs.declared.program.Stmt.TheVariants as stmt
-use Rattle.mv_ast.specs.declared.unit.Declarator.{Declarator, Declarator-F, fold-Declarator}
+use Rattle.mv_ast.specs.declared.unit.Declarator.{Declarator, Declarator-F}
 use Rattle.mv_ast.specs.declared.unit.EnumSpec.{EnumSpec, out-EnumSpec}
 use Rattle.mv_ast.specs.declared.unit.Initial.{Initial}
 use Rattle.mv_ast.specs.declared.unit.Initial.TheVariants as initial
 use Rattle.mv_ast.specs.declared.unit.Mark.{Mark, out-Mark}
 use Rattle.mv_ast.specs.declared.unit.Member.{Member, out-Member}
 use Rattle.mv_ast.specs.declared.unit.Node.{Node}
-use Rattle.mv_ast.specs.declared.unit.Param.{Param, Param-F, fold-Param}
-use Rattle.mv_ast.specs.declared.unit.Shape.{Shape, Shape-F, fold-Shape, out-Shape}
+use Rattle.mv_ast.specs.declared.unit.Param.{Param, Param-F}
+use Rattle.mv_ast.specs.declared.unit.Shape.{Shape, Shape-F, fold-Shape}
 use Rattle.mv_ast.specs.declared.unit.Shape.TheOpen as shape
 use Rattle.mv_ast.specs.declared.unit.Specs.{Specs, out-Specs}
 use Rattle.mv_scope.specs.declared.meaning.Meaning.{Meaning}
@@ -29,7 +27,6 @@ use Rattle.mv_scope.specs.declared.meaning.Storage.TheVariants as storage
 use Rattle.mv_scope.specs.declared.scope.Scope.{Scope}
 use Rattle.mv_scope.specs.Constants.{constant_value}
 use Rattle.mv_scope.specs.Conversions.{converted_to}
-use Rattle.mv_scope.specs.Known.{is_named}
 use Rattle.mv_scope.specs.Scoped.{block_entered, block_left, declared, tag_of, tag_declared, with_local}
 use Rattle.mv_scope.specs.Signatures.{place_of, with_signature}
 use Rattle.mv_scope.specs.Spaces.{named}
@@ -133,11 +130,11 @@ enumeration e scope = let f = out-EnumSpec e in enumeration_of f.tag f.members s
 abbrev pub Attribution : Type 0
 Attribution = Option (List ℕ)
 
--- the type of the switches that an attribute makes, if it stands on such alone
 abbrev pub is_switch : Bearer → Bool
 is_switch node.Switch = true
 is_switch _ = false
 
+-- the type of the switches that an attribute makes, if it stands on such alone
 abbrev pub switch_kind : List Bearer → Option Kind → Option Kind
 switch_kind [] k = None
 switch_kind (b ∷ bs) k = if list_any (λ x. not (is_switch x)) (b ∷ bs) then None else k
@@ -234,13 +231,15 @@ abbrev pub kind_named : Scope → Specs → Option Kind
 kind_named scope specs = kind_if_good (names.type_of scope specs)
 
 abbrev pub base_of : Specs → Specified → Scope × Base
-base_of specs x =
-    (x.scope, record {
-      ctype = unwrap_or (type_of_words specs) ctype.Void;
-      constant = (out-Specs specs).fixed;
-      enumeration = last_number x.enums;
-      attribute = x.attribute;
-    })
+base_of specs x = (
+  x.scope,
+  record {
+    ctype = unwrap_or (type_of_words specs) ctype.Void;
+    constant = (out-Specs specs).fixed;
+    enumeration = last_number x.enums;
+    attribute = x.attribute;
+  },
+)
 
 -- where `static` may not stand, it is misplaced
 abbrev pub specifiers : (local : Bool) → List Bearer → Specs → Scope → Found Base
@@ -372,7 +371,7 @@ abbrev pub named_unless : Bool → Scope → List ℕ → Option Meaning → Sco
 named_unless taken s name None = s
 named_unless taken s name (Some m) = if taken then s else declared s name m
 
--- the scope of a local's own initial value: its name means it
+-- the scope of a local's own initial value: a name that is new means the local
 abbrev pub local_named : Scope → Option (List ℕ) → Declared → Scope
 local_named s None d = s
 local_named s (Some name) d = named_unless (stands_here s name) s name (local_meaning s d)

@@ -1,6 +1,6 @@
 -- The rules of declarations and statements, in their order: each is a test on one node whose parts break none, in its scope. Rules that only expressions
 -- break (assignments, calls, indexes, switch assignments, plan arguments, placements) are those of expressions.
-use Rattle.std.specs.Prelude.{ℕ, ◌+◌, Bool, true, false, ◌&&◌, ◌||◌, not, nat_eq, nat_le, is_none, is_some, if◌then◌else◌, List, [], ◌∷◌, map, length, Option, Some, None, slice_get}
+use Rattle.std.specs.Prelude.{ℕ, ◌+◌, Bool, true, false, ◌&&◌, ◌||◌, not, nat_eq, nat_le, is_none, is_some, if◌then◌else◌, List, [], ◌∷◌, length, Option, Some, None, slice_get}
 use Rattle.std.specs.List.{list_any}
 use Rattle.std.specs.Cmp.Lexicographic.{pointwise}
 use Rattle.mv_num.specs.declared.kind.Kind.TheVariants as kind
@@ -211,7 +211,7 @@ breaks_constants (node.Needed value) = is_none value
 breaks_constants _ = false
 
 -- extents: an array size is below 1 or missing without values, there are more values than elements, a scalar has a list, or a string initialises anything
--- other than a global array of a char type
+-- other than a global array of a char type (that a function has an initial value at all is against another rule)
 abbrev pub breaks_extents : Node → Bool
 breaks_extents (node.Local name d given) = is_object d && (is_string given || not (fits_extent d given))
 breaks_extents (node.Object name d given domain earlier block) = (is_string given && not (is_char_array d)) || not (fits_extent d given)

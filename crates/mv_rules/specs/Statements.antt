@@ -14,8 +14,7 @@ use Rattle.mv_ast.specs.Operators.{converted}
 use Rattle.mv_scope.specs.declared.scope.Scope.{Scope}
 use Rattle.mv_scope.specs.Conversions.{promotion, promoted, converted_to}
 use Rattle.mv_scope.specs.Scoped.{block_entered, block_left}
-use Rattle.mv_judge.specs.declared.constant.Constant.{Constant}
-use Rattle.mv_judge.specs.Judged.{Judged, Good, Broken, and_then}
+use Rattle.mv_judge.specs.Judged.{Judged, Good, and_then}
 use Rattle.mv_judge.specs.Judgements.{value_judgement, effect_judgement}
 use Rattle.mv_rules.specs.Nodes as node
 use Rattle.mv_rules.specs.Rules.{is_empty, concluded}
