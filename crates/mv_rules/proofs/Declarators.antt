@@ -43,14 +43,14 @@ use Rattle.mv_rules.specs.Nodes as node
 use Rattle.mv_rules.specs.Rules.{bears_none, is_empty, concluded}
 use Rattle.mv_rules.specs.Declarations.{Attribution, Base, attributes, is_switch, declared_as, given, scalar_kind}
 use Rattle.mv_rules.specs.Units.{Declarations, behind, is_constant_object, bearer_of_form, is_main, bearer, bearers, constant_expression, default_domain, domain, by_form, nameless, by_name, defined_parameters, declarator}
-use Rattle.mv_rules.proofs.Agreement.{mapped, over, attribution_of, declared_of, base_of_specified, holder, ParametersAgree}
+use Rattle.mv_rules.proofs.Agreement.{mapped, over, attribution_of, declared_of, base_of_specified, holder, ParametersAgree, BodyAgrees}
 use Rattle.mv_rules.proofs.Attributes.{attributes_agree}
 use Rattle.mv_rules.proofs.Bases.{holders_agree}
 use Rattle.mv_rules.proofs.Parts.{then_to}
 use Rattle.mv_rules.proofs.Shapes.{declared_agrees}
 use Rattle.mv_rules.proofs.Program.{contents_of}
 use Rattle.mv_rules.proofs.Values.{converted_of, initial_agrees, words_of, words_agree}
-use Rattle.mv_rules.proofs.Routines.{BodyAgrees, defined_parameters_agree, routine_agrees}
+use Rattle.mv_rules.proofs.Routines.{defined_parameters_agree, routine_agrees}
 use Rattle.mv_rules.proofs.Objects.{scalar_agrees, array_agrees}
 
 -- ---- what an attribute stands on
@@ -135,9 +135,10 @@ module _ (items : List Item) (fixed : Bool) where
           let x = barred_by_form (is_main d.name) fixed (is_constant_object items (name_of d)) (out-Shape d.shape) e in
           (ap (λ a. a || list_any bears_none (bearers items fixed ds)) x.0, ap (λ a. a || list_any (λ b. not (is_switch b)) (bearers items fixed ds)) x.1)
       by false e h rest =
-          let x = rest h in
-          (ap (λ a. bears_none (bearer (fixed || is_constant_object items (name_of d)) d) || a) x.0 ∙ or_true (bears_none (bearer (fixed || is_constant_object items (name_of d)) d)),
-          ap (λ a. not (is_switch (bearer (fixed || is_constant_object items (name_of d)) d)) || a) x.1 ∙ or_true (not (is_switch (bearer (fixed || is_constant_object items (name_of d)) d))))
+          let x = rest h in (
+            ap (λ a. bears_none (bearer (fixed || is_constant_object items (name_of d)) d) || a) x.0 ∙ or_true (bears_none (bearer (fixed || is_constant_object items (name_of d)) d)),
+            ap (λ a. not (is_switch (bearer (fixed || is_constant_object items (name_of d)) d)) || a) x.1 ∙ or_true (not (is_switch (bearer (fixed || is_constant_object items (name_of d)) d))),
+          )
 
   pub held_by_all : (ds : List Declarator) → code_attributes.holder_of_all position.File fixed (code.holders (foreknown items) ds) ≡ holder (bearers items fixed ds)
   held_by_all ds = by (list_any constant ds) refl

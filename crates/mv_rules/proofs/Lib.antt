@@ -16,3 +16,4 @@ pub mod Program
 pub mod Routines
 pub mod Objects
 pub mod Declarators
+pub mod Units

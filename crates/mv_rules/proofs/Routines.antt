@@ -26,7 +26,6 @@ use Rattle.mv_judge.specs.Judgements.{value_judgement}
 use Rattle.mv_declare.specs.declared.initials.Converted.{Converted}
 use Rattle.mv_declare.specs.Initials.{plain_values}
 use Rattle.mv_declare.specs.Parameters.{parameters_judgement}
-use Rattle.mv_statement_rules.specs.Statements.{body_judgement}
 use Rattle.mv_types.specs.declared.contents.Contents.{Contents}
 use Rattle.mv_types.specs.Contents.{in_scope}
 use Rattle.mv_types.specs.Foreknown.{foreknown}
@@ -36,15 +35,11 @@ use Rattle.mv_rules.specs.Nodes.{Given, Nothing, Value, Values, Characters}
 use Rattle.mv_rules.specs.Nodes as node
 use Rattle.mv_rules.specs.Rules.{is_prototype, allows_function, is_given, stands_here, meaning_here, concluded, unless_broken, first_broken}
 use Rattle.mv_rules.specs.Declarations.{given, parameters}
-use Rattle.mv_rules.specs.Statements.{body}
 use Rattle.mv_rules.specs.Units.{Declarations, behind, function_number, is_attributed, is_defined, is_defined_at, routine_named, params_of_form, params_of, function_entered, function_found, function_left, definition, defined_as, defined_if, defined_parameters, routine}
-use Rattle.mv_rules.proofs.Agreement.{mapped, ParametersAgree}
+use Rattle.mv_rules.proofs.Agreement.{mapped, ParametersAgree, BodyAgrees}
 use Rattle.mv_rules.proofs.Parts.{then_same, then_to}
 use Rattle.mv_rules.proofs.Program.{contents_of}
 use Rattle.mv_rules.proofs.Values.{IsOf, IfIsOf, given_is, converted_of, initial_agrees}
-
-abbrev pub BodyAgrees : Type 0
-BodyAgrees = (t : CType) (b : Line) (s : Scope) → body t b s ≡ body_judgement t b s
 
 -- ---- what is given
 
@@ -91,6 +86,7 @@ rules_same place s name signature defined given block allowed c e =
   where
     chain : Bool → Option ℕ
     chain a = first_broken ((2, not a) ∷ (19, block && defined) ∷ (22, given) ∷ [])
+
     by : (a twice there : Bool) → unless_broken place (first_broken ((2, not a) ∷ (19, twice) ∷ (22, there) ∷ [])) c ≡
         unless_broken place (if not a then Some 2 else if twice then Some 19 else if there then Some 22 else None) c
     by false twice there = refl

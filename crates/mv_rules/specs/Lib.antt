@@ -3,3 +3,4 @@ pub mod Rules
 pub mod Declarations
 pub mod Statements
 pub mod Units
+pub mod Agreement
