@@ -135,9 +135,10 @@ module _ (items : List Item) (fixed : Bool) where
           let x = barred_by_form (is_main d.name) fixed (is_constant_object items (name_of d)) (out-Shape d.shape) e in
           (ap (λ a. a || list_any bears_none (bearers items fixed ds)) x.0, ap (λ a. a || list_any (λ b. not (is_switch b)) (bearers items fixed ds)) x.1)
       by false e h rest =
-          let x = rest h in
-          (ap (λ a. bears_none (bearer (fixed || is_constant_object items (name_of d)) d) || a) x.0 ∙ or_true (bears_none (bearer (fixed || is_constant_object items (name_of d)) d)),
-          ap (λ a. not (is_switch (bearer (fixed || is_constant_object items (name_of d)) d)) || a) x.1 ∙ or_true (not (is_switch (bearer (fixed || is_constant_object items (name_of d)) d))))
+          let x = rest h in (
+            ap (λ a. bears_none (bearer (fixed || is_constant_object items (name_of d)) d) || a) x.0 ∙ or_true (bears_none (bearer (fixed || is_constant_object items (name_of d)) d)),
+            ap (λ a. not (is_switch (bearer (fixed || is_constant_object items (name_of d)) d)) || a) x.1 ∙ or_true (not (is_switch (bearer (fixed || is_constant_object items (name_of d)) d))),
+          )
 
   pub held_by_all : (ds : List Declarator) → code_attributes.holder_of_all position.File fixed (code.holders (foreknown items) ds) ≡ holder (bearers items fixed ds)
   held_by_all ds = by (list_any constant ds) refl

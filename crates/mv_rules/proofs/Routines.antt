@@ -86,6 +86,7 @@ rules_same place s name signature defined given block allowed c e =
   where
     chain : Bool → Option ℕ
     chain a = first_broken ((2, not a) ∷ (19, block && defined) ∷ (22, given) ∷ [])
+
     by : (a twice there : Bool) → unless_broken place (first_broken ((2, not a) ∷ (19, twice) ∷ (22, there) ∷ [])) c ≡
         unless_broken place (if not a then Some 2 else if twice then Some 19 else if there then Some 22 else None) c
     by false twice there = refl

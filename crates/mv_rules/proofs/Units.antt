@@ -70,6 +70,7 @@ module _ (parameters : ParametersAgree) (bodies : BodyAgrees) where
       where
         next : Scope × Base → Judged Declarations
         next b = and_then (concluded (out-Specs i.specs).place b.0 (node.Declaration (declares_nothing i)) (behind b.0 c)) (in_order (declarator items b.1 i.body) i.names)
+
         by : (j : Judged (Scope × Specified)) → and_then j (λ b. names_judgement (foreknown items) b.1 i (in_scope (contents_of c) b.0)) ≡
             mapped contents_of (and_then (mapped (over base_of_specified) j) next)
         by (Good b) = names_agree b.1 i (behind b.0 c)

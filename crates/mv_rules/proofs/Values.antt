@@ -135,6 +135,7 @@ word_agrees t s n x = by (value_judgement s n)
     constant : (e : Expr) (o : Option ℕ) → constant_word e ≡ o → word_or_broken n.place t x e o ≡ mapped (add_word t x) (concluded n.place s (node.Needed o) e)
     constant e None h = refl
     constant e (Some w) h = ap (λ (o : Option ℕ). Good (with_word t x e (unwrap_or o 0))) (sym h)
+
     by : (j : Judged Expr) → and_then j (λ e. word_or_broken n.place t x e (constant_word e)) ≡
         mapped (add_word t x) (and_then j (λ e. concluded n.place s (node.Needed (constant_word e)) e))
     by (Good e) = constant e (constant_word e) refl

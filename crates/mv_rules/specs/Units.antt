@@ -229,15 +229,18 @@ abbrev pub function_left : Scope → Scope
 function_left s = record (block_left s) { locals = []; attributed = false }
 
 abbrev pub function_found : List ℕ → (attributed : Bool) → CType → (params : ℕ) → Scope × List Stmt → Scope × program_function.Function
-function_found name attributed result params d = (function_left d.0, record {
-  name = name;
-  attributed = attributed;
-  result = result;
-  params = params;
-  locals = d.0.locals;
-  switches = [];
-  body = d.1;
-})
+function_found name attributed result params d = (
+  function_left d.0,
+  record {
+    name = name;
+    attributed = attributed;
+    result = result;
+    params = params;
+    locals = d.0.locals;
+    switches = [];
+    body = d.1;
+  },
+)
 
 -- the function that a definition is, but for its switches, which are found at the end
 abbrev pub definition : List Item → List ℕ → CType → List Param → Line → Scope → Found program_function.Function
