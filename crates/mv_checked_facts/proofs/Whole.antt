@@ -33,6 +33,7 @@ use Rattle.mv_formed_globals.specs.Globals.{HasFormedGlobals, GlobalsAreFormed}
 use Rattle.mv_checked_programs.specs.Checked.{ProgramsOfTextsAreWellFormed}
 use Rattle.mv_checked_programs.proofs.Lists.{all_at, all_by, one_there}
 use Rattle.mv_checked_programs.proofs.Units.{ComesFrom, comes_from}
+use Rattle.mv_rules.proofs.Units.{same_judgement}
 use Rattle.mv_front.specs.Verdicts.{IsProgram}
 use Rattle.mv_source_facts.specs.Facts.{IsName, IsTableSwitch, IsTableFunction, HasTableFacts}
 use Rattle.mv_unit_names.specs.Written.{UnitsOfTextsAreWritten}
@@ -168,8 +169,8 @@ pub programs_have_facts : ParametersFit → BodyGrows → GlobalsAreFormed → P
     (text : List ℕ) (p : Program) → IsProgram text p → HasTableFacts p
 programs_have_facts fit grow globals formed written text p is =
     let k : Foreknown = foreknown is.unit.items in
-    let from : ComesFrom is.unit p = comes_from is.unit p is.good in
+    let from : ComesFrom is.unit p = comes_from is.unit p (sym (same_judgement is.unit) ∙ is.good) in
     let a : AreWritten from.0 =
     of_good AreWritten (through (item_judgement k) is.unit.items (nothing_declared k))
     (items_written fit grow k is.unit.items (written text is.unit is.reads.reads)) from.0 from.2 in
-    facts p (subst IsWritten (sym from.4) (program_written from.0 from.1 a)) (formed text p is) (globals is.unit p is.good)
+    facts p (subst IsWritten (sym from.4) (program_written from.0 from.1 a)) (formed text p is) (globals is.unit p (sym (same_judgement is.unit) ∙ is.good))

@@ -18,6 +18,8 @@ use Rattle.mv_types.specs.Units.{unit_judgement}
 use Rattle.mv_types.specs.Checked.{IsChecked}
 use Rattle.mv_types.specs.declared.error.TypeError.{TypeError}
 use Rattle.mv_types.specs.declared.error.TypeError.TheVariants as check
+use Rattle.mv_rules.specs.Units.{judged_by_rules}
+use Rattle.mv_rules.proofs.Units.{same_judgement}
 use Rattle.mv_front.specs.Errors.{of_lexing, of_parsing, of_checking}
 use Rattle.mv_front.specs.Refusals.{counted}
 use Rattle.mv_front.specs.Verdicts.{IsUnit, IsProgram, IsRefused, IsCause, long_source, long_name, no_token, unsupported, too_deep, no_unit, broken_rule, over_limit}
@@ -51,14 +53,14 @@ parsing_cause text tokens (parse.Syntax place) h c = no_unit tokens place h c
 parsing_cause text tokens (parse.Memory e) h c = tt
 
 module _ (text : List ℕ) (u : tree.Unit) (reads : IsUnit text u) where
-  program_by : (q : Program) (j : Judged Program) → unit_judgement u ≡ j → IsChecked u j (Ok q) → IsProgram text q
+  program_by : (q : Program) (j : Judged Program) → judged_by_rules u ≡ j → IsChecked u j (Ok q) → IsProgram text q
   program_by q (Good p) e h = subst (IsProgram text) (sym h.0) (record { unit = u; reads = reads; good = e; within = h.1 })
   program_by q (Broken place rule) e h = absurd h
 
   pub checked_program : (q : Program) → IsChecked u (unit_judgement u) (Ok q) → IsProgram text q
-  checked_program q h = program_by q (unit_judgement u) refl h
+  checked_program q h = program_by q (unit_judgement u) (same_judgement u) h
 
-  cause_by : (error : TypeError) (j : Judged Program) → unit_judgement u ≡ j → IsChecked u j (Err error) → IsCause text (of_checking error)
+  cause_by : (error : TypeError) (j : Judged Program) → judged_by_rules u ≡ j → IsChecked u j (Err error) → IsCause text (of_checking error)
   cause_by (check.Rule at r) (Good p) e h = absurd h
   cause_by (check.Limit n c) (Good p) e h = over_limit u p n c reads e h
   cause_by (check.Memory m) (Good p) e h = tt
@@ -67,4 +69,4 @@ module _ (text : List ℕ) (u : tree.Unit) (reads : IsUnit text u) where
   cause_by (check.Memory m) (Broken place rule) e h = tt
 
   pub checking_cause : (error : TypeError) → IsChecked u (unit_judgement u) (Err error) → IsCause text (of_checking error)
-  checking_cause error h = cause_by error (unit_judgement u) refl h
+  checking_cause error h = cause_by error (unit_judgement u) (same_judgement u) h

@@ -13,9 +13,9 @@ use Rattle.mv_reading.proofs.Texts.{one_unit}
 use Rattle.mv_parser.specs.Verdict.{IsShallow, IsTooDeep, IsBroken}
 use Rattle.mv_parser.proofs.Levels as level
 use Rattle.mv_judge.specs.Judged.{Judged, Good, Broken}
-use Rattle.mv_types.specs.Units.{unit_judgement}
 use Rattle.mv_limits.specs.Ordered.{first_excess}
 use Rattle.mv_limits.specs.declared.excess.Exceeded.{Exceeded}
+use Rattle.mv_rules.specs.Units.{judged_by_rules}
 use Rattle.mv_front.specs.Refusals.{at_place, of_rule, counted}
 use Rattle.mv_front.specs.Verdicts.{IsUnit, IsProgram, IsRefused, long_source, long_name, no_token, unsupported, too_deep, no_unit, broken_rule, over_limit}
 use Rattle.mv_front.specs.declared.refusal.Refusal.{Refusal}
@@ -43,8 +43,8 @@ data NoUnit (text : List ℕ) : Refusal → Type 0 where
 
 -- they are, and the unit is no program
 data NoProgram (text : List ℕ) : Refusal → Type 0 where
-  rule : (u : tree.Unit) (place : Place) (number : ℕ) → IsUnit text u → unit_judgement u ≡ Broken place number → NoProgram text (of_rule place number)
-  limit : (u : tree.Unit) (p : Program) (number count : ℕ) → IsUnit text u → unit_judgement u ≡ Good p →
+  rule : (u : tree.Unit) (place : Place) (number : ℕ) → IsUnit text u → judged_by_rules u ≡ Broken place number → NoProgram text (of_rule place number)
+  limit : (u : tree.Unit) (p : Program) (number count : ℕ) → IsUnit text u → judged_by_rules u ≡ Good p →
       first_excess u p ≡ Some (record { limit = number; count = count }) → NoProgram text (counted 7 number count)
 
 sorted : {text : List ℕ} {r : Refusal} → IsRefused text r → NoTokens text r ⊎ (NoUnit text r ⊎ NoProgram text r)
@@ -102,8 +102,8 @@ unit_of : {text : List ℕ} {r : Refusal} → NoProgram text r → (u : tree.Uni
 unit_of (rule u place number is h) = (u, is)
 unit_of (limit u p number count is good h) = (u, is)
 
-same_judgement : {text : List ℕ} (u v : tree.Unit) → IsUnit text u → IsUnit text v → unit_judgement u ≡ unit_judgement v
-same_judgement {text = text} u v is there = ap unit_judgement (one_unit text u v is.reads there.reads)
+same_judgement : {text : List ℕ} (u v : tree.Unit) → IsUnit text u → IsUnit text v → judged_by_rules u ≡ judged_by_rules v
+same_judgement {text = text} u v is there = ap judged_by_rules (one_unit text u v is.reads there.reads)
 
 same_excess : {text : List ℕ} (u v : tree.Unit) (p q : Program) → IsUnit text u → IsUnit text v → p ≡ q → first_excess u p ≡ first_excess v q
 same_excess {text = text} u v p q is there e = ap (λ w. first_excess w p) (one_unit text u v is.reads there.reads) ∙ ap (λ z. first_excess v z) e
@@ -127,9 +127,9 @@ one_checking (rule u place number is h) (rule v at other there k) =
     let g : number ≡ other = cc in
     ap (λ z. of_rule z number) f ∙ ap (of_rule at) g
 one_checking (rule u place number is h) (limit v q other count there good k) =
-    absurd (good_or_broken q place number (unit_judgement u) (same_judgement u v is there ∙ good) h)
+    absurd (good_or_broken q place number (judged_by_rules u) (same_judgement u v is there ∙ good) h)
 one_checking (limit u p number count is good h) (rule v at other there k) =
-    absurd (good_or_broken p at other (unit_judgement u) good (same_judgement u v is there ∙ k))
+    absurd (good_or_broken p at other (judged_by_rules u) good (same_judgement u v is there ∙ k))
 one_checking (limit u p number count is good h) (limit v q other many there fine k) =
     let same : p ≡ q = one_good p q (sym good ∙ same_judgement u v is there ∙ fine) in
     let excess = one_excess _ _ (sym h ∙ same_excess u v p q is there same ∙ k) in
@@ -143,7 +143,7 @@ one_program text p q h k =
 
 no_program : (text : List ℕ) (p : Program) (r : Refusal) → IsProgram text p → NoProgram text r → ⊥
 no_program text p r h (rule u place number is k) =
-    good_or_broken p place number (unit_judgement u) (same_judgement u h.unit is h.reads ∙ h.good) k
+    good_or_broken p place number (judged_by_rules u) (same_judgement u h.unit is h.reads ∙ h.good) k
 no_program text p r h (limit u q number count is good k) =
     let same : p ≡ q = one_good p q (sym h.good ∙ same_judgement h.unit u h.reads is ∙ good) in
     none_or_excess _ (sym h.within ∙ same_excess h.unit u p q h.reads is same ∙ k)

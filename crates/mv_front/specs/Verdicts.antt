@@ -9,8 +9,8 @@ use Rattle.mv_lexer.specs.Reading.{AreTokens, IsFirstRefused}
 use Rattle.mv_reading.specs.Texts.{ReadsAs}
 use Rattle.mv_parser.specs.Verdict.{IsShallow, IsTooDeep, IsBroken}
 use Rattle.mv_judge.specs.Judged.{Good, Broken}
-use Rattle.mv_types.specs.Units.{unit_judgement}
 use Rattle.mv_limits.specs.Ordered.{first_excess}
+use Rattle.mv_rules.specs.Units.{judged_by_rules}
 use Rattle.mv_front.specs.Refusals.{at_place, of_rule, counted}
 use Rattle.mv_front.specs.declared.refusal.Refusal.{Refusal}
 use Rattle.mv_front.specs.declared.refusal.FrontError.{FrontError}
@@ -25,7 +25,7 @@ pub record IsUnit (text : List ℕ) (u : tree.Unit) : Type 0 where
 pub record IsProgram (text : List ℕ) (p : Program) : Type 0 where
   pub unit : tree.Unit
   pub reads : IsUnit text unit
-  pub good : unit_judgement unit ≡ Good p
+  pub good : judged_by_rules unit ≡ Good p
   pub within : first_excess unit p ≡ None
 
 -- A source is refused for one of these causes. The length comes before all else, then the first lexeme that is refused, then the nesting, the grammar,
@@ -37,8 +37,8 @@ pub data IsRefused (text : List ℕ) : Refusal → Type 0 where
   unsupported : (place : Place) → IsFirstRefused text lexing.unsupported place → IsRefused text (at_place 2 place)
   too_deep : (tokens : Tokens) (place : Place) → AreTokens text tokens.items tokens.end → IsTooDeep tokens place → IsRefused text (at_place 5 place)
   no_unit : (tokens : Tokens) (place : Place) → AreTokens text tokens.items tokens.end → IsBroken text tokens place → IsRefused text (at_place 4 place)
-  broken_rule : (u : tree.Unit) (place : Place) (rule : ℕ) → IsUnit text u → unit_judgement u ≡ Broken place rule → IsRefused text (of_rule place rule)
-  over_limit : (u : tree.Unit) (p : Program) (limit count : ℕ) → IsUnit text u → unit_judgement u ≡ Good p →
+  broken_rule : (u : tree.Unit) (place : Place) (rule : ℕ) → IsUnit text u → judged_by_rules u ≡ Broken place rule → IsRefused text (of_rule place rule)
+  over_limit : (u : tree.Unit) (p : Program) (limit count : ℕ) → IsUnit text u → judged_by_rules u ≡ Good p →
       first_excess u p ≡ Some (record { limit = limit; count = count }) → IsRefused text (counted 7 limit count)
 
 -- ---- answers

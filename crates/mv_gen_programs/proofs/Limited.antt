@@ -1,5 +1,5 @@
 -- The programs of generated texts exceed no limit.
-use Rattle.std.proofs.Common.{◌≡◌, ℕ, zero, suc, ◌<◌, ◌≤◌, false, List, [], ◌∷◌, ◌++◌, length, map, Option, None, refl, ap, arith, length-append}
+use Rattle.std.proofs.Common.{◌≡◌, ℕ, zero, suc, ◌<◌, ◌≤◌, false, List, [], ◌∷◌, ◌++◌, length, map, Option, None, refl, ◌∙◌, ap, arith, length-append}
 use Rattle.std.specs.Prelude.{nat_lt}
 use Rattle.std.specs.List.{flat_map}
 use Rattle.std.proofs.lemmas.Bool.{le-ltb}
@@ -10,6 +10,7 @@ use Rattle.mv_ast.specs.Plans.{switch_domain}
 use Rattle.mv_limits.specs.declared.excess.Exceeded.{Exceeded}
 use Rattle.mv_limits.specs.Limits.{Limit, elements, functions_limit, globals_limit, parameters_limit, switches_limit, values_limit, own_switches as counted_switches, switches_of_function_limit, assignments_limit, elements_limit, first_above, reported, excess, first_some, first_exceeded}
 use Rattle.mv_limits.proofs.Orders.{none_in_order}
+use Rattle.mv_rules.proofs.Units.{same_judgement}
 use Rattle.mv_front.specs.Verdicts.{IsProgram}
 use Rattle.mv_gen.specs.Generated.{drawn, functions, form_of, switch_of, constant_of, generated}
 use Rattle.mv_gen_programs.proofs.Bodies.{four}
@@ -106,6 +107,6 @@ unfolding unit_reads
 is_program seed = record {
   unit = unit_of seed;
   reads = record { reads = unit_reads seed; shallow = unit_shallow seed };
-  good = unit_good seed;
+  good = same_judgement (unit_of seed) ∙ unit_good seed;
   within = none_in_order (unit_of seed) (program seed) (few_parameters seed) (none_exceeded seed (functions seed) (omega arith));
 }
