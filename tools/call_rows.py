@@ -1,6 +1,6 @@
 #!/usr/bin/env python3
 """Images by hand that make one environment call, and what comes of it by the rules of docs/machine.md and docs/switches.md: the rows `# an image: ..` of
-crates/mv_top_rows.
+crates/mv_test_top.
 
   call_rows.py     writes these rows anew, at the end of stdin and stdout
 
@@ -11,7 +11,7 @@ tables, or those of a switch `s` of the values -1 and 3 and two functions: `dp`,
 import os
 import re
 
-ROWS = os.path.join(os.path.dirname(os.path.dirname(os.path.realpath(__file__))), "crates", "mv_top_rows")
+ROWS = os.path.join(os.path.dirname(os.path.dirname(os.path.realpath(__file__))), "crates", "mv_test_top")
 TITLE = "# an image: "
 NOP = 0x13
 COMMIT, POLL = 4, 5

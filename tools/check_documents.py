@@ -1,5 +1,5 @@
 #!/usr/bin/env python3
-"""Checks that what the documents say of commands is what crates/mv_top_rows has of them, whose rows the gate runs.
+"""Checks that what the documents say of commands is what crates/mv_test_top has of them, whose rows the gate runs.
 
   check_documents.py     prints what differs, and ends with 1 where something does
 
@@ -18,7 +18,7 @@ import explanations
 import refusals
 
 TOP = os.path.dirname(os.path.dirname(os.path.realpath(__file__)))
-ROWS = os.path.join(TOP, "crates", "mv_top_rows")
+ROWS = os.path.join(TOP, "crates", "mv_test_top")
 TITLE = re.compile(r"^# .*\n", re.M)
 BLOCK = re.compile(r"^```(\w+)\n(.*?)^```$", re.M | re.S)
 COMMANDS = "| Command | Output | Last line |\n|---|---|---|\n"

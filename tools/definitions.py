@@ -20,7 +20,7 @@ BEGIN, END = "<!-- definitions -->", "<!-- end of definitions -->"
 PARTS = [
     ("What a program means", [("mv_meaning/specs/Meaning.antt", "mean")]),
     ("What a run of an image does", [("mv_machine/specs/Runs.antt", "runs")]),
-    ("That the run does what the program means", [("mv_image_runs/specs/Behaves.antt", "BehavesAlways"), ("mv_built_programs/specs/Own.antt", "LoadsNoOwnSwitch")]),
+    ("That the run does what the program means", [("mv_refine_runs/specs/Behaves.antt", "BehavesAlways"), ("mv_refine_images/specs/Own.antt", "LoadsNoOwnSwitch")]),
     ("Which text is which program", [("mv_front/specs/Verdicts.antt", "IsProgram")]),
     ("What the command does", [("mv_top/specs/Outcomes.antt", "IsCarriedOut")]),
 ]

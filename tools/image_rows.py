@@ -1,5 +1,5 @@
 #!/usr/bin/env python3
-"""Images with something wrong in them, and what each is refused for by the rules of docs/image.md: the rows of crates/mv_image_cases.
+"""Images with something wrong in them, and what each is refused for by the rules of docs/image.md: the rows of crates/mv_test_image.
 
   image_rows.py                  writes the rows anew, and the images but for the one that `build` made
   image_rows.py PROGRAM COUNT    runs PROGRAM, built of that crate, on COUNT images that are changed at random in up to three places, and prints
@@ -14,7 +14,7 @@ import subprocess
 import sys
 from typing import NamedTuple
 
-CRATE = os.path.join(os.path.dirname(os.path.dirname(os.path.realpath(__file__))), "crates", "mv_image_cases")
+CRATE = os.path.join(os.path.dirname(os.path.dirname(os.path.realpath(__file__))), "crates", "mv_test_image")
 TEXT, DATA = 0x1000, 0x100000
 MAGIC = int.from_bytes(b"MVI1", "little")
 # lowest and highest value of each kind: _Bool, signed char, unsigned char, short, unsigned short, int, unsigned int

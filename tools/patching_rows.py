@@ -1,5 +1,5 @@
 #!/usr/bin/env python3
-"""Programs that commit, revert and poll, and what they do by the rules of docs/switches.md: the rows `# patching program N` of crates/mv_top_rows.
+"""Programs that commit, revert and poll, and what they do by the rules of docs/switches.md: the rows `# patching program N` of crates/mv_test_top.
 
   patching_rows.py     writes these rows anew, at the end of stdin and stdout
 
@@ -13,7 +13,7 @@ import re
 import textwrap
 from typing import Callable, NamedTuple
 
-ROWS = os.path.join(os.path.dirname(os.path.dirname(os.path.realpath(__file__))), "crates", "mv_top_rows")
+ROWS = os.path.join(os.path.dirname(os.path.dirname(os.path.realpath(__file__))), "crates", "mv_test_top")
 TITLE = "# patching program"
 PROGRAMS = 40
 ATTRIBUTE = "__attribute__((multiverse))"

@@ -5,7 +5,7 @@
 
 PROGRAM is a built `multiverse`, as crates/mv_cli/out/mv_cli. Each run has to answer what the command answers with ample memory, or want of memory: then
 the status is 4, what it wrote is a part of what it owes, from its start, the notes have no last line, and each file is as it was or as the command owes it.
-The probes of a run are seen by no command: that run is a row of ROWS, a built crates/mv_top_rows/out/mv_top_rows. Where an allocation of that program itself
+The probes of a run are seen by no command: that run is a row of ROWS, a built crates/mv_test_top/out/mv_test_top. Where an allocation of that program itself
 is refused, it ends with the status 1, and nothing is said of the run.
 
 The allocations are those of malloc, calloc, realloc and aligned_alloc, which a library that is loaded before the program counts and refuses.

@@ -1,10 +1,10 @@
 #!/bin/sh
-# Compares the rows 'the example ..' and 'the program ..' of crates/mv_top_rows with what gcc makes of examples/ (-O0, for RISC-V, run by QEMU): rows_by_gcc.sh
+# Compares the rows 'the example ..' and 'the program ..' of crates/mv_test_top with what gcc makes of examples/ (-O0, for RISC-V, run by QEMU): rows_by_gcc.sh
 # Programs named trap_* end by traps, which C leaves undefined: their rows were worked out by hand. A commit does nothing here: these programs commit
 # wherever they change a switch. Needs gcc-riscv64-unknown-elf and qemu-user.
 set -e
 top=$(cd "$(dirname "$0")/.." && pwd)
-rows=$top/crates/mv_top_rows
+rows=$top/crates/mv_test_top
 scratch=$(mktemp -d)
 trap 'rm -rf "$scratch"' EXIT
 

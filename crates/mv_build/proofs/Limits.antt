@@ -7,7 +7,7 @@ use Rattle.mv_isa.specs.declared.labelled.Labelled.{Labelled}
 use Rattle.mv_ir.specs.declared.body.Body.{Body}
 use Rattle.mv_front.specs.Refusals.{counted}
 use Rattle.mv_front.specs.declared.refusal.Refusal.{Refusal}
-use Rattle.mv_call_code.specs.Convention.{frame_limit}
+use Rattle.mv_select_calls.specs.Convention.{frame_limit}
 use Rattle.mv_select.specs.declared.error.SelectError.{SelectError}
 use Rattle.mv_select.specs.declared.error.SelectError.TheVariants as selecting
 use Rattle.mv_select.specs.Selected.{OnFrame}
@@ -18,7 +18,7 @@ use Rattle.mv_linker.specs.declared.error.LinkError.{LinkError}
 use Rattle.mv_linker.specs.declared.error.LinkError.TheVariants as linking
 use Rattle.mv_linker.specs.Tables.{site_count}
 use Rattle.mv_linker.specs.Outcome.{data_limit, site_limit, HasFewSites, IsRefusal}
-use Rattle.mv_first_data.specs.FirstData.{first_data, data_words}
+use Rattle.mv_link_data.specs.FirstData.{first_data, data_words}
 use Rattle.mv_parts.specs.Codes.{frame_size, AreGenerics, FramesFit, HaveCode, PassesFirstFrame}
 use Rattle.mv_parts.specs.Counts.{up_to_greatest}
 use Rattle.mv_parts.specs.Laws.{DataIsCounted, PartsCanBeLinked}

@@ -2,8 +2,8 @@
 use Rattle.std.proofs.Common.{List, ℕ, sym, subst}
 use Rattle.std.specs.Prelude.{Result, Ok, Err, IfOk, IfErr}
 use Rattle.mv_ast.specs.declared.program.Program.{Program}
-use Rattle.mv_checked_facts.specs.Laws.{ProgramsHaveTableFacts}
-use Rattle.mv_checked_programs.specs.Checked.{ProgramsOfTextsAreWellFormed}
+use Rattle.mv_accepts_facts.specs.Laws.{ProgramsHaveTableFacts}
+use Rattle.mv_accepts_programs.specs.Checked.{ProgramsOfTextsAreWellFormed}
 use Rattle.mv_front.specs.Verdicts.{IsProgram}
 use Rattle.mv_front.specs.Verdicts as front
 use Rattle.mv_front.specs.declared.refusal.FrontError.{FrontError}

@@ -2,13 +2,13 @@
 use Rattle.std.proofs.Common.{refl}
 use Rattle.mv_ast.specs.declared.program.Program.{Program}
 use Rattle.mv_image.specs.Spelling.{Fields}
-use Rattle.mv_built_programs.specs.Built.{IsBuilt}
-use Rattle.mv_built_programs.specs.Laws.{BuiltProgramsBehave}
+use Rattle.mv_refine_images.specs.Built.{IsBuilt}
+use Rattle.mv_refine_images.specs.Laws.{BuiltProgramsBehave}
 use Rattle.mv_linker.specs.declared.parts.Parts.{Parts}
 use Rattle.mv_parts.specs.Laws.{PartsCanBeLinked}
 use Rattle.mv_parts.specs.Parts.{ArePartsOf}
-use Rattle.mv_image_tables.specs.Laws.{ImagesHaveTables, RowsLeadToVariants}
-use Rattle.mv_word_counts.specs.Laws.{ImagesShowBindings}
+use Rattle.mv_parts_tables.specs.Laws.{ImagesHaveTables, RowsLeadToVariants}
+use Rattle.mv_count_words.specs.Laws.{ImagesShowBindings}
 use Rattle.mv_build.specs.declared.code.Coded.{Coded}
 use Rattle.mv_build.specs.Compiled.{IsCode, IsLinkedTo, IsSound, parts_of}
 use Rattle.mv_build.specs.Images.{IsImageOf}

@@ -4,18 +4,18 @@ use Rattle.mv_ast.specs.declared.program.Program.{Program}
 use Rattle.mv_ir.specs.declared.body.Body.{Body}
 use Rattle.mv_isa.specs.declared.labelled.Labelled.{Labelled}
 use Rattle.mv_front.specs.declared.refusal.Refusal.{Refusal}
-use Rattle.mv_lowered_programs.specs.WellFormed.{IsWellFormed}
+use Rattle.mv_lower_correct.specs.WellFormed.{IsWellFormed}
 use Rattle.mv_source_facts.specs.Facts.{HasTableFacts}
 use Rattle.mv_linker.specs.declared.parts.Parts.{Parts}
 use Rattle.mv_linker.specs.declared.parts.PartFunction.{PartFunction}
 use Rattle.mv_linker.specs.declared.error.LinkError.{LinkError}
 use Rattle.mv_linker.specs.Outcome.{data_limit, HasFewSites, IsLinked, IsRefusal}
-use Rattle.mv_first_data.specs.FirstData.{first_data, data_words}
+use Rattle.mv_link_data.specs.FirstData.{first_data, data_words}
 use Rattle.mv_parts.specs.Codes.{FramesFit}
 use Rattle.mv_parts.specs.Counts.{HaveFewLabels}
 use Rattle.mv_parts.specs.Parts.{AreCodesOf, ArePartFunctions, AreTables}
 use Rattle.mv_parts.specs.Switches.{part_switches}
-use Rattle.mv_selected_bodies.specs.SelectedBodies.{HasWords}
+use Rattle.mv_select_bodies.specs.SelectedBodies.{HasWords}
 use Rattle.mv_image.specs.Faults.{Rules}
 use Rattle.mv_image.specs.Spelling.{Fields}
 use Rattle.mv_build.specs.declared.built.Built.{Built}

@@ -9,17 +9,17 @@ use Rattle.mv_variants.specs.declared.variant.Variant.{Variant}
 use Rattle.mv_image.specs.Spelling.{Fields}
 use Rattle.mv_linker.specs.declared.parts.Parts.{Parts}
 use Rattle.mv_linker.specs.Outcome.{data_limit, IsLinked}
-use Rattle.mv_first_data.specs.FirstData.{data_words}
+use Rattle.mv_link_data.specs.FirstData.{data_words}
 use Rattle.mv_parts.specs.Codes.{FramesFit}
 use Rattle.mv_parts.specs.Numbers.{attributed_numbers}
 use Rattle.mv_parts.specs.Parts.{ArePartsOf}
-use Rattle.mv_commit_runs.specs.Tabled.{IsOfWord}
+use Rattle.mv_refine_commits.specs.Tabled.{IsOfWord}
 use Rattle.mv_machine.specs.Actions as machine
-use Rattle.mv_image_runs.specs.Behaves.{BehavesAlways, LoadsWhatIsOpen}
-use Rattle.mv_image_tables.specs.Leads.{LeadsToVariants}
-use Rattle.mv_built_programs.specs.Closed.{closed}
-use Rattle.mv_built_programs.specs.Own.{LoadsNoOwnSwitch}
-use Rattle.mv_word_counts.specs.Laws.{ShowsBindings}
+use Rattle.mv_refine_runs.specs.Behaves.{BehavesAlways, LoadsWhatIsOpen}
+use Rattle.mv_parts_tables.specs.Leads.{LeadsToVariants}
+use Rattle.mv_refine_images.specs.Closed.{closed}
+use Rattle.mv_refine_images.specs.Own.{LoadsNoOwnSwitch}
+use Rattle.mv_count_words.specs.Laws.{ShowsBindings}
 
 -- On no input, with no actions whose values are words and that fit the program, and by no picks does an instruction load a data word that is closed to what
 -- stands at its place; and none that is code of a function's variants, in their words or at a site, loads a switch of the function.

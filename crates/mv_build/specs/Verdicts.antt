@@ -12,7 +12,7 @@ use Rattle.mv_linker.specs.declared.parts.Parts.{Parts}
 use Rattle.mv_linker.specs.Linked.{linked_lines}
 use Rattle.mv_linker.specs.Tables.{site_count}
 use Rattle.mv_linker.specs.Outcome.{HasFewSites, data_limit, site_limit}
-use Rattle.mv_first_data.specs.FirstData.{data_words}
+use Rattle.mv_link_data.specs.FirstData.{data_words}
 use Rattle.mv_parts.specs.Codes.{FramesFit, PassesFirstFrame}
 use Rattle.mv_parts.specs.Counts.{up_to_greatest}
 use Rattle.mv_parts.specs.Parts.{AreCodesOf, ArePartsOf}

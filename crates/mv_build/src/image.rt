@@ -12,10 +12,10 @@ ghost use Rattle.mv_build.specs.declared.error.BuildError.TheVariants.{Refused};
 
 use crate::error::BuildError;
 use mv_ast::program::Program;
-use mv_first_data::{data_words, first_data};
 use mv_front::Refusal;
 use mv_image::Image;
 use mv_isa::labelled::Labelled;
+use mv_link_data::{data_words, first_data};
 use mv_linker::{PartFunction, Parts, link};
 use mv_num::list::List;
 use mv_parts::{labels_fit, part_switches, parts_law, site_count};

@@ -16,7 +16,7 @@
 //!   16,384, then 13 the words of data above 262,144, then 9 the words of text above 131,072. A program that passes none
 //!   of these limits has an image.
 //! - `compiled`: the same from a program.
-//! - The codes and counts of small sources are rows of `mv_top_rows`.
+//! - The codes and counts of small sources are rows of `mv_test_top`.
 #![tactic(auto)]
 
 ghost use Rattle.std.specs.Prelude.{IfErr, IfOk};
@@ -36,14 +36,14 @@ use crate::code::{Coded, code_of};
 use crate::image::image_of;
 pub use built::Built;
 pub use error::BuildError;
+use mv_accepts_facts::programs_of_texts_have_table_facts;
+use mv_accepts_programs::programs_of_texts_are_well_formed;
 use mv_ast::program::Program;
-use mv_built_programs::built_programs_behave;
-use mv_checked_facts::programs_of_texts_have_table_facts;
-use mv_checked_programs::programs_of_texts_are_well_formed;
+use mv_count_words::images_show_bindings;
 use mv_front::{front, one_verdict};
-use mv_image_tables::{images_have_tables, rows_lead_on};
 use mv_parts::parts_law;
-use mv_word_counts::images_show_bindings;
+use mv_parts_tables::{images_have_tables, rows_lead_on};
+use mv_refine_images::built_programs_behave;
 use std::alloc::Global;
 
 /// The program of a source and its image, or its one refusal.

@@ -6,7 +6,7 @@
 //!   failed, a part of the output was written. A read or a write failed only where the count of that object rose. The
 //!   condition is that the program has fewer than 2^32 functions.
 //! - `writing::write_all`: all bytes were written, or less where a write failed.
-//! - Tested through the programs of `mv_top_rows`.
+//! - Tested through the programs of `mv_test_top`.
 #![tactic(auto)]
 
 ghost use Rattle.mv_io.specs.Outside.{Rose};

@@ -13,13 +13,13 @@ use Rattle.mv_lexer.specs.declared.error.LexError.TheVariants as lex
 use Rattle.mv_parser.specs.Verdict as parsing
 use Rattle.mv_parser.specs.declared.error.ParseError.{ParseError}
 use Rattle.mv_parser.specs.declared.error.ParseError.TheVariants as parse
-use Rattle.mv_judge.specs.Judged.{Judged, Good, Broken}
+use Rattle.mv_check_expressions.specs.Judged.{Judged, Good, Broken}
 use Rattle.mv_types.specs.Units.{unit_judgement}
 use Rattle.mv_types.specs.Checked.{IsChecked}
 use Rattle.mv_types.specs.declared.error.TypeError.{TypeError}
 use Rattle.mv_types.specs.declared.error.TypeError.TheVariants as check
-use Rattle.mv_rules.specs.Units.{judged_by_rules}
-use Rattle.mv_rules.proofs.Units.{same_judgement}
+use Rattle.mv_check_rules.specs.Units.{judged_by_rules}
+use Rattle.mv_check_rules.proofs.Units.{same_judgement}
 use Rattle.mv_front.specs.Errors.{of_lexing, of_parsing, of_checking}
 use Rattle.mv_front.specs.Refusals.{counted}
 use Rattle.mv_front.specs.Verdicts.{IsUnit, IsProgram, IsRefused, IsCause, long_source, long_name, no_token, unsupported, too_deep, no_unit, broken_rule, over_limit}

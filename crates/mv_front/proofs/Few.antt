@@ -2,8 +2,8 @@
 use Rattle.std.proofs.Common.{◌≡◌, ℕ, ◌≤◌, Bool, true, false, List, ◌∷◌, length, refl, nat_lt, Option, Some, None, if◌then◌else◌}
 use Rattle.std.proofs.lemmas.Bool.{ltb-false}
 use Rattle.mv_ast.specs.declared.program.Program.{Program}
-use Rattle.mv_limits.specs.Limits.{excess, reported, first_some, functions_limit, first_exceeded}
-use Rattle.mv_limits.specs.declared.excess.Exceeded.{Exceeded}
+use Rattle.mv_check_limits.specs.Limits.{excess, reported, first_some, functions_limit, first_exceeded}
+use Rattle.mv_check_limits.specs.declared.excess.Exceeded.{Exceeded}
 
 first_none : (o : Option Exceeded) (os : List (Option Exceeded)) → first_some (o ∷ os) ≡ None → o ≡ None
 first_none None os h = refl

@@ -7,15 +7,15 @@ use Rattle.mv_ast.specs.declared.unit.Unit as tree
 use Rattle.mv_lexer.specs.Reading as lexing
 use Rattle.mv_lexer.specs.Reading.{AreTokens, IsFirstRefused}
 use Rattle.mv_lexer.proofs.OneReading.{refused_same, tokens_or_refused}
-use Rattle.mv_grammar.specs.Reading.{Reads}
-use Rattle.mv_grammar.proofs.Laws as grammar
-use Rattle.mv_reading.proofs.Texts.{one_unit}
+use Rattle.mv_parse_grammar.specs.Reading.{Reads}
+use Rattle.mv_parse_grammar.proofs.Laws as grammar
+use Rattle.mv_parse_reading.proofs.Texts.{one_unit}
 use Rattle.mv_parser.specs.Verdict.{IsShallow, IsTooDeep, IsBroken}
 use Rattle.mv_parser.proofs.Levels as level
-use Rattle.mv_judge.specs.Judged.{Judged, Good, Broken}
-use Rattle.mv_limits.specs.Ordered.{first_excess}
-use Rattle.mv_limits.specs.declared.excess.Exceeded.{Exceeded}
-use Rattle.mv_rules.specs.Units.{judged_by_rules}
+use Rattle.mv_check_expressions.specs.Judged.{Judged, Good, Broken}
+use Rattle.mv_check_limits.specs.Ordered.{first_excess}
+use Rattle.mv_check_limits.specs.declared.excess.Exceeded.{Exceeded}
+use Rattle.mv_check_rules.specs.Units.{judged_by_rules}
 use Rattle.mv_front.specs.Refusals.{at_place, of_rule, counted}
 use Rattle.mv_front.specs.Verdicts.{IsUnit, IsProgram, IsRefused, long_source, long_name, no_token, unsupported, too_deep, no_unit, broken_rule, over_limit}
 use Rattle.mv_front.specs.declared.refusal.Refusal.{Refusal}

@@ -6,11 +6,11 @@ use Rattle.mv_ast.specs.declared.token.Tokens.{Tokens}
 use Rattle.mv_ast.specs.declared.unit.Unit as tree
 use Rattle.mv_lexer.specs.Reading as lexing
 use Rattle.mv_lexer.specs.Reading.{AreTokens, IsFirstRefused}
-use Rattle.mv_reading.specs.Texts.{ReadsAs}
+use Rattle.mv_parse_reading.specs.Texts.{ReadsAs}
 use Rattle.mv_parser.specs.Verdict.{IsShallow, IsTooDeep, IsBroken}
-use Rattle.mv_judge.specs.Judged.{Good, Broken}
-use Rattle.mv_limits.specs.Ordered.{first_excess}
-use Rattle.mv_rules.specs.Units.{judged_by_rules}
+use Rattle.mv_check_expressions.specs.Judged.{Good, Broken}
+use Rattle.mv_check_limits.specs.Ordered.{first_excess}
+use Rattle.mv_check_rules.specs.Units.{judged_by_rules}
 use Rattle.mv_front.specs.Refusals.{at_place, of_rule, counted}
 use Rattle.mv_front.specs.declared.refusal.Refusal.{Refusal}
 use Rattle.mv_front.specs.declared.refusal.FrontError.{FrontError}

@@ -5,7 +5,7 @@
 //!   is that program, and the program exceeds no limit; or one of the eight causes of the refusals 1 to 7, with its
 //!   place, rule or count. Each answer has its cause, and each cause its answer.
 //! - `one_verdict`: a text is at most one program, has at most one refusal, and never both.
-//! - `mv_top_rows` has a text for each refusal, and the places.
+//! - `mv_test_top` has a text for each refusal, and the places.
 #![tactic(auto)]
 
 ghost use Rattle.std.specs.Prelude.{◌≡◌, ℕ, IfErr, IfOk, List};

@@ -4,7 +4,7 @@ use Rattle.mv_ast.specs.declared.program.Program.{Program}
 use Rattle.mv_front.specs.Verdicts.{IsProgram, IsRefused}
 use Rattle.mv_front.specs.declared.refusal.Refusal.{Refusal}
 use Rattle.mv_build.specs.Verdicts.{PassesLimit, HasNoImage, refused, over_limit}
-use Rattle.mv_counted_limits.specs.Counted.{IsWithinCounts, CountedPassNone}
+use Rattle.mv_count_limits.specs.Counted.{IsWithinCounts, CountedPassNone}
 use Rattle.mv_gen.specs.Generated.{generated}
 use Rattle.mv_gen_programs.proofs.Called.{frames_fit, sites_fit, text_fits}
 use Rattle.mv_gen_programs.proofs.Limited.{is_program}

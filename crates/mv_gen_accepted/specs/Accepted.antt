@@ -4,7 +4,7 @@ use Rattle.mv_ast.specs.declared.program.Program.{Program}
 use Rattle.mv_front.specs.Verdicts.{IsProgram}
 use Rattle.mv_front.specs.declared.refusal.Refusal.{Refusal}
 use Rattle.mv_build.specs.Verdicts.{HasNoImage}
-use Rattle.mv_counted_limits.specs.Counted.{IsWithinCounts}
+use Rattle.mv_count_limits.specs.Counted.{IsWithinCounts}
 use Rattle.mv_gen.specs.Generated.{generated}
 
 -- each is a program within the counts below which no limit of what is built is passed

@@ -9,25 +9,25 @@ use Rattle.mv_ast.specs.declared.program.Form.TheVariants as form
 use Rattle.mv_ast.specs.declared.program.Signature.{Signature}
 use Rattle.mv_ast.specs.declared.program.Stmt.TheVariants as stmt
 use Rattle.mv_ast.specs.declared.program.Target.TheVariants as target
-use Rattle.mv_scope.specs.declared.meaning.Variable.{Variable}
-use Rattle.mv_scope.specs.declared.meaning.Meaning.TheVariants as meaning
-use Rattle.mv_scope.specs.declared.meaning.Storage.TheVariants as storage
-use Rattle.mv_scope.specs.declared.scope.Scope.{Scope}
-use Rattle.mv_scope.specs.Conversions.{int, typed, converted_to}
-use Rattle.mv_scope.specs.Names.{Names}
-use Rattle.mv_scope.specs.Scoped.{meaning_of}
-use Rattle.mv_judge.specs.declared.seen.Seen.{Seen}
-use Rattle.mv_judge.specs.declared.seen.Seen.TheVariants as seen
-use Rattle.mv_judge.specs.declared.seen.Use.TheVariants as «use»
-use Rattle.mv_judge.specs.Breaches.{concluded, least}
-use Rattle.mv_judge.specs.Found.{binary_of, choose_of}
-use Rattle.mv_judge.specs.Judged.{Judged, Good, and_then}
-use Rattle.mv_judge.specs.Judgements.{judgement, value_judgement}
-use Rattle.mv_judge.specs.Rules.{meet, takes_two}
-use Rattle.mv_judge.specs.Seen.{object_of_variable, value_of}
-use Rattle.mv_declare.specs.Objects.{scalar}
-use Rattle.mv_statement_rules.specs.Statements.{body_judgement}
-use Rattle.mv_statement_rules.specs.Surroundings.{in_function}
+use Rattle.mv_check_scope.specs.declared.meaning.Variable.{Variable}
+use Rattle.mv_check_scope.specs.declared.meaning.Meaning.TheVariants as meaning
+use Rattle.mv_check_scope.specs.declared.meaning.Storage.TheVariants as storage
+use Rattle.mv_check_scope.specs.declared.scope.Scope.{Scope}
+use Rattle.mv_check_scope.specs.Conversions.{int, typed, converted_to}
+use Rattle.mv_check_scope.specs.Names.{Names}
+use Rattle.mv_check_scope.specs.Scoped.{meaning_of}
+use Rattle.mv_check_expressions.specs.declared.seen.Seen.{Seen}
+use Rattle.mv_check_expressions.specs.declared.seen.Seen.TheVariants as seen
+use Rattle.mv_check_expressions.specs.declared.seen.Use.TheVariants as «use»
+use Rattle.mv_check_expressions.specs.Breaches.{concluded, least}
+use Rattle.mv_check_expressions.specs.Found.{binary_of, choose_of}
+use Rattle.mv_check_expressions.specs.Judged.{Judged, Good, and_then}
+use Rattle.mv_check_expressions.specs.Judgements.{judgement, value_judgement}
+use Rattle.mv_check_expressions.specs.Rules.{meet, takes_two}
+use Rattle.mv_check_expressions.specs.Seen.{object_of_variable, value_of}
+use Rattle.mv_check_declarations.specs.Objects.{scalar}
+use Rattle.mv_check_statements.specs.Statements.{body_judgement}
+use Rattle.mv_check_statements.specs.Surroundings.{in_function}
 use Rattle.mv_gen_programs.proofs.Lines.{switch_name}
 use Rattle.mv_gen_programs.proofs.Trees.{Places, word, number, form_tree, definition_body}
 use Rattle.mv_gen_programs.proofs.Values.{object_value, number_value, binary_judged, choose_judged, read_local, read_global, constant, binary, choose}

@@ -13,7 +13,7 @@ use Rattle.mv_ast.specs.declared.program.Stmt.{Stmt, Stmt-F}
 use Rattle.mv_ast.specs.declared.program.Stmt.TheVariants as stmt
 use Rattle.mv_ast.specs.declared.program.Target.TheVariants as target
 use Rattle.mv_ast.specs.Counts.{is_attributed, form_calls, target_sum, inner_calls, expr_calls, stmt_sum, arm_sum, stmt_calls, nodes, depth, declared_words, calls, assignments}
-use Rattle.mv_scope.specs.Conversions.{int, typed}
+use Rattle.mv_check_scope.specs.Conversions.{int, typed}
 use Rattle.mv_gen.specs.Generated.{drawn, functions, form_of, switch_of, constant_of}
 use Rattle.mv_gen_programs.proofs.Values.{read_local, read_global, constant, binary, choose}
 use Rattle.mv_gen_programs.proofs.Bodies.{form_expression}

@@ -11,7 +11,7 @@ use Rattle.mv_ast.specs.declared.program.Stmt.TheVariants as stmt
 use Rattle.mv_ast.specs.declared.program.Target.TheVariants as target
 use Rattle.mv_ast.specs.Counts.{greatest, form_sum, target_sum, form_greatest, target_greatest, one_more_than, expr_nodes, expr_depth, stmt_sum, arm_sum, own_nodes, stmt_nodes, stmt_depth, nodes, depth}
 use Rattle.mv_ast.specs.Layers.{stmt_parts, stmt_expressions}
-use Rattle.mv_scope.specs.Conversions.{int, typed}
+use Rattle.mv_check_scope.specs.Conversions.{int, typed}
 use Rattle.mv_gen_programs.proofs.Values.{read_local, read_global, constant, binary, choose}
 use Rattle.mv_gen_programs.proofs.Bodies.{form_expression}
 use Rattle.mv_gen_programs.proofs.MainBody.{call_statement, call_statements, store_statement, commit_statement, if_statement, loop_statement}

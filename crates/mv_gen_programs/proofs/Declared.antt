@@ -10,25 +10,25 @@ use Rattle.mv_ast.specs.declared.unit.Param.{fold_out-Param}
 use Rattle.mv_ast.specs.declared.unit.Shape.{fold_out-Shape}
 use Rattle.mv_ast.specs.declared.unit.Shape.TheVariants as shape
 use Rattle.mv_ast.specs.declared.unit.Specs.{out-roll-Specs}
-use Rattle.mv_scope.specs.declared.meaning.Meaning.TheVariants as meaning
-use Rattle.mv_scope.specs.declared.scope.Scope.{Scope}
-use Rattle.mv_scope.specs.Conversions.{int}
-use Rattle.mv_scope.specs.Names.{Names}
-use Rattle.mv_scope.specs.Scoped.{declared, block_entered}
-use Rattle.mv_scope.specs.Spaces.{named}
-use Rattle.mv_judge.specs.Judged.{Good}
-use Rattle.mv_judge.specs.TypeNames.{named_kind}
-use Rattle.mv_outline.specs.Names.{is_among, place_of}
-use Rattle.mv_declare.specs.declared.attributes.Attribute.{Attribute}
-use Rattle.mv_declare.specs.declared.attributes.Position.TheVariants as position
-use Rattle.mv_declare.specs.declared.declarators.Entity.TheVariants as entity
-use Rattle.mv_declare.specs.declared.specifiers.Specified.{Specified}
-use Rattle.mv_declare.specs.Attributes.{held, holder_of}
-use Rattle.mv_declare.specs.Declarators.{designated, parameter, new_parameter, Shapes, Declarators, Params, shape_step, declarator_step, param_step}
-use Rattle.mv_declare.specs.Globals.{file_declarator}
-use Rattle.mv_declare.specs.Objects.{scalar}
-use Rattle.mv_declare.specs.Parameters.{parameters_judgement, new_defined}
-use Rattle.mv_declare.specs.Specifiers.{specifiers, type_by_rules}
+use Rattle.mv_check_scope.specs.declared.meaning.Meaning.TheVariants as meaning
+use Rattle.mv_check_scope.specs.declared.scope.Scope.{Scope}
+use Rattle.mv_check_scope.specs.Conversions.{int}
+use Rattle.mv_check_scope.specs.Names.{Names}
+use Rattle.mv_check_scope.specs.Scoped.{declared, block_entered}
+use Rattle.mv_check_scope.specs.Spaces.{named}
+use Rattle.mv_check_expressions.specs.Judged.{Good}
+use Rattle.mv_check_expressions.specs.TypeNames.{named_kind}
+use Rattle.mv_check_outline.specs.Names.{is_among, place_of}
+use Rattle.mv_check_declarations.specs.declared.attributes.Attribute.{Attribute}
+use Rattle.mv_check_declarations.specs.declared.attributes.Position.TheVariants as position
+use Rattle.mv_check_declarations.specs.declared.declarators.Entity.TheVariants as entity
+use Rattle.mv_check_declarations.specs.declared.specifiers.Specified.{Specified}
+use Rattle.mv_check_declarations.specs.Attributes.{held, holder_of}
+use Rattle.mv_check_declarations.specs.Declarators.{designated, parameter, new_parameter, Shapes, Declarators, Params, shape_step, declarator_step, param_step}
+use Rattle.mv_check_declarations.specs.Globals.{file_declarator}
+use Rattle.mv_check_declarations.specs.Objects.{scalar}
+use Rattle.mv_check_declarations.specs.Parameters.{parameters_judgement, new_defined}
+use Rattle.mv_check_declarations.specs.Specifiers.{specifiers, type_by_rules}
 use Rattle.mv_types.specs.declared.contents.Contents.{Contents}
 use Rattle.mv_types.specs.declared.contents.Foreknown.{Foreknown}
 use Rattle.mv_types.specs.declared.contents.Object.{Object}

@@ -12,12 +12,12 @@ use Rattle.mv_ast.specs.declared.unit.Node.{Node}
 use Rattle.mv_ast.specs.declared.unit.Param.{Param}
 use Rattle.mv_ast.specs.declared.unit.Shape.TheVariants as shape
 use Rattle.mv_ast.specs.declared.unit.Specs.{Specs}
-use Rattle.mv_grammar.specs.Declarations.{declarator_of}
-use Rattle.mv_grammar.specs.Statements.{line_at}
-use Rattle.mv_limits.specs.Limits.{first_above}
-use Rattle.mv_limits.specs.Ordered.{declarator_parameters, act_parameters, line_parameters, optional_parameters, item_parameters, unit_parameters}
-use Rattle.mv_limits.proofs.Forms.{declarator_is, shape_plain, shape_function, line_is, act_block, act_declare, act_express, act_if, act_for, act_return}
-use Rattle.mv_limits.proofs.Told.{joined_none}
+use Rattle.mv_parse_grammar.specs.Declarations.{declarator_of}
+use Rattle.mv_parse_grammar.specs.Statements.{line_at}
+use Rattle.mv_check_limits.specs.Limits.{first_above}
+use Rattle.mv_check_limits.specs.Ordered.{declarator_parameters, act_parameters, line_parameters, optional_parameters, item_parameters, unit_parameters}
+use Rattle.mv_check_limits.proofs.Forms.{declarator_is, shape_plain, shape_function, line_is, act_block, act_declare, act_express, act_if, act_for, act_return}
+use Rattle.mv_check_limits.proofs.Told.{joined_none}
 use Rattle.mv_gen.specs.Generated.{drawn, functions, form_of, switch_of, constant_of}
 use Rattle.mv_gen_programs.proofs.Lines.{function_name, switch_parts, commit_parts}
 use Rattle.mv_gen_programs.proofs.Scanned.{behind}

@@ -11,7 +11,7 @@ use Rattle.mv_ast.specs.declared.program.Stmt.TheOpen as open_stmt
 use Rattle.mv_ast.specs.declared.program.Stmt.TheVariants as stmt
 use Rattle.mv_ast.specs.declared.program.Target.{Target, Target-F, map-Target, fold-Target, fold_out-Target}
 use Rattle.mv_ast.specs.declared.program.Target.TheVariants as target
-use Rattle.mv_scope.specs.Conversions.{int, typed}
+use Rattle.mv_check_scope.specs.Conversions.{int, typed}
 use Rattle.mv_gen_programs.proofs.Values.{read_local, read_global, constant, binary, choose}
 
 -- a count of expressions, from what a form, a target and an expression come to by what stands in them

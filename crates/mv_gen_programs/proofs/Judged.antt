@@ -17,28 +17,28 @@ use Rattle.mv_ast.specs.declared.unit.Mark.{out-roll-Mark}
 use Rattle.mv_ast.specs.declared.unit.Shape.{fold_out-Shape}
 use Rattle.mv_ast.specs.declared.unit.Shape.TheVariants as shape
 use Rattle.mv_ast.specs.declared.unit.Specs.{out-roll-Specs}
-use Rattle.mv_grammar.specs.Statements.{line_at}
-use Rattle.mv_scope.specs.declared.meaning.Meaning.TheVariants as meaning
-use Rattle.mv_scope.specs.declared.meaning.Routine.{Routine}
-use Rattle.mv_scope.specs.declared.scope.Scope.{Scope}
-use Rattle.mv_scope.specs.Constants.{constant_value, computed, Evaluated, is_constant, evaluated, constant_form, constant_target, constant_expr, value_form, value_target, value_expr}
-use Rattle.mv_scope.specs.Conversions.{int}
-use Rattle.mv_scope.specs.Names.{Names}
-use Rattle.mv_scope.specs.Spaces.{named}
-use Rattle.mv_judge.specs.Judged.{Judged, Good, and_then}
-use Rattle.mv_judge.specs.NeededConstants.{constant_judgement}
-use Rattle.mv_judge.specs.TypeNames.{named_kind}
-use Rattle.mv_outline.specs.Names.{is_among, place_of}
-use Rattle.mv_outline.specs.Outlined.{is_function}
-use Rattle.mv_declare.specs.declared.attributes.Position.TheVariants as position
-use Rattle.mv_declare.specs.declared.declarators.Entity.TheVariants as entity
-use Rattle.mv_declare.specs.declared.specifiers.Specified.{Specified}
-use Rattle.mv_declare.specs.Attributes.{held, holder_of, with_value}
-use Rattle.mv_declare.specs.Constants.{is_value_of}
-use Rattle.mv_declare.specs.Declarators.{designated, Shapes, Declarators, Params, shape_step, declarator_step, param_step}
-use Rattle.mv_declare.specs.Objects.{scalar, least}
-use Rattle.mv_declare.specs.Specifiers.{specifiers, type_by_rules}
-use Rattle.mv_declare.specs.Turns.{through}
+use Rattle.mv_parse_grammar.specs.Statements.{line_at}
+use Rattle.mv_check_scope.specs.declared.meaning.Meaning.TheVariants as meaning
+use Rattle.mv_check_scope.specs.declared.meaning.Routine.{Routine}
+use Rattle.mv_check_scope.specs.declared.scope.Scope.{Scope}
+use Rattle.mv_check_scope.specs.Constants.{constant_value, computed, Evaluated, is_constant, evaluated, constant_form, constant_target, constant_expr, value_form, value_target, value_expr}
+use Rattle.mv_check_scope.specs.Conversions.{int}
+use Rattle.mv_check_scope.specs.Names.{Names}
+use Rattle.mv_check_scope.specs.Spaces.{named}
+use Rattle.mv_check_expressions.specs.Judged.{Judged, Good, and_then}
+use Rattle.mv_check_expressions.specs.NeededConstants.{constant_judgement}
+use Rattle.mv_check_expressions.specs.TypeNames.{named_kind}
+use Rattle.mv_check_outline.specs.Names.{is_among, place_of}
+use Rattle.mv_check_outline.specs.Outlined.{is_function}
+use Rattle.mv_check_declarations.specs.declared.attributes.Position.TheVariants as position
+use Rattle.mv_check_declarations.specs.declared.declarators.Entity.TheVariants as entity
+use Rattle.mv_check_declarations.specs.declared.specifiers.Specified.{Specified}
+use Rattle.mv_check_declarations.specs.Attributes.{held, holder_of, with_value}
+use Rattle.mv_check_declarations.specs.Constants.{is_value_of}
+use Rattle.mv_check_declarations.specs.Declarators.{designated, Shapes, Declarators, Params, shape_step, declarator_step, param_step}
+use Rattle.mv_check_declarations.specs.Objects.{scalar, least}
+use Rattle.mv_check_declarations.specs.Specifiers.{specifiers, type_by_rules}
+use Rattle.mv_check_declarations.specs.Turns.{through}
 use Rattle.mv_types.specs.declared.contents.Contents.{Contents}
 use Rattle.mv_types.specs.declared.contents.Foreknown.{Foreknown}
 use Rattle.mv_types.specs.declared.contents.Object.{Object}

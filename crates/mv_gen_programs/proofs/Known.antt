@@ -5,11 +5,11 @@ use Rattle.mv_ast.specs.declared.unit.Item.{Item}
 use Rattle.mv_ast.specs.declared.unit.Line.{Line}
 use Rattle.mv_ast.specs.declared.unit.Shape.TheVariants as shape
 use Rattle.mv_ast.specs.declared.unit.Specs.{out-roll-Specs}
-use Rattle.mv_outline.specs.declared.outline.Wanted.{Wanted}
-use Rattle.mv_outline.specs.declared.outline.Wanted.TheVariants as wanted
-use Rattle.mv_outline.specs.Names.{each_once, among, is_among, place_of}
-use Rattle.mv_outline.specs.Outlined as outlined
-use Rattle.mv_outline.specs.Outlined.{is_function, is_marked, is_wanted, name_of}
+use Rattle.mv_check_outline.specs.declared.outline.Wanted.{Wanted}
+use Rattle.mv_check_outline.specs.declared.outline.Wanted.TheVariants as wanted
+use Rattle.mv_check_outline.specs.Names.{each_once, among, is_among, place_of}
+use Rattle.mv_check_outline.specs.Outlined as outlined
+use Rattle.mv_check_outline.specs.Outlined.{is_function, is_marked, is_wanted, name_of}
 use Rattle.mv_types.specs.declared.contents.Foreknown.{Foreknown}
 use Rattle.mv_types.specs.declared.foreknown.Said.TheVariants as said
 use Rattle.mv_types.specs.Foreknown.{foreknown, is_constant, is_said}

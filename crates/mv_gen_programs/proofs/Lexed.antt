@@ -5,7 +5,7 @@ use Rattle.std.proofs.lemmas.Bool.{and_parts, leb-true}
 use Rattle.std.proofs.lemmas.List.{length-take-le}
 use Rattle.mv_ast.specs.declared.place.Place.{Place}
 use Rattle.mv_ast.specs.declared.token.Tokens.{Tokens}
-use Rattle.mv_grammar.specs.Terminals.{Terminal, terminals}
+use Rattle.mv_parse_grammar.specs.Terminals.{Terminal, terminals}
 use Rattle.mv_lexer.specs.Include.{IsIncludeLine, line_feed, include_line}
 use Rattle.mv_lexer.specs.Place.{start, after}
 use Rattle.mv_lexer.specs.Reading.{Lexeme, StandsInFront, Scans, AreTokens, tokens_of, after_all, skipped, white_space}

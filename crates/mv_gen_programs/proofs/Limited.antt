@@ -7,10 +7,10 @@ use Rattle.mv_ast.specs.declared.program.Function.{Function}
 use Rattle.mv_ast.specs.declared.program.Program.{Program}
 use Rattle.mv_ast.specs.Counts.{assignments, product_of}
 use Rattle.mv_ast.specs.Plans.{switch_domain}
-use Rattle.mv_limits.specs.declared.excess.Exceeded.{Exceeded}
-use Rattle.mv_limits.specs.Limits.{Limit, elements, functions_limit, globals_limit, parameters_limit, switches_limit, values_limit, own_switches as counted_switches, switches_of_function_limit, assignments_limit, elements_limit, first_above, reported, excess, first_some, first_exceeded}
-use Rattle.mv_limits.proofs.Orders.{none_in_order}
-use Rattle.mv_rules.proofs.Units.{same_judgement}
+use Rattle.mv_check_limits.specs.declared.excess.Exceeded.{Exceeded}
+use Rattle.mv_check_limits.specs.Limits.{Limit, elements, functions_limit, globals_limit, parameters_limit, switches_limit, values_limit, own_switches as counted_switches, switches_of_function_limit, assignments_limit, elements_limit, first_above, reported, excess, first_some, first_exceeded}
+use Rattle.mv_check_limits.proofs.Orders.{none_in_order}
+use Rattle.mv_check_rules.proofs.Units.{same_judgement}
 use Rattle.mv_front.specs.Verdicts.{IsProgram}
 use Rattle.mv_gen.specs.Generated.{drawn, functions, form_of, switch_of, constant_of, generated}
 use Rattle.mv_gen_programs.proofs.Bodies.{four}

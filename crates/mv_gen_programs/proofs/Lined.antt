@@ -11,19 +11,19 @@ use Rattle.mv_ast.specs.declared.unit.Act.TheOpen as act
 use Rattle.mv_ast.specs.declared.unit.Act.TheVariants as a
 use Rattle.mv_ast.specs.declared.unit.Line.{Line, out-Line, fold_out-Line}
 use Rattle.mv_ast.specs.declared.unit.Node.{Node}
-use Rattle.mv_grammar.specs.Statements.{line_at}
-use Rattle.mv_scope.specs.declared.scope.Scope.{Scope}
-use Rattle.mv_scope.specs.Conversions.{int, typed, converted_to}
-use Rattle.mv_scope.specs.Scoped.{block_entered, block_left}
-use Rattle.mv_judge.specs.Judged.{Good, and_then}
-use Rattle.mv_judge.specs.Judgements.{value_judgement, effect_judgement}
+use Rattle.mv_parse_grammar.specs.Statements.{line_at}
+use Rattle.mv_check_scope.specs.declared.scope.Scope.{Scope}
+use Rattle.mv_check_scope.specs.Conversions.{int, typed, converted_to}
+use Rattle.mv_check_scope.specs.Scoped.{block_entered, block_left}
+use Rattle.mv_check_expressions.specs.Judged.{Good, and_then}
+use Rattle.mv_check_expressions.specs.Judgements.{value_judgement, effect_judgement}
 use Rattle.mv_ast.specs.declared.unit.Declarator.{Declarator}
 use Rattle.mv_ast.specs.declared.unit.Specs.{Specs}
-use Rattle.mv_declare.specs.Locals.{locals_judgement}
-use Rattle.mv_declare.specs.Turns.{Behind, through}
-use Rattle.mv_statement_rules.specs.declared.around.Around.{Around}
-use Rattle.mv_statement_rules.specs.Surroundings.{in_function, in_loop}
-use Rattle.mv_statement_rules.specs.Statements.{Judges, Layer, act_step, line_step, judges_of, lines_in_turn, body_judgement, returned}
+use Rattle.mv_check_declarations.specs.Locals.{locals_judgement}
+use Rattle.mv_check_declarations.specs.Turns.{Behind, through}
+use Rattle.mv_check_statements.specs.declared.around.Around.{Around}
+use Rattle.mv_check_statements.specs.Surroundings.{in_function, in_loop}
+use Rattle.mv_check_statements.specs.Statements.{Judges, Layer, act_step, line_step, judges_of, lines_in_turn, body_judgement, returned}
 
 abbrev act_fold : Act → Place → Judges
 act_fold = fold-Act (Place → Judges) Judges act_step line_step

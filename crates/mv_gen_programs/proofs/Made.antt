@@ -5,12 +5,12 @@ use Rattle.mv_ast.specs.declared.place.Place.{Place}
 use Rattle.mv_ast.specs.declared.program.Function.{Function}
 use Rattle.mv_ast.specs.declared.unit.Act.TheVariants as a
 use Rattle.mv_ast.specs.declared.unit.Item.{Item}
-use Rattle.mv_grammar.specs.Statements.{line_at}
-use Rattle.mv_scope.specs.declared.meaning.Meaning.TheVariants as meaning
-use Rattle.mv_scope.specs.Names.{Names}
-use Rattle.mv_scope.specs.Spaces.{named}
-use Rattle.mv_judge.specs.Judged.{Judged, Good, and_then}
-use Rattle.mv_declare.specs.Turns.{through}
+use Rattle.mv_parse_grammar.specs.Statements.{line_at}
+use Rattle.mv_check_scope.specs.declared.meaning.Meaning.TheVariants as meaning
+use Rattle.mv_check_scope.specs.Names.{Names}
+use Rattle.mv_check_scope.specs.Spaces.{named}
+use Rattle.mv_check_expressions.specs.Judged.{Judged, Good, and_then}
+use Rattle.mv_check_declarations.specs.Turns.{through}
 use Rattle.mv_types.specs.declared.contents.Contents.{Contents}
 use Rattle.mv_types.specs.Contents.{nothing_declared}
 use Rattle.mv_types.specs.Units.{item_judgement}

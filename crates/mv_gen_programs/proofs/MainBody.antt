@@ -17,38 +17,38 @@ use Rattle.mv_ast.specs.declared.unit.Shape.{fold_out-Shape}
 use Rattle.mv_ast.specs.declared.unit.Shape.TheVariants as shape
 use Rattle.mv_ast.specs.declared.unit.Specs.{out-roll-Specs}
 use Rattle.mv_ast.specs.declared.unit.What.TheVariants as w
-use Rattle.mv_grammar.specs.Expressions.{node_at}
-use Rattle.mv_grammar.specs.Statements.{line_at}
-use Rattle.mv_scope.specs.declared.meaning.Routine.{Routine}
-use Rattle.mv_scope.specs.declared.meaning.Variable.{Variable}
-use Rattle.mv_scope.specs.declared.meaning.Meaning.TheVariants as meaning
-use Rattle.mv_scope.specs.declared.meaning.Storage.TheVariants as storage
-use Rattle.mv_scope.specs.declared.scope.Scope.{Scope}
-use Rattle.mv_scope.specs.Conversions.{int, typed, converted_to}
-use Rattle.mv_scope.specs.Names.{Names}
-use Rattle.mv_scope.specs.Scoped.{meaning_of, block_entered}
-use Rattle.mv_scope.specs.Spaces.{named}
-use Rattle.mv_judge.specs.declared.seen.Seen.{Seen}
-use Rattle.mv_judge.specs.declared.seen.Seen.TheVariants as seen
-use Rattle.mv_judge.specs.declared.seen.Use.TheVariants as «use»
-use Rattle.mv_judge.specs.Breaches.{concluded, least}
-use Rattle.mv_judge.specs.Calls.{called_with}
-use Rattle.mv_judge.specs.Found.{binary_of, assign_to}
-use Rattle.mv_judge.specs.Judged.{Judged, Good, and_then}
-use Rattle.mv_judge.specs.Judgements.{judgement, value_judgement, effect_judgement}
-use Rattle.mv_judge.specs.Rules.{takes_two}
-use Rattle.mv_judge.specs.Seen.{object_of_variable, value_of}
-use Rattle.mv_judge.specs.TypeNames.{named_kind}
-use Rattle.mv_declare.specs.declared.attributes.Position.{Position}
-use Rattle.mv_declare.specs.declared.declarators.Entity.TheVariants as entity
-use Rattle.mv_declare.specs.Declarators.{designated, Shapes, Declarators, Params, shape_step, declarator_step, param_step}
-use Rattle.mv_declare.specs.Locals.{own_scope}
-use Rattle.mv_declare.specs.Objects.{scalar}
-use Rattle.mv_declare.specs.Objects.{least as object_least}
-use Rattle.mv_declare.specs.Specifiers.{specifiers, type_by_rules}
-use Rattle.mv_statement_rules.specs.declared.around.Around.{Around}
-use Rattle.mv_statement_rules.specs.Statements.{judges_of, lines_in_turn, body_judgement}
-use Rattle.mv_statement_rules.specs.Surroundings.{in_function, in_loop}
+use Rattle.mv_parse_grammar.specs.Expressions.{node_at}
+use Rattle.mv_parse_grammar.specs.Statements.{line_at}
+use Rattle.mv_check_scope.specs.declared.meaning.Routine.{Routine}
+use Rattle.mv_check_scope.specs.declared.meaning.Variable.{Variable}
+use Rattle.mv_check_scope.specs.declared.meaning.Meaning.TheVariants as meaning
+use Rattle.mv_check_scope.specs.declared.meaning.Storage.TheVariants as storage
+use Rattle.mv_check_scope.specs.declared.scope.Scope.{Scope}
+use Rattle.mv_check_scope.specs.Conversions.{int, typed, converted_to}
+use Rattle.mv_check_scope.specs.Names.{Names}
+use Rattle.mv_check_scope.specs.Scoped.{meaning_of, block_entered}
+use Rattle.mv_check_scope.specs.Spaces.{named}
+use Rattle.mv_check_expressions.specs.declared.seen.Seen.{Seen}
+use Rattle.mv_check_expressions.specs.declared.seen.Seen.TheVariants as seen
+use Rattle.mv_check_expressions.specs.declared.seen.Use.TheVariants as «use»
+use Rattle.mv_check_expressions.specs.Breaches.{concluded, least}
+use Rattle.mv_check_expressions.specs.Calls.{called_with}
+use Rattle.mv_check_expressions.specs.Found.{binary_of, assign_to}
+use Rattle.mv_check_expressions.specs.Judged.{Judged, Good, and_then}
+use Rattle.mv_check_expressions.specs.Judgements.{judgement, value_judgement, effect_judgement}
+use Rattle.mv_check_expressions.specs.Rules.{takes_two}
+use Rattle.mv_check_expressions.specs.Seen.{object_of_variable, value_of}
+use Rattle.mv_check_expressions.specs.TypeNames.{named_kind}
+use Rattle.mv_check_declarations.specs.declared.attributes.Position.{Position}
+use Rattle.mv_check_declarations.specs.declared.declarators.Entity.TheVariants as entity
+use Rattle.mv_check_declarations.specs.Declarators.{designated, Shapes, Declarators, Params, shape_step, declarator_step, param_step}
+use Rattle.mv_check_declarations.specs.Locals.{own_scope}
+use Rattle.mv_check_declarations.specs.Objects.{scalar}
+use Rattle.mv_check_declarations.specs.Objects.{least as object_least}
+use Rattle.mv_check_declarations.specs.Specifiers.{specifiers, type_by_rules}
+use Rattle.mv_check_statements.specs.declared.around.Around.{Around}
+use Rattle.mv_check_statements.specs.Statements.{judges_of, lines_in_turn, body_judgement}
+use Rattle.mv_check_statements.specs.Surroundings.{in_function, in_loop}
 use Rattle.mv_gen_programs.proofs.Lines.{function_name, commit_parts}
 use Rattle.mv_gen_programs.proofs.Trees.{Places, word, int_specs, local_tree, store_tree, commit_tree, if_tree, call_tree, call_trees, loop_tree, output_tree, feed_tree, return_tree}
 use Rattle.mv_gen_programs.proofs.Values.{object_value, object_place, known_callee, function_callee, one_argument, number_value, binary_judged, assign_judged, after_judged, call_judged, read_local, read_global, constant, binary}

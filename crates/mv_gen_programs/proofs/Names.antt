@@ -7,10 +7,10 @@ use Rattle.std.specs.Cmp.Lexicographic.{pointwise, same_text}
 use Rattle.std.proofs.lemmas.Bool.{cases_lt, lt-ltb}
 use Rattle.std.proofs.lemmas.Fmt.{decimal_injective}
 use Rattle.std.proofs.lemmas.List.Folds.{list_any-append}
-use Rattle.mv_scope.specs.declared.meaning.Meaning.TheVariants as meaning
-use Rattle.mv_scope.specs.Names.{Names}
-use Rattle.mv_scope.specs.Spaces.{named}
-use Rattle.mv_outline.specs.Names.{same_name, is_among, with_name, each_once, place_of, among}
+use Rattle.mv_check_scope.specs.declared.meaning.Meaning.TheVariants as meaning
+use Rattle.mv_check_scope.specs.Names.{Names}
+use Rattle.mv_check_scope.specs.Spaces.{named}
+use Rattle.mv_check_outline.specs.Names.{same_name, is_among, with_name, each_once, place_of, among}
 use Rattle.mv_gen_programs.proofs.Longest.{same_self}
 use Rattle.mv_gen_programs.proofs.Lines.{function_name}
 use Rattle.mv_gen_programs.proofs.MainBody.{routine}

@@ -6,16 +6,16 @@ use Rattle.mv_ast.specs.declared.unit.Item.{Item}
 use Rattle.mv_ast.specs.declared.unit.Line.{Line}
 use Rattle.mv_ast.specs.declared.unit.Act.TheVariants as a
 use Rattle.mv_ast.specs.declared.unit.Specs.{out-roll-Specs}
-use Rattle.mv_grammar.specs.Terminals.{Terminal, is_keyword, is_specifier, is_no_end}
-use Rattle.mv_grammar.specs.Reader.{Read, Ends, next, chain, pushed}
-use Rattle.mv_grammar.specs.Declarations.{place_of_specs, is_void, is_plain}
+use Rattle.mv_parse_grammar.specs.Terminals.{Terminal, is_keyword, is_specifier, is_no_end}
+use Rattle.mv_parse_grammar.specs.Reader.{Read, Ends, next, chain, pushed}
+use Rattle.mv_parse_grammar.specs.Declarations.{place_of_specs, is_void, is_plain}
 use Rattle.mv_ast.specs.declared.place.Place.{Place}
 use Rattle.mv_ast.specs.declared.unit.Shape.TheVariants as shape
-use Rattle.mv_grammar.specs.Statements.{line_at}
-use Rattle.mv_grammar.specs.StatementReader.{LineReader, block_item, block, statement, locals, statements}
-use Rattle.mv_grammar.specs.UnitReader.{item, items}
-use Rattle.mv_grammar.specs.ExpressionReader.{level, read}
-use Rattle.mv_grammar.specs.DeclarationReader.{params}
+use Rattle.mv_parse_grammar.specs.Statements.{line_at}
+use Rattle.mv_parse_grammar.specs.StatementReader.{LineReader, block_item, block, statement, locals, statements}
+use Rattle.mv_parse_grammar.specs.UnitReader.{item, items}
+use Rattle.mv_parse_grammar.specs.ExpressionReader.{level, read}
+use Rattle.mv_parse_grammar.specs.DeclarationReader.{params}
 use Rattle.mv_gen_programs.proofs.Parts.{sign, words}
 use Rattle.mv_gen_programs.proofs.Scanned.{placed}
 use Rattle.mv_gen_programs.proofs.Lines.{switch_parts, definition_parts, object_parts, head_parts, local_parts, loop_parts, commit_parts, call_parts, output_parts, feed_parts, return_parts}

@@ -17,19 +17,19 @@ use Rattle.mv_ast.specs.declared.program.Switch.{Switch}
 use Rattle.mv_ast.specs.declared.program.Target.{Target, Target-F, out-Target, map-Target, fold-Target, fold_out-Target}
 use Rattle.mv_ast.specs.declared.program.Target.TheVariants as target
 use Rattle.mv_ast.specs.Plans.{is_among}
-use Rattle.mv_scope.specs.Conversions.{int, typed}
+use Rattle.mv_check_scope.specs.Conversions.{int, typed}
 use Rattle.mv_ast.specs.declared.unit.Act.TheVariants as a
-use Rattle.mv_grammar.specs.Statements.{line_at}
-use Rattle.mv_judge.specs.Judged.{Judged, Good, and_then}
-use Rattle.mv_declare.specs.Objects.{scalar}
-use Rattle.mv_declare.specs.Turns.{through}
-use Rattle.mv_uses.specs.Uses.{expr_globals, stmt_globals, switches_named, numbers_from, form_layer, target_layer, expr_layer, stmt_layer, arm_layer}
+use Rattle.mv_parse_grammar.specs.Statements.{line_at}
+use Rattle.mv_check_expressions.specs.Judged.{Judged, Good, and_then}
+use Rattle.mv_check_declarations.specs.Objects.{scalar}
+use Rattle.mv_check_declarations.specs.Turns.{through}
+use Rattle.mv_check_uses.specs.Uses.{expr_globals, stmt_globals, switches_named, numbers_from, form_layer, target_layer, expr_layer, stmt_layer, arm_layer}
 use Rattle.mv_types.specs.declared.contents.Contents.{Contents}
 use Rattle.mv_types.specs.declared.contents.Foreknown.{Foreknown}
 use Rattle.mv_types.specs.Contents.{nothing_declared, present}
 use Rattle.mv_types.specs.Units.{item_judgement, program_of, program_judgement, unit_judgement, with_switches}
-use Rattle.mv_scope.specs.Spaces.{named}
-use Rattle.mv_scope.specs.declared.meaning.Meaning.TheVariants as meaning
+use Rattle.mv_check_scope.specs.Spaces.{named}
+use Rattle.mv_check_scope.specs.declared.meaning.Meaning.TheVariants as meaning
 use Rattle.mv_gen.specs.Generated.{drawn, functions, form_of, switch_of, constant_of}
 use Rattle.mv_gen_programs.proofs.Lines.{function_name, switch_parts}
 use Rattle.mv_gen_programs.proofs.Trees.{Places}

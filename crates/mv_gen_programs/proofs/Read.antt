@@ -4,16 +4,16 @@ use Rattle.mv_ast.specs.declared.unit.Item.{Item}
 use Rattle.mv_ast.specs.declared.unit.Line.{Line}
 use Rattle.mv_ast.specs.declared.unit.Act.TheVariants as a
 use Rattle.mv_ast.specs.declared.unit.Unit as tree
-use Rattle.mv_grammar.specs.Terminals.{Terminal, is_keyword, is_no_end}
-use Rattle.mv_grammar.specs.Reader.{Read, Ends, next, chain, pushed}
-use Rattle.mv_grammar.specs.Statements.{line_at}
-use Rattle.mv_grammar.specs.ExpressionReader.{read}
-use Rattle.mv_grammar.specs.DeclarationReader.{params}
-use Rattle.mv_grammar.specs.StatementReader.{block_item, block, locals, statements}
-use Rattle.mv_grammar.specs.UnitReader.{item, items, unit}
-use Rattle.mv_grammar.specs.Units.{AreItems}
-use Rattle.mv_grammar.proofs.Verdict.{read_items}
-use Rattle.mv_reading.specs.Texts.{ReadsAs}
+use Rattle.mv_parse_grammar.specs.Terminals.{Terminal, is_keyword, is_no_end}
+use Rattle.mv_parse_grammar.specs.Reader.{Read, Ends, next, chain, pushed}
+use Rattle.mv_parse_grammar.specs.Statements.{line_at}
+use Rattle.mv_parse_grammar.specs.ExpressionReader.{read}
+use Rattle.mv_parse_grammar.specs.DeclarationReader.{params}
+use Rattle.mv_parse_grammar.specs.StatementReader.{block_item, block, locals, statements}
+use Rattle.mv_parse_grammar.specs.UnitReader.{item, items, unit}
+use Rattle.mv_parse_grammar.specs.Units.{AreItems}
+use Rattle.mv_parse_grammar.proofs.Verdict.{read_items}
+use Rattle.mv_parse_reading.specs.Texts.{ReadsAs}
 use Rattle.mv_gen.specs.Generated.{drawn, functions, form_of, switch_of, constant_of, generated}
 use Rattle.mv_gen_programs.proofs.Parts.{Part, sign, Word, word_of, words}
 use Rattle.mv_gen_programs.proofs.Scanned.{placed, placed_append, placed_behind, behind}

@@ -8,7 +8,7 @@ use Rattle.mv_ast.specs.declared.place.Place.{Place}
 use Rattle.mv_ast.specs.declared.token.Piece.{Piece}
 use Rattle.mv_ast.specs.declared.token.Piece.TheVariants as piece
 use Rattle.mv_ast.specs.declared.token.Token.{Token}
-use Rattle.mv_grammar.specs.Terminals.{Terminal, terminals}
+use Rattle.mv_parse_grammar.specs.Terminals.{Terminal, terminals}
 use Rattle.mv_lexer.specs.Place.{after}
 use Rattle.mv_lexer.specs.Reading.{Scans, StandsInFront, tokens_of}
 use Rattle.mv_lexer.specs.declared.position.Position.{Position}

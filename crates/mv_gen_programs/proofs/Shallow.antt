@@ -4,8 +4,8 @@ use Rattle.std.specs.Prelude.{◌&&◌, nat_le, All}
 use Rattle.std.proofs.lemmas.Bool.{and_parts, leb-true}
 use Rattle.mv_ast.specs.declared.token.Piece.{Piece}
 use Rattle.mv_ast.specs.declared.token.Token.{Token}
-use Rattle.mv_grammar.specs.Terminals.{terminals}
-use Rattle.mv_nesting.specs.Nesting.{Pairs, start, level_of, after_piece, continues, goes_on, levels_from}
+use Rattle.mv_parse_grammar.specs.Terminals.{terminals}
+use Rattle.mv_parse_nesting.specs.Nesting.{Pairs, start, level_of, after_piece, continues, goes_on, levels_from}
 use Rattle.mv_parser.specs.Verdict.{IsShallow}
 use Rattle.mv_gen.specs.Generated.{drawn, functions, form_of, switch_of, constant_of, generated}
 use Rattle.mv_gen_programs.proofs.Parts.{Part, Word, words}

@@ -12,10 +12,10 @@ use Rattle.mv_ast.specs.declared.unit.Param.{Param}
 use Rattle.mv_ast.specs.declared.unit.Line.{Line}
 use Rattle.mv_ast.specs.declared.unit.Act.TheVariants as a
 use Rattle.mv_ast.specs.declared.unit.Item.{Item}
-use Rattle.mv_grammar.specs.Expressions.{node_at, specs_of}
-use Rattle.mv_grammar.specs.Declarations.{mark_at, declarator_of, param_of}
-use Rattle.mv_grammar.specs.Statements.{line_at}
-use Rattle.mv_grammar.specs.Units.{item_of}
+use Rattle.mv_parse_grammar.specs.Expressions.{node_at, specs_of}
+use Rattle.mv_parse_grammar.specs.Declarations.{mark_at, declarator_of, param_of}
+use Rattle.mv_parse_grammar.specs.Statements.{line_at}
+use Rattle.mv_parse_grammar.specs.Units.{item_of}
 use Rattle.mv_gen.specs.Generated.{drawn, form_of, switch_of, constant_of}
 use Rattle.mv_gen_programs.proofs.Parts.{Word, words}
 use Rattle.mv_gen_programs.proofs.Scanned.{behind}

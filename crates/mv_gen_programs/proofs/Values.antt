@@ -10,25 +10,25 @@ use Rattle.mv_ast.specs.declared.program.Target.TheVariants as target
 use Rattle.mv_ast.specs.declared.unit.Node.{Node}
 use Rattle.mv_ast.specs.declared.unit.What.TheVariants as w
 use Rattle.mv_ast.specs.declared.unit.What.TheOpen as what
-use Rattle.mv_grammar.specs.Expressions.{node_at}
-use Rattle.mv_scope.specs.declared.meaning.Routine.{Routine}
-use Rattle.mv_scope.specs.declared.meaning.Variable.{Variable}
-use Rattle.mv_scope.specs.declared.meaning.Meaning.{Meaning}
-use Rattle.mv_scope.specs.declared.meaning.Meaning.TheVariants as meaning
-use Rattle.mv_scope.specs.declared.scope.Scope.{Scope}
-use Rattle.mv_scope.specs.Conversions.{int, typed}
-use Rattle.mv_scope.specs.Scoped.{meaning_of}
-use Rattle.mv_judge.specs.declared.seen.Seen.{Seen}
-use Rattle.mv_judge.specs.declared.seen.Seen.TheVariants as seen
-use Rattle.mv_judge.specs.declared.seen.Use.{Use}
-use Rattle.mv_judge.specs.declared.seen.Use.TheVariants as «use»
-use Rattle.mv_judge.specs.Breaches.{by_itself, concluded, least}
-use Rattle.mv_judge.specs.Judged.{Judged, Good, and_then}
-use Rattle.mv_judge.specs.Judgements.{judgement, judgements}
-use Rattle.mv_judge.specs.Rules.{is_uncalled, is_bare, is_valueless, is_misnamed}
-use Rattle.mv_judge.specs.Seen.{object_of_variable, seen_name, is_undefined}
-use Rattle.mv_judge.specs.Calls.{argument_use}
-use Rattle.mv_judge.proofs.Equations.{judged-Number, judged-Name, judged-Binary, judged-Choose, judged-Assign, judged-After, judged-Call}
+use Rattle.mv_parse_grammar.specs.Expressions.{node_at}
+use Rattle.mv_check_scope.specs.declared.meaning.Routine.{Routine}
+use Rattle.mv_check_scope.specs.declared.meaning.Variable.{Variable}
+use Rattle.mv_check_scope.specs.declared.meaning.Meaning.{Meaning}
+use Rattle.mv_check_scope.specs.declared.meaning.Meaning.TheVariants as meaning
+use Rattle.mv_check_scope.specs.declared.scope.Scope.{Scope}
+use Rattle.mv_check_scope.specs.Conversions.{int, typed}
+use Rattle.mv_check_scope.specs.Scoped.{meaning_of}
+use Rattle.mv_check_expressions.specs.declared.seen.Seen.{Seen}
+use Rattle.mv_check_expressions.specs.declared.seen.Seen.TheVariants as seen
+use Rattle.mv_check_expressions.specs.declared.seen.Use.{Use}
+use Rattle.mv_check_expressions.specs.declared.seen.Use.TheVariants as «use»
+use Rattle.mv_check_expressions.specs.Breaches.{by_itself, concluded, least}
+use Rattle.mv_check_expressions.specs.Judged.{Judged, Good, and_then}
+use Rattle.mv_check_expressions.specs.Judgements.{judgement, judgements}
+use Rattle.mv_check_expressions.specs.Rules.{is_uncalled, is_bare, is_valueless, is_misnamed}
+use Rattle.mv_check_expressions.specs.Seen.{object_of_variable, seen_name, is_undefined}
+use Rattle.mv_check_expressions.specs.Calls.{argument_use}
+use Rattle.mv_check_expressions.proofs.Equations.{judged-Number, judged-Name, judged-Binary, judged-Choose, judged-Assign, judged-After, judged-Call}
 use Rattle.mv_gen_programs.proofs.Trees.{word, number}
 
 module _ (s : Scope) where

@@ -7,7 +7,7 @@
 //! - `labelled::labelled_law`: what each item of labelled code does where it stands, over any text and memory: a jump
 //!   leads to its label, a branch in one step or in two over the inverse, an entry puts its address into a register, a
 //!   slot calls.
-//! - Only tested: 554 words of GNU as (`mv_asmtext_rows`).
+//! - Only tested: 554 words of GNU as (`mv_test_asmtext`).
 #![tactic(auto)]
 
 mod decoding;

@@ -19,7 +19,7 @@
 //!   (`sites`).
 //! - Only tested: the words of two functions and a variant behind the stubs, by outside assemblers, with data that names
 //!   a function, and their sites; the limits of text and data at their value and one above, with the texts of these
-//!   refusals (`mv_linker_cases`).
+//!   refusals (`mv_test_linker`).
 #![tactic(auto)]
 
 mod error;

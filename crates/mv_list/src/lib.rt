@@ -6,7 +6,7 @@
 //! - `patched` sets beside the image's text what loads give. `loads_give_the_text`: where the text of a memory consists of
 //!   words of 32 bits, that is the text.
 //! - Only tested: one listing of two switches, of which one is signed, and two functions, of which one has no switches;
-//!   bindings of these (`mv_top_rows`).
+//!   bindings of these (`mv_test_top`).
 #![tactic(auto)]
 
 mod bound;

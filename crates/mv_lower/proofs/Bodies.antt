@@ -14,10 +14,10 @@ use Rattle.mv_ast.specs.Plans.{is_among, switch_global}
 use Rattle.mv_ir.specs.declared.body.Room.{Room}
 use Rattle.mv_ir.specs.declared.body.Body.{Body}
 use Rattle.mv_ir.specs.declared.stm.Stm.{Stm}
-use Rattle.mv_lowering.specs.Lowered.{number}
-use Rattle.mv_lowering.specs.Lower.{is_void}
-use Rattle.mv_lowering.specs.Statements.{Code, return_with}
-use Rattle.mv_lowering.specs.Functions.{outermost, lower_body, lower_function_code, lower_function, array_sizes, names_global, functions_called, address_behind, rooms_from, marked_from}
+use Rattle.mv_lower_spec.specs.Lowered.{number}
+use Rattle.mv_lower_spec.specs.Lower.{is_void}
+use Rattle.mv_lower_spec.specs.Statements.{Code, return_with}
+use Rattle.mv_lower_spec.specs.Functions.{outermost, lower_body, lower_function_code, lower_function, array_sizes, names_global, functions_called, address_behind, rooms_from, marked_from}
 use Rattle.mv_lower.specs.Statements.{stmt_at, stmts_at}
 use Rattle.mv_ast.specs.declared.program.Program.{Program}
 use Rattle.mv_lower.specs.declared.names.Marks.{Marks}

@@ -4,8 +4,8 @@ use Rattle.std.proofs.lemmas.List.{take_more, drop_all}
 use Rattle.mv_ast.specs.declared.program.Arm.{Arm}
 use Rattle.mv_ast.specs.Counts.{words_of_size}
 use Rattle.mv_ir.specs.declared.stm.Stm.{Stm}
-use Rattle.mv_lowering.specs.Lowered.{Lowered, number}
-use Rattle.mv_lowering.specs.Statements.{Code, store_word, clear_words, store_zeros, test_labels}
+use Rattle.mv_lower_spec.specs.Lowered.{Lowered, number}
+use Rattle.mv_lower_spec.specs.Statements.{Code, store_word, clear_words, store_zeros, test_labels}
 use Rattle.mv_lower_expressions.specs.declared.value.Value.{Value}
 use Rattle.mv_lower_expressions.specs.Values.{seen}
 use Rattle.mv_lower.specs.Declarations.{values_stored, values_top_of, clears_first, clear_of}

@@ -21,7 +21,7 @@ use Rattle.mv_ir.proofs.Lists.{joined_push}
 use Rattle.mv_ir.specs.Measures.{joined, layer_trees, tree_reads, stm_trees, array_read, callee_trees}
 use Rattle.mv_ir.specs.WellFormed.{stm_named, layer_named}
 use Rattle.mv_ir.proofs.Rolls.{reads_roll, trees_roll, named_roll}
-use Rattle.mv_lowering.specs.Functions.{callee_called, layer_called, stm_called}
+use Rattle.mv_lower_spec.specs.Functions.{callee_called, layer_called, stm_called}
 use Rattle.mv_lower.specs.Naming.{flagged, Flags, Names, marked, tree_names, trees_names, global_names, function_names, array_names, callee_names, stm_names, code_names}
 use Rattle.mv_lower_expressions.proofs.Emitting.{number_is, temp_is, global_is, function_is, unary_is, binary_is, narrow_is, set_is, set_global_is, divide_is, check_is, read_is, write_is, zero_is, if_is, loop_is, block_is, break_is, call_is, known_is, return_is}
 

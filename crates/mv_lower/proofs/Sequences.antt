@@ -4,7 +4,7 @@ use Rattle.std.proofs.lemmas.List.{take_more}
 use Rattle.mv_ast.specs.declared.program.Function.{Function}
 use Rattle.mv_ast.specs.declared.program.Stmt.{Stmt}
 use Rattle.mv_ir.specs.declared.stm.Stm.{Stm}
-use Rattle.mv_lowering.specs.Statements.{Jumps, Code}
+use Rattle.mv_lower_spec.specs.Statements.{Jumps, Code}
 use Rattle.mv_lower.specs.Statements.{stmt_at, stmts_at}
 
 pub same_code : {c d : List Stm} {m n : ℕ} → c ≡ d → m ≡ n → (let a : Code = record { code = c; top = m } in a) ≡ (let b : Code = record { code = d; top = n } in b)

@@ -5,9 +5,9 @@ use Rattle.std.proofs.lemmas.List.{drop_all}
 use Rattle.mv_ast.specs.declared.program.Function.{Function}
 use Rattle.mv_ast.specs.declared.program.Arm.{Arm}
 use Rattle.mv_ir.specs.declared.stm.Stm.{Stm}
-use Rattle.mv_lowering.specs.Lowered.{number, temp, binary, set, choose, is_empty}
-use Rattle.mv_lowering.specs.Statements.{Jumps, Code, LoweredArm, in_arm, arm_code, arms_code, arms_top}
-use Rattle.mv_lowering.proofs.Expressions.{no}
+use Rattle.mv_lower_spec.specs.Lowered.{number, temp, binary, set, choose, is_empty}
+use Rattle.mv_lower_spec.specs.Statements.{Jumps, Code, LoweredArm, in_arm, arm_code, arms_code, arms_top}
+use Rattle.mv_lower_spec.proofs.Expressions.{no}
 use Rattle.mv_lower.specs.Statements.{stmts_at, arm_at}
 use Rattle.mv_lower.specs.Switches.{arms_of}
 use Rattle.mv_lower.proofs.Sequences.{same_code}

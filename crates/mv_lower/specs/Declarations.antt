@@ -1,9 +1,9 @@
 -- Declarations of locals, as functions of what their values are lowered to.
 use Rattle.std.specs.Prelude.{ℕ, ◌*◌, ◌-◌, Bool, ◌||◌, List, map, nat_le, Option}
 use Rattle.mv_ir.specs.declared.stm.Stm.{Stm}
-use Rattle.mv_lowering.specs.Lowered.{Lowered}
-use Rattle.mv_lowering.specs.Statements.{Code, store_values, values_top, lower_clear}
-use Rattle.mv_lowering.specs.Functions.{outermost}
+use Rattle.mv_lower_spec.specs.Lowered.{Lowered}
+use Rattle.mv_lower_spec.specs.Statements.{Code, store_values, values_top, lower_clear}
+use Rattle.mv_lower_spec.specs.Functions.{outermost}
 use Rattle.mv_lower_expressions.specs.Values.{given}
 
 -- given values, from a word on

@@ -6,7 +6,7 @@ use Rattle.mv_ir.specs.declared.stm.Callee.{Callee}
 use Rattle.mv_ir.specs.declared.stm.Stm.{Stm}
 use Rattle.mv_ir.specs.Measures.{joined, tree_reads, stm_trees, array_read, callee_trees}
 use Rattle.mv_ir.specs.WellFormed.{stm_named}
-use Rattle.mv_lowering.specs.Functions.{callee_called, stm_called}
+use Rattle.mv_lower_spec.specs.Functions.{callee_called, stm_called}
 use Rattle.mv_lower.specs.declared.names.Marks.{Marks}
 
 -- ---- flags

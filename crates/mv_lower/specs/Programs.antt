@@ -4,8 +4,8 @@ use Rattle.mv_ir.specs.declared.stm.Stm.{Stm}
 use Rattle.mv_ast.specs.declared.program.Program.{Program}
 use Rattle.mv_ast.specs.declared.program.Function.{Function}
 use Rattle.mv_ast.specs.Plans.{is_among}
-use Rattle.mv_lowering.specs.Functions.{ending, names_global, functions_called}
-use Rattle.mv_lowering.specs.Statements.{Code}
+use Rattle.mv_lower_spec.specs.Functions.{ending, names_global, functions_called}
+use Rattle.mv_lower_spec.specs.Statements.{Code}
 use Rattle.mv_lower.specs.declared.names.Marks.{Marks}
 use Rattle.mv_lower.specs.Naming.{Flags}
 use Rattle.mv_lower.specs.Statements.{stmts_size}

@@ -3,8 +3,8 @@ use Rattle.std.specs.Prelude.{ℕ, ◌+◌, suc, cond, List, [], ◌∷◌, ◌+
 use Rattle.mv_ast.specs.declared.program.Function.{Function}
 use Rattle.mv_ast.specs.declared.program.Arm.{Arm}
 use Rattle.mv_ir.specs.declared.stm.Stm.{Stm}
-use Rattle.mv_lowering.specs.Lowered.{Lowered, number, set}
-use Rattle.mv_lowering.specs.Statements.{Jumps, Code, enclosed, test_labels, arms_code, arms_top}
+use Rattle.mv_lower_spec.specs.Lowered.{Lowered, number, set}
+use Rattle.mv_lower_spec.specs.Statements.{Jumps, Code, enclosed, test_labels, arms_code, arms_top}
 use Rattle.mv_lower.specs.Statements.{arm_at}
 
 -- the place of the first arm with `default`, from this place on

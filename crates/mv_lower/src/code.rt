@@ -1,6 +1,6 @@
 // Lowered statements, from what their parts are lowered to.
 ghost use Rattle.std.specs.Prelude.{◌≡◌, ◌+◌, ◌++◌, ◌∷◌, [], ◌<◌, ◌^◌, IfOk, OnOk};
-ghost use Rattle.mv_lowering.specs.Statements.{in_body, in_arm, enclosed, test_and_body};
+ghost use Rattle.mv_lower_spec.specs.Statements.{in_body, in_arm, enclosed, test_and_body};
 ghost use Rattle.mv_lower_expressions.specs.Values.{seen, given};
 ghost use Rattle.mv_lower.specs.Statements.{seen_code, seen_jumps, express_of, return_of, if_of, while_of, do_of, for_of, break_at, continue_at, end_at};
 

@@ -1,7 +1,7 @@
 // The tests and the arms of `switch`.
 ghost use Rattle.std.specs.Prelude.{◌≡◌, ◌+◌, ◌++◌, ◌∷◌, [], ◌<◌, ◌≤◌, ◌^◌, IfOk, OnOk, map, length};
-ghost use Rattle.mv_lowering.specs.Lowered.{number, set};
-ghost use Rattle.mv_lowering.specs.Statements.{in_arm, enclosed, break, test_labels, arm_code};
+ghost use Rattle.mv_lower_spec.specs.Lowered.{number, set};
+ghost use Rattle.mv_lower_spec.specs.Statements.{in_arm, enclosed, break, test_labels, arm_code};
 ghost use Rattle.mv_lower.specs.Statements.{seen_jumps, seen_code};
 ghost use Rattle.mv_lower_expressions.specs.Values.{seen};
 ghost use Rattle.mv_lower.specs.Switches.{default_place, all_tests, switch_of};

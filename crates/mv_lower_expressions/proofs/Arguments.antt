@@ -1,7 +1,7 @@
 -- The last of some trees, and the others.
 use Rattle.std.proofs.Common.{◌≡◌, List, [], ◌∷◌, ◌++◌, refl, ap}
 use Rattle.mv_ir.specs.declared.tree.Tree.{Tree}
-use Rattle.mv_lowering.specs.Lowered.{last_of, but_last}
+use Rattle.mv_lower_spec.specs.Lowered.{last_of, but_last}
 
 pub last_pushed : (ts : List Tree) (t : Tree) → last_of (ts ++ t ∷ []) ≡ t
 last_pushed [] t = refl

@@ -4,8 +4,8 @@ use Rattle.std.specs.Prelude.{nat_lt, nat_eq}
 use Rattle.mv_ast.specs.declared.program.CType.{CType}
 use Rattle.mv_ir.specs.declared.tree.Tree.{Tree}
 use Rattle.mv_ir.specs.declared.stm.Stm.{Stm}
-use Rattle.mv_lowering.specs.Lowered.{Lowered, Lowering, binary, divide, lower_division}
-use Rattle.mv_lowering.specs.Lower.{bit_tree, lower_operator, quotient_number, remainder_number}
+use Rattle.mv_lower_spec.specs.Lowered.{Lowered, Lowering, binary, divide, lower_division}
+use Rattle.mv_lower_spec.specs.Lower.{bit_tree, lower_operator, quotient_number, remainder_number}
 use Rattle.mv_lower_expressions.specs.declared.operands.Operands.{Operands}
 use Rattle.mv_lower_expressions.specs.Values.{given, first_of, second_of, AreOperands, binary_of, division_number, divided, operator_tree, combined}
 

@@ -2,8 +2,8 @@
 use Rattle.std.proofs.Common.{◌≡◌, ℕ, List, [], ◌∷◌, ◌++◌, refl, sym, append_assoc}
 use Rattle.mv_ir.specs.declared.stm.Array.{Array}
 use Rattle.mv_ir.specs.declared.stm.Stm.{Stm}
-use Rattle.mv_lowering.specs.Lowered.{Lowered}
-use Rattle.mv_lowering.specs.Lower.{InLocal, InGlobal, Element}
+use Rattle.mv_lower_spec.specs.Lowered.{Lowered}
+use Rattle.mv_lower_spec.specs.Lower.{InLocal, InGlobal, Element}
 use Rattle.mv_lower_expressions.specs.Values.{given, set_local_of, set_global_of}
 use Rattle.mv_lower_expressions.specs.Places.{tested_index, stored, behind, set_of, set_element_of}
 use Rattle.mv_lower_expressions.proofs.Combining.{same_lowered}

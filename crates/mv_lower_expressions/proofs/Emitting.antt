@@ -21,7 +21,7 @@ use Rattle.mv_ir.specs.Trees.{depth}
 use Rattle.mv_ir.proofs.Rolls.{depth_roll}
 use Rattle.mv_ir.proofs.Induction.{TreeChildren, tree_ind}
 use Rattle.mv_ir.specs.declared.tree.Tree.TheOpen.{Tree-F}
-use Rattle.mv_lowering.specs.Lowered.{is_low, is_empty}
+use Rattle.mv_lower_spec.specs.Lowered.{is_low, is_empty}
 use Rattle.mv_lower_expressions.specs.Values.{is_leaf}
 
 pub number_is : (n : ℕ) → tr.Number n ≡ roll-Tree (tree.Number n)

@@ -2,7 +2,7 @@
 use Rattle.std.specs.Prelude.{ℕ, Bool, List, ◌∷◌, ◌++◌, map, max}
 use Rattle.mv_ir.specs.declared.stm.Callee.TheVariants as callee
 use Rattle.mv_ast.specs.declared.program.Known.{Known}
-use Rattle.mv_lowering.specs.Lowered.{Lowered, Arguments, is_empty, kept_if, lower_all, lower_call, lower_call_to, lower_known, last_of, but_last}
+use Rattle.mv_lower_spec.specs.Lowered.{Lowered, Arguments, is_empty, kept_if, lower_all, lower_call, lower_call_to, lower_known, last_of, but_last}
 use Rattle.mv_lower_expressions.specs.declared.call.Arguments as declared
 use Rattle.mv_lower_expressions.specs.Values.{given}
 

@@ -5,9 +5,9 @@ use Rattle.mv_ast.specs.declared.program.Expr.{Expr}
 use Rattle.mv_ast.specs.declared.program.Form.{Form, fold-Form}
 use Rattle.mv_ast.specs.declared.program.Target.{Target, fold-Target}
 use Rattle.mv_ast.specs.Counts.{expr_nodes, form_sum, target_sum, one_more_than}
-use Rattle.mv_lowering.specs.Lowered.{Lowered}
-use Rattle.mv_lowering.specs.Lower.{Place, form_lowering, place_of, lower_expr}
-use Rattle.mv_lowering.specs.LowerStatements.{lower_optional}
+use Rattle.mv_lower_spec.specs.Lowered.{Lowered}
+use Rattle.mv_lower_spec.specs.Lower.{Place, form_lowering, place_of, lower_expr}
+use Rattle.mv_lower_spec.specs.LowerStatements.{lower_optional}
 use Rattle.mv_lower_expressions.specs.Places.{placed}
 
 unfoldable pub expr_at : Expr → ℕ → Lowered

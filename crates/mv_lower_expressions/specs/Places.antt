@@ -3,8 +3,8 @@ use Rattle.std.specs.Prelude.{ℕ, ◌+◌, Bool, [], ◌∷◌, ◌++◌, max}
 use Rattle.mv_ir.specs.declared.tree.Tree.{Tree}
 use Rattle.mv_ir.specs.declared.stm.Array.{Array}
 use Rattle.mv_ast.specs.declared.program.CType.{CType}
-use Rattle.mv_lowering.specs.Lowered.{Lowered, temp, set, check, write, lower_set_element}
-use Rattle.mv_lowering.specs.Lower.{Place, InLocal, InGlobal, Element, lower_read, lower_set, lower_change, lower_after}
+use Rattle.mv_lower_spec.specs.Lowered.{Lowered, temp, set, check, write, lower_set_element}
+use Rattle.mv_lower_spec.specs.Lower.{Place, InLocal, InGlobal, Element, lower_read, lower_set, lower_change, lower_after}
 use Rattle.mv_lower_expressions.specs.declared.place.Place as declared
 use Rattle.mv_lower_expressions.specs.declared.place.Place.TheVariants as variant
 use Rattle.mv_lower_expressions.specs.Values.{seen, given}

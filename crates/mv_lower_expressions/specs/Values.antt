@@ -4,8 +4,8 @@ use Rattle.mv_ir.specs.declared.tree.Tree.{Tree}
 use Rattle.mv_ir.specs.declared.stm.Stm.{Stm}
 use Rattle.mv_ir.specs.Trees.{depth}
 use Rattle.mv_ast.specs.declared.program.CType.{CType}
-use Rattle.mv_lowering.specs.Lowered.{Lowering, Lowered, binary, divide, temp, set, number, choose, is_low, kept_if, first, second, lower_one, lower_both, lower_either, lower_choice, lower_set_local, lower_set_global}
-use Rattle.mv_lowering.specs.Lower.{unary_tree, converted_tree, bit_tree, quotient_number, remainder_number, lower_binary}
+use Rattle.mv_lower_spec.specs.Lowered.{Lowering, Lowered, binary, divide, temp, set, number, choose, is_low, kept_if, first, second, lower_one, lower_both, lower_either, lower_choice, lower_set_local, lower_set_global}
+use Rattle.mv_lower_spec.specs.Lower.{unary_tree, converted_tree, bit_tree, quotient_number, remainder_number, lower_binary}
 use Rattle.mv_lower_expressions.specs.declared.value.Value.{Value}
 use Rattle.mv_lower_expressions.specs.declared.operands.Operands.{Operands}
 

@@ -1,6 +1,6 @@
 // Choices between values, and stores of values.
 ghost use Rattle.std.specs.Prelude.{◌≡◌, ◌+◌, ◌++◌, ◌∷◌, [], ◌<◌, ◌^◌, IfOk, max};
-ghost use Rattle.mv_lowering.specs.Lowered.{truth_in};
+ghost use Rattle.mv_lower_spec.specs.Lowered.{truth_in};
 ghost use Rattle.mv_lower_expressions.specs.Values.{seen, both_of, either_of, choice_of, number_in, chosen, set_local_of, set_global_of};
 
 use crate::tree::truth;

@@ -1,6 +1,6 @@
 // Operators on operands that are lowered.
 ghost use Rattle.std.specs.Prelude.{◌≡◌, ◌+◌, ◌<◌, ◌^◌, ◌&&◌, IfOk};
-ghost use Rattle.mv_lowering.specs.Lowered.{is_empty, is_low};
+ghost use Rattle.mv_lower_spec.specs.Lowered.{is_empty, is_low};
 ghost use Rattle.mv_lower_expressions.specs.Values.{seen, second_of, first_of, AreOperands, unary_of, converted_of, binary_of, division_number, divided, combined};
 
 use crate::tree::{converted, is_low, operator, unary_tree};

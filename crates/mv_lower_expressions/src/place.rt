@@ -1,7 +1,7 @@
 // Reads, stores and changes of places that are lowered.
 ghost use Rattle.std.specs.Prelude.{◌≡◌, ◌+◌, ◌<◌, ◌^◌, IfOk, true};
-ghost use Rattle.mv_lowering.specs.Lowered.{index_in, lower_read_element};
-ghost use Rattle.mv_lowering.specs.Lower.{InLocal, InGlobal, Element};
+ghost use Rattle.mv_lower_spec.specs.Lowered.{index_in, lower_read_element};
+ghost use Rattle.mv_lower_spec.specs.Lower.{InLocal, InGlobal, Element};
 ghost use Rattle.mv_lower_expressions.specs.Values.{seen, given, binary_of, converted_of};
 ghost use Rattle.mv_lower_expressions.specs.Places.{seen_place, start_of, alone, tested_index, stored, behind, read_of, set_of, set_element_of, change_of, after_of};
 

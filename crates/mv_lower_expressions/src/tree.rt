@@ -1,7 +1,7 @@
 // Trees of operators.
 ghost use Rattle.std.specs.Prelude.{◌≡◌, IfOk};
-ghost use Rattle.mv_lowering.specs.Lowered.{is_low, unary, binary, truth};
-ghost use Rattle.mv_lowering.specs.Lower.{unary_tree, converted_tree, less_tree, bit_tree, next_tree};
+ghost use Rattle.mv_lower_spec.specs.Lowered.{is_low, unary, binary, truth};
+ghost use Rattle.mv_lower_spec.specs.Lower.{unary_tree, converted_tree, less_tree, bit_tree, next_tree};
 ghost use Rattle.mv_lower_expressions.specs.Values.{is_leaf, operator_tree};
 
 use mv_ast::operators::is_unsigned;

@@ -1,7 +1,7 @@
 // Lowered expressions, and values that last.
 ghost use Rattle.std.specs.Prelude.{◌≡◌, ◌+◌, ◌++◌, ◌∷◌, [], ◌<◌, ◌^◌, IfOk, OnOk};
 ghost use Rattle.mv_lower_expressions.specs.Values.{seen, put_away, made_low};
-ghost use Rattle.mv_lowering.specs.Lowered.{is_empty, kept_if};
+ghost use Rattle.mv_lower_spec.specs.Lowered.{is_empty, kept_if};
 
 use crate::tree::is_low;
 use mv_ir::stm::Stm;

@@ -14,7 +14,7 @@
 //!   says.
 //! - `specs/Commits.antt` says which commit is under way in a run. It is a definition for the laws above.
 //! - Only tested: that each pick is told the address of its instruction; two images that store over their own words under
-//!   three oracles, seven faults with their places, and an echo whose read or write fails (`mv_top_rows`).
+//!   three oracles, seven faults with their places, and an echo whose read or write fails (`mv_test_top`).
 #![tactic(auto)]
 
 mod call;

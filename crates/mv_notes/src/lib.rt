@@ -6,7 +6,7 @@
 //! - `report`: the notes grew by exactly the lines that were asked for and the last line, and the status is the one that was
 //!   due. With `Memory` and `OutputFault` nothing is written. Where there was no memory to make the lines, the notes are as
 //!   before and the status is `Memory`; where a write failed, they grew by less and the status is `OutputFault`.
-//! - Tested through the programs of `mv_top_rows`.
+//! - Tested through the programs of `mv_test_top`.
 #![tactic(auto)]
 
 mod notes;

@@ -9,7 +9,7 @@
 //!   list and hands the item back, and an `append` that is refused leaves it too.
 //! - `Kind::number` and `Kind::of_number` are each other's inverses, `None` exactly above 6.
 //! - `results::both`: what is there with what the next step gives. Where the step fails, what is there is let go.
-//! - Only tested: conversions, by what gcc gives (`mv_top_rows`).
+//! - Only tested: conversions, by what gcc gives (`mv_test_top`).
 #![tactic(auto)]
 
 pub mod boxed;

@@ -7,10 +7,10 @@ use Rattle.mv_ast.specs.declared.unit.Unit as unit
 use Rattle.mv_lexer.specs.Reading.{AreTokens, AreSlices}
 use Rattle.mv_lexer.proofs.OneReading.{tokens_same}
 use Rattle.mv_lexer.proofs.SliceLemmas.{tokens_slices}
-use Rattle.mv_grammar.specs.Reading.{Reads, BreaksAt, AreWithin}
-use Rattle.mv_grammar.proofs.Sources.{front_begins_in}
-use Rattle.mv_grammar.proofs.Laws as laws
-use Rattle.mv_reading.specs.Texts.{ReadsAs}
+use Rattle.mv_parse_grammar.specs.Reading.{Reads, BreaksAt, AreWithin}
+use Rattle.mv_parse_grammar.proofs.Sources.{front_begins_in}
+use Rattle.mv_parse_grammar.proofs.Laws as laws
+use Rattle.mv_parse_reading.specs.Texts.{ReadsAs}
 use Rattle.mv_parser.specs.declared.error.ParseError.{ParseError}
 use Rattle.mv_parser.specs.declared.error.ParseError.TheVariants.{Nesting, Syntax, Memory}
 use Rattle.mv_parser.specs.Verdict.{IsShallow, IsTooDeep, IsAccepted, IsBroken, IsCause, HasUnit, HasNesting, HasSyntax, IsRead, IsJudged}

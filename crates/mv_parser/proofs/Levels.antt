@@ -4,7 +4,7 @@ use Rattle.std.proofs.lemmas.Bool.{cases_lt}
 use Rattle.mv_ast.specs.declared.place.Place.{Place}
 use Rattle.mv_ast.specs.declared.token.Token.{Token}
 use Rattle.mv_ast.specs.declared.token.Tokens.{Tokens}
-use Rattle.mv_nesting.specs.Nesting.{Pairs, after_piece, goes_on, levels_from, levels, start, place_of}
+use Rattle.mv_parse_nesting.specs.Nesting.{Pairs, after_piece, goes_on, levels_from, levels, start, place_of}
 use Rattle.mv_parser.specs.Verdict.{IsShallow, IsTooDeep}
 
 length_levels : (s : Pairs) (ts : List Token) → length (levels_from s ts) ≡ length ts

@@ -5,14 +5,14 @@ use Rattle.mv_ast.specs.declared.token.Token.{Token}
 use Rattle.mv_ast.specs.declared.token.Tokens.{Tokens}
 use Rattle.mv_ast.specs.declared.unit.Item.{Item}
 use Rattle.mv_ast.specs.declared.unit.Unit as unit
-use Rattle.mv_nodes.specs.Gives.{Gives, Told}
-use Rattle.mv_nodes.specs.declared.fault.Fault.TheVariants.{Syntax}
-use Rattle.mv_grammar.specs.Terminals.{Terminal, terminals}
-use Rattle.mv_grammar.specs.Reader as R
-use Rattle.mv_grammar.specs.Reader.{Read, Deep}
-use Rattle.mv_grammar.specs.UnitReader as model
-use Rattle.mv_grammar.specs.Reading.{Exactly, Breaks, BreaksAt, place_left, bound}
-use Rattle.mv_grammar.proofs.Verdict.{whole, broken, enough, breaks_at}
+use Rattle.mv_parse_nodes.specs.Gives.{Gives, Told}
+use Rattle.mv_parse_nodes.specs.declared.fault.Fault.TheVariants.{Syntax}
+use Rattle.mv_parse_grammar.specs.Terminals.{Terminal, terminals}
+use Rattle.mv_parse_grammar.specs.Reader as R
+use Rattle.mv_parse_grammar.specs.Reader.{Read, Deep}
+use Rattle.mv_parse_grammar.specs.UnitReader as model
+use Rattle.mv_parse_grammar.specs.Reading.{Exactly, Breaks, BreaksAt, place_left, bound}
+use Rattle.mv_parse_grammar.proofs.Verdict.{whole, broken, enough, breaks_at}
 
 -- the items, and nothing after them
 abbrev pub all : List Item → List Item × List Terminal

@@ -3,9 +3,9 @@ use Rattle.std.specs.Prelude.{◌≡◌, ◌≤◌, ℕ, List, length, take, All
 use Rattle.mv_ast.specs.declared.place.Place.{Place}
 use Rattle.mv_ast.specs.declared.token.Tokens.{Tokens}
 use Rattle.mv_ast.specs.declared.unit.Unit as unit
-use Rattle.mv_nesting.specs.Nesting.{levels, IsFirstAbove}
-use Rattle.mv_grammar.specs.Reading.{Exactly, BreaksAt, BeginsIn}
-use Rattle.mv_reading.specs.Texts.{ReadsAs}
+use Rattle.mv_parse_nesting.specs.Nesting.{levels, IsFirstAbove}
+use Rattle.mv_parse_grammar.specs.Reading.{Exactly, BreaksAt, BeginsIn}
+use Rattle.mv_parse_reading.specs.Texts.{ReadsAs}
 use Rattle.mv_parser.specs.declared.error.ParseError.{ParseError}
 use Rattle.mv_parser.specs.declared.error.ParseError.TheVariants.{Nesting, Syntax, Memory}
 

@@ -1,25 +1,25 @@
 //! The items of a unit: declarations and definitions of functions (C11 6.9).
 ghost use Rattle.std.specs.Prelude.{◌≡◌, ◌<◌, ◌≤◌, ℕ, [], ◌∷◌, Some, None, length, IfOk};
-ghost use Rattle.mv_grammar.specs.Terminals.{terminals};
-ghost use Rattle.mv_grammar.specs.ExpressionReader.{read};
-ghost use Rattle.mv_grammar.specs.DeclarationReader.{params};
-ghost use Rattle.mv_grammar.specs.StatementReader as statement;
-ghost use Rattle.mv_grammar.specs.UnitReader as model;
-ghost use Rattle.mv_grammar.specs.Units.{item_of};
-ghost use Rattle.mv_nodes.specs.Gives.{Gives};
+ghost use Rattle.mv_parse_grammar.specs.Terminals.{terminals};
+ghost use Rattle.mv_parse_grammar.specs.ExpressionReader.{read};
+ghost use Rattle.mv_parse_grammar.specs.DeclarationReader.{params};
+ghost use Rattle.mv_parse_grammar.specs.StatementReader as statement;
+ghost use Rattle.mv_parse_grammar.specs.UnitReader as model;
+ghost use Rattle.mv_parse_grammar.specs.Units.{item_of};
+ghost use Rattle.mv_parse_nodes.specs.Gives.{Gives};
 ghost use Rattle.mv_parser.specs.Items as forms;
 
 use mv_ast::token::Token;
 use mv_ast::unit::{Declarator, Item, Line, Specs};
-use mv_declarations::declarator::{declarator, declared, with_init};
-use mv_declarations::specifiers::specs;
-use mv_nodes::fault::Fault;
-use mv_nodes::marks::{COMMA, OPEN_BLOCK, SEMICOLON};
-use mv_nodes::nodes;
-use mv_nodes::tokens::{expect_mark, next_any, next_mark};
 use mv_num::boxed::Boxed;
 use mv_num::list::List;
-use mv_statements::statement::block;
+use mv_parse_declarations::declarator::{declarator, declared, with_init};
+use mv_parse_declarations::specifiers::specs;
+use mv_parse_nodes::fault::Fault;
+use mv_parse_nodes::marks::{COMMA, OPEN_BLOCK, SEMICOLON};
+use mv_parse_nodes::nodes;
+use mv_parse_nodes::tokens::{expect_mark, next_any, next_mark};
+use mv_parse_statements::statement::block;
 use std::alloc::{AllocError, Global};
 
 /// Items up to the end.

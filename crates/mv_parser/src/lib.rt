@@ -8,7 +8,7 @@
 //!   off: those before it begin a unit, in this text with some more after it, and those up to and with the one there, or
 //!   all of them at the end, begin none. Each answer has its cause, and each cause its answer.
 //! - 68 short texts that just miss a production, with the places where they break off, units with each production, and 25
-//!   nestings about the limit (`mv_top_rows`), worked out by hand, show that the definitions are meant so. The level
+//!   nestings about the limit (`mv_test_top`), worked out by hand, show that the definitions are meant so. The level
 //!   bounds how deep the tokens are nested; that the stack is enough is no clause. Neither proved nor tested: the errors'
 //!   words.
 #![tactic(auto)]
@@ -17,8 +17,8 @@ ghost use Rattle.std.specs.Prelude.{◌≡◌, IfOk, IfErr};
 ghost use Rattle.mv_ast.specs.declared.place.Place.{Place};
 ghost use Rattle.mv_ast.specs.declared.unit.Unit as unit;
 ghost use Rattle.mv_lexer.specs.Reading.{AreTokens};
-ghost use Rattle.mv_grammar.specs.Reading as grammar;
-ghost use Rattle.mv_reading.specs.Texts.{ReadsAs};
+ghost use Rattle.mv_parse_grammar.specs.Reading as grammar;
+ghost use Rattle.mv_parse_reading.specs.Texts.{ReadsAs};
 ghost use Rattle.mv_parser.specs.Verdict as spec;
 
 pub mod error;

@@ -1,6 +1,6 @@
 //! What tokens are answered with, whether they are a text's or not.
 ghost use Rattle.std.specs.Prelude.{◌≡◌};
-ghost use Rattle.mv_grammar.specs.Reading.{place_left};
+ghost use Rattle.mv_parse_grammar.specs.Reading.{place_left};
 ghost use Rattle.mv_parser.specs.Verdict as spec;
 
 use crate::error::ParseError;
@@ -8,8 +8,8 @@ use crate::items::items;
 use mv_ast::place::Place;
 use mv_ast::token::{Token, Tokens};
 use mv_ast::unit::Unit;
-use mv_nesting::first_too_deep;
-use mv_nodes::fault::Fault;
+use mv_parse_nesting::first_too_deep;
+use mv_parse_nodes::fault::Fault;
 use std::alloc::{AllocError, Global};
 
 /// The unit that tokens are, where they are not nested too deep.

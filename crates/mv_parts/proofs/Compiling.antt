@@ -8,12 +8,12 @@ use Rattle.mv_ir.specs.declared.body.Body.{Body}
 use Rattle.mv_ir.specs.Live.{most_intervals}
 use Rattle.mv_ir.specs.Measures.{deepest}
 use Rattle.mv_ir.specs.WellFormed as ir
-use Rattle.mv_lowering.specs.Functions.{lower_function}
-use Rattle.mv_lowered_forms.specs.Law.{LoweredAreShallow, LoweredAreWellFormed}
-use Rattle.mv_lowered_programs.specs.WellFormed.{IsWellFormed}
-use Rattle.mv_call_code.specs.Convention.{frame_limit}
-use Rattle.mv_function_code.specs.FunctionCode.{frame_bytes}
-use Rattle.mv_selected_bodies.specs.SelectedBodies.{HasWords}
+use Rattle.mv_lower_spec.specs.Functions.{lower_function}
+use Rattle.mv_lower_shape.specs.Law.{LoweredAreShallow, LoweredAreWellFormed}
+use Rattle.mv_lower_correct.specs.WellFormed.{IsWellFormed}
+use Rattle.mv_select_calls.specs.Convention.{frame_limit}
+use Rattle.mv_select_functions.specs.FunctionCode.{frame_bytes}
+use Rattle.mv_select_bodies.specs.SelectedBodies.{HasWords}
 use Rattle.mv_select.specs.declared.error.SelectError.{SelectError}
 use Rattle.mv_select.specs.declared.error.SelectError.TheVariants.{Frame, Memory}
 use Rattle.mv_select.specs.Selected as selecting

@@ -8,13 +8,13 @@ use Rattle.mv_ast.specs.declared.program.Function.{Function}
 use Rattle.mv_ir.specs.declared.body.Body.{Body}
 use Rattle.mv_ir.specs.Live.{most_intervals}
 use Rattle.mv_ir.specs.Measures.{total}
-use Rattle.mv_lowering.specs.Functions.{lower_function}
-use Rattle.mv_lowered_forms.specs.Law.{LoweredAreShallow, LoweredAreWellFormed}
-use Rattle.mv_lowered_programs.specs.WellFormed.{IsWellFormed}
-use Rattle.mv_function_code.specs.FunctionCode.{arrays_start, frame_bytes}
-use Rattle.mv_bound_bodies.specs.Led.{BodiesAreMade}
-use Rattle.mv_bound_bodies.specs.Meant.{IsVariantOf, MadeAreVariants}
-use Rattle.mv_bound_bodies.specs.Switches.{domains_in}
+use Rattle.mv_lower_spec.specs.Functions.{lower_function}
+use Rattle.mv_lower_shape.specs.Law.{LoweredAreShallow, LoweredAreWellFormed}
+use Rattle.mv_lower_correct.specs.WellFormed.{IsWellFormed}
+use Rattle.mv_select_functions.specs.FunctionCode.{arrays_start, frame_bytes}
+use Rattle.mv_parts_bound.specs.Led.{BodiesAreMade}
+use Rattle.mv_parts_bound.specs.Meant.{IsVariantOf, MadeAreVariants}
+use Rattle.mv_parts_bound.specs.Switches.{domains_in}
 use Rattle.mv_variants.specs.declared.variant.Variant.{Variant}
 use Rattle.mv_variants.specs.Domains.{switch_kind}
 use Rattle.mv_variants.specs.Variants.{AreVariants}

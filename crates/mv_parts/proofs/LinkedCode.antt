@@ -11,20 +11,20 @@ use Rattle.mv_isa.specs.declared.labelled.Line.{Line}
 use Rattle.mv_isa.specs.declared.labelled.Line.TheVariants.{Word, Label, Jump, Branch, Entry, Slot}
 use Rattle.mv_isa.specs.Code.{StandsOnce, LineFits, line_at, least_words}
 use Rattle.mv_ir.specs.declared.body.Body.{Body}
-use Rattle.mv_lowering.specs.Functions.{lower_function}
-use Rattle.mv_lowered_forms.specs.Law.{IsFunctionOf}
-use Rattle.mv_lowered_names.specs.Laws.{FunctionsAreThere, NamesTheSame, RenamingKeepsNames}
+use Rattle.mv_lower_spec.specs.Functions.{lower_function}
+use Rattle.mv_lower_shape.specs.Law.{IsFunctionOf}
+use Rattle.mv_lower_names.specs.Laws.{FunctionsAreThere, NamesTheSame, RenamingKeepsNames}
 use Rattle.mv_regalloc.specs.Intervals.{IsRenamed}
-use Rattle.mv_tree_code.specs.Rooms.{place_in}
-use Rattle.mv_flow_code.specs.Layouts.{size_in}
-use Rattle.mv_flow_code.specs.Labels.{functions}
-use Rattle.mv_call_code.specs.CallCode.{is_marked}
-use Rattle.mv_function_code.specs.Functions.{shape_of}
-use Rattle.mv_named_lines.specs.Lines.{NamesThese, IsGoal, LinesAreNamed}
-use Rattle.mv_bound_bodies.specs.Meant.{IsMadeUnder, MadeAreVariants}
-use Rattle.mv_bound_bodies.specs.Names.{ReadAsWords}
-use Rattle.mv_bound_bodies.specs.Variants.{MadeNameNoMore}
-use Rattle.mv_bound_bodies.proofs.FewSlots.{marked_among}
+use Rattle.mv_select_trees.specs.Rooms.{place_in}
+use Rattle.mv_select_control.specs.Layouts.{size_in}
+use Rattle.mv_select_control.specs.Labels.{functions}
+use Rattle.mv_select_calls.specs.CallCode.{is_marked}
+use Rattle.mv_select_functions.specs.Functions.{shape_of}
+use Rattle.mv_select_lines.specs.Lines.{NamesThese, IsGoal, LinesAreNamed}
+use Rattle.mv_parts_bound.specs.Meant.{IsMadeUnder, MadeAreVariants}
+use Rattle.mv_parts_bound.specs.Names.{ReadAsWords}
+use Rattle.mv_parts_bound.specs.Variants.{MadeNameNoMore}
+use Rattle.mv_parts_bound.proofs.FewSlots.{marked_among}
 use Rattle.mv_select.specs.Laws.{SelectedIsEncoded, SelectedLabelsAreOwn, SelectedBegins}
 use Rattle.mv_select.specs.Selected.{selected_lines, selected_labels}
 use Rattle.mv_linker.specs.Linked.{IsFunction, IsTarget, NamesAreThere}

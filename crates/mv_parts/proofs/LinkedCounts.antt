@@ -11,11 +11,11 @@ use Rattle.mv_isa.specs.declared.labelled.Labelled.{Labelled}
 use Rattle.mv_isa.specs.declared.labelled.Line.{Line}
 use Rattle.mv_isa.specs.declared.labelled.Line.TheVariants.{Word, Label, Jump, Branch, Entry, Slot}
 use Rattle.mv_ir.specs.declared.body.Body.{Body}
-use Rattle.mv_bound_bodies.specs.Led.{BodiesAreMade}
-use Rattle.mv_bound_bodies.specs.Slots.{slots}
-use Rattle.mv_bound_bodies.specs.Tables.{GroupsFit}
-use Rattle.mv_code_sizes.specs.Sizes.{renamed, bound}
-use Rattle.mv_code_sizes.specs.Texts as source
+use Rattle.mv_parts_bound.specs.Led.{BodiesAreMade}
+use Rattle.mv_parts_bound.specs.Slots.{slots}
+use Rattle.mv_parts_bound.specs.Tables.{GroupsFit}
+use Rattle.mv_count_code.specs.Sizes.{renamed, bound}
+use Rattle.mv_count_code.specs.Texts as source
 use Rattle.mv_linker.specs.declared.parts.PartFunction.{PartFunction}
 use Rattle.mv_linker.specs.declared.parts.PartVariant.{PartVariant}
 use Rattle.mv_linker.specs.Linked.{function_variants, variant_codes}

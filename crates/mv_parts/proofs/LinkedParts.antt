@@ -7,7 +7,7 @@ use Rattle.mv_ast.specs.declared.program.Function.{Function}
 use Rattle.mv_ast.specs.Plans.{attributed_functions}
 use Rattle.mv_isa.specs.declared.labelled.Labelled.{Labelled}
 use Rattle.mv_ir.specs.declared.body.Body.{Body}
-use Rattle.mv_lowering.specs.Functions.{lower_function}
+use Rattle.mv_lower_spec.specs.Functions.{lower_function}
 use Rattle.mv_regalloc.specs.Intervals.{IsRenamed}
 use Rattle.mv_linker.specs.declared.parts.PartFunction.{PartFunction}
 use Rattle.mv_linker.specs.declared.parts.PartVariant.{PartVariant}
@@ -17,7 +17,7 @@ use Rattle.mv_parts.specs.Codes.{IsCodeOf}
 use Rattle.mv_parts.specs.Numbers.{attributed_numbers}
 use Rattle.mv_parts.specs.Parts.{IsPartVariant, ArePartVariants, IsPartFunction, AreCodesOf}
 use Rattle.mv_parts.proofs.Lists.{some_at}
-use Rattle.mv_fit_worlds.proofs.Functions.{attributed_at as nth_attributed}
+use Rattle.mv_ir_worlds.proofs.Functions.{attributed_at as nth_attributed}
 use Rattle.mv_parts.proofs.LinkedNumbers.{as_many}
 use Rattle.mv_parts.proofs.Numbers.{attributed_at, place_of}
 

@@ -10,7 +10,7 @@ use Rattle.mv_ast.specs.declared.program.Global.{Global}
 use Rattle.mv_ast.specs.declared.program.Switch.{Switch}
 use Rattle.mv_ast.specs.Counts.{words_of_size}
 use Rattle.mv_ast.specs.Plans.{global_or_none, values_or_none}
-use Rattle.mv_lowered_programs.specs.WellFormed.{IsWellFormed, IsWellFormedGlobal, IsWellFormedSwitch}
+use Rattle.mv_lower_correct.specs.WellFormed.{IsWellFormed, IsWellFormedGlobal, IsWellFormedSwitch}
 use Rattle.mv_source_facts.specs.Facts.{IsTableSwitch, HasTableFacts}
 use Rattle.mv_merge.specs.declared.rows.Domain.{Domain}
 use Rattle.mv_merge.specs.Guards.{kinds, HasRanges}
@@ -18,8 +18,8 @@ use Rattle.mv_descriptors.specs.declared.rows.GuardRow.{GuardRow}
 use Rattle.mv_descriptors.specs.Rows.{ZerosFrom}
 use Rattle.mv_ir.specs.Combinations.{In}
 use Rattle.mv_linker.specs.Tables.{FitsPartSwitch, IsName, IsRange, kind_in, kinds_of}
-use Rattle.mv_first_data.specs.FirstData.{global_sizes, data_words}
-use Rattle.mv_first_data.specs.Laws.{HasRoom, CountIsSum}
+use Rattle.mv_link_data.specs.FirstData.{global_sizes, data_words}
+use Rattle.mv_link_data.specs.Laws.{HasRoom, CountIsSum}
 use Rattle.mv_variants.specs.Domains.{integer_kind, kind_or_int, switch_kind, domain}
 use Rattle.mv_parts.specs.Switches.{name_or_none, word_of, part_switch, part_switches}
 use Rattle.mv_parts.specs.Laws.{SwitchesAreThere, DataIsCounted}

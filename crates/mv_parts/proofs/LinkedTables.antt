@@ -14,12 +14,12 @@ use Rattle.mv_isa.specs.declared.labelled.Labelled.{Labelled}
 use Rattle.mv_descriptors.specs.declared.rows.GuardRow.{GuardRow}
 use Rattle.mv_ir.specs.declared.body.Body.{Body}
 use Rattle.mv_ir.specs.Measures.{joined}
-use Rattle.mv_numbering.specs.Typing.{IsFirstValue}
-use Rattle.mv_lowered_programs.specs.WellFormed.{IsWellFormed}
+use Rattle.mv_meaning_numbering.specs.Typing.{IsFirstValue}
+use Rattle.mv_lower_correct.specs.WellFormed.{IsWellFormed}
 use Rattle.mv_source_facts.specs.Facts.{IsTableFunction, HasTableFacts}
-use Rattle.mv_bound_bodies.specs.Led.{BodiesAreMade}
-use Rattle.mv_bound_bodies.specs.Rows.{GroupedIsLed}
-use Rattle.mv_bound_bodies.specs.Tables.{GroupsFit}
+use Rattle.mv_parts_bound.specs.Led.{BodiesAreMade}
+use Rattle.mv_parts_bound.specs.Rows.{GroupedIsLed}
+use Rattle.mv_parts_bound.specs.Tables.{GroupsFit}
 use Rattle.mv_merge.specs.declared.rows.Domain.{Domain}
 use Rattle.mv_merge.specs.Guards.{kinds}
 use Rattle.mv_linker.specs.declared.parts.Parts.{Parts}
@@ -28,8 +28,8 @@ use Rattle.mv_linker.specs.declared.parts.PartVariant.{PartVariant}
 use Rattle.mv_linker.specs.Linked.{AreParts, IsFunction, IsDatum, codes, function_variants, variant_codes}
 use Rattle.mv_linker.specs.Tables as linker
 use Rattle.mv_linker.specs.Tables.{BeginsWithWords, CallsAmong, FitsPartSwitch, FitsPartFunction, FitsPartVariant, FitTables, IsRange, kinds_of}
-use Rattle.mv_first_data.specs.FirstData.{first_data}
-use Rattle.mv_first_data.specs.Laws.{IsFirstValueAmong, HasFirstValues, CountIsSum, FunctionsAreThere}
+use Rattle.mv_link_data.specs.FirstData.{first_data}
+use Rattle.mv_link_data.specs.Laws.{IsFirstValueAmong, HasFirstValues, CountIsSum, FunctionsAreThere}
 use Rattle.mv_variants.specs.declared.variant.Variant.{Variant}
 use Rattle.mv_variants.specs.Domains.{domain}
 use Rattle.mv_parts.specs.Laws.{PartsCanBeLinked}

@@ -13,16 +13,16 @@ use Rattle.mv_ir.specs.declared.body.Body.{Body}
 use Rattle.mv_ir.specs.Combinations.{IsCombination, AreAllCombinations}
 use Rattle.mv_ir.specs.Measures.{joined}
 use Rattle.mv_ir.specs.Trees.{found}
-use Rattle.mv_lowering.specs.Functions.{lower_function}
+use Rattle.mv_lower_spec.specs.Functions.{lower_function}
 use Rattle.mv_merge.specs.declared.rows.Domain.{Domain}
 use Rattle.mv_merge.specs.declared.rows.Bound.{Bound}
 use Rattle.mv_merge.specs.Guards.{domain_values, all_values, AreValues}
-use Rattle.mv_bound_bodies.specs.Led.{BodiesAreMade}
-use Rattle.mv_bound_bodies.specs.Meant.{IsMadeUnder}
-use Rattle.mv_bound_bodies.specs.Names.{ReadAsWords}
-use Rattle.mv_bound_bodies.specs.Rows.{groups, GroupedIsLed}
-use Rattle.mv_bound_bodies.specs.Switches.{domains_in, DomainsAreWords}
-use Rattle.mv_bound_bodies.specs.Tables.{IsGroup, GroupsFit}
+use Rattle.mv_parts_bound.specs.Led.{BodiesAreMade}
+use Rattle.mv_parts_bound.specs.Meant.{IsMadeUnder}
+use Rattle.mv_parts_bound.specs.Names.{ReadAsWords}
+use Rattle.mv_parts_bound.specs.Rows.{groups, GroupedIsLed}
+use Rattle.mv_parts_bound.specs.Switches.{domains_in, DomainsAreWords}
+use Rattle.mv_parts_bound.specs.Tables.{IsGroup, GroupsFit}
 use Rattle.mv_variants.specs.declared.variant.Variant.{Variant}
 use Rattle.mv_variants.specs.Domains.{switch_kind, domain}
 use Rattle.mv_variants.specs.Variants.{guards_of, AreVariants}

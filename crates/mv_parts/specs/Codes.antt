@@ -5,10 +5,10 @@ use Rattle.mv_ast.specs.declared.program.Function.{Function}
 use Rattle.mv_isa.specs.declared.labelled.Labelled.{Labelled}
 use Rattle.mv_ir.specs.declared.body.Body.{Body}
 use Rattle.mv_ir.specs.Live.{most_intervals}
-use Rattle.mv_lowering.specs.Functions.{lower_function}
+use Rattle.mv_lower_spec.specs.Functions.{lower_function}
 use Rattle.mv_regalloc.specs.Intervals.{IsRenamed}
-use Rattle.mv_call_code.specs.Convention.{frame_limit}
-use Rattle.mv_function_code.specs.FunctionCode.{frame_bytes}
+use Rattle.mv_select_calls.specs.Convention.{frame_limit}
+use Rattle.mv_select_functions.specs.FunctionCode.{frame_bytes}
 use Rattle.mv_select.specs.Selected.{IsSuitable, IsSelected}
 
 -- ---- bodies

@@ -5,13 +5,13 @@ use Rattle.mv_ast.specs.Counts.{patchable}
 use Rattle.mv_isa.specs.Code.{text_start}
 use Rattle.mv_asm.specs.Outcome.{PassesText}
 use Rattle.mv_ir.specs.declared.body.Body.{Body}
-use Rattle.mv_lowered_programs.specs.WellFormed.{IsWellFormed}
+use Rattle.mv_lower_correct.specs.WellFormed.{IsWellFormed}
 use Rattle.mv_source_facts.specs.Facts.{HasTableFacts}
 use Rattle.mv_linker.specs.declared.parts.Parts.{Parts}
 use Rattle.mv_linker.specs.Linked.{linked_lines}
 use Rattle.mv_linker.specs.Tables.{site_count}
-use Rattle.mv_first_data.specs.FirstData.{data_words, first_data}
-use Rattle.mv_code_sizes.specs.Texts as source
+use Rattle.mv_link_data.specs.FirstData.{data_words, first_data}
+use Rattle.mv_count_code.specs.Texts as source
 use Rattle.mv_variants.specs.declared.variant.Variant.{Variant}
 use Rattle.mv_parts.specs.Counts.{HaveFewLabels}
 use Rattle.mv_parts.specs.Parts.{AreCodesOf, ArePartsOf}

@@ -6,15 +6,15 @@ use Rattle.mv_isa.specs.declared.labelled.Labelled.{Labelled}
 use Rattle.mv_ir.specs.declared.body.Body.{Body}
 use Rattle.mv_ir.specs.Measures.{deepest}
 use Rattle.mv_ir.specs.WellFormed.{IsWellFormed}
-use Rattle.mv_tree_code.specs.Rooms.{place_in}
-use Rattle.mv_inline_bodies.specs.InlineOf.{inline_words}
+use Rattle.mv_select_trees.specs.Rooms.{place_in}
+use Rattle.mv_select_inline.specs.InlineOf.{inline_words}
 use Rattle.mv_select.specs.Selected.{FitsFrame}
 use Rattle.mv_linker.specs.declared.parts.Parts.{Parts}
 use Rattle.mv_linker.specs.declared.parts.PartFunction.{PartFunction}
 use Rattle.mv_linker.specs.declared.parts.PartVariant.{PartVariant}
 use Rattle.mv_linker.specs.Linked.{AreParts}
 use Rattle.mv_linker.specs.Tables.{FitTables}
-use Rattle.mv_first_data.specs.FirstData.{first_data}
+use Rattle.mv_link_data.specs.FirstData.{first_data}
 use Rattle.mv_variants.specs.declared.variant.Variant.{Variant}
 use Rattle.mv_variants.specs.Variants.{AreVariantsOf}
 use Rattle.mv_parts.specs.Codes.{AreGenerics, IsCodeOf, HaveCode}

@@ -5,7 +5,7 @@ use Rattle.mv_ast.specs.declared.program.Global.{Global}
 use Rattle.mv_ast.specs.declared.program.Switch.{Switch}
 use Rattle.mv_ast.specs.Counts.{words_of_size}
 use Rattle.mv_linker.specs.declared.parts.PartSwitch.{PartSwitch}
-use Rattle.mv_first_data.specs.FirstData.{global_sizes, data_words}
+use Rattle.mv_link_data.specs.FirstData.{global_sizes, data_words}
 use Rattle.mv_variants.specs.Domains.{kind_or_int}
 
 abbrev pub name_or_none : Option Global → List ℕ

@@ -1,8 +1,8 @@
 //! Attributed functions, with their variants.
 
 ghost use Rattle.std.specs.Prelude.{◌≡◌, ◌<◌, ◌≤◌, ◌^◌, [], ◌∷◌, ◌++◌, All, cond, length, map, true, IfOk, OnOk};
-ghost use Rattle.mv_lowering.specs.Functions.{lower_function};
-ghost use Rattle.mv_lowered_programs.specs.WellFormed.{IsWellFormed};
+ghost use Rattle.mv_lower_spec.specs.Functions.{lower_function};
+ghost use Rattle.mv_lower_correct.specs.WellFormed.{IsWellFormed};
 ghost use Rattle.mv_ir.specs.Measures.{deepest};
 ghost use Rattle.mv_ir.specs.WellFormed as ir;
 ghost use Rattle.mv_select.specs.Selected.{FitsFrame};
@@ -11,17 +11,17 @@ ghost use Rattle.mv_parts.specs.Codes.{FramesFit, IsCodeOf};
 ghost use Rattle.mv_parts.specs.Parts.{AreTables, ArePartFunctions, ArePartVariants, FitsVariant, IsPartFunction, IsPartVariant};
 
 use mv_ast::program::{Function, Program};
-use mv_bound_bodies::{made_bodies_are_variants, rows_lead_to_variants};
-use mv_inline_bodies::inline_of;
 use mv_ir::body::Body;
 use mv_isa::labelled::Labelled;
 use mv_linker::{PartFunction, PartVariant};
-use mv_lowered_forms::lowered_forms_are_right;
+use mv_lower_shape::lowered_forms_are_right;
 use mv_num::list::List;
 use mv_num::text::Text;
+use mv_parts_bound::{made_bodies_are_variants, rows_lead_to_variants};
 use mv_select::error::SelectError;
 use mv_select::select;
-use mv_selected_bodies::code_has_words;
+use mv_select_bodies::code_has_words;
+use mv_select_inline::inline_of;
 use mv_variants::{Variant, variants_of};
 use std::alloc::{AllocError, Global};
 

@@ -2,20 +2,20 @@
 
 ghost use Rattle.std.specs.Prelude.{◌≡◌, map, slice_get, IfErr, IfOk};
 ghost use Rattle.mv_ast.specs.Counts.{is_attributed};
-ghost use Rattle.mv_lowering.specs.Functions.{lower_function};
-ghost use Rattle.mv_lowered_programs.specs.WellFormed.{IsWellFormed};
+ghost use Rattle.mv_lower_spec.specs.Functions.{lower_function};
+ghost use Rattle.mv_lower_correct.specs.WellFormed.{IsWellFormed};
 ghost use Rattle.mv_select.specs.Selected.{OnFrame};
 ghost use Rattle.mv_parts.specs.Codes.{AreGenerics, IsGeneric, HasCode, HaveCode, PassesFirstFrame, PassesFrame};
 
 use mv_ast::program::Program;
 use mv_ir::body::Body;
 use mv_isa::labelled::Labelled;
-use mv_lowered_forms::lowered_forms_are_right;
+use mv_lower_shape::lowered_forms_are_right;
 use mv_num::list::List;
 use mv_regalloc::rename::rename;
 use mv_select::error::SelectError;
 use mv_select::select;
-use mv_selected_bodies::code_has_words;
+use mv_select_bodies::code_has_words;
 use std::alloc::{AllocError, Global};
 
 /// The body from which each function's code is made, in their order: what it is lowered to, where temporaries that are never in use together share a

@@ -14,7 +14,7 @@
 //!   else, in ascending order, and the only such list; they are found at any ascending addresses that hold each address
 //!   at which the texts differ; the entries and the two words of each site are such addresses for the texts of any two
 //!   bindings; so there are no more pairs than these; an order leaves one binding for each function.
-//! - Only tested: an image made by hand, orders and polls on it, inline words, a value that no guard holds of (`mv_top_rows`).
+//! - Only tested: an image made by hand, orders and polls on it, inline words, a value that no guard holds of (`mv_test_top`).
 #![tactic(auto)]
 
 mod bindings;

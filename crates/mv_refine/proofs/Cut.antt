@@ -6,12 +6,12 @@ use Rattle.std.proofs.lemmas.List.Elements.{All-append, All-cons, All-nil, All-t
 use Rattle.mv_ast.specs.Actions.{fits}
 use Rattle.mv_ast.specs.declared.world.Action.{Action}
 use Rattle.mv_ast.specs.declared.program.Program.{Program}
-use Rattle.mv_commit_runs.specs.Tabled.{IsOfWord}
-use Rattle.mv_cut_runs.specs.CutRuns.{with_input}
-use Rattle.mv_cut_runs.proofs.Leaves.{runs_leave}
-use Rattle.mv_cut_runs.proofs.Follows.{read_takes_more, write_writes_more}
+use Rattle.mv_refine_commits.specs.Tabled.{IsOfWord}
+use Rattle.mv_refine_faults.specs.CutRuns.{with_input}
+use Rattle.mv_refine_faults.proofs.Leaves.{runs_leave}
+use Rattle.mv_refine_faults.proofs.Follows.{read_takes_more, write_writes_more}
 use Rattle.mv_image.specs.Spelling.{Fields}
-use Rattle.mv_image_runs.specs.Behaves.{BehavesAlways, taken_of}
+use Rattle.mv_refine_runs.specs.Behaves.{BehavesAlways, taken_of}
 use Rattle.mv_machine.specs.Runs.{State, Going, Reads, Writes, bytes_to_come, first, runs_from, runs}
 use Rattle.mv_machine.specs.Snapshots.{Asks}
 use Rattle.mv_meaning.specs.Meaning.{mean}

@@ -8,12 +8,12 @@ use Rattle.mv_ast.specs.Actions.{fits}
 use Rattle.mv_ast.specs.declared.world.Action.{Action}
 use Rattle.mv_ast.specs.declared.world.Event.{Event}
 use Rattle.mv_ast.specs.declared.program.Program.{Program}
-use Rattle.mv_commit_runs.specs.Tabled.{IsOfWord}
+use Rattle.mv_refine_commits.specs.Tabled.{IsOfWord}
 use Rattle.mv_fetch.specs.Held.{Room}
 use Rattle.mv_image.specs.Patched.{text_of}
 use Rattle.mv_image.specs.Spelling.{Fields}
 use Rattle.mv_patch.specs.Orders.{values_of}
-use Rattle.mv_image_runs.specs.Behaves.{IsWhole, EndsRight, Behaves, BehavesAlways, taken_of}
+use Rattle.mv_refine_runs.specs.Behaves.{IsWhole, EndsRight, Behaves, BehavesAlways, taken_of}
 use Rattle.mv_machine.specs.declared.machine.Stopped.{Stopped}
 use Rattle.mv_machine.specs.declared.machine.Stopped.TheVariants as answer
 use Rattle.mv_machine.specs.Actions as image_actions

@@ -5,7 +5,7 @@ use Rattle.mv_ast.specs.declared.world.Action.{Action}
 use Rattle.mv_ast.specs.declared.world.Event.{Event}
 use Rattle.mv_eval.specs.Grown.{Lost}
 use Rattle.mv_image.specs.Spelling.{Fields}
-use Rattle.mv_image_runs.specs.Behaves.{taken_of}
+use Rattle.mv_refine_runs.specs.Behaves.{taken_of}
 use Rattle.mv_machine.specs.declared.machine.Stopped.{Stopped}
 use Rattle.mv_machine.specs.declared.machine.Stopped.TheVariants as answer
 use Rattle.mv_machine.specs.Runs.{State, Stop, Going, Exit, Trap, Fault, Reads, Writes, bytes_to_come, first, runs}
@@ -13,7 +13,7 @@ use Rattle.mv_machine.specs.Snapshots.{Snapshot, kept, resumed, Tells, Under, As
 use Rattle.mv_probe.specs.Ways.{way_after}
 use Rattle.mv_refine.specs.Environment.{Environment, ReadFailed, WriteFailed}
 use Rattle.mv_refine.specs.Run.{IsDone, Stands, RanTo, StandsBefore, Runs}
-use Rattle.mv_cut_runs.proofs.Leaves.{runs_leave}
+use Rattle.mv_refine_faults.proofs.Leaves.{runs_leave}
 use Rattle.mv_refine.proofs.Inputs.{some_later, lost}
 
 -- a machine that was just started goes on from the image's first state

@@ -3,7 +3,7 @@ use Rattle.std.specs.Prelude.{ℕ, ◌≡◌, ◌<◌, List, take, Option, IfSom
 use Rattle.mv_ast.specs.declared.world.Action.{Action}
 use Rattle.mv_ast.specs.declared.world.Event.{Event}
 use Rattle.mv_image.specs.Spelling.{Fields}
-use Rattle.mv_image_runs.specs.Behaves.{taken_of}
+use Rattle.mv_refine_runs.specs.Behaves.{taken_of}
 use Rattle.mv_machine.specs.declared.machine.Stopped.{Stopped}
 use Rattle.mv_machine.specs.declared.machine.Stopped.TheVariants.{Ended, Trapped, Steps, InputFault, OutputFault, Fault, Memory}
 use Rattle.mv_machine.specs.Runs.{State, Stop, Going, Exit, Trap, Request, Reads, Writes, first, runs, executed}

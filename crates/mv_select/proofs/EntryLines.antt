@@ -6,11 +6,11 @@ use Rattle.mv_isa.specs.declared.instr.Instr.TheVariants.{Lw, Sw, Addi, Jalr}
 use Rattle.mv_isa.specs.declared.labelled.Line.{Line}
 use Rattle.mv_isa.specs.declared.labelled.Line.TheVariants.{Word, Label, Jump, Branch, Entry, Slot}
 use Rattle.mv_isa.specs.Code.{TargetStands}
-use Rattle.mv_tree_code.specs.TreeCode.{one, two, minus_one, temp_register}
-use Rattle.mv_statement_code.specs.StatementCode.{first}
-use Rattle.mv_flow_code.specs.Labels.{Names}
-use Rattle.mv_call_code.specs.CallCode.{link_register, live_register}
-use Rattle.mv_function_code.specs.FunctionCode.{saved_count, saved_register, save_lines, restore_lines, parameter_lines, enter_lines, leave_lines, lowered_lines, prologue_lines, epilogue_lines}
+use Rattle.mv_select_trees.specs.TreeCode.{one, two, minus_one, temp_register}
+use Rattle.mv_select_statements.specs.StatementCode.{first}
+use Rattle.mv_select_control.specs.Labels.{Names}
+use Rattle.mv_select_calls.specs.CallCode.{link_register, live_register}
+use Rattle.mv_select_functions.specs.FunctionCode.{saved_count, saved_register, save_lines, restore_lines, parameter_lines, enter_lines, leave_lines, lowered_lines, prologue_lines, epilogue_lines}
 
 abbrev pub IsWord : Line → Type 0
 IsWord (Word i) = Unit {0}

@@ -10,11 +10,11 @@ use Rattle.mv_ir.specs.Measures.{joined}
 use Rattle.mv_ir.specs.WellFormed.{layer_named, stm_named}
 use Rattle.mv_ir.proofs.Induction.{Each, StmChildren, stm_ind, stms_ind}
 use Rattle.mv_ir.proofs.Rolls.{named_roll}
-use Rattle.mv_statement_code.specs.declared.elements.Home.TheVariants as place_at
-use Rattle.mv_statement_code.specs.StatementCode.{read_lines, write_lines}
-use Rattle.mv_flow_code.specs.FlowCode.{Plan, Emitted, in_turn, plain, zero_code, if_code, loop_code, block_code, home, size, code_layer, statement_code, code_of}
-use Rattle.mv_flow_code.proofs.StatementsDo.{code_roll}
-use Rattle.mv_selected_bodies.proofs.Lists.{each_front, each_back}
+use Rattle.mv_select_statements.specs.declared.elements.Home.TheVariants as place_at
+use Rattle.mv_select_statements.specs.StatementCode.{read_lines, write_lines}
+use Rattle.mv_select_control.specs.FlowCode.{Plan, Emitted, in_turn, plain, zero_code, if_code, loop_code, block_code, home, size, code_layer, statement_code, code_of}
+use Rattle.mv_select_control.proofs.StatementsDo.{code_roll}
+use Rattle.mv_select_bodies.proofs.Lists.{each_front, each_back}
 
 -- other places, which agree at the arrays that are there
 module _ (plan : Plan) (places : ℕ → ℕ) (There : Array → Type 0) (same : (a : ℕ) → There (array.Local a) → plan.array_at a ≡ places a) where

@@ -6,22 +6,22 @@ use Rattle.mv_isa.specs.declared.labelled.Line.{Line}
 use Rattle.mv_isa.specs.declared.labelled.Line.TheVariants.{Label}
 use Rattle.mv_isa.specs.Code.{LineFits, StandsOnce, TargetStands, is_label}
 use Rattle.mv_ir.specs.declared.body.Body.{Body}
-use Rattle.mv_tree_code.specs.Rooms.{place_in}
-use Rattle.mv_statement_code.specs.Encoded.{IsCode}
-use Rattle.mv_statement_code.proofs.EncodedCode.{both, wider}
-use Rattle.mv_flow_code.specs.declared.enclosing.Enclosing.{Enclosing}
-use Rattle.mv_flow_code.specs.FlowCode.{Emitted, code_of}
-use Rattle.mv_flow_code.specs.Encoded.{most_words}
-use Rattle.mv_flow_code.specs.Labels.{Names, CallsName, OwnLabels}
-use Rattle.mv_flow_code.proofs.FlowEncoded.{flow_encoded}
-use Rattle.mv_flow_code.proofs.LabelsOwn.{count_append, none, silent_own, both_own, labels_own}
-use Rattle.mv_flow_code.proofs.TargetsStand.{targets_stand}
-use Rattle.mv_call_code.specs.CallCode.{is_marked}
-use Rattle.mv_call_code.specs.Lines.{StubsStand}
-use Rattle.mv_call_code.proofs.CallsEncoded.{calls_encoded}
-use Rattle.mv_call_code.proofs.CallsName.{calls_have_no_labels, call_targets_stand}
-use Rattle.mv_function_code.specs.FunctionCode.{frame_bytes, prologue_lines, epilogue_lines}
-use Rattle.mv_function_code.proofs.EncodedFrames.{frames_encoded}
+use Rattle.mv_select_trees.specs.Rooms.{place_in}
+use Rattle.mv_select_statements.specs.Encoded.{IsCode}
+use Rattle.mv_select_statements.proofs.EncodedCode.{both, wider}
+use Rattle.mv_select_control.specs.declared.enclosing.Enclosing.{Enclosing}
+use Rattle.mv_select_control.specs.FlowCode.{Emitted, code_of}
+use Rattle.mv_select_control.specs.Encoded.{most_words}
+use Rattle.mv_select_control.specs.Labels.{Names, CallsName, OwnLabels}
+use Rattle.mv_select_control.proofs.FlowEncoded.{flow_encoded}
+use Rattle.mv_select_control.proofs.LabelsOwn.{count_append, none, silent_own, both_own, labels_own}
+use Rattle.mv_select_control.proofs.TargetsStand.{targets_stand}
+use Rattle.mv_select_calls.specs.CallCode.{is_marked}
+use Rattle.mv_select_calls.specs.Lines.{StubsStand}
+use Rattle.mv_select_calls.proofs.CallsEncoded.{calls_encoded}
+use Rattle.mv_select_calls.proofs.CallsName.{calls_have_no_labels, call_targets_stand}
+use Rattle.mv_select_functions.specs.FunctionCode.{frame_bytes, prologue_lines, epilogue_lines}
+use Rattle.mv_select_functions.proofs.EncodedFrames.{frames_encoded}
 use Rattle.mv_select.specs.Selected.{layout_in, plan_of, selected_lines}
 use Rattle.mv_select.specs.Laws.{greatest_length, SelectedIsEncoded, SelectedLabelsAreOwn, SelectedTargetsStand, SelectedBegins}
 use Rattle.mv_select.proofs.EntryLines.{prologue_words, epilogue_words, words_name, words_stand}

@@ -6,7 +6,7 @@
 //!   2,032 bytes, with the function and the bytes (at most the greatest number of 64 bits); then temporaries and elements
 //!   together are more than 480.
 //! - `selection_law`: the instructions have encodings, and there are at most 33 words besides two for each tree node and
-//!   those that `mv_flow_code` says for each form of statement (`encoded`); each label that the code takes stands in it
+//!   those that `mv_select_control` says for each form of statement (`encoded`); each label that the code takes stands in it
 //!   once, and no other does (`labels`); each label that it names stands once, wherever its own labels do, the stubs of
 //!   the traps and that of orders and polls, and the functions that it names (`targets`); it begins with the instruction
 //!   that moves sp (`begins`).
@@ -18,5 +18,5 @@ mod laws;
 mod selection;
 
 pub use laws::selection_law;
-pub use mv_inline_bodies::inline_of;
+pub use mv_select_inline::inline_of;
 pub use selection::select;

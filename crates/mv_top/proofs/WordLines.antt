@@ -21,9 +21,9 @@ use Rattle.mv_refine.specs.Execution.{IsExecution}
 use Rattle.mv_refine.specs.Meant.{DoesAll, DoesOn, DoesFrom}
 use Rattle.mv_refine.specs.Run.{RanTo, Runs}
 use Rattle.mv_refine.specs.declared.execution.Execution.{Execution}
-use Rattle.mv_word_counts.specs.Laws.{ShowsBindings}
-use Rattle.mv_word_counts.specs.Lines.{line_count}
-use Rattle.mv_word_counts.specs.Owed.{CountsWords}
+use Rattle.mv_count_words.specs.Laws.{ShowsBindings}
+use Rattle.mv_count_words.specs.Lines.{line_count}
+use Rattle.mv_count_words.specs.Owed.{CountsWords}
 use Rattle.mv_top.specs.WordLines.{CountsLines, CountsOn, CountsFrom}
 
 module _ (p : Program) (image : Fields) (shows : ShowsBindings p image) (actions : List Action) (steps : ℕ) (before after : Environment) (Heard : List Event → Type 0) (machine : Snapshot) where

@@ -8,8 +8,8 @@ use Rattle.mv_machine.specs.Snapshots.{Snapshot}
 use Rattle.mv_machine.specs.declared.machine.Stopped.{Stopped}
 use Rattle.mv_machine.specs.declared.machine.Stopped.TheVariants.{Ended, Trapped, Steps, InputFault, OutputFault, Fault, Memory}
 use Rattle.mv_meaning.specs.Meaning.{mean}
-use Rattle.mv_word_counts.specs.Lines.{line_count}
-use Rattle.mv_word_counts.specs.Owed.{CountsWords}
+use Rattle.mv_count_words.specs.Lines.{line_count}
+use Rattle.mv_count_words.specs.Owed.{CountsWords}
 
 module _ (p : Program) (image : Fields) (actions : List Action) (steps : ℕ) (machine : Snapshot) where
   -- The changed words have as many lines as the bindings owe that are meant at the bound `steps`: none exactly where all functions are free, and else at least

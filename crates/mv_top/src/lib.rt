@@ -47,7 +47,7 @@
 //! - Asked is that each probe that tells its patience has some left.
 //!
 //! `run` really runs: a body that writes what the program means and executes nothing, or one instruction fewer, is
-//! refused by the clause on one run. Tested through the programs of `mv_top_rows`. Where nothing is told of an object,
+//! refused by the clause on one run. Tested through the programs of `mv_test_top`. Where nothing is told of an object,
 //! nothing is said of what it holds. Not proved here: that a generated text is a program, within the limits; without that `gen` may be `Refused`.
 #![tactic(auto)]
 

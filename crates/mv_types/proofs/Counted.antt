@@ -8,12 +8,12 @@ use Rattle.std.specs.List.{count_by}
 use Rattle.std.specs.Option.{option_or}
 use Rattle.mv_ast.specs.declared.program.Function.{Function}
 use Rattle.mv_ast.specs.declared.program.Switch.{Switch}
-use Rattle.mv_limits.specs.declared.counts.Counts.{Counts}
-use Rattle.mv_limits.specs.declared.excess.Exceeded.{Exceeded}
+use Rattle.mv_check_limits.specs.declared.counts.Counts.{Counts}
+use Rattle.mv_check_limits.specs.declared.excess.Exceeded.{Exceeded}
 use Rattle.mv_ast.specs.declared.unit.Unit as unit
-use Rattle.mv_limits.specs.Limits.{first_above, exceeded_by_counts}
-use Rattle.mv_limits.specs.Ordered.{unit_parameters, first_excess, counts_of, exceeded_by_contents}
-use Rattle.mv_limits.proofs.Firsts.{by_counts}
+use Rattle.mv_check_limits.specs.Limits.{first_above, exceeded_by_counts}
+use Rattle.mv_check_limits.specs.Ordered.{unit_parameters, first_excess, counts_of, exceeded_by_contents}
+use Rattle.mv_check_limits.proofs.Firsts.{by_counts}
 use Rattle.mv_types.specs.declared.contents.Completed.{Completed}
 use Rattle.mv_types.specs.declared.contents.Object.{Object}
 use Rattle.mv_types.specs.Completed.{completed_program, params_or_none}

@@ -5,7 +5,7 @@ use Rattle.std.proofs.lemmas.Grind.{flat_map-append}
 use Rattle.std.proofs.lemmas.List.Sums.{fold-append}
 use Rattle.mv_ast.specs.declared.unit.Item.{Item}
 use Rattle.mv_types.specs.declared.foreknown.Said.{Said}
-use Rattle.mv_outline.specs.Names.{with_name, with_names, each_once}
+use Rattle.mv_check_outline.specs.Names.{with_name, with_names, each_once}
 use Rattle.mv_types.specs.Foreknown.{names_in, all_names}
 
 pub next_named : (w : Said) (is : List Item) (n : ℕ) (i : Item) → n < length is → i ≡ get_or is n i →

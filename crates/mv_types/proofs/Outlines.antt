@@ -1,9 +1,9 @@
 -- An outline is told by its parts.
 use Rattle.std.proofs.Common.{◌≡◌, ℕ, List}
 use Rattle.mv_ast.specs.declared.unit.Item.{Item}
-use Rattle.mv_outline.specs.declared.outline.Outline.{Outline}
-use Rattle.mv_outline.specs.Names.{among}
-use Rattle.mv_outline.specs.Outlined.{IsOutlineOf}
+use Rattle.mv_check_outline.specs.declared.outline.Outline.{Outline}
+use Rattle.mv_check_outline.specs.Names.{among}
+use Rattle.mv_check_outline.specs.Outlined.{IsOutlineOf}
 use Rattle.mv_types.specs.Foreknown.{outline}
 
 abbrev Names : Type 0

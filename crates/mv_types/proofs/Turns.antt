@@ -1,10 +1,10 @@
 -- What the failure of one part shows of all parts in their order.
 use Rattle.std.proofs.Common.{◌≡◌, ℕ, ◌+◌, ◌<◌, List, ◌∷◌, length, get_or, drop, sym, ◌∙◌, ap, Err}
 use Rattle.std.proofs.lemmas.List.{drop_more}
-use Rattle.mv_judge.specs.declared.error.RuleError.{RuleError}
-use Rattle.mv_judge.specs.declared.error.RuleError.TheVariants as error
-use Rattle.mv_judge.specs.Judged.{Judged, and_then}
-use Rattle.mv_declare.specs.Turns.{through}
+use Rattle.mv_check_expressions.specs.declared.error.RuleError.{RuleError}
+use Rattle.mv_check_expressions.specs.declared.error.RuleError.TheVariants as error
+use Rattle.mv_check_expressions.specs.Judged.{Judged, and_then}
+use Rattle.mv_check_declarations.specs.Turns.{through}
 use Rattle.mv_types.specs.declared.contents.Contents.{Contents}
 use Rattle.mv_types.specs.Contents.{IsContinued}
 

@@ -2,8 +2,8 @@
 use Rattle.std.specs.Prelude.{◌≡◌, None, Some, Result, Ok, Err}
 use Rattle.mv_ast.specs.declared.program.Program.{Program}
 use Rattle.mv_ast.specs.declared.unit.Unit as unit
-use Rattle.mv_judge.specs.Judged.{Judged, Good, Broken}
-use Rattle.mv_limits.specs.Ordered.{first_excess}
+use Rattle.mv_check_expressions.specs.Judged.{Judged, Good, Broken}
+use Rattle.mv_check_limits.specs.Ordered.{first_excess}
 use Rattle.mv_types.specs.declared.error.TypeError.{TypeError}
 use Rattle.mv_types.specs.declared.error.TypeError.TheVariants.{Rule, Limit, Memory}
 

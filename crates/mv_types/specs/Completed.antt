@@ -2,9 +2,9 @@
 use Rattle.std.specs.Prelude.{◌≡◌, ℕ, Option, Some, None, Result, Ok, Err}
 use Rattle.mv_ast.specs.declared.program.Function.{Function}
 use Rattle.mv_ast.specs.declared.program.Program.{Program}
-use Rattle.mv_judge.specs.declared.error.RuleError.{RuleError}
-use Rattle.mv_judge.specs.declared.error.RuleError.TheVariants as error
-use Rattle.mv_judge.specs.Judged.{Judged, Good, Broken}
+use Rattle.mv_check_expressions.specs.declared.error.RuleError.{RuleError}
+use Rattle.mv_check_expressions.specs.declared.error.RuleError.TheVariants as error
+use Rattle.mv_check_expressions.specs.Judged.{Judged, Good, Broken}
 use Rattle.mv_types.specs.declared.contents.Completed.{Completed}
 use Rattle.mv_types.specs.Units.{program_of}
 

@@ -2,11 +2,11 @@
 use Rattle.std.specs.Prelude.{◌≡◌, ℕ, suc, List, [], ◌∷◌, ◌++◌, length, replicate, Option, Some, None, Result, Ok, Err, slice_set}
 use Rattle.mv_ast.specs.declared.program.Function.{Function}
 use Rattle.mv_ast.specs.declared.program.Switch.{Switch}
-use Rattle.mv_scope.specs.declared.scope.Scope.{Scope}
-use Rattle.mv_scope.specs.Scoped.{start}
-use Rattle.mv_judge.specs.declared.error.RuleError.{RuleError}
-use Rattle.mv_judge.specs.declared.error.RuleError.TheVariants as error
-use Rattle.mv_judge.specs.Judged.{Judged, Good, Broken}
+use Rattle.mv_check_scope.specs.declared.scope.Scope.{Scope}
+use Rattle.mv_check_scope.specs.Scoped.{start}
+use Rattle.mv_check_expressions.specs.declared.error.RuleError.{RuleError}
+use Rattle.mv_check_expressions.specs.declared.error.RuleError.TheVariants as error
+use Rattle.mv_check_expressions.specs.Judged.{Judged, Good, Broken}
 use Rattle.mv_types.specs.declared.contents.Contents.{Contents}
 use Rattle.mv_types.specs.declared.contents.Foreknown.{Foreknown}
 use Rattle.mv_types.specs.declared.contents.Object.{Object}

@@ -7,11 +7,11 @@ use Rattle.mv_ast.specs.declared.unit.Declarator.{Declarator}
 use Rattle.mv_ast.specs.declared.unit.Shape.{Shape-F, out-Shape}
 use Rattle.mv_ast.specs.declared.unit.Shape.TheOpen as shape
 use Rattle.mv_ast.specs.declared.unit.Specs.{out-Specs}
-use Rattle.mv_outline.specs.declared.outline.Outline.{Outline}
-use Rattle.mv_outline.specs.declared.outline.Wanted.TheVariants as wanted
-use Rattle.mv_outline.specs.Names.{each_once, is_among, among, place_of}
-use Rattle.mv_outline.specs.Outlined as outlined
-use Rattle.mv_outline.specs.Outlined.{name_of, is_wanted, functions}
+use Rattle.mv_check_outline.specs.declared.outline.Outline.{Outline}
+use Rattle.mv_check_outline.specs.declared.outline.Wanted.TheVariants as wanted
+use Rattle.mv_check_outline.specs.Names.{each_once, is_among, among, place_of}
+use Rattle.mv_check_outline.specs.Outlined as outlined
+use Rattle.mv_check_outline.specs.Outlined.{name_of, is_wanted, functions}
 use Rattle.mv_types.specs.declared.contents.Foreknown.{Foreknown}
 use Rattle.mv_types.specs.declared.foreknown.Said.{Said}
 use Rattle.mv_types.specs.declared.foreknown.Said.TheVariants as said

@@ -11,22 +11,22 @@ use Rattle.mv_ast.specs.declared.unit.Line.{Line}
 use Rattle.mv_ast.specs.declared.unit.Param.{Param}
 use Rattle.mv_ast.specs.declared.unit.Shape.{Shape-F, out-Shape}
 use Rattle.mv_ast.specs.declared.unit.Shape.TheOpen as shape
-use Rattle.mv_scope.specs.declared.meaning.Meaning.{Meaning}
-use Rattle.mv_scope.specs.declared.meaning.Meaning.TheVariants as meaning
-use Rattle.mv_scope.specs.declared.scope.Scope.{Scope}
-use Rattle.mv_scope.specs.Conversions.{int, same_signature}
-use Rattle.mv_scope.specs.Known.{known_function}
-use Rattle.mv_scope.specs.Scoped.{declared, block_entered, block_left}
-use Rattle.mv_scope.specs.Spaces.{named}
-use Rattle.mv_judge.specs.RuleNumbers as rules
-use Rattle.mv_judge.specs.Calls.{known_arity, known_params}
-use Rattle.mv_judge.specs.Judged.{Judged, Good, Broken, and_then}
-use Rattle.mv_outline.specs.Names.{place_of}
-use Rattle.mv_declare.specs.Declarators.{signature_of}
-use Rattle.mv_declare.specs.Initials.{plain_values}
-use Rattle.mv_declare.specs.Parameters.{parameters_judgement}
-use Rattle.mv_declare.specs.Turns.{Behind}
-use Rattle.mv_statement_rules.specs.Statements.{body_judgement}
+use Rattle.mv_check_scope.specs.declared.meaning.Meaning.{Meaning}
+use Rattle.mv_check_scope.specs.declared.meaning.Meaning.TheVariants as meaning
+use Rattle.mv_check_scope.specs.declared.scope.Scope.{Scope}
+use Rattle.mv_check_scope.specs.Conversions.{int, same_signature}
+use Rattle.mv_check_scope.specs.Known.{known_function}
+use Rattle.mv_check_scope.specs.Scoped.{declared, block_entered, block_left}
+use Rattle.mv_check_scope.specs.Spaces.{named}
+use Rattle.mv_check_expressions.specs.RuleNumbers as rules
+use Rattle.mv_check_expressions.specs.Calls.{known_arity, known_params}
+use Rattle.mv_check_expressions.specs.Judged.{Judged, Good, Broken, and_then}
+use Rattle.mv_check_outline.specs.Names.{place_of}
+use Rattle.mv_check_declarations.specs.Declarators.{signature_of}
+use Rattle.mv_check_declarations.specs.Initials.{plain_values}
+use Rattle.mv_check_declarations.specs.Parameters.{parameters_judgement}
+use Rattle.mv_check_declarations.specs.Turns.{Behind}
+use Rattle.mv_check_statements.specs.Statements.{body_judgement}
 use Rattle.mv_types.specs.declared.contents.Contents.{Contents}
 use Rattle.mv_types.specs.declared.contents.Foreknown.{Foreknown}
 use Rattle.mv_types.specs.declared.functions.Before.{Before}

@@ -4,21 +4,21 @@ use Rattle.mv_ast.specs.declared.program.Local.{Local}
 use Rattle.mv_ast.specs.declared.unit.Declarator.{Declarator}
 use Rattle.mv_ast.specs.declared.unit.Initial.{Initial}
 use Rattle.std.specs.Cmp.Lexicographic.{pointwise}
-use Rattle.mv_scope.specs.declared.meaning.Meaning.{Meaning}
-use Rattle.mv_scope.specs.declared.meaning.Meaning.TheVariants as meaning
-use Rattle.mv_scope.specs.declared.meaning.Storage.{Storage}
-use Rattle.mv_scope.specs.declared.meaning.Storage.TheVariants as storage
-use Rattle.mv_scope.specs.declared.scope.Scope.{Scope}
-use Rattle.mv_scope.specs.Conversions.{same_type, is_void}
-use Rattle.mv_scope.specs.Scoped.{declared}
-use Rattle.mv_scope.specs.Spaces.{named}
-use Rattle.mv_judge.specs.Judged.{Judged, Good, and_then}
-use Rattle.mv_outline.specs.Names.{place_of}
-use Rattle.mv_declare.specs.declared.attributes.Attribute.{Attribute}
-use Rattle.mv_declare.specs.declared.globals.Words.{Words}
-use Rattle.mv_declare.specs.declared.objects.Breaches.{Breaches}
-use Rattle.mv_declare.specs.Globals.{global_words, domain_of}
-use Rattle.mv_declare.specs.Objects.{is_unconverted, breaks_extents, least, unless_broken}
+use Rattle.mv_check_scope.specs.declared.meaning.Meaning.{Meaning}
+use Rattle.mv_check_scope.specs.declared.meaning.Meaning.TheVariants as meaning
+use Rattle.mv_check_scope.specs.declared.meaning.Storage.{Storage}
+use Rattle.mv_check_scope.specs.declared.meaning.Storage.TheVariants as storage
+use Rattle.mv_check_scope.specs.declared.scope.Scope.{Scope}
+use Rattle.mv_check_scope.specs.Conversions.{same_type, is_void}
+use Rattle.mv_check_scope.specs.Scoped.{declared}
+use Rattle.mv_check_scope.specs.Spaces.{named}
+use Rattle.mv_check_expressions.specs.Judged.{Judged, Good, and_then}
+use Rattle.mv_check_outline.specs.Names.{place_of}
+use Rattle.mv_check_declarations.specs.declared.attributes.Attribute.{Attribute}
+use Rattle.mv_check_declarations.specs.declared.globals.Words.{Words}
+use Rattle.mv_check_declarations.specs.declared.objects.Breaches.{Breaches}
+use Rattle.mv_check_declarations.specs.Globals.{global_words, domain_of}
+use Rattle.mv_check_declarations.specs.Objects.{is_unconverted, breaks_extents, least, unless_broken}
 use Rattle.mv_types.specs.declared.contents.Contents.{Contents}
 use Rattle.mv_types.specs.declared.contents.Foreknown.{Foreknown}
 use Rattle.mv_types.specs.declared.contents.Object.{Object}

@@ -12,27 +12,27 @@ use Rattle.mv_ast.specs.declared.unit.Item.{Item}
 use Rattle.mv_ast.specs.declared.unit.Line.{Line}
 use Rattle.mv_ast.specs.declared.unit.Specs.{out-Specs}
 use Rattle.mv_ast.specs.declared.unit.Unit as unit
-use Rattle.mv_scope.specs.declared.meaning.Meaning.{Meaning}
-use Rattle.mv_scope.specs.declared.meaning.Meaning.TheVariants as meaning
-use Rattle.mv_scope.specs.declared.scope.Scope.{Scope}
-use Rattle.mv_scope.specs.Conversions.{int, same_signature}
-use Rattle.mv_scope.specs.Spaces.{named}
-use Rattle.mv_judge.specs.RuleNumbers as rules
-use Rattle.mv_judge.specs.Judged.{Judged, Good, Broken, and_then}
-use Rattle.mv_outline.specs.Outlined.{is_function, is_filled, name_of}
-use Rattle.mv_declare.specs.declared.attributes.Attribute.{Attribute}
-use Rattle.mv_declare.specs.declared.attributes.Position.TheVariants as position
-use Rattle.mv_declare.specs.declared.declarators.Entity.{Entity}
-use Rattle.mv_declare.specs.declared.declarators.Entity.TheVariants as entity
-use Rattle.mv_declare.specs.declared.globals.Designated.{Designated}
-use Rattle.mv_declare.specs.declared.specifiers.Specified.{Specified}
-use Rattle.mv_declare.specs.Declarators.{signature_of}
-use Rattle.mv_declare.specs.Globals.{file_declarator, global_words}
-use Rattle.mv_declare.specs.Initials.{array_size, plain_values}
-use Rattle.mv_declare.specs.Objects.{scalar, sized}
-use Rattle.mv_declare.specs.Specifiers.{specifiers}
-use Rattle.mv_declare.specs.Turns.{through}
-use Rattle.mv_uses.specs.Uses.{switches_named}
+use Rattle.mv_check_scope.specs.declared.meaning.Meaning.{Meaning}
+use Rattle.mv_check_scope.specs.declared.meaning.Meaning.TheVariants as meaning
+use Rattle.mv_check_scope.specs.declared.scope.Scope.{Scope}
+use Rattle.mv_check_scope.specs.Conversions.{int, same_signature}
+use Rattle.mv_check_scope.specs.Spaces.{named}
+use Rattle.mv_check_expressions.specs.RuleNumbers as rules
+use Rattle.mv_check_expressions.specs.Judged.{Judged, Good, Broken, and_then}
+use Rattle.mv_check_outline.specs.Outlined.{is_function, is_filled, name_of}
+use Rattle.mv_check_declarations.specs.declared.attributes.Attribute.{Attribute}
+use Rattle.mv_check_declarations.specs.declared.attributes.Position.TheVariants as position
+use Rattle.mv_check_declarations.specs.declared.declarators.Entity.{Entity}
+use Rattle.mv_check_declarations.specs.declared.declarators.Entity.TheVariants as entity
+use Rattle.mv_check_declarations.specs.declared.globals.Designated.{Designated}
+use Rattle.mv_check_declarations.specs.declared.specifiers.Specified.{Specified}
+use Rattle.mv_check_declarations.specs.Declarators.{signature_of}
+use Rattle.mv_check_declarations.specs.Globals.{file_declarator, global_words}
+use Rattle.mv_check_declarations.specs.Initials.{array_size, plain_values}
+use Rattle.mv_check_declarations.specs.Objects.{scalar, sized}
+use Rattle.mv_check_declarations.specs.Specifiers.{specifiers}
+use Rattle.mv_check_declarations.specs.Turns.{through}
+use Rattle.mv_check_uses.specs.Uses.{switches_named}
 use Rattle.mv_types.specs.declared.contents.Contents.{Contents}
 use Rattle.mv_types.specs.declared.contents.Foreknown.{Foreknown}
 use Rattle.mv_types.specs.Contents.{nothing_declared, in_scope, present, switches_from}

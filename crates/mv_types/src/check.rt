@@ -1,6 +1,6 @@
 // The rules of a whole unit, and its limits.
 
-ghost use Rattle.mv_judge.specs.Judged.{Good};
+ghost use Rattle.mv_check_expressions.specs.Judged.{Good};
 ghost use Rattle.mv_types.specs.Checked.{IsChecked};
 ghost use Rattle.mv_types.specs.Completed.{completed_program};
 ghost use Rattle.mv_types.specs.Units.{unit_judgement};
@@ -12,8 +12,8 @@ use crate::program::program_of;
 use crate::units::judge;
 use mv_ast::program::Program;
 use mv_ast::unit::Unit;
-use mv_judge::error::RuleError;
-use mv_limits::limits::{exceeded, exceeded_by_counts};
+use mv_check_expressions::error::RuleError;
+use mv_check_limits::limits::{exceeded, exceeded_by_counts};
 use std::alloc::{AllocError, Global};
 
 fn within_limits(unit: &Unit, program: Program) -> Result<Program, TypeError>

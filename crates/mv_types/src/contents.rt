@@ -1,11 +1,11 @@
 // What the declarations of a unit so far come to.
 
 use mv_ast::program::{Function, Global};
-use mv_declare::domain::Domain;
+use mv_check_declarations::domain::Domain;
+use mv_check_outline::names::Names;
+use mv_check_outline::outline::Outline;
+use mv_check_scope::scope::Scope;
 use mv_num::list::List;
-use mv_outline::names::Names;
-use mv_outline::outline::Outline;
-use mv_scope::scope::Scope;
 
 /// A global so far: whether a declaration has given it an initial value, and its domain if one has the attribute.
 #[derive(Drop)]

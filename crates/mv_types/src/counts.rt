@@ -1,15 +1,15 @@
 // The counts of a unit and the program that it comes to, before the program is made.
 
 ghost use Rattle.std.specs.Prelude.{◌≡◌, ◌++◌, length, map, is_some, count_by};
-ghost use Rattle.mv_limits.specs.Limits.{first_above};
-ghost use Rattle.mv_limits.specs.Ordered.{counts_of, unit_parameters};
+ghost use Rattle.mv_check_limits.specs.Limits.{first_above};
+ghost use Rattle.mv_check_limits.specs.Ordered.{counts_of, unit_parameters};
 ghost use Rattle.mv_types.specs.Completed.{completed_program, params_or_none};
 
 use crate::contents::{Completed, Object};
 use mv_ast::program::{Function, Signature};
 use mv_ast::unit::Unit;
-use mv_limits::counts::{Counts, are_too_many_parameters};
-use mv_limits::parameters::parameters_of_unit;
+use mv_check_limits::counts::{Counts, are_too_many_parameters};
+use mv_check_limits::parameters::parameters_of_unit;
 
 fn count_defined(functions: &[Option<Function>]) -> u64
     ensures { result ≡ count_by (λ f. is_some f) functions.now }
@@ -51,7 +51,7 @@ fn parameters_of(signatures: &[Signature], functions: &[Option<Function>]) -> Op
 }
 
 // The first number of parameters that is too many, in the order of the text.
-#[tactic(auto, using(mv_limits::proofs::Forms::in_both))]
+#[tactic(auto, using(mv_check_limits::proofs::Forms::in_both))]
 fn parameters(unit: &Unit, signatures: &[Signature], functions: &[Option<Function>]) -> Option<u64>
     ensures { result ≡ first_above 8 (unit_parameters unit.now ++ (map (λ s. length s.params) signatures.now ++ map params_or_none functions.now)) }
 {

@@ -1,15 +1,15 @@
 // What is known of a unit's names before its first declaration is judged.
 
 ghost use Rattle.std.specs.Prelude.{◌≡◌, IfOk, OnOk};
-ghost use Rattle.mv_outline.specs.Names.{with_names, place_of};
-ghost use Rattle.mv_outline.specs.Outlined as outlined;
+ghost use Rattle.mv_check_outline.specs.Names.{with_names, place_of};
+ghost use Rattle.mv_check_outline.specs.Outlined as outlined;
 ghost use Rattle.mv_types.specs.Foreknown as spec;
 
 use crate::contents::Foreknown;
 use mv_ast::unit::{Declarator, Item, Shape, Unit};
+use mv_check_outline::names::Names;
+use mv_check_outline::outline::outline_of;
 use mv_num::results::both;
-use mv_outline::names::Names;
-use mv_outline::outline::outline_of;
 use std::alloc::{AllocError, Global};
 
 /// What a declaration may say of a name for its uses further up: that it is a `const` object, or that it is an attributed function.

@@ -1,12 +1,12 @@
 // Functions (C11 6.7.6.3, 6.9.1).
 
 ghost use Rattle.std.specs.Prelude.{◌≡◌, [], ◌∷◌, IfOk, OnOk, length, Some, slice_set};
-ghost use Rattle.mv_scope.specs.Conversions.{int, same_types, same_signature};
-ghost use Rattle.mv_scope.specs.Spaces.{named};
-ghost use Rattle.mv_judge.specs.Judged.{Good};
-ghost use Rattle.mv_declare.specs.Declarators.{signature_of};
-ghost use Rattle.mv_declare.specs.Parameters.{parameters_judgement};
-ghost use Rattle.mv_declare.specs.Turns.{IsBehind, IsLeft};
+ghost use Rattle.mv_check_scope.specs.Conversions.{int, same_types, same_signature};
+ghost use Rattle.mv_check_scope.specs.Spaces.{named};
+ghost use Rattle.mv_check_expressions.specs.Judged.{Good};
+ghost use Rattle.mv_check_declarations.specs.Declarators.{signature_of};
+ghost use Rattle.mv_check_declarations.specs.Parameters.{parameters_judgement};
+ghost use Rattle.mv_check_declarations.specs.Turns.{IsBehind, IsLeft};
 ghost use Rattle.mv_types.specs.Contents.{IsContinued};
 ghost use Rattle.mv_types.specs.Functions as spec;
 
@@ -14,18 +14,18 @@ use crate::contents::{Contents, Foreknown};
 use crate::foreknown::{attributed_number, number_among};
 use mv_ast::program::{CType, Function, Known, Signature, Stmt};
 use mv_ast::unit::{Declarator, Line, Shape};
-use mv_declare::initials::check_plain_values;
-use mv_declare::parameters::declare_parameters;
-use mv_judge::error::RuleError;
-use mv_judge::rules;
+use mv_check_declarations::initials::check_plain_values;
+use mv_check_declarations::parameters::declare_parameters;
+use mv_check_expressions::error::RuleError;
+use mv_check_expressions::rules;
+use mv_check_scope::convert::same_type;
+use mv_check_scope::known::known_function;
+use mv_check_scope::meaning::{Meaning, Routine};
+use mv_check_scope::scope::Scope;
+use mv_check_statements::body::check_body;
 use mv_num::kind::Kind;
 use mv_num::list::List;
 use mv_num::text::Text;
-use mv_scope::convert::same_type;
-use mv_scope::known::known_function;
-use mv_scope::meaning::{Meaning, Routine};
-use mv_scope::scope::Scope;
-use mv_statement_rules::body::check_body;
 use std::alloc::{AllocError, Global};
 use std::mem;
 

@@ -7,7 +7,7 @@
 //!   declared before; `specs/Objects.antt` and `specs/Functions.antt` say how often an object or a function may be
 //!   declared, and what its declarations come to; `specs/Foreknown.antt` what is known of names from the start
 //!   ([docs/declarations.md](declarations.md)).
-//! - `mv_top_rows` shows what 187 units are answered. Limits 1 to 4 are tested before the program is made.
+//! - `mv_test_top` shows what 187 units are answered. Limits 1 to 4 are tested before the program is made.
 #![tactic(auto)]
 
 pub mod check;

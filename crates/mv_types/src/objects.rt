@@ -1,8 +1,8 @@
 // Objects at file scope (C11 6.7, 6.9.2).
 
 ghost use Rattle.std.specs.Prelude.{◌≡◌, IfOk, OnOk, slice_get};
-ghost use Rattle.mv_scope.specs.Spaces.{named};
-ghost use Rattle.mv_judge.specs.Judged.{IsJudged};
+ghost use Rattle.mv_check_scope.specs.Spaces.{named};
+ghost use Rattle.mv_check_expressions.specs.Judged.{IsJudged};
 ghost use Rattle.mv_types.specs.Contents.{IsContinued};
 ghost use Rattle.mv_types.specs.Objects as spec;
 
@@ -11,16 +11,16 @@ use crate::foreknown::number_among;
 use mv_ast::program;
 use mv_ast::program::Local;
 use mv_ast::unit::{Declarator, Initial};
-use mv_declare::attributes::Attribute;
-use mv_declare::domain::Domain;
-use mv_declare::globals::{Words, domain_of, global_words};
-use mv_declare::objects::{Breaches, breaks_extents, is_unconverted, least};
-use mv_judge::error::RuleError;
+use mv_check_declarations::attributes::Attribute;
+use mv_check_declarations::domain::Domain;
+use mv_check_declarations::globals::{Words, domain_of, global_words};
+use mv_check_declarations::objects::{Breaches, breaks_extents, is_unconverted, least};
+use mv_check_expressions::error::RuleError;
+use mv_check_scope::convert::{is_void, same_type};
+use mv_check_scope::meaning::{Elements, Meaning, Storage, Variable};
+use mv_check_scope::scope::Scope;
 use mv_num::list::List;
 use mv_num::text::Text;
-use mv_scope::convert::{is_void, same_type};
-use mv_scope::meaning::{Elements, Meaning, Storage, Variable};
-use mv_scope::scope::Scope;
 use std::alloc::{AllocError, Global};
 use std::mem;
 

@@ -1,8 +1,8 @@
 // The program that a unit is, once all its declarations are judged.
 
 ghost use Rattle.std.specs.Prelude.{◌≡◌, ◌++◌, IfOk, OnOk, codes, map, slice_get, [], if◌then◌else◌};
-ghost use Rattle.mv_scope.specs.Spaces.{named};
-ghost use Rattle.mv_uses.specs.Uses.{switches_named};
+ghost use Rattle.mv_check_scope.specs.Spaces.{named};
+ghost use Rattle.mv_check_uses.specs.Uses.{switches_named};
 ghost use Rattle.mv_types.specs.Completed.{IsCompleted};
 ghost use Rattle.mv_types.specs.Contents.{present, switch_of, switches_from};
 ghost use Rattle.mv_types.specs.Units.{is_main_type, main_of, with_switches, program_of, program_judgement};
@@ -11,15 +11,15 @@ use crate::contents::{Completed, Contents, Object};
 use crate::functions::is_plain_int;
 use mv_ast::place::Place;
 use mv_ast::program::{Function, Global as Variable, Program, Signature, Switch};
-use mv_declare::domain::Domain;
-use mv_judge::error::RuleError;
-use mv_judge::rules;
+use mv_check_declarations::domain::Domain;
+use mv_check_expressions::error::RuleError;
+use mv_check_expressions::rules;
+use mv_check_scope::meaning::Meaning;
+use mv_check_scope::scope::Scope;
+use mv_check_scope::signatures::SignatureList;
+use mv_check_uses::uses::switches_named;
 use mv_num::list::List;
 use mv_num::results::both;
-use mv_scope::meaning::Meaning;
-use mv_scope::scope::Scope;
-use mv_scope::signatures::SignatureList;
-use mv_uses::uses::switches_named;
 use std::alloc::{AllocError, Global};
 use std::mem;
 

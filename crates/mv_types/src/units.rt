@@ -2,10 +2,10 @@
 
 ghost use Rattle.std.specs.Prelude.{◌≡◌, IfOk, None, replicate};
 ghost use Rattle.std.specs.List.{list_any};
-ghost use Rattle.mv_judge.specs.Judged.{and_then, IsJudged};
-ghost use Rattle.mv_declare.specs.declared.attributes.Position.TheVariants as position;
-ghost use Rattle.mv_declare.specs.Specifiers.{specifiers};
-ghost use Rattle.mv_declare.specs.Turns.{through, IsBehind};
+ghost use Rattle.mv_check_expressions.specs.Judged.{and_then, IsJudged};
+ghost use Rattle.mv_check_declarations.specs.declared.attributes.Position.TheVariants as position;
+ghost use Rattle.mv_check_declarations.specs.Specifiers.{specifiers};
+ghost use Rattle.mv_check_declarations.specs.Turns.{through, IsBehind};
 ghost use Rattle.mv_types.specs.Completed.{IsCompleted};
 ghost use Rattle.mv_types.specs.Contents.{nothing_declared, IsContinued};
 ghost use Rattle.mv_types.specs.Foreknown.{is_fixed};
@@ -18,17 +18,17 @@ use crate::program::complete;
 use crate::{functions, objects};
 use mv_ast::program::{Function, Local};
 use mv_ast::unit::{Declarator, Initial, Item, Line, Unit};
-use mv_declare::attributes::{Attribute, Position, shared};
-use mv_declare::declarators::Entity;
-use mv_declare::globals::{Designated, file_declarator, global_words};
-use mv_declare::initials::{array_size, check_plain_values};
-use mv_declare::objects::{scalar, sized};
-use mv_declare::specifiers::{Specified, specifiers};
-use mv_judge::error::RuleError;
-use mv_judge::rules;
+use mv_check_declarations::attributes::{Attribute, Position, shared};
+use mv_check_declarations::declarators::Entity;
+use mv_check_declarations::globals::{Designated, file_declarator, global_words};
+use mv_check_declarations::initials::{array_size, check_plain_values};
+use mv_check_declarations::objects::{scalar, sized};
+use mv_check_declarations::specifiers::{Specified, specifiers};
+use mv_check_expressions::error::RuleError;
+use mv_check_expressions::rules;
+use mv_check_scope::scope::Scope;
 use mv_num::list::List;
 use mv_num::results::both;
-use mv_scope::scope::Scope;
 use std::alloc::{AllocError, Global};
 
 fn is_fixed(known: &Foreknown, name: &[u8]) -> bool

@@ -7,14 +7,14 @@ use Rattle.mv_ast.specs.Counts.{assignments}
 use Rattle.mv_ir.specs.declared.body.Body.{Body}
 use Rattle.mv_ir.specs.Combinations.{AreAllCombinations}
 use Rattle.mv_descriptors.specs.declared.rows.GuardRow.{GuardRow}
-use Rattle.mv_lowering.specs.Functions.{lower_function}
+use Rattle.mv_lower_spec.specs.Functions.{lower_function}
 use Rattle.mv_merge.specs.declared.rows.Bound.{Bound}
 use Rattle.mv_merge.specs.declared.rows.Guarded.{Guarded}
 use Rattle.mv_merge.specs.declared.rows.Variants.{Variants}
 use Rattle.mv_merge.specs.Guards.{all_values, IsMerged}
-use Rattle.mv_bound_bodies.specs.Rows.{groups_from, groups}
-use Rattle.mv_bound_bodies.specs.Led.{AreMade}
-use Rattle.mv_bound_bodies.specs.Switches.{domains_in, DomainsAreWords}
+use Rattle.mv_parts_bound.specs.Rows.{groups_from, groups}
+use Rattle.mv_parts_bound.specs.Led.{AreMade}
+use Rattle.mv_parts_bound.specs.Switches.{domains_in, DomainsAreWords}
 use Rattle.mv_variants.specs.declared.variant.Variant.{Variant}
 use Rattle.mv_variants.specs.Domains.{switch_kind}
 

@@ -1,17 +1,17 @@
 //! The variants of an attributed function: its body under each assignment of its switches, folded, with its temporaries renamed, and equal bodies as one.
 //!
-//! What they are is said by `AreVariants` (`specs/Variants.antt`) in the words of `mv_bound_bodies`, whose laws say what follows: that each means what the
+//! What they are is said by `AreVariants` (`specs/Variants.antt`) in the words of `mv_parts_bound`, whose laws say what follows: that each means what the
 //! function means under its values and reads none of its switches, and which rows lead to it.
 //!
 //! - `variants_of`: of a function and what it is lowered to, the body under each assignment of its switches, bound,
 //!   folded and with its temporaries renamed, and equal bodies as one, each with the guard rows that lead to it
-//!   (`AreVariantsOf`). By `mv_bound_bodies` each means what the function means under its values, and reads none of its
+//!   (`AreVariantsOf`). By `mv_parts_bound` each means what the function means under its values, and reads none of its
 //!   switches.
 #![tactic(auto)]
 
 ghost use Rattle.std.specs.Prelude.{◌≡◌, true, slice_get, IfOk};
 ghost use Rattle.mv_ast.specs.Counts.{is_attributed};
-ghost use Rattle.mv_lowered_programs.specs.WellFormed.{IsWellFormed};
+ghost use Rattle.mv_lower_correct.specs.WellFormed.{IsWellFormed};
 ghost use Rattle.mv_variants.specs.Variants.{IsLoweredFrom, AreVariantsOf};
 
 mod domain;
@@ -26,7 +26,7 @@ pub use domain::switch_kind;
 use mv_ast::program::Program;
 use mv_clone::assignments::assignments;
 use mv_ir::body::Body;
-use mv_lowered_forms::lowered_forms_are_right;
+use mv_lower_shape::lowered_forms_are_right;
 use mv_merge::merge::merge;
 use mv_num::list::List;
 use std::alloc::{AllocError, Global};

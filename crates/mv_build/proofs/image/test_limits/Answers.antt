@@ -1,5 +1,5 @@
 use Rattle.std.proofs.Common.{◌≤◌, ◌<◌, arith}
-use Rattle.mv_first_data.specs.FirstData.{data_words}
+use Rattle.mv_link_data.specs.FirstData.{data_words}
 use Rattle.mv_linker.specs.Outcome.{data_limit, site_limit}
 use Rattle.mv_build.proofs.Limits.{sites_past, few_sites, data_past}
 use Rattle.mv_build.proofs.image.test_limits.Goals as goal

@@ -1,5 +1,5 @@
 use Rattle.std.proofs.Common.{◌≡◌, ◌-◌, ◌++◌}
-use Rattle.mv_lowering.specs.Statements.{store_zeros}
+use Rattle.mv_lower_spec.specs.Statements.{store_zeros}
 use Rattle.mv_lower.proofs.declaration.store_zeros.Given as goal
 
 abbrev pub invariant-loop-i : goal.invariant-loop-i

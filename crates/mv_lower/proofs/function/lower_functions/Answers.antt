@@ -3,7 +3,7 @@ use Rattle.std.specs.List.{All}
 use Rattle.std.proofs.lemmas.List.Elements.{All-get_or}
 use Rattle.mv_ast.specs.declared.program.Function.{Function}
 use Rattle.mv_ir.specs.declared.body.Body.{Body}
-use Rattle.mv_lowering.specs.Functions.{lower_function}
+use Rattle.mv_lower_spec.specs.Functions.{lower_function}
 use Rattle.mv_lower.specs.Programs.{HasRoom}
 use Rattle.mv_lower.proofs.Bodies.{map_step}
 use Rattle.mv_lower.proofs.function.lower_functions.Goals as goal

@@ -1,5 +1,5 @@
 use Rattle.std.proofs.Common.{◌≡◌, map, take}
-use Rattle.mv_lowering.specs.Functions.{lower_function}
+use Rattle.mv_lower_spec.specs.Functions.{lower_function}
 use Rattle.mv_lower.proofs.function.lower_functions.Given as goal
 
 abbrev pub invariant-loop-function : goal.invariant-loop-function

@@ -1,6 +1,6 @@
 use Rattle.std.proofs.Common.{ℕ, ◌≡◌, ◌+◌, ◌<◌, ◌≤◌, ◌∷◌, [], ◌++◌, List, true, false, ◌&&◌, cond, length, get_or, drop, sym, ap, ◌∙◌, arith, subst, append-nil}
 use Rattle.mv_ast.specs.declared.program.Function.{Function}
-use Rattle.mv_lowering.specs.Functions.{marked_from}
+use Rattle.mv_lower_spec.specs.Functions.{marked_from}
 use Rattle.mv_lower.specs.Programs.{is_set}
 use Rattle.mv_lower.proofs.Bodies.{kept_step, marked_next, marked_end}
 use Rattle.mv_lower.proofs.function.marked.Goals as goal

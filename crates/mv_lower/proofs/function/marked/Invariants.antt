@@ -1,5 +1,5 @@
 use Rattle.std.proofs.Common.{◌≡◌, ◌++◌, drop}
-use Rattle.mv_lowering.specs.Functions.{marked_from}
+use Rattle.mv_lower_spec.specs.Functions.{marked_from}
 use Rattle.mv_lower.specs.Programs.{is_set}
 use Rattle.mv_lower.proofs.function.marked.Given as goal
 

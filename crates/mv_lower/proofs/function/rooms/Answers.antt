@@ -2,7 +2,7 @@ use Rattle.std.proofs.Common.{◌≡◌, ◌+◌, ◌<◌, ◌≤◌, ◌∷◌,
 use Rattle.mv_ast.specs.declared.program.Global.{Global}
 use Rattle.mv_ast.specs.Counts.{words_of_size}
 use Rattle.mv_ir.specs.declared.body.Room.{Room}
-use Rattle.mv_lowering.specs.Functions.{address_behind, rooms_from}
+use Rattle.mv_lower_spec.specs.Functions.{address_behind, rooms_from}
 use Rattle.mv_lower.specs.Programs.{is_named}
 use Rattle.mv_lower.proofs.Bodies.{kept_step, same_room, rooms_next, rooms_end, next_address}
 use Rattle.mv_lower.proofs.function.rooms.Goals as goal

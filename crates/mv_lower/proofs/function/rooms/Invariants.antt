@@ -1,5 +1,5 @@
 use Rattle.std.proofs.Common.{◌≡◌, ℕ, ◌++◌, drop}
-use Rattle.mv_lowering.specs.Functions.{rooms_from, address_behind}
+use Rattle.mv_lower_spec.specs.Functions.{rooms_from, address_behind}
 use Rattle.mv_lower.specs.Programs.{is_named}
 use Rattle.mv_lower.proofs.function.rooms.Given as goal
 

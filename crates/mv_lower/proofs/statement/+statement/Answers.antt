@@ -2,7 +2,7 @@ use Rattle.std.proofs.Common.{ℕ, suc, append_assoc, List, ◌≡◌, ◌+◌, 
 use Rattle.mv_ast.specs.declared.program.Stmt.{Stmt}
 use Rattle.mv_ast.specs.declared.program.Arm.{Arm}
 use Rattle.mv_ast.specs.declared.program.Expr.{Expr}
-use Rattle.mv_lowering.specs.Lowered.{Lowered}
+use Rattle.mv_lower_spec.specs.Lowered.{Lowered}
 use Rattle.mv_lower_expressions.specs.declared.value.Value.{Value}
 use Rattle.mv_lower_expressions.specs.Values.{seen}
 use Rattle.mv_lower_expressions.specs.Expressions.{expr_at, each_at}
@@ -12,7 +12,7 @@ use Rattle.mv_lower.proofs.StatementForms.{size_block, size_clear, size_express,
 use Rattle.mv_lower.proofs.Switching.{next_item, code_step, top_step, arms_least, arms_end}
 use Rattle.mv_lower.proofs.Sequences.{same_code, with_stmt, stmts_push}
 use Rattle.mv_ir.specs.declared.stm.Stm.{Stm}
-use Rattle.mv_lowering.specs.Statements.{Code, in_arm, arm_code, arms_code, arms_top}
+use Rattle.mv_lower_spec.specs.Statements.{Code, in_arm, arm_code, arms_code, arms_top}
 use Rattle.mv_lower.specs.Statements.{seen_code, seen_jumps, stmts_at, stmt_at, arm_at}
 use Rattle.mv_lower.proofs.statement.+statement.Goals as goal
 

@@ -1,5 +1,5 @@
 use Rattle.std.proofs.Common.{◌≡◌, ◌+◌, ◌*◌, ◌≤◌, ◌++◌, map, take, drop, length, max}
-use Rattle.mv_lowering.specs.Statements.{Code, arms_code, arms_top}
+use Rattle.mv_lower_spec.specs.Statements.{Code, arms_code, arms_top}
 use Rattle.mv_lower.specs.Statements.{stmts_at, arm_at, seen_jumps, stmt_size, stmts_size, arms_size}
 use Rattle.mv_lower.proofs.statement.+statement.Given as goal
 

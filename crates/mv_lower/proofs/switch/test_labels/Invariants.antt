@@ -1,5 +1,5 @@
 use Rattle.std.proofs.Common.{◌≡◌, ◌++◌, take}
-use Rattle.mv_lowering.specs.Statements.{test_labels}
+use Rattle.mv_lower_spec.specs.Statements.{test_labels}
 use Rattle.mv_lower.proofs.switch.test_labels.Given as goal
 
 abbrev pub invariant-loop-label : goal.invariant-loop-label

@@ -1,7 +1,7 @@
 use Rattle.std.proofs.Common.{rules, ℕ, ◌≡◌, ◌+◌, List, [], ◌∷◌, ◌++◌, map, vec_len, refl, sym, ap, ◌∙◌, append-nil, append_assoc, arith}
 use Rattle.mv_ir.specs.declared.stm.Stm.{Stm}
 use Rattle.mv_ir.specs.declared.tree.Tree.{Tree}
-use Rattle.mv_lowering.specs.Lowered.{Lowered, Arguments}
+use Rattle.mv_lower_spec.specs.Lowered.{Lowered, Arguments}
 use Rattle.mv_lower_expressions.specs.declared.value.Value.{Value}
 use Rattle.mv_lower_expressions.specs.Values.{seen}
 use Rattle.mv_lower_expressions.specs.Calls.{arguments_of, prepended}

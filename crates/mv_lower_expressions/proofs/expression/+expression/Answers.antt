@@ -4,9 +4,9 @@ use Rattle.std.specs.Prelude.{Result}
 use Rattle.std.specs.Result.{IfOk}
 use Rattle.mv_ast.specs.declared.program.Expr.{Expr}
 use Rattle.mv_ast.specs.declared.program.Form.{Form}
-use Rattle.mv_lowering.specs.Lowered.{Lowered}
+use Rattle.mv_lower_spec.specs.Lowered.{Lowered}
 use Rattle.mv_lower_expressions.specs.declared.value.Value.{Value}
-use Rattle.mv_lowering.specs.Lower.{Place}
+use Rattle.mv_lower_spec.specs.Lower.{Place}
 use Rattle.mv_lower_expressions.specs.declared.place.Place as declared
 use Rattle.mv_lower_expressions.specs.Values.{seen}
 use Rattle.mv_lower_expressions.specs.Places.{start_of, seen_place}

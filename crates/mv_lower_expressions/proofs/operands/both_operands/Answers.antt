@@ -1,6 +1,6 @@
 use Rattle.std.proofs.Common.{◌≡◌, subst, refl, ap, ◌∙◌, ◌&&◌, Result, Ok}
 use Rattle.std.specs.Result.{IfOk}
-use Rattle.mv_lowering.specs.Lowered.{Lowered, is_empty, is_low, kept_if}
+use Rattle.mv_lower_spec.specs.Lowered.{Lowered, is_empty, is_low, kept_if}
 use Rattle.mv_lower_expressions.specs.Values.{seen, first_of, second_of, AreOperands}
 use Rattle.mv_lower_expressions.proofs.operands.both_operands.Goals as goal
 

@@ -1,9 +1,9 @@
 use Rattle.std.proofs.Common.{refl, sym}
 use Rattle.std.proofs.lemmas.Result.{err_from_is_err_and}
-use Rattle.mv_grammar.specs.Terminals.{terminals}
-use Rattle.mv_grammar.specs.ExpressionReader.{read}
-use Rattle.mv_grammar.specs.DeclarationReader.{with_init}
-use Rattle.mv_nodes.proofs.Answers.{given_ok, then_ok, then_err, choice_yes, choice_no, regrouped, same_read}
+use Rattle.mv_parse_grammar.specs.Terminals.{terminals}
+use Rattle.mv_parse_grammar.specs.ExpressionReader.{read}
+use Rattle.mv_parse_grammar.specs.DeclarationReader.{with_init}
+use Rattle.mv_parse_nodes.proofs.Answers.{given_ok, then_ok, then_err, choice_yes, choice_no, regrouped, same_read}
 use Rattle.mv_parser.proofs.items.after_declarator.Goals as goal
 
 pub returns-in_err-body-clause-reads : goal.returns-in_err-body-clause-reads

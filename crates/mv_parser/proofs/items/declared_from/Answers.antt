@@ -1,11 +1,11 @@
 use Rattle.std.proofs.Common.{[], ◌∷◌, refl, ◌∙◌, arith}
 use Rattle.std.proofs.lemmas.Result.{err_from_is_err_and}
-use Rattle.mv_grammar.specs.Terminals.{terminals}
-use Rattle.mv_grammar.specs.Reader as reader
-use Rattle.mv_grammar.specs.ExpressionReader.{read}
-use Rattle.mv_grammar.specs.DeclarationReader.{with_init, declared, params}
-use Rattle.mv_nodes.proofs.Answers.{given_ok, loop_begins, loop_stops, loops_at, go_on_give, regrouped}
-use Rattle.mv_nodes.proofs.Lists.{comma_goes_on, comma_fails}
+use Rattle.mv_parse_grammar.specs.Terminals.{terminals}
+use Rattle.mv_parse_grammar.specs.Reader as reader
+use Rattle.mv_parse_grammar.specs.ExpressionReader.{read}
+use Rattle.mv_parse_grammar.specs.DeclarationReader.{with_init, declared, params}
+use Rattle.mv_parse_nodes.proofs.Answers.{given_ok, loop_begins, loop_stops, loops_at, go_on_give, regrouped}
+use Rattle.mv_parse_nodes.proofs.Lists.{comma_goes_on, comma_fails}
 use Rattle.mv_parser.proofs.items.declared_from.Goals as goal
 
 pub loop-after-init : goal.loop-after-init

@@ -1,10 +1,10 @@
 use Rattle.std.proofs.Common.{ℕ, ◌≤◌, List, length}
 use Rattle.mv_ast.specs.declared.unit.Declarator.{Declarator}
-use Rattle.mv_grammar.specs.Terminals.{terminals, is_mark}
-use Rattle.mv_grammar.specs.Reader as reader
-use Rattle.mv_grammar.specs.ExpressionReader.{read}
-use Rattle.mv_grammar.specs.DeclarationReader.{declared, params}
-use Rattle.mv_nodes.proofs.Answers.{Loops}
+use Rattle.mv_parse_grammar.specs.Terminals.{terminals, is_mark}
+use Rattle.mv_parse_grammar.specs.Reader as reader
+use Rattle.mv_parse_grammar.specs.ExpressionReader.{read}
+use Rattle.mv_parse_grammar.specs.DeclarationReader.{declared, params}
+use Rattle.mv_parse_nodes.proofs.Answers.{Loops}
 use Rattle.mv_parser.specs.Items.{declared_from}
 use Rattle.mv_parser.proofs.items.declared_from.Given as goal
 

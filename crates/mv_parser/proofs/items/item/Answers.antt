@@ -1,7 +1,7 @@
 use Rattle.std.proofs.Common.{None, refl, sym, ap, ◌∙◌}
 use Rattle.std.proofs.lemmas.Result.{err_from_is_err_and}
-use Rattle.mv_grammar.specs.Units.{item_of}
-use Rattle.mv_nodes.proofs.Answers.{given_ok, then_ok, then_err, token_ok, choice_yes, choice_no}
+use Rattle.mv_parse_grammar.specs.Units.{item_of}
+use Rattle.mv_parse_nodes.proofs.Answers.{given_ok, then_ok, then_err, token_ok, choice_yes, choice_no}
 use Rattle.mv_parser.proofs.items.item.Goals as goal
 
 pub returns-in_err-specs-clause-reads : goal.returns-in_err-specs-clause-reads

@@ -1,7 +1,7 @@
 use Rattle.std.proofs.Common.{[], ◌∷◌, ◌++◌, refl, sym, ap}
 use Rattle.std.proofs.lemmas.Result.{err_from_is_err_and}
-use Rattle.mv_grammar.specs.Terminals.{terminals}
-use Rattle.mv_nodes.proofs.Answers.{given_ok, then_ok, then_err, loop_starts, loop_goes_on, loop_stops, loop_fails, loops_at, go_on_give, none_at_end}
+use Rattle.mv_parse_grammar.specs.Terminals.{terminals}
+use Rattle.mv_parse_nodes.proofs.Answers.{given_ok, then_ok, then_err, loop_starts, loop_goes_on, loop_stops, loop_fails, loops_at, go_on_give, none_at_end}
 use Rattle.mv_parser.proofs.items.items.Goals as goal
 
 pub loop-items-init : goal.loop-items-init

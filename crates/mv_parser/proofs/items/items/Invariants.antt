@@ -1,9 +1,9 @@
 use Rattle.std.proofs.Common.{ℕ, true, List, length}
 use Rattle.mv_ast.specs.declared.unit.Item.{Item}
-use Rattle.mv_grammar.specs.Terminals.{terminals}
-use Rattle.mv_grammar.specs.Reader as reader
-use Rattle.mv_grammar.specs.UnitReader as model
-use Rattle.mv_nodes.proofs.Answers.{Loops}
+use Rattle.mv_parse_grammar.specs.Terminals.{terminals}
+use Rattle.mv_parse_grammar.specs.Reader as reader
+use Rattle.mv_parse_grammar.specs.UnitReader as model
+use Rattle.mv_parse_nodes.proofs.Answers.{Loops}
 use Rattle.mv_parser.proofs.items.items.Given as goal
 
 abbrev pub invariant-loop-items : goal.invariant-loop-items

@@ -1,7 +1,7 @@
 use Rattle.std.proofs.Common.{Err, refl, subst}
-use Rattle.mv_grammar.specs.Terminals.{terminals}
-use Rattle.mv_grammar.specs.UnitReader as model
-use Rattle.mv_nodes.specs.Gives.{Gives}
+use Rattle.mv_parse_grammar.specs.Terminals.{terminals}
+use Rattle.mv_parse_grammar.specs.UnitReader as model
+use Rattle.mv_parse_nodes.specs.Gives.{Gives}
 use Rattle.mv_parser.proofs.Reading.{all, reads_all, breaks_off}
 use Rattle.mv_parser.proofs.verdict.unit.Goals as goal
 

@@ -1,7 +1,7 @@
 use Rattle.std.proofs.Common.{arith, refl}
 use Rattle.mv_front.proofs.Few.{few_functions}
 use Rattle.mv_top.proofs.Texts.{evaluation_done, not_evaluated}
-use Rattle.mv_limits.proofs.Orders.{none_exceeded}
+use Rattle.mv_check_limits.proofs.Orders.{none_exceeded}
 use Rattle.mv_top.proofs.eval.eval_text.Goals as goal
 
 pub eval-requires : goal.eval-requires

@@ -3,13 +3,15 @@ use Rattle.std.proofs.lemmas.Result.{err_from_is_err_and}
 use Rattle.mv_operator.specs.Operator.{IsRefusedFor}
 use Rattle.mv_top.proofs.Few.{few_switches}
 use Rattle.mv_top.proofs.Causes.{all_fit, build_cause, item_cause}
-use Rattle.mv_limits.proofs.Orders.{none_exceeded}
+use Rattle.mv_check_limits.proofs.Orders.{none_exceeded}
 use Rattle.mv_top.proofs.run.prepare.Goals as goal
 
 pub actions_of-requires-clause-few : goal.actions_of-requires-clause-few
-actions_of-requires-clause-few c = omega (arith,
-    few_switches c.in_ok-built.built.program
-    (none_exceeded c.in_ok-built.ensures.built.program.unit c.in_ok-built.built.program c.in_ok-built.ensures.built.program.within))
+actions_of-requires-clause-few c = omega (
+  arith,
+  few_switches c.in_ok-built.built.program
+      (none_exceeded c.in_ok-built.ensures.built.program.unit c.in_ok-built.built.program c.in_ok-built.ensures.built.program.within),
+)
 
 pub returns-in-Ok-clause-fit : goal.returns-in-Ok-clause-fit
 returns-in-Ok-clause-fit c = all_fit c.args.text.now c.in_ok-built.built c.in-Ok.actions.items c.in_ok-built.ensures.built c.in-Ok.ensures.fit

@@ -1,5 +1,5 @@
 use Rattle.std.proofs.Common.{◌∙◌, ap, sym}
-use Rattle.mv_limits.specs.Limits.{exceeded_by_counts}
+use Rattle.mv_check_limits.specs.Limits.{exceeded_by_counts}
 use Rattle.mv_types.proofs.Counted.{excess_counted}
 use Rattle.mv_types.proofs.check.limited.Goals as goal
 

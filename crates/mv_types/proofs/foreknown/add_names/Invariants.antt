@@ -1,6 +1,6 @@
 use Rattle.std.proofs.Common.{◌≡◌, take, filter, map}
-use Rattle.mv_outline.specs.Names.{with_names}
-use Rattle.mv_outline.specs.Outlined.{name_of}
+use Rattle.mv_check_outline.specs.Names.{with_names}
+use Rattle.mv_check_outline.specs.Outlined.{name_of}
 use Rattle.mv_types.specs.Foreknown.{is_said}
 use Rattle.mv_types.proofs.foreknown.add_names.Given as goal
 

@@ -1,5 +1,5 @@
 use Rattle.std.proofs.Common.{◌∙◌, ap}
-use Rattle.mv_outline.specs.Names.{with_names}
+use Rattle.mv_check_outline.specs.Names.{with_names}
 use Rattle.mv_types.specs.Foreknown.{names_in}
 use Rattle.mv_types.proofs.OneMore.{next_named}
 use Rattle.mv_types.proofs.foreknown.all_names.Goals as goal

@@ -1,5 +1,5 @@
 use Rattle.std.proofs.Common.{◌≡◌, take}
-use Rattle.mv_outline.specs.Names.{each_once}
+use Rattle.mv_check_outline.specs.Names.{each_once}
 use Rattle.mv_types.specs.Foreknown.{all_names}
 use Rattle.mv_types.proofs.foreknown.all_names.Given as goal
 

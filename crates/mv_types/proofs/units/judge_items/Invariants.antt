@@ -1,5 +1,5 @@
 use Rattle.std.proofs.Common.{◌≡◌, drop}
-use Rattle.mv_declare.specs.Turns.{through}
+use Rattle.mv_check_declarations.specs.Turns.{through}
 use Rattle.mv_types.specs.Units.{item_judgement}
 use Rattle.mv_types.proofs.units.judge_items.Given as goal
 

@@ -1,8 +1,8 @@
 use Rattle.std.proofs.Common.{List, ◌≡◌, ◌∙◌, ap, subst}
 use Rattle.mv_ast.specs.declared.unit.Declarator.{Declarator}
-use Rattle.mv_declare.specs.declared.attributes.Position.TheVariants as position
-use Rattle.mv_declare.specs.Specifiers.{specifiers}
-use Rattle.mv_declare.specs.Turns.{IsBehind}
+use Rattle.mv_check_declarations.specs.declared.attributes.Position.TheVariants as position
+use Rattle.mv_check_declarations.specs.Specifiers.{specifiers}
+use Rattle.mv_check_declarations.specs.Turns.{IsBehind}
 use Rattle.mv_types.specs.Units.{holders}
 use Rattle.mv_types.proofs.units.specified.Goals as goal
 

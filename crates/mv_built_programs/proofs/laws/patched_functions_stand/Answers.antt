@@ -1,5 +1,0 @@
-use Rattle.mv_built_programs.proofs.Patched.{patched_functions_stand}
-use Rattle.mv_built_programs.proofs.laws.patched_functions_stand.Goals as goal
-
-pub returns : goal.returns
-returns c = patched_functions_stand c.functions_show.ensures.free c.functions_show.ensures.bound

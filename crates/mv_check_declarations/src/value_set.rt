@@ -1,0 +1,53 @@
+//! Different values.
+
+ghost use Rattle.std.specs.Prelude.{◌≡◌, [], not, IfOk, OnOk};
+ghost use Rattle.mv_ast.specs.Plans.{is_among};
+ghost use Rattle.mv_check_declarations.specs.ValueSets.{with_member};
+
+use indexmap::IndexSet;
+use mv_num::list::List;
+use std::alloc::{AllocError, Global};
+use std::marker::Model;
+
+/// Values in the order in which they were added, each once. Whether one is there takes no search through the others.
+#[derive(Drop)]
+pub struct ValueSet {
+    values: IndexSet<u32>,
+}
+
+impl Model for ValueSet {
+    ghost use Rattle.std.specs.Prelude.{ℕ, List};
+
+    ghost Value = { List ℕ };
+
+    ghost view = { λ s. s.values.keys };
+}
+
+impl ValueSet {
+    /// No values.
+    pub fn new(alloc: Global) -> ValueSet
+        ensures { result ≡ [] }
+    {
+        ValueSet {
+            values: IndexSet::new(alloc),
+        }
+    }
+
+    /// Adds a value at the end, unless it is there. The answer says whether it was new.
+    #[tactic(auto, using(crate::proofs::ValueSets::among, crate::proofs::ValueSets::added))]
+    pub fn add(&mut self, value: u32) -> Result<bool, AllocError>
+        ensures new { IfOk result (λ new. new ≡ not (is_among value self.old)) }
+        ensures added { OnOk result (self.new ≡ with_member self.old value) }
+    {
+        let new = self.values.insert(value)?;
+        Ok(new)
+    }
+
+    /// The values as a list.
+    pub fn to_list(&self, alloc: Global) -> Result<List<u32>, AllocError>
+        ensures { IfOk result (λ list. list ≡ self.now) }
+    {
+        let values = Vec::from_slice(alloc, self.values.as_slice())?;
+        Ok(List::from_vec(values))
+    }
+}

@@ -1,0 +1,176 @@
+-- Initial values, which the code judges and gathers in one go, agree with those that are judged first and then put together.
+use Rattle.std.proofs.Common.{◌≡◌, ℕ, refl, sym, ◌∙◌, ap, Bool, true, false, ◌&&◌, ◌||◌, not, is_some, unwrap_or, if◌then◌else◌, Option, Some, None, List, [], ◌∷◌, ◌++◌, map, length, suc, append_assoc, append-nil}
+use Rattle.std.specs.List.{list_any}
+use Rattle.mv_ast.specs.declared.place.Place.{Place}
+use Rattle.mv_ast.specs.declared.program.CType.{CType}
+use Rattle.mv_ast.specs.declared.program.Expr.{Expr}
+use Rattle.mv_ast.specs.declared.program.Local.{Local}
+use Rattle.mv_ast.specs.declared.unit.Initial.{Initial}
+use Rattle.mv_ast.specs.declared.unit.Initial.TheVariants as initial
+use Rattle.mv_ast.specs.declared.unit.Node.{Node}
+use Rattle.mv_check_scope.specs.declared.scope.Scope.{Scope}
+use Rattle.mv_check_scope.specs.Constants.{converts}
+use Rattle.mv_check_expressions.specs.Judged.{Judged, Good, Broken, and_then, each}
+use Rattle.mv_check_expressions.specs.Judgements.{value_judgement}
+use Rattle.mv_check_declarations.specs.declared.globals.Words.{Words}
+use Rattle.mv_check_declarations.specs.declared.initials.Converted.{Converted}
+use Rattle.mv_check_declarations.specs.Turns.{through}
+use Rattle.mv_check_declarations.specs.Globals.{constant_word, with_word, word_or_broken, first_word, no_words, string_words, global_words}
+use Rattle.mv_check_declarations.specs.Initials.{with_converted, converted_value, none_converted, initial_values}
+use Rattle.mv_check_rules.specs.Nodes.{Given, Nothing, Value, Values, Characters}
+use Rattle.mv_check_rules.specs.Nodes as node
+use Rattle.mv_check_rules.specs.Rules.{all_convert, concluded}
+use Rattle.mv_check_rules.specs.Declarations.{given}
+use Rattle.mv_check_rules.specs.Units.{constant_expression, word_of}
+use Rattle.mv_check_rules.proofs.Agreement.{mapped}
+
+-- ---- values in their order
+
+module _ {X : Type 0} (add : X → Expr → X) where
+  abbrev pub added : X → List Expr → X
+  added x [] = x
+  added x (e ∷ es) = added (add x e) es
+
+module _ {X : Type 0} (expression : Node → Judged Expr) (add : X → Expr → X) (step : Node → X → Judged X) (agree : (n : Node) (x : X) → step n x ≡ mapped (add x) (expression n)) where
+  rest_added : (x : X) (e : Expr) (js : Judged (List Expr)) → mapped (added add (add x e)) js ≡ mapped (added add x) (and_then js (λ es. Good (e ∷ es)))
+  rest_added x e (Good es) = refl
+  rest_added x e (Broken place rule) = refl
+
+  first_added : (x : X) (j : Judged Expr) (next : X → Judged X) (js : Judged (List Expr)) → ((y : X) → next y ≡ mapped (added add y) js) →
+      and_then (mapped (add x) j) next ≡ mapped (added add x) (and_then j (λ e. and_then js (λ es. Good (e ∷ es))))
+  first_added x (Good e) next js h = h (add x e) ∙ rest_added x e js
+  first_added x (Broken place rule) next js h = refl
+
+  pub values_agree : (ns : List Node) (x : X) → through step ns x ≡ mapped (added add x) (each (map expression ns))
+  values_agree [] x = refl
+  values_agree (n ∷ ns) x = ap (λ j. and_then j (through step ns)) (agree n x) ∙ first_added x (expression n) (through step ns) (each (map expression ns)) (values_agree ns)
+
+-- ---- what is given is what is written
+
+abbrev pub IsOf : Option Initial → Given → Type 0
+IsOf None Nothing = Unit {0}
+IsOf (Some (initial.Value n)) (Value e) = Unit {0}
+IsOf (Some (initial.Values ns)) (Values es) = length ns ≡ length es
+IsOf (Some (initial.Chars bytes)) (Characters them) = bytes ≡ them
+IsOf _ _ = ⊥
+
+abbrev pub IfIsOf : Option Initial → Judged Given → Type 0
+IfIsOf values (Good g) = IsOf values g
+IfIsOf values (Broken place rule) = Unit {0}
+
+abbrev Counted : ℕ → Judged (List Expr) → Type 0
+Counted n (Good es) = n ≡ length es
+Counted n (Broken place rule) = Unit {0}
+
+one_more : (n : ℕ) (e : Expr) (js : Judged (List Expr)) → Counted n js → Counted (suc n) (and_then js (λ es. Good (e ∷ es)))
+one_more n e (Good es) h = ap suc h
+one_more n e (Broken place rule) h = tt
+
+first_more : (n : ℕ) (j : Judged Expr) (js : Judged (List Expr)) → Counted n js → Counted (suc n) (and_then j (λ e. and_then js (λ es. Good (e ∷ es))))
+first_more n (Good e) js h = one_more n e js h
+first_more n (Broken place rule) js h = tt
+
+each_counted : (f : Node → Judged Expr) (ns : List Node) → Counted (length ns) (each (map f ns))
+each_counted f [] = refl
+each_counted f (n ∷ ns) = first_more (length ns) (f n) (each (map f ns)) (each_counted f ns)
+
+pub given_is : (f : Scope → Node → Judged Expr) (values : Option Initial) (s : Scope) → IfIsOf values (given f values s)
+given_is f None s = tt
+given_is f (Some (initial.Value n)) s = by (f s n)
+  where
+    by : (j : Judged Expr) → IfIsOf (Some (initial.Value n)) (and_then j (λ e. Good (Value e)))
+    by (Good e) = tt
+    by (Broken place rule) = tt
+given_is f (Some (initial.Values ns)) s = by (each (map (f s) ns)) (each_counted (f s) ns)
+  where
+    by : (js : Judged (List Expr)) → Counted (length ns) js → IfIsOf (Some (initial.Values ns)) (and_then js (λ es. Good (Values es)))
+    by (Good es) h = h
+    by (Broken place rule) h = tt
+given_is f (Some (initial.Chars bytes)) s = refl
+
+-- ---- the values of locals and of functions
+
+abbrev pub converted_of : CType → Given → Converted
+converted_of t Nothing = none_converted
+converted_of t (Value e) = with_converted t none_converted e
+converted_of t (Values es) = added (with_converted t) none_converted es
+converted_of t (Characters bytes) = none_converted
+
+converted_agrees : (t : CType) (s : Scope) (n : Node) (x : Converted) → converted_value t s n x ≡ mapped (with_converted t x) (value_judgement s n)
+converted_agrees t s n x = by (value_judgement s n)
+  where
+    by : (j : Judged Expr) → and_then j (λ e. Good (with_converted t x e)) ≡ mapped (with_converted t x) j
+    by (Good e) = refl
+    by (Broken place rule) = refl
+
+pub initial_agrees : (t : CType) (values : Option Initial) (s : Scope) → initial_values t values s ≡ mapped (converted_of t) (given value_judgement values s)
+initial_agrees t None s = refl
+initial_agrees t (Some (initial.Value n)) s = by (value_judgement s n)
+  where
+    by : (j : Judged Expr) → and_then j (λ e. Good (with_converted t none_converted e)) ≡ mapped (converted_of t) (and_then j (λ e. Good (Value e)))
+    by (Good e) = refl
+    by (Broken place rule) = refl
+initial_agrees t (Some (initial.Values ns)) s =
+    values_agree (value_judgement s) (with_converted t) (converted_value t s) (converted_agrees t s) ns none_converted ∙ by (each (map (value_judgement s) ns))
+  where
+    by : (js : Judged (List Expr)) → mapped (added (with_converted t) none_converted) js ≡ mapped (converted_of t) (and_then js (λ es. Good (Values es)))
+    by (Good es) = refl
+    by (Broken place rule) = refl
+initial_agrees t (Some (initial.Chars bytes)) s = refl
+
+-- ---- the words of globals
+
+abbrev pub add_word : CType → Words → Expr → Words
+add_word t x e = with_word t x e (unwrap_or (constant_word e) 0)
+
+abbrev pub words_of : Local → Given → Words
+words_of l Nothing = no_words
+words_of l (Value e) = add_word l.ctype no_words e
+words_of l (Values es) = added (add_word l.ctype) no_words es
+words_of l (Characters bytes) = string_words l bytes
+
+word_agrees : (t : CType) (s : Scope) (n : Node) (x : Words) → first_word t s n x ≡ mapped (add_word t x) (constant_expression s n)
+word_agrees t s n x = by (value_judgement s n)
+  where
+    constant : (e : Expr) (o : Option ℕ) → constant_word e ≡ o → word_or_broken n.place t x e o ≡ mapped (add_word t x) (concluded n.place s (node.Needed o) e)
+    constant e None h = refl
+    constant e (Some w) h = ap (λ (o : Option ℕ). Good (with_word t x e (unwrap_or o 0))) (sym h)
+
+    by : (j : Judged Expr) → and_then j (λ e. word_or_broken n.place t x e (constant_word e)) ≡
+        mapped (add_word t x) (and_then j (λ e. concluded n.place s (node.Needed (constant_word e)) e))
+    by (Good e) = constant e (constant_word e) refl
+    by (Broken place rule) = refl
+
+pub words_agree : (l : Local) (values : Option Initial) (s : Scope) → global_words l values s ≡ mapped (words_of l) (given constant_expression values s)
+words_agree l None s = refl
+words_agree l (Some (initial.Value n)) s = word_agrees l.ctype s n no_words ∙ by (constant_expression s n)
+  where
+    by : (j : Judged Expr) → mapped (add_word l.ctype no_words) j ≡ mapped (words_of l) (and_then j (λ e. Good (Value e)))
+    by (Good e) = refl
+    by (Broken place rule) = refl
+words_agree l (Some (initial.Values ns)) s =
+    values_agree (constant_expression s) (add_word l.ctype) (first_word l.ctype s) (word_agrees l.ctype s) ns no_words ∙ by (each (map (constant_expression s) ns))
+  where
+    by : (js : Judged (List Expr)) → mapped (added (add_word l.ctype) no_words) js ≡ mapped (words_of l) (and_then js (λ es. Good (Values es)))
+    by (Good es) = refl
+    by (Broken place rule) = refl
+words_agree l (Some (initial.Chars bytes)) s = refl
+
+-- ---- what the words of a list are
+
+and_true : (b : Bool) → b ≡ b && true
+and_true true = refl
+and_true false = refl
+
+one_fails : (a c rest : Bool) → ((a && c) && not rest) ≡ (a && not (not c || rest))
+one_fails true true rest = refl
+one_fails true false rest = refl
+one_fails false c rest = refl
+
+pub all_convert_added : (t : CType) (es : List Expr) (x : Words) → (added (add_word t) x es).all ≡ (x.all && all_convert t es)
+all_convert_added t [] x = and_true x.all
+all_convert_added t (e ∷ es) x = all_convert_added t es (add_word t x e) ∙ one_fails x.all (converts e t) (list_any (λ e. not (converts e t)) es)
+
+pub words_added : (t : CType) (es : List Expr) (x : Words) → (added (add_word t) x es).words ≡ x.words ++ map (word_of t) es
+words_added t [] x = sym (append-nil x.words)
+words_added t (e ∷ es) x = words_added t es (add_word t x e) ∙ append_assoc x.words (word_of t e ∷ []) (map (word_of t) es)

@@ -1,0 +1,38 @@
+-- Each signature once: the number of one is its place in the list.
+use Rattle.std.specs.Prelude.{ℕ, List, [], ◌∷◌, ◌++◌, ◌+◌, if◌then◌else◌}
+use Rattle.mv_ast.specs.declared.program.CType.{CType}
+use Rattle.mv_ast.specs.declared.program.CType.TheVariants.{Void, Scalar, Pointer}
+use Rattle.mv_ast.specs.declared.program.Signature.{Signature}
+use Rattle.mv_check_scope.specs.Conversions.{kind_number, same_signature}
+
+-- the place of a signature in a list, or the list's length
+abbrev pub place_of : Signature → List Signature → ℕ
+place_of s [] = 0
+place_of s (t ∷ ts) = if same_signature s t then 0 else place_of s ts + 1
+
+-- the list with a signature that it may have already
+abbrev pub with_signature : Signature → List Signature → List Signature
+with_signature s [] = s ∷ []
+with_signature s (t ∷ ts) = if same_signature s t then t ∷ ts else t ∷ with_signature s ts
+
+-- which of the three a type is, and which it is among those
+abbrev pub sort_of : CType → ℕ
+sort_of Void = 0
+sort_of (Scalar kind) = 1
+sort_of (Pointer signature) = 2
+
+abbrev pub number_of : CType → ℕ
+number_of Void = 0
+number_of (Scalar kind) = kind_number kind
+number_of (Pointer signature) = signature
+
+-- the words that tell a type, and a signature, from all others
+abbrev pub type_words : CType → List ℕ
+type_words t = sort_of t ∷ number_of t ∷ []
+
+abbrev pub types_words : List CType → List ℕ
+types_words [] = []
+types_words (t ∷ ts) = type_words t ++ types_words ts
+
+abbrev pub spelling : Signature → List ℕ
+spelling s = types_words (s.result ∷ s.params)

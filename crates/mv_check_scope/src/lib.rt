@@ -1,0 +1,23 @@
+//! What names mean: the scopes of a unit, what was declared in them, and the types of values.
+//!
+//! - `NameSpace` (`find`, `declare`, `enter`, `leave`) and `Scope`: what a name or a tag means is what the innermost
+//!   block that has it says, over plain lists of names in order of declaration; the blocks are `indexmap` maps behind a
+//!   model, which no clause above sees. `known_function`: the functions that are known without a declaration.
+//! - `promotion`, `usual`, `converts`, `converted_to`, `promoted`: the integer promotions, the usual arithmetic
+//!   conversions, and conversion as by assignment, with null; a conversion is written only where the type changes.
+//!   `constant_value`: the value of an expression that is built of numbers and operators alone and whose evaluation
+//!   divides by no zero.
+//! - `SignatureList::number`: each signature stands once in the list, and has its place as its number. It is found by its
+//!   spelling in an `indexmap` set behind a model that shows the plain list, so a look-up searches nothing.
+//! - `mv_test_top` shows constants, conversions, hiding and signatures against C's rules, the constants as gcc has
+//!   them.
+#![tactic(auto)]
+
+pub mod block;
+pub mod constant;
+pub mod convert;
+pub mod known;
+pub mod meaning;
+pub mod scope;
+pub mod signatures;
+pub mod space;

@@ -1,0 +1,129 @@
+//! Signatures, each once.
+
+ghost use Rattle.std.specs.Prelude.{◌≡◌, ◌<◌, ◌^◌, [], ◌++◌, OnOk, IfOk, length};
+ghost use Rattle.mv_check_scope.specs.Signatures.{place_of, with_signature, sort_of, number_of, type_words, spelling};
+
+use crate::convert::kind_number;
+use indexmap::IndexSet;
+use mv_ast::program::{CType, Signature};
+use mv_num::list::List;
+use std::alloc::{AllocError, Global};
+use std::marker::Model;
+
+/// Signatures in the order in which they came up, each once. The number of one is its place. It is found by its spelling, with no
+/// search through the others.
+#[derive(Drop)]
+pub struct SignatureList {
+    signatures: List<Signature>,
+    spellings: IndexSet<Vec<u32>>,
+}
+
+impl Model for SignatureList {
+    ghost use Rattle.std.specs.Prelude.{◌≡◌, List, map};
+    ghost use Rattle.mv_ast.specs.declared.program.Signature.{Signature};
+    ghost use Rattle.mv_check_scope.specs.Signatures.{spelling};
+
+    ghost Value = { List Signature };
+
+    ghost view = { λ l. l.signatures };
+
+    ghost invariant = { λ l. map (λ words. words.items) l.spellings.keys ≡ map spelling l.signatures };
+}
+
+// Which of the three a type is.
+fn sort_of(t: CType) -> u32
+    ensures { result ≡ sort_of t }
+{
+    match t {
+        CType::Void => 0,
+        CType::Scalar(_) => 1,
+        CType::Pointer(_) => 2,
+    }
+}
+
+// Which type it is among those of its sort.
+fn number_of(t: CType) -> u32
+    ensures { result ≡ number_of t }
+{
+    match t {
+        CType::Void => 0,
+        CType::Scalar(kind) => u32::from(kind_number(kind)),
+        CType::Pointer(signature) => signature,
+    }
+}
+
+// Puts the words that tell a type from all others behind some.
+fn push_type(words: &mut Vec<u32>, t: CType) -> Result<(), AllocError>
+    ensures { OnOk result (words.new.items ≡ words.old.items ++ type_words t) }
+{
+    words.push(sort_of(t))?;
+    words.push(number_of(t))?;
+    Ok(())
+}
+
+// The words that tell a signature from all others.
+fn spelling(alloc: Global, s: &Signature) -> Result<Vec<u32>, AllocError>
+    ensures { IfOk result (λ words. words.items ≡ spelling s.now) }
+{
+    let mut words = Vec::new(alloc);
+    push_type(&mut words, s.result)?;
+    for t in s.params.as_slice() {
+        push_type(&mut words, *t)?;
+    }
+    Ok(words)
+}
+
+impl SignatureList {
+    /// No signatures.
+    pub fn new(alloc: Global) -> SignatureList
+        ensures { result ≡ [] }
+    {
+        SignatureList {
+            signatures: List::new(alloc),
+            spellings: IndexSet::new(alloc),
+        }
+    }
+
+    /// How many signatures there are.
+    pub fn len(&self) -> usize
+        ensures { result ≡ length self.now }
+    {
+        self.signatures.len()
+    }
+
+    /// The signatures in order.
+    pub fn as_slice(&self) -> &[Signature]
+        ensures { result.now ≡ self.now }
+    {
+        self.signatures.as_slice()
+    }
+
+    /// Gives the signatures as a list, without memory.
+    pub fn into_list(self) -> List<Signature>
+        ensures { result ≡ self }
+    {
+        let SignatureList {
+            signatures,
+            spellings: _,
+        } = self;
+        signatures
+    }
+
+    /// The number of a signature, which the list gets if it hasn't it yet.
+    pub fn number(&mut self, alloc: Global, s: Signature) -> Result<u32, AllocError>
+        requires { length self.old < 2 ^ 32 }
+        ensures number { IfOk result (λ number. number ≡ place_of s self.old) }
+        ensures added { OnOk result (self.new ≡ with_signature s self.old) }
+    {
+        let words = spelling(alloc, &s)?;
+        let (place, new) = self.spellings.insert_full(words)?;
+        if !new {
+            return Ok(place as u32);
+        }
+        if self.signatures.push(s).is_err() {
+            self.spellings.pop();
+            return Err(AllocError);
+        }
+        Ok(place as u32)
+    }
+}

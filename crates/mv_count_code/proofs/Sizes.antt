@@ -1,0 +1,132 @@
+-- The bodies of a function are no longer than the one that it is lowered to, and that one is bounded by the source.
+use Rattle.std.proofs.Common.{arith, ◌≡◌, ℕ, suc, ◌+◌, ◌*◌, ◌/◌, ◌<◌, ◌≤◌, length, get_or, sym, ap, ◌∙◌, subst}
+use Rattle.std.specs.Prelude.{sum_by}
+use Rattle.std.proofs.lemmas.List.Elements.{All-from_get_or}
+use Rattle.std.proofs.lemmas.List.Sums.{sum_by-le}
+use Rattle.std.proofs.lemmas.Option.{slice_get-get_or}
+use Rattle.std.proofs.Math.Nat.{mul-le-mul_right, mul_comm, suc-mul}
+use Rattle.mv_ast.specs.declared.program.Program.{Program}
+use Rattle.mv_ast.specs.declared.program.Function.{Function}
+use Rattle.mv_ir.specs.declared.body.Body.{Body}
+use Rattle.mv_ir.specs.Measures.{total, tree_nodes}
+use Rattle.mv_ir.specs.Live.{most_intervals}
+use Rattle.mv_select_control.specs.Encoded.{own_words, most_words}
+use Rattle.mv_select_functions.specs.FunctionCode.{arrays_start}
+use Rattle.mv_lower_spec.specs.Functions.{lower_function}
+use Rattle.mv_lower_shape.specs.Law.{IsFunctionOf, LoweredAreSmall}
+use Rattle.mv_fold.specs.Folded.{IsFolded}
+use Rattle.mv_regalloc.specs.Intervals.{IsRenamed}
+use Rattle.mv_parts_bound.specs.Meant.{MadeAreVariants}
+use Rattle.mv_parts_bound.specs.Led.{BodiesAreMade}
+use Rattle.mv_parts_bound.specs.Tables.{GroupsFit}
+use Rattle.mv_select.specs.Laws.{greatest_length, SelectedIsEncoded}
+use Rattle.mv_count_code.specs.Sizes.{IsBodyOf, renamed, folded, bound, words_of, frame_count, CodeIsShort, LinesAreShort, VariantsAreShort, FramesFit, FramesPass, LoweredFramesPass}
+use Rattle.mv_count_code.proofs.OwnWords.{words_allowed, bound_words, renamed_words, folded_words}
+
+-- ---- no longer than another body
+
+record IsNoLonger (body b : Body) : Type 0 where
+  words : most_words b.code ≤ most_words body.code
+  temps : b.temps ≤ most_intervals body
+  sizes : b.arrays ≡ body.arrays
+
+renamed_words_fewer : (body b : Body) → IsRenamed body b → most_words b.code ≤ most_words body.code
+renamed_words_fewer body b r =
+    let own : own_words b.code ≤ own_words body.code = subst (λ c. own_words c ≤ own_words body.code) (sym (ap (λ (x : Body). x.code) r.changes)) (renamed_words r.numbers body.code) in
+    let trees = r.tree_nodes in
+    omega (arith, own, trees)
+
+folded_words_fewer : (body b : Body) → IsFolded body b → most_words b.code ≤ most_words body.code
+folded_words_fewer body b h =
+    let own : own_words b.code ≤ own_words body.code = subst (λ c. own_words c ≤ own_words body.code) (sym h.code.2) (folded_words h.code.0 body.temps body.code) in
+    let trees = h.smaller.tree_nodes in
+    omega (arith, own, trees)
+
+module _ (made : MadeAreVariants) where
+  no_longer : (p : Program) (g : Function) (b : Body) → IsBodyOf p g b → IsNoLonger (lower_function p g) b
+  no_longer p g b (renamed r) = record {
+    words = renamed_words_fewer (lower_function p g) b r;
+    temps = omega (arith, r.temps);
+    sizes = ap (λ (x : Body). x.arrays) r.changes;
+  }
+  no_longer p g b (folded body h r) = record {
+    words = omega (arith, folded_words_fewer (lower_function p g) body h, renamed_words_fewer body b r);
+    temps = omega (arith, r.temps, h.intervals);
+    sizes = ap (λ (x : Body). x.arrays) r.changes ∙ h.sizes;
+  }
+  no_longer p g b (bound ps m) =
+      let variant = made ps (lower_function p g) b m in
+      let own : own_words m.bound.code ≤ own_words (lower_function p g).code =
+      subst (λ x. own_words x ≤ own_words (lower_function p g).code) (sym m.is_bound.code) (bound_words ps (lower_function p g).code)
+      in
+      let trees = m.is_bound.tree_nodes in
+      record {
+        words = omega (arith, own, trees, folded_words_fewer m.bound m.folded m.is_folded, renamed_words_fewer m.folded b m.is_renamed);
+        temps = variant.temps;
+        sizes = variant.sizes;
+      }
+
+  -- ---- words
+
+  module _ (small : LoweredAreSmall) where
+    pub code_short : CodeIsShort
+    code_short p f g h b of =
+        let less = (no_longer p g b of).words in
+        let words = (small p f g h).words in
+        let own = words_allowed (lower_function p g).code in
+        omega (arith, less, words, own)
+
+    pub lines_short : SelectedIsEncoded → LinesAreShort
+    lines_short encoded p f g h b of suitable fits attributed =
+        let few = (encoded attributed b suitable fits).1 in
+        let short = code_short p f g h b of in
+        omega (arith, few, short)
+
+    product : (n m k : ℕ) → m ≤ k → n + m * n ≤ n * (1 + k)
+    product n m k le =
+        let less : m * n ≤ k * n = mul-le-mul_right n le in
+        let one : 1 + k ≡ suc k = omega arith in
+        let all : n * (1 + k) ≡ k * n + n = ap (λ x. n * x) one ∙ mul_comm n (suc k) ∙ suc-mul k n in
+        omega (arith, less, all)
+
+    pub variants_short : BodiesAreMade → GroupsFit → VariantsAreShort
+    variants_short are_made groups_fit p f g h own of domains rows variants merged made_rows =
+        let first = code_short p f g h own of in
+        let all : sum_by greatest_length variants.bodies ≤ length variants.bodies * words_of g =
+        sum_by-le greatest_length (words_of g) variants.bodies (All-from_get_or (λ b. greatest_length b ≤ words_of g) variants.bodies own each)
+        in
+        omega (arith, first, all, product (words_of g) (length variants.bodies) (length rows) (groups_fit domains rows variants merged).bodies)
+      where
+        each : (i : ℕ) → i < length variants.bodies → greatest_length (get_or variants.bodies i own) ≤ words_of g
+        each i lt =
+            let from = are_made domains rows variants merged (lower_function p g) made_rows i (get_or variants.bodies i own) (slice_get-get_or variants.bodies i own lt) in
+            code_short p f g h (get_or variants.bodies i own) (bound _ from.2)
+
+    -- ---- frames
+
+    small_frame : (temps words : ℕ) → temps + words ≤ 480 → 16 * ((arrays_start temps + words + 3) / 4) ≤ 2032
+    small_frame temps words le = omega arith
+
+    large_frame : (temps words : ℕ) → 2032 < 16 * ((arrays_start temps + words + 3) / 4) → 480 < temps + words
+    large_frame temps words lt = omega arith
+
+    in_frame : (p : Program) (f : ℕ) (g : Function) → IsFunctionOf p f g → (b : Body) → IsBodyOf p g b → b.temps + total b.arrays ≤ frame_count g
+    in_frame p f g h b of =
+        let less = no_longer p g b of in
+        let frame = (small p f g h).frame in
+        let temps = less.temps in
+        let sizes = ap total less.sizes in
+        omega (arith, frame, temps, sizes)
+
+    pub frames_fit : FramesFit
+    frames_fit p f g h b of le = small_frame b.temps (total b.arrays) (omega (arith, le, in_frame p f g h b of))
+
+    pub frames_pass : FramesPass
+    frames_pass p f g h b of named bytes past = let many = past.many in omega (arith, many, in_frame p f g h b of)
+
+    pub lowered_frames_pass : LoweredFramesPass
+    lowered_frames_pass p f g h past =
+        let b = lower_function p g in
+        let large = large_frame (most_intervals b) (total b.arrays) past in
+        let frame = (small p f g h).frame in
+        omega (arith, large, frame)

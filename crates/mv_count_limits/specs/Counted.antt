@@ -1,0 +1,35 @@
+-- The limits on what a program is compiled to, by counts over the source.
+use Rattle.std.specs.Prelude.{ℕ, ◌≡◌, ◌<◌, ◌≤◌, List, Some, slice_get}
+use Rattle.mv_ast.specs.declared.program.Program.{Program}
+use Rattle.mv_ast.specs.declared.program.Function.{Function}
+use Rattle.mv_front.specs.Verdicts.{IsProgram}
+use Rattle.mv_front.specs.declared.refusal.Refusal.{Refusal}
+use Rattle.mv_select_calls.specs.Convention.{frame_limit}
+use Rattle.mv_linker.specs.Outcome.{data_limit, site_limit}
+use Rattle.mv_link_data.specs.FirstData.{data_words}
+use Rattle.mv_count_code.specs.Sizes.{frame_count}
+use Rattle.mv_count_code.specs.Texts.{site_count, text_count}
+use Rattle.mv_parts.specs.Codes.{frame_size}
+use Rattle.mv_build.specs.Verdicts.{PassesSites, PassesTextOf, PassesLimit}
+
+abbrev pub FramesAreCounted : Type 0
+FramesAreCounted =
+    (text : List ℕ) (p : Program) → IsProgram text p → (f : ℕ) (g : Function) → slice_get p.functions f ≡ Some g → frame_limit < frame_size p g → 480 < frame_count g
+
+abbrev pub SitesAreCounted : Type 0
+SitesAreCounted = (text : List ℕ) (p : Program) → IsProgram text p → (count : ℕ) → PassesSites p count → site_limit < site_count p
+
+abbrev pub TextsAreCounted : Type 0
+TextsAreCounted = (text : List ℕ) (p : Program) → IsProgram text p → (words : ℕ) → PassesTextOf p words → 131072 < text_count p
+
+-- The declared words of each function and eight for each level of its depth are at most 480, there are few enough words of data, and the counts of sites
+-- and of text are within their limits.
+pub record IsWithinCounts (p : Program) : Type 0 where
+  pub frames : (f : ℕ) (g : Function) → slice_get p.functions f ≡ Some g → frame_count g ≤ 480
+  pub sites : site_count p ≤ site_limit
+  pub data_fits : data_words p ≤ data_limit
+  pub text : text_count p ≤ 131072
+
+-- Such a program of a source passes no limit.
+abbrev pub CountedPassNone : Type 0
+CountedPassNone = (text : List ℕ) (p : Program) → IsProgram text p → IsWithinCounts p → (r : Refusal) → PassesLimit p r → ⊥

@@ -1,0 +1,154 @@
+-- The slots of a body are the calls of attributed functions in it.
+use Rattle.std.proofs.Common.{arith, ◌≡◌, ℕ, zero, suc, ◌+◌, ◌≤◌, Bool, true, false, cond, eqb, ◌&&◌, ◌||◌, List, [], ◌∷◌, refl, sym, ap, ◌∙◌, subst}
+use Rattle.std.specs.Prelude.{slice_get, nat_eq}
+use Rattle.std.proofs.lemmas.Bool.{eq-eqb}
+use Rattle.std.proofs.lemmas.List.Sums.{sum_by-cons}
+use Rattle.mv_ast.specs.declared.program.Program.{Program}
+use Rattle.mv_ast.specs.declared.program.Function.{Function}
+use Rattle.mv_ast.specs.Counts.{is_attributed}
+use Rattle.mv_ast.specs.Plans.{is_among}
+use Rattle.mv_isa.specs.declared.labelled.Line.{Line}
+use Rattle.mv_isa.specs.declared.labelled.Line.TheVariants.{Word, Label, Jump, Branch, Entry, Slot}
+use Rattle.mv_ir.specs.declared.body.Body.{Body}
+use Rattle.mv_ir.proofs.Induction.{Each}
+use Rattle.mv_select_trees.specs.Rooms.{place_in}
+use Rattle.mv_select_control.specs.Layouts.{size_in}
+use Rattle.mv_select_calls.specs.CallCode.{is_marked}
+use Rattle.mv_select_functions.specs.Functions.{shape_of}
+use Rattle.mv_lower_spec.specs.Functions.{functions_called, marked_from, lower_function}
+use Rattle.mv_lower_shape.specs.Calls.{code_weight, attributed_once}
+use Rattle.mv_lower_shape.specs.Law.{LoweredCallAsOften}
+use Rattle.mv_regalloc.specs.Intervals.{IsRenamed}
+use Rattle.mv_parts_bound.specs.Slots.{slots, one_each, SlotsAreCalls}
+use Rattle.mv_parts_bound.proofs.FewSlots.{Among, marked_among}
+use Rattle.mv_parts_bound.proofs.Meant.{made}
+use Rattle.mv_parts_bound.proofs.Variants.{made_calls, worked_calls}
+use Rattle.mv_select.specs.Selected.{selected_lines}
+use Rattle.mv_linker.specs.Tables.{is_slot, slot_count}
+use Rattle.mv_count_code.specs.Sizes.{renamed, folded, bound}
+use Rattle.mv_count_slots.specs.Calls.{marked_calls, attributed_calls, MarkedCallsHaveSlots, AttributedCallsHaveSlots, SourceCallsHaveSlots}
+use Rattle.mv_count_slots.proofs.Weights.{AddUp, weights_add, renamed_same}
+
+-- ---- slots are counted alike
+
+slot_cons : (line : Line) (lines : List Line) → slot_count (line ∷ lines) ≡ cond (is_slot line) 1 0 + slot_count lines
+slot_cons line lines = sum_by-cons (λ (x : Line). cond (is_slot x) 1 0) line lines
+
+counted : (lines : List Line) → slot_count lines ≡ slots lines
+counted [] = refl
+counted (Word i ∷ lines) = let rest = counted lines in omega (arith, slot_cons (Word i) lines, rest)
+counted (Label l ∷ lines) = let rest = counted lines in omega (arith, slot_cons (Label l) lines, rest)
+counted (Jump rd l ∷ lines) = let rest = counted lines in omega (arith, slot_cons (Jump rd l) lines, rest)
+counted (Branch funct3 rs1 rs2 l ∷ lines) = let rest = counted lines in omega (arith, slot_cons (Branch funct3 rs1 rs2 l) lines, rest)
+counted (Entry rd f ∷ lines) = let rest = counted lines in omega (arith, slot_cons (Entry rd f) lines, rest)
+counted (Slot f ∷ lines) = let rest = counted lines in omega (arith, slot_cons (Slot f) lines, rest)
+
+-- ---- a function that is attributed and called is marked
+
+or_first : (a b : Bool) → a ≡ true → (a || b) ≡ true
+or_first a b e = ap (λ c. c || b) e
+
+or_second : (a b : Bool) → b ≡ true → (a || b) ≡ true
+or_second true b e = refl
+or_second false b e = e
+
+both : (a b : Bool) → a ≡ true → b ≡ true → (a && b) ≡ true
+both true b e h = h
+both false b e h = absurd cc
+
+behind : (b : Bool) (k f : ℕ) (marked : List ℕ) → is_marked marked f ≡ true → is_marked (cond b (k ∷ marked) marked) f ≡ true
+behind true k f marked h = or_second (eqb k f) (is_marked marked f) h
+behind false k f marked h = h
+
+pub among_marked : (is_called : ℕ → Bool) (f k : ℕ) (gs : List Function) → is_called f ≡ true → Among f k gs → is_marked (marked_from is_called k gs) f ≡ true
+among_marked is_called f k [] c (i, e, a) = absurd cc
+among_marked is_called f k (g ∷ gs) c (suc i, e, a) =
+    behind (g.attributed && is_called k) k f (marked_from is_called (suc k) gs) (among_marked is_called f (suc k) gs c (i, omega (arith, e), a))
+among_marked is_called f k (g ∷ gs) c (zero, e, a) =
+    let rest = marked_from is_called (suc k) gs in
+    let same : f ≡ k = omega (arith, e) in
+    let first : (g.attributed && is_called k) ≡ true = both g.attributed (is_called k) a (subst (λ n. is_called n ≡ true) same c) in
+    let here : eqb k f ≡ true = eq-eqb k f (sym same) in
+    subst (λ b. is_marked (cond b (k ∷ rest) rest) f ≡ true) (sym first) (or_first (eqb k f) (is_marked rest f) here)
+
+pub each_among : (P : ℕ → Type 0) (fs : List ℕ) → ((f : ℕ) → is_among f fs ≡ true → P f) → Each P fs
+each_among P [] h = tt
+each_among P (f ∷ fs) h =
+    (h f (or_first (nat_eq f f) (is_among f fs) (eq-eqb f f refl)), each_among P fs (λ k e. h k (or_second (nat_eq k f) (is_among k fs) e)))
+
+-- ---- no call of a function that is attributed and isn't marked
+
+abbrev one_left : Bool → Bool → ℕ
+one_left is_marked is_attributed = cond is_marked 0 (cond is_attributed 1 0)
+
+module _ (p : Program) (g : Function) where
+  abbrev lowered : Body
+  lowered = lower_function p g
+
+  abbrev is_called : ℕ → Bool
+  is_called f = is_among f (functions_called lowered.code)
+
+  abbrev once : ℕ → ℕ
+  once = one_each (is_marked lowered.marked)
+
+  -- one for each other attributed function
+  abbrev other : ℕ → ℕ
+  other f = one_left (is_marked lowered.marked f) (is_attributed (slice_get p.functions f))
+
+  once_attributed : (f : ℕ) → is_marked lowered.marked f ≡ true → attributed_once p f ≡ 1
+  once_attributed f e =
+      let (i, at, is) = marked_among is_called f 0 p.functions e in
+      let same : i ≡ f = omega (arith, at) in
+      ap (λ b. cond b 1 0) (subst (λ k. is_attributed (slice_get p.functions k) ≡ true) same is)
+
+  all_counted : (f : ℕ) → AddUp (attributed_once p) once other f
+  all_counted f = by (is_marked lowered.marked f) (once_attributed f)
+    where
+      by : (b : Bool) → (b ≡ true → attributed_once p f ≡ 1) → attributed_once p f ≡ cond b 1 0 + cond b 0 (attributed_once p f)
+      by true h = let one = h refl in omega (arith, one)
+      by false h = omega arith
+
+  none_other : (f : ℕ) → is_called f ≡ true → other f ≡ 0
+  none_other f c = by (is_marked lowered.marked f) (is_attributed (slice_get p.functions f)) (λ a. among_marked is_called f 0 p.functions c (f, omega arith, a))
+    where
+      by : (m a : Bool) → (a ≡ true → m ≡ true) → one_left m a ≡ 0
+      by true a h = refl
+      by false true h = absurd (let bad : false ≡ true = h refl in cc)
+      by false false h = refl
+
+  no_other : code_weight other 0 lowered.code ≡ 0
+  no_other =
+      let twice = weights_add other other other lowered.code (each_among (AddUp other other other) (functions_called lowered.code) (λ f c. let none : other f ≡ 0 = none_other f c in omega (arith, none))) in
+      omega (arith, twice)
+
+  -- so in a body that calls no function more often, the calls of attributed functions are those of marked ones
+  same_calls : (b : Body) → code_weight other 0 b.code ≤ code_weight other 0 lowered.code → marked_calls lowered.marked b.code ≡ attributed_calls p b.code
+  same_calls b fewer =
+      let all = weights_add (attributed_once p) once other b.code (each_among (AddUp (attributed_once p) once other) (functions_called b.code) (λ f c. all_counted f)) in
+      let none = no_other in
+      omega (arith, all, none, fewer)
+
+-- ---- laws
+
+pub same_renamed : (body b : Body) (r : IsRenamed body b) (direct : ℕ → ℕ) → code_weight direct 0 b.code ≡ code_weight direct 0 body.code
+same_renamed body b r direct = ap (λ (x : Body). code_weight direct 0 x.code) r.changes ∙ renamed_same direct r.numbers body.code
+
+module _ (are_calls : SlotsAreCalls) where
+  pub marked_slots : MarkedCallsHaveSlots
+  marked_slots attributed b =
+      counted (selected_lines attributed b) ∙ are_calls (place_in b.rooms) (size_in b.rooms) (is_marked b.marked) (shape_of attributed b) b.code
+
+  slots_of : (p : Program) (g : Function) (b : Body) → b.marked ≡ (lower_function p g).marked →
+      ((direct : ℕ → ℕ) → code_weight direct 0 b.code ≤ code_weight direct 0 (lower_function p g).code) →
+      (attributed : Bool) → slot_count (selected_lines attributed b) ≡ attributed_calls p b.code
+  slots_of p g b marked fewer attributed =
+      marked_slots attributed b ∙ ap (λ fs. marked_calls fs b.code) marked ∙ same_calls p g b (fewer (other p g))
+
+  pub attributed_slots : AttributedCallsHaveSlots
+  attributed_slots p g b (renamed r) = slots_of p g b (ap (λ (x : Body). x.marked) r.changes) (λ direct. let same = same_renamed (lower_function p g) b r direct in omega (arith, same))
+  attributed_slots p g b (folded body i r) = slots_of p g b (ap (λ (x : Body). x.marked) r.changes ∙ i.marked) (λ direct. worked_calls direct 0 (lower_function p g) body b i r)
+  attributed_slots p g b (bound ps m) = slots_of p g b (made ps (lower_function p g) b m).marked (λ direct. made_calls direct 0 ps (lower_function p g) b m)
+
+  pub source_slots : LoweredCallAsOften → SourceCallsHaveSlots
+  source_slots often p f g h b r attributed =
+      attributed_slots p g b (renamed r) attributed ∙ same_renamed (lower_function p g) b r (attributed_once p) ∙ (often p f g h).attributed

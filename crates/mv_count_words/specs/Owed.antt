@@ -1,0 +1,31 @@
+-- How many words of text the bindings of a program owe, by its source.
+use Rattle.std.specs.Prelude.{ℕ, ◌≡◌, ◌↔◌, ◌+◌, ◌≤◌, if◌then◌else◌, false, List, [], ◌∷◌, map, sum, All}
+use Rattle.mv_ast.specs.declared.program.Program.{Program}
+use Rattle.mv_ast.specs.declared.program.Function.{Function}
+use Rattle.mv_ast.specs.declared.world.Binding.{Binding}
+use Rattle.mv_lower_shape.specs.Calls.{function_weight}
+use Rattle.mv_parts.specs.Numbers.{attributed_numbers}
+use Rattle.mv_count_slots.specs.Calls.{once_for}
+
+-- the direct calls of a function in another, given with the number of the one that is called
+abbrev pub calls_of : (callee : ℕ) → Function → ℕ
+calls_of callee g = function_weight (once_for callee) 0 g
+
+-- and in a program
+abbrev pub direct_calls_of : (callee : ℕ) → Program → ℕ
+direct_calls_of callee p = sum (map (calls_of callee) p.functions)
+
+-- of each bound one of some functions one word for its entry, and one for each direct call of it
+abbrev pub owed_by : Program → (functions : List ℕ) → List Binding → ℕ
+owed_by p [] bs = 0
+owed_by p (f ∷ fs) [] = 0
+owed_by p (f ∷ fs) (b ∷ bs) = (if b.bound then 1 + direct_calls_of f p else 0) + owed_by p fs bs
+
+-- what bindings owe that are one for each attributed function, in order
+abbrev pub owed_words : Program → List Binding → ℕ
+owed_words p bs = owed_by p (attributed_numbers p) bs
+
+-- As many words are changed as bindings owe: none exactly where all functions are free, and else at least what the bound ones owe.
+pub record CountsWords (p : Program) (bs : List Binding) (count : ℕ) : Type 0 where
+  pub none : (count ≡ 0) ↔ All (λ (b : Binding). b.bound ≡ false) bs
+  pub least : owed_words p bs ≤ count

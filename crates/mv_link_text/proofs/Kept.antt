@@ -1,0 +1,75 @@
+-- Of a line that is no slot, and not the first of an attributed function's code, no word may be patched.
+use Rattle.std.proofs.Common.{◌≡◌, ℕ, ◌+◌, ◌<◌, ◌||◌, true, false, is_some, List, Option, Some, None, length, slice_get, option_and_then, sym, ap, ◌∙◌}
+use Rattle.mv_descriptors.specs.declared.rows.SiteRow.{SiteRow}
+use Rattle.mv_isa.specs.declared.labelled.Line.{Line}
+use Rattle.mv_isa.specs.declared.labelled.Line.TheVariants.{Word, Label, Jump, Branch, Entry, Slot}
+use Rattle.mv_isa.specs.Code.{line_at, address, label_address, text_start}
+use Rattle.mv_image.specs.Spelling.{Fields}
+use Rattle.mv_image.specs.Patched.{entry_at, site_at, site_before}
+use Rattle.mv_refine_machine.specs.Assembled.{IsKept}
+use Rattle.mv_refine_machine.specs.MachineRuns.{may_be_patched, called_at}
+use Rattle.mv_linker.specs.declared.parts.Parts.{Parts}
+use Rattle.mv_linker.specs.Linked.{codes, linked_lines, part_index}
+use Rattle.mv_linker.specs.Tables.{attributed_numbers, is_slot}
+use Rattle.mv_linker.specs.Outcome.{image_with}
+use Rattle.mv_link_text.proofs.Found.{none_of}
+use Rattle.mv_link_text.proofs.Lines.{IsOf, one_line}
+use Rattle.mv_link_text.proofs.Codes.{IsAssembled}
+use Rattle.mv_link_text.proofs.Rows.{entry_told, site_told, before_told, site_found, called_among, IsRowOfSlot}
+
+module _ (parts : Parts) (sizing words : List ℕ) (s : IsAssembled parts sizing words) where
+  abbrev lines : List Line
+  lines = linked_lines parts
+
+  abbrev at : ℕ → ℕ
+  at = address text_start sizing
+
+  abbrev numbers : List ℕ
+  numbers = attributed_numbers parts.attributed
+
+  abbrev image : Fields
+  image = image_with (label_address text_start lines sizing) at words parts
+
+  abbrev Of : ℕ → ℕ → Type 0
+  Of = IsOf text_start lines sizing
+
+  -- a line isn't the first of an attributed function's code
+  abbrev pub NotFirst : ℕ → Type 0
+  NotFirst k = (n f : ℕ) → slice_get numbers n ≡ Some f → k ≡ part_index (codes parts) f + 1 → ⊥
+
+  pub no_entry : (k a : ℕ) → Of k a → NotFirst k → entry_at image a ≡ None
+  no_entry k a of not_first = none_of (entry_at image a) (λ n e.
+      let t = entry_told parts sizing words s a n e in
+      not_first n t.function t.attributed (one_line text_start lines sizing k (part_index (codes parts) t.function + 1) a of t.of))
+
+  slot_there : (k : ℕ) (row : SiteRow) → is_slot (line_at lines k) ≡ false → (slot : IsRowOfSlot parts sizing words s row) → slot.index ≡ k → ⊥
+  slot_there k row plain slot same = let bad : false ≡ true = sym plain ∙ ap (λ i. is_slot (line_at lines i)) (sym same) ∙ ap is_slot slot.line in cc
+
+  pub no_site : (k a : ℕ) → Of k a → is_slot (line_at lines k) ≡ false → site_at image a ≡ None
+  no_site k a of plain = none_of (site_at image a) (λ row e.
+      let t = site_told parts sizing words s a row e in
+      slot_there k row plain t.slot (one_line text_start lines sizing t.slot.index k a t.of of))
+
+  pub no_site_before : (k a : ℕ) → Of k a → is_slot (line_at lines k) ≡ false → site_before image a ≡ None
+  no_site_before k a of plain = none_of (site_before image a) (λ row e.
+      let t = before_told parts sizing words s a row e in
+      slot_there k row plain t.slot (one_line text_start lines sizing t.slot.index k a t.of of))
+
+  unpatched : (k a : ℕ) → Of k a → NotFirst k → is_slot (line_at lines k) ≡ false → may_be_patched image a ≡ false
+  unpatched k a of not_first plain =
+      ap (λ (o : Option ℕ). is_some o || (is_some (site_at image a) || is_some (site_before image a))) (no_entry k a of not_first)
+      ∙ ap (λ (o : Option SiteRow). is_some o || is_some (site_before image a)) (no_site k a of plain)
+      ∙ ap (λ (o : Option SiteRow). is_some o) (no_site_before k a of plain)
+
+  pub called_here : (k f : ℕ) → k < length lines → line_at lines k ≡ Slot f → called_at numbers image (at k) ≡ Some f
+  unfolding called_at
+  called_here k f below e =
+      ap (option_and_then (λ (site : SiteRow). slice_get numbers site.function)) (site_found parts sizing words s k f below e) ∙ called_among parts sizing words s k f below e
+
+  pub kept_as : (k : ℕ) (line : Line) → k < length lines → line_at lines k ≡ line → NotFirst k → IsKept numbers image (at k) (at (k + 1)) line
+  kept_as k (Word i) below e not_first = λ a low high even. unpatched k a (record { from = low; below = high }) not_first (ap is_slot e)
+  kept_as k (Label l) below e not_first = λ a low high even. unpatched k a (record { from = low; below = high }) not_first (ap is_slot e)
+  kept_as k (Jump rd l) below e not_first = λ a low high even. unpatched k a (record { from = low; below = high }) not_first (ap is_slot e)
+  kept_as k (Branch funct3 rs1 rs2 l) below e not_first = λ a low high even. unpatched k a (record { from = low; below = high }) not_first (ap is_slot e)
+  kept_as k (Entry rd l) below e not_first = λ a low high even. unpatched k a (record { from = low; below = high }) not_first (ap is_slot e)
+  kept_as k (Slot f) below e not_first = called_here k f below e

@@ -1,0 +1,32 @@
+-- Lines whose labels are renamed stand in text where the lines do at the places of the new labels.
+use Rattle.std.proofs.Common.{◌≡◌, ℕ, ◌+◌, ◌<◌, ◌≤◌, true, false, List, [], ◌∷◌, map, nat_lt, refl}
+use Rattle.std.proofs.lemmas.Bool.{lt-ltb, le-ltb}
+use Rattle.mv_isa.specs.declared.labelled.Line.{Line}
+use Rattle.mv_isa.specs.declared.labelled.Line.TheVariants.{Word, Label, Jump, Branch, Entry, Slot}
+use Rattle.mv_select_control.specs.Placed.{Text, IsPlaced, Placed}
+use Rattle.mv_linker.specs.Linked.{own, relabelled}
+
+module _ (text : Text) (place entry : ℕ → ℕ) (first count : ℕ) where
+  -- where the label stands that a label is renamed to
+  abbrev pub own_place : ℕ → ℕ
+  own_place l = place (own first count l)
+
+  line_placed : (at end : ℕ) (line : Line) → IsPlaced text place entry at end (relabelled first count line) → IsPlaced text own_place entry at end line
+  line_placed at end (Word i) h = record { stands = h.stands; fits = h.fits; here = h.here; there = h.there; label = h.label }
+  line_placed at end (Label l) h = record { stands = h.stands; fits = h.fits; here = h.here; there = h.there; label = h.label }
+  line_placed at end (Jump rd l) h = record { stands = h.stands; fits = h.fits; here = h.here; there = h.there; label = h.label }
+  line_placed at end (Branch funct3 rs1 rs2 l) h = record { stands = h.stands; fits = h.fits; here = h.here; there = h.there; label = h.label }
+  line_placed at end (Entry rd l) h = record { stands = h.stands; fits = h.fits; here = h.here; there = h.there; label = h.label }
+  line_placed at end (Slot l) h = record { stands = h.stands; fits = h.fits; here = h.here; there = h.there; label = h.label }
+
+  pub lines_placed : (lines : List Line) (at end : ℕ) → Placed text place entry (map (relabelled first count) lines) at end → Placed text own_place entry lines at end
+  lines_placed [] at end h = h
+  lines_placed (line ∷ lines) at end h = (h.0, line_placed at h.0 line h.1, lines_placed lines h.0 end h.2)
+
+-- a label that isn't an own one stays
+pub own_stays : (first count l : ℕ) → count ≤ l → own first count l ≡ l
+own_stays first count l le = let e : nat_lt l count ≡ false = le-ltb l count le in rw (e) refl
+
+-- and an own label is counted from the first one on
+pub own_here : (first count l : ℕ) → l < count → own first count l ≡ first + l
+own_here first count l lt = let e : nat_lt l count ≡ true = lt-ltb l count lt in rw (e) refl

@@ -1,0 +1,202 @@
+-- Where bindings show in the text of a linked image: at the first instruction of an attributed function, and in its slots.
+use Rattle.std.proofs.Common.{◌≡◌, inl, inr, ℕ, ◌+◌, ◌*◌, ◌-◌, ◌/◌, ◌%◌, ◌<◌, ◌≤◌, true, false, ltb, List, ◌∷◌, Option, Some, None, length, slice_get, option_and_then, refl, sym, ap, ◌∙◌, subst, arith}
+use Rattle.std.proofs.lemmas.Bool.{le-ltb}
+use Rattle.mv_descriptors.specs.declared.rows.SiteRow.{SiteRow}
+use Rattle.mv_isa.specs.declared.instr.Instr.{Instr}
+use Rattle.mv_isa.specs.declared.labelled.Labelled.{Labelled}
+use Rattle.mv_isa.specs.declared.labelled.Line.{Line}
+use Rattle.mv_isa.specs.declared.labelled.Line.TheVariants.{Word, Slot}
+use Rattle.mv_isa.specs.Encoding.{encode}
+use Rattle.mv_isa.specs.Code.{IsPlace, line_at, label_index, address, label_address, text_start}
+use Rattle.mv_isa.specs.Standing.{SlotStands, LineStands, word_at}
+use Rattle.mv_image.specs.Spelling.{Fields}
+use Rattle.mv_image.specs.Patched.{ShowsAt, entry_at, site_at}
+use Rattle.mv_refine_machine.specs.MachineRuns.{image_word, called_at}
+use Rattle.mv_linker.specs.declared.parts.Parts.{Parts}
+use Rattle.mv_linker.specs.Linked.{codes, linked_lines, part_index}
+use Rattle.mv_linker.specs.Tables.{place_among, attributed_numbers, is_slot}
+use Rattle.mv_linker.specs.Outcome.{image_with}
+use Rattle.mv_linker.proofs.Sited.{row_at}
+use Rattle.mv_link_text.specs.Text.{HasEntry, HasSlot}
+use Rattle.mv_link_text.proofs.Facts.{Laws}
+use Rattle.mv_link_text.proofs.Found.{none_of}
+use Rattle.mv_link_text.proofs.Lines.{IsOf, one_line, slot_size}
+use Rattle.mv_link_text.proofs.Codes.{IsAssembled, attributed_begun, one_number, behind_label, first_line, first_below, first_no_slot}
+use Rattle.mv_link_text.proofs.Rows.{IsRowOfSlot, entry_told, entry_found, one_function, site_told, before_told, site_found, called_among, slot_of, second_of}
+use Rattle.mv_link_text.proofs.Kept.{NotFirst, no_entry, no_site, no_site_before}
+
+module _ (laws : Laws) (parts : Parts) (sizing words : List ℕ) (s : IsAssembled parts sizing words) where
+  abbrev lines : List Line
+  lines = linked_lines parts
+
+  abbrev at : ℕ → ℕ
+  at = address text_start sizing
+
+  abbrev entry : ℕ → ℕ
+  entry = label_address text_start lines sizing
+
+  abbrev numbers : List ℕ
+  numbers = attributed_numbers parts.attributed
+
+  abbrev image : Fields
+  image = image_with entry at words parts
+
+  abbrev index : ℕ → ℕ
+  index f = part_index (codes parts) f
+
+  abbrev Of : ℕ → ℕ → Type 0
+  Of = IsOf text_start lines sizing
+
+  -- a word that is assembled stands in the image
+  in_text : (a w : ℕ) → IsPlace a → word_at text_start words a ≡ Some w → image_word image a ≡ Some w
+  in_text a w place e =
+      let from = place.0 in
+      let most = place.1 in
+      let even = place.2 in
+      let t : ltb a text_start ≡ false = le-ltb a text_start from in
+      let there : slice_get words ((a - text_start) / 4) ≡ Some w = rw t at e in
+      let is : 0x1000 + 4 * ((a - text_start) / 4) ≡ a = omega (arith, from, even) in
+      subst (λ x. image_word image x ≡ Some w) is ((laws.texts_are_found image).found ((a - text_start) / 4) w there (omega (arith, is, most)))
+
+  there_is : (o : Option SiteRow) (row : SiteRow) → o ≡ None → o ≡ Some row → ⊥
+  there_is o row none some = let bad : None ≡ Some row = sym none ∙ some in cc
+
+  -- ---- entries
+
+  module _ (n f : ℕ) (is : slice_get numbers n ≡ Some f) (code : Labelled) (found : slice_get (codes parts) f ≡ Some code) (instr : Instr) (rest : List Line) (items : code.items ≡ Word instr ∷ rest) where
+    abbrev k : ℕ
+    k = index f + 1
+
+    line : line_at lines k ≡ Word instr
+    line = first_line parts sizing words s f code found instr rest items
+
+    below : k < length lines
+    below = first_below parts sizing words s f code found instr rest items
+
+    place : IsPlace (entry f)
+    place = s.under.places (label_index lines f)
+
+    entry_alone : (a m : ℕ) → at k ≤ a → a < at (k + 1) → a % 4 ≡ 0 → ShowsAt image m a → m ≡ n
+    entry_alone a m low high even (inl e) =
+        let t = entry_told parts sizing words s a m e in
+        let of : Of k a = record { from = low; below = high } in
+        let same = one_line text_start lines sizing (index t.function + 1) k a t.of of in
+        let equal : t.function ≡ f = one_function parts sizing words s m t.function n f t.attributed is same in
+        one_number parts s.tables m n f (t.attributed ∙ ap Some equal) is
+    entry_alone a m low high even (inr (inl h)) = absurd (there_is (site_at image a) h.0 (no_site parts sizing words s k a (record { from = low; below = high }) (ap is_slot line)) h.1)
+    entry_alone a m low high even (inr (inr h)) =
+        absurd (let bad : None ≡ Some h.0 = sym (no_site_before parts sizing words s k a (record { from = low; below = high }) (ap is_slot line)) ∙ h.1 in cc)
+
+    word : word_at text_start words (at k) ≡ Some (encode instr)
+    word = (subst (λ (l : Line). LineStands (word_at text_start words) entry entry (at k) (at (k + 1)) l) line (s.under.stands.each k below)).0.word
+
+    pub entry_shows : HasEntry parts image sizing n f instr
+    entry_shows =
+        let here : at k ≡ entry f = behind_label parts sizing words s f code found in
+        record {
+          index = k;
+          within = below;
+          line = line;
+          at_line = here;
+          alone = entry_alone;
+          is_entry = entry_found parts sizing words s n f is;
+          word = encode instr;
+          in_text = in_text (entry f) (encode instr) place (subst (λ a. word_at text_start words a ≡ Some (encode instr)) here word);
+          here = place;
+        }
+
+  -- ---- slots
+
+  module _ (k f n : ℕ) (below : k < length lines) (line : line_at lines k ≡ Slot f) (is : slice_get numbers n ≡ Some f) where
+    not_first : NotFirst parts sizing words s k
+    not_first m g other same =
+        let plain = first_no_slot parts sizing words s g (attributed_begun parts s.tables m g other) in
+        let bad : false ≡ true = sym plain ∙ ap (λ i. is_slot (line_at lines i)) (sym same) ∙ ap is_slot line in cc
+
+    here : Of k (at k)
+    here = slot_of parts sizing words s k f below line
+
+    second : Of k (at k + 4)
+    second = second_of parts sizing words s k f below line
+
+    no_other : (a m : ℕ) → Of k a → entry_at image a ≡ Some m → ⊥
+    no_other a m of e = let bad : None ≡ Some m = sym (no_entry parts sizing words s k a of not_first) ∙ e in cc
+
+    number_is : (row : SiteRow) (slot : IsRowOfSlot parts sizing words s row) → slot.index ≡ k → row.function ≡ n
+    number_is row slot same =
+        let function : Slot slot.function ≡ Slot f = sym slot.line ∙ ap (line_at lines) same ∙ line in
+        let equal : slot.function ≡ f = cc in
+        ap (λ (r : SiteRow). r.function) slot.is ∙ ap (place_among numbers) equal ∙ one_number parts s.tables (place_among numbers f) n f (called_among parts sizing words s k f below line) is
+
+    slot_alone : (a m : ℕ) → at k ≤ a → a < at (k + 1) → a % 4 ≡ 0 → ShowsAt image m a → m ≡ n
+    slot_alone a m low high even (inl e) = absurd (no_other a m (record { from = low; below = high }) e)
+    slot_alone a m low high even (inr (inl h)) =
+        let t = site_told parts sizing words s a h.0 h.1 in
+        sym h.2 ∙ number_is h.0 t.slot (one_line text_start lines sizing t.slot.index k a t.of (record { from = low; below = high }))
+    slot_alone a m low high even (inr (inr h)) =
+        let t = before_told parts sizing words s a h.0 h.1 in
+        sym h.2 ∙ number_is h.0 t.slot (one_line text_start lines sizing t.slot.index k a t.of (record { from = low; below = high }))
+
+    slot_stands : SlotStands (word_at text_start words) (at k) (at (k + 1)) (entry f)
+    slot_stands = subst (λ (l : Line). LineStands (word_at text_start words) entry entry (at k) (at (k + 1)) l) line (s.under.stands.each k below)
+
+    second_place : IsPlace (at k + 4)
+    second_place =
+        let first = s.under.places k in
+        let last = s.under.places (k + 1) in
+        let from = first.0 in
+        let even = first.2 in
+        let most = last.1 in
+        let size = slot_size text_start lines sizing s.fits k below f line in (omega (arith, from), omega (arith, most, size), omega (arith, even))
+
+    pub slot_shows : HasSlot parts image sizing n f (at k)
+    slot_shows = record {
+      index = k;
+      within = below;
+      line = line;
+      at_line = refl;
+      behind = slot_size text_start lines sizing s.fits k below f line;
+      alone = slot_alone;
+      site = record {
+        site = row_at at numbers k f;
+        is_site = site_found parts sizing words s k f below line;
+        of = one_number parts s.tables (place_among numbers f) n f (called_among parts sizing words s k f below line) is;
+        no_entry = no_entry parts sizing words s k (at k) here not_first;
+        no_entry_behind = no_entry parts sizing words s k (at k + 4) second not_first;
+        no_site_behind = none_of (site_at image (at k + 4)) (λ row e.
+            let t = site_told parts sizing words s (at k + 4) row e in
+            let same = ap at (one_line text_start lines sizing t.slot.index k (at k + 4) t.of second) in
+            let there = t.here in omega (arith, same, there));
+        first = encode _;
+        first_in_text = in_text (at k) _ (s.under.places k) slot_stands.call.word;
+        second = encode _;
+        second_in_text = in_text (at k + 4) _ second_place slot_stands.rest.word;
+      };
+      here = s.under.places k;
+    }
+
+  -- what calls a function is a slot of it
+  pub record IsCalled (a f : ℕ) : Type 0 where
+    pub index : ℕ
+    pub within : index < length lines
+    pub line : line_at lines index ≡ Slot f
+    pub here : at index ≡ a
+    pub number : ℕ
+    pub attributed : slice_get numbers number ≡ Some f
+
+  called_by : (a f : ℕ) (o : Option SiteRow) → site_at image a ≡ o → option_and_then (λ (site : SiteRow). slice_get numbers site.function) o ≡ Some f → IsCalled a f
+  called_by a f None e called = absurd (let bad : ⊥ = cc in bad)
+  called_by a f (Some row) e called =
+      let t = site_told parts sizing words s a row e in
+      let slot = t.slot in
+      let own : slice_get numbers (place_among numbers slot.function) ≡ Some slot.function = called_among parts sizing words s slot.index slot.function slot.within slot.line in
+      let same : Some slot.function ≡ Some f = sym own ∙ ap (λ (r : SiteRow). slice_get numbers r.function) (sym slot.is) ∙ called in
+      let equal : slot.function ≡ f = cc in
+      record { index = slot.index; within = slot.within; line = slot.line ∙ ap Slot equal; here = t.here; number = row.function; attributed = called }
+
+  pub called_told : (a f : ℕ) → called_at numbers image a ≡ Some f → IsCalled a f
+  unfolding called_at
+  called_told a f called = called_by a f (site_at image a) refl called
+
+  pub called_shows : (a f : ℕ) → called_at numbers image a ≡ Some f → (n : ℕ) → slice_get numbers n ≡ Some f → HasSlot parts image sizing n f a
+  called_shows a f called n is = let c = called_told a f called in subst (HasSlot parts image sizing n f) c.here (slot_shows c.index f n c.within c.line is)

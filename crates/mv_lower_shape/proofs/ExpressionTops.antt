@@ -1,0 +1,288 @@
+-- From the first free temporary on, an expression's code takes at most eight for each level of its depth.
+use Rattle.std.proofs.Common.{◌≡◌, ℕ, ◌+◌, ◌*◌, ◌≤◌, Bool, true, false, cond, List, [], ◌∷◌, ◌++◌, map, length, max, Option, sym, ◌∙◌, ap, subst, arith}
+use Rattle.std.specs.Prelude.{◌&&◌, nat_lt, nat_eq}
+use Rattle.std.proofs.lemmas.Bool.{ltb-true, eqb-true}
+use Rattle.std.proofs.lemmas.List.{length-map, length-append}
+use Rattle.mv_ir.specs.declared.tree.Tree.{Tree}
+use Rattle.mv_ir.specs.WellFormed.{known_arguments}
+use Rattle.mv_ir.proofs.Induction.{Each, each_append}
+use Rattle.mv_ast.specs.declared.program.CType.{CType}
+use Rattle.mv_ast.specs.declared.program.Known.{Known}
+use Rattle.mv_ast.specs.declared.program.Known.TheVariants.{Getchar, Putchar, Poll, Plan}
+use Rattle.mv_ast.specs.declared.program.Expr.{Expr, Expr-F, fold-roll-Expr, roll-Expr}
+use Rattle.mv_ast.specs.declared.program.Form.{Form, Form-F, fold-Form, fold-roll-Form, map-Form, roll-Form}
+use Rattle.mv_ast.specs.declared.program.Form.TheOpen as form
+use Rattle.mv_ast.specs.declared.program.Target.{Target, Target-F, fold-Target, fold-roll-Target, map-Target, roll-Target}
+use Rattle.mv_ast.specs.Counts.{greatest, form_greatest, target_greatest, one_more_than, expr_depth}
+use Rattle.mv_lower_spec.specs.Lowered.{Lowered, Lowering, is_low, is_empty, kept_if, binary, first, second, lower_local, lower_global, lower_one, lower_two, lower_division, lower_all, lower_element}
+use Rattle.mv_lower_spec.specs.Lower.{Part, Place, InLocal, InGlobal, Element, quotient_number, remainder_number, bit_tree, lower_operator, lower_product, lower_binary, lower_changed, lower_change, lower_after, lower_read, lower_set, unary_tree, converted_tree, place_of_layer, lower_form, lower_layer, form_lowering, place_of, part_of, lower_expr}
+use Rattle.mv_lower_spec.proofs.SourceInduction.{FormChildren, TargetChildren, expr_ind}
+use Rattle.mv_lower_spec.proofs.Expressions.{split}
+use Rattle.mv_lower_shape.proofs.Asked.{Globals, Access, target_access, form_names_only, inner_names_only, form_is_within, target_is_within, is_within}
+use Rattle.mv_lower_spec.specs.Lower.{all_of}
+
+-- ---- tops at one place
+
+kept_within : (keep : Bool) (n : ℕ) (l : Lowered) → (kept_if keep n l).top ≤ max (n + 1) l.top
+kept_within true n l = omega arith
+kept_within false n l = omega arith
+
+first_within : (x y : Lowering) (n : ℕ) → (first x y n).top ≤ max (n + 1) (x n).top
+first_within x y n = kept_within (is_empty (second y n).code && is_low (x n).tree) n (x n)
+
+second_within : (y : Lowering) (n : ℕ) → (second y n).top ≤ max (n + 2) (y (n + 1)).top
+second_within y n = let h = kept_within (is_low (y (n + 1)).tree) (n + 1) (y (n + 1)) in omega (arith, h)
+
+abbrev TwoWithin : Lowering → Lowering → Lowering → Type 0
+TwoWithin l x y = (n : ℕ) → (l n).top ≤ max (n + 2) (max (x n).top (y (n + 1)).top)
+
+two_within : (f : Tree → Tree → Tree) (x y : Lowering) → TwoWithin (lower_two f x y) x y
+two_within f x y n = omega (arith, first_within x y n, second_within y n)
+
+division_within : (turned : Bool) (o : ℕ) (x y : Lowering) → TwoWithin (lower_division turned o x y) x y
+division_within turned o x y n = omega (arith, first_within x y n, second_within y n)
+
+by_test : (x y : Lowering) (z : Bool) (l m : Lowering) → TwoWithin l x y → TwoWithin m x y → TwoWithin (cond z l m) x y
+by_test x y true l m h k = h
+by_test x y false l m h k = k
+
+binary_within : (turned : Bool) (op : ℕ) (c : CType) (x y : Lowering) → TwoWithin (lower_binary turned op c x y) x y
+binary_within turned op c x y =
+    by_test x y (nat_lt op 17) (lower_product turned op c x y) (lower_operator turned (bit_tree op c) x y)
+    (by_test x y (nat_eq op 12) _ _ (operator (binary 0)) (by_test x y (nat_eq op 13) _ _ (operator (binary 1)) (by_test x y (nat_eq op 14) _ _ (operator (binary 2))
+    (by_test x y (nat_eq op 15) _ _ (division_within turned (quotient_number c) x y) (division_within turned (remainder_number c) x y)))))
+    (operator (bit_tree op c))
+  where
+    operator : (f : Tree → Tree → Tree) → TwoWithin (lower_operator turned f x y) x y
+    operator f = two_within (λ u v. cond turned (f v u) (f u v)) x y
+
+one_within : (f : Tree → Tree) (x : Lowering) (n : ℕ) → (lower_one f x n).top ≤ max (n + 1) (x n).top
+one_within f x n = kept_within (is_low (x n).tree) n (x n)
+
+changed_within : (op : ℕ) (kind c : CType) (old x : Lowering) → TwoWithin (lower_changed op kind c old x) x old
+changed_within op kind c old x n =
+    let h = one_within (converted_tree c) (lower_binary true op kind x old) n in
+    let k = binary_within true op kind x old n in
+    omega (arith, h, k)
+
+-- ---- tops by depth
+
+abbrev pub Top : ℕ → Lowering → Type 0
+Top d l = (n : ℕ) → (l n).top ≤ n + 8 * d
+
+all_top : (d : ℕ) (ls : List Lowering) → 1 ≤ d → Each (Top d) ls → (n : ℕ) → (lower_all ls n).top + 1 ≤ n + length ls + 8 * d
+all_top d [] le h n = omega (arith, le)
+all_top d (l ∷ ls) le h n =
+    let rest = all_top d ls le h.1 (n + 1) in
+    let one = h.0 n in
+    let k = kept_within (is_empty (lower_all ls (n + 1)).code) n (l n) in
+    omega (arith, le, rest, one, k)
+
+abbrev PlaceTop : Place → ℕ → Type 0
+PlaceTop (InLocal l) d = Unit {0}
+PlaceTop (InGlobal g) d = Unit {0}
+PlaceTop (Element a i) d = Top d i
+
+read_top : (x : Place) (d : ℕ) → PlaceTop x d → Top (1 + d) (lower_read x)
+read_top (InLocal l) d h n = omega arith
+read_top (InGlobal g) d h n = omega arith
+read_top (Element a i) d h n = let k = h n in omega (arith, k)
+
+set_top : (x : Place) (d e : ℕ) (v : Lowering) → PlaceTop x d → Top e v → Top (1 + max d e) (lower_set x v)
+set_top (InLocal l) d e v h k n = let k' = k n in omega (arith, k')
+set_top (InGlobal g) d e v h k n = let k' = k n in omega (arith, k')
+set_top (Element a i) d e v h k n = let h' = h n in let k' = k (n + 2) in omega (arith, h', k')
+
+change_top : (op : ℕ) (kind c : CType) (x : Place) (d e : ℕ) (v : Lowering) → PlaceTop x d → Top e v → Top (1 + max d e) (lower_change op kind c x v)
+change_top op kind c (InLocal l) d e v h k n = let k' = k n in let w = changed_within op kind c (lower_local l) v n in omega (arith, k', w)
+change_top op kind c (InGlobal g) d e v h k n = let k' = k n in let w = changed_within op kind c (lower_global g) v n in omega (arith, k', w)
+change_top op kind c (Element a i) d e v h k n =
+    let h' = h n in let k' = k (n + 2) in let w = changed_within op kind c (lower_element a (n + 1)) v (n + 2) in omega (arith, h', k', w)
+
+after_top : (up : Bool) (c : CType) (x : Place) (d : ℕ) → PlaceTop x d → Top (1 + d) (lower_after up c x)
+after_top up c (InLocal l) d h n = omega arith
+after_top up c (InGlobal g) d h n = omega arith
+after_top up c (Element a i) d h n = let h' = h n in omega (arith, h')
+
+known_few : (k : Known) → known_arguments k ≤ 8
+known_few Putchar = omega arith
+known_few Getchar = omega arith
+known_few Poll = omega arith
+known_few (Plan code index) = omega arith
+
+-- ---- the fold
+
+abbrev form_depth : Form → ℕ
+form_depth = fold-Form ℕ ℕ ℕ form_greatest target_greatest one_more_than
+
+abbrev target_depth : Target → ℕ
+target_depth = fold-Target ℕ ℕ ℕ form_greatest target_greatest one_more_than
+
+pub greatest_append : (ms ns : List ℕ) → greatest (ms ++ ns) ≡ max (greatest ms) (greatest ns)
+greatest_append [] ns = omega arith
+greatest_append (m ∷ ms) ns = let e = greatest_append ms ns in omega (arith, e)
+
+module _ (globals : Globals) (locals : ℕ) (sizes : ℕ → Option ℕ) (declared : ℕ → Bool) where
+  abbrev within : Expr → Bool
+  within = is_within globals locals sizes declared
+
+  abbrev P : Form → Type 0
+  P f = form_is_within globals locals sizes declared f ≡ true → (c : CType) → Top (1 + form_depth f) (form_lowering f c)
+
+  -- the index of a place, where this may be read or stored to
+  abbrev Q : Target → Type 0
+  Q x =
+      ((target_is_within globals locals sizes declared x).read ≡ true → PlaceTop (place_of x) (target_depth x)) ×
+      ((target_is_within globals locals sizes declared x).stored ≡ true → PlaceTop (place_of x) (target_depth x))
+
+  pub record ExprTop (e : Expr) : Type 0 where
+    pub deep : 1 ≤ expr_depth e
+    pub top : within e ≡ true → Top (expr_depth e) (lower_expr e)
+
+  abbrev lowers : List Expr → List Lowering
+  lowers es = map (λ (x : Part). x.lower) (map part_of es)
+
+  higher : (d e : ℕ) (l : Lowering) → d ≤ e → Top d l → Top e l
+  higher d e l le h n = let k = h n in omega (arith, le, k)
+
+  -- several, each of which takes no more than the deepest
+  each_top : (es : List Expr) → Each ExprTop es → all_of (map within es) ≡ true → (d : ℕ) → greatest (map expr_depth es) ≤ d → Each (Top d) (lowers es)
+  each_top [] h b d le = tt
+  each_top (e ∷ es) h b d le =
+      let bs = split (within e) (all_of (map within es)) b in
+      (higher (expr_depth e) d (lower_expr e) (omega (arith, le)) (h.0.top bs.0), each_top es h.1 bs.1 d (omega (arith, le)))
+
+  lowers_length : (es : List Expr) → length (lowers es) ≡ length (map within es)
+  lowers_length es = length-map (map part_of es) (λ (x : Part). x.lower) ∙ length-map es part_of ∙ sym (length-map es within)
+
+  -- the arguments of a call
+  some_top : (es : List Expr) → Each ExprTop es → all_of (map within es) ≡ true → length (map within es) ≤ 8 → (n : ℕ) → max (n + 1) (lower_all (lowers es) n).top ≤ n + 8 * (1 + greatest (map expr_depth es))
+  some_top [] h b few n = omega arith
+  some_top (e ∷ es) h b few n =
+      let d = greatest (map expr_depth (e ∷ es)) in
+      let k = all_top d (lowers (e ∷ es)) (omega (arith, h.0.deep)) (each_top (e ∷ es) h b d (omega arith)) n in
+      omega (arith, k, few, lowers_length (e ∷ es))
+
+  abbrev depths : Form-F Form Target Expr → Form-F ℕ ℕ ℕ
+  depths = map-Form Form Target Expr ℕ ℕ ℕ form_depth target_depth expr_depth
+
+  abbrev tests : Form-F Form Target Expr → Form-F Bool Access Bool
+  tests = map-Form Form Target Expr Bool Access Bool (form_is_within globals locals sizes declared) (target_is_within globals locals sizes declared) within
+
+  abbrev parts : Form-F Form Target Expr → Form-F (CType → Lowering) Place Part
+  parts = map-Form Form Target Expr (CType → Lowering) Place Part form_lowering place_of part_of
+
+  layer : (x : Form-F Form Target Expr) → FormChildren P Q ExprTop x → form_names_only globals locals sizes declared (tests x) ≡ true → (c : CType) → Top (1 + form_greatest (depths x)) (lower_form (parts x) c)
+  layer (form.Number m) h b c n = omega arith
+  layer (form.Read target) h b c n = let k = read_top (place_of target) (target_depth target) (h.0 b) n in omega (arith, k)
+  layer (form.Function f) h b c n = omega arith
+  layer (form.Unary op e) h b c n = let k = h.top b n in let w = one_within (unary_tree op) (lower_expr e) n in omega (arith, k, w)
+  layer (form.Binary op x y) h b c n =
+      let bs = split (within x) (within y) b in
+      let k = h.0.top bs.0 n in
+      let l = h.1.top bs.1 (n + 1) in
+      let w = binary_within false op (part_of x).ctype (lower_expr x) (lower_expr y) n in
+      omega (arith, k, l, w)
+  layer (form.Both x y) h b c n =
+      let bs = split (within x) (within y) b in
+      let k = h.0.top bs.0 n in
+      let l = h.1.top bs.1 n in
+      let w = kept_within (is_low (lower_expr y n).tree) n (lower_expr y n) in
+      omega (arith, k, l, w)
+  layer (form.Either x y) h b c n =
+      let bs = split (within x) (within y) b in
+      let k = h.0.top bs.0 n in
+      let l = h.1.top bs.1 n in
+      let w = kept_within (is_low (lower_expr y n).tree) n (lower_expr y n) in
+      omega (arith, k, l, w)
+  layer (form.Choose z x y) h b c n =
+      let bs = split (within z) (within x && within y) b in
+      let cs = split (within x) (within y) bs.1 in
+      let k = h.0.top bs.0 n in
+      let l = h.1.top cs.0 n in
+      let m = h.2.top cs.1 n in
+      omega (arith, k, l, m)
+  layer (form.Convert e) h b c n = let k = h.top b n in let w = one_within (converted_tree c) (lower_expr e) n in omega (arith, k, w)
+  layer (form.Set target e) h b c n =
+      let access = target_is_within globals locals sizes declared target in
+      let bs = split access.stored (within e) b in
+      let k = set_top (place_of target) (target_depth target) (expr_depth e) (lower_expr e) (h.0.1 bs.0) (h.1.top bs.1) n in
+      omega (arith, k)
+  layer (form.Change op kind target e) h b c n =
+      let access = target_is_within globals locals sizes declared target in
+      let bs = split access.read (access.stored && within e) b in
+      let cs = split access.stored (within e) bs.1 in
+      let k = change_top op kind c (place_of target) (target_depth target) (expr_depth e) (lower_expr e) (h.0.0 bs.0) (h.1.top cs.1) n in
+      omega (arith, k)
+  layer (form.After up target) h b c n =
+      let access = target_is_within globals locals sizes declared target in
+      let bs = split access.read access.stored b in
+      let k = after_top up c (place_of target) (target_depth target) (h.0 bs.0) n in
+      omega (arith, k)
+  layer (form.Direct f args) h b c n =
+      let bs = split (nat_lt (length (map within args)) 9) (all_of (map within args)) b in
+      let few = ltb-true (length (map within args)) 9 bs.0 in
+      let k = some_top args h bs.1 (omega (arith, few)) n in
+      omega (arith, k)
+  layer (form.Through args e) h b c n =
+      let bs = split (nat_lt (length (map within args)) 9) (all_of (map within args) && within e) b in
+      let cs = split (all_of (map within args)) (within e) bs.1 in
+      let few = ltb-true (length (map within args)) 9 bs.0 in
+      let d = max (greatest (map expr_depth args)) (expr_depth e) in
+      let k = all_top d (lowers args ++ lower_expr e ∷ []) (omega (arith, h.1.deep))
+      (each_append (Top d) (lowers args) (lower_expr e ∷ []) (each_top args h.0 cs.0 d (omega arith)) (higher (expr_depth e) d (lower_expr e) (omega arith) (h.1.top cs.1), tt)) n in
+      omega (arith, k, few, lowers_length args, length-append (lowers args) (lower_expr e ∷ []), greatest_append (map expr_depth args) (expr_depth e ∷ []))
+  layer (form.Known f args) h b c n =
+      let bs = split (nat_eq (length (map within args)) (known_arguments f)) (all_of (map within args)) b in
+      let few = eqb-true (length (map within args)) (known_arguments f) bs.0 in
+      let k = some_top args h bs.1 (omega (arith, few, known_few f)) n in
+      omega (arith, k)
+
+  index_top : (e : Expr) → ExprTop e → within e ≡ true → Top (greatest (expr_depth e ∷ [])) (lower_expr e)
+  index_top e h b = higher (expr_depth e) (greatest (expr_depth e ∷ [])) (lower_expr e) (omega arith) (h.top b)
+
+  abbrev accessed : Target-F Form Target Expr → Access
+  accessed y = target_access globals locals sizes declared (map-Target Form Target Expr Bool Access Bool (form_is_within globals locals sizes declared) (target_is_within globals locals sizes declared) within y)
+
+  abbrev placed : Target-F Form Target Expr → Place
+  placed y = place_of_layer (map-Target Form Target Expr (CType → Lowering) Place Part form_lowering place_of part_of y)
+
+  abbrev measured : Target-F Form Target Expr → ℕ
+  measured y = target_greatest (map-Target Form Target Expr ℕ ℕ ℕ form_depth target_depth expr_depth y)
+
+  target_layer : (x : Target-F Form Target Expr) → TargetChildren P Q ExprTop x → ((accessed x).read ≡ true → PlaceTop (placed x) (measured x)) × ((accessed x).stored ≡ true → PlaceTop (placed x) (measured x))
+  target_layer (form.Global g) h = (λ e. tt, λ e. tt)
+  target_layer (form.Local l) h = (λ e. tt, λ e. tt)
+  target_layer (form.GlobalAt g e) h =
+      (λ b. index_top e h (split (globals.arrays g) (within e) (split (globals.there g) (globals.arrays g && within e) b).1).1, λ b. index_top e h (split (globals.there g) (within e) b).1)
+  target_layer (form.LocalAt l e) h = (λ b. index_top e h (split _ (within e) b).1, λ b. index_top e h (split _ (within e) b).1)
+
+  form_step : (x : Form-F Form Target Expr) → FormChildren P Q ExprTop x → P (roll-Form x)
+  form_step x h b c n =
+      let lowered = fold-roll-Form (CType → Lowering) Place Part lower_form place_of_layer lower_layer x in
+      let tested = fold-roll-Form Bool Access Bool (form_names_only globals locals sizes declared) (target_access globals locals sizes declared) (inner_names_only globals locals sizes declared) x in
+      let deep = fold-roll-Form ℕ ℕ ℕ form_greatest target_greatest one_more_than x in
+      subst (λ (l : CType → Lowering). (l c n).top ≤ n + 8 * (1 + form_depth (roll-Form x))) (sym lowered) (let k = layer x h (sym tested ∙ b) c n in omega (arith, k, deep))
+
+  target_step : (x : Target-F Form Target Expr) → TargetChildren P Q ExprTop x → Q (roll-Target x)
+  target_step x h =
+      let place = fold-roll-Target (CType → Lowering) Place Part lower_form place_of_layer lower_layer x in
+      let tested = fold-roll-Target Bool Access Bool (form_names_only globals locals sizes declared) (target_access globals locals sizes declared) (inner_names_only globals locals sizes declared) x in
+      let deep = fold-roll-Target ℕ ℕ ℕ form_greatest target_greatest one_more_than x in
+      let k = target_layer x h in (
+        λ b. subst (λ z. PlaceTop z (target_depth (roll-Target x))) (sym place) (subst (PlaceTop (placed x)) (sym deep) (k.0 (sym (ap (λ (z : Access). z.read) tested) ∙ b))),
+        λ b. subst (λ z. PlaceTop z (target_depth (roll-Target x))) (sym place) (subst (PlaceTop (placed x)) (sym deep) (k.1 (sym (ap (λ (z : Access). z.stored) tested) ∙ b))),
+      )
+
+  expr_step : (x : Expr-F Form Target Expr) → P x.what → ExprTop (roll-Expr x)
+  expr_step x h =
+      let lowered = fold-roll-Expr (CType → Lowering) Place Part lower_form place_of_layer lower_layer x in
+      let tested = fold-roll-Expr Bool Access Bool (form_names_only globals locals sizes declared) (target_access globals locals sizes declared) (inner_names_only globals locals sizes declared) x in
+      let deep = fold-roll-Expr ℕ ℕ ℕ form_greatest target_greatest one_more_than x in
+      record {
+        deep = omega (arith, deep);
+        top = λ b n. subst (λ (l : Part). (l.lower n).top ≤ n + 8 * expr_depth (roll-Expr x)) (sym lowered) (let k = h (sym tested ∙ b) x.ctype n in omega (arith, k, deep));
+      }
+
+  pub expr_top : (e : Expr) → ExprTop e
+  expr_top = expr_ind P Q ExprTop form_step target_step expr_step

@@ -1,0 +1,14 @@
+use Rattle.std.proofs.Common.{ℕ, zero, suc, List, refl}
+use Rattle.mv_ast.specs.declared.program.Program.{Program}
+use Rattle.mv_lower_spec.specs.Law.{strict_context}
+use Rattle.mv_lower_spec.specs.Correct.{IsStrict}
+use Rattle.mv_lower_spec.proofs.AllStatements.{body_correct}
+use Rattle.mv_lower_spec.proofs.statements_are_right.Goals as goal
+
+is_strict : (p : Program) (numbers : List ℕ) (k : ℕ) → IsStrict p numbers (strict_context p numbers k)
+is_strict p numbers zero = record { numbers_are = refl; lets_are = refl; stray_is = refl }
+is_strict p numbers (suc k) = record { numbers_are = refl; lets_are = refl; stray_is = refl }
+
+pub returns : goal.returns
+returns c = λ p setting frame began function locals sizes temps void limit calls room agree knows body formed labelled jumps top k up.
+    body_correct p setting frame began function locals sizes temps void limit calls (strict_context p setting.numbers) room (is_strict p setting.numbers) (λ s. refl) (λ k s. refl) agree knows body formed labelled jumps top k up

@@ -1,0 +1,57 @@
+-- What is proved of the lowering of expressions and statements.
+use Rattle.std.specs.Prelude.{◌≡◌, Bool, None, ℕ, ◌≤◌, true, Option, List, map}
+use Rattle.mv_ast.specs.declared.program.CType.{CType}
+use Rattle.mv_ast.specs.declared.program.Expr.{Expr}
+use Rattle.mv_ast.specs.declared.program.Stmt.{Stmt}
+use Rattle.mv_ast.specs.Worlds.{stop}
+use Rattle.mv_ast.specs.declared.program.Known.{Known}
+use Rattle.mv_ast.specs.declared.program.Program.{Program}
+use Rattle.mv_ast.specs.declared.world.Binding.{Binding}
+use Rattle.mv_ir.specs.World.{Setting}
+use Rattle.mv_ir.specs.World as code_world
+use Rattle.mv_ir.specs.Outcome.{Bound, Calls}
+use Rattle.mv_ir.specs.Trees.{depth}
+use Rattle.mv_ir.specs.Measures.{deepest}
+use Rattle.mv_meaning.specs.Meaning.{Context, context_with, value_of, flow_of_all}
+use Rattle.mv_lower_spec.specs.Lower.{lower_expr, is_well_named, is_callable, is_void, all_of}
+use Rattle.mv_lower_spec.specs.Correct.{astray, IsStrict, CallsAgree, KnownAgrees, Correct}
+use Rattle.mv_lower_spec.specs.Statements.{Jumps, in_sequence, out_of, levels, FlowCorrect}
+use Rattle.mv_lower_spec.specs.LowerStatements.{lower_stmt, stmt_is_well_formed}
+use Rattle.mv_lower_spec.specs.Labels.{stmt_labelled}
+
+-- An expression that names only what there is does, lowered from any free temporary on and in any frame that has room, what it means: where
+-- the functions that it calls and the known functions do so, and a call through a pointer reaches only functions that fit.
+abbrev pub ExpressionsAreRight : Type 0
+ExpressionsAreRight =
+    (p : Program) (setting : Setting) (frame : code_world.Frame) (began : List Binding) (function locals : ℕ) (sizes : ℕ → Option ℕ) (held : ℕ → Option (List ℕ × List ℕ)) (temps : ℕ) (bound : Bound) (free : ℕ → Bool) (context : Context) →
+    ((l : ℕ) → free l ≡ true → held l ≡ None) → locals ≤ temps → IsStrict p setting.numbers context →
+    ((floor : ℕ) (scratch : ℕ → ℕ) → CallsAgree p setting frame began function locals sizes held floor scratch temps bound context) →
+    ((floor : ℕ) (scratch : ℕ → ℕ) (known : Known) → KnownAgrees p setting frame began function locals sizes held floor scratch temps bound known) →
+    (e : Expr) → is_well_named p function locals sizes free e ≡ true →
+    (floor : ℕ) (scratch : ℕ → ℕ) → Correct p setting frame began function locals sizes held floor scratch temps bound (value_of p context e) (lower_expr e)
+
+-- No tree of a lowered expression is deeper than 4.
+abbrev pub ExpressionsAreShallow : Type 0
+ExpressionsAreShallow = (e : Expr) (n : ℕ) → (deepest (lower_expr e n).code ≤ 4) × (depth (lower_expr e n).tree ≤ 4)
+
+-- whether a call through a pointer, whose value has this type, fits a function
+abbrev pub fits_call : Program → CType → ℕ → ℕ → Bool
+fits_call p t g n = is_callable p g n (is_void t)
+
+-- what is around an evaluation at a bound, where calls through pointers reach only functions that fit
+abbrev pub strict_context : Program → List ℕ → ℕ → Context
+strict_context p numbers = context_with p numbers (fits_call p) (stop astray)
+
+-- Well-formed statements, with labels as they should be, do, lowered to where control leads as they stand, in any frame that has room and at each bound up to a limit, what they
+-- mean: where up to that limit the functions that they call and the known functions do so.
+abbrev pub StatementsAreRight : Type 0
+StatementsAreRight =
+    (p : Program) (setting : Setting) (frame : code_world.Frame) (began : List Binding) (function locals : ℕ) (sizes : ℕ → Option ℕ) (temps : ℕ) (void : Bool) (limit : ℕ) (calls : ℕ → Calls) →
+    locals ≤ temps →
+    ((k : ℕ) → k ≤ limit → (held : ℕ → Option (List ℕ × List ℕ)) (floor : ℕ) (scratch : ℕ → ℕ) →
+    CallsAgree p setting frame began function locals sizes held floor scratch temps (levels calls k) (strict_context p setting.numbers k)) →
+    ((k : ℕ) (held : ℕ → Option (List ℕ × List ℕ)) (floor : ℕ) (scratch : ℕ → ℕ) (known : Known) → KnownAgrees p setting frame began function locals sizes held floor scratch temps (levels calls k) known) →
+    (body : List Stmt) → all_of (map (stmt_is_well_formed p function locals sizes void) body) ≡ true → all_of (map stmt_labelled body) ≡ true → (jumps : Jumps) →
+    (in_sequence locals (map (lower_stmt locals sizes void) body) jumps).top ≤ temps → (k : ℕ) → k ≤ limit →
+    FlowCorrect p setting frame began function locals sizes temps void (out_of void jumps) 0 (levels calls k) (flow_of_all p (strict_context p setting.numbers k) body)
+    (in_sequence locals (map (lower_stmt locals sizes void) body) jumps).code

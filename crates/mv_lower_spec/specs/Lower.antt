@@ -1,0 +1,241 @@
+-- The lowering of expressions: a fold that gives, for each, its code and its tree from the first free temporary on.
+use Rattle.std.specs.Prelude.{ℕ, ◌+◌, Bool, true, false, ◌&&◌, cond, List, [], ◌∷◌, ◌++◌, map, length, Option, Some, None, if◌then◌else◌, nat_eq, nat_lt, not, slice_get}
+use Rattle.mv_ir.specs.declared.tree.Tree.{Tree}
+use Rattle.mv_ir.specs.declared.tree.Tree.TheOpen as tree
+use Rattle.mv_ir.specs.declared.tree.Tree.TheViews.{roll-Tree}
+use Rattle.mv_ir.specs.declared.stm.Array.{Array}
+use Rattle.mv_ir.specs.declared.stm.Array.TheVariants as array
+use Rattle.mv_num.specs.declared.kind.Kind.{Kind}
+use Rattle.mv_ast.specs.declared.program.CType.{CType}
+use Rattle.mv_ast.specs.declared.program.CType.TheVariants.{Void, Scalar, Pointer}
+use Rattle.mv_ast.specs.declared.program.Program.{Program}
+use Rattle.mv_ast.specs.declared.program.Global.{Global}
+use Rattle.mv_ast.specs.declared.program.Function.{Function}
+use Rattle.mv_ast.specs.declared.program.Expr.{Expr, Expr-F, fold-Expr}
+use Rattle.mv_ast.specs.declared.program.Form.{Form, Form-F, fold-Form}
+use Rattle.mv_ast.specs.declared.program.Form.TheOpen as form
+use Rattle.mv_ast.specs.declared.program.Target.{Target, Target-F, fold-Target}
+use Rattle.mv_ast.specs.Counts.{words_of_size}
+use Rattle.mv_ast.specs.Plans.{same_truth, is_among, switch_global}
+use Rattle.mv_ast.specs.Operators.{is_unsigned}
+use Rattle.mv_lower_spec.specs.Lowered.{Lowering, number, unary, binary, temp, global, set, set_global, read, write, lower_number, lower_local, lower_global, lower_function, lower_one, lower_two, lower_division, lower_both, lower_either, lower_choice, lower_set_local, lower_set_global, lower_call, lower_through, lower_known, index_in, lower_element, lower_read_element, lower_set_element}
+
+-- ---- operators, by the numbers of their marks
+
+abbrev pub narrowed : Kind → Tree → Tree
+narrowed k a = roll-Tree (tree.Narrow k a)
+
+-- ~ 10, ! 11, + 12, - 13
+abbrev pub unary_tree : ℕ → Tree → Tree
+unary_tree op a =
+    if nat_eq op 10 then binary 5 a (number 4294967295)
+    else if nat_eq op 11 then unary 2 a
+    else if nat_eq op 13 then unary 0 a
+    else a
+
+abbrev pub converted_tree : CType → Tree → Tree
+converted_tree Void a = number 0
+converted_tree (Scalar kind) a = narrowed kind a
+converted_tree (Pointer signature) a = a
+
+abbrev pub less_tree : CType → Tree → Tree → Tree
+less_tree t a b = if is_unsigned t then binary 10 a b else binary 9 a b
+
+abbrev pub bit_tree : ℕ → CType → Tree → Tree → Tree
+bit_tree op t a b =
+    if nat_eq op 17 then binary 3 a b
+    else if nat_eq op 18 then binary 4 a b
+    else if nat_eq op 19 then binary 5 a b
+    else if nat_eq op 20 then less_tree t a b
+    else if nat_eq op 21 then less_tree t b a
+    else if nat_eq op 25 then binary 6 a b
+    else if nat_eq op 26 then (if is_unsigned t then binary 8 a b else binary 7 a b)
+    else if nat_eq op 27 then unary 2 (less_tree t b a)
+    else if nat_eq op 28 then unary 2 (less_tree t a b)
+    else if nat_eq op 29 then binary 11 a b
+    else binary 12 a b
+
+abbrev pub quotient_number : CType → ℕ
+quotient_number t = if is_unsigned t then 1 else 0
+
+abbrev pub remainder_number : CType → ℕ
+remainder_number t = if is_unsigned t then 3 else 2
+
+-- an operator on two operands, of which the second one comes first in it where the flag says so
+abbrev pub lower_operator : Bool → (Tree → Tree → Tree) → Lowering → Lowering → Lowering
+lower_operator turned f = lower_two (λ x y. cond turned (f y x) (f x y))
+
+abbrev pub lower_product : Bool → ℕ → CType → Lowering → Lowering → Lowering
+lower_product turned op t a b =
+    if nat_eq op 12 then lower_operator turned (binary 0) a b
+    else if nat_eq op 13 then lower_operator turned (binary 1) a b
+    else if nat_eq op 14 then lower_operator turned (binary 2) a b
+    else if nat_eq op 15 then lower_division turned (quotient_number t) a b
+    else lower_division turned (remainder_number t) a b
+
+abbrev pub lower_binary : Bool → ℕ → CType → Lowering → Lowering → Lowering
+lower_binary turned op t a b =
+    if nat_lt op 17 then lower_product turned op t a b else lower_operator turned (bit_tree op t) a b
+
+-- ---- expressions
+
+-- an expression's type, and what it is lowered to
+pub record Part : Type 0 where
+  pub ctype : CType
+  pub lower : Lowering
+
+-- where a value is read or stored
+pub data Place : Type 0 where
+  InLocal : ℕ → Place
+  InGlobal : ℕ → Place
+  Element : Array → Lowering → Place
+
+abbrev pub place_of_layer : Target-F (CType → Lowering) Place Part → Place
+place_of_layer (form.Global g) = InGlobal g
+place_of_layer (form.Local l) = InLocal l
+place_of_layer (form.GlobalAt g e) = Element (array.Global g) e.lower
+place_of_layer (form.LocalAt l e) = Element (array.Local l) e.lower
+
+abbrev pub lower_read : Place → Lowering
+lower_read (InLocal l) = lower_local l
+lower_read (InGlobal g) = lower_global g
+lower_read (Element a i) = lower_read_element a i
+
+abbrev pub lower_set : Place → Lowering → Lowering
+lower_set (InLocal l) a = lower_set_local l a
+lower_set (InGlobal g) a = lower_set_global g a
+lower_set (Element a i) v = lower_set_element a i v
+
+-- the new value of a compound assignment, which computes in one type and stores in another: the right side, and then the old value
+abbrev pub lower_changed : ℕ → CType → CType → Lowering → Lowering → Lowering
+lower_changed op kind t old a = lower_one (converted_tree t) (lower_binary true op kind a old)
+
+abbrev pub lower_change : ℕ → CType → CType → Place → Lowering → Lowering
+lower_change op kind t (InLocal l) a n = lower_set_local l (lower_changed op kind t (lower_local l) a) n
+lower_change op kind t (InGlobal g) a n = lower_set_global g (lower_changed op kind t (lower_global g) a) n
+lower_change op kind t (Element r i) a n = lower_set_element r i (lower_changed op kind t (lower_element r (n + 1)) a) n
+
+-- one more or one less than an old value
+abbrev pub next_tree : Bool → CType → Tree → Tree
+next_tree up t old = converted_tree t (binary (cond up 0 1) old (number 1))
+
+-- `++` and `--` behind a place: the old value stays in a temporary
+abbrev pub lower_after : Bool → CType → Place → Lowering
+lower_after up t (InLocal l) n = record { code = set n (temp l) ∷ set l (next_tree up t (temp n)) ∷ []; tree = temp n; top = n + 1 }
+lower_after up t (InGlobal g) n = record { code = set n (global g) ∷ set_global g (next_tree up t (temp n)) ∷ []; tree = temp n; top = n + 1 }
+lower_after up t (Element r i) n =
+    let at = index_in n i in
+    record {
+      code = at.code ++ (read n r at.tree ∷ write r at.tree (next_tree up t (temp n)) ∷ []);
+      tree = temp n;
+      top = at.top;
+    }
+
+abbrev pub is_void : CType → Bool
+is_void Void = true
+is_void (Scalar kind) = false
+is_void (Pointer signature) = false
+
+abbrev pub lower_form : Form-F (CType → Lowering) Place Part → CType → Lowering
+lower_form (form.Number n) t = lower_number n
+lower_form (form.Read target) t = lower_read target
+lower_form (form.Function f) t = lower_function f
+lower_form (form.Unary op a) t = lower_one (unary_tree op) a.lower
+lower_form (form.Binary op a b) t = lower_binary false op a.ctype a.lower b.lower
+lower_form (form.Both a b) t = lower_both a.lower b.lower
+lower_form (form.Either a b) t = lower_either a.lower b.lower
+lower_form (form.Choose c a b) t = lower_choice c.lower a.lower b.lower
+lower_form (form.Convert a) t = lower_one (converted_tree t) a.lower
+lower_form (form.Set target a) t = lower_set target a.lower
+lower_form (form.Change op kind target a) t = lower_change op kind t target a.lower
+lower_form (form.After up target) t = lower_after up t target
+lower_form (form.Direct f args) t = lower_call (is_void t) f (map (λ a. a.lower) args)
+lower_form (form.Through args f) t = lower_through (is_void t) (map (λ a. a.lower) args) f.lower
+lower_form (form.Known k args) t = lower_known k (map (λ a. a.lower) args)
+
+abbrev pub lower_layer : Expr-F (CType → Lowering) Place Part → Part
+lower_layer e = record { ctype = e.ctype; lower = e.what e.ctype }
+
+abbrev pub form_lowering : Form → CType → Lowering
+form_lowering = fold-Form (CType → Lowering) Place Part lower_form place_of_layer lower_layer
+
+abbrev pub place_of : Target → Place
+place_of = fold-Target (CType → Lowering) Place Part lower_form place_of_layer lower_layer
+
+abbrev pub part_of : Expr → Part
+part_of = fold-Expr (CType → Lowering) Place Part lower_form place_of_layer lower_layer
+
+-- The lowering of an expression.
+abbrev pub lower_expr : Expr → Lowering
+lower_expr e = (part_of e).lower
+
+-- ---- what well-formed expressions name
+
+abbrev pub takes : Option Function → ℕ → Bool → Bool
+takes None n void = false
+takes (Some g) n void = nat_eq g.params n && same_truth (is_void g.result) void
+
+-- whether a number is that of a function with so many parameters, which is void or not
+abbrev pub is_callable : Program → ℕ → ℕ → Bool → Bool
+is_callable p f n void = takes (slice_get p.functions f) n void
+
+abbrev pub words_of_global : Option Global → ℕ
+words_of_global None = 0
+words_of_global (Some g) = words_of_size g.size
+
+-- how many words a global has
+abbrev pub global_words : Program → ℕ → ℕ
+global_words p g = words_of_global (slice_get p.globals g)
+
+-- whether all of some hold
+abbrev pub all_of : List Bool → Bool
+all_of [] = true
+all_of (b ∷ bs) = b && all_of bs
+
+abbrev pub is_scalar : Option ℕ → Bool
+is_scalar None = true
+is_scalar (Some n) = false
+
+-- whether a global is one of a function's switches
+abbrev pub is_own_switch : Program → Option Function → ℕ → Bool
+is_own_switch p None g = false
+is_own_switch p (Some f) g = is_among g (map (switch_global p) f.switches)
+
+module _ (p : Program) (function locals : ℕ) (sizes : ℕ → Option ℕ) (free : ℕ → Bool) where
+  -- a local is named as the scalar or the array that it is, and none that is being declared, and no switch of the function as an array
+  abbrev pub names_target : Target-F (CType → Bool) Bool Bool → Bool
+  names_target (form.Global g) = true
+  names_target (form.Local l) = nat_lt l locals && (free l && is_scalar (sizes l))
+  names_target (form.GlobalAt g e) = not (is_own_switch p (slice_get p.functions function) g) && e
+  names_target (form.LocalAt l e) = nat_lt l locals && (free l && (not (is_scalar (sizes l)) && e))
+
+  -- a called function takes as many arguments, and is void where the call is
+  abbrev pub names_form : Form-F (CType → Bool) Bool Bool → CType → Bool
+  names_form (form.Number n) t = true
+  names_form (form.Read target) t = target
+  names_form (form.Function f) t = true
+  names_form (form.Unary op a) t = a
+  names_form (form.Binary op a b) t = a && b
+  names_form (form.Both a b) t = a && b
+  names_form (form.Either a b) t = a && b
+  names_form (form.Choose c a b) t = c && (a && b)
+  names_form (form.Convert a) t = a
+  names_form (form.Set target a) t = target && a
+  names_form (form.Change op kind target a) t = target && a
+  names_form (form.After up target) t = target
+  names_form (form.Direct f args) t = is_callable p f (length args) (is_void t) && all_of args
+  names_form (form.Through args f) t = all_of args && f
+  names_form (form.Known k args) t = all_of args
+
+  abbrev pub names_layer : Expr-F (CType → Bool) Bool Bool → Bool
+  names_layer e = e.what e.ctype
+
+  abbrev pub form_is_well_named : Form → CType → Bool
+  form_is_well_named = fold-Form (CType → Bool) Bool Bool names_form names_target names_layer
+
+  abbrev pub target_is_well_named : Target → Bool
+  target_is_well_named = fold-Target (CType → Bool) Bool Bool names_form names_target names_layer
+
+  -- whether an expression names only what there is
+  abbrev pub is_well_named : Expr → Bool
+  is_well_named = fold-Expr (CType → Bool) Bool Bool names_form names_target names_layer

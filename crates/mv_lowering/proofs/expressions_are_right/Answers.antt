@@ -1,9 +1,0 @@
-use Rattle.mv_lowering.proofs.Expressions.{expr_correct}
-use Rattle.mv_lowering.proofs.ExpressionDepths.{expr_is_shallow}
-use Rattle.mv_lowering.proofs.expressions_are_right.Goals as goal
-
-pub returns-clause-right : goal.returns-clause-right
-returns-clause-right c = λ p setting frame began function locals sizes held temps bound free context frees room strict calls knows e named. expr_correct p setting frame began function locals sizes held temps bound free frees context room strict calls knows e named
-
-pub returns-clause-shallow : goal.returns-clause-shallow
-returns-clause-shallow c = expr_is_shallow

@@ -1,5 +1,0 @@
-use Rattle.mv_machine_runs.proofs.OnRuns.{steps_are_taken}
-use Rattle.mv_machine_runs.proofs.laws.bound_steps_are_taken.Goals as goal
-
-pub returns : goal.returns
-returns c = steps_are_taken

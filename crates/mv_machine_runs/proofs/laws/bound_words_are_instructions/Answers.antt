@@ -1,5 +1,0 @@
-use Rattle.mv_machine_runs.proofs.Jumps.{bound_words}
-use Rattle.mv_machine_runs.proofs.laws.bound_words_are_instructions.Goals as goal
-
-pub returns : goal.returns
-returns c = bound_words

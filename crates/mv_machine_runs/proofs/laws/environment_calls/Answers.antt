@@ -1,5 +1,0 @@
-use Rattle.mv_machine_runs.proofs.Answering.{answered_calls}
-use Rattle.mv_machine_runs.proofs.laws.environment_calls.Goals as goal
-
-pub returns : goal.returns
-returns c closed image input actions picks = answered_calls image input actions picks closed

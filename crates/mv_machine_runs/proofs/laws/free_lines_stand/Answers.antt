@@ -1,5 +1,0 @@
-use Rattle.mv_machine_runs.proofs.Placing.{line_stands_free}
-use Rattle.mv_machine_runs.proofs.laws.free_lines_stand.Goals as goal
-
-pub returns : goal.returns
-returns c = line_stands_free

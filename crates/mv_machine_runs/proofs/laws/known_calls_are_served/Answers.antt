@@ -1,5 +1,0 @@
-use Rattle.mv_machine_runs.proofs.Serving.{serves_calls}
-use Rattle.mv_machine_runs.proofs.laws.known_calls_are_served.Goals as goal
-
-pub returns : goal.returns
-returns c attributed closed image input actions picks bytes y budget far numbers p = serves_calls attributed closed image input actions picks bytes y budget far numbers p

@@ -1,5 +1,0 @@
-use Rattle.mv_machine_runs.proofs.OnRuns.{runs_are_alone}
-use Rattle.mv_machine_runs.proofs.laws.runs_are_runs_alone.Goals as goal
-
-pub returns : goal.returns
-returns c = runs_are_alone

@@ -1,5 +1,0 @@
-use Rattle.mv_machine_runs.proofs.Starts.{run_begins}
-use Rattle.mv_machine_runs.proofs.laws.runs_begin_in_calm.Goals as goal
-
-pub returns : goal.returns
-returns c attributed closed image input actions picks s w first = run_begins image input actions picks _ (record { input = first.input; output = first.output; bindings = first.bindings; log = first.log })

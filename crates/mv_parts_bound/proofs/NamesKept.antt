@@ -1,0 +1,70 @@
+-- Binding and folding name no more.
+use Rattle.std.proofs.Common.{ℕ, ◌^◌, ◌<◌, List, [], ◌∷◌, sym, subst, Contains}
+use Rattle.std.proofs.lemmas.List.Elements.{All-contains, All-contains_itself}
+use Rattle.mv_ir.specs.declared.stm.Stm.{Stm}
+use Rattle.mv_ir.proofs.Induction.{Each}
+use Rattle.mv_select_control.specs.Labels.{functions}
+use Rattle.mv_select_bodies.specs.SelectedBodies.{HasWords, IsOrder, constants, knowns}
+use Rattle.mv_clone.specs.Bind.{bound_code}
+use Rattle.mv_regalloc.specs.Rename.{renamed_code}
+use Rattle.mv_fold.specs.Needed.{needed_code}
+use Rattle.mv_fold.specs.Folded.{simple_body}
+use Rattle.mv_parts_bound.specs.Names.{NamesNoMore, BindingNamesNoMore, FoldingNamesNoMore}
+use Rattle.mv_parts_bound.proofs.Words.{unary_word, binary_word, narrow_word, divide_word}
+use Rattle.mv_parts_bound.proofs.Naming.{CodeNames, code_functions, code_knowns, code_constants, code_of, each_all, all_each}
+use Rattle.mv_parts_bound.proofs.BoundNames.{bound_names}
+use Rattle.mv_parts_bound.proofs.FoldedNames.{IsClosed, folded_names}
+use Rattle.mv_parts_bound.proofs.RenamedNames.{renamed_names}
+
+abbrev Anything : ℕ → Type 0
+Anything n = Unit {0}
+
+anything : (ns : List ℕ) → Each Anything ns
+anything [] = tt
+anything (n ∷ ns) = (tt, anything ns)
+
+abbrev IsWord : ℕ → Type 0
+IsWord n = n < 2 ^ 32
+
+anything_closed : IsClosed Anything
+anything_closed = record { one = λ o n h. tt; two = λ o n m h k. tt; narrowed = λ k n h. tt; divided = λ o n d h k. tt }
+
+words_closed : IsClosed IsWord
+words_closed = record { one = λ o n h. unary_word o n; two = λ o n m h k. binary_word o n m h k; narrowed = λ k n h. narrow_word k n h; divided = λ o n d h k. divide_word o n d h k }
+
+module _ (code result : List Stm) where
+  -- of code that names what this names
+  abbrev Named : List Stm → Type 0
+  Named = CodeNames (Contains (functions code)) (Contains (knowns code)) Anything
+
+  abbrev Words : List Stm → Type 0
+  Words = CodeNames Anything IsOrder IsWord
+
+  own : Named code
+  own = code_of (Contains (functions code)) (Contains (knowns code)) Anything code
+      (all_each (Contains (functions code)) (functions code) (All-contains_itself (functions code))) (all_each (Contains (knowns code)) (knowns code) (All-contains_itself (knowns code))) (anything (constants code))
+
+  words_in : HasWords code → Words code
+  words_in h = code_of Anything IsOrder IsWord code (anything (functions code)) (all_each IsOrder (knowns code) h.orders) (all_each IsWord (constants code) h.constants)
+
+  no_more : (Named code → Named result) → (Words code → Words result) → NamesNoMore code result
+  no_more h k = record {
+    functions = λ f. All-contains (Contains (functions code)) (functions result) f (each_all (Contains (functions code)) (functions result) (code_functions (Contains (functions code)) (Contains (knowns code)) Anything result (h own)));
+    knowns = λ f. All-contains (Contains (knowns code)) (knowns result) f (each_all (Contains (knowns code)) (knowns result) (code_knowns (Contains (functions code)) (Contains (knowns code)) Anything result (h own)));
+    words = λ w. record {
+      constants = each_all IsWord (constants result) (code_constants Anything IsOrder IsWord result (k (words_in w)));
+      orders = each_all IsOrder (knowns result) (code_knowns Anything IsOrder IsWord result (k (words_in w)));
+    };
+  }
+
+pub binding_names : BindingNamesNoMore
+binding_names ps words code =
+    no_more code (bound_code ps code) (bound_names (Contains (functions code)) (Contains (knowns code)) Anything ps (λ g v e. tt) code) (bound_names Anything IsOrder IsWord ps words code)
+
+pub folding_names : FoldingNamesNoMore
+folding_names temps code folded (needed, is, e) =
+    subst (NamesNoMore code) (sym e)
+    (no_more code (needed_code needed (simple_body temps code)) (folded_names (Contains (functions code)) (Contains (knowns code)) Anything anything_closed needed temps code) (folded_names Anything IsOrder IsWord words_closed needed temps code))
+
+pub renaming_names : (c : ℕ → ℕ) (code : List Stm) → NamesNoMore code (renamed_code c code)
+renaming_names c code = no_more code (renamed_code c code) (renamed_names (Contains (functions code)) (Contains (knowns code)) Anything c code) (renamed_names Anything IsOrder IsWord c code)

@@ -1,0 +1,68 @@
+-- What a body means and has that comes of another by binding its switches, folding and renaming.
+use Rattle.std.specs.Prelude.{ℕ, ◌≡◌, ◌≤◌, List, All, None}
+use Rattle.std.specs.List.{zip}
+use Rattle.mv_ast.specs.declared.program.Program.{Program}
+use Rattle.mv_ast.specs.declared.program.Function.{Function}
+use Rattle.mv_ir.specs.declared.stm.Stm.{Stm}
+use Rattle.mv_ir.specs.declared.body.Body.{Body}
+use Rattle.mv_ir.specs.World.{World, Setting}
+use Rattle.mv_ir.specs.Trees.{found}
+use Rattle.mv_ir.specs.Outcome.{Bound}
+use Rattle.mv_ir.specs.Meaning.{Contents, body_from}
+use Rattle.mv_ir.specs.Keeps.{KeepsCall}
+use Rattle.mv_ir.specs.Measures.{scalars_read, statements, tree_nodes, calls, deepest}
+use Rattle.mv_ir.specs.Live.{IsWhole, HasTemps, most_intervals}
+use Rattle.mv_ir.specs.WellFormed.{IsWellFormed}
+use Rattle.mv_clone.specs.Bind.{IsBound}
+use Rattle.mv_fold.specs.Form.{IsFoldedForm}
+use Rattle.mv_fold.specs.Folded.{IsFolded}
+use Rattle.mv_regalloc.specs.Rename.{renamed_code}
+use Rattle.mv_regalloc.specs.Intervals.{IsRenamed}
+use Rattle.mv_lower_spec.specs.Functions.{lower_function}
+
+-- in every frame in which the switches are read as these values, the second body means what the first means, at no greater cost
+abbrev pub KeepsUnder : List (ℕ × ℕ) → Body → Body → Type 0
+KeepsUnder ps b b' =
+    (setting : Setting) (depth live : ℕ) (contents : Contents) (args : List ℕ) (bound : Bound) (w : World) →
+    KeepsCall (body_from setting (record { depth = depth; live = live; bound = ps }) contents b args bound w) (body_from setting (record { depth = depth; live = live; bound = ps }) contents b' args bound w)
+
+-- a body bound to the values of its switches, then folded, then with its temporaries renamed
+pub record IsMadeUnder (ps : List (ℕ × ℕ)) (body result : Body) : Type 0 where
+  pub bound : Body
+  pub folded : Body
+  pub is_bound : IsBound ps body bound
+  pub is_folded : IsFolded bound folded
+  pub is_renamed : IsRenamed folded result
+
+-- Whatever numbers temporaries get, code that has the folded form has it with them.
+abbrev pub RenamingKeepsForm : Type 0
+RenamingKeepsForm = (numbers : ℕ → ℕ) (code : List Stm) → IsFoldedForm code → IsFoldedForm (renamed_code numbers code)
+
+-- Such a body keeps the meaning under these values, reads none of the switches and has the folded form. No count of it is greater, its temporaries are as many as there are intervals
+-- over one position of the first body at most, and what else there is of it is the same.
+pub record IsVariantOf (ps : List (ℕ × ℕ)) (body result : Body) : Type 0 where
+  pub keeps : KeepsUnder ps body result
+  pub free : All (λ g. found ps g ≡ None) (scalars_read result.code)
+  pub form : IsFoldedForm result.code
+  pub deepest : deepest result.code ≤ deepest body.code
+  pub statements : statements result.code ≤ statements body.code
+  pub tree_nodes : tree_nodes result.code ≤ tree_nodes body.code
+  pub calls : calls result.code ≤ calls body.code
+  pub temps : result.temps ≤ most_intervals body
+  pub whole : IsWhole result
+  pub has_temps : HasTemps result
+  pub well_formed : IsWellFormed body → IsWellFormed result
+  pub params : result.params ≡ body.params
+  pub sizes : result.arrays ≡ body.arrays
+  pub rooms : result.rooms ≡ body.rooms
+  pub marked : result.marked ≡ body.marked
+  pub switches : result.switches ≡ body.switches
+
+abbrev pub MadeAreVariants : Type 0
+MadeAreVariants = (ps : List (ℕ × ℕ)) (body result : Body) → IsMadeUnder ps body result → IsVariantOf ps body result
+
+-- of a lowered function, under values of its switches
+abbrev pub LoweredAreVariants : Type 0
+LoweredAreVariants =
+    (p : Program) (g : Function) (vs : List ℕ) (result : Body) → IsMadeUnder (zip (lower_function p g).switches vs) (lower_function p g) result →
+    KeepsUnder (zip (lower_function p g).switches vs) (lower_function p g) result

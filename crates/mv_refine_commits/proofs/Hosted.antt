@@ -1,0 +1,123 @@
+-- The machine begins in calm, and its memory has words.
+use Rattle.std.proofs.Common.{◌≡◌, ℕ, false, List, [], length, option_map, Option, Some, None, refl, sym, ap, ◌∙◌, subst}
+use Rattle.std.proofs.lemmas.List.{length-replicate}
+use Rattle.mv_ast.specs.declared.world.Action.{Action}
+use Rattle.mv_fetch.specs.Held.{Room, zeros, fence, first as first_memory}
+use Rattle.mv_rv32.specs.Stepping as memory
+use Rattle.mv_image.specs.Spelling.{Fields}
+use Rattle.mv_image.specs.Patched.{text_of}
+use Rattle.mv_patch.specs.Orders.{values_of}
+use Rattle.mv_patch.specs.Tables.{patchable}
+use Rattle.mv_ir.specs.World.{World}
+use Rattle.mv_machine.specs.Runs.{bytes_to_come, first, runs_from}
+use Rattle.mv_machine.specs.Commits.{commit_from}
+use Rattle.mv_select_control.specs.Runs.{outside}
+use Rattle.mv_select_calls.specs.Convention.{Layout}
+use Rattle.mv_select_statements.specs.Frames.{Site}
+use Rattle.mv_select_functions.specs.Functions.{Kept}
+use Rattle.mv_refine_machine.specs.Calm.{Rest, IsCalm}
+use Rattle.mv_refine_machine.specs.Laws.{IsFirst}
+use Rattle.mv_refine_machine.specs.MachineRuns as runs
+use Rattle.mv_refine_machine.specs.MachineRuns.{with_room, rest_of}
+use Rattle.mv_refine_machine.proofs.Whole as whole
+use Rattle.mv_refine_stores.specs.Between.{IsWhole}
+use Rattle.mv_refine_commits.specs.Watch.{texts_of}
+use Rattle.mv_refine_commits.specs.Watched.{Watched, access, watched, put_room, plan_words}
+use Rattle.mv_refine_commits.specs.Hosted.{WatchedRunsBegin, WatchedMemory}
+use Rattle.mv_refine_commits.proofs.Known.{Known}
+use Rattle.mv_refine_commits.proofs.Quiet.{quiet_told, quiet_tested}
+
+-- ---- the start
+
+zeros_count : (n : ℕ) → length (zeros n) ≡ n
+unfolding zeros
+zeros_count n = length-replicate n 0
+
+plan_there : (image : Fields) (input : List (Option ℕ)) (actions : List Action) → length (first image input actions).room.held.plan ≡ plan_words
+unfolding first first_memory
+plan_there image input actions = zeros_count 131072
+
+reserved : (image : Fields) (input : List (Option ℕ)) (actions : List Action) → (first image input actions).room.reserve ≡ patchable image
+unfolding first
+reserved image input actions = refl
+
+actions_there : (image : Fields) (input : List (Option ℕ)) (actions : List Action) → (first image input actions).actions ≡ actions
+unfolding first
+actions_there image input actions = refl
+
+-- the first memory is as behind FENCE.I
+fenced_first : (image : Fields) (input : List (Option ℕ)) (actions : List Action) → memory.access.fence (first image input actions).room ≡ (first image input actions).room
+unfolding memory.access fence first first_memory
+fenced_first image input actions = refl
+
+-- a frame without cells
+no_frame : Site
+no_frame = record {
+  place = λ g. 0;
+  size = λ g. 0;
+  reach = record { is_read = λ g. false; is_written = λ g. false; may_load = λ a. false };
+  entry = λ f. 0;
+  may_ask = λ k. false;
+  temps = 0;
+  array_at = λ a. 0;
+  array_size = λ a. 0;
+  register = λ q. 0;
+  is_kept = λ b. false;
+  kept = λ b. 0;
+}
+
+module _ (known : Known) where
+  first_calm : (image : Fields) (bytes : List ℕ) (actions : List Action) (picks : List ℕ) (w : World) → IsFirst image bytes w → IsCalm image (outside w) (rest_of (first image (bytes_to_come bytes) actions))
+  unfolding runs_from
+  first_calm image bytes actions picks w h =
+      (known.calms image (outside w) (rest_of (first image (bytes_to_come bytes) actions))).0 (known.begins [] (λ pc a. false) image bytes actions picks no_frame w h)
+
+  pub watched_begins : WatchedRunsBegin
+  unfolding runs_from commit_from
+  watched_begins image bytes actions picks w h acts =
+      let start = first image (bytes_to_come bytes) actions in
+      let calm = first_calm image bytes actions picks w h in
+      let all : IsWhole start.room = subst IsWhole (fenced_first image (bytes_to_come bytes) actions) (known.rooms.fence start.room) in
+      quiet_tested known image (outside w) (watched start None) (record {
+        calm = calm;
+        settled = known.rooms.settles (texts_of image w.bindings) start.room all (calm.text ∙ ap (λ bs. text_of image (values_of bs)) calm.bindings) calm.no_older;
+        reserve = reserved image (bytes_to_come bytes) actions;
+        plan = plan_there image (bytes_to_come bytes) actions;
+        under = refl;
+        actions = actions_there image (bytes_to_come bytes) actions ∙ sym acts;
+      })
+
+  -- ---- memory
+
+  room_stored : (m after : Rest) (o : Option Room) → option_map (with_room m) o ≡ Some after → (r : Room) × (o ≡ Some r) × (after ≡ with_room m r)
+  room_stored m after None e = absurd (cc)
+  room_stored m after (Some r) e = (r, refl, cc)
+
+  kept_beside : (y : Layout) (m : Watched) (b v : ℕ) → Kept runs.access y m.rest b v → Kept access y m b v
+  unfolding access runs.access
+  kept_beside y m b v k =
+      let r = room_stored m.rest k.after (memory.access.store m.rest.room b 4 v) k.stored in
+      record {
+        after = put_room m r.0;
+        stored = ap (option_map (put_room m)) r.1;
+        same = ap (λ (x : Rest). memory.access.load x.room b 4) (sym r.2) ∙ k.same;
+        others = λ c word ne. ap (λ (x : Rest). memory.access.load x.room c 4) (sym r.2) ∙ k.others c word ne;
+      }
+
+  loads_beside : (m : Watched) (b v : ℕ) → access.load m b 4 ≡ Some v → runs.access.load m.rest b 4 ≡ Some v
+  unfolding access runs.access
+  loads_beside m b v e = e
+
+  loads_back : (m : Watched) (b v : ℕ) → runs.access.load m.rest b 4 ≡ Some v → access.load m b 4 ≡ Some v
+  unfolding access runs.access
+  loads_back m b v e = e
+
+  pub watched_memory : WatchedMemory
+  watched_memory attributed closed image input actions picks y laid =
+      let plain = whole.memory y laid attributed closed image input actions picks in
+      record {
+        stores = λ m b v w word lt loads. kept_beside y m b v (plain.stores m.rest b v w word lt (loads_beside m b w loads));
+        words = λ m b w word loads. plain.words m.rest b w word (loads_beside m b w loads);
+        stack = λ w m b calm stack.
+            let x = plain.stack w m.rest b ((known.calms image w m.rest).1 (quiet_told known image w m calm).calm) stack in (x.0, loads_back m b x.0 x.1);
+      }

@@ -1,0 +1,85 @@
+-- What a sound place tells.
+use Rattle.std.proofs.Common.{◌≡◌, ◌≢◌, List, [], ◌∷◌, ⊎_elim, ℕ, ◌%◌, ◌<◌, ◌≤◌, Bool, true, false, ◌&&◌, not, cond, eqb, ltb, length, Option, Some, None, refl, sym, ap, ◌∙◌, subst, arith, eq-eqb}
+use Rattle.std.specs.Prelude.{IsSomeAnd}
+use Rattle.std.proofs.lemmas.Bool.{and_parts, cases_lt, lt-ltb, le-ltb, eqb-true}
+use Rattle.mv_fetch.specs.Held.{IsInText, region_of, choices}
+use Rattle.mv_rv32.specs.Stepping.{picked_target}
+use Rattle.mv_machine.specs.Runs.{choices_at}
+use Rattle.mv_refine_machine.specs.MachineRuns.{spot_of}
+use Rattle.mv_refine_commits.specs.Watch.{into_text, are_elsewhere, is_apart, is_sound}
+use Rattle.mv_refine_commits.specs.Tells.{SoundPlacesTell}
+use Rattle.std.specs.List.{All}
+use Rattle.std.proofs.lemmas.List.Elements.{All-nil, All-cons}
+use Rattle.mv_ast.specs.declared.world.Binding.{Binding}
+use Rattle.mv_patch.specs.declared.prepared.Pair.{Pair}
+use Rattle.mv_patch.specs.Pairs.{pairs_between}
+use Rattle.mv_machine.specs.Runs.{State}
+
+-- an address of text, told by its region
+not_low : (a : ℕ) → a < 0x1000 → IsInText a → ⊥
+unfolding region_of
+not_low a lt h = let e : ltb a 0x1000 ≡ true = lt-ltb a 0x1000 lt in absurd (let k = rw e at h in cc)
+
+not_high : (a : ℕ) → 0x0010_0000 ≤ a → IsInText a → ⊥
+unfolding region_of
+not_high a ge h =
+    let e : ltb a 0x1000 ≡ false = le-ltb a 0x1000 (omega (arith, ge)) in
+    let f : ltb a 0x0010_0000 ≡ false = le-ltb a 0x0010_0000 ge in
+    by_tests (ltb a 0x0020_0000) (ltb a 0x0040_0000) (ltb a 0x0048_0000) (rw (e, f) at h)
+  where
+    by_tests : (x y z : Bool) → cond x (region_of 0x0010_0000) (cond y (region_of 0x0020_0000) (cond z (region_of 0x0040_0000) (region_of 0))) ≡ region_of 0x1000 → ⊥
+    by_tests true y z k = absurd (cc)
+    by_tests false true z k = absurd (cc)
+    by_tests false false true k = absurd (cc)
+    by_tests false false false k = absurd (cc)
+
+into_is : (a : ℕ) → IsInText a → into_text (Some a) ≡ true
+into_is a h = ⊎_elim
+    (λ (lt : a < 0x1000). absurd (not_low a lt h))
+    (λ (ge : 0x1000 ≤ a). ⊎_elim
+    (λ (lt : a < 0x0010_0000). let e : ltb a 0x1000 ≡ false = le-ltb a 0x1000 ge in let f : ltb a 0x0010_0000 ≡ true = lt-ltb a 0x0010_0000 lt in rw (e, f) refl)
+    (λ (big : 0x0010_0000 ≤ a). absurd (not_high a big h))
+    (cases_lt a 0x0010_0000))
+    (cases_lt a 0x1000)
+
+wants_not : (o : Option ℕ) (spare : ℕ) → not (into_text o && eqb spare 0) ≡ true → IsSomeAnd o IsInText → spare ≡ 0 → ⊥
+wants_not None spare h i e = absurd i
+wants_not (Some a) spare h i e =
+    let f : not (true && true) ≡ true = ap (λ b. not (b && true)) (sym (into_is a i)) ∙ ap (λ b. not (into_text (Some a) && b)) (sym (eq-eqb spare 0 e)) ∙ h in absurd (cc)
+
+elsewhere_told : (a : ℕ) (pairs : List Pair) → are_elsewhere a pairs ≡ true → All (λ (pair : Pair). pair.address ≢ a) pairs
+elsewhere_told a [] h = All-nil (λ (pair : Pair). pair.address ≢ a)
+elsewhere_told a (pair ∷ pairs) h =
+    let p = and_parts (not (eqb pair.address a)) (are_elsewhere a pairs) h in
+    All-cons (λ (pair : Pair). pair.address ≢ a) pair pairs (λ e. differs pair.address e p.0) (elsewhere_told a pairs p.1)
+  where
+    differs : (b : ℕ) → b ≡ a → not (eqb b a) ≡ true → ⊥
+    differs b e k = let f : not true ≡ true = ap not (sym (eq-eqb b a e)) ∙ k in absurd (cc)
+
+apart_told : (texts : List Binding → List ℕ) (under : Option (List Binding)) (s : State) → is_apart texts under (spot_of s) ≡ true → (old : List Binding) → under ≡ Some old
+    → All (λ (pair : Pair). pair.address ≢ s.pc) (pairs_between (texts old) (texts s.bindings))
+apart_told texts None s h old e = absurd (cc)
+apart_told texts (Some other) s h old e =
+    let same : other ≡ old = cc in
+    subst (λ bs. All (λ (pair : Pair). pair.address ≢ s.pc) (pairs_between (texts bs) (texts s.bindings))) same (elsewhere_told s.pc (pairs_between (texts other) (texts s.bindings)) h)
+
+-- a pick of the only choice
+zero_of : (n pick : ℕ) → n ≡ 1 → pick % n ≡ 0
+zero_of n pick e = omega (arith, e)
+
+pub sound_tells : SoundPlacesTell
+unfolding is_sound choices_at
+sound_tells closed texts under s h =
+    let p = and_parts _ _ h in
+    let q = and_parts _ _ p.1 in
+    let r = and_parts _ _ q.1 in
+    let k = and_parts _ _ p.0 in
+    let one : length (choices s.room.held s.pc) ≡ 1 = eqb-true _ _ k.0 in record {
+      one = one;
+      unbarred = p.0;
+      settled = q.0;
+      roomy = λ pick w.
+          let z : pick % length (choices s.room.held s.pc) ≡ 0 = zero_of (length (choices s.room.held s.pc)) pick one in
+          wants_not (picked_target s.room 0 s.regs s.pc) s.room.spare r.0 (subst (λ k. IsSomeAnd (picked_target s.room k s.regs s.pc) IsInText) z w.0) w.1;
+      apart = apart_told texts under s r.1;
+    }

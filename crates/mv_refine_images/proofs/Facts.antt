@@ -1,0 +1,54 @@
+-- The laws of the crates below that the law on built programs stands on.
+use Rattle.mv_image.specs.Format.{RulesAreTables}
+use Rattle.mv_ir_ends.specs.Reached.{EndsAreReached}
+use Rattle.mv_select_bodies.specs.SelectedBodies.{BodiesAreFunctions}
+use Rattle.mv_refine_machine.specs.Laws.{PackedIsLaidOut}
+use Rattle.mv_refine_machine.specs.Shown.{FreeFunctionsShow, BoundFunctionsShow}
+use Rattle.mv_refine_commits.specs.Ends.{WatchedStartIsRight}
+use Rattle.mv_refine_commits.specs.Hosted.{WatchedCallsAreServed, WatchedMemory}
+use Rattle.mv_refine_commits.specs.Tabled.{TabledOrdersAreServed}
+use Rattle.mv_refine_commits.specs.Watched.{Watched}
+use Rattle.mv_refine_commits.specs.WatchedRuns.{WatchedRunsAreRunsAlone, WatchedRunsAreRunsUnder}
+use Rattle.mv_refine_runs.specs.Laws.{ImagesBehave}
+use Rattle.mv_refine_programs.specs.Laws.{MainFollowsOpenly}
+use Rattle.mv_link_data.specs.Laws.{SizesAreCounts, WordsAreFirst}
+use Rattle.mv_parts.specs.Laws.{DataIsCounted}
+use Rattle.mv_link_text.specs.Laws.{WordsAreThere, StubsStandInText, CodesAscend, PlainCodeStands, PatchedCodeStands, SlotsAreSites}
+use Rattle.mv_parts_tables.specs.Laws.{AttributedAreTabled, RowsLeadToVariants, VariantsHaveRows, ImagesHaveTables}
+use Rattle.mv_parts_bodies.specs.Laws.{FunctionsHaveOwnCode, VariantsHaveCode}
+
+pub record Laws : Type 0 where
+  -- text
+  pub words_there : WordsAreThere
+  pub stubs : StubsStandInText
+  pub codes_ascend : CodesAscend
+  pub plain : PlainCodeStands
+  pub patched : PatchedCodeStands
+  pub slots : SlotsAreSites
+  pub show_free : FreeFunctionsShow
+  pub show_bound : BoundFunctionsShow
+  -- tables
+  pub tabled : AttributedAreTabled
+  pub lead : RowsLeadToVariants
+  pub rows : VariantsHaveRows
+  pub tables : ImagesHaveTables
+  -- bodies
+  pub own_code : FunctionsHaveOwnCode
+  pub variant_code : VariantsHaveCode
+  pub bodies_are_functions : BodiesAreFunctions
+  -- data
+  pub words_first : WordsAreFirst
+  pub sizes_are_counts : SizesAreCounts
+  pub data_is_counted : DataIsCounted
+  pub packed_is_laid_out : PackedIsLaidOut
+  pub typed : RulesAreTables
+  -- runs
+  pub runs_alone : WatchedRunsAreRunsAlone
+  pub runs_under : WatchedRunsAreRunsUnder
+  pub memory : WatchedMemory
+  pub calls : WatchedCallsAreServed
+  pub orders : TabledOrdersAreServed
+  pub starts : WatchedStartIsRight
+  pub images_behave : ImagesBehave
+  pub main_follows : MainFollowsOpenly Watched
+  pub ends_are_reached : EndsAreReached

@@ -1,0 +1,270 @@
+-- What is closed to a variant's code is so to its function's switches: so none is loaded there.
+use Rattle.std.proofs.Common.{◌≡◌, ◌⊎◌, inl, inr, ⊎_elim, ℕ, zero, suc, ◌+◌, ◌-◌, ◌*◌, ◌%◌, ◌<◌, ◌≤◌, Bool, true, false, cond, ◌&&◌, ◌||◌, eqb, leb, ltb, List, [], ◌∷◌, Option, Some, None, length, map, take, slice_get, refl, sym, ap, ◌∙◌, subst, arith, eq-eqb}
+use Rattle.std.specs.Prelude.{Contains, nat_eq}
+use Rattle.std.proofs.lemmas.Bool.{and_from, cases_eq, cases_lt, le-leb, lt-ltb}
+use Rattle.std.proofs.lemmas.List.{length-append, length-map}
+use Rattle.std.proofs.lemmas.List.Sums.{sum_by_more}
+use Rattle.std.proofs.lemmas.Option.{get_or_from_slice_get, slice_get_within}
+use Rattle.mv_ast.specs.declared.program.Program.{Program}
+use Rattle.mv_ast.specs.declared.program.Function.{Function}
+use Rattle.mv_ast.specs.declared.program.Global.{Global}
+use Rattle.mv_ast.specs.declared.world.Action.{Action}
+use Rattle.mv_ast.specs.Plans.{attributed_functions, is_among, switch_global, global_or_none}
+use Rattle.mv_descriptors.specs.declared.rows.SiteRow.{SiteRow}
+use Rattle.mv_descriptors.specs.declared.rows.VariantRow.{VariantRow}
+use Rattle.mv_fetch.specs.Held.{Held, choices, choices_in, region_of, index_of}
+use Rattle.mv_ir_worlds.proofs.Functions.{attributed_at}
+use Rattle.mv_image.specs.Patched.{site_at, site_before, variants_before}
+use Rattle.mv_image.specs.Spelling.{Fields}
+use Rattle.mv_lower_spec.specs.Functions.{lower_function}
+use Rattle.mv_lower_spec.specs.Lower.{words_of_global}
+use Rattle.mv_lower_correct.specs.WellFormed.{IsWellFormed}
+use Rattle.mv_machine.specs.Runs.{State, bytes_to_come, runs}
+use Rattle.mv_select_calls.specs.Convention.{Layout}
+use Rattle.mv_refine_commits.specs.Tabled.{IsTabled}
+use Rattle.mv_refine_runs.specs.Behaves.{LoadsWhatIsOpen}
+use Rattle.mv_linker.specs.declared.parts.Parts.{Parts}
+use Rattle.mv_linker.specs.declared.parts.PartFunction.{PartFunction}
+use Rattle.mv_linker.specs.declared.parts.PartVariant.{PartVariant}
+use Rattle.mv_linker.specs.Linked.{codes, function_variants, variant_codes}
+use Rattle.mv_linker.specs.Tables.{variant_rows}
+use Rattle.mv_parts.proofs.Lists.{map_at, some_at, some_same}
+use Rattle.mv_parts.proofs.Numbers as numbered
+use Rattle.mv_refine_images.specs.Built.{HasWordsOfGlobals, IsBuilt}
+use Rattle.mv_refine_images.specs.Closed.{is_closed_to_variant, is_closed_to_variants_of, closed_to_codes, is_data_of, is_data_among, is_data_where, is_word_of, is_closed_from, is_closed_beside, closed}
+use Rattle.mv_refine_images.specs.Layouts.{address_of, layout_of}
+use Rattle.mv_refine_images.specs.Own.{IsOwnSwitch, IsVariantWord, HasVariantCode, LoadsNoOwnSwitch}
+use Rattle.mv_refine_images.proofs.Data.{as_many}
+use Rattle.mv_refine_images.proofs.Facts.{Laws}
+use Rattle.mv_refine_images.proofs.Host.{tables}
+use Rattle.mv_refine_images.proofs.Listed.{rows_count, test_of_variant, variants_of}
+
+-- ---- tests that hold
+
+later : (b c : Bool) → c ≡ true → (b || c) ≡ true
+later true c h = refl
+later false c h = h
+
+first : (b c : Bool) → b ≡ true → (b || c) ≡ true
+first b c h = ap (λ d. d || c) h
+
+-- a test holds of an address in the data words of a global that passes it
+in_data : (y : Layout) (test : ℕ → Bool) (x a : ℕ) → (is_data_of y x a && test x) ≡ true → (count : ℕ) → x < count → is_data_among y test count a ≡ true
+in_data y test x a h zero lt = absurd (omega (arith, lt))
+in_data y test x a h (suc c) lt = ⊎_elim
+    (λ (e : x ≡ c). first (is_data_of y c a && test c) (is_data_among y test c a) (subst (λ z. (is_data_of y z a && test z) ≡ true) e h))
+    (λ (ne : x ≡ c → ⊥). later (is_data_of y c a && test c) (is_data_among y test c a) (in_data y test x a h c (less ne)))
+    (cases_eq x c)
+  where
+    less : (x ≡ c → ⊥) → x < c
+    less ne = grind (arith, lt, ne)
+
+-- an element is among what its list is mapped to
+is_mapped : (f : ℕ → ℕ) (ss : List ℕ) (i s : ℕ) → slice_get ss i ≡ Some s → is_among (f s) (map f ss) ≡ true
+is_mapped f [] i s e = absurd (cc e)
+is_mapped f (z ∷ ss) zero s e = let same : z ≡ s = some_same z s e in first (nat_eq (f s) (f z)) (is_among (f s) (map f ss)) (eq-eqb (f s) (f z) (ap f (sym same)))
+is_mapped f (z ∷ ss) (suc i) s e = later (nat_eq (f s) (f z)) (is_among (f s) (map f ss)) (is_mapped f ss i s e)
+
+-- the address of a variant's row is that of its code
+row_at : (address : ℕ → ℕ) (vs : List PartVariant) (number k : ℕ) (row : VariantRow) → slice_get (variant_rows address number vs) k ≡ Some row → row.address ≡ address (number + k)
+row_at address [] number k row e = absurd (cc e)
+row_at address (v ∷ vs) number zero row e =
+    let none : number ≡ number + 0 = omega arith in ap (λ (r : VariantRow). r.address) (sym (some_same _ row e)) ∙ ap address none
+row_at address (v ∷ vs) number (suc k) row e =
+    let one : suc number + k ≡ number + suc k = omega arith in row_at address vs (suc number) k row e ∙ ap address one
+
+rows_many : (address : ℕ → ℕ) (vs : List PartVariant) (number : ℕ) → length (variant_rows address number vs) ≡ length vs
+rows_many address [] number = refl
+rows_many address (v ∷ vs) number = ap suc (rows_many address vs (suc number))
+
+-- instructions stand at multiples of 4
+aligned : (h : Held) (pc word : ℕ) → Contains (choices h pc) word → eqb (pc % 4) 0 ≡ true
+unfolding choices
+aligned h pc word has = by (eqb (pc % 4) 0) refl has
+  where
+    by : (b : Bool) → eqb (pc % 4) 0 ≡ b → Contains (cond b (choices_in h (region_of pc) (index_of pc)) []) word → eqb (pc % 4) 0 ≡ true
+    by true e k = e
+    by false e k = absurd (none k)
+      where
+        none : Contains [] word → ⊥
+        none c = let lt = c.1 in omega (arith, lt)
+
+not_both : false ≡ true → ⊥
+not_both e = cc
+
+module _ (laws : Laws) (p : Program) (image : Fields) (formed : IsWellFormed p) (have_words : HasWordsOfGlobals p) (built : IsBuilt p image) where
+  abbrev parts : Parts
+  parts = built.parts
+
+  abbrev sizing : List ℕ
+  sizing = built.linked.sizing
+
+  abbrev y : Layout
+  y = layout_of parts sizing p
+
+  abbrev at : ℕ → ℕ
+  at = address_of parts sizing
+
+  abbrev shut : (pc address : ℕ) → Bool
+  shut = closed image parts sizing p
+
+  tabled : IsTabled p y image
+  tabled = (tables laws p image formed have_words built).tabled y (λ x. refl) (λ x. refl)
+
+  -- the function of a number
+  function_at : (n a : ℕ) → IsOwnSwitch image n a → (g : Function) × (slice_get (attributed_functions p) n ≡ Some g)
+  function_at n a o =
+      let lt = slice_get_within image.functions n o.function o.there in
+      let same = tabled.functions in some_at (attributed_functions p) n (omega (arith, lt, same))
+
+  -- ---- its switches are closed to its variants
+
+  a_global : (x : ℕ) → 0 < y.size x → x < length p.globals
+  a_global x some = by (slice_get p.globals x) refl some
+    where
+      by : (o : Option Global) → slice_get p.globals x ≡ o → 0 < words_of_global o → x < length p.globals
+      by None e h = absurd (omega (arith, h))
+      by (Some g) e h = slice_get_within p.globals x g e
+
+  own_closed : (n a : ℕ) (o : IsOwnSwitch image n a) (g : Function) → slice_get (attributed_functions p) n ≡ Some g → is_data_where image parts sizing p (is_closed_to_variant p g) a ≡ true
+  own_closed n a o g here =
+      let lt = slice_get_within image.switches o.number o.switch o.is_switch in
+      let same = tabled.switches in
+      let s = some_at p.switches o.number (omega (arith, lt, same)) in
+      let x = s.0.global in
+      let number : slice_get g.switches o.place ≡ Some o.number = ap (λ (l : List ℕ). slice_get l o.place) (sym (tabled.function n g o.function here o.there)) ∙ o.is_own in
+      let is : switch_global p o.number ≡ x = ap global_or_none s.1 in
+      let among : is_among x (lower_function p g).switches ≡ true = subst (λ z. is_among z (map (switch_global p) g.switches) ≡ true) is (is_mapped (switch_global p) g.switches o.place o.number number) in
+      let place = tabled.switch o.number s.0 o.switch s.1 o.is_switch in
+      let some = tabled.sizes o.number s.0 s.1 in
+      let from = o.from in let to = o.to in
+      let inside : is_data_of y x a ≡ true =
+      and_from (leb (y.place x) a) (ltb a (y.place x + 4 * y.size x)) (le-leb (y.place x) a (omega (arith, from, place))) (lt-ltb a (y.place x + 4 * y.size x) (omega (arith, to, place, some))) in
+      in_data y (is_closed_to_variant p g) x a (and_from (is_data_of y x a) (is_closed_to_variant p g x) inside (first (is_among x (lower_function p g).switches) _ among)) (length p.globals) (a_global x some)
+
+  -- ---- code of its variants
+
+  from_closed : (tests : List (ℕ → Bool)) (f k pc a : ℕ) (test : ℕ → Bool) → slice_get tests k ≡ Some test → is_word_of image parts sizing p (f + k) pc ≡ true →
+      is_data_where image parts sizing p test a ≡ true → is_closed_from image parts sizing p f tests pc a ≡ true
+  from_closed [] f k pc a test e word holds = absurd (cc e)
+  from_closed (t ∷ tests) f zero pc a test e word holds =
+      let same : t ≡ test = some_same t test e in
+      let none : f + 0 ≡ f = omega arith in
+      first (is_word_of image parts sizing p f pc && is_data_where image parts sizing p t a) (is_closed_from image parts sizing p (suc f) tests pc a)
+      (and_from (is_word_of image parts sizing p f pc) (is_data_where image parts sizing p t a) (subst (λ z. is_word_of image parts sizing p z pc ≡ true) none word)
+      (subst (λ (u : ℕ → Bool). is_data_where image parts sizing p u a ≡ true) (sym same) holds))
+  from_closed (t ∷ tests) f (suc k) pc a test e word holds =
+      let one : f + suc k ≡ suc f + k = omega arith in
+      later (is_word_of image parts sizing p f pc && is_data_where image parts sizing p t a) (is_closed_from image parts sizing p (suc f) tests pc a)
+      (from_closed tests (suc f) k pc a test e (subst (λ z. is_word_of image parts sizing p z pc ≡ true) one word) holds)
+
+  module _ (n a pc : ℕ) (o : IsOwnSwitch image n a) where
+    abbrev g : Function
+    g = (function_at n a o).0
+
+    abbrev here : slice_get (attributed_functions p) n ≡ Some g
+    here = (function_at n a o).1
+
+    site_closed : (site : SiteRow) → site.function ≡ n → is_data_where image parts sizing p (is_closed_to_variants_of p (slice_get (attributed_functions p) site.function)) a ≡ true
+    site_closed site is =
+        ap (λ (t : Option Function). is_data_where image parts sizing p (is_closed_to_variants_of p t) a) (ap (slice_get (attributed_functions p)) is ∙ here) ∙ own_closed n a o g here
+
+    module _ (v : IsVariantWord image n pc) where
+      variants_are : image.variants ≡ variant_rows at (length parts.functions) (function_variants parts.attributed)
+      variants_are = ap (λ (i : Fields). i.variants) built.linked.image_is
+
+      before_is : (m : ℕ) → variants_before image m ≡ variants_of (take m parts.attributed)
+      before_is m = ap (λ (i : Fields). variants_before i m) built.linked.image_is ∙ rows_count at parts.attributed m
+
+      part : (b : PartFunction) × (slice_get parts.attributed n ≡ Some b)
+      part =
+          let lt = slice_get_within image.functions n o.function o.there in
+          let count : length image.functions ≡ length parts.attributed = ap (λ (i : Fields). length i.functions) built.linked.image_is ∙ length-map parts.attributed _ in
+          some_at parts.attributed n (omega (arith, lt, count))
+
+      -- its place among the function's own
+      j : ℕ
+      j = v.variant - variants_of (take n parts.attributed)
+
+      counted : variants_of (take (n + 1) parts.attributed) ≡ variants_of (take n parts.attributed) + length part.0.variants
+      counted =
+          sum_by_more (λ (b : PartFunction). length b.variants) parts.attributed n part.0 (slice_get_within parts.attributed n part.0 part.1)
+          ∙ ap (λ (b : PartFunction). variants_of (take n parts.attributed) + length b.variants) (get_or_from_slice_get parts.attributed n part.0 part.0 part.1)
+
+      variant : (w : PartVariant) × (slice_get part.0.variants j ≡ Some w)
+      unfolding j
+      variant =
+          let from = v.from in let to = v.to in
+          let low = before_is n in let high = before_is (n + 1) in
+          some_at part.0.variants (v.variant - variants_of (take n parts.attributed)) (omega (arith, from, to, low, high, counted))
+
+      abbrev number : ℕ
+      number = length parts.functions + variants_of (take n parts.attributed) + j
+
+      number_is : number ≡ length parts.functions + v.variant
+      unfolding j
+      number_is = let from = v.from in let low = before_is n in omega (arith, from, low)
+
+      address_is : (k : ℕ) (row : VariantRow) → slice_get image.variants k ≡ Some row → row.address ≡ at (length parts.functions + k)
+      address_is k row e =
+          row_at at (function_variants parts.attributed) (length parts.functions) k row (ap (λ (rows : List VariantRow). slice_get rows k) (sym variants_are) ∙ e)
+
+      many : length (codes parts) ≡ length parts.functions + length image.variants
+      many =
+          length-append parts.functions (variant_codes (function_variants parts.attributed))
+          ∙ ap (λ c. length parts.functions + c) (length-map (function_variants parts.attributed) (λ (w : PartVariant). w.code)
+          ∙ sym (rows_many at (function_variants parts.attributed) (length parts.functions)) ∙ ap length (sym variants_are))
+
+      abbrev last : Bool
+      last = eqb (suc (length parts.functions + v.variant)) (length (codes parts))
+
+      abbrev below : Bool
+      below = ltb pc (at (suc (length parts.functions + v.variant)))
+
+      ends : (v.variant + 1 < length image.variants) ⊎ (length image.variants ≤ v.variant + 1) → (last || below) ≡ true
+      ends (inl more) =
+          let next = some_at image.variants (v.variant + 1) more in
+          let address = address_is (v.variant + 1) next.0 next.1 in
+          let same : length parts.functions + (v.variant + 1) ≡ suc (length parts.functions + v.variant) = omega arith in
+          let behind = v.ends next.0 next.1 in
+          later last below (lt-ltb pc (at (suc (length parts.functions + v.variant))) (subst (λ z. pc < z) (address ∙ ap at same) behind))
+      ends (inr end) =
+          let lt = slice_get_within image.variants v.variant v.row v.there in
+          let count = many in
+          first last below (eq-eqb (suc (length parts.functions + v.variant)) (length (codes parts)) (omega (arith, end, lt, count)))
+
+      is_its_word : is_word_of image parts sizing p (length parts.functions + v.variant) pc ≡ true
+      is_its_word =
+          let begins = v.begins in
+          let address = address_is v.variant v.row v.there in
+          and_from (leb (at (length parts.functions + v.variant)) pc) (last || below) (le-leb (at (length parts.functions + v.variant)) pc (omega (arith, begins, address)))
+          (ends (cases_lt (v.variant + 1) (length image.variants)))
+
+      -- the function of its number is the n-th attributed one
+      function_is : slice_get p.functions part.0.function ≡ Some g
+      function_is =
+          let number : slice_get _ n ≡ Some part.0.function = ap (λ (ns : List ℕ). slice_get ns n) (sym built.are.codes.variants.numbers) ∙ map_at (λ (b : PartFunction). b.function) parts.attributed n part.0 part.1 in
+          let h = numbered.attributed_at p n part.0.function number in
+          let place = numbered.place_of p n part.0.function number in
+          let nth = attributed_at p.functions part.0.function h.function h.there h.attributed in
+          let same : h.function ≡ g = some_same h.function g (sym nth ∙ ap (slice_get (attributed_functions p)) place ∙ here) in
+          h.there ∙ ap Some same
+
+      word_closed : is_closed_from image parts sizing p 0 (closed_to_codes p parts) pc a ≡ true
+      word_closed =
+          let test = test_of_variant p parts (as_many laws p image formed have_words built) n j part.0.function g part.0 variant.0 part.1 variant.1 refl function_is in
+          let none_more : length parts.functions + v.variant ≡ 0 + number = omega (arith, number_is) in
+          from_closed (closed_to_codes p parts) 0 number pc a (is_closed_to_variant p g) test (subst (λ z. is_word_of image parts sizing p z pc ≡ true) none_more is_its_word) (own_closed n a o g here)
+
+    beside_closed : (s t : Option SiteRow) → HasVariantCode image n s t pc → is_closed_beside image parts sizing p s t pc a ≡ true
+    beside_closed (Some site) t h = site_closed site h
+    beside_closed None (Some site) h = site_closed site h
+    beside_closed None None v = word_closed v
+
+  pub no_own_switch : (bytes : List ℕ) (actions : List Action) (picks : List ℕ) → LoadsWhatIsOpen image shut bytes actions picks → LoadsNoOwnSwitch image bytes actions picks
+  no_own_switch bytes actions picks opens t a going word has loads n code own =
+      let s : State = runs image (bytes_to_come bytes) actions picks t in
+      let closed_there : closed image parts sizing p s.pc a ≡ true =
+      and_from (eqb (s.pc % 4) 0) (is_closed_beside image parts sizing p (site_at image s.pc) (site_before image s.pc) s.pc a) (aligned s.room.held s.pc word has)
+      (beside_closed n a s.pc own (site_at image s.pc) (site_before image s.pc) code) in
+      not_both (sym (opens t a going word has loads) ∙ closed_there)

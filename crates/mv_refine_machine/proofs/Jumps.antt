@@ -1,0 +1,46 @@
+-- The jumps that a plan puts into text are JAL.
+use Rattle.std.proofs.Common.{◌≡◌, ℕ, ◌+◌, ◌-◌, ◌*◌, ◌/◌, ◌%◌, ◌^◌, ◌<◌, Option, Some, pos, ◌+ℤ◌, unsigned_abs, refl, sym, ap, ◌∙◌, arith}
+use Rattle.std.proofs.lemmas.Int.{ints, int_rem_euclid_is}
+use Rattle.mv_isa.specs.declared.instr.Instr.TheVariants.{Jal}
+use Rattle.mv_isa.specs.Formats.{low_in, i_word, j_word}
+use Rattle.mv_isa.specs.Encoding.{encode, IsOffset}
+use Rattle.mv_isa.specs.Code.{IsPlace, distance, nop}
+use Rattle.mv_isa.specs.Standing.{InstrStands}
+use Rattle.mv_image.specs.Jumps as image
+use Rattle.mv_refine_machine.specs.Laws.{IsWordOf, BoundWordsAreInstructions}
+
+low_distance : (from to : ℕ) → IsPlace from → IsPlace to → low_in (2 ^ 21) (distance from to) ≡ image.distance from to
+unfolding low_in
+low_distance from to p q =
+    let ends = p.1 in
+    let e : distance from to +ℤ pos (1 * 2 ^ 21) ≡ pos (to + 2 ^ 21 - from) = omega (arith, ints, ends) in
+    ap unsigned_abs (int_rem_euclid_is (distance from to) (pos (2 ^ 21)) (2 ^ 21) 1 (to + 2 ^ 21 - from) (omega arith) refl e)
+
+jal_is : (rd : ℕ) (x : ℕ) → x < 2 ^ 21 → 0x6f + rd * 2 ^ 7 + x / 2 ^ 12 % 2 ^ 8 * 2 ^ 12 + x / 2 ^ 11 % 2 * 2 ^ 20 + x / 2 % 2 ^ 10 * 2 ^ 21 + x / 2 ^ 20 * 2 ^ 31 ≡ image.jal_word rd x
+jal_is rd x h = omega (arith, h)
+
+jump_is : (rd from to : ℕ) → IsPlace from → IsPlace to → image.jump rd from to ≡ encode (Jal rd (distance from to))
+unfolding image.jump encode j_word
+jump_is rd from to p q =
+    let same = low_distance from to p q in
+    sym (ap (λ x. 0x6f + rd * 2 ^ 7 + x / 2 ^ 12 % 2 ^ 8 * 2 ^ 12 + x / 2 ^ 11 % 2 * 2 ^ 20 + x / 2 % 2 ^ 10 * 2 ^ 21 + x / 2 ^ 20 * 2 ^ 31) same ∙ jal_is rd (image.distance from to) (omega arith))
+
+offset_fits : (from to : ℕ) → IsPlace from → IsPlace to → IsOffset (2 ^ 20) (distance from to)
+offset_fits from to p q =
+    let starts = p.0 in let ends = p.1 in let even = p.2 in
+    let starts' = q.0 in let ends' = q.1 in let even' = q.2 in
+    ((omega (arith, ints, starts, ends, starts', ends'), omega (arith, ints, starts, ends, starts', ends')), omega (arith, ints, even, even'))
+
+-- a jump of the plan stands as one of code does
+pub jump_stands : (text : ℕ → Option ℕ) (rd from to : ℕ) → rd < 32 → IsPlace from → IsPlace to → text from ≡ Some (image.jump rd from to) → InstrStands text from (Jal rd (distance from to))
+jump_stands text rd from to r p q e = record { fields = (r, offset_fits from to p q); word = e ∙ ap Some (jump_is rd from to p q) }
+
+nop_is : IsWordOf image.nop nop
+unfolding encode i_word low_in
+nop_is = ((omega arith, omega arith, (omega (arith, ints), omega (arith, ints))), refl)
+
+pub nop_stands : (text : ℕ → Option ℕ) (a : ℕ) → text a ≡ Some image.nop → InstrStands text a nop
+nop_stands text a e = record { fields = nop_is.0; word = e ∙ ap Some nop_is.1 }
+
+pub bound_words : BoundWordsAreInstructions
+bound_words = record { jumps = λ rd from to r p q. ((r, offset_fits from to p q), jump_is rd from to p q); fills = nop_is }

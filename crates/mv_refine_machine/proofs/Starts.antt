@@ -1,0 +1,64 @@
+-- A run begins in calm.
+use Rattle.std.proofs.Common.{◌≡◌, ℕ, zero, suc, ◌+◌, true, List, [], ◌∷◌, length, replicate, None, refl, sym, ap, ap₂, ◌∙◌}
+use Rattle.std.proofs.lemmas.List.{length-replicate}
+use Rattle.mv_ast.specs.declared.world.Action.{Action}
+use Rattle.mv_ast.specs.Plans.{free}
+use Rattle.mv_fetch.specs.Held.{older_at, zeros, first as first_memory}
+use Rattle.mv_image.specs.Spelling.{Fields}
+use Rattle.mv_image.specs.Patched.{Bindings, words_under, text_of}
+use Rattle.mv_ir.specs.World.{World}
+use Rattle.mv_machine.specs.Runs.{bytes_to_come, first, runs}
+use Rattle.mv_machine.proofs.Turns.{runs_none}
+use Rattle.mv_refine_machine.specs.Calm.{stack_words, IsCalm, is_calm}
+use Rattle.mv_patch.specs.Orders.{values_of}
+use Rattle.mv_refine_machine.specs.MachineRuns.{rest_of}
+use Rattle.mv_refine_machine.specs.Laws.{IsFirst}
+use Rattle.mv_refine_machine.proofs.Calming.{calm_tested}
+use Rattle.mv_refine_machine.proofs.Fetches.{free_under}
+
+-- ---- where all functions are free, the image's text stands
+
+abbrev AreFree : Bindings → Type 0
+AreFree bound = (function : ℕ) → bound function ≡ None
+
+free_words : (image : Fields) (bound : Bindings) (a : ℕ) (words : List ℕ) → AreFree bound → words_under image bound a words ≡ words
+unfolding words_under
+free_words image bound a [] are = refl
+free_words image bound a (word ∷ words) are =
+    ap₂ (λ (x : ℕ) (xs : List ℕ). x ∷ xs) (free_under image bound a word (λ function shows. are function)) (free_words image bound (a + 4) words are)
+
+free_text : (image : Fields) (bound : Bindings) → AreFree bound → text_of image bound ≡ image.text
+unfolding text_of
+free_text image bound are = free_words image bound 4096 image.text are
+
+none_bound : (n : ℕ) → AreFree (values_of (replicate n free))
+none_bound zero function = refl
+none_bound (suc n) zero = refl
+none_bound (suc n) (suc function) = none_bound n function
+
+none_older : (n k : ℕ) → older_at (replicate n []) k ≡ []
+none_older zero k = refl
+none_older (suc n) zero = refl
+none_older (suc n) (suc k) = none_older n k
+
+zeros_count : (n : ℕ) → length (zeros n) ≡ n
+unfolding zeros
+zeros_count n = length-replicate n 0
+
+first_calm : (image : Fields) (input : List ℕ) (actions : List Action) (w : World) → IsFirst image input w → IsCalm image w (rest_of (first image (bytes_to_come input) actions))
+unfolding first first_memory
+first_calm image input actions w h = record {
+  goes_on = refl;
+  text = sym (free_text image (values_of (replicate (length image.functions) free)) (none_bound (length image.functions)));
+  no_older = none_older (length image.text);
+  stack = zeros_count stack_words;
+  input = ap bytes_to_come (sym h.input);
+  output = sym h.output;
+  bindings = sym h.bindings;
+  log = sym h.log;
+}
+
+pub run_begins : (image : Fields) (input : List ℕ) (actions : List Action) (picks : List ℕ) (w : World) → IsFirst image input w → is_calm image w (rest_of (runs image (bytes_to_come input) actions picks 0)) ≡ true
+run_begins image input actions picks w h =
+    let start = first image (bytes_to_come input) actions in
+    ap (λ s. is_calm image w (rest_of s)) (runs_none start picks) ∙ calm_tested image w (rest_of start) (first_calm image input actions w h)

@@ -1,0 +1,104 @@
+-- What the run of an image does, by what a program means.
+use Rattle.std.specs.Prelude.{ℕ, ◌≡◌, ◌≢◌, ◌+◌, ◌-◌, ◌*◌, ◌^◌, ◌<◌, ◌≤◌, Bool, false, IsTrue, List, [], length, replicate, All, Option, Some, None, option_and_then, Contains}
+use Rattle.mv_ast.specs.declared.world.Action.{Action}
+use Rattle.mv_ast.specs.declared.world.Binding.{Binding}
+use Rattle.mv_ast.specs.declared.program.Program.{Program}
+use Rattle.mv_ast.specs.Actions.{fits}
+use Rattle.mv_fetch.specs.Held.{choices}
+use Rattle.mv_image.specs.Patched.{text_of}
+use Rattle.mv_image.specs.Spelling.{Fields}
+use Rattle.mv_isa.specs.Encoding.{decode}
+use Rattle.mv_select_functions.specs.Loads.{loads_from}
+use Rattle.mv_patch.specs.declared.prepared.Pair.{Pair}
+use Rattle.mv_patch.specs.Orders.{plan_between, values_of}
+use Rattle.mv_machine.specs.Commits.{commit_from}
+use Rattle.mv_machine.specs.Runs.{State, Stop, Going, Exit, Trap, Fault, bytes_to_come, choices_at, first, runs}
+use Rattle.mv_machine.specs.Snapshots.{WantsMemory}
+use Rattle.mv_meaning.specs.declared.meant.End.{End}
+use Rattle.mv_meaning.specs.declared.meant.End.TheVariants as source
+use Rattle.mv_meaning.specs.declared.meant.Meant.{Meant}
+use Rattle.mv_meaning.specs.Growth.{Begins}
+use Rattle.mv_meaning.specs.Meaning.{mean}
+use Rattle.mv_refine_stores.specs.Between.{IsBetween}
+use Rattle.mv_refine_commits.specs.Tabled.{IsOfWord}
+
+-- how many bytes of an input a state has taken
+abbrev pub taken_of : (bytes : List ℕ) → State → ℕ
+taken_of bytes s = length bytes - length s.input
+
+-- what a state has written and logged is the beginning of what a meaning has, and it has taken no more
+pub record IsWithin (bytes : List ℕ) (s : State) (m : Meant) : Type 0 where
+  pub output : Begins s.output m.output
+  pub log : Begins s.log m.log
+  pub taken : taken_of bytes s ≤ m.taken
+
+-- a meaning has an end, and a state has done all that it does
+pub record IsWhole (bytes : List ℕ) (s : State) (m : Meant) (e : End) : Type 0 where
+  pub ending : m.«end» ≡ e
+  pub output : m.output ≡ s.output
+  pub taken : m.taken ≡ taken_of bytes s
+  pub bindings : m.bindings ≡ s.bindings
+  pub log : m.log ≡ s.log
+
+-- a state with this stop: where the run ended, it ended as the meaning does, and never with a fault
+abbrev pub EndsRight : (bytes : List ℕ) → State → Meant → Stop → Type 0
+EndsRight bytes s m Going = Unit {0}
+EndsRight bytes s m (Exit status) = IsWhole bytes s m (source.Exit status)
+EndsRight bytes s m (Trap code) = IsWhole bytes s m (source.Trap code)
+EndsRight bytes s m (Fault why) = ⊥
+
+-- a state has written and logged all that a meaning has, and has ended where that has
+pub record HasDone (s : State) (m : Meant) : Type 0 where
+  pub output : Begins m.output s.output
+  pub log : Begins m.log s.log
+  pub ended : (m.«end» ≡ source.More → ⊥) → s.stop ≡ Going → ⊥
+
+-- ---- text
+
+-- Text is that of an image under the present bindings, and of no word an older one may still be fetched.
+pub record IsTextSettled (image : Fields) (s : State) : Type 0 where
+  pub words : s.room.held.text ≡ text_of image (values_of s.bindings)
+  pub older : s.room.held.older ≡ replicate (length s.room.held.text) []
+
+-- While a commit is under way that began from some bindings: each word of text is that of the text under these alone, or, where they differ, that of the text
+-- under the present ones before it; and pc stands at no word that the commit changes, stored already or to come.
+pub record IsTextChanging (image : Fields) (old : List Binding) (s : State) : Type 0 where
+  pub words : IsBetween (text_of image (values_of old)) (text_of image (values_of s.bindings)) s.room.held
+  pub apart : All (λ (pair : Pair). pair.address ≢ s.pc) (plan_between image old s.bindings)
+
+-- ---- runs
+
+-- the bindings from which the commit began that is under way after n instructions of a run; none where none is under way
+abbrev pub commit_at : Fields → (bytes : List ℕ) → List Action → (picks : List ℕ) → (n : ℕ) → Option (List Binding)
+commit_at image bytes actions picks n = commit_from (first image (bytes_to_come bytes) actions) picks n
+
+-- The run of an image on an input, with some of the operator's actions and by any picks of the fetches, does what a program means with them. After n
+-- instructions it has done no more than the meaning at the bound n, and all of the meaning at each bound whose work is less than a hundredth of n. It ends
+-- only as the meaning does. Each fetch has one choice, so that no pick matters. Text is that of the bindings, but while a commit is under way, when it is
+-- between that of the bindings before and that of those behind it; no commit is under way in a run that has ended. No instruction wants memory, whatever
+-- is picked.
+pub record Behaves (p : Program) (image : Fields) (bytes : List ℕ) (actions : List Action) (picks : List ℕ) : Type 0 where
+  pub within : (n : ℕ) → IsWithin bytes (runs image (bytes_to_come bytes) actions picks n) (mean p bytes actions n)
+  pub ends : (n : ℕ) → EndsRight bytes (runs image (bytes_to_come bytes) actions picks n) (mean p bytes actions n) (runs image (bytes_to_come bytes) actions picks n).stop
+  pub does : (n k : ℕ) → 100 * (1 + (mean p bytes actions k).work) ≤ n → HasDone (runs image (bytes_to_come bytes) actions picks n) (mean p bytes actions k)
+  pub fetches : (n : ℕ) → (runs image (bytes_to_come bytes) actions picks n).stop ≡ Going → choices_at (runs image (bytes_to_come bytes) actions picks n) ≡ 1
+  pub settled : (n : ℕ) → commit_at image bytes actions picks n ≡ None → IsTextSettled image (runs image (bytes_to_come bytes) actions picks n)
+  pub between : (n : ℕ) (old : List Binding) → commit_at image bytes actions picks n ≡ Some old → IsTextChanging image old (runs image (bytes_to_come bytes) actions picks n)
+  pub over : (n : ℕ) → ((runs image (bytes_to_come bytes) actions picks n).stop ≡ Going → ⊥) → commit_at image bytes actions picks n ≡ None
+  pub roomy : (n pick : ℕ) → WantsMemory (runs image (bytes_to_come bytes) actions picks n) pick → ⊥
+
+-- where a word, read as an instruction, loads from, if it is a load
+abbrev pub word_loads : (regs : List ℕ) → ℕ → Option ℕ
+word_loads regs word = option_and_then (λ i. loads_from i regs) (decode word)
+
+-- No instruction of the run loads from an address that is closed to what stands at its place, whatever is picked.
+abbrev pub LoadsWhatIsOpen : Fields → (closed : (pc address : ℕ) → Bool) → (bytes : List ℕ) → List Action → (picks : List ℕ) → Type 0
+LoadsWhatIsOpen image closed bytes actions picks =
+    (n a : ℕ) → let s = runs image (bytes_to_come bytes) actions picks n in
+    s.stop ≡ Going → (word : ℕ) → Contains (choices s.room.held s.pc) word → word_loads s.regs word ≡ Some a → closed s.pc a ≡ false
+
+-- It does what the program means on each input of bytes, with any actions whose values are words and that fit the program, whatever is picked.
+abbrev pub BehavesAlways : Program → Fields → Type 0
+BehavesAlways p image =
+    (bytes : List ℕ) (actions : List Action) (picks : List ℕ) → All (λ b. b < 2 ^ 8) bytes → All IsOfWord actions → All (λ a. IsTrue (fits p a)) actions →
+    Behaves p image bytes actions picks

@@ -1,0 +1,165 @@
+-- Lines of stubs that a run walks.
+use Rattle.std.proofs.Common.{◌≡◌, inl, ℕ, ◌+◌, ◌^◌, ◌<◌, Bool, false, true, List, length, pos, Option, refl, sym, ap, ◌∙◌, subst, arith}
+use Rattle.mv_ast.specs.declared.world.Action.{Action}
+use Rattle.mv_num.specs.Words.{add}
+use Rattle.mv_isa.specs.declared.instr.Instr.{Instr}
+use Rattle.mv_isa.specs.declared.instr.Instr.TheVariants.{Addi, Ecall}
+use Rattle.mv_isa.specs.declared.labelled.Line.{Line}
+use Rattle.mv_isa.specs.declared.labelled.Line.TheVariants.{Word, Jump}
+use Rattle.mv_isa.specs.Execution.{Access, Goes, Calls, reg, put, step, execute}
+use Rattle.mv_image.specs.Spelling.{Fields}
+use Rattle.mv_ir.specs.declared.stm.Array.TheVariants as array
+use Rattle.mv_ir.specs.World.{World}
+use Rattle.mv_select_trees.specs.Straight.{Sets}
+use Rattle.mv_select_trees.proofs.Instructions.{addi_sets}
+use Rattle.mv_select_trees.proofs.Registers.{reg_zero, put_same, put_other}
+use Rattle.mv_select_trees.proofs.Words.{word_of_pos, add_zero}
+use Rattle.mv_isa.proofs.LineSteps.{line_runs}
+use Rattle.mv_select_statements.specs.Leads.{limited}
+use Rattle.mv_select_statements.specs.Frames.{Site, TempCell, Element, Kept}
+use Rattle.mv_select_statements.proofs.TreesFirst.{add_small}
+use Rattle.mv_select_control.specs.Placed.{IsPlaced, Placed}
+use Rattle.mv_select_control.specs.Runs.{Spot, Machine, outside, IsRun}
+use Rattle.mv_select_control.proofs.Walk as walk
+use Rattle.mv_select_control.proofs.Walk.{line_does, steps_on}
+use Rattle.mv_select_calls.specs.CallCode.{request_register}
+use Rattle.mv_select_slots.specs.Laws.{nothing}
+use Rattle.mv_refine_machine.specs.Calm.{Rest, IsCalm, is_calm}
+use Rattle.mv_refine_machine.specs.Calls.{AtCall}
+use Rattle.mv_refine_machine.specs.Layout.{OwnOutsideText}
+use Rattle.mv_refine_machine.specs.MachineRuns.{access, unpatched_word, machine_of, machine_text}
+use Rattle.mv_refine_machine.specs.Laws.{CalmIsTested, RunsAreRuns}
+use Rattle.mv_refine_stubs.specs.Stubs.{request_lines}
+use Rattle.mv_refine_stubs.specs.Ends.{ComesTo}
+
+-- a frame without cells
+abbrev pub no_frame : (ℕ → ℕ) → Site
+no_frame entry = record {
+  place = λ g. 0;
+  size = λ g. 0;
+  reach = nothing;
+  entry = entry;
+  may_ask = λ k. false;
+  temps = 0;
+  array_at = λ a. 0;
+  array_size = λ a. 0;
+  register = λ q. 0;
+  is_kept = λ b. false;
+  kept = λ b. 0;
+}
+
+pub none_inside : (entry : ℕ → ℕ) → OwnOutsideText (no_frame entry)
+none_inside entry (TempCell t) own h = absurd (omega (arith, h.1))
+none_inside entry (Element (array.Global g) i) own h = absurd (omega (arith, h))
+none_inside entry (Element (array.Local a) i) own h = absurd (omega (arith, h))
+none_inside entry (Kept b) own h = absurd own
+
+-- calm says nothing of the globals
+calm_outside : (image : Fields) (w : World) (m : Rest) → IsCalm image w m → IsCalm image (outside w) m
+calm_outside image w m h = record {
+  goes_on = h.goes_on;
+  text = h.text;
+  no_older = h.no_older;
+  stack = h.stack;
+  input = h.input;
+  output = h.output;
+  bindings = h.bindings;
+  log = h.log;
+}
+
+pub calm_inside : (image : Fields) (w : World) (m : Rest) → IsCalm image (outside w) m → IsCalm image w m
+calm_inside image w m h = record {
+  goes_on = h.goes_on;
+  text = h.text;
+  no_older = h.no_older;
+  stack = h.stack;
+  input = h.input;
+  output = h.output;
+  bindings = h.bindings;
+  log = h.log;
+}
+
+call_is : (regs : List ℕ) (pc : ℕ) (m : Rest) → execute access Ecall regs pc m ≡ Calls
+unfolding execute
+call_is regs pc m = refl
+
+module _ (tested : CalmIsTested) (are_runs : RunsAreRuns)
+    (attributed : List ℕ) (closed : (pc address : ℕ) → Bool) (image : Fields) (input : List (Option ℕ)) (actions : List Action) (picks : List ℕ) (place entry : ℕ → ℕ) where
+  abbrev pub machine : Machine Rest
+  machine = machine_of attributed closed image input actions picks
+
+  abbrev pub run : ℕ → Spot Rest
+  run = machine.run
+
+  pub ok : IsRun access (no_frame entry) machine
+  ok = are_runs attributed closed image input actions picks (no_frame entry) (none_inside entry) (λ pc a may. absurd cc)
+
+  -- it loads nothing
+  abbrev pub own : Access Rest
+  own = limited access (no_frame entry)
+
+  -- time t of the run stands at a place with these registers and this memory, in calm
+  abbrev pub At : World → ℕ → List ℕ → Rest → ℕ → Type 0
+  At = walk.Stands access (no_frame entry) machine ok place 0 0 0
+
+  abbrev pub One : ℕ → ℕ → Line → Type 0
+  One = IsPlaced (machine_text attributed image) place entry
+
+  pub comes : (pc i : ℕ) (w : World) → ComesTo closed image input actions picks pc w i → At w pc (run i).regs (run i).memory i
+  comes pc i w h = record {
+    is = ap (λ (a : ℕ). record (run i) { pc = a }) h.at;
+    calm = (tested image (outside w) (run i).memory).1 (calm_outside image w (run i).memory h.calm);
+    sound = h.sound;
+  }
+
+  calm_there : (w : World) (pc t : ℕ) (regs : List ℕ) (m : Rest) → At w pc regs m t → IsCalm image w (run t).memory
+  calm_there w pc t regs m a =
+      calm_inside image w (run t).memory ((tested image (outside w) (run t).memory).0 (subst (λ (x : Spot Rest). is_calm image (outside w) x.memory ≡ true) (sym a.is) a.calm))
+
+  pub count : (w : World) (pc t : ℕ) (regs : List ℕ) (m : Rest) → At w pc regs m t → length regs ≡ 32
+  count w pc t regs m a = subst (λ (x : Spot Rest). length x.regs ≡ 32) a.is (ok.registers t)
+
+  -- ---- lines
+
+  pub sets : (i : Instr) (w : World) (pc next t : ℕ) (regs regs' : List ℕ) (m : Rest) → Sets own m i regs regs' → One pc next (Word i) → At w pc regs m t → At w next regs' m (t + 1)
+  sets i w pc next t regs regs' m does p a =
+      let here = p.here in
+      let on : add pc 4 ≡ next = add_small pc 4 (omega (arith, here.1)) ∙ sym p.stands.1 in
+      steps_on access (no_frame entry) machine ok place 0 0 0 w pc next regs regs' m m t
+      (line_does access (no_frame entry) machine ok place 0 0 0 w pc next regs m t (Word i) p.stands p a ∙ does pc ∙ ap (λ z. Goes regs' z m) on) (inl refl) a
+
+  pub jumps : (rd l : ℕ) (w : World) (pc next t : ℕ) (regs : List ℕ) (m : Rest) → One pc next (Jump rd l) → At w pc regs m t → At w (place l) (put regs rd next) m (t + 1)
+  jumps rd l w pc next t regs m p a =
+      steps_on access (no_frame entry) machine ok place 0 0 0 w pc (place l) regs (put regs rd next) m m t
+      (line_does access (no_frame entry) machine ok place 0 0 0 w pc next regs m t (Jump rd l) p.stands p a) (inl refl) a
+
+  -- ---- environment calls
+
+  -- a number into a register
+  pub number_sets : (r n : ℕ) (regs : List ℕ) (m : Rest) → n < 2 ^ 32 → Sets own m (Addi r 0 (pos n)) regs (put regs r n)
+  number_sets r n regs m lt = addi_sets own m r 0 (pos n) regs 0 n n (reg_zero regs) (word_of_pos n lt) (add_zero n lt)
+
+  -- one instruction on, the run stands at an environment call, with the argument that it had
+  pub record Requests (number : ℕ) (w : World) (regs : List ℕ) (t : ℕ) : Type 0 where
+    pub call : AtCall image input actions picks number (t + 1) w
+    pub argument : reg (run (t + 1)).regs 10 ≡ reg regs 10
+    pub sound : (s : ℕ) → s < t + 1 → machine.is_sound (run s) ≡ true
+
+  pub requests : (number : ℕ) (w : World) (pc end t : ℕ) (regs : List ℕ) (m : Rest) → number < 2 ^ 32 → Placed (machine_text attributed image) place entry (request_lines number) pc end → At w pc regs m t
+      → Requests number w regs t
+  requests number w pc end t regs m lt p a =
+      let regs' = put regs request_register number in
+      let b : At w p.0 regs' m (t + 1) = sets (Addi request_register 0 (pos number)) w pc p.0 t regs regs' m (number_sets request_register number regs m lt) p.1 a in
+      let calls : step access (unpatched_word image p.0) regs' p.0 m ≡ Calls =
+      line_runs access m (unpatched_word image) place entry p.0 p.2.0 (Word Ecall) p.2.1.stands p.2.1.fits p.2.1.here p.2.1.there regs' (count w p.0 (t + 1) regs' m b) ∙ call_is regs' p.0 m in
+      let many = count w pc t regs m a in
+      let number_is : reg regs' request_register ≡ number = put_same regs request_register number (omega arith) (omega (arith, many)) in
+      let argument_is : reg regs' 10 ≡ reg regs 10 = put_other regs request_register 10 number (omega arith) (λ e. omega (arith, e)) in record {
+        call = record {
+          calm = calm_there w p.0 (t + 1) regs' m b;
+          calls = subst (λ (x : Spot Rest). step access (unpatched_word image x.pc) x.regs x.pc x.memory ≡ Calls) (sym b.is) calls;
+          asks = subst (λ (x : Spot Rest). reg x.regs request_register ≡ number) (sym b.is) number_is;
+        };
+        argument = subst (λ (x : Spot Rest). reg x.regs 10 ≡ reg regs 10) (sym b.is) argument_is;
+        sound = b.sound;
+      }

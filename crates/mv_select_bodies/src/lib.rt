@@ -1,0 +1,16 @@
+//! A well-formed body within the limits of selection is one that code can be selected for.
+//!
+//! - `bodies_are_small`: a well-formed body within these limits has at most 507 temporaries, and its code is what
+//!   `push_statements` asks for. `code_is_the_same`: the code that is written from a body's rooms is that which is
+//!   written from the program's layout. `rooms_stand`: rooms that each stand where the layout has their global are the
+//!   layout's. `bodies_are_functions`: a body whose rooms are the program's, whose constants are words, and which names
+//!   functions that there are, is one that `mv_select_functions`'s laws speak of; what its code reads and writes are the
+//!   globals that the body reads and writes, and none that is read as a bound value. `code_has_words` shows, by a walk
+//!   over code, that its constants are words.
+#![tactic(auto)]
+
+mod laws;
+mod words;
+
+pub use laws::{bodies_are_functions, bodies_are_small, code_is_the_same, rooms_stand};
+pub use words::code_has_words;

@@ -1,0 +1,109 @@
+-- The code of calls, of functions and of known functions.
+use Rattle.std.specs.Prelude.{ℕ, suc, Bool, cond, eqb, List, [], ◌∷◌, ◌++◌, pos, Option, Some, None}
+use Rattle.std.specs.List.{list_any}
+use Rattle.mv_ast.specs.declared.program.Known.{Known}
+use Rattle.mv_ast.specs.declared.program.Known.TheVariants.{Getchar, Putchar, Poll, Plan}
+use Rattle.mv_isa.specs.declared.instr.Instr.TheVariants.{Addi, Jalr, Ecall}
+use Rattle.mv_isa.specs.declared.labelled.Line.{Line}
+use Rattle.mv_isa.specs.declared.labelled.Line.TheVariants.{Word, Jump, Branch, Entry, Slot}
+use Rattle.mv_ir.specs.declared.tree.Tree.{Tree}
+use Rattle.mv_ir.specs.declared.stm.Callee.{Callee}
+use Rattle.mv_ir.specs.declared.stm.Callee.TheVariants as callee
+use Rattle.mv_select_trees.specs.TreeCode.{one, number_lines, minus_one, tree_lines}
+use Rattle.mv_select_statements.specs.StatementCode.{first, second, trap_label, write_temp}
+use Rattle.mv_select_control.specs.FlowCode.{CallLines}
+
+-- ra has the return address, s11 how many calls are left, s10 how many attributed frames are live, a7 the number of an environment call; t3 has what a
+-- call computes before it stands where it is to be
+abbrev pub link_register : ℕ
+link_register = 1
+
+abbrev pub left_register : ℕ
+left_register = 27
+
+abbrev pub live_register : ℕ
+live_register = 26
+
+abbrev pub request_register : ℕ
+request_register = 17
+
+abbrev pub scratch_register : ℕ
+scratch_register = 28
+
+-- the number of an environment call
+abbrev pub request_of : Known → ℕ
+request_of Getchar = 1
+request_of Putchar = 2
+request_of (Plan code index) = 4
+request_of Poll = 5
+
+-- the label of the stub that carries out orders and polls
+abbrev pub commit_label : ℕ
+commit_label = 4294967295
+
+-- the result of a call into its temporary, if it has one
+abbrev pub result_lines : Option ℕ → List Line
+result_lines None = []
+result_lines (Some t) = one (write_temp t first)
+
+-- ---- calls of functions
+
+-- one call less is left; trap 4 where none is
+abbrev pub guard_lines : List Line
+guard_lines = Branch 0 left_register 0 (trap_label 4) ∷ one (Addi left_register left_register minus_one)
+
+-- one call more is left again, and the result comes into its temporary
+abbrev pub back_lines : Option ℕ → List Line
+back_lines result = Word (Addi left_register left_register (pos 1)) ∷ result_lines result
+
+-- one call less is left for as long as some lines take
+abbrev pub guarded_lines : List Line → Option ℕ → List Line
+guarded_lines go result = guard_lines ++ (go ++ back_lines result)
+
+-- the functions that are attributed
+abbrev pub is_marked : List ℕ → ℕ → Bool
+is_marked marked f = list_any (λ m. eqb m f) marked
+
+abbrev pub slot_lines : ℕ → List Line
+slot_lines f = Slot f ∷ []
+
+-- a call to the address in t3
+abbrev pub jump_lines : List Line
+jump_lines = one (Jalr link_register scratch_register (pos 0))
+
+module _ (place : ℕ → ℕ) where
+  -- arguments into registers from one on, each by way of t3
+  abbrev pub argument_lines : ℕ → List Tree → List Line
+  argument_lines r [] = []
+  argument_lines r (t ∷ ts) = tree_lines place t scratch_register ++ (Word (Addi r scratch_register (pos 0)) ∷ argument_lines (suc r) ts)
+
+  -- A call of a function: of an attributed one by a slot; through a pointer, with trap 3 where it is null.
+  abbrev pub transfer_lines : (ℕ → Bool) → Callee → Option ℕ → List Line
+  transfer_lines is_attributed (callee.Direct f) result =
+      cond (is_attributed f) (guarded_lines (slot_lines f) result) (Entry scratch_register f ∷ guarded_lines jump_lines result)
+  transfer_lines is_attributed (callee.Through t) result =
+      tree_lines place t scratch_register ++ (Branch 0 scratch_register 0 (trap_label 3) ∷ guarded_lines jump_lines result)
+
+  abbrev pub call_lines : (ℕ → Bool) → Option ℕ → Callee → List Tree → List Line
+  call_lines is_attributed result f args = argument_lines first args ++ transfer_lines is_attributed f result
+
+-- ---- calls of known functions
+
+-- an order's code and what it addresses
+abbrev pub order_lines : Known → List Line
+order_lines (Plan code index) = Word (Addi first 0 (pos code)) ∷ number_lines index second
+order_lines _ = []
+
+-- Input and output are environment calls; orders and polls go to the stub.
+abbrev pub ask_lines : Known → List Line
+ask_lines Getchar = one Ecall
+ask_lines Putchar = one Ecall
+ask_lines _ = Jump link_register commit_label ∷ []
+
+abbrev pub known_lines : (ℕ → ℕ) → Option ℕ → Known → List Tree → List Line
+known_lines place result k args =
+    argument_lines place first args
+    ++ (order_lines k ++ (Word (Addi request_register 0 (pos (request_of k))) ∷ (ask_lines k ++ result_lines result)))
+
+abbrev pub calls_of : (ℕ → ℕ) → (ℕ → Bool) → CallLines
+calls_of place is_attributed = record { call = call_lines place is_attributed; known = known_lines place }

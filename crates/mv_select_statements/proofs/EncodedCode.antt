@@ -1,0 +1,124 @@
+-- The fields of the code of statements fit, and it has few words.
+use Rattle.std.proofs.Common.{inl, inr, ⊎_elim, ℕ, zero, suc, ◌+◌, ◌*◌, ◌<◌, ◌≤◌, cond, ltb, List, [], ◌∷◌, ◌++◌, pos, arith}
+use Rattle.std.proofs.lemmas.Bool.{cases_lt, lt-ltb, le-ltb}
+use Rattle.std.proofs.lemmas.List.Elements.{All-append, All-cons, All-nil}
+use Rattle.std.proofs.lemmas.List.Sums.{sum_by-append}
+use Rattle.mv_isa.specs.declared.instr.Instr.{Instr}
+use Rattle.mv_isa.specs.declared.instr.Instr.TheVariants.{Lui, Lw, Sw, Addi, Slli, Add}
+use Rattle.mv_isa.specs.declared.labelled.Line.{Line}
+use Rattle.mv_isa.specs.declared.labelled.Line.TheVariants.{Jump, Branch}
+use Rattle.mv_isa.specs.Encoding.{Fits, IsSigned}
+use Rattle.mv_isa.specs.Code.{LineFits, IsCondition, greatest_words}
+use Rattle.mv_ir.specs.declared.tree.Tree.{Tree}
+use Rattle.mv_ir.specs.Trees.{nodes}
+use Rattle.mv_select_trees.specs.TreeCode.{upper_bits, lower_bits, one, two, number_lines, temp_register, temp_offset, tree_lines}
+use Rattle.mv_select_trees.proofs.TreesAreShort.{number_size, trees_are_short}
+use Rattle.mv_select_trees.proofs.TreesFit.{one_fits, small_fits, lower_fits, upper_fits, count_fits, number_fits, register_below, trees_fit}
+use Rattle.mv_select_statements.specs.declared.elements.Home.{Home}
+use Rattle.mv_select_statements.specs.declared.elements.Home.TheVariants as home
+use Rattle.mv_select_statements.specs.StatementCode.{first, second, third, trap_label, write_temp, division, element_offset, element_lines, home_below, test_lines, bounds_lines, clear_lines}
+use Rattle.mv_select_statements.specs.Encoded.{IsCode, IsSmall, AreEncoded, StatementsAreEncoded}
+
+-- ---- parts put together
+
+pub both : (n k : ℕ) (a b : List Line) → IsCode n a → IsCode k b → IsCode (n + k) (a ++ b)
+both n k a b h l = (All-append LineFits a b h.0 l.0, omega (arith, h.1, l.1, sum_by-append greatest_words a b))
+
+pub wider : (n k : ℕ) (ls : List Line) → n ≤ k → IsCode n ls → IsCode k ls
+wider n k ls le h = (h.0, omega (arith, le, h.1))
+
+pub single : (i : Instr) → Fits i → IsCode 1 (one i)
+single i h = (one_fits i h, omega arith)
+
+pub pair : (i j : Instr) → Fits i → Fits j → IsCode 2 (two i j)
+pair i j h l = both 1 1 (one i) (one j) (single i h) (single j l)
+
+pub branch : (funct3 rs1 rs2 l : ℕ) → IsCondition funct3 → rs1 < 32 → rs2 < 32 → IsCode 2 (Branch funct3 rs1 rs2 l ∷ [])
+branch funct3 rs1 rs2 l c p q = (All-cons LineFits (Branch funct3 rs1 rs2 l) [] (c, p, q) (All-nil LineFits), omega arith)
+
+pub jump : (l : ℕ) → IsCode 1 (Jump 0 l ∷ [])
+jump l = (All-cons LineFits (Jump 0 l) [] (omega arith) (All-nil LineFits), omega arith)
+
+-- ---- parts of statements
+
+pub write_fits : (t r : ℕ) → t < 507 → r < 32 → Fits (write_temp t r)
+unfolding write_temp temp_offset
+write_fits t r lt h = ⊎_elim low high (cases_lt t 9)
+  where
+    low : t < 9 → Fits (cond (ltb t 9) (Addi (temp_register t) r (pos 0)) (Sw 2 r (pos (4 * (t + 1)))))
+    low small = rw (lt-ltb t 9 small) (register_below t small, h, small_fits 0 (omega arith))
+
+    high : 9 ≤ t → Fits (cond (ltb t 9) (Addi (temp_register t) r (pos 0)) (Sw 2 r (pos (4 * (t + 1)))))
+    high big = rw (le-ltb t 9 big) (omega arith, h, small_fits (4 * (t + 1)) (omega arith))
+
+division_fits : (o : ℕ) → Fits (division o)
+unfolding division
+division_fits zero = (omega arith, omega arith, omega arith)
+division_fits (suc zero) = (omega arith, omega arith, omega arith)
+division_fits (suc (suc zero)) = (omega arith, omega arith, omega arith)
+division_fits (suc (suc (suc zero))) = (omega arith, omega arith, omega arith)
+division_fits (suc (suc (suc (suc o)))) = (omega arith, omega arith, small_fits 0 (omega arith))
+
+offset_fits : (h : Home) → home_below h 2032 → IsSigned 2048 (element_offset h)
+offset_fits (home.Data at) b = lower_fits at
+offset_fits (home.Frame at) b = small_fits at (omega (arith, b))
+
+element_code : (h : Home) → IsCode 3 (element_lines h)
+element_code (home.Data at) =
+    both 1 2 (one (Slli first first (pos 2))) (two (Lui third (pos (upper_bits at))) (Add first first third))
+    (single (Slli first first (pos 2)) (omega arith, omega arith, count_fits 2 (omega arith)))
+    (pair (Lui third (pos (upper_bits at))) (Add first first third) (omega arith, upper_fits at) (omega arith, omega arith, omega arith))
+element_code (home.Frame at) =
+    wider 2 3 (element_lines (home.Frame at)) (omega arith)
+    (pair (Slli first first (pos 2)) (Add first first 2) (omega arith, omega arith, count_fits 2 (omega arith)) (omega arith, omega arith, omega arith))
+
+test_code : (size : ℕ) → IsCode 4 (test_lines size)
+test_code size =
+    both 2 2 (number_lines size third) (Branch 7 first third (trap_label 2) ∷ []) (number_fits size third (omega arith), number_size size third)
+    (branch 7 first third (trap_label 2) (inr (omega arith, omega arith)) (omega arith) (omega arith))
+
+bounds_code : (at n : ℕ) → at + 4 * n ≤ 2032 → IsCode 2 (bounds_lines at n)
+bounds_code at n h =
+    pair (Addi first 2 (pos at)) (Addi second 2 (pos (at + 4 * n))) (omega arith, omega arith, small_fits at (omega (arith, h))) (omega arith, omega arith, small_fits (at + 4 * n) (omega (arith, h)))
+
+clear_code : IsCode 2 clear_lines
+clear_code = pair (Sw first 0 (pos 0)) (Addi first first (pos 4)) (omega arith, omega arith, small_fits 0 (omega arith)) (omega arith, omega arith, small_fits 4 (omega arith))
+
+-- ---- statements
+
+module _ (place : ℕ → ℕ) where
+  pub tree_code : (v : Tree) (r : ℕ) → r ≤ 28 → IsSmall v → IsCode (2 * nodes v) (tree_lines place v r)
+  tree_code v r le h = (trees_fit place v r (omega (arith, h.0, le)) h.1, trees_are_short place v r)
+
+  pub are_encoded : AreEncoded place
+  are_encoded = record {
+    set = λ t v lt h. both (2 * nodes v) 1 (tree_lines place v first) (one (write_temp t first)) (tree_code v first (omega arith) h) (single (write_temp t first) (write_fits t first lt (omega arith)));
+    set_global = λ g v h. both (2 * nodes v) 2 (tree_lines place v first) (two (Lui second (pos (upper_bits (place g)))) (Sw second first (lower_bits (place g)))) (tree_code v first (omega arith) h)
+        (pair (Lui second (pos (upper_bits (place g)))) (Sw second first (lower_bits (place g))) (omega arith, upper_fits (place g)) (omega arith, omega arith, lower_fits (place g)));
+    divide = λ t o a b lt h l. both (2 * nodes a) (2 * nodes b + 4) (tree_lines place a first) (tree_lines place b second ++ (test ++ (two (division o) (write_temp t first)))) (tree_code a first (omega arith) h)
+        (both (2 * nodes b) 4 (tree_lines place b second) (test ++ (two (division o) (write_temp t first))) (tree_code b second (omega arith) l)
+        (both 2 2 test (two (division o) (write_temp t first)) (branch 0 second 0 (trap_label 1) (inl (omega arith)) (omega arith) (omega arith)) (pair (division o) (write_temp t first) (division_fits o) (write_fits t first lt (omega arith)))));
+    check = λ size i h. both (2 * nodes i) 4 (tree_lines place i first) (test_lines size) (tree_code i first (omega arith) h) (test_code size);
+    read = λ t size h i lt b l. both (2 * nodes i) 9 (tree_lines place i first) (test_lines size ++ (element_lines h ++ load t h)) (tree_code i first (omega arith) l)
+        (both 4 5 (test_lines size) (element_lines h ++ load t h) (test_code size)
+        (both 3 2 (element_lines h) (load t h) (element_code h) (pair (Lw first first (element_offset h)) (write_temp t first) (omega arith, omega arith, offset_fits h b) (write_fits t first lt (omega arith)))));
+    write = λ size h i v b l k. both (2 * nodes i) (2 * nodes v + 8) (tree_lines place i first) (tree_lines place v second ++ (test_lines size ++ (element_lines h ++ store h))) (tree_code i first (omega arith) l)
+        (both (2 * nodes v) 8 (tree_lines place v second) (test_lines size ++ (element_lines h ++ store h)) (tree_code v second (omega arith) k)
+        (both 4 4 (test_lines size) (element_lines h ++ store h) (test_code size)
+        (both 3 1 (element_lines h) (store h) (element_code h) (single (Sw first second (element_offset h)) (omega arith, omega arith, offset_fits h b)))));
+    bounds = bounds_code;
+    clear = clear_code;
+    returns = λ end v h. both (2 * nodes v) 1 (tree_lines place v first) (Jump 0 end ∷ []) (tree_code v first (omega arith) h) (jump end);
+  }
+    where
+      test : List Line
+      test = Branch 0 second 0 (trap_label 1) ∷ []
+
+      load : ℕ → Home → List Line
+      load t h = two (Lw first first (element_offset h)) (write_temp t first)
+
+      store : Home → List Line
+      store h = one (Sw first second (element_offset h))
+
+pub statements_are_encoded : StatementsAreEncoded
+statements_are_encoded = are_encoded

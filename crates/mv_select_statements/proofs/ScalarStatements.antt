@@ -1,0 +1,135 @@
+-- The code of the statements that store a value, divide and return.
+use Rattle.std.proofs.Common.{◌≡◌, inl, inr, ℕ, ◌+◌, ◌*◌, ◌^◌, ◌<◌, ◌≤◌, Bool, true, false, cond, eqb, List, [], ◌∷◌, ◌++◌, slice_set, pos, sum_by, refl, sym, ap, ◌∙◌, arith}
+use Rattle.std.proofs.lemmas.Bool.{eqb-true, eqb-false, eq-eqb, ne_eqb}
+use Rattle.mv_num.specs.Words.{word_of, add}
+use Rattle.mv_isa.specs.declared.instr.Instr.TheVariants.{Lui, Sw}
+use Rattle.mv_isa.specs.declared.labelled.Line.{Line}
+use Rattle.mv_isa.specs.declared.labelled.Line.TheVariants.{Jump, Branch}
+use Rattle.mv_isa.specs.Code.{greatest_words}
+use Rattle.mv_isa.specs.Execution.{Access, reg, put, upper}
+use Rattle.mv_ir.specs.declared.tree.Tree.{Tree}
+use Rattle.mv_ir.specs.declared.stm.Array.TheVariants as array
+use Rattle.mv_ir.specs.declared.stm.Stm.TheOpen as stm
+use Rattle.mv_ir.specs.World as ir
+use Rattle.mv_ir.specs.Outcome.{State, Next}
+use Rattle.mv_ir.specs.Trees.{nodes, divide}
+use Rattle.mv_ir.specs.Meaning.{of_tree, elements, with_temp, with_elements, traps}
+use Rattle.mv_select_trees.specs.TreeCode.{upper_bits, lower_bits, one, two, tree_lines}
+use Rattle.mv_select_trees.specs.View.{AreScratch}
+use Rattle.mv_select_trees.proofs.Instructions.{lui_sets}
+use Rattle.mv_select_trees.proofs.Registers.{reg_zero, put_same, put_other, changes_put}
+use Rattle.mv_select_trees.proofs.TreesAreShort.{trees_are_short}
+use Rattle.mv_select_trees.proofs.Words.{parts_add, upper_below}
+use Rattle.mv_select_statements.specs.StatementCode.{first, second, trap_label, write_temp, division, set_lines, set_global_lines, divide_lines, return_lines}
+use Rattle.mv_select_statements.specs.Leads.{Exit, Past, To, limited, Leads}
+use Rattle.mv_select_statements.specs.Frames.{Site, Element, IsWritten, address, IsFine, IsFit}
+use Rattle.mv_select_statements.specs.Laws.{Follows, Does}
+use Rattle.mv_select_statements.proofs.Divisions.{divide_below, division_sets}
+use Rattle.mv_select_statements.proofs.FrameChanges.{updates_element, frame_scratch}
+use Rattle.mv_select_statements.proofs.TreesFirst.{HasValue, tree_first, cell_written, temp_written}
+use Rattle.mv_select_statements.proofs.Walks.{leads_more, leads_straight, leads_one, leads_next}
+
+pub at_first : AreScratch first (first + 4)
+at_first = inl (omega arith, omega arith)
+
+pub at_second : AreScratch second (second + 4)
+at_second = inl (omega arith, omega arith)
+
+module _ {M : Type 0} (access : Access M) (s : Site) (setting : ir.Setting) (frame : ir.Frame) (fit : IsFit s access setting frame) where
+  abbrev L : List Line → ℕ → List ℕ → M → Exit → List ℕ → M → Type 0
+  L = Leads access s
+
+  abbrev V : Tree → State → ℕ
+  V = of_tree setting frame
+
+  abbrev Fine : Tree → Type 0
+  Fine = IsFine s setting frame
+
+  -- lines behind those of a tree, with the tree's cost
+  pub after_tree : (r : ℕ) (t : Tree) (ks : List Line) (n k : ℕ) (l : State) (regs : List ℕ) (m : M) (exit : Exit) (regs' : List ℕ) (m' : M) → n + 2 * nodes t ≤ k
+      → (x : HasValue access s setting frame fit r t l regs m) → L ks n x.after m exit regs' m' → L (tree_lines s.place t r ++ ks) k regs m exit regs' m'
+  after_tree r t ks n k l regs m exit regs' m' le x h =
+      let ls = tree_lines s.place t r in
+      leads_more access s (ls ++ ks) (sum_by greatest_words ls + n) k regs m exit regs' m' (omega (arith, trees_are_short s.place t r, le)) (leads_straight access s ls ks n regs x.after m exit regs' m' x.runs h)
+
+  pub set_done : (end t : ℕ) (v : Tree) → t < s.temps → Fine v → Does access s setting frame end (set_lines s.place t v) (stm.Set t v)
+  set_done end t v lt fine bound l regs m f =
+      let x = tree_first access s setting frame fit first v l regs m at_first fine f in
+      let w = temp_written access s setting frame fit t first (V v l) l x.after m lt x.below x.holds x.shown in
+      (w.after, w.memory, after_tree first v (one (write_temp t first)) 1 (8 + 3 * nodes v) l regs m Past w.after w.memory (omega arith) x (leads_one access s (write_temp t first) x.after m w.after w.memory w.moves), w.shown)
+
+  pub set_global_done : (end g : ℕ) (v : Tree) → 0 < s.size g → IsWritten s (array.Global g) → Fine v → Does access s setting frame end (set_global_lines s.place g v) (stm.SetGlobal g v)
+  set_global_done end g v lt may fine bound l regs m f =
+      let a = array.Global g in
+      let at = s.place g in
+      let x = tree_first access s setting frame fit first v l regs m at_first fine f in
+      let up = upper (pos (upper_bits at)) in
+      let mid = put x.after second up in
+      let below : at < 2 ^ 32 = omega (arith, fit.addresses (Element a 0) lt) in
+      let changes = changes_put 11 12 second up x.after x.shown.are (omega arith) (omega arith) (omega arith) (omega arith) (upper_below at) in
+      let shown = frame_scratch s access 11 12 l x.after mid m (inl (omega arith, omega arith)) changes x.shown in
+      let same : at ≡ address s (Element a 0) = omega arith in
+      let to : add (reg mid second) (word_of (lower_bits at)) ≡ address s (Element a 0) =
+      ap (λ z. add z (word_of (lower_bits at))) (put_same x.after second up (omega arith) (omega (arith, x.shown.are.count))) ∙ parts_add at below ∙ same in
+      let value : reg mid first ≡ V v l = put_other x.after second first up (omega arith) (λ e. omega arith) ∙ x.holds in
+      let l' = with_elements a l (slice_set (elements a l) 0 (V v l)) in
+      let w = cell_written access s setting frame fit second first (lower_bits at) (Element a 0) (V v l) l l' mid m to value x.below may lt (updates_element s l a 0 (V v l) (omega (arith, lt, f.sizes a))) shown in
+      let high = Lui second (pos (upper_bits at)) in
+      let store = Sw second first (lower_bits at) in (
+        w.after,
+        w.memory,
+        after_tree first v (two high store) (1 + 1) (8 + 3 * nodes v) l regs m Past w.after w.memory (omega arith) x
+            (leads_next access s high (one store) 1 x.after m mid m Past w.after w.memory (lui_sets (limited access s) m second (pos (upper_bits at)) x.after up refl, inl refl) (leads_one access s store mid m w.after w.memory w.moves)),
+        w.shown,
+      )
+
+  pub return_done : (end : ℕ) (v : Tree) → Fine v → Does access s setting frame end (return_lines s.place end v) (stm.Return v)
+  return_done end v fine bound l regs m f =
+      let x = tree_first access s setting frame fit first v l regs m at_first fine f in
+      (l, refl, (x.after, m, after_tree first v (Jump 0 end ∷ []) 1 (8 + 3 * nodes v) l regs m (To end) x.after m (omega arith) x (refl, omega arith, refl, (refl, refl)), x.shown, x.holds))
+
+  pub divide_done : (end t o : ℕ) (a b : Tree) → t < s.temps → Fine a → Fine b → Does access s setting frame end (divide_lines s.place t o a b) (stm.Divide t o a b)
+  divide_done end t o a b lt fa fb bound l regs m f = by_divisor (eqb (V b l) 0) refl
+    where
+      tail : List Line
+      tail = two (division o) (write_temp t first)
+
+      n : ℕ
+      n = 8 + 3 * (nodes a + nodes b)
+
+      x : HasValue access s setting frame fit first a l regs m
+      x = tree_first access s setting frame fit first a l regs m at_first fa f
+
+      y : HasValue access s setting frame fit second b l x.after m
+      y = tree_first access s setting frame fit second b l x.after m at_second fb x.shown
+
+      -- lines behind both trees
+      both : (k : ℕ) (exit : Exit) (regs' : List ℕ) (m' : M) → k ≤ 8 → L (Branch 0 second 0 (trap_label 1) ∷ tail) k y.after m exit regs' m' → L (divide_lines s.place t o a b) (8 + 3 * (nodes a + nodes b)) regs m exit regs' m'
+      both k exit regs' m' le h =
+          after_tree first a (tree_lines s.place b second ++ (Branch 0 second 0 (trap_label 1) ∷ tail)) (8 + 2 * nodes b) (8 + 3 * (nodes a + nodes b)) l regs m exit regs' m' (omega arith) x
+          (after_tree second b (Branch 0 second 0 (trap_label 1) ∷ tail) k (8 + 2 * nodes b) l x.after m exit regs' m' (omega arith) y h)
+
+      by_divisor : (d : Bool) → eqb (V b l) 0 ≡ d → Follows access s setting frame end (divide_lines s.place t o a b) (8 + 3 * (nodes a + nodes b)) regs m (cond d (traps 1 l) (Next (with_temp l t (divide o (V a l) (V b l)))))
+      by_divisor true is =
+          let holds : eqb (reg y.after second) (reg y.after 0) ≡ true = eq-eqb (reg y.after second) (reg y.after 0) (y.holds ∙ eqb-true (V b l) 0 is ∙ sym (reg_zero y.after)) in
+          (l, refl, (y.after, m, both 2 (To (trap_label 1)) y.after m (omega arith) (inl (holds, omega arith, refl, (refl, refl))), y.shown))
+      by_divisor false is =
+          let nonzero = eqb-false (V b l) 0 is in
+          let holds : eqb (reg y.after second) (reg y.after 0) ≡ false = ne_eqb (reg y.after second) (reg y.after 0) (λ e. nonzero (sym y.holds ∙ e ∙ reg_zero y.after)) in
+          let dividend : reg y.after first ≡ V a l = y.changes.others first (inl (omega arith)) ∙ x.holds in
+          let v = divide o (V a l) (V b l) in
+          let below = divide_below o (V a l) (V b l) nonzero x.below y.below in
+          let mid = put y.after first v in
+          let shown = frame_scratch s access 10 11 l y.after mid m (inl (omega arith, omega arith)) (changes_put 10 11 first v y.after y.shown.are (omega arith) (omega arith) (omega arith) (omega arith) below) y.shown in
+          let w = temp_written access s setting frame fit t first v l mid m lt below (put_same y.after first v (omega arith) (omega (arith, y.shown.are.count))) shown in (
+            w.after,
+            w.memory,
+            both 3 Past w.after w.memory (omega arith) (inr (
+              holds,
+              2,
+              omega arith,
+              leads_next access s (division o) (one (write_temp t first)) 1 y.after m mid m Past w.after w.memory (division_sets (limited access s) m o (V a l) (V b l) y.after nonzero dividend y.holds, inl refl)
+                  (leads_one access s (write_temp t first) mid m w.after w.memory w.moves),
+            )),
+            w.shown,
+          )

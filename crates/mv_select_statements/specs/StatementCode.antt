@@ -1,0 +1,90 @@
+-- The code of statements without control. Each tree of a statement is computed first, in written order.
+use Rattle.std.specs.Prelude.{ℕ, ◌+◌, ◌*◌, ◌≤◌, cond, ltb, List, [], ◌∷◌, ◌++◌, ℤ, pos, slice_index_or}
+use Rattle.mv_isa.specs.declared.instr.Instr.{Instr}
+use Rattle.mv_isa.specs.declared.instr.Instr.TheVariants.{Lui, Lw, Sw, Addi, Slli, Add, Div, Divu, Rem, Remu}
+use Rattle.mv_isa.specs.declared.labelled.Line.{Line}
+use Rattle.mv_isa.specs.declared.labelled.Line.TheVariants.{Word, Jump, Branch}
+use Rattle.mv_ir.specs.declared.tree.Tree.{Tree}
+use Rattle.mv_select_trees.specs.TreeCode.{upper_bits, lower_bits, one, two, number_lines, temp_register, temp_offset, tree_lines}
+use Rattle.mv_select_statements.specs.declared.elements.Home.{Home}
+use Rattle.mv_select_statements.specs.declared.elements.Home.TheVariants as home
+
+-- a0 has the first tree of a statement and its result, a1 the second tree, and a2 sizes and parts of addresses
+abbrev pub first : ℕ
+first = 10
+
+abbrev pub second : ℕ
+second = 11
+
+abbrev pub third : ℕ
+third = 12
+
+-- the label of the stub of a trap, 1 to 4
+abbrev pub trap_label : ℕ → ℕ
+trap_label c = 4294967289 + c
+
+-- a register into a temporary
+unfoldable pub write_temp : ℕ → ℕ → Instr
+write_temp t r = cond (ltb t 9) (Addi (temp_register t) r (pos 0)) (Sw 2 r (pos (temp_offset t)))
+
+-- a division of the first register by the second, by its number; one that names none gives 0
+unfoldable pub division : ℕ → Instr
+division o = slice_index_or (Div first first second ∷ Divu first first second ∷ Rem first first second ∷ Remu first first second ∷ []) o (Addi first 0 (pos 0))
+
+-- ---- elements: the place of one is its index times 4, and the place of the first
+
+-- the lower part of that place
+abbrev pub element_offset : Home → ℤ
+element_offset (home.Data at) = lower_bits at
+element_offset (home.Frame at) = pos at
+
+-- the rest of it, out of the index in the first register
+abbrev pub element_lines : Home → List Line
+element_lines (home.Data at) = Word (Slli first first (pos 2)) ∷ two (Lui third (pos (upper_bits at))) (Add first first third)
+element_lines (home.Frame at) = two (Slli first first (pos 2)) (Add first first 2)
+
+-- an array of the frame begins within so many bytes
+abbrev pub home_below : Home → ℕ → Type 0
+home_below (home.Data at) bytes = Unit {0}
+home_below (home.Frame at) bytes = at ≤ bytes
+
+-- trap 2 where the index in the first register isn't below the number of elements
+abbrev pub test_lines : ℕ → List Line
+test_lines size = number_lines size third ++ (Branch 7 first third (trap_label 2) ∷ [])
+
+-- the addresses of the first of so many words of the frame, from a place on, and of their end into the first two registers
+abbrev pub bounds_lines : ℕ → ℕ → List Line
+bounds_lines at n = two (Addi first 2 (pos at)) (Addi second 2 (pos (at + 4 * n)))
+
+-- the word at the address in the first register becomes 0, and the register goes on to the next word
+abbrev pub clear_lines : List Line
+clear_lines = two (Sw first 0 (pos 0)) (Addi first first (pos 4))
+
+-- ---- statements, given the address of each global
+
+module _ (place : ℕ → ℕ) where
+  abbrev pub set_lines : ℕ → Tree → List Line
+  set_lines t v = tree_lines place v first ++ one (write_temp t first)
+
+  abbrev pub set_global_lines : ℕ → Tree → List Line
+  set_global_lines g v = tree_lines place v first ++ two (Lui second (pos (upper_bits (place g)))) (Sw second first (lower_bits (place g)))
+
+  -- trap 1 where the divisor is 0
+  abbrev pub divide_lines : ℕ → ℕ → Tree → Tree → List Line
+  divide_lines t o a b =
+      tree_lines place a first ++ (tree_lines place b second ++ (Branch 0 second 0 (trap_label 1) ∷ two (division o) (write_temp t first)))
+
+  abbrev pub check_lines : ℕ → Tree → List Line
+  check_lines size i = tree_lines place i first ++ test_lines size
+
+  abbrev pub read_lines : ℕ → Home → ℕ → Tree → List Line
+  read_lines t h size i =
+      tree_lines place i first ++ (test_lines size ++ (element_lines h ++ two (Lw first first (element_offset h)) (write_temp t first)))
+
+  abbrev pub write_lines : Home → ℕ → Tree → Tree → List Line
+  write_lines h size i v =
+      tree_lines place i first ++ (tree_lines place v second ++ (test_lines size ++ (element_lines h ++ one (Sw first second (element_offset h)))))
+
+  -- to the label of the function's end
+  abbrev pub return_lines : ℕ → Tree → List Line
+  return_lines end v = tree_lines place v first ++ (Jump 0 end ∷ [])

@@ -1,0 +1,51 @@
+// Single instructions of statements.
+ghost use Rattle.std.specs.Prelude.{◌≡◌, ◌<◌};
+ghost use Rattle.mv_select_statements.specs.StatementCode.{write_temp, division};
+
+use mv_isa::Instr;
+use mv_select_trees::{temp_offset, temp_register};
+
+/// The register of a statement's first tree, a0, which is also that of its result.
+pub(crate) const FIRST: u8 = 10;
+/// That of its second tree, a1.
+pub(crate) const SECOND: u8 = 11;
+/// One more for addresses and sizes, a2.
+pub(crate) const THIRD: u8 = 12;
+
+/// The instruction that puts a register into a temporary.
+#[tactic(auto, unfolding(crate::specs::StatementCode::write_temp))]
+pub fn write_temp(temp: u32, register: u8) -> Instr
+    requires { temp < 507 }
+    ensures { result ≡ write_temp temp register }
+{
+    if temp < 9 {
+        Instr::Addi {
+            rd: temp_register(temp),
+            rs1: register,
+            imm: 0,
+        }
+    } else {
+        Instr::Sw {
+            rs1: 2,
+            rs2: register,
+            imm: temp_offset(temp),
+        }
+    }
+}
+
+// A division of the first register by the second.
+#[tactic(auto, using(crate::proofs::Equations::divisions))]
+pub(crate) fn division(operator: u8) -> Instr
+    ensures { result ≡ division operator }
+{
+    let rd = FIRST;
+    let rs1 = FIRST;
+    let rs2 = SECOND;
+    match operator {
+        0 => Instr::Div { rd, rs1, rs2 },
+        1 => Instr::Divu { rd, rs1, rs2 },
+        2 => Instr::Rem { rd, rs1, rs2 },
+        3 => Instr::Remu { rd, rs1, rs2 },
+        _ => Instr::Addi { rd, rs1: 0, imm: 0 },
+    }
+}
