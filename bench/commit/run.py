@@ -19,8 +19,8 @@ PROGRAM = os.environ.get("PROGRAM", os.path.join(HERE, "..", "..", "crates", "mv
 MARK = "__attribute__((multiverse))"
 CALLS = 100_000
 SITES = (64, 256, 1_024, 4_096, 16_384)
-# How many commits are timed, and how often.
-COMMITS, RUNS = 40, 3
+# How many sites are committed while time is taken, and how often it is taken.
+COMMITTED, RUNS = 2_621_440, 5
 # What the callee does where the switch is on: a store of its parameter is inlined, a sum is not.
 CALLEES = {"inlined": "sum = n;", "called": "sum += n;"}
 
@@ -103,8 +103,9 @@ def costs(room):
         before = None
         for sites in SITES:
             guest = [instructions(written(room, committing(inlined, sites, commits))) for commits in (0, 1)]
-            none, many = (min(seconds(written(room, committing(inlined, sites, commits))) for _ in range(RUNS)) for commits in (0, COMMITS))
-            each, time = (guest[1] - guest[0]) / sites, 1e6 * (many - none) / COMMITS / sites
+            timed = COMMITTED // sites
+            none, many = (min(seconds(written(room, committing(inlined, sites, commits))) for _ in range(RUNS)) for commits in (0, timed))
+            each, time = (guest[1] - guest[0]) / sites, 1e6 * (many - none) / timed / sites
             growth = f"; growth {each / before[0]:.2f}, {time / before[1]:.2f}" if before and before[1] > 0 else ""
             print(f"{name}, {sites} sites: guest instructions of a commit {guest[1] - guest[0]}, a site {each:.2f}, microseconds a site {time:.3f}{growth}", flush=True)
             before = (each, time)
