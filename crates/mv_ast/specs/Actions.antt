@@ -1,5 +1,5 @@
 -- Which actions of the operator fit a program.
-use Rattle.std.specs.Prelude.{ℕ, Bool, true, false, Option, Some, None, slice_get}
+use Rattle.std.specs.Prelude.{ℕ, ◌<◌, ◌^◌, Bool, true, false, Option, Some, None, slice_get}
 use Rattle.mv_num.specs.Kinds.{kind_number, is_value}
 use Rattle.mv_ast.specs.declared.program.CType.{CType}
 use Rattle.mv_ast.specs.declared.program.CType.TheVariants.{Void, Scalar, Pointer}
@@ -27,3 +27,8 @@ is_switch_value p (Some s) v = is_global_value (slice_get p.globals s.global) v
 abbrev pub fits : Program → Action → Bool
 fits p Skip = true
 fits p (Flip s v) = is_switch_value p (slice_get p.switches s) v
+
+-- the value of an action, if it has one, is a word
+abbrev pub IsOfWord : Action → Type 0
+IsOfWord Skip = Unit {0}
+IsOfWord (Flip switch value) = value < 2 ^ 32

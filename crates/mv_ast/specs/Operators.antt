@@ -3,6 +3,7 @@ use Rattle.std.specs.Prelude.{ℕ, Bool, true, false, not, Option, Some, None, i
 use Rattle.mv_num.specs.declared.kind.Kind.{Kind}
 use Rattle.mv_num.specs.declared.kind.Kind.TheVariants.{UInt}
 use Rattle.mv_num.specs.Words.{add, sub, mul, div_s, div_u, rem_s, rem_u, shl, shr_s, shr_u, lt_s, lt_u, narrow}
+use Rattle.mv_ast.specs.Marks as marks
 use Rattle.mv_ast.specs.declared.program.CType.{CType}
 use Rattle.mv_ast.specs.declared.program.CType.TheVariants.{Void, Scalar, Pointer}
 
@@ -25,43 +26,44 @@ converted Void a = 0
 converted (Scalar kind) a = narrow kind a
 converted (Pointer signature) a = a
 
--- ~ 10, ! 11, + 12, - 13
+-- the value of `~`, `!`, `+` or `-` (C11 6.5.3.3)
 unfoldable pub unary_value : ℕ → ℕ → ℕ
 unary_value op a =
-    if nat_eq op 10 then bit_xor a 4294967295
-    else if nat_eq op 11 then as_word (nat_eq a 0)
-    else if nat_eq op 13 then sub 0 a
+    if nat_eq op marks.tilde then bit_xor a 4294967295
+    else if nat_eq op marks.exclamation then as_word (nat_eq a 0)
+    else if nat_eq op marks.minus then sub 0 a
     else a
 
 -- whether the first is less, by the order of a type
 abbrev pub is_less : CType → ℕ → ℕ → Bool
 is_less t a b = if is_unsigned t then lt_u a b else lt_s a b
 
--- * 14, / 15, % 16 and the sums; a quotient and a remainder only by a divisor that is not 0
+-- the value of `+`, `-`, `*`, `/` or `%` (C11 6.5.5, 6.5.6); a quotient and a remainder only by a divisor that is not 0
 unfoldable pub product_value : ℕ → CType → ℕ → ℕ → Option ℕ
 product_value op t a b =
-    if nat_eq op 12 then Some (add a b)
-    else if nat_eq op 13 then Some (sub a b)
-    else if nat_eq op 14 then Some (mul a b)
+    if nat_eq op marks.plus then Some (add a b)
+    else if nat_eq op marks.minus then Some (sub a b)
+    else if nat_eq op marks.star then Some (mul a b)
     else if nat_eq b 0 then None
-    else if nat_eq op 15 then Some (if is_unsigned t then div_u a b else div_s a b)
+    else if nat_eq op marks.slash then Some (if is_unsigned t then div_u a b else div_s a b)
     else Some (if is_unsigned t then rem_u a b else rem_s a b)
 
--- & 17, | 18, ^ 19, < 20, > 21, << 25, >> 26, <= 27, >= 28, == 29, != 30
+-- the value of an operator on bits, a shift or a comparison (C11 6.5.7 to 6.5.12)
 unfoldable pub bit_value : ℕ → CType → ℕ → ℕ → ℕ
 bit_value op t a b =
-    if nat_eq op 17 then bit_and a b
-    else if nat_eq op 18 then bit_or a b
-    else if nat_eq op 19 then bit_xor a b
-    else if nat_eq op 20 then as_word (is_less t a b)
-    else if nat_eq op 21 then as_word (is_less t b a)
-    else if nat_eq op 25 then shl a b
-    else if nat_eq op 26 then (if is_unsigned t then shr_u a b else shr_s a b)
-    else if nat_eq op 27 then as_word (not (is_less t b a))
-    else if nat_eq op 28 then as_word (not (is_less t a b))
-    else if nat_eq op 29 then as_word (nat_eq a b)
+    if nat_eq op marks.ampersand then bit_and a b
+    else if nat_eq op marks.bar then bit_or a b
+    else if nat_eq op marks.caret then bit_xor a b
+    else if nat_eq op marks.less then as_word (is_less t a b)
+    else if nat_eq op marks.greater then as_word (is_less t b a)
+    else if nat_eq op marks.shift_left then shl a b
+    else if nat_eq op marks.shift_right then (if is_unsigned t then shr_u a b else shr_s a b)
+    else if nat_eq op marks.less_or_equal then as_word (not (is_less t b a))
+    else if nat_eq op marks.greater_or_equal then as_word (not (is_less t a b))
+    else if nat_eq op marks.equal then as_word (nat_eq a b)
     else as_word (not (nat_eq a b))
 
--- The value of an operator whose left operand has this type, or none where it divides by 0.
+-- The value of an operator whose left operand has this type, or none where it divides by 0. The marks before `&` are those of
+-- sums and products.
 unfoldable pub binary_value : ℕ → CType → ℕ → ℕ → Option ℕ
-binary_value op t a b = if nat_lt op 17 then product_value op t a b else Some (bit_value op t a b)
+binary_value op t a b = if nat_lt op marks.ampersand then product_value op t a b else Some (bit_value op t a b)

@@ -106,8 +106,8 @@ pub enum Target {
     LocalAt(u32, Boxed<Expr>),
 }
 
-/// A function that is known without declaration. A plan is a commit or a revert: the codes 0 and 1 commit and revert all functions,
-/// 2 and 3 the attributed function with this index among the attributed ones, 4 and 5 those that have the switch with this index.
+/// A function that is known without declaration. A plan is a commit or a revert, by its code (`orders`): of all functions, of the
+/// attributed function with this index among the attributed ones, or of those that have the switch with this index.
 #[derive(Clone, Copy, PartialEq, Eq, Debug)]
 pub enum Known {
     /// Gives the next byte of the input, or -1 at its end.
@@ -116,7 +116,7 @@ pub enum Known {
     Putchar,
     /// Lets the operator act, and gives 1 where a switch is flipped, else 0.
     Poll,
-    /// A commit or a revert: its code, and the index of what it addresses, 0 for codes 0 and 1.
+    /// A commit or a revert: its code, and the index of what it addresses, 0 where it addresses all functions.
     Plan(u8, u32),
 }
 

@@ -7,7 +7,7 @@ use mv_num::list::List;
 /// What a token is. A word or a mark has its number in its row.
 #[derive(Drop)]
 pub enum Piece {
-    /// A keyword, by its number among the keywords from 0.
+    /// A keyword, by its number (`keywords`).
     Keyword(u8),
     /// An identifier: its text is that of the token.
     Name,
@@ -15,7 +15,7 @@ pub enum Piece {
     Number(u32, Kind),
     /// The bytes of a string literal, without a closing 0.
     Chars(List<u8>),
-    /// A punctuator, by its number among the punctuators from 0.
+    /// A punctuator, by its number (`marks`).
     Mark(u8),
 }
 

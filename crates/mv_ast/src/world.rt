@@ -47,10 +47,9 @@ pub enum Action {
 }
 
 /// Why an evaluation stops before its end: a trap with its code, or a bound that is used up.
-/// Trap 1 is a division by zero, 2 an index outside the array, 3 a call of a null pointer, 4 a call at depth 512.
 #[derive(Clone, Copy, PartialEq, Eq, Debug)]
 pub enum Stop {
-    /// A trap, by its code from 1 to 4.
+    /// A trap, by its code (`traps`).
     Trapped(u8),
     /// The bound is used up.
     Unfinished,

@@ -1,0 +1,26 @@
+-- The orders, which are commits and reverts, by their codes.
+use Rattle.std.specs.Prelude.{ℕ}
+
+-- a commit of all functions
+abbrev pub commit : ℕ
+commit = 0
+
+-- a revert of all functions
+abbrev pub revert : ℕ
+revert = 1
+
+-- a commit of one function
+abbrev pub commit_function : ℕ
+commit_function = 2
+
+-- a revert of one function
+abbrev pub revert_function : ℕ
+revert_function = 3
+
+-- a commit of the functions that have one switch
+abbrev pub commit_references : ℕ
+commit_references = 4
+
+-- a revert of the functions that have one switch
+abbrev pub revert_references : ℕ
+revert_references = 5
