@@ -16,6 +16,8 @@ use Rattle.mv_ast.specs.declared.unit.Shape.TheVariants as shape
 use Rattle.mv_ast.specs.declared.unit.Param.{Param}
 use Rattle.mv_ast.specs.declared.unit.Initial.{Initial}
 use Rattle.mv_ast.specs.declared.unit.Initial.TheVariants as i
+use Rattle.mv_ast.specs.Marks as marks
+use Rattle.mv_ast.specs.Keywords as keywords
 use Rattle.mv_parse_grammar.specs.Terminals.{Terminal, keyword, is_mark, is_keyword, is_name, is_string, is_multiverse, is_type_word}
 use Rattle.mv_parse_grammar.specs.Language.{give, token, ◌>>=◌, ◌or◌, marked, chain, optional, comma_list, braced_list}
 use Rattle.mv_parse_grammar.specs.Expressions.{Expressions, Assign, Cond, phrase, specs_of, no_specs, specs_at, with_const, with_word, with_tag, tag_of}
@@ -80,29 +82,29 @@ characters_of t = characters_of_piece t.what
 -- enumerator = NAME ["=" cond]
 abbrev pub enumerator : Expressions → Member → List Terminal → Type 0
 enumerator E = token is_name >>= λ t.
-    ((token (is_mark 22) >>= λ _. E Cond >>= λ x. give (member_of t (Some x)))
+    ((token (is_mark marks.assign) >>= λ _. E Cond >>= λ x. give (member_of t (Some x)))
     or give (member_of t None))
 
 -- enum = "enum" NAME | "enum" [NAME] "{" enumerator ("," enumerator)* [","] "}"
 abbrev pub enum : Expressions → EnumSpec → List Terminal → Type 0
 enum E =
-    (token (is_keyword 9) >>= λ _. token is_name >>= λ t. give (tag_of t))
-    or (token (is_keyword 9) >>= λ _. optional (token is_name) >>= λ t. braced_list (enumerator E) >>= λ ms. give (enum_of t ms))
+    (token (is_keyword keywords.enum) >>= λ _. token is_name >>= λ t. give (tag_of t))
+    or (token (is_keyword keywords.enum) >>= λ _. optional (token is_name) >>= λ t. braced_list (enumerator E) >>= λ ms. give (enum_of t ms))
 
 -- "(" cond ("," cond)* ")"
 abbrev pub domain : Expressions → List Node → List Terminal → Type 0
-domain E = token (is_mark 0) >>= λ _. comma_list (E Cond) >>= λ xs. token (is_mark 1) >>= λ _. give xs
+domain E = token (is_mark marks.open_parenthesis) >>= λ _. comma_list (E Cond) >>= λ xs. token (is_mark marks.close_parenthesis) >>= λ _. give xs
 
 -- attribute = "__attribute__" "(" "(" "multiverse" ["(" cond ("," cond)* ")"] ")" ")"
 abbrev pub attribute : Expressions → Mark → List Terminal → Type 0
-attribute E = token (is_keyword 21) >>= λ t. token (is_mark 0) >>= λ _. token (is_mark 0) >>= λ _. token is_multiverse >>= λ _.
-    optional (domain E) >>= λ xs. token (is_mark 1) >>= λ _. token (is_mark 1) >>= λ _. give (mark_at t.place xs)
+attribute E = token (is_keyword keywords.attribute) >>= λ t. token (is_mark marks.open_parenthesis) >>= λ _. token (is_mark marks.open_parenthesis) >>= λ _. token is_multiverse >>= λ _.
+    optional (domain E) >>= λ xs. token (is_mark marks.close_parenthesis) >>= λ _. token (is_mark marks.close_parenthesis) >>= λ _. give (mark_at t.place xs)
 
 -- "static" | "const" | typeword | enum | attribute
 abbrev pub specifier : Expressions → Specs → Specs → List Terminal → Type 0
 specifier E s =
-    (token (is_keyword 16) >>= λ _. give (with_static s))
-    or ((token (is_keyword 4) >>= λ _. give (with_const s))
+    (token (is_keyword keywords.static) >>= λ _. give (with_static s))
+    or ((token (is_keyword keywords.const) >>= λ _. give (with_const s))
     or ((token is_type_word >>= λ t. give (with_word s (keyword t)))
     or ((enum E >>= λ e. give (with_tag s e))
     or (attribute E >>= λ m. give (with_mark s m)))))
@@ -118,24 +120,24 @@ Parameters = List Param → List Terminal → Type 0
 
 -- "[" [cond] "]"
 abbrev pub extent : Expressions → Option Node → List Terminal → Type 0
-extent E = token (is_mark 2) >>= λ _.
-    ((token (is_mark 3) >>= λ _. give None)
-    or (E Cond >>= λ x. token (is_mark 3) >>= λ _. give (Some x)))
+extent E = token (is_mark marks.open_bracket) >>= λ _.
+    ((token (is_mark marks.close_bracket) >>= λ _. give None)
+    or (E Cond >>= λ x. token (is_mark marks.close_bracket) >>= λ _. give (Some x)))
 
 -- "(" params ")"
 abbrev pub parameter_list : Parameters → List Param → List Terminal → Type 0
-parameter_list P = token (is_mark 0) >>= λ _. P >>= λ ps. token (is_mark 1) >>= λ _. give ps
+parameter_list P = token (is_mark marks.open_parenthesis) >>= λ _. P >>= λ ps. token (is_mark marks.close_parenthesis) >>= λ _. give ps
 
 -- ["const"]
 abbrev pub constant : Bool → List Terminal → Type 0
-constant = (token (is_keyword 4) >>= λ _. give true) or give false
+constant = (token (is_keyword keywords.const) >>= λ _. give true) or give false
 
 -- direct = NAME ["[" [cond] "]"] | NAME "(" params ")" | "(" "*" ["const"] NAME ["[" [cond] "]"] ")" "(" params ")"
 abbrev pub direct : Expressions → Parameters → Declarator → List Terminal → Type 0
 direct E P =
     (token is_name >>= λ t. optional (extent E) >>= λ n. give (declarator_of t.place (Some t.spelling) (array_shape n)))
     or ((token is_name >>= λ t. parameter_list P >>= λ ps. give (declarator_of t.place (Some t.spelling) (shape.Function ps)))
-    or (token (is_mark 0) >>= λ t. token (is_mark 14) >>= λ _. constant >>= λ c. token is_name >>= λ name. optional (extent E) >>= λ n. token (is_mark 1) >>= λ _.
+    or (token (is_mark marks.open_parenthesis) >>= λ t. token (is_mark marks.star) >>= λ _. constant >>= λ c. token is_name >>= λ name. optional (extent E) >>= λ n. token (is_mark marks.close_parenthesis) >>= λ _.
     parameter_list P >>= λ ps. give (declarator_of t.place (Some name.spelling) (pointer_shape c n ps))))
 
 abbrev pub with_attribute : Expressions → Declarator → Declarator → List Terminal → Type 0
@@ -151,7 +153,7 @@ declarator E P = direct E P >>= λ d. chain (with_attribute E) d
 abbrev pub parameter_name : Parameters → Specs → Param → List Terminal → Type 0
 parameter_name P s =
     (token is_name >>= λ t. give (param_of s (declarator_of t.place (Some t.spelling) shape.Plain)))
-    or ((token (is_mark 0) >>= λ t. token (is_mark 14) >>= λ _. constant >>= λ c. optional (token is_name) >>= λ name. token (is_mark 1) >>= λ _.
+    or ((token (is_mark marks.open_parenthesis) >>= λ t. token (is_mark marks.star) >>= λ _. constant >>= λ c. optional (token is_name) >>= λ name. token (is_mark marks.close_parenthesis) >>= λ _.
     parameter_list P >>= λ ps. give (param_of s (declarator_of t.place (spelling_of name) (shape.Pointer c ps))))
     or give (param_of s (declarator_of (place_of_specs s) None shape.Plain)))
 
@@ -210,7 +212,7 @@ characters = token is_string >>= λ t. chain more_characters (characters_of t)
 
 -- init = "=" ("{" assign ("," assign)* [","] "}" | STRING+ | assign)
 abbrev pub init : Expressions → Initial → List Terminal → Type 0
-init E = token (is_mark 22) >>= λ _.
+init E = token (is_mark marks.assign) >>= λ _.
     ((braced_list (E Assign) >>= λ xs. give (i.Values xs))
     or ((characters >>= λ cs. give (i.Chars cs))
     or (E Assign >>= λ x. give (i.Value x))))

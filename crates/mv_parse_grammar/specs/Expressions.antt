@@ -9,6 +9,8 @@ use Rattle.mv_ast.specs.declared.unit.EnumSpec.{EnumSpec, roll-EnumSpec}
 use Rattle.mv_ast.specs.declared.unit.Mark.{Mark}
 use Rattle.mv_ast.specs.declared.unit.What.{What}
 use Rattle.mv_ast.specs.declared.unit.What.TheVariants as w
+use Rattle.mv_ast.specs.Marks as marks
+use Rattle.mv_ast.specs.Keywords as keywords
 use Rattle.mv_num.specs.declared.kind.Kind.TheVariants.{Int}
 use Rattle.mv_parse_grammar.specs.Terminals.{Terminal, mark, keyword, is_mark, is_keyword, is_name, is_number, is_rank, is_sign, is_step, is_type_word}
 use Rattle.mv_parse_grammar.specs.Language.{give, token, ◌>>=◌, ◌or◌, marked, chain, comma_list}
@@ -73,20 +75,20 @@ abbrev pub primary : Expressions → Node → List Terminal → Type 0
 primary S =
     (token is_name >>= λ t. give (name_node t))
     or ((token is_number >>= λ t. give (number_node t))
-    or (token (is_mark 0) >>= λ _. S Assign >>= λ x. token (is_mark 1) >>= λ _. give x))
+    or (token (is_mark marks.open_parenthesis) >>= λ _. S Assign >>= λ x. token (is_mark marks.close_parenthesis) >>= λ _. give x))
 
 -- [assign ("," assign)*] ")"
 abbrev pub arguments : Expressions → List Node → List Terminal → Type 0
 arguments S =
-    (token (is_mark 1) >>= λ _. give [])
-    or (comma_list (S Assign) >>= λ xs. token (is_mark 1) >>= λ _. give xs)
+    (token (is_mark marks.close_parenthesis) >>= λ _. give [])
+    or (comma_list (S Assign) >>= λ xs. token (is_mark marks.close_parenthesis) >>= λ _. give xs)
 
 -- "[" assign "]" | "(" arguments | "++" | "--"
 abbrev pub suffix : Expressions → Place × Node → Place × Node → List Terminal → Type 0
 suffix S left =
-    (token (is_mark 2) >>= λ _. S Assign >>= λ i. token (is_mark 3) >>= λ _. give (joined left (λ x. w.Index x i)))
-    or ((token (is_mark 0) >>= λ _. arguments S >>= λ xs. give (joined left (λ x. w.Call x xs)))
-    or (token is_step >>= λ t. give (joined left (λ x. w.After (is_mark 23 t) x))))
+    (token (is_mark marks.open_bracket) >>= λ _. S Assign >>= λ i. token (is_mark marks.close_bracket) >>= λ _. give (joined left (λ x. w.Index x i)))
+    or ((token (is_mark marks.open_parenthesis) >>= λ _. arguments S >>= λ xs. give (joined left (λ x. w.Call x xs)))
+    or (token is_step >>= λ t. give (joined left (λ x. w.After (is_mark marks.increment t) x))))
 
 -- postfix = primary suffix*
 abbrev pub postfix : Expressions → Node → List Terminal → Type 0
@@ -95,16 +97,16 @@ postfix S = marked (primary S) >>= λ l. chain (suffix S) l >>= λ y. give y.1
 -- unary = ("++" | "--") unary | ("+" | "-" | "~" | "!" | "&" | "*") cast | postfix
 abbrev pub unary : Expressions → Node → List Terminal → Type 0
 unary S =
-    (token is_step >>= λ t. S Unary >>= λ x. give (node_at t.place (w.Before (is_mark 23 t) x)))
+    (token is_step >>= λ t. S Unary >>= λ x. give (node_at t.place (w.Before (is_mark marks.increment t) x)))
     or ((token is_sign >>= λ t. S Cast >>= λ x. give (node_at t.place (w.Unary (mark t) x)))
     or postfix S)
 
 -- "const" | typeword | "enum" NAME
 abbrev pub type_part : Specs → Specs → List Terminal → Type 0
 type_part s =
-    (token (is_keyword 4) >>= λ _. give (with_const s))
+    (token (is_keyword keywords.const) >>= λ _. give (with_const s))
     or ((token is_type_word >>= λ t. give (with_word s (keyword t)))
-    or (token (is_keyword 9) >>= λ _. token is_name >>= λ t. give (with_tag s (tag_of t))))
+    or (token (is_keyword keywords.enum) >>= λ _. token is_name >>= λ t. give (with_tag s (tag_of t))))
 
 -- one or more of these, at the place of the first
 abbrev pub type_name : Specs → List Terminal → Type 0
@@ -113,7 +115,7 @@ type_name = marked (type_part no_specs) >>= λ m. chain type_part (specs_at m.0 
 -- cast = "(" type_name ")" cast | unary
 abbrev pub cast : Expressions → Node → List Terminal → Type 0
 cast S =
-    (token (is_mark 0) >>= λ t. type_name >>= λ s. token (is_mark 1) >>= λ _. S Cast >>= λ x. give (node_at t.place (w.Cast s x)))
+    (token (is_mark marks.open_parenthesis) >>= λ t. type_name >>= λ s. token (is_mark marks.close_parenthesis) >>= λ _. S Cast >>= λ x. give (node_at t.place (w.Cast s x)))
     or unary S
 
 -- an operator of this rank, and its right operand
@@ -128,7 +130,7 @@ level S (suc k) = marked (level S k) >>= λ l. chain (operation (level S k) (suc
 -- cond = binary ["?" assign ":" cond]
 abbrev pub cond : Expressions → Node → List Terminal → Type 0
 cond S = marked (level S 10) >>= λ l.
-    ((token (is_mark 9) >>= λ _. S Assign >>= λ a. token (is_mark 8) >>= λ _. S Cond >>= λ b. give (node_at l.0 (w.Choose l.1 a b)))
+    ((token (is_mark marks.question) >>= λ _. S Assign >>= λ a. token (is_mark marks.colon) >>= λ _. S Cond >>= λ b. give (node_at l.0 (w.Choose l.1 a b)))
     or give l.1)
 
 -- assign = cond [asop assign]

@@ -1,6 +1,7 @@
 -- Languages of terminals. A phrase of a language is a list of terminals that stands for a value.
 use Rattle.std.specs.Prelude.{◌≡◌, ℕ, zero, suc, Bool, true, Option, Some, None, List, [], ◌∷◌, ◌++◌, ◌⊎◌}
 use Rattle.mv_ast.specs.declared.place.Place.{Place}
+use Rattle.mv_ast.specs.Marks as marks
 use Rattle.mv_parse_grammar.specs.Terminals.{Terminal, is_mark}
 
 abbrev pub Language : Type 0 → Type 1
@@ -84,7 +85,7 @@ pushed A xs = A >>= λ x. give (xs ++ x ∷ [])
 
 -- "," phrase
 abbrev pub comma_pushed : {X : Type 0} → (X → List Terminal → Type 0) → List X → List X → List Terminal → Type 0
-comma_pushed A xs = token (is_mark 7) >>= λ _. pushed A xs
+comma_pushed A xs = token (is_mark marks.comma) >>= λ _. pushed A xs
 
 -- phrase ("," phrase)*
 abbrev pub comma_list : {X : Type 0} → (X → List Terminal → Type 0) → List X → List Terminal → Type 0
@@ -92,8 +93,8 @@ comma_list A = A >>= λ x. chain (comma_pushed A) (x ∷ [])
 
 -- [","]
 abbrev pub last_comma : {X : Type 0} → X → X → List Terminal → Type 0
-last_comma x = (token (is_mark 7) >>= λ _. give x) or give x
+last_comma x = (token (is_mark marks.comma) >>= λ _. give x) or give x
 
 -- "{" phrase ("," phrase)* [","] "}"
 abbrev pub braced_list : {X : Type 0} → (X → List Terminal → Type 0) → List X → List Terminal → Type 0
-braced_list A = token (is_mark 4) >>= λ _. comma_list A >>= λ xs. last_comma xs >>= λ ys. token (is_mark 5) >>= λ _. give ys
+braced_list A = token (is_mark marks.open_brace) >>= λ _. comma_list A >>= λ xs. last_comma xs >>= λ ys. token (is_mark marks.close_brace) >>= λ _. give ys

@@ -1,6 +1,7 @@
 -- Readers: what is taken from the front of the terminals, without going back.
 use Rattle.std.specs.Prelude.{ℕ, zero, suc, Bool, false, ◌&&◌, Option, Some, None, List, [], ◌∷◌, ◌++◌, if◌then◌else◌}
 use Rattle.mv_ast.specs.declared.place.Place.{Place}
+use Rattle.mv_ast.specs.Marks as marks
 use Rattle.mv_parse_grammar.specs.Terminals.{Terminal, is_mark}
 use Rattle.mv_parse_grammar.specs.Language.{place_of}
 
@@ -62,20 +63,20 @@ pushed p xs = p >>= λ x. give (xs ++ x ∷ [])
 
 -- "," phrase
 abbrev pub comma_pushed : {X : Type 0} → (List Terminal → Read X) → List X → List Terminal → Read (List X)
-comma_pushed p xs = token (is_mark 7) >>= λ _. pushed p xs
+comma_pushed p xs = token (is_mark marks.comma) >>= λ _. pushed p xs
 
 -- phrase ("," phrase)*
 abbrev pub comma_list : {X : Type 0} → ℕ → (List Terminal → Read X) → List Terminal → Read (List X)
-comma_list n p = p >>= λ x. chain (is_mark 7) (comma_pushed p) n (x ∷ [])
+comma_list n p = p >>= λ x. chain (is_mark marks.comma) (comma_pushed p) n (x ∷ [])
 
 -- what is after a phrase in a braced list: "}", or "," and then "}" or another phrase
 abbrev pub closing : {X : Type 0} → ℕ → (List Terminal → Read X) → List X → List Terminal → Read (List X)
 closing zero p xs ts = Deep
 closing (suc n) p xs ts =
-    choice (is_mark 7)
-    (token (is_mark 7) >>= λ _. choice (is_mark 5) (token (is_mark 5) >>= λ _. give xs) (p >>= λ x. closing n p (xs ++ x ∷ [])))
-    (token (is_mark 5) >>= λ _. give xs) ts
+    choice (is_mark marks.comma)
+    (token (is_mark marks.comma) >>= λ _. choice (is_mark marks.close_brace) (token (is_mark marks.close_brace) >>= λ _. give xs) (p >>= λ x. closing n p (xs ++ x ∷ [])))
+    (token (is_mark marks.close_brace) >>= λ _. give xs) ts
 
 -- "{" phrase ("," phrase)* [","] "}"
 abbrev pub braced_list : {X : Type 0} → ℕ → (List Terminal → Read X) → List Terminal → Read (List X)
-braced_list n p = token (is_mark 4) >>= λ _. p >>= λ x. closing n p (x ∷ [])
+braced_list n p = token (is_mark marks.open_brace) >>= λ _. p >>= λ x. closing n p (x ∷ [])

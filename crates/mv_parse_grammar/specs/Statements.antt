@@ -6,6 +6,8 @@ use Rattle.mv_ast.specs.declared.unit.Line.{Line, Line-F, fold-Line}
 use Rattle.mv_ast.specs.declared.unit.Act.{Act, Act-F}
 use Rattle.mv_ast.specs.declared.unit.Act.TheOpen as o
 use Rattle.mv_ast.specs.declared.unit.Act.TheVariants as a
+use Rattle.mv_ast.specs.Marks as marks
+use Rattle.mv_ast.specs.Keywords as keywords
 use Rattle.mv_parse_grammar.specs.Terminals.{Terminal, is_mark, is_keyword}
 use Rattle.mv_parse_grammar.specs.Language.{give, token, ◌>>=◌, ◌or◌, marked, chain, when, pushed, comma_list}
 use Rattle.mv_parse_grammar.specs.Expressions.{Expressions, Assign, Cond, phrase}
@@ -42,15 +44,15 @@ Lines = Line → List Terminal → Type 0
 
 -- local = specs declared ("," declared)* ";"
 abbrev pub local : Expressions → Parameters → Line → List Terminal → Type 0
-local E P = specs E >>= λ s. comma_list (declared E P) >>= λ ds. token (is_mark 6) >>= λ _. give (line_at (place_of_specs s) (a.Declare s ds))
+local E P = specs E >>= λ s. comma_list (declared E P) >>= λ ds. token (is_mark marks.semicolon) >>= λ _. give (line_at (place_of_specs s) (a.Declare s ds))
 
 -- block = "{" (statement | local)* "}"
 abbrev pub block : Lines → Lines → Line → List Terminal → Type 0
-block D T = token (is_mark 4) >>= λ t. chain (pushed (D or T)) [] >>= λ ls. token (is_mark 5) >>= λ _. give (line_at t.place (a.Block ls))
+block D T = token (is_mark marks.open_brace) >>= λ t. chain (pushed (D or T)) [] >>= λ ls. token (is_mark marks.close_brace) >>= λ _. give (line_at t.place (a.Block ls))
 
 -- "(" assign ")"
 abbrev pub condition : Expressions → Node → List Terminal → Type 0
-condition E = token (is_mark 0) >>= λ _. E Assign >>= λ x. token (is_mark 1) >>= λ _. give x
+condition E = token (is_mark marks.open_parenthesis) >>= λ _. E Assign >>= λ x. token (is_mark marks.close_parenthesis) >>= λ _. give x
 
 -- [assign], and the mark after it
 abbrev pub value : ℕ → Expressions → Option Node → List Terminal → Type 0
@@ -63,34 +65,34 @@ express p (Some x) = Some (line_at p (a.Express (Some x)))
 
 -- "if" "(" assign ")" statement ["else" statement], where an `else` belongs to the nearest `if`
 abbrev pub if_else : Expressions → Lines → Line → List Terminal → Type 0
-if_else E T = token (is_keyword 11) >>= λ t. condition E >>= λ c. T >>= λ x.
-    (when (is_open x ≡ false) (token (is_keyword 8) >>= λ _. T >>= λ y. give (line_at t.place (a.If c x (Some y))))
+if_else E T = token (is_keyword keywords.if) >>= λ t. condition E >>= λ c. T >>= λ x.
+    (when (is_open x ≡ false) (token (is_keyword keywords.else) >>= λ _. T >>= λ y. give (line_at t.place (a.If c x (Some y))))
     or give (line_at t.place (a.If c x None)))
 
 -- "while" "(" assign ")" statement
 abbrev pub while : Expressions → Lines → Line → List Terminal → Type 0
-while E T = token (is_keyword 20) >>= λ t. condition E >>= λ c. T >>= λ x. give (line_at t.place (a.While c x))
+while E T = token (is_keyword keywords.while) >>= λ t. condition E >>= λ c. T >>= λ x. give (line_at t.place (a.While c x))
 
 -- "do" statement "while" "(" assign ")" ";"
 abbrev pub do_while : Expressions → Lines → Line → List Terminal → Type 0
-do_while E T = token (is_keyword 7) >>= λ t. T >>= λ x. token (is_keyword 20) >>= λ _. condition E >>= λ c. token (is_mark 6) >>= λ _. give (line_at t.place (a.Do x c))
+do_while E T = token (is_keyword keywords.do) >>= λ t. T >>= λ x. token (is_keyword keywords.while) >>= λ _. condition E >>= λ c. token (is_mark marks.semicolon) >>= λ _. give (line_at t.place (a.Do x c))
 
 -- local | [assign] ";"
 abbrev pub first_clause : Expressions → Lines → Option Line → List Terminal → Type 0
-first_clause E D = (D >>= λ l. give (Some l)) or (marked (value 6 E) >>= λ m. give (express m.0 m.1))
+first_clause E D = (D >>= λ l. give (Some l)) or (marked (value marks.semicolon E) >>= λ m. give (express m.0 m.1))
 
 -- "for" "(" (local | [assign] ";") [assign] ";" [assign] ")" statement
 abbrev pub for : Expressions → Lines → Lines → Line → List Terminal → Type 0
-for E D T = token (is_keyword 10) >>= λ t. token (is_mark 0) >>= λ _. first_clause E D >>= λ first. value 6 E >>= λ test. value 1 E >>= λ step. T >>= λ x.
+for E D T = token (is_keyword keywords.for) >>= λ t. token (is_mark marks.open_parenthesis) >>= λ _. first_clause E D >>= λ first. value marks.semicolon E >>= λ test. value marks.close_parenthesis E >>= λ step. T >>= λ x.
     give (line_at t.place (a.For first test step x))
 
 -- "switch" "(" assign ")" statement
 abbrev pub switch : Expressions → Lines → Line → List Terminal → Type 0
-switch E T = token (is_keyword 17) >>= λ t. condition E >>= λ c. T >>= λ x. give (line_at t.place (a.Switch c x))
+switch E T = token (is_keyword keywords.switch) >>= λ t. condition E >>= λ c. T >>= λ x. give (line_at t.place (a.Switch c x))
 
 -- "case" cond ":"
 abbrev pub case : Expressions → Line → List Terminal → Type 0
-case E = token (is_keyword 2) >>= λ t. E Cond >>= λ x. token (is_mark 8) >>= λ _. give (line_at t.place (a.Case x))
+case E = token (is_keyword keywords.case) >>= λ t. E Cond >>= λ x. token (is_mark marks.colon) >>= λ _. give (line_at t.place (a.Case x))
 
 -- a keyword, and a mark after it
 abbrev pub word : ℕ → ℕ → Act → Line → List Terminal → Type 0
@@ -98,11 +100,11 @@ word n m what = token (is_keyword n) >>= λ t. token (is_mark m) >>= λ _. give 
 
 -- "return" [assign] ";"
 abbrev pub return : Expressions → Line → List Terminal → Type 0
-return E = token (is_keyword 13) >>= λ t. value 6 E >>= λ x. give (line_at t.place (a.Return x))
+return E = token (is_keyword keywords.return) >>= λ t. value marks.semicolon E >>= λ x. give (line_at t.place (a.Return x))
 
 -- [assign] ";"
 abbrev pub simple : Expressions → Line → List Terminal → Type 0
-simple E = marked (value 6 E) >>= λ m. give (line_at m.0 (a.Express m.1))
+simple E = marked (value marks.semicolon E) >>= λ m. give (line_at m.0 (a.Express m.1))
 
 abbrev pub statement : Expressions → Lines → Lines → Line → List Terminal → Type 0
 statement E D T =
@@ -113,9 +115,9 @@ statement E D T =
     or (for E D T
     or (switch E T
     or (case E
-    or (word 6 8 a.Default
-    or (word 1 6 a.Break
-    or (word 5 6 a.Continue
+    or (word keywords.default marks.colon a.Default
+    or (word keywords.break marks.semicolon a.Break
+    or (word keywords.continue marks.semicolon a.Continue
     or (return E
     or simple E))))))))))
 

@@ -5,6 +5,8 @@ use Rattle.mv_ast.specs.declared.place.Place.{Place}
 use Rattle.mv_ast.specs.declared.token.Token.{Token}
 use Rattle.mv_ast.specs.declared.token.Piece.{Piece}
 use Rattle.mv_ast.specs.declared.token.Piece.TheVariants.{Keyword, Name, Number, Chars, Mark}
+use Rattle.mv_ast.specs.Marks as marks
+use Rattle.mv_ast.specs.Keywords as keywords
 
 -- a token, with the bytes that it is in its source
 pub record Terminal : Type 0 where
@@ -19,14 +21,6 @@ terminal text t = record { place = t.place; what = t.what; spelling = take (t.st
 abbrev pub terminals : List ℕ → List Token → List Terminal
 terminals text [] = []
 terminals text (t ∷ ts) = terminal text t ∷ terminals text ts
-
--- The marks by their numbers:
---     0 (   1 )   2 [   3 ]   4 {   5 }   6 ;   7 ,   8 :   9 ?   10 ~   11 !   12 +   13 -   14 *   15 /   16 %   17 &   18 |   19 ^   20 <   21 >
---     22 =   23 ++   24 --   25 <<   26 >>   27 <=   28 >=   29 ==   30 !=   31 &&   32 ||   33 +=   34 -=   35 *=   36 /=   37 %=   38 &=   39 |=
---     40 ^=   41 <<=   42 >>=
--- The keywords by their numbers:
---     0 _Bool   1 break   2 case   3 char   4 const   5 continue   6 default   7 do   8 else   9 enum   10 for   11 if   12 int   13 return   14 short
---     15 signed   16 static   17 switch   18 unsigned   19 void   20 while   21 __attribute__
 
 -- the number of a mark, and 255 for what is no mark
 abbrev pub mark_of : Piece → ℕ
@@ -101,7 +95,7 @@ ranks =
     ∷ 5 ∷ 9 ∷ 10 ∷ 12 ∷ 12 ∷ 12 ∷ 12 ∷ 12 ∷ 12 ∷ 12 ∷ 12 ∷ 12 ∷ 12 ∷ []
 
 abbrev pub rank : Terminal → ℕ
-rank t = if nat_lt (mark t) 43 then slice_index ranks (mark t) else 13
+rank t = if nat_lt (mark t) marks.count then slice_index ranks (mark t) else 13
 
 abbrev pub is_rank : ℕ → Terminal → Bool
 is_rank n t = nat_eq (rank t) n
@@ -112,24 +106,24 @@ within_rank n t = nat_le (rank t) n
 
 -- `~ ! + - * &`, the operators on one operand that may be a cast
 abbrev pub is_sign : Terminal → Bool
-is_sign t = is_mark 10 t || is_mark 11 t || is_mark 12 t || is_mark 13 t || is_mark 14 t || is_mark 17 t
+is_sign t = is_mark marks.tilde t || is_mark marks.exclamation t || is_mark marks.plus t || is_mark marks.minus t || is_mark marks.star t || is_mark marks.ampersand t
 
 -- `++ --`
 abbrev pub is_step : Terminal → Bool
-is_step t = is_mark 23 t || is_mark 24 t
+is_step t = is_mark marks.increment t || is_mark marks.decrement t
 
 -- `_Bool char int short signed unsigned void`
 abbrev pub is_type_word : Terminal → Bool
-is_type_word t = is_keyword 0 t || is_keyword 3 t || is_keyword 12 t || is_keyword 14 t || is_keyword 15 t || is_keyword 18 t || is_keyword 19 t
+is_type_word t = is_keyword keywords.bool t || is_keyword keywords.char t || is_keyword keywords.int t || is_keyword keywords.short t || is_keyword keywords.signed t || is_keyword keywords.unsigned t || is_keyword keywords.void t
 
 -- what a part of a type name begins with: `const`, a type word or `enum`
 abbrev pub is_type_part : Terminal → Bool
-is_type_part t = is_keyword 4 t || is_type_word t || is_keyword 9 t
+is_type_part t = is_keyword keywords.const t || is_type_word t || is_keyword keywords.enum t
 
 -- what a declaration specifier begins with: those, `static` or `__attribute__`
 abbrev pub is_specifier : Terminal → Bool
-is_specifier t = is_keyword 16 t || is_type_part t || is_keyword 21 t
+is_specifier t = is_keyword keywords.static t || is_type_part t || is_keyword keywords.attribute t
 
 -- all but `}`
 abbrev pub is_no_end : Terminal → Bool
-is_no_end t = not (is_mark 5 t)
+is_no_end t = not (is_mark marks.close_brace t)

@@ -4,6 +4,7 @@ use Rattle.mv_ast.specs.declared.unit.Specs.{Specs}
 use Rattle.mv_ast.specs.declared.unit.Declarator.{Declarator}
 use Rattle.mv_ast.specs.declared.unit.Line.{Line}
 use Rattle.mv_ast.specs.declared.unit.Item.{Item}
+use Rattle.mv_ast.specs.Marks as marks
 use Rattle.mv_parse_grammar.specs.Terminals.{Terminal, is_mark}
 use Rattle.mv_parse_grammar.specs.Language.{give, token, ◌>>=◌, ◌or◌, chain, pushed, comma_list}
 use Rattle.mv_parse_grammar.specs.Expressions.{Expressions, phrase}
@@ -16,7 +17,7 @@ item_of s ds b = record { specs = s; names = ds; body = b }
 -- item = specs [declared ("," declared)*] ";" | specs declarator block
 abbrev pub item : Expressions → Parameters → Lines → Item → List Terminal → Type 0
 item E P B =
-    (specs E >>= λ s. (comma_list (declared E P) or give []) >>= λ ds. token (is_mark 6) >>= λ _. give (item_of s ds None))
+    (specs E >>= λ s. (comma_list (declared E P) or give []) >>= λ ds. token (is_mark marks.semicolon) >>= λ _. give (item_of s ds None))
     or (specs E >>= λ s. declarator E P >>= λ d. B >>= λ b. give (item_of s (d ∷ []) (Some b)))
 
 -- the items with at most n productions one inside the other
