@@ -10,6 +10,7 @@ use Rattle.mv_ir.specs.declared.stm.Stm.TheOpen.{Stm-F}
 use Rattle.mv_ir.specs.declared.stm.Stm.TheOpen as stm
 use Rattle.mv_ir.specs.declared.stm.Stm.TheFolds.{fold-Stm}
 use Rattle.mv_ir.specs.declared.body.Body.{Body}
+use Rattle.mv_ast.specs.Traps as trap
 use Rattle.mv_ir.specs.World.{World, Answer, Setting, Frame}
 use Rattle.mv_ir.specs.Trees.{value, nodes, nodes_of_all, divide}
 use Rattle.mv_ir.specs.Outcome.{State, End, Returned, Trapped, More, Stuck, Outcome, Next, Leaves, Restarts, Ends, Run, Call, Calls, Bound, Meaning, spend, now, in_order, block, loop}
@@ -81,9 +82,9 @@ within (calls ∷ below) f s = f calls
 
 abbrev pub call_to : Goal → ℕ → ℕ → Option ℕ → List ℕ → Meaning
 call_to Nowhere depth live result args bound s = now (Ends Stuck)
-call_to Null depth live result args bound s = now (traps 3 s)
+call_to Null depth live result args bound s = now (traps trap.null_call s)
 call_to (At f) depth live result args bound s =
-    cond (ltb depth 512) (within bound (λ calls. made_call result s (calls f args depth live s.world)) s) (now (traps 4 s))
+    cond (ltb depth trap.depth_limit) (within bound (λ calls. made_call result s (calls f args depth live s.world)) s) (now (traps trap.call_too_deep s))
 
 -- ---- statements
 
@@ -112,16 +113,16 @@ module _ (setting : Setting) (frame : Frame) where
       step (nodes v) (Next (with_world s (with_global s.world g (slice_set (slice_index_or s.world.globals g []) 0 (of_tree v s)))))
   statement (stm.Divide t o a b) bound s =
       let d = of_tree b s in
-      step (nodes a + nodes b) (cond (eqb d 0) (traps 1 s) (Next (with_temp s t (divide o (of_tree a s) d))))
-  statement (stm.Check a i) bound s = step (nodes i) (cond (ltb (of_tree i s) (length (elements a s))) (Next s) (traps 2 s))
+      step (nodes a + nodes b) (cond (eqb d 0) (traps trap.division_by_zero s) (Next (with_temp s t (divide o (of_tree a s) d))))
+  statement (stm.Check a i) bound s = step (nodes i) (cond (ltb (of_tree i s) (length (elements a s))) (Next s) (traps trap.index_outside s))
   statement (stm.Read t a i) bound s =
       let k = of_tree i s in
       let xs = elements a s in
-      step (nodes i) (cond (ltb k (length xs)) (Next (with_temp s t (slice_index xs k))) (traps 2 s))
+      step (nodes i) (cond (ltb k (length xs)) (Next (with_temp s t (slice_index xs k))) (traps trap.index_outside s))
   statement (stm.Write a i v) bound s =
       let k = of_tree i s in
       let xs = elements a s in
-      step (nodes i + nodes v) (cond (ltb k (length xs)) (Next (with_elements a s (slice_set xs k (of_tree v s)))) (traps 2 s))
+      step (nodes i + nodes v) (cond (ltb k (length xs)) (Next (with_elements a s (slice_set xs k (of_tree v s)))) (traps trap.index_outside s))
   statement (stm.Zero l) bound s =
       let xs = slice_index_or s.arrays l [] in
       record { cost = 8 + 8 * length xs; outcome = Next (with_elements (array.Local l) s (map (λ x. 0) xs)) }

@@ -14,9 +14,9 @@ pub enum Tree {
     Global(u32),
     /// The number of a function.
     Function(u32),
-    /// 0 negation, 1 complement, 2 logical not.
+    /// An operator on one value, by its number (`operators`).
     Unary(u8, Boxed<Tree>),
-    /// 0 `add`, 1 `sub`, 2 `mul`, 3 and, 4 or, 5 exclusive or, 6 `shl`, 7 `shr_s`, 8 `shr_u`, 9 `lt_s`, 10 `lt_u`, 11 equal, 12 not equal.
+    /// An operator on two values, by its number (`operators`).
     Binary(u8, Boxed<Tree>, Boxed<Tree>),
     /// A value converted to an integer type.
     Narrow(Kind, Boxed<Tree>),
