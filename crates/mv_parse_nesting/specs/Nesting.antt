@@ -4,6 +4,8 @@ use Rattle.mv_ast.specs.declared.place.Place.{Place}
 use Rattle.mv_ast.specs.declared.token.Token.{Token}
 use Rattle.mv_ast.specs.declared.token.Piece.{Piece}
 use Rattle.mv_ast.specs.declared.token.Piece.TheVariants.{Keyword, Name, Number, Chars, Mark}
+use Rattle.mv_ast.specs.Marks as marks
+use Rattle.mv_ast.specs.Keywords as keywords
 use Rattle.mv_parse_nesting.specs.declared.stack.Counts.{Counts}
 
 -- pairs of counters, the top one apart, and the others from the top down
@@ -51,19 +53,21 @@ abbrev pub is_one_of : List ℕ → ℕ → Bool
 is_one_of [] n = false
 is_one_of (m ∷ ms) n = nat_eq n m || is_one_of ms n
 
--- `(` `[` `{`, `)` `]`, `}`, `;`, `,`, `:` and all other punctuators
+-- behind a punctuator
 abbrev pub after_mark : ℕ → Bool → Pairs → Pairs
 after_mark n goes_on s =
-    if is_one_of (0 ∷ 2 ∷ 4 ∷ []) n then entered s
-    else (if is_one_of (1 ∷ 3 ∷ []) n then left s
-    else (if nat_eq n 5 then after_end goes_on (left s)
-    else (if nat_eq n 6 then after_end goes_on s
-    else (if nat_eq n 7 then none_opened s
-    else (if nat_eq n 8 then s else more_opened s)))))
+    if is_one_of (marks.open_parenthesis ∷ marks.open_bracket ∷ marks.open_brace ∷ []) n then entered s
+    else (if is_one_of (marks.close_parenthesis ∷ marks.close_bracket ∷ []) n then left s
+    else (if nat_eq n marks.close_brace then after_end goes_on (left s)
+    else (if nat_eq n marks.semicolon then after_end goes_on s
+    else (if nat_eq n marks.comma then none_opened s
+    else (if nat_eq n marks.colon then s else more_opened s)))))
 
--- `else`, and `do for if switch while`
+-- behind a keyword
 abbrev pub after_keyword : ℕ → Pairs → Pairs
-after_keyword n s = if nat_eq n 8 then more_elses s else (if is_one_of (7 ∷ 10 ∷ 11 ∷ 17 ∷ 20 ∷ []) n then more_opened s else s)
+after_keyword n s =
+    if nat_eq n keywords.else then more_elses s
+    else (if is_one_of (keywords.do ∷ keywords.for ∷ keywords.if ∷ keywords.switch ∷ keywords.while ∷ []) n then more_opened s else s)
 
 abbrev pub after_piece : Piece → Bool → Pairs → Pairs
 after_piece (Mark n) goes_on s = after_mark n goes_on s
@@ -74,7 +78,7 @@ after_piece (Chars bs) goes_on s = s
 
 -- whether `else` or `while` comes next
 abbrev pub continues : Piece → Bool
-continues (Keyword n) = nat_eq n 8 || nat_eq n 20
+continues (Keyword n) = nat_eq n keywords.else || nat_eq n keywords.while
 continues (Mark n) = false
 continues Name = false
 continues (Number n k) = false

@@ -12,13 +12,10 @@ ghost use Rattle.mv_parse_nesting.specs.Nesting as spec;
 mod stack;
 
 use crate::stack::Stack;
+use mv_ast::keywords::{ELSE, WHILE};
 use mv_ast::place::Place;
 use mv_ast::token::{Piece, Token};
 use std::alloc::{AllocError, Global};
-
-const ELSE: u8 = 8;
-
-const WHILE: u8 = 20;
 
 /// The greatest level that is read.
 const DEEPEST: u32 = 255;

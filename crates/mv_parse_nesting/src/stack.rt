@@ -3,6 +3,7 @@ ghost use Rattle.std.specs.Prelude.{◌≡◌, ◌≤◌, ◌<◌, ◌+◌, OnOk
 ghost use Rattle.mv_parse_nesting.specs.Nesting as spec;
 
 use mv_ast::token::{Piece, Token};
+use mv_ast::{keywords, marks};
 use std::alloc::{AllocError, Global};
 use std::marker::Model;
 
@@ -74,12 +75,12 @@ impl Stack {
         ensures { OnOk result (self.new ≡ spec.after_mark mark goes_on self.old) }
     {
         match mark {
-            0 | 2 | 4 => self.enter()?,
-            1 | 3 => self.leave(),
-            5 => self.end_block(goes_on),
-            6 => self.end_statement(goes_on),
-            7 => self.forget_opened(),
-            8 => {}
+            marks::OPEN_PARENTHESIS | marks::OPEN_BRACKET | marks::OPEN_BRACE => self.enter()?,
+            marks::CLOSE_PARENTHESIS | marks::CLOSE_BRACKET => self.leave(),
+            marks::CLOSE_BRACE => self.end_block(goes_on),
+            marks::SEMICOLON => self.end_statement(goes_on),
+            marks::COMMA => self.forget_opened(),
+            marks::COLON => {}
             _ => self.open(),
         }
         Ok(())
@@ -90,8 +91,9 @@ impl Stack {
         ensures { self.new ≡ spec.after_keyword word self.old }
     {
         match word {
-            8 => self.add_else(),
-            7 | 10 | 11 | 17 | 20 => self.open(),
+            keywords::ELSE => self.add_else(),
+            keywords::DO | keywords::FOR | keywords::IF | keywords::SWITCH | keywords::WHILE =>
+                self.open(),
             _ => {}
         }
     }
