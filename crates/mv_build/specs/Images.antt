@@ -13,7 +13,7 @@ use Rattle.mv_link_data.specs.FirstData.{data_words}
 use Rattle.mv_parts.specs.Codes.{FramesFit}
 use Rattle.mv_parts.specs.Numbers.{attributed_numbers}
 use Rattle.mv_parts.specs.Parts.{ArePartsOf}
-use Rattle.mv_refine_commits.specs.Tabled.{IsOfWord}
+use Rattle.mv_ast.specs.Actions.{IsOfWord}
 use Rattle.mv_machine.specs.Actions as machine
 use Rattle.mv_refine_runs.specs.Behaves.{BehavesAlways, LoadsWhatIsOpen}
 use Rattle.mv_parts_tables.specs.Leads.{LeadsToVariants}

@@ -15,14 +15,14 @@ use Rattle.mv_ast.specs.declared.program.Global.{Global}
 use Rattle.mv_ast.specs.declared.program.Switch.{Switch}
 use Rattle.mv_ast.specs.declared.world.Action.{Action}
 use Rattle.mv_ast.specs.declared.world.Action.TheVariants.{Skip, Flip}
-use Rattle.mv_ast.specs.Actions.{fits, is_switch_value, is_global_value, is_value_of}
+use Rattle.mv_ast.specs.Actions.{fits, is_switch_value, is_global_value, is_value_of, IsOfWord}
 use Rattle.mv_command.specs.declared.items.Item.{Item}
 use Rattle.mv_descriptors.specs.declared.rows.SwitchRow.{SwitchRow}
 use Rattle.mv_image.specs.Spelling.{Fields}
 use Rattle.mv_machine.specs.Actions as rows
 use Rattle.mv_operator.specs.declared.controls.Control.{Control}
 use Rattle.mv_operator.specs.Controls.{kind_of_type, control_of_global, controls_of, control_of_row, controls_in}
-use Rattle.mv_operator.specs.Operator.{is_of_kind, kind_of_switch, switch_named, flip_by, flip_from, flip_of, AreActions, IsOfWord}
+use Rattle.mv_operator.specs.Operator.{is_of_kind, kind_of_switch, switch_named, flip_by, flip_from, flip_of, AreActions}
 use Rattle.mv_operator.proofs.Acting.{each_action}
 
 word_above : (n : ℕ) → n < 2 ^ 32 → word_of (pos n) ≡ n

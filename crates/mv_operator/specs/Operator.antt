@@ -1,5 +1,5 @@
 -- What the operator does at the polls of a program or of an image.
-use Rattle.std.specs.Prelude.{ℕ, ℤ, pos, negsuc, ◌+◌, ◌-◌, ◌^◌, ◌<◌, ◌≡◌, Bool, if◌then◌else◌, nat_eq, nat_lt, nat_le, Option, Some, None, is_none, List, [], ◌∷◌, ◌++◌, replicate, position, slice_get}
+use Rattle.std.specs.Prelude.{ℕ, ℤ, pos, negsuc, ◌+◌, ◌-◌, ◌≡◌, Bool, if◌then◌else◌, nat_eq, nat_lt, nat_le, Option, Some, None, is_none, List, [], ◌∷◌, ◌++◌, replicate, position, slice_get}
 use Rattle.std.specs.Cmp.Lexicographic.{pointwise}
 use Rattle.mv_num.specs.Words.{word_of}
 use Rattle.mv_num.specs.declared.kind.Kind.{Kind}
@@ -97,11 +97,6 @@ IsFirstIdle switches items number = (index : ℕ) × (wrong_item switches items 
 abbrev pub AreRefusedFor : List Control → List Item → ActionsError → Type 0
 AreRefusedFor switches items (errors.Refused number) = IsFirstIdle switches items number
 AreRefusedFor switches items (errors.Memory e) = Unit {0}
-
--- its value is a word
-abbrev pub IsOfWord : Action → Type 0
-IsOfWord Skip = Unit {0}
-IsOfWord (Flip s value) = value < 2 ^ 32
 
 -- ---- on a program
 

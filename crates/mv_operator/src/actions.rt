@@ -2,10 +2,10 @@
 
 ghost use Rattle.std.specs.Prelude.{◌≡◌, ◌<◌, ◌^◌, All, IsTrue, IfOk, IfErr, length, slice_get};
 ghost use Rattle.mv_num.specs.Words.{word_of};
-ghost use Rattle.mv_ast.specs.Actions.{fits};
+ghost use Rattle.mv_ast.specs.Actions.{fits, IsOfWord};
 ghost use Rattle.mv_command.specs.Items.{Ascend};
 ghost use Rattle.mv_machine.specs.Actions.{fits as fits_rows};
-ghost use Rattle.mv_operator.specs.Operator.{is_of_kind, is_named, switch_named, kind_of_switch, flip_of, AreActions, AreRefusedFor, IsActions, IsRefusedFor, IsImageActions, IsImageRefusedFor, IsOfWord};
+ghost use Rattle.mv_operator.specs.Operator.{is_of_kind, is_named, switch_named, kind_of_switch, flip_of, AreActions, AreRefusedFor, IsActions, IsRefusedFor, IsImageActions, IsImageRefusedFor};
 
 use crate::controls::{Control, controls_in, controls_of};
 use crate::error::ActionsError;

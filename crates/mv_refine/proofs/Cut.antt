@@ -3,10 +3,9 @@ use Rattle.std.proofs.Common.{◌≡◌, ℕ, ◌+◌, ◌^◌, ◌<◌, List, [
 use Rattle.std.specs.Prelude.{All, IsTrue}
 use Rattle.std.proofs.lemmas.List.{length-append, map-append}
 use Rattle.std.proofs.lemmas.List.Elements.{All-append, All-cons, All-nil, All-take}
-use Rattle.mv_ast.specs.Actions.{fits}
+use Rattle.mv_ast.specs.Actions.{fits, IsOfWord}
 use Rattle.mv_ast.specs.declared.world.Action.{Action}
 use Rattle.mv_ast.specs.declared.program.Program.{Program}
-use Rattle.mv_refine_commits.specs.Tabled.{IsOfWord}
 use Rattle.mv_refine_faults.specs.CutRuns.{with_input}
 use Rattle.mv_refine_faults.proofs.Leaves.{runs_leave}
 use Rattle.mv_refine_faults.proofs.Follows.{read_takes_more, write_writes_more}

@@ -4,11 +4,10 @@ use Rattle.std.specs.Prelude.{slice_index, All, IfSome, IsTrue, Result, Ok, Err}
 use Rattle.std.specs.declared.alloc.AllocError.{AllocError}
 use Rattle.std.proofs.lemmas.Bool.{cases_lt}
 use Rattle.std.proofs.lemmas.List.Elements.{All-weaker}
-use Rattle.mv_ast.specs.Actions.{fits}
+use Rattle.mv_ast.specs.Actions.{fits, IsOfWord}
 use Rattle.mv_ast.specs.declared.world.Action.{Action}
 use Rattle.mv_ast.specs.declared.world.Event.{Event}
 use Rattle.mv_ast.specs.declared.program.Program.{Program}
-use Rattle.mv_refine_commits.specs.Tabled.{IsOfWord}
 use Rattle.mv_fetch.specs.Held.{Room}
 use Rattle.mv_image.specs.Patched.{text_of}
 use Rattle.mv_image.specs.Spelling.{Fields}

@@ -21,7 +21,7 @@
 #![tactic(auto)]
 
 ghost use Rattle.std.specs.Prelude.{◌≤◌, All, IsTrue};
-ghost use Rattle.mv_refine_commits.specs.Tabled.{IsOfWord};
+ghost use Rattle.mv_ast.specs.Actions.{IsOfWord};
 ghost use Rattle.mv_machine.specs.Actions.{fits};
 ghost use Rattle.mv_probe.specs.Fates.{Fates};
 ghost use Rattle.mv_probe.specs.Hearing.{hearing, object_at, Becomes, IsPatient};

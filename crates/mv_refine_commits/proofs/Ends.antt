@@ -3,6 +3,7 @@ use Rattle.std.proofs.Common.{◌≡◌, inl, ℕ, ◌+◌, ◌%◌, ◌^◌, �
 use Rattle.std.proofs.lemmas.Bool.{and_parts}
 use Rattle.mv_num.specs.Words.{add, shl}
 use Rattle.mv_ast.specs.declared.world.Action.{Action}
+use Rattle.mv_ast.specs.Traps.{depth_limit}
 use Rattle.mv_isa.specs.declared.instr.Instr.{Instr}
 use Rattle.mv_isa.specs.declared.instr.Instr.TheVariants.{Lui, Addi, Ecall}
 use Rattle.mv_isa.specs.declared.labelled.Line.{Line}
@@ -26,7 +27,7 @@ use Rattle.mv_select_control.specs.Runs.{Spot, Machine, outside, IsRun}
 use Rattle.mv_select_control.proofs.Walk as walk
 use Rattle.mv_select_control.proofs.Walk.{before_next, line_does, steps_on}
 use Rattle.mv_select_calls.specs.CallCode.{link_register, left_register, request_register}
-use Rattle.mv_select_calls.specs.Convention.{Layout, HoldsGlobals, depth_limit}
+use Rattle.mv_select_calls.specs.Convention.{Layout, HoldsGlobals}
 use Rattle.mv_refine_machine.specs.MachineRuns.{rest_of, spot_of, machine_text, machine_of, unpatched_word}
 use Rattle.mv_refine_machine.specs.MachineRuns as runs
 use Rattle.mv_refine_machine.specs.Laws.{IsFirst}

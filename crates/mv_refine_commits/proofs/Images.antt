@@ -11,7 +11,7 @@ use Rattle.mv_image.specs.Spelling.{Fields}
 use Rattle.mv_patch.specs.Orders.{is_known_order}
 use Rattle.mv_machine.specs.Runs.{State, Stop, Going, Exit, Trap, Fault, Request, Exits, Reads, Writes, Traps, Plans, Polls, Unknown, request_of, argument, answered, stopped, live_frames, refused, ordered, planned, act, acted, polled, environment_call, fetched_step, after, where_going, turn, runs_from, first}
 use Rattle.mv_machine.proofs.Leaving.{Leaves, planned_leaves, polled_leaves}
-use Rattle.mv_refine_commits.specs.Tabled.{IsOfWord}
+use Rattle.mv_ast.specs.Actions.{IsOfWord}
 
 module _ (image : Fields) where
   abbrev Has : State → Type 0

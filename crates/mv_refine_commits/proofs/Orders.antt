@@ -9,7 +9,7 @@ use Rattle.mv_ast.specs.declared.program.Known.TheVariants.{Getchar, Putchar, Po
 use Rattle.mv_ast.specs.declared.program.Program.{Program}
 use Rattle.mv_ast.specs.declared.world.Action.{Action}
 use Rattle.mv_ast.specs.declared.world.Action.TheVariants.{Flip}
-use Rattle.mv_ast.specs.Actions.{fits, is_switch_value}
+use Rattle.mv_ast.specs.Actions.{fits, is_switch_value, IsOfWord}
 use Rattle.mv_ast.specs.declared.program.Switch.{Switch}
 use Rattle.mv_ast.specs.declared.world.Binding.{Binding}
 use Rattle.mv_ast.specs.Counts as counts
@@ -42,7 +42,7 @@ use Rattle.mv_refine_machine.specs.Layout.{IsOutsideText, IsSetOut}
 use Rattle.mv_refine_machine.specs.MachineRuns.{machine_text, unpatched_word}
 use Rattle.mv_refine_commits.specs.Watched.{Watched, access, watched, IsQuiet, is_quiet, spot_at, watched_machine}
 use Rattle.mv_refine_commits.specs.Served.{IsPlanned, IsPlanOpen, AtStub, IsBack}
-use Rattle.mv_refine_commits.specs.Tabled.{IsOfWord, IsTabled, TabledOrdersAreServed}
+use Rattle.mv_refine_commits.specs.Tabled.{IsTabled, TabledOrdersAreServed}
 use Rattle.mv_refine_commits.proofs.Known.{Known as Laws}
 use Rattle.mv_refine_commits.proofs.Images.{run_image, run_actions}
 use Rattle.mv_refine_commits.proofs.Planning.{plan_gives, poll_gives}

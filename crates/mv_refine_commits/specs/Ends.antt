@@ -1,6 +1,7 @@
 -- How runs start and end, with each place sound.
 use Rattle.std.specs.Prelude.{ℕ, ◌≡◌, ◌+◌, ◌%◌, ◌^◌, ◌<◌, ◌≤◌, Bool, List, Option}
 use Rattle.mv_ast.specs.declared.world.Action.{Action}
+use Rattle.mv_ast.specs.Traps.{depth_limit}
 use Rattle.mv_isa.specs.Execution.{reg}
 use Rattle.mv_image.specs.Spelling.{Fields}
 use Rattle.mv_image.specs.Faults.{Rules}
@@ -10,7 +11,7 @@ use Rattle.mv_select_statements.specs.StatementCode.{first, trap_label}
 use Rattle.mv_select_control.specs.Placed.{Placed}
 use Rattle.mv_select_control.specs.Runs.{Machine}
 use Rattle.mv_select_calls.specs.CallCode.{link_register, left_register, live_register}
-use Rattle.mv_select_calls.specs.Convention.{Layout, Stands, depth_limit}
+use Rattle.mv_select_calls.specs.Convention.{Layout, Stands}
 use Rattle.mv_refine_machine.specs.Laws.{IsFirst}
 use Rattle.mv_refine_machine.specs.MachineRuns.{rest_of, machine_text}
 use Rattle.mv_refine_stubs.specs.Ends.{HasStopped}

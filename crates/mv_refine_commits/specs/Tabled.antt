@@ -6,7 +6,7 @@ use Rattle.mv_ast.specs.declared.program.Function.{Function}
 use Rattle.mv_ast.specs.declared.program.Switch.{Switch}
 use Rattle.mv_ast.specs.declared.program.Known.TheVariants.{Plan}
 use Rattle.mv_ast.specs.declared.world.Action.{Action}
-use Rattle.mv_ast.specs.declared.world.Action.TheVariants.{Skip, Flip}
+use Rattle.mv_ast.specs.Actions.{IsOfWord}
 use Rattle.mv_ast.specs.Counts as counts
 use Rattle.mv_ast.specs.Plans.{attributed_functions, switch_domain}
 use Rattle.mv_descriptors.specs.declared.rows.SwitchRow.{SwitchRow}
@@ -28,11 +28,6 @@ use Rattle.mv_refine_machine.specs.Layout.{IsSetOut}
 use Rattle.mv_refine_machine.specs.MachineRuns.{machine_text}
 use Rattle.mv_refine_commits.specs.Watched.{access, watched_machine}
 use Rattle.mv_refine_commits.specs.Served.{IsPlanOpen}
-
--- the value of an action, if it has one, is a word
-abbrev pub IsOfWord : Action → Type 0
-IsOfWord Skip = Unit {0}
-IsOfWord (Flip switch value) = value < 2 ^ 32
 
 -- Rows of switches and of functions stand in the program's order; some variant of a function fits words, one for each of its switches, exactly where they are
 -- a combination of the domains.

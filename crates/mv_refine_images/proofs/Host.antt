@@ -16,7 +16,7 @@ use Rattle.mv_refine_machine.specs.Laws.{IsByteOrEnd}
 use Rattle.mv_refine_machine.specs.MachineRuns.{called_at}
 use Rattle.mv_refine_machine.specs.Under.{words_under}
 use Rattle.mv_refine_machine.proofs.Whole.{laid, own}
-use Rattle.mv_refine_commits.specs.Tabled.{IsOfWord}
+use Rattle.mv_ast.specs.Actions.{IsOfWord}
 use Rattle.mv_refine_commits.specs.Watched.{Watched, access, watched_machine}
 use Rattle.mv_refine_programs.specs.Hosts.{IsOpenHost, IsOpenlyLoaded}
 use Rattle.mv_linker.specs.declared.parts.Parts.{Parts}

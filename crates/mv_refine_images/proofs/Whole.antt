@@ -11,7 +11,7 @@ use Rattle.mv_ast.specs.declared.program.Global.{Global}
 use Rattle.mv_ast.specs.declared.program.CType.{CType}
 use Rattle.mv_ast.specs.declared.program.CType.TheVariants.{Void, Scalar, Pointer}
 use Rattle.mv_ast.specs.declared.world.Action.{Action}
-use Rattle.mv_ast.specs.Actions.{fits}
+use Rattle.mv_ast.specs.Actions.{fits, IsOfWord}
 use Rattle.mv_meaning_numbering.specs.Typing.{IsFirstValue}
 use Rattle.mv_image.specs.Spelling.{Fields}
 use Rattle.mv_ir.specs.World.{World}
@@ -29,7 +29,6 @@ use Rattle.mv_refine_machine.specs.Under.{words_under}
 use Rattle.mv_refine_stubs.specs.Laws.{HoldsData}
 use Rattle.mv_refine_stubs.specs.Stubs.{return_address}
 use Rattle.mv_refine_commits.specs.Ends.{EntersQuietly}
-use Rattle.mv_refine_commits.specs.Tabled.{IsOfWord}
 use Rattle.mv_refine_commits.specs.Watched.{Watched, access, watched_machine}
 use Rattle.mv_refine_runs.specs.Behaves.{Behaves, LoadsWhatIsOpen}
 use Rattle.mv_refine_runs.specs.Main.{HasStubs, CallsMain}

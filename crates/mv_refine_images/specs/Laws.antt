@@ -2,10 +2,9 @@
 use Rattle.std.specs.Prelude.{ℕ, ◌<◌, ◌^◌, List, All, IsTrue}
 use Rattle.mv_ast.specs.declared.world.Action.{Action}
 use Rattle.mv_ast.specs.declared.program.Program.{Program}
-use Rattle.mv_ast.specs.Actions.{fits}
+use Rattle.mv_ast.specs.Actions.{fits, IsOfWord}
 use Rattle.mv_image.specs.Spelling.{Fields}
 use Rattle.mv_lower_correct.specs.WellFormed.{IsWellFormed}
-use Rattle.mv_refine_commits.specs.Tabled.{IsOfWord}
 use Rattle.mv_refine_runs.specs.Behaves.{Behaves, LoadsWhatIsOpen}
 use Rattle.mv_refine_images.specs.Built.{HasWordsOfGlobals, IsBuilt}
 use Rattle.mv_refine_images.specs.Closed.{closed}

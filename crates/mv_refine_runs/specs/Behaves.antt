@@ -3,7 +3,7 @@ use Rattle.std.specs.Prelude.{ℕ, ◌≡◌, ◌≢◌, ◌+◌, ◌-◌, ◌*�
 use Rattle.mv_ast.specs.declared.world.Action.{Action}
 use Rattle.mv_ast.specs.declared.world.Binding.{Binding}
 use Rattle.mv_ast.specs.declared.program.Program.{Program}
-use Rattle.mv_ast.specs.Actions.{fits}
+use Rattle.mv_ast.specs.Actions.{fits, IsOfWord}
 use Rattle.mv_fetch.specs.Held.{choices}
 use Rattle.mv_image.specs.Patched.{text_of}
 use Rattle.mv_image.specs.Spelling.{Fields}
@@ -20,7 +20,6 @@ use Rattle.mv_meaning.specs.declared.meant.Meant.{Meant}
 use Rattle.mv_meaning.specs.Growth.{Begins}
 use Rattle.mv_meaning.specs.Meaning.{mean}
 use Rattle.mv_refine_stores.specs.Between.{IsBetween}
-use Rattle.mv_refine_commits.specs.Tabled.{IsOfWord}
 
 -- how many bytes of an input a state has taken
 abbrev pub taken_of : (bytes : List ℕ) → State → ℕ

@@ -2,6 +2,7 @@
 use Rattle.std.proofs.Common.{◌≡◌, ℕ, zero, suc, Bool, true, false, cond, eqb, List, replicate, pos, refl, sym, ap, ◌∙◌, subst, arith}
 use Rattle.std.specs.Prelude.{slice_index}
 use Rattle.mv_ast.specs.declared.world.Action.{Action}
+use Rattle.mv_ast.specs.Traps.{depth_limit}
 use Rattle.mv_num.specs.Words.{shl}
 use Rattle.mv_isa.specs.declared.instr.Instr.TheVariants.{Lui, Addi}
 use Rattle.mv_isa.specs.Execution.{reg, put, upper}
@@ -17,7 +18,7 @@ use Rattle.mv_select_trees.proofs.Words.{word_of_pos}
 use Rattle.mv_select_control.specs.Placed.{Placed}
 use Rattle.mv_select_control.specs.Runs.{Spot, Machine, outside, IsRun}
 use Rattle.mv_select_calls.specs.CallCode.{link_register, left_register, live_register}
-use Rattle.mv_select_calls.specs.Convention.{Layout, HoldsGlobals, Stands, depth_limit}
+use Rattle.mv_select_calls.specs.Convention.{Layout, HoldsGlobals, Stands}
 use Rattle.mv_refine_machine.specs.Calm.{Rest, is_calm}
 use Rattle.mv_refine_machine.specs.Laws.{CalmIsTested, RunsAreRuns, RunsBeginInCalm, IsFirst}
 use Rattle.mv_refine_machine.specs.MachineRuns.{access, machine_of, machine_text}

@@ -1,11 +1,11 @@
 -- Stubs: the code before that of the functions, which starts a program, and the code to which traps jump.
 use Rattle.std.specs.Prelude.{ℕ, List, [], ◌∷◌, pos}
+use Rattle.mv_ast.specs.Traps.{depth_limit}
 use Rattle.mv_isa.specs.declared.instr.Instr.TheVariants.{Lui, Addi, Ecall}
 use Rattle.mv_isa.specs.declared.labelled.Line.{Line}
 use Rattle.mv_isa.specs.declared.labelled.Line.TheVariants.{Word, Label, Jump}
 use Rattle.mv_select_statements.specs.StatementCode.{first, trap_label}
 use Rattle.mv_select_calls.specs.CallCode.{link_register, left_register, request_register}
-use Rattle.mv_select_calls.specs.Convention.{depth_limit}
 
 -- sp
 abbrev pub stack_register : ℕ
