@@ -22,8 +22,9 @@ use crate::error::EvalError;
 use crate::reading::read_input;
 use crate::writing::write_all;
 use mv_ast::program::Program;
+use mv_interpret::program::evaluate;
 use mv_io::{Sink, Source};
-use mv_meaning::meant::{End, evaluate};
+use mv_meaning::meant::End;
 use std::alloc::Global;
 
 /// Reads up to 16,777,216 bytes of the input, evaluates the program on them at a bound, without an operator, and writes what it writes. The end is the

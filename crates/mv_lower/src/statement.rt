@@ -13,8 +13,8 @@ use crate::switch::{arm_code, in_arm, switch, tests};
 use mv_ast::program::{Arm, Expr, Function, Stmt};
 use mv_ir::stm::Stm;
 use mv_lower_expressions::expression::{lower_each, lower_expr, lower_optional};
-use mv_meaning::work::any_names;
 use mv_num::list::List;
+use mv_source_forms::names::any_names;
 use std::alloc::{AllocError, Global};
 
 /// Statements in order, of a function (C11 6.8).

@@ -13,7 +13,7 @@ use Rattle.mv_meaning.specs.declared.state.Lvalue.TheVariants as lvalue
 use Rattle.mv_meaning.specs.declared.state.Flow.{Flow}
 use Rattle.mv_meaning.specs.declared.state.Flow.TheVariants.{Goes, Breaks, Continues, Returns}
 use Rattle.mv_meaning.specs.Arms.{first_arm, all_labels}
-use Rattle.mv_meaning.specs.Runs.{arms_from}
+use Rattle.mv_meaning.specs.Loops.{arms_from}
 use Rattle.mv_meaning.specs.Meaning.{Evaluation, Context, ArmDenotation, then_on, after_body, after_switch, in_order, bodies_of, tried_labels, switch_flow, put_values, size_of, clear_local, optional_value, value_of, flow_of, flow_of_all, arm_of}
 use Rattle.mv_meaning.proofs.Equations.{flow_of-Block, flow_of-Clear, flow_of-Express, flow_of-If, flow_of-While, flow_of-Do, flow_of-For, flow_of-Switch, flow_of-Break, flow_of-Continue, flow_of-Return, arm_of_lem}
 use Rattle.mv_meaning.proofs.SwitchArms.{leads_to}

@@ -17,7 +17,7 @@ use Rattle.mv_meaning.specs.declared.state.Flow.{Flow}
 use Rattle.mv_meaning.specs.declared.state.Flow.TheVariants.{Goes, Breaks, Continues, Returns}
 use Rattle.mv_meaning.specs.Meaning.{Evaluation, Context, then_on, after_body, after_switch, in_order, bodies_of, switch_flow, put_values, size_of, clear_local, optional_value, value_of, flow_of, flow_of_all, arm_of, call_of, back_in, deeper, frame_of, context_at, run_of_main}
 use Rattle.mv_meaning.specs.Arms.{first_arm}
-use Rattle.mv_meaning.specs.Runs.{arms_from}
+use Rattle.mv_meaning.specs.Loops.{arms_from}
 use Rattle.mv_meaning.specs.Growth.{Grew, world_left, work_done, Grows, IsContinued, same, further}
 use Rattle.mv_meaning.proofs.Equations.{flow_of-Block, flow_of-Clear, flow_of-Express, flow_of-If, flow_of-While, flow_of-Do, flow_of-For, flow_of-Switch, flow_of-Break, flow_of-Continue, flow_of-Return, arm_of_lem}
 use Rattle.mv_meaning.proofs.SwitchArms.{leads_to}

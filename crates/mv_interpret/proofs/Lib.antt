@@ -1,0 +1,15 @@
+pub mod Calls
+pub mod Committing
+pub mod Depths
+pub mod Ends
+pub mod LabelTests
+pub mod Lists
+pub mod Orders
+pub mod OwnNumbers
+pub mod Reckoning
+pub mod Steps
+pub mod Stores
+pub mod Sums
+pub mod SwitchReads
+pub mod SwitchRuns
+pub mod Turns

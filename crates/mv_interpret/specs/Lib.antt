@@ -1,0 +1,4 @@
+pub mod Answers
+pub mod Forms
+pub mod Programs
+pub mod Runs

@@ -1,0 +1,20 @@
+//! The reference interpreter: a program's meaning, computed.
+//!
+//! - `program::evaluate` answers exactly the meaning of a program at a bound (`mv_meaning`): output, bytes taken, end, bindings,
+//!   log, and the work, which stops at the greatest number of 64 bits; and at every greater bound the meaning begins
+//!   with the answer, and is the answer where that has ended. The one condition is that the program has fewer than 2^32
+//!   functions.
+//! - `specs/Runs.antt` says how its own values show the world of the meaning.
+//! - `mv_test_top` runs worked programs on it.
+#![tactic(auto)]
+
+pub mod arms;
+pub mod interpreter;
+pub mod known;
+pub mod numbers;
+pub mod objects;
+pub mod plans;
+pub mod program;
+pub mod reads;
+pub mod state;
+pub mod work;

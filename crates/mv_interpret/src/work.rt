@@ -1,0 +1,221 @@
+// What the work of a commit or a revert is reckoned by: what it can patch.
+
+ghost use Rattle.std.specs.Prelude.{◌≡◌, ◌+◌, ◌*◌, if◌then◌else◌, map, sum, length, slice_get, option_to_list};
+ghost use Rattle.mv_ast.specs.Plans.{attributed_functions, switch_domain};
+ghost use Rattle.mv_ast.specs.Counts.{expr_calls, target_calls, stmt_calls, arm_calls, calls, assignments, patchable, product_of, is_attributed};
+ghost use Rattle.mv_meaning.specs.Growth.{capped};
+
+use mv_ast::program::{Arm, Expr, Form, Function, Program, Stmt, Target};
+use mv_num::list::List;
+
+// The sum of two counts, which stops at the greatest number.
+fn both(a: u64, b: u64) -> u64
+    ensures { result ≡ capped (a + b) }
+{
+    a.saturating_add(b)
+}
+
+// Their product, likewise.
+fn times(a: u64, b: u64) -> u64
+    ensures { result ≡ capped (a * b) }
+{
+    a.saturating_mul(b)
+}
+
+// 1 for the number of an attributed function.
+fn own_call(program: &Program, f: u32) -> u64
+    ensures { result ≡ (if is_attributed (slice_get program.now.functions f) then 1 else 0) }
+{
+    match program.functions.get(f as usize) {
+        None => 0,
+        Some(g) => u64::from(g.attributed),
+    }
+}
+
+// The direct calls of attributed functions in an expression.
+#[cycle(calls)]
+fn expr_calls(program: &Program, e: &Expr) -> u64
+    ensures { result ≡ capped (expr_calls program.now e.now) }
+{
+    match &e.what {
+        Form::Number(_) => 0,
+        Form::Read(target) => target_calls(program, target),
+        Form::Function(_) => 0,
+        Form::Unary(_, a) => expr_calls(program, a.get()),
+        Form::Binary(_, a, b) => both(expr_calls(program, a.get()), expr_calls(program, b.get())),
+        Form::Both(a, b) => both(expr_calls(program, a.get()), expr_calls(program, b.get())),
+        Form::Either(a, b) => both(expr_calls(program, a.get()), expr_calls(program, b.get())),
+        Form::Choose(c, a, b) => both(
+            expr_calls(program, c.get()),
+            both(expr_calls(program, a.get()), expr_calls(program, b.get())),
+        ),
+        Form::Convert(a) => expr_calls(program, a.get()),
+        Form::Set(target, a) => both(target_calls(program, target), expr_calls(program, a.get())),
+        Form::Change(_, _, target, a) => {
+            both(target_calls(program, target), expr_calls(program, a.get()))
+        }
+        Form::After(_, target) => target_calls(program, target),
+        Form::Direct(f, args) => both(own_call(program, *f), exprs_calls(program, args)),
+        Form::Through(args, callee) => {
+            both(
+                exprs_calls(program, args),
+                expr_calls(program, callee.get()),
+            )
+        }
+        Form::Known(_, args) => exprs_calls(program, args),
+    }
+}
+
+// The same in an lvalue.
+#[cycle(calls)]
+fn target_calls(program: &Program, target: &Target) -> u64
+    ensures { result ≡ capped (target_calls program.now target.now) }
+{
+    match target {
+        Target::Global(_) => 0,
+        Target::Local(_) => 0,
+        Target::GlobalAt(_, e) => expr_calls(program, e.get()),
+        Target::LocalAt(_, e) => expr_calls(program, e.get()),
+    }
+}
+
+// The same in some expressions.
+#[cycle(calls)]
+fn exprs_calls(program: &Program, es: &List<Expr>) -> u64
+    ensures { result ≡ capped (sum (map (expr_calls program.now) es.now)) }
+{
+    let mut all = 0;
+    for e in es.as_slice() {
+        all = both(all, expr_calls(program, e));
+    }
+    all
+}
+
+// The same in an expression that may be left out.
+fn optional_calls(program: &Program, e: &Option<Expr>) -> u64
+    ensures { result ≡ capped (sum (map (expr_calls program.now) (option_to_list e.now))) }
+{
+    match e {
+        None => 0,
+        Some(e) => expr_calls(program, e),
+    }
+}
+
+// The same in a statement.
+#[cycle(statement_calls)]
+fn stmt_calls(program: &Program, s: &Stmt) -> u64
+    ensures { result ≡ capped (stmt_calls program.now s.now) }
+{
+    match s {
+        Stmt::Block(body) => stmts_calls(program, body),
+        Stmt::Clear(_, values) => exprs_calls(program, values),
+        Stmt::Express(e) => expr_calls(program, e),
+        Stmt::If(e, yes_part, no_part) => both(
+            expr_calls(program, e),
+            both(
+                stmts_calls(program, yes_part),
+                stmts_calls(program, no_part),
+            ),
+        ),
+        Stmt::While(e, body) => both(expr_calls(program, e), stmts_calls(program, body)),
+        Stmt::Do(body, e) => both(expr_calls(program, e), stmts_calls(program, body)),
+        Stmt::For(first, test, step, body) => both(
+            both(optional_calls(program, test), optional_calls(program, step)),
+            both(stmts_calls(program, first), stmts_calls(program, body)),
+        ),
+        Stmt::Switch(e, arms) => both(expr_calls(program, e), arms_calls(program, arms)),
+        Stmt::Break => 0,
+        Stmt::Continue => 0,
+        Stmt::Return(e) => optional_calls(program, e),
+    }
+}
+
+// The same in some statements.
+#[cycle(statement_calls)]
+fn stmts_calls(program: &Program, body: &List<Stmt>) -> u64
+    ensures { result ≡ capped (sum (map (stmt_calls program.now) body.now)) }
+{
+    let mut all = 0;
+    for s in body.as_slice() {
+        all = both(all, stmt_calls(program, s));
+    }
+    all
+}
+
+// The same in the arms of a `switch`.
+#[cycle(statement_calls)]
+fn arms_calls(program: &Program, arms: &List<Arm>) -> u64
+    ensures { result ≡ capped (sum (map (arm_calls program.now) arms.now)) }
+{
+    let mut all = 0;
+    for arm in arms.as_slice() {
+        all = both(all, stmts_calls(program, &arm.body));
+    }
+    all
+}
+
+// The number of the values of a switch's domain.
+fn domain_size(program: &Program, switch: u32) -> u64
+    ensures { result ≡ length (switch_domain program.now switch) }
+{
+    match program.switches.get(switch as usize) {
+        None => 0,
+        Some(s) => s.values.len() as u64,
+    }
+}
+
+// The number of combinations of the values of some switches.
+fn combinations(program: &Program, switches: &[u32]) -> u64
+    ensures { result ≡ capped (product_of (map (λ s. length (switch_domain program.now s)) switches.now)) }
+{
+    let mut all: u64 = 1;
+    for s in switches {
+        all = times(all, domain_size(program, *s));
+    }
+    all
+}
+
+// The assignments of a function.
+fn assignments(program: &Program, g: &Function) -> u64
+    ensures { result ≡ capped (assignments program.now g.now) }
+{
+    if g.attributed {
+        combinations(program, g.switches.as_slice())
+    } else {
+        0
+    }
+}
+
+// What the calls in a function can patch.
+fn patchable_in(program: &Program, g: &Function) -> u64
+    ensures { result ≡ capped (calls program.now g.now * (1 + assignments program.now g.now)) }
+{
+    times(
+        stmts_calls(program, &g.body),
+        both(1, assignments(program, g)),
+    )
+}
+
+// The number of attributed functions.
+fn count_attributed(program: &Program) -> u64
+    ensures { result ≡ length (attributed_functions program.now) }
+{
+    let mut number = 0;
+    for f in program.functions.as_slice() {
+        if f.attributed {
+            number += 1;
+        }
+    }
+    number
+}
+
+/// The work of a commit or a revert: one, and one for each word that it may patch.
+pub fn plan_work(program: &Program) -> u64
+    ensures { result ≡ capped (1 + patchable program.now) }
+{
+    let mut all: u64 = 0;
+    for g in program.functions.as_slice() {
+        all = both(all, patchable_in(program, g));
+    }
+    both(1, both(count_attributed(program), both(all, all)))
+}

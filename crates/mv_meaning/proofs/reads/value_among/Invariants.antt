@@ -1,7 +1,0 @@
-use Rattle.std.proofs.Common.{◌≡◌, drop}
-use Rattle.mv_ast.specs.Plans.{value_among}
-use Rattle.mv_meaning.proofs.reads.value_among.Given as goal
-
-abbrev pub invariant-loop-i : goal.invariant-loop-i
-invariant-loop-i l =
-    value_among l.program l.global (drop l.i l.switches) (drop l.i l.values) ≡ value_among l.program l.global l.switches l.values
