@@ -3,7 +3,6 @@ use Rattle.std.specs.Prelude.{ℕ, suc, ◌+◌, Bool, true, false, ◌&&◌, �
 use Rattle.std.specs.List.{flat_map}
 use Rattle.mv_ast.specs.declared.place.Place.{Place}
 use Rattle.mv_ast.specs.declared.program.CType.{CType}
-use Rattle.mv_ast.specs.declared.program.CType.TheVariants as ctype
 use Rattle.mv_ast.specs.declared.program.Expr.{Expr}
 use Rattle.mv_ast.specs.declared.program.Function as program_function
 use Rattle.mv_ast.specs.declared.program.Global as program_global
@@ -31,7 +30,7 @@ use Rattle.mv_check_scope.specs.Conversions.{int, same_signature}
 use Rattle.mv_check_scope.specs.Known.{known_function, is_named}
 use Rattle.mv_check_scope.specs.Scoped.{start, declared, block_entered, block_left}
 use Rattle.mv_check_expressions.specs.Calls.{named_function}
-use Rattle.mv_check_expressions.specs.Judged.{Judged, Good, Broken, and_then}
+use Rattle.mv_check_expressions.specs.Judged.{Judged, Good, and_then}
 use Rattle.mv_check_expressions.specs.Judgements.{value_judgement}
 use Rattle.mv_check_outline.specs.Names.{each_once, among, is_among, place_of}
 use Rattle.mv_check_outline.specs.Outlined.{name_of, is_function, is_marked, is_there}
@@ -41,7 +40,7 @@ use Rattle.mv_check_uses.specs.Uses.{switches_named}
 use Rattle.mv_check_rules.specs.Nodes.{Declared, Scalar, Array, Function, Given, Nothing, Value, Values, Characters, Bearer, Global}
 use Rattle.mv_check_rules.specs.Nodes as node
 use Rattle.mv_check_rules.specs.Rules.{meaning_here, stands_here, is_empty, is_given, concluded}
-use Rattle.mv_check_rules.specs.Declarations.{Found, in_order, Base, Attribution, attributes, scalar_kind, specifiers, declared_as, parameters, given, expressions_of, is_constant, type_or_void, local_size, named_unless}
+use Rattle.mv_check_rules.specs.Declarations.{Found, in_order, Base, Attribution, attributes, scalar_kind, specifiers, declared_as, parameters, given, expressions_of, type_or_void, local_size, named_unless}
 use Rattle.mv_check_rules.specs.Statements.{body}
 
 -- ---- what holds of a name in the whole unit, whichever of its declarations says it
