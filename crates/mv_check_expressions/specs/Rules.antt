@@ -54,7 +54,7 @@ breaks_operands (what.After up a) = not (is_integer (type_of a))
 breaks_operands (what.Index a i) = not (is_integer (type_of i))
 breaks_operands _ = false
 
--- what is assigned is no object, or is `const`
+-- what is assigned is no scalar object, or is `const`
 abbrev pub breaks_assignments : Layer → Bool
 breaks_assignments (what.Assign op a b) = not (is_assignable a)
 breaks_assignments (what.Before up a) = not (is_assignable a)
@@ -82,9 +82,10 @@ abbrev pub breaks_indexes : Scope → Use → Layer → Bool
 breaks_indexes scope u (what.Index a i) = is_none (array_of a)
 breaks_indexes scope u layer = is_bare u (found scope u layer)
 
--- `void` is used as a value
+-- `void` is used as a value; an object is of that type in its own initial value alone
 abbrev pub is_valueless : Use → Seen → Bool
 is_valueless «use».Value (seen.Value e) = is_void e.ctype
+is_valueless «use».Value (seen.Object o) = is_void o.ctype
 is_valueless _ _ = false
 
 abbrev pub breaks_void : Scope → Use → Layer → Bool

@@ -1,5 +1,5 @@
 -- What an expression is found to be, and what is asked of it.
-use Rattle.std.specs.Prelude.{ℕ, Bool, true, false, not, is_none, is_some, Option, Some, None}
+use Rattle.std.specs.Prelude.{ℕ, Bool, true, false, ◌||◌, not, is_none, is_some, Option, Some, None}
 use Rattle.mv_ast.specs.declared.program.CType.{CType}
 use Rattle.mv_ast.specs.declared.program.CType.TheVariants.{Void, Pointer}
 use Rattle.mv_ast.specs.declared.program.Expr.{Expr}
@@ -12,7 +12,7 @@ use Rattle.mv_check_scope.specs.declared.meaning.Elements.{Elements}
 use Rattle.mv_check_scope.specs.declared.meaning.Variable.{Variable}
 use Rattle.mv_check_scope.specs.declared.meaning.Meaning.{Meaning}
 use Rattle.mv_check_scope.specs.declared.meaning.Meaning.TheVariants as meaning
-use Rattle.mv_check_scope.specs.Conversions.{int, typed}
+use Rattle.mv_check_scope.specs.Conversions.{int, typed, is_void}
 use Rattle.mv_check_expressions.specs.declared.seen.Object.{Object}
 use Rattle.mv_check_expressions.specs.declared.seen.Seen.{Seen}
 use Rattle.mv_check_expressions.specs.declared.seen.Seen.TheVariants as seen
@@ -58,9 +58,9 @@ abbrev pub object_of : Seen → Option Object
 object_of (seen.Object o) = Some o
 object_of _ = None
 
--- an object that may be assigned (C11 6.5.16)
+-- a scalar object that may be assigned (C11 6.5.16)
 abbrev pub is_assignable : Seen → Bool
-is_assignable (seen.Object o) = not o.fixed
+is_assignable (seen.Object o) = not (o.fixed || is_void o.ctype)
 is_assignable _ = false
 
 -- the switch that an object's name is

@@ -92,6 +92,7 @@ fn is_valueless(used: Use, seen: &Seen) -> bool
     match used {
         Use::Value => match seen {
             Seen::Value(e) => is_void(e.ctype),
+            Seen::Object(object) => is_void(object.ctype),
             _ => false,
         },
         _ => false,

@@ -6,6 +6,7 @@ ghost use Rattle.mv_check_scope.specs.Conversions.{typed, int};
 ghost use Rattle.mv_check_expressions.specs.Seen.{object_at, no_value, number_or_zero, value_of, type_of, array_of, object_of, is_assignable, switch_of, is_function, is_attributed, is_undefined, is_known, seen_as, seen_name};
 
 use mv_ast::program::{CType, Expr, Form, Known, Target};
+use mv_check_scope::convert::is_void;
 use mv_check_scope::meaning::{Elements, Meaning, Routine, Storage};
 use mv_num::kind::Kind;
 
@@ -161,7 +162,7 @@ pub fn is_assignable(seen: &Seen) -> bool
     ensures { result ≡ is_assignable seen.now }
 {
     match seen {
-        Seen::Object(object) => !object.fixed,
+        Seen::Object(object) => !(object.fixed || is_void(object.ctype)),
         _ => false,
     }
 }

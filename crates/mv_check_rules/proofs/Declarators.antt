@@ -1,5 +1,5 @@
 -- Declarators at file scope agree, and what an attribute among specifiers stands on.
-use Rattle.std.proofs.Common.{◌≡◌, ℕ, refl, sym, ◌∙◌, ap, Bool, true, false, ◌&&◌, ◌||◌, not, is_some, unwrap_or, if◌then◌else◌, Option, Some, None, List, [], ◌∷◌, ◌++◌, map, slice_get}
+use Rattle.std.proofs.Common.{◌≡◌, ℕ, refl, sym, ◌∙◌, ap, Bool, true, false, ◌&&◌, ◌||◌, not, is_some, unwrap_or, if◌then◌else◌, Option, Some, None, List, [], ◌∷◌, map, fold, slice_get}
 use Rattle.std.proofs.lemmas.Bool.{true≢false}
 use Rattle.std.specs.List.{list_any}
 use Rattle.mv_num.specs.declared.kind.Kind.{Kind}
@@ -7,7 +7,6 @@ use Rattle.mv_ast.specs.declared.place.Place.{Place}
 use Rattle.mv_ast.specs.declared.program.CType.{CType}
 use Rattle.mv_ast.specs.declared.program.CType.TheVariants as ctype
 use Rattle.mv_ast.specs.declared.unit.Declarator.{Declarator}
-use Rattle.mv_ast.specs.declared.unit.Initial.{Initial}
 use Rattle.mv_ast.specs.declared.unit.Item.{Item}
 use Rattle.mv_ast.specs.declared.unit.Line.{Line}
 use Rattle.mv_ast.specs.declared.unit.Shape.{Shape-F, out-Shape}
@@ -30,10 +29,10 @@ use Rattle.mv_check_declarations.specs.Globals.{global_words}
 use Rattle.mv_check_declarations.specs.Initials as code_initials
 use Rattle.mv_check_declarations.specs.Objects as code_objects
 use Rattle.mv_check_declarations.specs.Specifiers as code_specifiers
+use Rattle.mv_check_declarations.specs.ValueSets.{with_member}
 use Rattle.mv_types.specs.declared.contents.Contents.{Contents}
 use Rattle.mv_types.specs.Contents.{in_scope}
 use Rattle.mv_types.specs.Foreknown.{foreknown}
-use Rattle.mv_types.specs.Functions.{definition_parameters}
 use Rattle.mv_types.specs.Objects as code_types
 use Rattle.mv_types.specs.Objects.{object_judgement}
 use Rattle.mv_types.specs.Units as code
@@ -41,8 +40,8 @@ use Rattle.mv_types.specs.Units.{named_declarator, declarator_judgement}
 use Rattle.mv_check_rules.specs.Nodes.{Declared, Bearer, Given}
 use Rattle.mv_check_rules.specs.Nodes as node
 use Rattle.mv_check_rules.specs.Rules.{bears_none, is_empty, concluded}
-use Rattle.mv_check_rules.specs.Declarations.{Attribution, Base, attributes, is_switch, declared_as, given, scalar_kind}
-use Rattle.mv_check_rules.specs.Units.{Declarations, behind, is_constant_object, bearer_of_form, is_main, bearer, bearers, constant_expression, default_domain, domain, by_form, nameless, by_name, defined_parameters, declarator}
+use Rattle.mv_check_rules.specs.Declarations.{attributes, is_switch, given, scalar_kind}
+use Rattle.mv_check_rules.specs.Units.{Declarations, behind, is_constant_object, bearer_of_form, is_main, bearer, bearers, constant_expression, distinct, default_domain, domain, by_name, declarator}
 use Rattle.mv_check_rules.proofs.Agreement.{mapped, over, attribution_of, declared_of, base_of_specified, holder, ParametersAgree, BodyAgrees}
 use Rattle.mv_check_rules.proofs.Attributes.{attributes_agree}
 use Rattle.mv_check_rules.proofs.Bases.{holders_agree}
@@ -154,13 +153,17 @@ module _ (items : List Item) (fixed : Bool) where
 
 -- ---- domains
 
+distinct_same : (done values : List ℕ) → code_globals.distinct_behind done values ≡ fold with_member done values
+distinct_same done [] = refl
+distinct_same done (v ∷ vs) = distinct_same (with_member done v) vs
+
 default_same : (s : Scope) (enumeration : Option ℕ) → code_globals.default_domain s enumeration ≡ default_domain s enumeration
 default_same s None = refl
 default_same s (Some n) = by (slice_get s.enumerations n)
   where
-    by : (values : Option (List ℕ)) → code_globals.values_of_enumeration values ≡ code_globals.distinct (unwrap_or values [])
+    by : (values : Option (List ℕ)) → code_globals.values_of_enumeration values ≡ distinct (unwrap_or values [])
     by None = refl
-    by (Some vs) = refl
+    by (Some vs) = distinct_same [] vs
 
 domain_same : (s : Scope) (enumeration : Option ℕ) (a : Option Attribute) → code_types.domain_by s enumeration a ≡ domain s enumeration (attribution_of a)
 domain_same s enumeration None = refl

@@ -1,5 +1,5 @@
 -- Declarators of objects at file scope agree.
-use Rattle.std.proofs.Common.{◌≡◌, ℕ, zero, suc, ◌+◌, refl, sym, ◌∙◌, ap, subst, Bool, true, false, ◌&&◌, ◌||◌, not, nat_eq, nat_le, nat_lt, is_some, is_none, unwrap_or, if◌then◌else◌, Option, Some, None, List, [], ◌∷◌, ◌++◌, map, length, slice_get, eqb-true, le-leb, arith}
+use Rattle.std.proofs.Common.{◌≡◌, ℕ, zero, suc, refl, sym, ◌∙◌, ap, subst, Bool, true, false, ◌&&◌, ◌||◌, not, nat_eq, nat_le, is_some, is_none, unwrap_or, if◌then◌else◌, Option, Some, None, List, [], ◌∷◌, ◌++◌, map, length, slice_get, eqb-true, le-leb, arith}
 use Rattle.std.specs.Prelude.{slice_set}
 use Rattle.std.proofs.lemmas.Bool.{true≢false}
 use Rattle.std.proofs.lemmas.List.{length-map, map-set, map-append}
@@ -25,7 +25,6 @@ use Rattle.mv_check_scope.specs.Scoped.{declared}
 use Rattle.mv_check_expressions.specs.declared.constant.Constant.{Constant}
 use Rattle.mv_check_expressions.specs.Judged.{Judged, Good, Broken, and_then}
 use Rattle.mv_check_declarations.specs.declared.globals.Words.{Words}
-use Rattle.mv_check_declarations.specs.declared.objects.Breaches.{Breaches}
 use Rattle.mv_check_declarations.specs.Constants.{is_positive}
 use Rattle.mv_check_declarations.specs.Initials as code_initials
 use Rattle.mv_check_declarations.specs.Initials.{unless_zero}
@@ -39,9 +38,9 @@ use Rattle.mv_types.specs.Objects as code
 use Rattle.mv_types.specs.Objects.{may_declare, agrees_with, object_at, number_of, object_scope, objects_behind, object_judgement}
 use Rattle.mv_check_rules.specs.Nodes.{Declared, Scalar, Array, Given, Nothing, Value, Values, Characters, Global}
 use Rattle.mv_check_rules.specs.Nodes as node
-use Rattle.mv_check_rules.specs.Rules.{all_convert, converts_given, array_size, filled, fits_extent, is_string, is_char, is_char_array, is_void_object, is_size, has_type, is_given, same_domain, allows_object, meaning_here, unless_broken, first_broken, concluded}
+use Rattle.mv_check_rules.specs.Rules.{all_convert, converts_given, array_size, fits_extent, is_string, is_char, is_char_array, is_void_object, is_size, has_type, is_given, same_domain, allows_object, meaning_here, unless_broken, first_broken, concluded}
 use Rattle.mv_check_rules.specs.Declarations.{given, local_size, type_or_void, named_unless}
-use Rattle.mv_check_rules.specs.Units.{Declarations, constant_expression, word_of, first_words, last_zero, global_in, global_number, global_at, object_meaning, first_of, new_global, declared_again, with_global, object_named, object_found, earlier, object}
+use Rattle.mv_check_rules.specs.Units.{Declarations, constant_expression, word_of, first_words, global_in, global_number, global_at, object_meaning, first_of, new_global, declared_again, with_global, object_named, object_found, earlier, object}
 use Rattle.mv_check_rules.proofs.Agreement.{mapped}
 use Rattle.mv_check_rules.proofs.Parts.{then_then}
 use Rattle.mv_check_rules.proofs.Program.{object_of, contents_of}

@@ -1,5 +1,5 @@
 -- The end of a unit, and its program, agree.
-use Rattle.std.proofs.Common.{◌≡◌, ℕ, suc, refl, sym, ◌∙◌, ap, Bool, true, false, not, is_some, is_none, unwrap_or, if◌then◌else◌, Option, Some, None, List, [], ◌∷◌, ◌++◌, map, slice_get}
+use Rattle.std.proofs.Common.{◌≡◌, ℕ, suc, refl, sym, ◌∙◌, ap, is_some, unwrap_or, if◌then◌else◌, Option, Some, None, List, [], ◌∷◌, ◌++◌, map, slice_get}
 use Rattle.std.specs.Prelude.{codes}
 use Rattle.mv_ast.specs.declared.place.Place.{Place}
 use Rattle.mv_ast.specs.declared.program.Function.{Function}
@@ -10,7 +10,7 @@ use Rattle.mv_ast.specs.declared.program.Switch.{Switch}
 use Rattle.mv_check_scope.specs.declared.meaning.Meaning.{Meaning}
 use Rattle.mv_check_scope.specs.declared.meaning.Meaning.TheVariants as meaning
 use Rattle.mv_check_scope.specs.Spaces.{named}
-use Rattle.mv_check_expressions.specs.Judged.{Judged, Good, Broken}
+use Rattle.mv_check_expressions.specs.Judged.{Good}
 use Rattle.mv_types.specs.declared.contents.Contents.{Contents}
 use Rattle.mv_types.specs.declared.contents.Object.{Object}
 use Rattle.mv_types.specs.Contents as code_contents

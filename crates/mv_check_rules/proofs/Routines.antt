@@ -1,12 +1,11 @@
 -- Declarators of functions agree.
-use Rattle.std.proofs.Common.{◌≡◌, ℕ, refl, sym, ◌∙◌, ap, Bool, true, false, ◌&&◌, ◌||◌, not, nat_eq, is_some, unwrap_or, if◌then◌else◌, Option, Some, None, List, [], ◌∷◌, ◌++◌, map, length, slice_get}
+use Rattle.std.proofs.Common.{◌≡◌, ℕ, refl, sym, ◌∙◌, ap, Bool, true, false, ◌&&◌, ◌||◌, not, is_some, if◌then◌else◌, Option, Some, None, List, [], ◌∷◌, slice_get}
 use Rattle.mv_ast.specs.declared.place.Place.{Place}
 use Rattle.mv_ast.specs.declared.program.CType.{CType}
 use Rattle.mv_ast.specs.declared.program.CType.TheVariants.{Void}
 use Rattle.mv_ast.specs.declared.program.Function.{Function}
 use Rattle.mv_ast.specs.declared.program.Known.{Known}
 use Rattle.mv_ast.specs.declared.program.Signature.{Signature}
-use Rattle.mv_ast.specs.declared.program.Stmt.{Stmt}
 use Rattle.mv_ast.specs.declared.unit.Declarator.{Declarator}
 use Rattle.mv_ast.specs.declared.unit.Initial.{Initial}
 use Rattle.mv_ast.specs.declared.unit.Initial.TheVariants as initial
@@ -20,10 +19,8 @@ use Rattle.mv_check_scope.specs.declared.meaning.Meaning.TheVariants as meaning
 use Rattle.mv_check_scope.specs.declared.scope.Scope.{Scope}
 use Rattle.mv_check_scope.specs.Known.{known_function}
 use Rattle.mv_check_scope.specs.Scoped.{declared}
-use Rattle.mv_check_scope.specs.Spaces.{named}
 use Rattle.mv_check_expressions.specs.Judged.{Judged, Good, Broken, and_then}
 use Rattle.mv_check_expressions.specs.Judgements.{value_judgement}
-use Rattle.mv_check_declarations.specs.declared.initials.Converted.{Converted}
 use Rattle.mv_check_declarations.specs.Initials.{plain_values}
 use Rattle.mv_check_declarations.specs.Parameters.{parameters_judgement}
 use Rattle.mv_types.specs.declared.contents.Contents.{Contents}
@@ -33,9 +30,9 @@ use Rattle.mv_types.specs.Functions as code
 use Rattle.mv_types.specs.Functions.{may_declare, broken_rule, function_scope, function_meaning, definition_parameters, function_judgement}
 use Rattle.mv_check_rules.specs.Nodes.{Given, Nothing, Value, Values, Characters}
 use Rattle.mv_check_rules.specs.Nodes as node
-use Rattle.mv_check_rules.specs.Rules.{is_prototype, allows_function, is_given, stands_here, meaning_here, concluded, unless_broken, first_broken}
-use Rattle.mv_check_rules.specs.Declarations.{given, parameters}
-use Rattle.mv_check_rules.specs.Units.{Declarations, behind, function_number, is_attributed, is_defined, is_defined_at, routine_named, params_of_form, params_of, function_entered, function_found, function_left, definition, defined_as, defined_if, defined_parameters, routine}
+use Rattle.mv_check_rules.specs.Rules.{is_prototype, allows_function, is_given, meaning_here, concluded, unless_broken, first_broken}
+use Rattle.mv_check_rules.specs.Declarations.{given}
+use Rattle.mv_check_rules.specs.Units.{Declarations, behind, function_number, is_attributed, is_defined, is_defined_at, routine_named, params_of_form, params_of, function_entered, function_left, definition, defined_if, defined_parameters, routine}
 use Rattle.mv_check_rules.proofs.Agreement.{mapped, ParametersAgree, BodyAgrees}
 use Rattle.mv_check_rules.proofs.Parts.{then_same, then_to}
 use Rattle.mv_check_rules.proofs.Program.{contents_of}

@@ -1,10 +1,8 @@
 -- Declarations and units agree.
-use Rattle.std.proofs.Common.{◌≡◌, ℕ, refl, sym, ◌∙◌, ap, Bool, true, false, ◌&&◌, not, if◌then◌else◌, List, [], ◌∷◌}
-use Rattle.mv_ast.specs.declared.program.Program.{Program}
+use Rattle.std.proofs.Common.{◌≡◌, refl, sym, ◌∙◌, ap, Bool, true, false, ◌&&◌, not, if◌then◌else◌, List, [], ◌∷◌}
 use Rattle.mv_ast.specs.declared.unit.Item.{Item}
 use Rattle.mv_ast.specs.declared.unit.Specs.{out-Specs}
 use Rattle.mv_ast.specs.declared.unit.Unit as tree
-use Rattle.mv_ast.specs.declared.place.Place.{Place}
 use Rattle.mv_check_scope.specs.declared.scope.Scope.{Scope}
 use Rattle.mv_check_expressions.specs.Judged.{Judged, Good, Broken, and_then}
 use Rattle.mv_check_outline.specs.Outlined.{is_filled}
@@ -12,14 +10,13 @@ use Rattle.mv_check_declarations.specs.declared.attributes.Position.TheVariants 
 use Rattle.mv_check_declarations.specs.declared.specifiers.Specified.{Specified}
 use Rattle.mv_check_declarations.specs.Specifiers as code_specifiers
 use Rattle.mv_check_declarations.specs.Turns.{through}
-use Rattle.mv_types.specs.declared.contents.Contents.{Contents}
-use Rattle.mv_types.specs.Contents.{in_scope, nothing_declared}
+use Rattle.mv_types.specs.Contents.{in_scope}
 use Rattle.mv_types.specs.Foreknown.{foreknown}
 use Rattle.mv_types.specs.Units as code
 use Rattle.mv_types.specs.Units.{declarator_judgement, names_judgement, item_judgement, program_judgement, unit_judgement}
 use Rattle.mv_check_rules.specs.Nodes as node
 use Rattle.mv_check_rules.specs.Rules.{is_empty, concluded}
-use Rattle.mv_check_rules.specs.Declarations.{Base, in_order, specifiers}
+use Rattle.mv_check_rules.specs.Declarations.{Base, in_order}
 use Rattle.mv_check_rules.specs.Units.{Declarations, none_declared, behind, bearers, declarator, declares_nothing, item, unit_end, judged_by_rules}
 use Rattle.mv_check_rules.proofs.Agreement.{mapped, over, base_of_specified, ParametersAgree, BodyAgrees}
 use Rattle.mv_check_rules.proofs.Bases.{specifiers_agree}

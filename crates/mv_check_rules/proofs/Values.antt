@@ -1,27 +1,31 @@
 -- Initial values, which the code judges and gathers in one go, agree with those that are judged first and then put together.
-use Rattle.std.proofs.Common.{◌≡◌, ℕ, refl, sym, ◌∙◌, ap, Bool, true, false, ◌&&◌, ◌||◌, not, is_some, unwrap_or, if◌then◌else◌, Option, Some, None, List, [], ◌∷◌, ◌++◌, map, length, suc, append_assoc, append-nil}
+use Rattle.std.proofs.Common.{◌≡◌, ℕ, refl, sym, ◌∙◌, ap, Bool, true, false, ◌&&◌, ◌||◌, not, unwrap_or, Option, Some, None, List, [], ◌∷◌, ◌++◌, map, length, suc, append_assoc, append-nil}
 use Rattle.std.specs.List.{list_any}
-use Rattle.mv_ast.specs.declared.place.Place.{Place}
 use Rattle.mv_ast.specs.declared.program.CType.{CType}
 use Rattle.mv_ast.specs.declared.program.Expr.{Expr}
+use Rattle.mv_ast.specs.declared.program.Form.{Form, Form-F, out-Form}
+use Rattle.mv_ast.specs.declared.program.Form.TheOpen as form
 use Rattle.mv_ast.specs.declared.program.Local.{Local}
+use Rattle.mv_ast.specs.declared.program.Target.{Target}
 use Rattle.mv_ast.specs.declared.unit.Initial.{Initial}
 use Rattle.mv_ast.specs.declared.unit.Initial.TheVariants as initial
 use Rattle.mv_ast.specs.declared.unit.Node.{Node}
 use Rattle.mv_check_scope.specs.declared.scope.Scope.{Scope}
-use Rattle.mv_check_scope.specs.Constants.{converts}
+use Rattle.mv_check_scope.specs.Constants.{constant_value, converts}
+use Rattle.mv_check_expressions.specs.Calls.{function_form, named_function}
 use Rattle.mv_check_expressions.specs.Judged.{Judged, Good, Broken, and_then, each}
 use Rattle.mv_check_expressions.specs.Judgements.{value_judgement}
 use Rattle.mv_check_declarations.specs.declared.globals.Words.{Words}
 use Rattle.mv_check_declarations.specs.declared.initials.Converted.{Converted}
 use Rattle.mv_check_declarations.specs.Turns.{through}
-use Rattle.mv_check_declarations.specs.Globals.{constant_word, with_word, word_or_broken, first_word, no_words, string_words, global_words}
+use Rattle.mv_check_declarations.specs.Globals as code_globals
+use Rattle.mv_check_declarations.specs.Globals.{address_form, with_word, word_or_broken, first_word, no_words, string_words, global_words}
 use Rattle.mv_check_declarations.specs.Initials.{with_converted, converted_value, none_converted, initial_values}
 use Rattle.mv_check_rules.specs.Nodes.{Given, Nothing, Value, Values, Characters}
 use Rattle.mv_check_rules.specs.Nodes as node
 use Rattle.mv_check_rules.specs.Rules.{all_convert, concluded}
 use Rattle.mv_check_rules.specs.Declarations.{given}
-use Rattle.mv_check_rules.specs.Units.{constant_expression, word_of}
+use Rattle.mv_check_rules.specs.Units.{address_or, constant_word, constant_expression, word_of}
 use Rattle.mv_check_rules.proofs.Agreement.{mapped}
 
 -- ---- values in their order
@@ -120,6 +124,17 @@ initial_agrees t (Some (initial.Chars bytes)) s = refl
 
 -- ---- the words of globals
 
+function_same : (x : Form-F Form Target Expr) → address_form x ≡ function_form x
+function_same (form.Function f) = refl
+function_same x = refl
+
+address_same : (address value : Option ℕ) → code_globals.address_or address value ≡ address_or address value
+address_same None value = refl
+address_same (Some f) value = refl
+
+word_same : (e : Expr) → code_globals.constant_word e ≡ constant_word e
+word_same e = ap (λ f. code_globals.address_or f (constant_value e)) (function_same (out-Form e.what)) ∙ address_same (named_function e) (constant_value e)
+
 abbrev pub add_word : CType → Words → Expr → Words
 add_word t x e = with_word t x e (unwrap_or (constant_word e) 0)
 
@@ -136,9 +151,9 @@ word_agrees t s n x = by (value_judgement s n)
     constant e None h = refl
     constant e (Some w) h = ap (λ (o : Option ℕ). Good (with_word t x e (unwrap_or o 0))) (sym h)
 
-    by : (j : Judged Expr) → and_then j (λ e. word_or_broken n.place t x e (constant_word e)) ≡
+    by : (j : Judged Expr) → and_then j (λ e. word_or_broken n.place t x e (code_globals.constant_word e)) ≡
         mapped (add_word t x) (and_then j (λ e. concluded n.place s (node.Needed (constant_word e)) e))
-    by (Good e) = constant e (constant_word e) refl
+    by (Good e) = ap (word_or_broken n.place t x e) (word_same e) ∙ constant e (constant_word e) refl
     by (Broken place rule) = refl
 
 pub words_agree : (l : Local) (values : Option Initial) (s : Scope) → global_words l values s ≡ mapped (words_of l) (given constant_expression values s)

@@ -1,8 +1,8 @@
 -- What declarations at file scope come to, and the program that a unit is where it breaks no rule (C11 6.9).
-use Rattle.std.specs.Prelude.{ℕ, suc, Bool, true, false, ◌&&◌, ◌||◌, nat_lt, is_some, unwrap_or, if◌then◌else◌, List, [], ◌∷◌, ◌++◌, map, length, replicate, Option, Some, None, slice_get, slice_set, codes}
+use Rattle.std.specs.Prelude.{ℕ, suc, ◌+◌, Bool, true, false, ◌&&◌, ◌||◌, not, nat_lt, is_some, unwrap_or, if◌then◌else◌, List, [], ◌∷◌, ◌++◌, map, filter, fold, length, replicate, Option, Some, None, slice_get, slice_set, codes}
+use Rattle.std.specs.List.{flat_map}
 use Rattle.mv_ast.specs.declared.place.Place.{Place}
 use Rattle.mv_ast.specs.declared.program.CType.{CType}
-use Rattle.mv_ast.specs.declared.program.CType.TheVariants as ctype
 use Rattle.mv_ast.specs.declared.program.Expr.{Expr}
 use Rattle.mv_ast.specs.declared.program.Function as program_function
 use Rattle.mv_ast.specs.declared.program.Global as program_global
@@ -25,48 +25,63 @@ use Rattle.mv_check_scope.specs.declared.meaning.Meaning.TheVariants as meaning
 use Rattle.mv_check_scope.specs.declared.meaning.Storage.{Storage}
 use Rattle.mv_check_scope.specs.declared.meaning.Storage.TheVariants as storage
 use Rattle.mv_check_scope.specs.declared.scope.Scope.{Scope}
+use Rattle.mv_check_scope.specs.Constants.{constant_value}
 use Rattle.mv_check_scope.specs.Conversions.{int, same_signature}
 use Rattle.mv_check_scope.specs.Known.{known_function, is_named}
 use Rattle.mv_check_scope.specs.Scoped.{start, declared, block_entered, block_left}
-use Rattle.mv_check_expressions.specs.Judged.{Judged, Good, Broken, and_then}
+use Rattle.mv_check_expressions.specs.Calls.{named_function}
+use Rattle.mv_check_expressions.specs.Judged.{Judged, Good, and_then}
 use Rattle.mv_check_expressions.specs.Judgements.{value_judgement}
-use Rattle.mv_check_outline.specs.declared.outline.Wanted.TheVariants as wanted
-use Rattle.mv_check_outline.specs.Names.{among, is_among, place_of}
-use Rattle.mv_check_outline.specs.Outlined as outlined
-use Rattle.mv_check_outline.specs.Outlined.{name_of}
-use Rattle.mv_check_declarations.specs.Globals.{constant_word, distinct}
-use Rattle.mv_types.specs.declared.foreknown.Said.TheVariants as said
+use Rattle.mv_check_outline.specs.Names.{each_once, among, is_among, place_of}
+use Rattle.mv_check_outline.specs.Outlined.{name_of, is_function, is_marked, is_there}
+use Rattle.mv_check_declarations.specs.ValueSets.{with_member}
 use Rattle.mv_types.specs.Foreknown as foreknown
 use Rattle.mv_check_uses.specs.Uses.{switches_named}
 use Rattle.mv_check_rules.specs.Nodes.{Declared, Scalar, Array, Function, Given, Nothing, Value, Values, Characters, Bearer, Global}
 use Rattle.mv_check_rules.specs.Nodes as node
 use Rattle.mv_check_rules.specs.Rules.{meaning_here, stands_here, is_empty, is_given, concluded}
-use Rattle.mv_check_rules.specs.Declarations.{Found, in_order, Base, Attribution, attributes, scalar_kind, specifiers, declared_as, parameters, given, expressions_of, is_constant, type_or_void, local_size, named_unless}
+use Rattle.mv_check_rules.specs.Declarations.{Found, in_order, Base, Attribution, attributes, scalar_kind, specifiers, declared_as, parameters, given, expressions_of, type_or_void, local_size, named_unless}
 use Rattle.mv_check_rules.specs.Statements.{body}
 
 -- ---- what holds of a name in the whole unit, whichever of its declarations says it
 
+-- the names of a unit's declarators that are such in their items, each once, in order of first declaration
+abbrev pub names_where : (Item → Declarator → Bool) → List Item → List (List ℕ)
+names_where is_such items = each_once (flat_map (λ i. map name_of (filter (is_such i) i.names)) items)
+
+-- the functions that a unit defines, in order of their first declarations
+abbrev pub functions : List Item → List (List ℕ)
+functions items = among (names_where (λ i d. is_function d && is_there i.body) items) (names_where (λ i d. is_function d) items)
+
+-- those of which a declaration has the attribute
+abbrev pub attributed_functions : List Item → List (List ℕ)
+attributed_functions = names_where (λ i d. is_function d && is_marked i d)
+
+abbrev pub objects : List Item → List (List ℕ)
+objects = names_where (λ i d. not (is_function d))
+
+abbrev pub attributed_objects : List Item → List (List ℕ)
+attributed_objects = names_where (λ i d. not (is_function d) && is_marked i d)
+
 -- an object of which a declaration says `const`
 abbrev pub is_constant_object : List Item → List ℕ → Bool
-is_constant_object items name = is_among name (foreknown.names said.Constant items)
+is_constant_object items name = is_among name (names_where foreknown.is_constant items)
 
 -- a function of which a declaration has the attribute
 abbrev pub is_attributed : List Item → List ℕ → Bool
-is_attributed items name = is_among name (foreknown.names said.Attributed items)
+is_attributed items name = is_among name (attributed_functions items)
 
--- the number of a function that the unit defines, by its first declaration
+-- the number of a function that the unit defines
 abbrev pub function_number : List Item → List ℕ → Option ℕ
-function_number items name = place_of name (outlined.functions items)
+function_number items name = place_of name (functions items)
 
--- among the attributed functions that the unit defines
+-- the number of an attributed function among those that the unit defines
 abbrev pub attributed_number : List Item → List ℕ → Option ℕ
-attributed_number items name =
-    if is_attributed items name then Some (unwrap_or (place_of name (among (outlined.names wanted.MarkedFunctions items) (outlined.functions items))) 0)
-    else None
+attributed_number items name = if is_attributed items name then Some (unwrap_or (place_of name (among (attributed_functions items) (functions items))) 0) else None
 
 -- the number of an object that has the attribute among the switches
 abbrev pub switch_number : List Item → List ℕ → Option ℕ
-switch_number items name = place_of name (among (outlined.names wanted.MarkedObjects items) (outlined.names wanted.Objects items))
+switch_number items name = place_of name (among (attributed_objects items) (objects items))
 
 -- ---- the unit so far
 
@@ -77,7 +92,7 @@ pub record Declarations : Type 0 where
   pub functions : List (Option program_function.Function)
 
 abbrev pub none_declared : List Item → Declarations
-none_declared items = record { scope = start; globals = []; functions = replicate (length (outlined.functions items)) None }
+none_declared items = record { scope = start; globals = []; functions = replicate (length (functions items)) None }
 
 abbrev pub behind : Scope → Declarations → Declarations
 behind s c = record { scope = s; globals = c.globals; functions = c.functions }
@@ -105,7 +120,15 @@ bearers items constant ds = map (λ d. bearer (constant || is_constant_object it
 
 -- ---- objects
 
--- the word of a constant, whether it is a number or a function's address (C11 6.6)
+abbrev pub address_or : Option ℕ → Option ℕ → Option ℕ
+address_or (Some f) value = Some (f + 1)
+address_or None value = value
+
+-- the word of a constant (C11 6.6): one more than the number of the function that it names, or the value of an integer constant expression
+abbrev pub constant_word : Expr → Option ℕ
+constant_word e = address_or (named_function e) (constant_value e)
+
+-- a value of an object at file scope, which is a constant
 abbrev pub constant_expression : Scope → Node → Judged Expr
 constant_expression s n = and_then (value_judgement s n) (λ e. concluded n.place s (node.Needed (constant_word e)) e)
 
@@ -122,6 +145,10 @@ abbrev pub first_words : CType → Option ℕ → Given → Option (List ℕ)
 first_words t size Nothing = None
 first_words t size (Characters bytes) = Some (map (converted t) bytes ++ last_zero size (length bytes))
 first_words t size g = Some (map (word_of t) (expressions_of g))
+
+-- the different ones of some values, in order of first appearance
+abbrev pub distinct : List ℕ → List ℕ
+distinct = fold with_member []
 
 -- 0 and 1, or the different values of the enumeration that is the type
 abbrev pub default_domain : Scope → Option ℕ → List ℕ

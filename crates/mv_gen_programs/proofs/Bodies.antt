@@ -94,10 +94,10 @@ module _ (names : Names) (signatures : List Signature) (p : Places) (j c : ℕ) 
   count n = seen.Value (constant n)
 
   argument_at : (at : Place) → judgement scope (word at (codes "a")) «use».Value ≡ Good argument
-  argument_at at = object_value scope at (codes "a") argument_variable refl
+  argument_at at = object_value scope at (codes "a") argument_variable refl refl
 
   switch_at : (at : Place) → judgement scope (word at (switch_name j)) «use».Value ≡ Good switch
-  switch_at at = object_value scope at (switch_name j) (switch_variable j) (switch_meant names signatures j h)
+  switch_at at = object_value scope at (switch_name j) (switch_variable j) refl (switch_meant names signatures j h)
 
   number_at : (at : Place) (n : ℕ) → judgement scope (number at n) «use».Value ≡ Good (count n)
   number_at at n = number_value scope at n

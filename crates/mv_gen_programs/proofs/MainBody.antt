@@ -203,7 +203,7 @@ module _ (names : Names) (count : ℕ) (are : AreNames names count) (around : Ar
       (assign_judged v (p 0) «use».Effect 22 _ _ (switch j) (seen.Value (binary 17 (binary 15 (read_local 0) (constant n)) (constant 3))) _
       (object_place v (p 0) name (switch_variable j) h)
       (binary_judged v (p 2) «use».Value 17 _ _ (seen.Value (binary 15 (read_local 0) (constant n))) (count_of 3) _
-      (binary_judged v (p 2) «use».Value 15 _ _ local (count_of n) _ (object_value v (p 2) (codes "i") local_variable refl) (number_value v (p 4) n) refl)
+      (binary_judged v (p 2) «use».Value 15 _ _ local (count_of n) _ (object_value v (p 2) (codes "i") local_variable refl refl) (number_value v (p 4) n) refl)
       (number_value v (p 6) 3) refl) refl))
 
   commit_line : (p : Places) → GivesLine (commit_tree p) around v v commit_statement
@@ -237,12 +237,12 @@ module _ (names : Names) (count : ℕ) (are : AreNames names count) (around : Ar
       if_line (p 0) around u _ _ _ u _
       (value_is u _ (seen.Value (binary 29 (binary 16 (read_local 0) (constant 100)) (constant 0)))
       (binary_judged u (p 2) «use».Value 29 _ _ (seen.Value (binary 16 (read_local 0) (constant 100))) (count_of 0) _
-      (binary_judged u (p 2) «use».Value 16 _ _ local (count_of 100) _ (object_value u (p 2) (codes "i") local_variable refl) (number_value u (p 4) 100) refl)
+      (binary_judged u (p 2) «use».Value 16 _ _ local (count_of 100) _ (object_value u (p 2) (codes "i") local_variable refl refl) (number_value u (p 4) 100) refl)
       (number_value u (p 6) 0) refl))
       (block_statement (p 8) around u _ v _ (stores_turn p))
 
   object_at : (at : Place) → judgement u (word at (codes "acc")) «use».Value ≡ Good object
-  object_at at = object_value u at (codes "acc") object_variable (rw are.object refl)
+  object_at at = object_value u at (codes "acc") object_variable refl (rw are.object refl)
 
   call_line : (p : Places) (i : ℕ) → i < count → GivesLine (call_tree p i) around u u (call_statement i)
   unfolding concluded least called_with assign_to converted_to
@@ -282,7 +282,7 @@ loop_line names count are around p =
     (effect_is t _ (seen.Value (typed int (form.Set (target.Local 0) (constant 0))))
     (assign_judged t (p 2) «use».Effect 22 _ _ local (count_of 0) _ (object_place t (p 2) (codes "i") local_variable refl) (number_value t (p 4) 0) refl)))
     (value_is t _ (seen.Value (binary 20 (read_local 0) (constant 1000)))
-    (binary_judged t (p 6) «use».Value 20 _ _ local (count_of 1000) _ (object_value t (p 6) (codes "i") local_variable refl) (number_value t (p 8) 1000) refl))
+    (binary_judged t (p 6) «use».Value 20 _ _ local (count_of 1000) _ (object_value t (p 6) (codes "i") local_variable refl refl) (number_value t (p 8) 1000) refl))
     (effect_is t _ (seen.Value (typed int (form.After true (target.Local 0))))
     (after_judged t (p 10) «use».Effect true _ local _ (object_place t (p 10) (codes "i") local_variable refl) refl))
     (block_statement (p 13) (in_loop around) t _ (block_entered t) _ (loop_turn names count are (in_loop around) p))
@@ -306,7 +306,7 @@ module _ (names : Names) (count : ℕ) (are : AreNames names count) (around : Ar
   output_line p =
       put_line p _ (seen.Value (binary 12 (constant 65) (binary 17 (read_global 4) (constant 15))))
       (binary_judged r (p 2) «use».Value 12 _ _ (count_of 65) (seen.Value (binary 17 (read_global 4) (constant 15))) _ (number_value r (p 2) 65)
-      (binary_judged r (p 5) «use».Value 17 _ _ object (count_of 15) _ (object_value r (p 5) (codes "acc") object_variable (rw are.object refl)) (number_value r (p 7) 15) refl) refl) refl
+      (binary_judged r (p 5) «use».Value 17 _ _ object (count_of 15) _ (object_value r (p 5) (codes "acc") object_variable refl (rw are.object refl)) (number_value r (p 7) 15) refl) refl) refl
 
   feed_line : (p : Places) → GivesLine (feed_tree p) around r r (put (constant 10))
   feed_line p = put_line p _ (count_of 10) (number_value r (p 2) 10) refl

@@ -16,7 +16,7 @@ use Rattle.mv_check_scope.specs.declared.meaning.Variable.{Variable}
 use Rattle.mv_check_scope.specs.declared.meaning.Meaning.{Meaning}
 use Rattle.mv_check_scope.specs.declared.meaning.Meaning.TheVariants as meaning
 use Rattle.mv_check_scope.specs.declared.scope.Scope.{Scope}
-use Rattle.mv_check_scope.specs.Conversions.{int, typed}
+use Rattle.mv_check_scope.specs.Conversions.{int, is_void, typed}
 use Rattle.mv_check_scope.specs.Scoped.{meaning_of}
 use Rattle.mv_check_expressions.specs.declared.seen.Seen.{Seen}
 use Rattle.mv_check_expressions.specs.declared.seen.Seen.TheVariants as seen
@@ -51,9 +51,10 @@ module _ (s : Scope) where
   name_judged : (p : Place) (name : List ℕ) (u : Use) (m : Meaning) → meaning_of s name ≡ Some m → judgement s (word p name) u ≡ by_meaning p u (Some m)
   name_judged p name u m h = judged-Name s (word p name) u name (w.outs-Name name) ∙ ap (by_meaning p u) h
 
-  pub object_value : (p : Place) (name : List ℕ) (v : Variable) → meaning_of s name ≡ Some (meaning.Object v) → judgement s (word p name) «use».Value ≡ Good (seen.Object (object_of_variable v))
+  pub object_value : (p : Place) (name : List ℕ) (v : Variable) → is_void v.ctype ≡ false → meaning_of s name ≡ Some (meaning.Object v) →
+      judgement s (word p name) «use».Value ≡ Good (seen.Object (object_of_variable v))
   unfolding concluded least
-  object_value p name v h = name_judged p name «use».Value (meaning.Object v) h
+  object_value p name v k h = name_judged p name «use».Value (meaning.Object v) h ∙ rw k refl
 
   pub object_place : (p : Place) (name : List ℕ) (v : Variable) → meaning_of s name ≡ Some (meaning.Object v) → judgement s (word p name) «use».Place ≡ Good (seen.Object (object_of_variable v))
   unfolding concluded least
