@@ -1,7 +1,7 @@
 -- Statements that name declared locals alone, and whose jumps have targets, do the same in two contexts and two frames that hold the same in those locals.
 use Rattle.std.proofs.Common.{◌≡◌, ℕ, zero, suc, ◌-◌, ◌<◌, Bool, true, false, List, [], ◌∷◌, map, drop, length, replicate, refl, sym, ◌∙◌, ap, subst, Option, Some, None, if◌then◌else◌, nat_eq}
 use Rattle.std.specs.Prelude.{◌&&◌, ◌||◌, slice_set}
-use Rattle.std.proofs.lemmas.Bool.{ne_eqb, eq-eqb}
+use Rattle.std.proofs.lemmas.Bool.{ne_eqb, eq-eqb, or_right}
 use Rattle.std.proofs.lemmas.List.{length-map}
 use Rattle.mv_ir.proofs.Induction.{Each}
 use Rattle.mv_ast.specs.declared.program.Program.{Program}
@@ -38,10 +38,6 @@ use Rattle.mv_lower_correct.proofs.AgreedExpressions.{expr_keeps}
 
 abbrev pub Wider : Scope → Scope → Type 0
 Wider scope inner = (l : ℕ) → scope l ≡ true → inner l ≡ true
-
-or_right : (a b : Bool) → b ≡ true → (a || b) ≡ true
-or_right true b e = refl
-or_right false b e = e
 
 wider_declared : (o : Option ℕ) (scope : Scope) → Wider scope (with_declared o scope)
 wider_declared None scope l e = e

@@ -14,7 +14,6 @@ use Rattle.mv_lower_correct.specs.Scopes.{Scope, with_declared, stmt_scoped}
 use Rattle.mv_lower_correct.specs.WellFormed.{parameters, IsWellFormedFunction}
 use Rattle.mv_lower_correct.proofs.Agreement.{Agree, agree_refl, AlikeOutcome, alike_stop}
 use Rattle.mv_lower_correct.proofs.Leaves as leaves
-use Rattle.mv_lower_correct.proofs.Leaves.{SteadyCalls}
 use Rattle.mv_lower_correct.proofs.AgreedStatements.{Leads, Flows, Steady, stmt_flows, body_flows}
 
 module _ (p : Program) (formed : (f : ℕ) (g : Function) → slice_get p.functions f ≡ Some g → IsWellFormedFunction p f g)

@@ -16,7 +16,7 @@ use Rattle.mv_meaning.specs.Meaning.{flow_of_all, frame_of, deeper, back_in, cal
 use Rattle.mv_ir.specs.declared.stm.Stm.{Stm}
 use Rattle.mv_ir.specs.declared.stm.Stm.TheOpen as stm
 use Rattle.mv_ir.specs.World as code_world
-use Rattle.mv_ir.specs.Outcome.{State, End, Returned, Next, Leaves, Ends, Run, Bound, Calls, Call, spend, then_do}
+use Rattle.mv_ir.specs.Outcome.{State, Returned, Ends, Run, Bound, Calls, Call, spend, then_do}
 use Rattle.mv_ir.specs.Outcome as ir
 use Rattle.mv_ir.specs.Meaning.{code_meaning, meaning, Contents, entry_state, body_end, body_from, cleared}
 use Rattle.mv_ir.specs.Levels.{Code, one_if, called, levels}

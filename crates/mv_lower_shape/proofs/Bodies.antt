@@ -6,7 +6,7 @@ use Rattle.std.proofs.lemmas.List.{length-map}
 use Rattle.mv_ir.specs.declared.tree.Tree.TheOpen as tree
 use Rattle.mv_ir.specs.declared.stm.Stm.TheOpen as stm
 use Rattle.mv_ir.specs.declared.body.Body.{Body}
-use Rattle.mv_ir.specs.Measures.{trees, scalars_read, arrays_read, statements, tree_nodes, deepest, calls}
+use Rattle.mv_ir.specs.Measures.{trees, scalars_read, arrays_read, statements, tree_nodes, deepest}
 use Rattle.mv_ir.specs.Live.{any_reads, with_after, nowhere, live_at_start, all_marks, any, plain, HasTemps}
 use Rattle.mv_ir.specs.WellFormed.{all_true, is_there, has_room, named, IsWellFormed}
 use Rattle.mv_ir.proofs.Induction.{Each}
@@ -24,7 +24,7 @@ use Rattle.mv_lower_shape.specs.Allowances.{allowance}
 use Rattle.mv_lower_shape.specs.Calls.{each_once, attributed_once}
 use Rattle.mv_lower_shape.specs.Law.{CallsAsOften, IsSmall}
 use Rattle.mv_lower_shape.proofs.Expressions as limits
-use Rattle.mv_lower_shape.proofs.Expressions.{allowed, is_used, sum_cons}
+use Rattle.mv_lower_shape.proofs.Expressions.{allowed, is_used}
 use Rattle.mv_lower_shape.proofs.Counted.{Counted, counted_rules, counted_blocks}
 use Rattle.mv_lower_shape.proofs.Named.{Named, named_rules, named_blocks}
 use Rattle.mv_lower_shape.proofs.Unused.{Unused, IsQuiet, unused_rules, unused_blocks}

@@ -1,4 +1,5 @@
 -- Where a temporary is live and marked in code that is made of code.
+use mathlib.Core.Bool.{or-false}
 use Rattle.std.proofs.Common.{◌≡◌, ℕ, Bool, true, false, eqb, ◌||◌, List, [], ◌∷◌, ◌++◌, map, refl, sym, ◌∙◌, ap, append_assoc}
 use Rattle.std.proofs.lemmas.Bool.{eqb-true}
 use Rattle.mv_ir.specs.declared.tree.Tree.{Tree}
@@ -50,12 +51,8 @@ marked_append u xs ys r =
 pub live_one : (u : ℕ) (x : Stm-F Stm) (f : Flow) (r : Around) → flow u (roll-Stm x) ≡ f → live_at u (roll-Stm x ∷ []) r ≡ f.live r
 live_one u x f r e = ap (λ (g : Flow). g.live r) e
 
-or_false : (b : Bool) → (b || false) ≡ b
-or_false true = refl
-or_false false = refl
-
 append_none : (l : List Bool) → any (l ++ []) ≡ any l
-append_none l = any_append l [] ∙ or_false (any l)
+append_none l = any_append l [] ∙ or-false (any l)
 
 pub marked_one : (u : ℕ) (x : Stm-F Stm) (f : Flow) (r : Around) → flow u (roll-Stm x) ≡ f → any (marks_at u (roll-Stm x ∷ []) r) ≡ any (f.marks r)
 marked_one u x f r e = ap (λ (g : Flow). any (g.marks r ++ [])) e ∙ append_none (f.marks r)
@@ -63,7 +60,7 @@ marked_one u x f r e = ap (λ (g : Flow). any (g.marks r ++ [])) e ∙ append_no
 -- ---- reads
 
 pub reads_one : (u : ℕ) (t : Tree) → any_reads u (t ∷ []) ≡ reads_temp u t
-reads_one u t = or_false (reads_temp u t)
+reads_one u t = or-false (reads_temp u t)
 
 pub temp_reads : (u t : ℕ) → any_reads u (temp t ∷ []) ≡ eqb t u
 temp_reads u t = reads_one u (temp t) ∙ reads_temp_roll u (tree.Temp t)

@@ -1,5 +1,6 @@
 -- What code reads and names, and how many arguments its calls have, obey the rules.
-use Rattle.std.proofs.Common.{◌≡◌, ℕ, Bool, true, false, ◌&&◌, List, [], ◌∷◌, ◌++◌, map, Option, Some, None, refl, sym, ◌∙◌, ap, subst, append-nil}
+use mathlib.Core.Bool.{and-true}
+use Rattle.std.proofs.Common.{◌≡◌, ℕ, Bool, true, false, List, [], ◌∷◌, ◌++◌, map, Option, Some, None, refl, sym, ◌∙◌, ap, subst, append-nil}
 use Rattle.std.proofs.lemmas.Bool.{and_from}
 use Rattle.mv_ir.specs.declared.tree.Tree.{Tree}
 use Rattle.mv_ir.specs.declared.tree.Tree.TheOpen as tree
@@ -26,12 +27,8 @@ arrays_one x = append-nil (stm_arrays (roll-Stm x)) ∙ arrays_roll x
 named_one : (x : Stm-F Stm) → named (roll-Stm x ∷ []) ≡ layer_named (map-Stm Stm (List Array) stm_named x)
 named_one x = append-nil (stm_named (roll-Stm x)) ∙ named_roll x
 
-and_true : (b : Bool) → (b && true) ≡ b
-and_true true = refl
-and_true false = refl
-
 arguments_one : (x : Stm-F Stm) → all_true (map stm_arguments (roll-Stm x ∷ [])) ≡ layer_arguments (map-Stm Stm Bool stm_arguments x)
-arguments_one x = and_true (stm_arguments (roll-Stm x)) ∙ arguments_roll x
+arguments_one x = and-true (stm_arguments (roll-Stm x)) ∙ arguments_roll x
 
 true_append : (xs ys : List Bool) → all_true xs ≡ true → all_true ys ≡ true → all_true (xs ++ ys) ≡ true
 true_append [] ys h k = k

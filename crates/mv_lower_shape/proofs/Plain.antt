@@ -1,6 +1,8 @@
 -- The plain statements of lowered code, and what trees may stand for others.
+use mathlib.Core.Bool.{or-false}
 use Rattle.std.proofs.Common.{◌≡◌, ℕ, suc, ◌+◌, ◌≤◌, Bool, true, false, ◌||◌, List, [], ◌∷◌, ◌++◌, length, Option, Some, None, refl, sym, ◌∙◌, ap, subst, arith, append_assoc}
 use Rattle.std.specs.Prelude.{nat_lt, nat_eq}
+use Rattle.std.proofs.lemmas.Bool.{or_right, or_left}
 use Rattle.mv_num.specs.declared.kind.Kind.{Kind}
 use Rattle.mv_ast.specs.declared.program.Known.{Known}
 use Rattle.mv_ir.specs.declared.tree.Tree.{Tree}
@@ -8,7 +10,6 @@ use Rattle.mv_ir.specs.declared.tree.Tree.TheOpen as tree
 use Rattle.mv_ir.specs.declared.stm.Array.{Array}
 use Rattle.mv_ir.specs.declared.stm.Array.TheVariants as array
 use Rattle.mv_ir.specs.declared.stm.Callee.TheVariants as callee
-use Rattle.mv_ir.specs.declared.stm.Stm.TheOpen.{Stm-F}
 use Rattle.mv_ir.specs.declared.stm.Stm.TheOpen as stm
 use Rattle.mv_ir.specs.Trees.{nodes, nodes_of_all}
 use Rattle.mv_ir.specs.Measures.{tree_reads, array_read}
@@ -58,10 +59,6 @@ module _ (a : Allowed) where
 
 -- ---- trees
 
-or_false : (b : Bool) → (b || false) ≡ b
-or_false true = refl
-or_false false = refl
-
 absurd_true : {A : Type 0} → false ≡ true → A
 absurd_true e = absurd cc
 
@@ -81,25 +78,25 @@ covers_narrowed k x = one_covers x (narrowed k x) 1 (λ t. reads_temp_roll t (tr
 
 pub covers_binary : (o : ℕ) (x y : Tree) → Covers (x ∷ y ∷ []) (binary o x y ∷ []) 1
 covers_binary o x y = record {
-  temps = λ t e. both t (sym (or_false (reads_temp t (binary o x y)) ∙ reads_temp_roll t (tree.Binary o x y)) ∙ e);
+  temps = λ t e. both t (sym (or-false (reads_temp t (binary o x y)) ∙ reads_temp_roll t (tree.Binary o x y)) ∙ e);
   scalars = λ may h. subst (λ l. AllMay may (l ++ [])) (sym (reads_roll (tree.Binary o x y))) (subst (AllMay may) (sym (append_assoc (tree_reads x) (tree_reads y) [])) h);
   nodes = omega (arith, nodes_roll (tree.Binary o x y));
 }
   where
     both : (t : ℕ) → (reads_temp t x || reads_temp t y) ≡ true → (reads_temp t x || (reads_temp t y || false)) ≡ true
-    both t e = ap (λ b. reads_temp t x || b) (or_false (reads_temp t y)) ∙ e
+    both t e = ap (λ b. reads_temp t x || b) (or-false (reads_temp t y)) ∙ e
 
 -- a constant for nothing
 pub covers_number : (n : ℕ) → Covers [] (number n ∷ []) 1
 covers_number n = record {
-  temps = λ t e. sym (or_false (reads_temp t (number n)) ∙ reads_temp_roll t (tree.Number n)) ∙ e;
+  temps = λ t e. sym (or-false (reads_temp t (number n)) ∙ reads_temp_roll t (tree.Number n)) ∙ e;
   scalars = λ may h. subst (λ l. AllMay may (l ++ [])) (sym (reads_roll (tree.Number n))) tt;
   nodes = omega (arith, nodes_roll (tree.Number n));
 }
 
 pub covers_function : (f : ℕ) → Covers [] (function f ∷ []) 1
 covers_function f = record {
-  temps = λ t e. sym (or_false (reads_temp t (function f)) ∙ reads_temp_roll t (tree.Function f)) ∙ e;
+  temps = λ t e. sym (or-false (reads_temp t (function f)) ∙ reads_temp_roll t (tree.Function f)) ∙ e;
   scalars = λ may h. subst (λ l. AllMay may (l ++ [])) (sym (reads_roll (tree.Function f))) tt;
   nodes = omega (arith, nodes_roll (tree.Function f));
 }
@@ -144,18 +141,11 @@ pub or_either : {A : Type 0} (x y : Bool) → (x || y) ≡ true → (x ≡ true 
 or_either true y e f g = f refl
 or_either false y e f g = g e
 
-pub or_first : (x y : Bool) → x ≡ true → (x || y) ≡ true
-or_first x y e = ap (λ b. b || y) e
-
-pub or_last : (x y : Bool) → y ≡ true → (x || y) ≡ true
-or_last true y e = refl
-or_last false y e = e
-
 -- what stands behind stays
 pub covers_before : (ts us rest : List Tree) (m : ℕ) → Covers ts us m → Covers (ts ++ rest) (us ++ rest) m
 covers_before ts us rest m h = record {
   temps = λ t e. any_append t ts rest ∙ or_either (any_reads t us) (any_reads t rest) (sym (any_append t us rest) ∙ e)
-      (λ x. or_first (any_reads t ts) (any_reads t rest) (h.temps t x)) (λ x. or_last (any_reads t ts) (any_reads t rest) x);
+      (λ x. or_left (any_reads t ts) (any_reads t rest) (h.temps t x)) (λ x. or_right (any_reads t ts) (any_reads t rest) x);
   scalars = λ may x.
       let y = subst (AllMay may) (read_append ts rest) x in
       subst (AllMay may) (sym (read_append us rest))
@@ -167,7 +157,7 @@ covers_before ts us rest m h = record {
 pub covers_swap : (ts us : List Tree) → Covers (ts ++ us) (us ++ ts) 0
 covers_swap ts us = record {
   temps = λ t e. any_append t ts us ∙ or_either (any_reads t us) (any_reads t ts) (sym (any_append t us ts) ∙ e)
-      (λ x. or_last (any_reads t ts) (any_reads t us) x) (λ x. or_first (any_reads t ts) (any_reads t us) x);
+      (λ x. or_right (any_reads t ts) (any_reads t us) x) (λ x. or_left (any_reads t ts) (any_reads t us) x);
   scalars = λ may x.
       let y = subst (AllMay may) (read_append ts us) x in
       subst (AllMay may) (sym (read_append us ts))
@@ -178,7 +168,7 @@ covers_swap ts us = record {
 -- a temporary that is read twice
 pub covers_twice : (t : ℕ) → Covers (temp t ∷ []) (temp t ∷ temp t ∷ []) 1
 covers_twice t = record {
-  temps = λ u e. or_either (reads_temp u (temp t)) (reads_temp u (temp t) || false) e (λ x. or_first (reads_temp u (temp t)) false x) (λ x. x);
+  temps = λ u e. or_either (reads_temp u (temp t)) (reads_temp u (temp t) || false) e (λ x. or_left (reads_temp u (temp t)) false x) (λ x. x);
   scalars = λ may h. each_append (λ g. may g ≡ true) (tree_reads (temp t)) (tree_reads (temp t) ++ []) (each_first (λ g. may g ≡ true) (tree_reads (temp t)) [] h) h;
   nodes = omega (arith, nodes_roll (tree.Temp t));
 }

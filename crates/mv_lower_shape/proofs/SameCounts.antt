@@ -13,7 +13,7 @@ use Rattle.mv_ast.specs.declared.program.Function.{Function}
 use Rattle.mv_ast.specs.declared.program.Expr.{fold-Expr}
 use Rattle.mv_ast.specs.declared.program.Form.{Form-F}
 use Rattle.mv_ast.specs.declared.program.Form.TheOpen as form
-use Rattle.mv_ast.specs.Counts.{form_sum, target_sum, inner_calls, is_attributed, own_calls, form_calls, expr_calls, stmt_total}
+use Rattle.mv_ast.specs.Counts.{target_sum, inner_calls, form_calls, stmt_total}
 use Rattle.mv_ast.specs.Counts as counts
 use Rattle.mv_lower_shape.specs.Calls.{layer_weight, stm_weight, code_weight, form_weights, function_weight, each_once, attributed_once}
 

@@ -1,4 +1,5 @@
 -- The jumps of lowered code have targets.
+use mathlib.Core.Bool.{and-true}
 use Rattle.std.proofs.Common.{◌≡◌, ℕ, suc, ◌<◌, Bool, true, false, cond, List, [], ◌∷◌, ◌++◌, map, length, Option, Some, None, refl, sym, ◌∙◌, ap, subst, arith}
 use Rattle.std.specs.Prelude.{◌&&◌, nat_lt}
 use Rattle.std.proofs.lemmas.Bool.{lt-ltb, and_from}
@@ -41,12 +42,8 @@ all_append (f ∷ fs) gs r h k = let bs = split (f r) (all_around fs r) h in and
 pub targets_append : (r : List Bool) (xs ys : List Stm) → HasTargets r xs → HasTargets r ys → HasTargets r (xs ++ ys)
 targets_append r xs ys h k = ap (λ l. all_around l r) (map_append stm_targets xs ys) ∙ all_append (map stm_targets xs) (map stm_targets ys) r h k
 
-and_true : (b : Bool) → (b && true) ≡ b
-and_true true = refl
-and_true false = refl
-
 pub targets_one : (r : List Bool) (x : Stm-F Stm) → layer_targets (map-Stm Stm (List Bool → Bool) stm_targets x) r ≡ true → HasTargets r (roll-Stm x ∷ [])
-targets_one r x h = and_true (stm_targets (roll-Stm x) r) ∙ ap (λ (f : List Bool → Bool). f r) (targets_roll x) ∙ h
+targets_one r x h = and-true (stm_targets (roll-Stm x) r) ∙ ap (λ (f : List Bool → Bool). f r) (targets_roll x) ∙ h
 
 break_target : (r : List Bool) (n : ℕ) → n < length r → HasTargets r (break n ∷ [])
 break_target r n h = targets_one r (stm.Break n) (lt-ltb n (length r) h)

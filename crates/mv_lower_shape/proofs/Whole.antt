@@ -5,7 +5,6 @@ use Rattle.std.proofs.lemmas.Bool.{or_from, and_right, and_left, eqb-true, eq-eq
 use Rattle.mv_ir.specs.declared.tree.Tree.{Tree}
 use Rattle.mv_ir.specs.declared.tree.Tree.TheOpen as tree
 use Rattle.mv_ir.specs.declared.stm.Stm.{Stm}
-use Rattle.mv_ir.specs.declared.stm.Stm.TheOpen.{Stm-F}
 use Rattle.mv_ir.specs.declared.stm.Stm.TheOpen as stm
 use Rattle.mv_ir.specs.Live.{reads_temp, any_reads, Around, with_after, around_block, around_loop, plain}
 use Rattle.mv_ir.proofs.Induction.{Each}

@@ -19,7 +19,7 @@ use Rattle.mv_ast.specs.Numbering.{function_from, function_of_number}
 use Rattle.mv_meaning.specs.Meaning.{Evaluation, Context, Denotation, values_of, known_value, call_at, call_numbered, call_through}
 use Rattle.mv_ir.specs.World.{Setting}
 use Rattle.mv_ir.specs.World as code_world
-use Rattle.mv_ir.specs.Outcome.{State, Next, Ends, Bound, Calls, Call, End, Returned, Run, spend, now}
+use Rattle.mv_ir.specs.Outcome.{State, Next, Ends, Bound, Call, End, spend, now}
 use Rattle.mv_ir.specs.Outcome as ir
 use Rattle.mv_ir.specs.Trees.{nodes, nodes_of_all}
 use Rattle.mv_ir.specs.declared.stm.Callee.{Callee}

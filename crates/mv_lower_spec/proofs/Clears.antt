@@ -19,7 +19,7 @@ use Rattle.mv_meaning.specs.declared.state.Lvalue.TheVariants as lvalue
 use Rattle.mv_meaning.specs.Meaning.{Evaluation, store_lvalue, put_values, size_of, clear_local}
 use Rattle.mv_ir.specs.World.{Setting}
 use Rattle.mv_ir.specs.World as code_world
-use Rattle.mv_ir.specs.Outcome.{State, Next, Run, Bound, spend, then_do}
+use Rattle.mv_ir.specs.Outcome.{State, Next, Run, Bound, then_do}
 use Rattle.mv_ir.specs.Outcome as ir
 use Rattle.mv_ir.specs.Trees.{nodes}
 use Rattle.mv_ir.specs.Meaning.{meaning, with_temp, with_elements, elements, traps}
@@ -27,7 +27,7 @@ use Rattle.mv_ir.proofs.Keeping.{map_append, in_order_append, one_meaning}
 use Rattle.mv_lower_spec.specs.Lowered.{Lowering, number, set, write}
 use Rattle.mv_lower_spec.specs.Statements.{Jumps, store_word, clear_words, store_zeros, store_values, values_top, lower_clear, out_of}
 use Rattle.mv_lower_spec.specs.Correct as c
-use Rattle.mv_lower_spec.specs.Correct.{ran, IsScalar, IsArrayLocal}
+use Rattle.mv_lower_spec.specs.Correct.{ran, IsArrayLocal}
 use Rattle.mv_lower_spec.proofs.Running as run
 use Rattle.mv_lower_spec.proofs.Running.{nodes_number}
 use Rattle.mv_lower_spec.proofs.Forms as forms

@@ -1,7 +1,7 @@
 -- Every expression is lowered correctly.
 use Rattle.std.proofs.Common.{◌≡◌, ℕ, ◌+◌, ◌<◌, ◌≤◌, Bool, true, false, cond, eqb, List, [], ◌∷◌, map, length, Option, Some, None, refl, sym, ◌∙◌, subst, ap, arith}
-use Rattle.std.specs.Prelude.{nat_eq, nat_lt, not, ◌&&◌, ◌||◌, slice_get, slice_index}
-use Rattle.std.proofs.lemmas.Bool.{ltb-true}
+use Rattle.std.specs.Prelude.{nat_eq, nat_lt, not, ◌&&◌, slice_get, slice_index}
+use Rattle.std.proofs.lemmas.Bool.{ltb-true, or_parts}
 use Rattle.std.proofs.lemmas.List.{length-map}
 use Rattle.mv_num.specs.Words as word
 use Rattle.mv_ir.specs.declared.tree.Tree.{Tree}
@@ -59,10 +59,6 @@ pub denied : (a : Bool) → not a ≡ true → a ≡ false
 denied true e = no e
 denied false e = refl
 
-split_or : (a b : Bool) → (a || b) ≡ false → (a ≡ false) × (b ≡ false)
-split_or true b e = no (sym e)
-split_or false b e = (refl, e)
-
 is_none : (o : Option ℕ) → is_scalar o ≡ true → o ≡ None
 is_none None e = refl
 is_none (Some n) e = no e
@@ -87,7 +83,7 @@ not_among : (p : Program) (g : ℕ) (ss vs : List ℕ) → is_among g (map (swit
 not_among p g [] vs e = refl
 not_among p g (s ∷ ss) [] e = refl
 not_among p g (s ∷ ss) (v ∷ vs) e =
-    let es = split_or (nat_eq g (switch_global p s)) (is_among g (map (switch_global p) ss)) e in
+    let es = or_parts (nat_eq g (switch_global p s)) (is_among g (map (switch_global p) ss)) e in
     ap (λ z. cond z (Some v) (value_among p g ss vs)) es.0 ∙ not_among p g ss vs es.1
 
 not_bound : (p : Program) (f : Function) (b : Option Binding) (g : ℕ) → is_among g (map (switch_global p) f.switches) ≡ false → binding_value p f b g ≡ None

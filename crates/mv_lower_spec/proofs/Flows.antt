@@ -13,13 +13,13 @@ use Rattle.mv_meaning.specs.declared.state.Flow.TheVariants.{Goes, Breaks, Conti
 use Rattle.mv_meaning.specs.Meaning.{Evaluation, in_order, then_on, after_body, unless_zero, returned_value}
 use Rattle.mv_ir.specs.World.{Setting}
 use Rattle.mv_ir.specs.World as code_world
-use Rattle.mv_ir.specs.Outcome.{State, End, Returned, More, Next, Leaves, Restarts, Ends, Run, Bound, Calls, spend, now, then_do, goes_on, block_end, turn, turn_end, loop}
+use Rattle.mv_ir.specs.Outcome.{State, Returned, More, Next, Leaves, Ends, Run, Bound, Calls, spend, now, then_do, block_end, turn, loop}
 use Rattle.mv_ir.specs.Outcome as ir
 use Rattle.mv_ir.specs.Trees.{nodes}
 use Rattle.mv_ir.specs.Meaning.{code_meaning, meaning}
 use Rattle.mv_ir.proofs.Keeping.{run_same, map_append, in_order_append, one_meaning}
 use Rattle.mv_lower_spec.specs.Lowered.{Lowering, choose}
-use Rattle.mv_lower_spec.specs.Statements.{Jumps, Code, Placed, in_body, return_with, break, repeat, enclosed, lower_express, lower_return, lower_if, test_and_body, out_of, turn_out, levels}
+use Rattle.mv_lower_spec.specs.Statements.{Jumps, in_body, return_with, break, repeat, enclosed, lower_return, out_of, turn_out, levels}
 use Rattle.mv_lower_spec.specs.Statements as statements
 use Rattle.mv_lower_spec.specs.Correct as c
 use Rattle.mv_lower_spec.specs.Correct.{ran}

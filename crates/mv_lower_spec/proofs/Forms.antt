@@ -24,7 +24,7 @@ use Rattle.mv_ir.specs.Meaning.{with_temp, with_world, with_global, traps}
 use Rattle.mv_lower_spec.specs.Lowered as lowered
 use Rattle.mv_lower_spec.specs.Lowered.{Lowering, number, temp, global, set, set_global, divide, is_low, kept_if, first, second, lower_number, lower_local, lower_global, lower_function, lower_one, lower_two, lower_division, lower_set_local, lower_set_global}
 use Rattle.mv_lower_spec.specs.Correct as c
-use Rattle.mv_lower_spec.specs.Correct.{IsScalar, IsArrayLocal}
+use Rattle.mv_lower_spec.specs.Correct.{IsScalar}
 use Rattle.mv_lower_spec.proofs.Running as run
 use Rattle.mv_lower_spec.proofs.Running.{nodes_number, nodes_temp, nodes_global, nodes_function}
 use Rattle.mv_lower_spec.proofs.Showing as show

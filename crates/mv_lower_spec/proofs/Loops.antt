@@ -11,7 +11,7 @@ use Rattle.mv_meaning.specs.declared.state.Flow.TheVariants.{Goes, Breaks, Conti
 use Rattle.mv_meaning.specs.Meaning.{Evaluation, after_body, unless_zero}
 use Rattle.mv_ir.specs.World.{Setting}
 use Rattle.mv_ir.specs.World as code_world
-use Rattle.mv_ir.specs.Outcome.{State, Leaves, Bound}
+use Rattle.mv_ir.specs.Outcome.{State, Bound}
 use Rattle.mv_ir.specs.Outcome as ir
 use Rattle.mv_ir.proofs.Keeping.{one_meaning}
 use Rattle.mv_lower_spec.specs.Lowered.{Lowering}

@@ -12,7 +12,7 @@ use Rattle.mv_ast.specs.declared.world.Binding.{Binding}
 use Rattle.mv_ast.specs.declared.program.Known.{Known}
 use Rattle.mv_ir.specs.World.{Setting}
 use Rattle.mv_ir.specs.World as code_world
-use Rattle.mv_ir.specs.Outcome.{State, End, Returned, Trapped, More, Next, Ends, Run, Bound, spend, now, then_do, in_order}
+use Rattle.mv_ir.specs.Outcome.{State, End, Next, Ends, Run, Bound, spend, then_do, in_order}
 use Rattle.mv_ir.specs.Outcome as ir
 use Rattle.mv_ir.specs.Trees as ir_tree
 use Rattle.mv_ir.specs.Trees.{nodes, nodes_of_all}
