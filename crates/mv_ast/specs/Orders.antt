@@ -24,3 +24,7 @@ commit_references = 4
 -- a revert of the functions that have one switch
 abbrev pub revert_references : ℕ
 revert_references = 5
+
+-- how many there are
+abbrev pub count : ℕ
+count = 6

@@ -17,3 +17,6 @@ pub const COMMIT_REFERENCES: u8 = 4;
 
 /// A revert of the functions that have one switch.
 pub const REVERT_REFERENCES: u8 = 5;
+
+/// How many there are.
+pub const COUNT: u8 = 6;

@@ -17,6 +17,7 @@ use Rattle.mv_interpret.specs.declared.state.Halt.{Halt}
 use Rattle.mv_interpret.specs.declared.state.Halt.TheVariants as halt
 use Rattle.mv_meaning.specs.declared.state.Flow.{Flow}
 use Rattle.mv_meaning.specs.declared.state.Flow.TheVariants.{Goes, Breaks, Continues, Returns}
+use Rattle.mv_ast.specs.Traps as traps
 use Rattle.mv_meaning.specs.Growth.{capped}
 use Rattle.mv_meaning.specs.Loops.{own_context, while_from, do_from, for_from, arms_from}
 use Rattle.mv_meaning.specs.Meaning.{value_of, values_of_all, lvalue_of, optional_value, call_at, flow_of, flow_of_all, put_values}
@@ -25,7 +26,7 @@ use Rattle.mv_meaning.specs.Meaning.{value_of, values_of_all, lvalue_of, optiona
 -- of a commit or a revert is the one that this program's plans have
 pub record IsReady (p : Program) (depth live plan_work : ℕ) : Type 0 where
   pub functions : length p.functions < 2 ^ 32
-  pub deep : depth ≤ 512
+  pub deep : depth ≤ traps.depth_limit
   pub lively : live ≤ depth
   pub plans : plan_work ≡ capped (1 + patchable p)
 

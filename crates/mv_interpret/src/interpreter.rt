@@ -15,6 +15,7 @@ use crate::reads::global_read;
 use crate::state::{Halt, Here, State, count, put_word, size_at, store_lvalue, word_at};
 use mv_ast::operators::{binary_value, converted, unary_value};
 use mv_ast::program::{Arm, CType, Expr, Form, Known, Program, Stmt, Target};
+use mv_ast::traps;
 use mv_ast::world::Stop;
 use mv_meaning::state::{Flow, Frame, Lvalue};
 use mv_num::list::List;
@@ -147,7 +148,7 @@ fn value_of_binary(
     let y = value_of(program, here, b, frame, state)?;
     match binary_value(op, a.ctype, x, y) {
         Some(v) => Ok(v),
-        None => Err(Halt::Stopped(Stop::Trapped(1))),
+        None => Err(Halt::Stopped(Stop::Trapped(traps::DIVISION_BY_ZERO))),
     }
 }
 
@@ -265,7 +266,7 @@ fn value_of_change(
             store_lvalue(lvalue, stored, frame, state);
             Ok(stored)
         }
-        None => Err(Halt::Stopped(Stop::Trapped(1))),
+        None => Err(Halt::Stopped(Stop::Trapped(traps::DIVISION_BY_ZERO))),
     }
 }
 
@@ -323,7 +324,7 @@ fn value_of_call_through(
     let values = values_of(program, here, args, frame, state)?;
     let v = value_of(program, here, callee, frame, state)?;
     if v == 0 {
-        return Err(Halt::Stopped(Stop::Trapped(3)));
+        return Err(Halt::Stopped(Stop::Trapped(traps::NULL_CALL)));
     }
     match function_of_number(program, v) {
         Some(f) => call(program, here, f, &values, frame, state),
@@ -369,7 +370,7 @@ fn lvalue_of(
             if (i as usize) < size_at(&state.globals, *g) {
                 Ok(Lvalue::Global(*g, i))
             } else {
-                Err(Halt::Stopped(Stop::Trapped(2)))
+                Err(Halt::Stopped(Stop::Trapped(traps::INDEX_OUTSIDE)))
             }
         }
         Target::LocalAt(l, e) => {
@@ -377,7 +378,7 @@ fn lvalue_of(
             if (i as usize) < size_at(&frame.locals, *l) {
                 Ok(Lvalue::Local(*l, i))
             } else {
-                Err(Halt::Stopped(Stop::Trapped(2)))
+                Err(Halt::Stopped(Stop::Trapped(traps::INDEX_OUTSIDE)))
             }
         }
     }
@@ -438,8 +439,8 @@ fn call(
     ensures { IsOutcome state.old.work (call_outcome program.now here f arguments.now caller.now state.old) here result caller.now state.new }
 {
     let _work = state.work;
-    if here.depth >= 512 {
-        return Err(Halt::Stopped(Stop::Trapped(4)));
+    if here.depth >= traps::DEPTH_LIMIT {
+        return Err(Halt::Stopped(Stop::Trapped(traps::CALL_TOO_DEEP)));
     }
     if here.bound == 0 {
         return Err(Halt::Stopped(Stop::Unfinished));

@@ -7,6 +7,7 @@ ghost use Rattle.mv_interpret.specs.Answers.{HasAnswered, CarriedOut, ordered_bi
 
 use crate::reads::switch_global;
 use crate::state::{Here, State, put_word, word_at};
+use mv_ast::orders;
 use mv_ast::program::{Function, Program};
 use mv_ast::world::{Action, Binding, Event};
 use mv_num::list::List;
@@ -122,9 +123,9 @@ struct Order {
 fn is_addressed(order: Order, number: usize, f: &Function) -> bool
     ensures { result ≡ is_addressed order.code order.index number f.now }
 {
-    if order.code < 2 {
+    if order.code < orders::COMMIT_FUNCTION {
         true
-    } else if order.code < 4 {
+    } else if order.code < orders::COMMIT_REFERENCES {
         number == order.index as usize
     } else {
         is_among(order.index, f.switches.as_slice())
@@ -134,7 +135,7 @@ fn is_addressed(order: Order, number: usize, f: &Function) -> bool
 fn is_commit(code: u8) -> bool
     ensures { result ≡ is_commit code }
 {
-    code == 0 || code == 2 || code == 4
+    code == orders::COMMIT || code == orders::COMMIT_FUNCTION || code == orders::COMMIT_REFERENCES
 }
 
 // What an order binds an attributed function to that had a binding.

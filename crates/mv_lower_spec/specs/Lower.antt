@@ -19,18 +19,19 @@ use Rattle.mv_ast.specs.Counts.{words_of_size}
 use Rattle.mv_ast.specs.Plans.{same_truth, is_among, switch_global}
 use Rattle.mv_ast.specs.Operators.{is_unsigned}
 use Rattle.mv_lower_spec.specs.Lowered.{Lowering, number, unary, binary, temp, global, set, set_global, read, write, lower_number, lower_local, lower_global, lower_function, lower_one, lower_two, lower_division, lower_both, lower_either, lower_choice, lower_set_local, lower_set_global, lower_call, lower_through, lower_known, index_in, lower_element, lower_read_element, lower_set_element}
+use Rattle.mv_ast.specs.Marks as marks
+use Rattle.mv_ir.specs.Operators as operators
 
 -- ---- operators, by the numbers of their marks
 
 abbrev pub narrowed : Kind → Tree → Tree
 narrowed k a = roll-Tree (tree.Narrow k a)
 
--- ~ 10, ! 11, + 12, - 13
 abbrev pub unary_tree : ℕ → Tree → Tree
 unary_tree op a =
-    if nat_eq op 10 then binary 5 a (number 4294967295)
-    else if nat_eq op 11 then unary 2 a
-    else if nat_eq op 13 then unary 0 a
+    if nat_eq op marks.tilde then binary operators.bit_xor a (number 4294967295)
+    else if nat_eq op marks.exclamation then unary operators.logical_not a
+    else if nat_eq op marks.minus then unary operators.negate a
     else a
 
 abbrev pub converted_tree : CType → Tree → Tree
@@ -39,27 +40,27 @@ converted_tree (Scalar kind) a = narrowed kind a
 converted_tree (Pointer signature) a = a
 
 abbrev pub less_tree : CType → Tree → Tree → Tree
-less_tree t a b = if is_unsigned t then binary 10 a b else binary 9 a b
+less_tree t a b = if is_unsigned t then binary operators.less_unsigned a b else binary operators.less_signed a b
 
 abbrev pub bit_tree : ℕ → CType → Tree → Tree → Tree
 bit_tree op t a b =
-    if nat_eq op 17 then binary 3 a b
-    else if nat_eq op 18 then binary 4 a b
-    else if nat_eq op 19 then binary 5 a b
-    else if nat_eq op 20 then less_tree t a b
-    else if nat_eq op 21 then less_tree t b a
-    else if nat_eq op 25 then binary 6 a b
-    else if nat_eq op 26 then (if is_unsigned t then binary 8 a b else binary 7 a b)
-    else if nat_eq op 27 then unary 2 (less_tree t b a)
-    else if nat_eq op 28 then unary 2 (less_tree t a b)
-    else if nat_eq op 29 then binary 11 a b
-    else binary 12 a b
+    if nat_eq op marks.ampersand then binary operators.bit_and a b
+    else if nat_eq op marks.bar then binary operators.bit_or a b
+    else if nat_eq op marks.caret then binary operators.bit_xor a b
+    else if nat_eq op marks.less then less_tree t a b
+    else if nat_eq op marks.greater then less_tree t b a
+    else if nat_eq op marks.shift_left then binary operators.shift_left a b
+    else if nat_eq op marks.shift_right then (if is_unsigned t then binary operators.shift_right_unsigned a b else binary operators.shift_right_signed a b)
+    else if nat_eq op marks.less_or_equal then unary operators.logical_not (less_tree t b a)
+    else if nat_eq op marks.greater_or_equal then unary operators.logical_not (less_tree t a b)
+    else if nat_eq op marks.equal then binary operators.equal a b
+    else binary operators.not_equal a b
 
 abbrev pub quotient_number : CType → ℕ
-quotient_number t = if is_unsigned t then 1 else 0
+quotient_number t = if is_unsigned t then operators.quotient_unsigned else operators.quotient_signed
 
 abbrev pub remainder_number : CType → ℕ
-remainder_number t = if is_unsigned t then 3 else 2
+remainder_number t = if is_unsigned t then operators.remainder_unsigned else operators.remainder_signed
 
 -- an operator on two operands, of which the second one comes first in it where the flag says so
 abbrev pub lower_operator : Bool → (Tree → Tree → Tree) → Lowering → Lowering → Lowering
@@ -67,15 +68,15 @@ lower_operator turned f = lower_two (λ x y. cond turned (f y x) (f x y))
 
 abbrev pub lower_product : Bool → ℕ → CType → Lowering → Lowering → Lowering
 lower_product turned op t a b =
-    if nat_eq op 12 then lower_operator turned (binary 0) a b
-    else if nat_eq op 13 then lower_operator turned (binary 1) a b
-    else if nat_eq op 14 then lower_operator turned (binary 2) a b
-    else if nat_eq op 15 then lower_division turned (quotient_number t) a b
+    if nat_eq op marks.plus then lower_operator turned (binary operators.add) a b
+    else if nat_eq op marks.minus then lower_operator turned (binary operators.sub) a b
+    else if nat_eq op marks.star then lower_operator turned (binary operators.mul) a b
+    else if nat_eq op marks.slash then lower_division turned (quotient_number t) a b
     else lower_division turned (remainder_number t) a b
 
 abbrev pub lower_binary : Bool → ℕ → CType → Lowering → Lowering → Lowering
 lower_binary turned op t a b =
-    if nat_lt op 17 then lower_product turned op t a b else lower_operator turned (bit_tree op t) a b
+    if nat_lt op marks.ampersand then lower_product turned op t a b else lower_operator turned (bit_tree op t) a b
 
 -- ---- expressions
 
@@ -117,7 +118,7 @@ lower_change op kind t (Element r i) a n = lower_set_element r i (lower_changed 
 
 -- one more or one less than an old value
 abbrev pub next_tree : Bool → CType → Tree → Tree
-next_tree up t old = converted_tree t (binary (cond up 0 1) old (number 1))
+next_tree up t old = converted_tree t (binary (cond up operators.add operators.sub) old (number 1))
 
 -- `++` and `--` behind a place: the old value stays in a temporary
 abbrev pub lower_after : Bool → CType → Place → Lowering

@@ -11,6 +11,7 @@ use Rattle.mv_ir.specs.declared.stm.Callee.{Callee}
 use Rattle.mv_ir.specs.declared.stm.Callee.TheVariants as callee
 use Rattle.mv_ir.specs.Trees.{depth}
 use Rattle.mv_ast.specs.declared.program.Known.{Known}
+use Rattle.mv_ir.specs.Operators as operators
 
 pub record Lowered : Type 0 where
   pub code : List Stm
@@ -133,7 +134,7 @@ lower_division turned o a b n =
 
 -- 1, unless it is 0
 abbrev pub truth : Tree → Tree
-truth t = unary 2 (unary 2 t)
+truth t = unary operators.logical_not (unary operators.logical_not t)
 
 -- the truth of a value, in a temporary
 abbrev pub truth_in : ℕ → Lowered → List Stm

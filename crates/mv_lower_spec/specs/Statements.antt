@@ -22,6 +22,7 @@ use Rattle.mv_meaning.specs.Meaning.{Evaluation, returned_value}
 use Rattle.mv_lower_spec.specs.Lowered.{Lowering, number, temp, binary, set, write, choose}
 use Rattle.mv_lower_spec.specs.Correct as c
 use Rattle.mv_lower_spec.specs.Correct.{ran, end_of, seen, is_astray}
+use Rattle.mv_ir.specs.Operators as operators
 
 -- ---- statements
 
@@ -109,7 +110,7 @@ in_arm j = record { leave = 0; again = suc j.again; around = suc j.around }
 -- A test of the value in a temporary against each label. Where one matches, the place of its arm takes the value's place, and the block of the tests is left.
 abbrev pub test_labels : ℕ → ℕ → List ℕ → List Stm
 test_labels n i [] = []
-test_labels n i (l ∷ ls) = choose (binary 11 (temp n) (number l)) (set n (number i) ∷ break 0 ∷ []) [] ∷ test_labels n i ls
+test_labels n i (l ∷ ls) = choose (binary operators.equal (temp n) (number l)) (set n (number i) ∷ break 0 ∷ []) [] ∷ test_labels n i ls
 
 abbrev pub test_arms : ℕ → ℕ → List LoweredArm → List Stm
 test_arms n i [] = []
@@ -127,7 +128,7 @@ all_tests n arms = test_arms n 0 arms ++ set n (number (arm_place (λ a. a.other
 -- The statements of the arm at a place, which are skipped where the place in the temporary is a later one. Behind them it is the first, so that control falls through.
 abbrev pub arm_code : ℕ → ℕ → List Stm → List Stm
 arm_code n i [] = []
-arm_code n i (x ∷ xs) = choose (binary 10 (number i) (temp n)) [] ((x ∷ xs) ++ set n (number 0) ∷ []) ∷ []
+arm_code n i (x ∷ xs) = choose (binary operators.less_unsigned (number i) (temp n)) [] ((x ∷ xs) ++ set n (number 0) ∷ []) ∷ []
 
 abbrev pub arms_code : ℕ → ℕ → List LoweredArm → Jumps → List Stm
 arms_code n i [] j = []

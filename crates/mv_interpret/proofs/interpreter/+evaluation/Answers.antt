@@ -545,10 +545,10 @@ call-returns-in-None t c =
     let none = sym c.get.ensures ∙ ap option_copied c.in-None.is in
     missing a.program.now a.here a.f a.arguments.now a.caller.now a.state.now (omega arith) (omega arith) c.if-here-eq0.false none
 
-pub call-returns-then-here-ge512 : goal.call-returns-then-here-ge512
-call-returns-then-here-ge512 t c =
+pub call-returns-then-here-ge-DEPTH_LIMIT : goal.call-returns-then-here-ge-DEPTH_LIMIT
+call-returns-then-here-ge-DEPTH_LIMIT t c =
     let a = c.args in
-    too_deep a.program.now a.here a.f a.arguments.now a.caller.now a.state.now (omega arith) c.if-here-ge512.true
+    too_deep a.program.now a.here a.f a.arguments.now a.caller.now a.state.now (omega arith) c.if-here-ge-DEPTH_LIMIT.true
 
 pub call-returns-then-here-eq0 : goal.call-returns-then-here-eq0
 call-returns-then-here-eq0 t c =
