@@ -19,8 +19,8 @@ use Rattle.mv_ir.specs.declared.stm.Stm.TheOpen as stm
 use Rattle.mv_ir.specs.declared.stm.Stm.TheViews.{roll-Stm}
 use Rattle.mv_ir.specs.declared.stm.Stm.TheFolds.{map-Stm}
 use Rattle.mv_ir.proofs.Induction.{Each, TreeChildren, tree_ind, StmChildren, stm_ind, stms_ind}
-use Rattle.mv_select_trees.specs.TreeCode.{one, two, upper_bits, lower_bits, number_lines, load_lines, read_temp, unary_lines, binary_lines, narrow_lines, tree_lines, temp_register}
-use Rattle.mv_select_trees.proofs.Rolls.{lines_roll}
+use Rattle.mv_select_trees.specs.TreeCode.{one, two, upper_bits, lower_bits, number_lines, tree_lines, temp_register}
+use Rattle.mv_select_trees.proofs.TreesAreMade.{number_made, lines_made}
 use Rattle.mv_select_statements.specs.declared.elements.Home.{Home}
 use Rattle.mv_select_statements.specs.declared.elements.Home.TheVariants as place_at
 use Rattle.mv_select_statements.specs.StatementCode.{first, second, third, trap_label, write_temp, division, element_offset, element_lines, test_lines}
@@ -58,72 +58,22 @@ before a b h k = omega (arith, slots_append a b, h, k)
 -- ---- trees
 
 number_none : (n r : ℕ) → HasNone (number_lines n r)
-unfolding number_lines
-number_none n r = by_length (eqb (upper_bits n) 0)
-  where
-    by_length : (is_short : Bool) → HasNone (cond is_short (one (Addi r 0 (lower_bits n))) (two (Lui r (pos (upper_bits n))) (Addi r r (lower_bits n))))
-    by_length true = refl
-    by_length false = refl
+number_none = number_made HasNone refl (λ i. refl) (λ a b h k. after a b h k)
 
-unary_none : (o r : ℕ) → HasNone (unary_lines o r)
-unfolding unary_lines
-unary_none zero r = refl
-unary_none (suc zero) r = refl
-unary_none (suc (suc zero)) r = refl
-unary_none (suc (suc (suc o))) r = refl
+abbrev Anything : Tree → Type 0
+Anything t = Unit {0}
 
-binary_none : (o r : ℕ) → HasNone (binary_lines o r)
-unfolding binary_lines
-binary_none zero r = refl
-binary_none (suc zero) r = refl
-binary_none (suc (suc zero)) r = refl
-binary_none (suc (suc (suc zero))) r = refl
-binary_none (suc (suc (suc (suc zero)))) r = refl
-binary_none (suc (suc (suc (suc (suc zero))))) r = refl
-binary_none (suc (suc (suc (suc (suc (suc zero)))))) r = refl
-binary_none (suc (suc (suc (suc (suc (suc (suc zero))))))) r = refl
-binary_none (suc (suc (suc (suc (suc (suc (suc (suc zero)))))))) r = refl
-binary_none (suc (suc (suc (suc (suc (suc (suc (suc (suc zero))))))))) r = refl
-binary_none (suc (suc (suc (suc (suc (suc (suc (suc (suc (suc zero)))))))))) r = refl
-binary_none (suc (suc (suc (suc (suc (suc (suc (suc (suc (suc (suc zero))))))))))) r = refl
-binary_none (suc (suc (suc (suc (suc (suc (suc (suc (suc (suc (suc (suc zero)))))))))))) r = refl
-binary_none (suc (suc (suc (suc (suc (suc (suc (suc (suc (suc (suc (suc (suc o))))))))))))) r = refl
+anything_inside : (x : Tree-F Tree) → Anything (roll-Tree x) → TreeChildren Anything x
+anything_inside (tree.Number n) h = tt
+anything_inside (tree.Temp t) h = tt
+anything_inside (tree.Global g) h = tt
+anything_inside (tree.Function f) h = tt
+anything_inside (tree.Unary o a) h = tt
+anything_inside (tree.Binary o a b) h = (tt, tt)
+anything_inside (tree.Narrow k a) h = tt
 
-narrow_none : (k : Kind) (r : ℕ) → HasNone (narrow_lines k r)
-unfolding narrow_lines
-narrow_none kind.Bool r = refl
-narrow_none kind.SChar r = refl
-narrow_none kind.UChar r = refl
-narrow_none kind.Short r = refl
-narrow_none kind.UShort r = refl
-narrow_none kind.Int r = refl
-narrow_none kind.UInt r = refl
-
-module _ (place : ℕ → ℕ) where
-  abbrev TreeNone : Tree → Type 0
-  TreeNone t = (r : ℕ) → HasNone (tree_lines place t r)
-
-  at : (x : Tree-F Tree) (ls : ℕ → List Line) → tree_lines place (roll-Tree x) ≡ ls → ((r : ℕ) → HasNone (ls r)) → TreeNone (roll-Tree x)
-  at x ls e h r = subst (λ (k : ℕ → List Line). HasNone (k r)) (sym e) (h r)
-
-  tree_layer_none : (x : Tree-F Tree) → TreeChildren TreeNone x → TreeNone (roll-Tree x)
-  tree_layer_none (tree.Number n) h = let x = tree.Number n in at x (number_lines n) (lines_roll place x) (number_none n)
-  tree_layer_none (tree.Temp t) h = let x = tree.Temp t in at x (λ r. one (read_temp t r)) (lines_roll place x) (λ r. refl)
-  tree_layer_none (tree.Global g) h = let x = tree.Global g in at x (load_lines (place g)) (lines_roll place x) (λ r. refl)
-  tree_layer_none (tree.Function f) h = let x = tree.Function f in at x (λ r. Entry r f ∷ []) (lines_roll place x) (λ r. refl)
-  tree_layer_none (tree.Unary o a) h =
-      let x = tree.Unary o a in
-      at x (λ r. tree_lines place a r ++ unary_lines o r) (lines_roll place x) (λ r. after (tree_lines place a r) (unary_lines o r) (h r) (unary_none o r))
-  tree_layer_none (tree.Binary o a b) h =
-      let x = tree.Binary o a b in
-      at x (λ r. tree_lines place a r ++ (tree_lines place b (r + 1) ++ binary_lines o r)) (lines_roll place x)
-      (λ r. after (tree_lines place a r) (tree_lines place b (r + 1) ++ binary_lines o r) (h.0 r) (after (tree_lines place b (r + 1)) (binary_lines o r) (h.1 (r + 1)) (binary_none o r)))
-  tree_layer_none (tree.Narrow k a) h =
-      let x = tree.Narrow k a in
-      at x (λ r. tree_lines place a r ++ narrow_lines k r) (lines_roll place x) (λ r. after (tree_lines place a r) (narrow_lines k r) (h r) (narrow_none k r))
-
-  tree_none : (t : Tree) → TreeNone t
-  tree_none = tree_ind TreeNone tree_layer_none
+tree_none : (place : ℕ → ℕ) (t : Tree) (r : ℕ) → HasNone (tree_lines place t r)
+tree_none place t r = lines_made HasNone refl (λ i. refl) (λ a b h k. after a b h k) Anything anything_inside (λ f d h. refl) place t tt r
 
 -- ---- parts of statements
 

@@ -1,5 +1,5 @@
 -- Code depends on the places and sizes of the globals that it names alone.
-use Rattle.std.proofs.Common.{◌≡◌, ℕ, suc, ◌+◌, Bool, true, List, [], ◌∷◌, ◌++◌, pos, Option, refl, sym, ap, ◌∙◌, subst}
+use Rattle.std.proofs.Common.{◌≡◌, ℕ, suc, ◌+◌, Bool, true, cond, List, [], ◌∷◌, ◌++◌, pos, Option, refl, sym, ap, ◌∙◌, subst}
 use Rattle.mv_ast.specs.declared.program.Known.{Known}
 use Rattle.mv_isa.specs.declared.instr.Instr.TheVariants.{Lui, Lw, Sw, Addi}
 use Rattle.mv_isa.specs.declared.labelled.Line.{Line}
@@ -23,9 +23,9 @@ use Rattle.mv_ir.specs.Measures.{callee_trees, layer_trees, stm_trees, trees, la
 use Rattle.mv_ir.specs.WellFormed.{layer_named, stm_named, named, has_room, is_there, IsWellFormed}
 use Rattle.mv_ir.proofs.Induction.{Each, TreeChildren, tree_ind, StmChildren, stm_ind, stms_ind}
 use Rattle.mv_ir.proofs.Rolls.{reads_roll, trees_roll, named_roll}
-use Rattle.mv_select_trees.specs.TreeCode.{one, two, upper_bits, lower_bits, load_lines, unary_lines, binary_lines, narrow_lines, tree_layer, tree_lines}
+use Rattle.mv_select_trees.specs.TreeCode.{one, two, upper_bits, lower_bits, load_lines, unary_lines, binary_lines, keeps_words, narrow_lines, own_register, unless, tree_into, tree_lines, operand_lines, operand_register}
 use Rattle.mv_select_trees.specs.Rooms.{place_in}
-use Rattle.mv_select_trees.proofs.Rolls.{lines_roll}
+use Rattle.mv_select_trees.proofs.Rolls.{into_tree, into_roll, lines_are}
 use Rattle.mv_select_statements.specs.declared.elements.Home.{Home}
 use Rattle.mv_select_statements.specs.declared.elements.Home.TheVariants as place_at
 use Rattle.mv_select_statements.specs.StatementCode.{first, second, trap_label, write_temp, division, element_offset, element_lines, test_lines}
@@ -55,28 +55,32 @@ module _ (is_known : ℕ → Bool) where
     -- ---- trees
 
     abbrev IsSameTree : Tree → Type 0
-    IsSameTree t = ReadsKnown t → (r : ℕ) → tree_lines place t r ≡ tree_lines place' t r
+    IsSameTree t = ReadsKnown t → (d r : ℕ) → tree_into place t d r ≡ tree_into place' t d r
 
-    abbrev layer_lines : (ℕ → ℕ) → Tree-F Tree → ℕ → List Line
-    layer_lines at x = tree_layer at (map-Tree Tree (ℕ → List Line) (tree_lines at) x)
+    same_operand : (t : Tree) → IsSameTree t → ReadsKnown t → (r : ℕ) → operand_lines place t r ≡ operand_lines place' t r
+    unfolding operand_lines tree_lines
+    same_operand t c h r = ap (unless (own_register t)) (c h r r)
 
-    same_layer : (x : Tree-F Tree) → TreeChildren IsSameTree x → Each IsKnown (layer_reads (map-Tree Tree (List ℕ) tree_reads x)) → (r : ℕ) → layer_lines place x r ≡ layer_lines place' x r
-    same_layer (tree.Number n) c h r = refl
-    same_layer (tree.Temp t) c h r = refl
-    same_layer (tree.Global g) c h r = ap (λ a. load_lines a r) (same_place g h.0)
-    same_layer (tree.Function f) c h r = refl
-    same_layer (tree.Unary o a) c h r = ap (λ l. l ++ unary_lines o r) (c h r)
-    same_layer (tree.Binary o a b) c h r =
-        ap (λ l. l ++ (tree_lines place b (r + 1) ++ binary_lines o r)) (c.0 (each_front IsKnown (tree_reads a) (tree_reads b) h) r) ∙
-        ap (λ l. tree_lines place' a r ++ (l ++ binary_lines o r)) (c.1 (each_back IsKnown (tree_reads a) (tree_reads b) h) (r + 1))
-    same_layer (tree.Narrow k a) c h r = ap (λ l. l ++ narrow_lines k r) (c h r)
+    same_layer : (x : Tree-F Tree) → TreeChildren IsSameTree x → Each IsKnown (layer_reads (map-Tree Tree (List ℕ) tree_reads x)) → (d r : ℕ) → into_tree place x d r ≡ into_tree place' x d r
+    same_layer (tree.Number n) c h d r = refl
+    same_layer (tree.Temp t) c h d r = refl
+    same_layer (tree.Global g) c h d r = ap (λ a. load_lines a d) (same_place g h.0)
+    same_layer (tree.Function f) c h d r = refl
+    same_layer (tree.Unary o a) c h d r = ap (λ l. l ++ unary_lines o d (operand_register a r)) (same_operand a c h r)
+    same_layer (tree.Binary o a b) c h d r =
+        let last = binary_lines o d (operand_register a r) (operand_register b (r + 1)) in
+        ap (λ l. l ++ (operand_lines place b (r + 1) ++ last)) (same_operand a c.0 (each_front IsKnown (tree_reads a) (tree_reads b) h) r) ∙
+        ap (λ l. operand_lines place' a r ++ (l ++ last)) (same_operand b c.1 (each_back IsKnown (tree_reads a) (tree_reads b) h) (r + 1))
+    same_layer (tree.Narrow k a) c h d r =
+        let last = narrow_lines k d (operand_register a r) in
+        ap (λ l. cond (keeps_words k) l (operand_lines place a r ++ last)) (c h d r) ∙
+        ap (λ l. cond (keeps_words k) (tree_into place' a d r) (l ++ last)) (same_operand a c h r)
 
-    from_tree_layer : (x : Tree-F Tree) → TreeChildren IsSameTree x → IsSameTree (roll-Tree x)
-    from_tree_layer x c h r =
-        ap (λ (k : ℕ → List Line). k r) (lines_roll place x) ∙ same_layer x c (subst (Each IsKnown) (reads_roll x) h) r ∙ sym (ap (λ (k : ℕ → List Line). k r) (lines_roll place' x))
+    same_into : (t : Tree) → IsSameTree t
+    same_into = tree_ind IsSameTree (λ x c h d r. into_roll place x d r ∙ same_layer x c (subst (Each IsKnown) (reads_roll x) h) d r ∙ sym (into_roll place' x d r))
 
     same_tree : (t : Tree) → ReadsKnown t → (r : ℕ) → tree_lines place t r ≡ tree_lines place' t r
-    same_tree = tree_ind IsSameTree from_tree_layer
+    same_tree t h r = lines_are place t r ∙ same_into t h r r ∙ sym (lines_are place' t r)
 
     -- ---- calls
 

@@ -1,30 +1,21 @@
 -- What the code of a tree, and of statements without control, names.
 use Rattle.std.proofs.Common.{◌≡◌, ℕ, zero, suc, ◌+◌, ◌*◌, Bool, true, false, eqb, cond, List, [], ◌∷◌, ◌++◌, Option, Some, None, pos, All, inl, refl, sym, subst}
 use Rattle.std.proofs.lemmas.List.Elements.{All-append, All-cons, All-nil, All-head}
-use Rattle.mv_num.specs.declared.kind.Kind.{Kind}
-use Rattle.mv_num.specs.declared.kind.Kind.TheVariants as kind
 use Rattle.mv_isa.specs.declared.instr.Instr.{Instr}
-use Rattle.mv_isa.specs.declared.instr.Instr.TheVariants.{Lui, Lw, Sw, Addi, Sltiu, Slli, Srli, Srai, Add, Sub, Sll, Slt, Sltu, Xor, Srl, Sra, Or, And, Mul}
+use Rattle.mv_isa.specs.declared.instr.Instr.TheVariants.{Lui, Lw, Sw, Addi, Slli, Add}
 use Rattle.mv_isa.specs.declared.labelled.Line.{Line}
 use Rattle.mv_isa.specs.declared.labelled.Line.TheVariants.{Word, Label, Jump, Branch, Entry, Slot}
 use Rattle.mv_ir.specs.declared.tree.Tree.{Tree}
-use Rattle.mv_ir.specs.declared.tree.Tree.TheOpen.{Tree-F}
 use Rattle.mv_ir.specs.declared.tree.Tree.TheOpen as tree
 use Rattle.mv_ir.specs.declared.tree.Tree.TheViews.{roll-Tree}
-use Rattle.mv_ir.specs.declared.tree.Tree.TheFolds.{fold-roll-Tree, map-Tree}
-use Rattle.mv_ir.proofs.Induction.{TreeChildren, tree_ind}
-use Rattle.mv_select_trees.specs.TreeCode.{one, two, upper_bits, lower_bits, number_lines, load_lines, read_temp, minus_one, unary_lines, binary_lines, narrow_lines, tree_lines}
-use Rattle.mv_select_trees.proofs.Rolls.{lines_roll}
+use Rattle.mv_select_trees.specs.TreeCode.{one, two, upper_bits, lower_bits, number_lines, tree_lines}
+use Rattle.mv_select_trees.proofs.TreesAreMade.{number_made, lines_made}
 use Rattle.mv_select_statements.specs.declared.elements.Home.{Home}
 use Rattle.mv_select_statements.specs.declared.elements.Home.TheVariants as home
 use Rattle.mv_select_statements.specs.StatementCode.{first, second, third, trap_label, write_temp, division, element_offset, element_lines, test_lines, bounds_lines, clear_lines, set_lines, set_global_lines, divide_lines, check_lines, read_lines, write_lines, return_lines}
-use Rattle.mv_select_control.specs.Labels.{functions_layer, tree_functions}
-use Rattle.mv_select_control.proofs.TreeNames.{all_front, all_back}
+use Rattle.mv_select_control.specs.Labels.{tree_functions}
+use Rattle.mv_select_control.proofs.TreeNames.{functions_inside, function_named}
 use Rattle.mv_select_lines.specs.Lines.{Names, IsCounted}
-
-functions_roll : (x : Tree-F Tree) → tree_functions (roll-Tree x) ≡ functions_layer (map-Tree Tree (List ℕ) tree_functions x)
-unfolding tree_functions
-functions_roll x = fold-roll-Tree (List ℕ) functions_layer x
 
 -- what stands before lines without a slot at their start doesn't matter
 weaker : (before : Option Instr) (lines : List Line) → IsCounted None lines → IsCounted before lines
@@ -76,81 +67,17 @@ module _ (L P C Q S : ℕ → Type 0) where
   words i j = then_line (Word i) (one j) tt (word j)
 
   pub number_names : (n r : ℕ) → AllName (number_lines n r)
-  unfolding number_lines
-  number_names n r = by_length (eqb (upper_bits n) 0)
-    where
-      by_length : (is_short : Bool) → AllName (cond is_short (one (Addi r 0 (lower_bits n))) (two (Lui r (pos (upper_bits n))) (Addi r r (lower_bits n))))
-      by_length true = word (Addi r 0 (lower_bits n))
-      by_length false = words (Lui r (pos (upper_bits n))) (Addi r r (lower_bits n))
+  number_names = number_made AllName nothing word after
 
-  entry_names : (r f : ℕ) → Q f → AllName (Entry r f ∷ [])
-  entry_names r f h = then_line (Entry r f) [] h nothing
+  abbrev Fs : Tree → Type 0
+  Fs t = All Q (tree_functions t)
 
-  unary_names : (o r : ℕ) → AllName (unary_lines o r)
-  unfolding unary_lines
-  unary_names zero r = word (Sub r 0 r)
-  unary_names (suc zero) r = words (Addi (r + 1) 0 minus_one) (Sub r (r + 1) r)
-  unary_names (suc (suc zero)) r = word (Sltiu r r (pos 1))
-  unary_names (suc (suc (suc o))) r = word (Addi r 0 (pos 0))
-
-  binary_names : (o r : ℕ) → AllName (binary_lines o r)
-  unfolding binary_lines
-  binary_names zero r = word (Add r r (r + 1))
-  binary_names (suc zero) r = word (Sub r r (r + 1))
-  binary_names (suc (suc zero)) r = word (Mul r r (r + 1))
-  binary_names (suc (suc (suc zero))) r = word (And r r (r + 1))
-  binary_names (suc (suc (suc (suc zero)))) r = word (Or r r (r + 1))
-  binary_names (suc (suc (suc (suc (suc zero))))) r = word (Xor r r (r + 1))
-  binary_names (suc (suc (suc (suc (suc (suc zero)))))) r = word (Sll r r (r + 1))
-  binary_names (suc (suc (suc (suc (suc (suc (suc zero))))))) r = word (Sra r r (r + 1))
-  binary_names (suc (suc (suc (suc (suc (suc (suc (suc zero)))))))) r = word (Srl r r (r + 1))
-  binary_names (suc (suc (suc (suc (suc (suc (suc (suc (suc zero))))))))) r = word (Slt r r (r + 1))
-  binary_names (suc (suc (suc (suc (suc (suc (suc (suc (suc (suc zero)))))))))) r = word (Sltu r r (r + 1))
-  binary_names (suc (suc (suc (suc (suc (suc (suc (suc (suc (suc (suc zero))))))))))) r = words (Sub r r (r + 1)) (Sltiu r r (pos 1))
-  binary_names (suc (suc (suc (suc (suc (suc (suc (suc (suc (suc (suc (suc zero)))))))))))) r = words (Sub r r (r + 1)) (Sltu r 0 r)
-  binary_names (suc (suc (suc (suc (suc (suc (suc (suc (suc (suc (suc (suc (suc o))))))))))))) r = word (Addi r 0 (pos 0))
-
-  narrow_names : (k : Kind) (r : ℕ) → AllName (narrow_lines k r)
-  unfolding narrow_lines
-  narrow_names kind.Bool r = word (Sltu r 0 r)
-  narrow_names kind.SChar r = words (Slli r r (pos 24)) (Srai r r (pos 24))
-  narrow_names kind.UChar r = words (Slli r r (pos 24)) (Srli r r (pos 24))
-  narrow_names kind.Short r = words (Slli r r (pos 16)) (Srai r r (pos 16))
-  narrow_names kind.UShort r = words (Slli r r (pos 16)) (Srli r r (pos 16))
-  narrow_names kind.Int r = nothing
-  narrow_names kind.UInt r = nothing
-
-  -- ---- trees
+  entry_names : (f r : ℕ) → Fs (roll-Tree (tree.Function f)) → AllName (Entry r f ∷ [])
+  entry_names f r h = then_line (Entry r f) [] (function_named Q f h) nothing
 
   module _ (place : ℕ → ℕ) where
-    abbrev TreeNames : Tree → Type 0
-    TreeNames t = All Q (tree_functions t) → (r : ℕ) → AllName (tree_lines place t r)
-
-    at : (x : Tree-F Tree) (ls : ℕ → List Line) → tree_lines place (roll-Tree x) ≡ ls
-        → (All Q (functions_layer (map-Tree Tree (List ℕ) tree_functions x)) → (r : ℕ) → AllName (ls r)) → TreeNames (roll-Tree x)
-    at x ls e h p r = subst (λ (k : ℕ → List Line). AllName (k r)) (sym e) (h (subst (All Q) (functions_roll x) p) r)
-
-    layer : (x : Tree-F Tree) → TreeChildren TreeNames x → TreeNames (roll-Tree x)
-    layer (tree.Number n) h = let x = tree.Number n in at x (number_lines n) (lines_roll place x) (λ p r. number_names n r)
-    layer (tree.Temp t) h = let x = tree.Temp t in at x (λ r. one (read_temp t r)) (lines_roll place x) (λ p r. word (read_temp t r))
-    layer (tree.Global g) h =
-        let x = tree.Global g in
-        at x (load_lines (place g)) (lines_roll place x) (λ p r. words (Lui r (pos (upper_bits (place g)))) (Lw r r (lower_bits (place g))))
-    layer (tree.Function f) h = let x = tree.Function f in at x (λ r. Entry r f ∷ []) (lines_roll place x) (λ p r. entry_names r f (All-head Q f [] p))
-    layer (tree.Unary o a) h =
-        let x = tree.Unary o a in
-        at x (λ r. tree_lines place a r ++ unary_lines o r) (lines_roll place x) (λ p r. after (tree_lines place a r) (unary_lines o r) (h p r) (unary_names o r))
-    layer (tree.Binary o a b) h =
-        let x = tree.Binary o a b in
-        at x (λ r. tree_lines place a r ++ (tree_lines place b (r + 1) ++ binary_lines o r)) (lines_roll place x)
-        (λ p r. after (tree_lines place a r) (tree_lines place b (r + 1) ++ binary_lines o r) (h.0 (all_front Q (tree_functions a) (tree_functions b) p) r)
-        (after (tree_lines place b (r + 1)) (binary_lines o r) (h.1 (all_back Q (tree_functions a) (tree_functions b) p) (r + 1)) (binary_names o r)))
-    layer (tree.Narrow k a) h =
-        let x = tree.Narrow k a in
-        at x (λ r. tree_lines place a r ++ narrow_lines k r) (lines_roll place x) (λ p r. after (tree_lines place a r) (narrow_lines k r) (h p r) (narrow_names k r))
-
-    pub tree_names : (t : Tree) → TreeNames t
-    tree_names = tree_ind TreeNames layer
+    pub tree_names : (t : Tree) → Fs t → (r : ℕ) → AllName (tree_lines place t r)
+    tree_names = lines_made AllName nothing word after Fs (functions_inside Q) entry_names place
 
     -- ---- statements without control
 
@@ -172,9 +99,6 @@ module _ (L P C Q S : ℕ → Type 0) where
 
     pub clear_names : AllName clear_lines
     clear_names = words (Sw first 0 (pos 0)) (Addi first first (pos 4))
-
-    abbrev Fs : Tree → Type 0
-    Fs t = All Q (tree_functions t)
 
     pub set_names : (t : ℕ) (v : Tree) → Fs v → AllName (set_lines place t v)
     set_names t v h = after (tree_lines place v first) (one (write_temp t first)) (tree_names v h first) (word (write_temp t first))

@@ -16,7 +16,7 @@ use Rattle.mv_select_trees.specs.Straight.{Straight}
 use Rattle.mv_select_trees.specs.View.{AreScratch, Changes, HoldsTemps, HoldsNamed}
 use Rattle.mv_select_trees.proofs.Instructions.{addi_sets}
 use Rattle.mv_select_trees.proofs.Registers.{changes_wider, scratch_part}
-use Rattle.mv_select_trees.proofs.TreesRun.{tree_runs}
+use Rattle.mv_select_trees.proofs.TreesRun.{trees_run}
 use Rattle.mv_select_trees.proofs.Words.{word_of_pos, zero_add, add_word}
 use Rattle.mv_select_statements.specs.StatementCode.{write_temp}
 use Rattle.mv_select_statements.specs.Leads.{limited, Moves}
@@ -76,7 +76,7 @@ module _ {M : Type 0} (access : Access M) (s : Site) (setting : ir.Setting) (fra
   tree_first r t l regs m scratch fine f =
       let low = fine.shallow in
       let part = scratch_part r (r + 4) r (r + depth t) (omega arith) (omega arith) scratch in
-      let g = tree_runs (limited access s) m (view_of s setting frame l) (named_held l regs m f) t r regs (fine.named l f.count) f.are (temps_held l regs m f) part in
+      let g = trees_run _ (limited access s) m (view_of s setting frame l) (named_held l regs m f) t r regs (fine.named l f.count) f.are (temps_held l regs m f) part in
       record {
         after = g.after;
         runs = g.runs;

@@ -1,7 +1,7 @@
 -- What the code of trees is, at each variant and each operator.
-use Rattle.std.proofs.Common.{◌≡◌, ◌≢◌, ℕ, zero, suc, ◌+◌, max, List, [], ◌∷◌, ◌++◌, pos, refl, sym, ap, ◌∙◌, append_assoc}
+use Rattle.std.proofs.Common.{◌≡◌, ◌≢◌, ℕ, zero, suc, ◌+◌, max, cond, eqb, ltb, List, [], ◌∷◌, ◌++◌, Some, None, pos, refl, sym, ap, ◌∙◌, append_assoc}
 use Rattle.mv_num.specs.declared.kind.Kind.{Kind}
-use Rattle.mv_isa.specs.declared.instr.Instr.TheVariants.{Sltiu, Addi, Add, Sub, Sll, Slt, Sltu, Xor, Srl, Sra, Or, And, Mul}
+use Rattle.mv_isa.specs.declared.instr.Instr.TheVariants.{Sltiu, Xori, Add, Sub, Sll, Slt, Sltu, Xor, Srl, Sra, Or, And, Mul}
 use Rattle.mv_isa.specs.declared.labelled.Line.{Line}
 use Rattle.mv_isa.specs.declared.labelled.Line.TheVariants.{Entry}
 use Rattle.mv_ir.specs.declared.tree.Tree.{Tree}
@@ -10,11 +10,14 @@ use Rattle.mv_ir.specs.declared.tree.Tree.TheOpen as tree
 use Rattle.mv_ir.specs.declared.tree.Tree.TheVariants.{rolls-Number, rolls-Temp, rolls-Global, rolls-Function, rolls-Unary, rolls-Binary, rolls-Narrow}
 use Rattle.mv_ir.specs.Trees.{depth}
 use Rattle.mv_ir.proofs.Rolls.{depth_roll}
-use Rattle.mv_select_trees.specs.TreeCode.{one, two, minus_one, number_lines, load_lines, read_temp, unary_lines, binary_lines, narrow_lines, tree_lines, temps_of, clear}
-use Rattle.mv_select_trees.proofs.Rolls.{lines_roll, temps_roll}
+use Rattle.mv_select_trees.specs.TreeCode.{one, two, minus_one, number_lines, load_lines, read_temp, temp_register, unary_lines, binary_lines, keeps_words, narrow_lines, own_register, tree_into, operand_lines, operand_register, temps_of, clear}
+use Rattle.mv_select_trees.proofs.Rolls.{into_roll, own_roll, temps_roll}
 
-pub lines_number : (place : ℕ → ℕ) (n : ℕ) (r : ℕ) → tree_lines place (tr.Number n) r ≡ number_lines n r
-lines_number place n r = ap (λ x. tree_lines place x r) (sym (rolls-Number n)) ∙ ap (λ (f : ℕ → List Line). f r) (lines_roll place (tree.Number n))
+pub into_number : (place : ℕ → ℕ) (n d r : ℕ) → tree_into place (tr.Number n) d r ≡ number_lines n d
+into_number place n d r = ap (λ x. tree_into place x d r) (sym (rolls-Number n)) ∙ into_roll place (tree.Number n) d r
+
+pub own_number : (n : ℕ) → own_register (tr.Number n) ≡ cond (eqb n 0) (Some 0) None
+own_number n = ap own_register (sym (rolls-Number n)) ∙ own_roll (tree.Number n)
 
 pub depth_number : (n : ℕ) → depth (tr.Number n) ≡ 1
 depth_number n = ap depth (sym (rolls-Number n)) ∙ depth_roll (tree.Number n)
@@ -22,8 +25,11 @@ depth_number n = ap depth (sym (rolls-Number n)) ∙ depth_roll (tree.Number n)
 pub temps_number : (n : ℕ) → temps_of (tr.Number n) ≡ 0
 temps_number n = ap temps_of (sym (rolls-Number n)) ∙ temps_roll (tree.Number n)
 
-pub lines_temp : (place : ℕ → ℕ) (t : ℕ) (r : ℕ) → tree_lines place (tr.Temp t) r ≡ one (read_temp t r)
-lines_temp place t r = ap (λ x. tree_lines place x r) (sym (rolls-Temp t)) ∙ ap (λ (f : ℕ → List Line). f r) (lines_roll place (tree.Temp t))
+pub into_temp : (place : ℕ → ℕ) (t d r : ℕ) → tree_into place (tr.Temp t) d r ≡ one (read_temp t d)
+into_temp place t d r = ap (λ x. tree_into place x d r) (sym (rolls-Temp t)) ∙ into_roll place (tree.Temp t) d r
+
+pub own_temp : (t : ℕ) → own_register (tr.Temp t) ≡ cond (ltb t 9) (Some (temp_register t)) None
+own_temp t = ap own_register (sym (rolls-Temp t)) ∙ own_roll (tree.Temp t)
 
 pub depth_temp : (t : ℕ) → depth (tr.Temp t) ≡ 1
 depth_temp t = ap depth (sym (rolls-Temp t)) ∙ depth_roll (tree.Temp t)
@@ -31,8 +37,11 @@ depth_temp t = ap depth (sym (rolls-Temp t)) ∙ depth_roll (tree.Temp t)
 pub temps_temp : (t : ℕ) → temps_of (tr.Temp t) ≡ t + 1
 temps_temp t = ap temps_of (sym (rolls-Temp t)) ∙ temps_roll (tree.Temp t)
 
-pub lines_global : (place : ℕ → ℕ) (g : ℕ) (r : ℕ) → tree_lines place (tr.Global g) r ≡ load_lines (place g) r
-lines_global place g r = ap (λ x. tree_lines place x r) (sym (rolls-Global g)) ∙ ap (λ (f : ℕ → List Line). f r) (lines_roll place (tree.Global g))
+pub into_global : (place : ℕ → ℕ) (g d r : ℕ) → tree_into place (tr.Global g) d r ≡ load_lines (place g) d
+into_global place g d r = ap (λ x. tree_into place x d r) (sym (rolls-Global g)) ∙ into_roll place (tree.Global g) d r
+
+pub own_global : (g : ℕ) → own_register (tr.Global g) ≡ None
+own_global g = ap own_register (sym (rolls-Global g)) ∙ own_roll (tree.Global g)
 
 pub depth_global : (g : ℕ) → depth (tr.Global g) ≡ 1
 depth_global g = ap depth (sym (rolls-Global g)) ∙ depth_roll (tree.Global g)
@@ -40,8 +49,11 @@ depth_global g = ap depth (sym (rolls-Global g)) ∙ depth_roll (tree.Global g)
 pub temps_global : (g : ℕ) → temps_of (tr.Global g) ≡ 0
 temps_global g = ap temps_of (sym (rolls-Global g)) ∙ temps_roll (tree.Global g)
 
-pub lines_function : (place : ℕ → ℕ) (f : ℕ) (r : ℕ) → tree_lines place (tr.Function f) r ≡ Entry r f ∷ []
-lines_function place f r = ap (λ x. tree_lines place x r) (sym (rolls-Function f)) ∙ ap (λ (f : ℕ → List Line). f r) (lines_roll place (tree.Function f))
+pub into_function : (place : ℕ → ℕ) (f d r : ℕ) → tree_into place (tr.Function f) d r ≡ Entry d f ∷ []
+into_function place f d r = ap (λ x. tree_into place x d r) (sym (rolls-Function f)) ∙ into_roll place (tree.Function f) d r
+
+pub own_function : (f : ℕ) → own_register (tr.Function f) ≡ None
+own_function f = ap own_register (sym (rolls-Function f)) ∙ own_roll (tree.Function f)
 
 pub depth_function : (f : ℕ) → depth (tr.Function f) ≡ 1
 depth_function f = ap depth (sym (rolls-Function f)) ∙ depth_roll (tree.Function f)
@@ -49,8 +61,11 @@ depth_function f = ap depth (sym (rolls-Function f)) ∙ depth_roll (tree.Functi
 pub temps_function : (f : ℕ) → temps_of (tr.Function f) ≡ 0
 temps_function f = ap temps_of (sym (rolls-Function f)) ∙ temps_roll (tree.Function f)
 
-pub lines_unary : (place : ℕ → ℕ) (o : ℕ) (a : Tree) (r : ℕ) → tree_lines place (tr.Unary o a) r ≡ tree_lines place a r ++ unary_lines o r
-lines_unary place o a r = ap (λ x. tree_lines place x r) (sym (rolls-Unary o a)) ∙ ap (λ (f : ℕ → List Line). f r) (lines_roll place (tree.Unary o a))
+pub into_unary : (place : ℕ → ℕ) (o : ℕ) (a : Tree) (d r : ℕ) → tree_into place (tr.Unary o a) d r ≡ operand_lines place a r ++ unary_lines o d (operand_register a r)
+into_unary place o a d r = ap (λ x. tree_into place x d r) (sym (rolls-Unary o a)) ∙ into_roll place (tree.Unary o a) d r
+
+pub own_unary : (o : ℕ) (a : Tree) → own_register (tr.Unary o a) ≡ None
+own_unary o a = ap own_register (sym (rolls-Unary o a)) ∙ own_roll (tree.Unary o a)
 
 pub depth_unary : (o : ℕ) (a : Tree) → depth (tr.Unary o a) ≡ suc (depth a)
 depth_unary o a = ap depth (sym (rolls-Unary o a)) ∙ depth_roll (tree.Unary o a)
@@ -58,8 +73,12 @@ depth_unary o a = ap depth (sym (rolls-Unary o a)) ∙ depth_roll (tree.Unary o 
 pub temps_unary : (o : ℕ) (a : Tree) → temps_of (tr.Unary o a) ≡ temps_of a
 temps_unary o a = ap temps_of (sym (rolls-Unary o a)) ∙ temps_roll (tree.Unary o a)
 
-pub lines_binary : (place : ℕ → ℕ) (o : ℕ) (a b : Tree) (r : ℕ) → tree_lines place (tr.Binary o a b) r ≡ tree_lines place a r ++ (tree_lines place b (r + 1) ++ binary_lines o r)
-lines_binary place o a b r = ap (λ x. tree_lines place x r) (sym (rolls-Binary o a b)) ∙ ap (λ (f : ℕ → List Line). f r) (lines_roll place (tree.Binary o a b))
+pub into_binary : (place : ℕ → ℕ) (o : ℕ) (a b : Tree) (d r : ℕ)
+    → tree_into place (tr.Binary o a b) d r ≡ operand_lines place a r ++ (operand_lines place b (r + 1) ++ binary_lines o d (operand_register a r) (operand_register b (r + 1)))
+into_binary place o a b d r = ap (λ x. tree_into place x d r) (sym (rolls-Binary o a b)) ∙ into_roll place (tree.Binary o a b) d r
+
+pub own_binary : (o : ℕ) (a b : Tree) → own_register (tr.Binary o a b) ≡ None
+own_binary o a b = ap own_register (sym (rolls-Binary o a b)) ∙ own_roll (tree.Binary o a b)
 
 pub depth_binary : (o : ℕ) (a b : Tree) → depth (tr.Binary o a b) ≡ suc (max (depth a) (depth b))
 depth_binary o a b = ap depth (sym (rolls-Binary o a b)) ∙ depth_roll (tree.Binary o a b)
@@ -67,8 +86,12 @@ depth_binary o a b = ap depth (sym (rolls-Binary o a b)) ∙ depth_roll (tree.Bi
 pub temps_binary : (o : ℕ) (a b : Tree) → temps_of (tr.Binary o a b) ≡ max (temps_of a) (temps_of b)
 temps_binary o a b = ap temps_of (sym (rolls-Binary o a b)) ∙ temps_roll (tree.Binary o a b)
 
-pub lines_narrow : (place : ℕ → ℕ) (k : Kind) (a : Tree) (r : ℕ) → tree_lines place (tr.Narrow k a) r ≡ tree_lines place a r ++ narrow_lines k r
-lines_narrow place k a r = ap (λ x. tree_lines place x r) (sym (rolls-Narrow k a)) ∙ ap (λ (f : ℕ → List Line). f r) (lines_roll place (tree.Narrow k a))
+pub into_narrow : (place : ℕ → ℕ) (k : Kind) (a : Tree) (d r : ℕ)
+    → tree_into place (tr.Narrow k a) d r ≡ cond (keeps_words k) (tree_into place a d r) (operand_lines place a r ++ narrow_lines k d (operand_register a r))
+into_narrow place k a d r = ap (λ x. tree_into place x d r) (sym (rolls-Narrow k a)) ∙ into_roll place (tree.Narrow k a) d r
+
+pub own_narrow : (k : Kind) (a : Tree) → own_register (tr.Narrow k a) ≡ cond (keeps_words k) (own_register a) None
+own_narrow k a = ap own_register (sym (rolls-Narrow k a)) ∙ own_roll (tree.Narrow k a)
 
 pub depth_narrow : (k : Kind) (a : Tree) → depth (tr.Narrow k a) ≡ suc (depth a)
 depth_narrow k a = ap depth (sym (rolls-Narrow k a)) ∙ depth_roll (tree.Narrow k a)
@@ -76,97 +99,97 @@ depth_narrow k a = ap depth (sym (rolls-Narrow k a)) ∙ depth_roll (tree.Narrow
 pub temps_narrow : (k : Kind) (a : Tree) → temps_of (tr.Narrow k a) ≡ temps_of a
 temps_narrow k a = ap temps_of (sym (rolls-Narrow k a)) ∙ temps_roll (tree.Narrow k a)
 
-pub ruleset trees = (lines_number, depth_number, temps_number, lines_temp, depth_temp, temps_temp, lines_global, depth_global, temps_global, lines_function, depth_function, temps_function, lines_unary, depth_unary, temps_unary, lines_binary, depth_binary, temps_binary, lines_narrow, depth_narrow, temps_narrow)
+pub ruleset trees = (into_number, own_number, depth_number, temps_number, into_temp, own_temp, depth_temp, temps_temp, into_global, own_global, depth_global, temps_global, into_function, own_function, depth_function, temps_function, into_unary, own_unary, depth_unary, temps_unary, into_binary, own_binary, depth_binary, temps_binary, into_narrow, own_narrow, depth_narrow, temps_narrow)
 
-pub unary_0 : (r : ℕ) → unary_lines 0 r ≡ one (Sub r 0 r)
+pub unary_0 : (d s : ℕ) → unary_lines 0 d s ≡ one (Sub d 0 s)
 unfolding unary_lines
-unary_0 r = refl
+unary_0 d s = refl
 
-pub unary_1 : (r : ℕ) → unary_lines 1 r ≡ two (Addi (r + 1) 0 minus_one) (Sub r (r + 1) r)
+pub unary_1 : (d s : ℕ) → unary_lines 1 d s ≡ one (Xori d s minus_one)
 unfolding unary_lines
-unary_1 r = refl
+unary_1 d s = refl
 
-pub unary_2 : (r : ℕ) → unary_lines 2 r ≡ one (Sltiu r r (pos 1))
+pub unary_2 : (d s : ℕ) → unary_lines 2 d s ≡ one (Sltiu d s (pos 1))
 unfolding unary_lines
-unary_2 r = refl
+unary_2 d s = refl
 
-pub unary_other : (o r : ℕ) → o ≢ 0 → o ≢ 1 → o ≢ 2 → unary_lines o r ≡ clear r
+pub unary_other : (o d s : ℕ) → o ≢ 0 → o ≢ 1 → o ≢ 2 → unary_lines o d s ≡ clear d
 unfolding unary_lines
-unary_other zero r p q s = absurd (p refl)
-unary_other (suc zero) r p q s = absurd (q refl)
-unary_other (suc (suc zero)) r p q s = absurd (s refl)
-unary_other (suc (suc (suc o))) r p q s = refl
+unary_other zero d s p q x = absurd (p refl)
+unary_other (suc zero) d s p q x = absurd (q refl)
+unary_other (suc (suc zero)) d s p q x = absurd (x refl)
+unary_other (suc (suc (suc o))) d s p q x = refl
 
 pub ruleset unary_operators = (unary_0, unary_1, unary_2, unary_other)
 
-pub binary_0 : (r : ℕ) → binary_lines 0 r ≡ one (Add r r (r + 1))
+pub binary_0 : (d a b : ℕ) → binary_lines 0 d a b ≡ one (Add d a b)
 unfolding binary_lines
-binary_0 r = refl
+binary_0 d a b = refl
 
-pub binary_1 : (r : ℕ) → binary_lines 1 r ≡ one (Sub r r (r + 1))
+pub binary_1 : (d a b : ℕ) → binary_lines 1 d a b ≡ one (Sub d a b)
 unfolding binary_lines
-binary_1 r = refl
+binary_1 d a b = refl
 
-pub binary_2 : (r : ℕ) → binary_lines 2 r ≡ one (Mul r r (r + 1))
+pub binary_2 : (d a b : ℕ) → binary_lines 2 d a b ≡ one (Mul d a b)
 unfolding binary_lines
-binary_2 r = refl
+binary_2 d a b = refl
 
-pub binary_3 : (r : ℕ) → binary_lines 3 r ≡ one (And r r (r + 1))
+pub binary_3 : (d a b : ℕ) → binary_lines 3 d a b ≡ one (And d a b)
 unfolding binary_lines
-binary_3 r = refl
+binary_3 d a b = refl
 
-pub binary_4 : (r : ℕ) → binary_lines 4 r ≡ one (Or r r (r + 1))
+pub binary_4 : (d a b : ℕ) → binary_lines 4 d a b ≡ one (Or d a b)
 unfolding binary_lines
-binary_4 r = refl
+binary_4 d a b = refl
 
-pub binary_5 : (r : ℕ) → binary_lines 5 r ≡ one (Xor r r (r + 1))
+pub binary_5 : (d a b : ℕ) → binary_lines 5 d a b ≡ one (Xor d a b)
 unfolding binary_lines
-binary_5 r = refl
+binary_5 d a b = refl
 
-pub binary_6 : (r : ℕ) → binary_lines 6 r ≡ one (Sll r r (r + 1))
+pub binary_6 : (d a b : ℕ) → binary_lines 6 d a b ≡ one (Sll d a b)
 unfolding binary_lines
-binary_6 r = refl
+binary_6 d a b = refl
 
-pub binary_7 : (r : ℕ) → binary_lines 7 r ≡ one (Sra r r (r + 1))
+pub binary_7 : (d a b : ℕ) → binary_lines 7 d a b ≡ one (Sra d a b)
 unfolding binary_lines
-binary_7 r = refl
+binary_7 d a b = refl
 
-pub binary_8 : (r : ℕ) → binary_lines 8 r ≡ one (Srl r r (r + 1))
+pub binary_8 : (d a b : ℕ) → binary_lines 8 d a b ≡ one (Srl d a b)
 unfolding binary_lines
-binary_8 r = refl
+binary_8 d a b = refl
 
-pub binary_9 : (r : ℕ) → binary_lines 9 r ≡ one (Slt r r (r + 1))
+pub binary_9 : (d a b : ℕ) → binary_lines 9 d a b ≡ one (Slt d a b)
 unfolding binary_lines
-binary_9 r = refl
+binary_9 d a b = refl
 
-pub binary_10 : (r : ℕ) → binary_lines 10 r ≡ one (Sltu r r (r + 1))
+pub binary_10 : (d a b : ℕ) → binary_lines 10 d a b ≡ one (Sltu d a b)
 unfolding binary_lines
-binary_10 r = refl
+binary_10 d a b = refl
 
-pub binary_11 : (r : ℕ) → binary_lines 11 r ≡ two (Sub r r (r + 1)) (Sltiu r r (pos 1))
+pub binary_11 : (d a b : ℕ) → binary_lines 11 d a b ≡ two (Sub d a b) (Sltiu d d (pos 1))
 unfolding binary_lines
-binary_11 r = refl
+binary_11 d a b = refl
 
-pub binary_12 : (r : ℕ) → binary_lines 12 r ≡ two (Sub r r (r + 1)) (Sltu r 0 r)
+pub binary_12 : (d a b : ℕ) → binary_lines 12 d a b ≡ two (Sub d a b) (Sltu d 0 d)
 unfolding binary_lines
-binary_12 r = refl
+binary_12 d a b = refl
 
-pub binary_other : (o r : ℕ) → o ≢ 0 → o ≢ 1 → o ≢ 2 → o ≢ 3 → o ≢ 4 → o ≢ 5 → o ≢ 6 → o ≢ 7 → o ≢ 8 → o ≢ 9 → o ≢ 10 → o ≢ 11 → o ≢ 12 → binary_lines o r ≡ clear r
+pub binary_other : (o d a b : ℕ) → o ≢ 0 → o ≢ 1 → o ≢ 2 → o ≢ 3 → o ≢ 4 → o ≢ 5 → o ≢ 6 → o ≢ 7 → o ≢ 8 → o ≢ 9 → o ≢ 10 → o ≢ 11 → o ≢ 12 → binary_lines o d a b ≡ clear d
 unfolding binary_lines
-binary_other zero r p0 p1 p2 p3 p4 p5 p6 p7 p8 p9 p10 p11 p12 = absurd (p0 refl)
-binary_other (suc zero) r p0 p1 p2 p3 p4 p5 p6 p7 p8 p9 p10 p11 p12 = absurd (p1 refl)
-binary_other (suc (suc zero)) r p0 p1 p2 p3 p4 p5 p6 p7 p8 p9 p10 p11 p12 = absurd (p2 refl)
-binary_other (suc (suc (suc zero))) r p0 p1 p2 p3 p4 p5 p6 p7 p8 p9 p10 p11 p12 = absurd (p3 refl)
-binary_other (suc (suc (suc (suc zero)))) r p0 p1 p2 p3 p4 p5 p6 p7 p8 p9 p10 p11 p12 = absurd (p4 refl)
-binary_other (suc (suc (suc (suc (suc zero))))) r p0 p1 p2 p3 p4 p5 p6 p7 p8 p9 p10 p11 p12 = absurd (p5 refl)
-binary_other (suc (suc (suc (suc (suc (suc zero)))))) r p0 p1 p2 p3 p4 p5 p6 p7 p8 p9 p10 p11 p12 = absurd (p6 refl)
-binary_other (suc (suc (suc (suc (suc (suc (suc zero))))))) r p0 p1 p2 p3 p4 p5 p6 p7 p8 p9 p10 p11 p12 = absurd (p7 refl)
-binary_other (suc (suc (suc (suc (suc (suc (suc (suc zero)))))))) r p0 p1 p2 p3 p4 p5 p6 p7 p8 p9 p10 p11 p12 = absurd (p8 refl)
-binary_other (suc (suc (suc (suc (suc (suc (suc (suc (suc zero))))))))) r p0 p1 p2 p3 p4 p5 p6 p7 p8 p9 p10 p11 p12 = absurd (p9 refl)
-binary_other (suc (suc (suc (suc (suc (suc (suc (suc (suc (suc zero)))))))))) r p0 p1 p2 p3 p4 p5 p6 p7 p8 p9 p10 p11 p12 = absurd (p10 refl)
-binary_other (suc (suc (suc (suc (suc (suc (suc (suc (suc (suc (suc zero))))))))))) r p0 p1 p2 p3 p4 p5 p6 p7 p8 p9 p10 p11 p12 = absurd (p11 refl)
-binary_other (suc (suc (suc (suc (suc (suc (suc (suc (suc (suc (suc (suc zero)))))))))))) r p0 p1 p2 p3 p4 p5 p6 p7 p8 p9 p10 p11 p12 = absurd (p12 refl)
-binary_other (suc (suc (suc (suc (suc (suc (suc (suc (suc (suc (suc (suc (suc o))))))))))))) r p0 p1 p2 p3 p4 p5 p6 p7 p8 p9 p10 p11 p12 = refl
+binary_other zero d a b p0 p1 p2 p3 p4 p5 p6 p7 p8 p9 p10 p11 p12 = absurd (p0 refl)
+binary_other (suc zero) d a b p0 p1 p2 p3 p4 p5 p6 p7 p8 p9 p10 p11 p12 = absurd (p1 refl)
+binary_other (suc (suc zero)) d a b p0 p1 p2 p3 p4 p5 p6 p7 p8 p9 p10 p11 p12 = absurd (p2 refl)
+binary_other (suc (suc (suc zero))) d a b p0 p1 p2 p3 p4 p5 p6 p7 p8 p9 p10 p11 p12 = absurd (p3 refl)
+binary_other (suc (suc (suc (suc zero)))) d a b p0 p1 p2 p3 p4 p5 p6 p7 p8 p9 p10 p11 p12 = absurd (p4 refl)
+binary_other (suc (suc (suc (suc (suc zero))))) d a b p0 p1 p2 p3 p4 p5 p6 p7 p8 p9 p10 p11 p12 = absurd (p5 refl)
+binary_other (suc (suc (suc (suc (suc (suc zero)))))) d a b p0 p1 p2 p3 p4 p5 p6 p7 p8 p9 p10 p11 p12 = absurd (p6 refl)
+binary_other (suc (suc (suc (suc (suc (suc (suc zero))))))) d a b p0 p1 p2 p3 p4 p5 p6 p7 p8 p9 p10 p11 p12 = absurd (p7 refl)
+binary_other (suc (suc (suc (suc (suc (suc (suc (suc zero)))))))) d a b p0 p1 p2 p3 p4 p5 p6 p7 p8 p9 p10 p11 p12 = absurd (p8 refl)
+binary_other (suc (suc (suc (suc (suc (suc (suc (suc (suc zero))))))))) d a b p0 p1 p2 p3 p4 p5 p6 p7 p8 p9 p10 p11 p12 = absurd (p9 refl)
+binary_other (suc (suc (suc (suc (suc (suc (suc (suc (suc (suc zero)))))))))) d a b p0 p1 p2 p3 p4 p5 p6 p7 p8 p9 p10 p11 p12 = absurd (p10 refl)
+binary_other (suc (suc (suc (suc (suc (suc (suc (suc (suc (suc (suc zero))))))))))) d a b p0 p1 p2 p3 p4 p5 p6 p7 p8 p9 p10 p11 p12 = absurd (p11 refl)
+binary_other (suc (suc (suc (suc (suc (suc (suc (suc (suc (suc (suc (suc zero)))))))))))) d a b p0 p1 p2 p3 p4 p5 p6 p7 p8 p9 p10 p11 p12 = absurd (p12 refl)
+binary_other (suc (suc (suc (suc (suc (suc (suc (suc (suc (suc (suc (suc (suc o))))))))))))) d a b p0 p1 p2 p3 p4 p5 p6 p7 p8 p9 p10 p11 p12 = refl
 
 pub ruleset binary_operators = (binary_0, binary_1, binary_2, binary_3, binary_4, binary_5, binary_6, binary_7, binary_8, binary_9, binary_10, binary_11, binary_12, binary_other)
 

@@ -1,6 +1,6 @@
 -- Lines that leave a value in a register, put together of instructions that do.
-use Rattle.std.proofs.Common.{◌≡◌, ℕ, ◌^◌, ◌<◌, ◌≤◌, List, [], ◌∷◌, ◌++◌, pos, Some, Bool, eqb, cond, ⊎_elim, refl, sym, ap, ◌∙◌, subst, arith}
-use Rattle.std.proofs.lemmas.Bool.{cases_eq, eq-eqb, ne_eqb}
+use Rattle.std.proofs.Common.{◌≡◌, ◌≢◌, ◌⊎◌, inl, inr, ℕ, ◌+◌, ◌^◌, ◌<◌, ◌≤◌, List, [], ◌∷◌, ◌++◌, pos, Some, Bool, eqb, cond, ⊎_elim, refl, sym, ap, ◌∙◌, subst, arith}
+use Rattle.std.proofs.lemmas.Bool.{cases_eq, cases_lt, eq-eqb, ne_eqb}
 use Rattle.mv_num.specs.Words.{word_of, add}
 use Rattle.mv_isa.specs.declared.instr.Instr.{Instr}
 use Rattle.mv_isa.specs.declared.instr.Instr.TheVariants.{Lui, Lw, Addi}
@@ -9,7 +9,7 @@ use Rattle.mv_isa.specs.declared.labelled.Line.TheVariants.{Entry}
 use Rattle.mv_isa.specs.Execution.{Access, reg, put, upper}
 use Rattle.mv_select_trees.specs.TreeCode.{upper_bits, lower_bits, one, two, number_lines, load_lines, clear}
 use Rattle.mv_select_trees.specs.Straight.{Sets, Straight}
-use Rattle.mv_select_trees.specs.View.{AreRegisters, Changes, Gives}
+use Rattle.mv_select_trees.specs.View.{AreRegisters, Changes, Gives, Leaves}
 use Rattle.mv_select_trees.proofs.Instructions.{lui_sets, lw_sets, addi_sets}
 use Rattle.mv_select_trees.proofs.Registers.{reg_zero, put_same, put_registers, changes_both, changes_put}
 use Rattle.mv_select_trees.proofs.Words.{parts_add, lower_add, upper_below, add_zero, word_of_pos}
@@ -103,3 +103,37 @@ module _ {M : Type 0} (access : Access M) (m : M) (entry : ℕ → ℕ) where
         two_gives r v r up (Lui r (pos (upper_bits a))) (Lw r r (lower_bits a)) regs h w k w (upper_below a)
         (lui_sets access m r (pos (upper_bits a)) regs up refl)
         (lw_sets access m r r (lower_bits a) (put regs r up) a v (ap (λ z. add z (word_of (lower_bits a))) (put_within lo hi r up regs h w) ∙ parts_add a b) e)
+
+    -- ---- lines that change one register besides some from lo to below hi
+
+    -- nothing but that one
+    pub leaves_alone : (d v : ℕ) (ls : List Line) (regs : List ℕ) → Gives access m entry d (d + 1) d v ls regs → Leaves access m entry lo hi d v ls regs
+    leaves_alone d v ls regs g = record {
+      after = g.after;
+      runs = g.runs;
+      are = g.changes.are;
+      others = λ q o ne. g.changes.others q (apart q ne (cases_lt q d));
+      holds = g.holds;
+    }
+      where
+        apart : (q : ℕ) → q ≢ d → (q < d) ⊎ (d ≤ q) → (q < d) ⊎ (d + 1 ≤ q)
+        apart q ne (inl l) = inl l
+        apart q ne (inr l) = inr (grind (arith, ne))
+
+    pub leaves_after : (d v : ℕ) (ls ks : List Line) (regs mid : List ℕ) → Straight access m entry ls regs mid → Changes lo hi regs mid → Leaves access m entry lo hi d v ks mid
+        → Leaves access m entry lo hi d v (ls ++ ks) regs
+    leaves_after d v ls ks regs mid runs h g = record {
+      after = g.after;
+      runs = straight_append ls ks regs mid g.after runs g.runs;
+      are = g.are;
+      others = λ q o ne. g.others q o ne ∙ h.others q o;
+      holds = g.holds;
+    }
+
+    pub leaves_within : (d v : ℕ) (ls : List Line) (regs : List ℕ) → lo ≤ d → d < hi → Leaves access m entry lo hi d v ls regs → G d v ls regs
+    leaves_within d v ls regs p q g = record {
+      after = g.after;
+      runs = g.runs;
+      changes = record { are = g.are; others = λ x o. g.others x o (⊎_elim (λ (l : x < lo) (e : x ≡ d). omega arith) (λ (l : hi ≤ x) (e : x ≡ d). omega arith) o) };
+      holds = g.holds;
+    }

@@ -1,9 +1,11 @@
 pub mod Equations
 pub mod Gives
 pub mod Instructions
+pub mod Operands
 pub mod OperatorsGive
 pub mod Registers
 pub mod Rolls
+pub mod TreesAreMade
 pub mod TreesAreShort
 pub mod TreesFit
 pub mod TreesRun

@@ -1,12 +1,12 @@
 -- The fields of a tree's code fit.
-use Rattle.std.proofs.Common.{◌≡◌, ⊎_elim, ℕ, zero, suc, ◌+◌, ◌*◌, ◌%◌, ◌^◌, ◌<◌, ◌≤◌, Bool, true, false, eqb, ltb, cond, List, [], ◌∷◌, ◌++◌, pos, ◌-ℤ◌, All, sym, subst, arith}
+use Rattle.std.proofs.Common.{⊎_elim, ℕ, zero, suc, ◌+◌, ◌*◌, ◌%◌, ◌^◌, ◌<◌, ◌≤◌, Bool, true, false, eqb, ltb, cond, List, [], ◌∷◌, ◌++◌, Option, Some, None, pos, ◌-ℤ◌, All, sym, subst, arith}
 use Rattle.std.proofs.lemmas.Bool.{cases_lt, lt-ltb, le-ltb, ne_eqb}
 use Rattle.std.proofs.lemmas.Int.{ints}
 use Rattle.std.proofs.lemmas.List.Elements.{All-append, All-cons, All-nil}
 use Rattle.mv_num.specs.declared.kind.Kind.{Kind}
 use Rattle.mv_num.specs.declared.kind.Kind.TheVariants as kind
 use Rattle.mv_isa.specs.declared.instr.Instr.{Instr}
-use Rattle.mv_isa.specs.declared.instr.Instr.TheVariants.{Lui, Lw, Addi, Sltiu, Slli, Srli, Srai, Add, Sub, Sll, Slt, Sltu, Xor, Srl, Sra, Or, And, Mul}
+use Rattle.mv_isa.specs.declared.instr.Instr.TheVariants.{Lui, Lw, Addi, Sltiu, Xori, Slli, Srli, Srai, Add, Sub, Sll, Slt, Sltu, Xor, Srl, Sra, Or, And, Mul}
 use Rattle.mv_isa.specs.declared.labelled.Line.{Line}
 use Rattle.mv_isa.specs.declared.labelled.Line.TheVariants.{Word, Entry}
 use Rattle.mv_isa.specs.Encoding.{IsSigned, IsUnsigned, Fits}
@@ -14,13 +14,14 @@ use Rattle.mv_isa.specs.Code.{LineFits}
 use Rattle.mv_ir.specs.declared.tree.Tree.{Tree}
 use Rattle.mv_ir.specs.declared.tree.Tree.TheOpen.{Tree-F}
 use Rattle.mv_ir.specs.declared.tree.Tree.TheOpen as tree
-use Rattle.mv_ir.specs.declared.tree.Tree.TheViews.{roll-Tree}
-use Rattle.mv_ir.specs.Trees.{depth}
+use Rattle.mv_ir.specs.declared.tree.Tree.TheFolds.{map-Tree}
+use Rattle.mv_ir.specs.Trees.{node_depth, depth}
 use Rattle.mv_ir.proofs.Induction.{TreeChildren, tree_ind}
 use Rattle.mv_ir.proofs.Rolls.{depth_roll}
-use Rattle.mv_select_trees.specs.TreeCode.{one, two, upper_bits, lower_bits, number_lines, load_lines, temp_register, temp_offset, read_temp, clear, minus_one, unary_lines, binary_lines, narrow_lines, tree_lines, temps_of}
+use Rattle.mv_select_trees.specs.TreeCode.{one, two, upper_bits, lower_bits, number_lines, load_lines, temp_register, temp_offset, read_temp, clear, minus_one, unary_lines, binary_lines, keeps_words, narrow_lines, own_register, unless, tree_into, tree_lines, operand_lines, operand_register, temps_layer, temps_of}
 use Rattle.mv_select_trees.specs.Laws.{TreesFit}
-use Rattle.mv_select_trees.proofs.Rolls.{lines_roll, temps_roll, depth_some}
+use Rattle.mv_select_trees.proofs.Rolls.{into_tree, into_roll, lines_are, temps_roll, depth_some}
+use Rattle.mv_select_trees.proofs.Operands.{operand_below}
 
 abbrev pub AllFit : List Line → Type 0
 AllFit = All LineFits
@@ -89,85 +90,96 @@ read_fits t r lt h = ⊎_elim low high (cases_lt t 9)
 clear_fits : (r : ℕ) → r < 32 → AllFit (clear r)
 clear_fits r h = one_fits (Addi r 0 (pos 0)) (h, omega arith, small_fits 0 (omega arith))
 
-unary_fits : (o r : ℕ) → r + 1 < 32 → AllFit (unary_lines o r)
+unary_fits : (o d s : ℕ) → d < 32 → s < 32 → AllFit (unary_lines o d s)
 unfolding unary_lines
-unary_fits zero r h = one_fits (Sub r 0 r) (omega arith, omega arith, omega arith)
-unary_fits (suc zero) r h = two_fit (Addi (r + 1) 0 minus_one) (Sub r (r + 1) r) (h, omega arith, (omega (arith, ints), omega (arith, ints))) (omega arith, h, omega arith)
-unary_fits (suc (suc zero)) r h = one_fits (Sltiu r r (pos 1)) (omega arith, omega arith, small_fits 1 (omega arith))
-unary_fits (suc (suc (suc o))) r h = clear_fits r (omega arith)
+unary_fits zero d s h p = one_fits (Sub d 0 s) (h, omega arith, p)
+unary_fits (suc zero) d s h p = one_fits (Xori d s minus_one) (h, p, (omega (arith, ints), omega (arith, ints)))
+unary_fits (suc (suc zero)) d s h p = one_fits (Sltiu d s (pos 1)) (h, p, small_fits 1 (omega arith))
+unary_fits (suc (suc (suc o))) d s h p = clear_fits d h
 
-module _ (r : ℕ) (h : r + 1 < 32) where
+module _ (d a b : ℕ) (h : d < 32) (p : a < 32) (q : b < 32) where
   abbrev Registers : Type 0
-  Registers = (r < 32) × (r < 32) × (r + 1 < 32)
+  Registers = (d < 32) × (a < 32) × (b < 32)
 
   both : Registers
-  both = (omega arith, omega arith, h)
+  both = (h, p, q)
 
-  pub binary_fits : (o : ℕ) → AllFit (binary_lines o r)
+  pub binary_fits : (o : ℕ) → AllFit (binary_lines o d a b)
   unfolding binary_lines
-  binary_fits zero = one_fits (Add r r (r + 1)) both
-  binary_fits (suc zero) = one_fits (Sub r r (r + 1)) both
-  binary_fits (suc (suc zero)) = one_fits (Mul r r (r + 1)) both
-  binary_fits (suc (suc (suc zero))) = one_fits (And r r (r + 1)) both
-  binary_fits (suc (suc (suc (suc zero)))) = one_fits (Or r r (r + 1)) both
-  binary_fits (suc (suc (suc (suc (suc zero))))) = one_fits (Xor r r (r + 1)) both
-  binary_fits (suc (suc (suc (suc (suc (suc zero)))))) = one_fits (Sll r r (r + 1)) both
-  binary_fits (suc (suc (suc (suc (suc (suc (suc zero))))))) = one_fits (Sra r r (r + 1)) both
-  binary_fits (suc (suc (suc (suc (suc (suc (suc (suc zero)))))))) = one_fits (Srl r r (r + 1)) both
-  binary_fits (suc (suc (suc (suc (suc (suc (suc (suc (suc zero))))))))) = one_fits (Slt r r (r + 1)) both
-  binary_fits (suc (suc (suc (suc (suc (suc (suc (suc (suc (suc zero)))))))))) = one_fits (Sltu r r (r + 1)) both
-  binary_fits (suc (suc (suc (suc (suc (suc (suc (suc (suc (suc (suc zero))))))))))) = two_fit (Sub r r (r + 1)) (Sltiu r r (pos 1)) both (both.0, both.0, small_fits 1 (omega arith))
-  binary_fits (suc (suc (suc (suc (suc (suc (suc (suc (suc (suc (suc (suc zero)))))))))))) = two_fit (Sub r r (r + 1)) (Sltu r 0 r) both (both.0, omega arith, both.0)
-  binary_fits (suc (suc (suc (suc (suc (suc (suc (suc (suc (suc (suc (suc (suc o))))))))))))) = clear_fits r (omega arith)
+  binary_fits zero = one_fits (Add d a b) both
+  binary_fits (suc zero) = one_fits (Sub d a b) both
+  binary_fits (suc (suc zero)) = one_fits (Mul d a b) both
+  binary_fits (suc (suc (suc zero))) = one_fits (And d a b) both
+  binary_fits (suc (suc (suc (suc zero)))) = one_fits (Or d a b) both
+  binary_fits (suc (suc (suc (suc (suc zero))))) = one_fits (Xor d a b) both
+  binary_fits (suc (suc (suc (suc (suc (suc zero)))))) = one_fits (Sll d a b) both
+  binary_fits (suc (suc (suc (suc (suc (suc (suc zero))))))) = one_fits (Sra d a b) both
+  binary_fits (suc (suc (suc (suc (suc (suc (suc (suc zero)))))))) = one_fits (Srl d a b) both
+  binary_fits (suc (suc (suc (suc (suc (suc (suc (suc (suc zero))))))))) = one_fits (Slt d a b) both
+  binary_fits (suc (suc (suc (suc (suc (suc (suc (suc (suc (suc zero)))))))))) = one_fits (Sltu d a b) both
+  binary_fits (suc (suc (suc (suc (suc (suc (suc (suc (suc (suc (suc zero))))))))))) = two_fit (Sub d a b) (Sltiu d d (pos 1)) both (h, h, small_fits 1 (omega arith))
+  binary_fits (suc (suc (suc (suc (suc (suc (suc (suc (suc (suc (suc (suc zero)))))))))))) = two_fit (Sub d a b) (Sltu d 0 d) both (h, omega arith, h)
+  binary_fits (suc (suc (suc (suc (suc (suc (suc (suc (suc (suc (suc (suc (suc o))))))))))))) = clear_fits d h
 
-shifts_fit : (k r : ℕ) (j : Instr) → r < 32 → k < 32 → Fits j → AllFit (two (Slli r r (pos k)) j)
-shifts_fit k r j h l f = two_fit (Slli r r (pos k)) j (h, h, count_fits k l) f
+shifts_fit : (k d s : ℕ) (j : Instr) → d < 32 → s < 32 → k < 32 → Fits j → AllFit (two (Slli d s (pos k)) j)
+shifts_fit k d s j h p l f = two_fit (Slli d s (pos k)) j (h, p, count_fits k l) f
 
-narrow_fits : (k : Kind) (r : ℕ) → r < 32 → AllFit (narrow_lines k r)
+copy_fits : (d s : ℕ) → d < 32 → s < 32 → AllFit (one (Addi d s (pos 0)))
+copy_fits d s h p = one_fits (Addi d s (pos 0)) (h, p, small_fits 0 (omega arith))
+
+narrow_fits : (k : Kind) (d s : ℕ) → d < 32 → s < 32 → AllFit (narrow_lines k d s)
 unfolding narrow_lines
-narrow_fits kind.Bool r h = one_fits (Sltu r 0 r) (h, omega arith, h)
-narrow_fits kind.SChar r h = shifts_fit 24 r (Srai r r (pos 24)) h (omega arith) (h, h, count_fits 24 (omega arith))
-narrow_fits kind.UChar r h = shifts_fit 24 r (Srli r r (pos 24)) h (omega arith) (h, h, count_fits 24 (omega arith))
-narrow_fits kind.Short r h = shifts_fit 16 r (Srai r r (pos 16)) h (omega arith) (h, h, count_fits 16 (omega arith))
-narrow_fits kind.UShort r h = shifts_fit 16 r (Srli r r (pos 16)) h (omega arith) (h, h, count_fits 16 (omega arith))
-narrow_fits kind.Int r h = All-nil LineFits
-narrow_fits kind.UInt r h = All-nil LineFits
+narrow_fits kind.Bool d s h p = one_fits (Sltu d 0 s) (h, omega arith, p)
+narrow_fits kind.SChar d s h p = shifts_fit 24 d s (Srai d d (pos 24)) h p (omega arith) (h, h, count_fits 24 (omega arith))
+narrow_fits kind.UChar d s h p = shifts_fit 24 d s (Srli d d (pos 24)) h p (omega arith) (h, h, count_fits 24 (omega arith))
+narrow_fits kind.Short d s h p = shifts_fit 16 d s (Srai d d (pos 16)) h p (omega arith) (h, h, count_fits 16 (omega arith))
+narrow_fits kind.UShort d s h p = shifts_fit 16 d s (Srli d d (pos 16)) h p (omega arith) (h, h, count_fits 16 (omega arith))
+narrow_fits kind.Int d s h p = copy_fits d s h p
+narrow_fits kind.UInt d s h p = copy_fits d s h p
 
 -- ---- trees
 
 module _ (place : ℕ → ℕ) where
   abbrev CodeFits : Tree → Type 0
-  CodeFits t = (r : ℕ) → r + depth t ≤ 32 → temps_of t ≤ 507 → AllFit (tree_lines place t r)
-
-  at : (x : Tree-F Tree) (r : ℕ) (ls : ℕ → List Line) → tree_lines place (roll-Tree x) ≡ ls → AllFit (ls r) → AllFit (tree_lines place (roll-Tree x) r)
-  at x r ls e h = subst (λ (k : ℕ → List Line). AllFit (k r)) (sym e) h
+  CodeFits t = (d r : ℕ) → d < 32 → r + depth t ≤ 32 → temps_of t ≤ 507 → AllFit (tree_into place t d r)
 
   after : (a b : List Line) → AllFit a → AllFit b → AllFit (a ++ b)
   after = All-append LineFits
 
-  layer : (x : Tree-F Tree) → TreeChildren CodeFits x → CodeFits (roll-Tree x)
-  layer (tree.Number n) h r p q = let x = tree.Number n in at x r (number_lines n) (lines_roll place x) (number_fits n r (omega (arith, p, depth_roll x)))
-  layer (tree.Temp t) h r p q =
-      let x = tree.Temp t in
-      at x r (λ r. one (read_temp t r)) (lines_roll place x) (one_fits (read_temp t r) (read_fits t r (omega (arith, q, temps_roll x)) (omega (arith, p, depth_roll x))))
-  layer (tree.Global g) h r p q = let x = tree.Global g in at x r (load_lines (place g)) (lines_roll place x) (load_fits (place g) r (omega (arith, p, depth_roll x)))
-  layer (tree.Function f) h r p q = let x = tree.Function f in at x r (λ r. Entry r f ∷ []) (lines_roll place x) (entry_fits r f (omega (arith, p, depth_roll x)))
-  layer (tree.Unary o a) h r p q =
-      let x = tree.Unary o a in
-      let d = depth_roll x in let s = depth_some a in
-      at x r (λ r. tree_lines place a r ++ unary_lines o r) (lines_roll place x)
-      (after (tree_lines place a r) (unary_lines o r) (h r (omega (arith, p, d)) (omega (arith, q, temps_roll x))) (unary_fits o r (omega (arith, p, d, s))))
-  layer (tree.Binary o a b) h r p q =
-      let x = tree.Binary o a b in
-      let d = depth_roll x in let t = temps_roll x in let s = depth_some a in
-      at x r (λ r. tree_lines place a r ++ (tree_lines place b (r + 1) ++ binary_lines o r)) (lines_roll place x)
-      (after (tree_lines place a r) (tree_lines place b (r + 1) ++ binary_lines o r) (h.0 r (omega (arith, p, d)) (omega (arith, q, t)))
-      (after (tree_lines place b (r + 1)) (binary_lines o r) (h.1 (r + 1) (omega (arith, p, d)) (omega (arith, q, t))) (binary_fits r (omega (arith, p, d, s)) o)))
-  layer (tree.Narrow c a) h r p q =
-      let x = tree.Narrow c a in
-      let d = depth_roll x in
-      at x r (λ r. tree_lines place a r ++ narrow_lines c r) (lines_roll place x)
-      (after (tree_lines place a r) (narrow_lines c r) (h r (omega (arith, p, d)) (omega (arith, q, temps_roll x))) (narrow_fits c r (omega (arith, p, d))))
+  operand : (t : Tree) → CodeFits t → (r : ℕ) → r + depth t ≤ 32 → temps_of t ≤ 507 → AllFit (operand_lines place t r)
+  unfolding operand_lines tree_lines
+  operand t h r p q = by_own (own_register t)
+    where
+      by_own : (own : Option ℕ) → AllFit (unless own (tree_into place t r r))
+      by_own None = h r r (omega (arith, p, depth_some t)) p q
+      by_own (Some x) = All-nil LineFits
+
+  layer : (x : Tree-F Tree) → TreeChildren CodeFits x → (d r : ℕ) → d < 32 → r + node_depth (map-Tree Tree ℕ depth x) ≤ 32 → temps_layer (map-Tree Tree ℕ temps_of x) ≤ 507 → AllFit (into_tree place x d r)
+  layer (tree.Number n) h d r l p q = number_fits n d l
+  layer (tree.Temp t) h d r l p q = one_fits (read_temp t d) (read_fits t d (omega arith) l)
+  layer (tree.Global g) h d r l p q = load_fits (place g) d l
+  layer (tree.Function f) h d r l p q = entry_fits d f l
+  layer (tree.Unary o a) h d r l p q =
+      let s = operand_register a r in
+      after (operand_lines place a r) (unary_lines o d s) (operand a h r (omega arith) q) (unary_fits o d s l (operand_below a r (omega arith)))
+  layer (tree.Binary o a b) h d r l p q =
+      let s = operand_register a r in let u = operand_register b (r + 1) in
+      let some = depth_some b in
+      after (operand_lines place a r) (operand_lines place b (r + 1) ++ binary_lines o d s u) (operand a h.0 r (omega arith) (omega arith))
+      (after (operand_lines place b (r + 1)) (binary_lines o d s u) (operand b h.1 (r + 1) (omega arith) (omega arith)) (binary_fits d s u l (operand_below a r (omega arith)) (operand_below b (r + 1) (omega arith)) o))
+  layer (tree.Narrow k a) h d r l p q = by_kind (keeps_words k)
+    where
+      by_kind : (keeps : Bool) → AllFit (cond keeps (tree_into place a d r) (operand_lines place a r ++ narrow_lines k d (operand_register a r)))
+      by_kind true = h d r l (omega arith) q
+      by_kind false =
+          let s = operand_register a r in
+          after (operand_lines place a r) (narrow_lines k d s) (operand a h r (omega arith) q) (narrow_fits k d s l (operand_below a r (omega arith)))
+
+  pub into_fits : (t : Tree) → CodeFits t
+  into_fits = tree_ind CodeFits (λ x h d r l p q. subst AllFit (sym (into_roll place x d r)) (layer x h d r l (subst (λ n. r + n ≤ 32) (depth_roll x) p) (subst (λ n. n ≤ 507) (temps_roll x) q)))
+
+  pub operand_fits : (t : Tree) (r : ℕ) → r + depth t ≤ 32 → temps_of t ≤ 507 → AllFit (operand_lines place t r)
+  operand_fits t r = operand t (into_fits t) r
 
 pub trees_fit : TreesFit
-trees_fit place t r p q = tree_ind (CodeFits place) (layer place) t r p q
+trees_fit place t r p q = subst AllFit (sym (lines_are place t r)) (into_fits place t r r (omega (arith, p, depth_some t)) p q)

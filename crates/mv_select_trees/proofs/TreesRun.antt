@@ -1,6 +1,8 @@
 -- The code of a tree leaves the tree's value in its register.
-use Rattle.std.proofs.Common.{◌≡◌, ⊎_elim, inl, ℕ, suc, ◌+◌, ◌^◌, ◌<◌, ◌≤◌, max, Bool, true, false, cond, ◌&&◌, List, [], ◌∷◌, ◌++◌, length, slice_index, ltb, pos, refl, sym, ap, ◌∙◌, subst, arith}
-use Rattle.std.proofs.lemmas.Bool.{cases_lt, lt-ltb, le-ltb, ltb-true}
+use Rattle.std.proofs.Common.{◌≡◌, ⊎_elim, inl, inr, ℕ, suc, ◌+◌, ◌^◌, ◌<◌, ◌≤◌, max, Bool, true, false, eqb, cond, ◌&&◌, List, [], ◌∷◌, ◌++◌, length, slice_index, Option, Some, None, unwrap_or, ltb, pos, refl, sym, ap, ◌∙◌, subst, arith}
+use Rattle.std.proofs.lemmas.Bool.{cases_lt, lt-ltb, le-ltb, ltb-true, eqb-true}
+use Rattle.mv_num.specs.declared.kind.Kind.{Kind}
+use Rattle.mv_num.specs.declared.kind.Kind.TheVariants as kind
 use Rattle.mv_num.specs.Words.{add, narrow}
 use Rattle.mv_isa.specs.declared.instr.Instr.TheVariants.{Lw, Addi}
 use Rattle.mv_isa.specs.declared.labelled.Line.{Line}
@@ -11,17 +13,18 @@ use Rattle.mv_ir.specs.declared.tree.Tree.TheOpen.{Tree-F}
 use Rattle.mv_ir.specs.declared.tree.Tree.TheOpen as tree
 use Rattle.mv_ir.specs.declared.tree.Tree.TheViews.{roll-Tree}
 use Rattle.mv_ir.specs.declared.tree.Tree.TheFolds.{map-Tree}
-use Rattle.mv_ir.specs.Trees.{unary, binary, scalar, read_as, Value, tree_value, value, depth}
+use Rattle.mv_ir.specs.Trees.{unary, binary, found, scalar, read_as, Value, tree_value, value, node_depth, depth}
 use Rattle.mv_ir.proofs.Induction.{TreeChildren, tree_ind}
 use Rattle.mv_ir.proofs.Rolls.{value_roll, depth_roll}
-use Rattle.mv_select_trees.specs.TreeCode.{one, number_lines, load_lines, temp_register, temp_offset, read_temp, unary_lines, binary_lines, narrow_lines, tree_lines}
-use Rattle.mv_select_trees.specs.View.{View, view_value, names_layer, is_in_view, AreRegisters, AreScratch, Changes, HoldsTemps, HoldsNamed, Gives}
-use Rattle.mv_select_trees.specs.Laws.{TreesRun}
-use Rattle.mv_select_trees.proofs.Rolls.{lines_roll, in_view_roll, depth_some}
+use Rattle.mv_select_trees.specs.TreeCode.{one, number_lines, load_lines, temp_register, temp_offset, read_temp, unary_lines, binary_lines, keeps_words, narrow_lines, own_layer, own_register, unless, tree_into, tree_lines, operand_lines, operand_register}
+use Rattle.mv_select_trees.specs.View.{View, view_value, names_layer, is_in_view, AreRegisters, AreScratch, Changes, HoldsTemps, HoldsNamed, Gives, Leaves}
+use Rattle.mv_select_trees.specs.Laws.{TreesRun, TreesLeave, OperandsStand}
+use Rattle.mv_select_trees.proofs.Rolls.{own_roll, into_tree, into_roll, lines_are, in_view_roll, depth_some}
+use Rattle.mv_select_trees.proofs.Operands.{operand_outside}
 use Rattle.mv_select_trees.proofs.Words.{word_of_pos, zero_add, add_word}
-use Rattle.mv_select_trees.proofs.Registers.{changes_wider, held_below, held_word, scratch_part, scratch_low, scratch_high, frame_outside, temp_in_frame}
+use Rattle.mv_select_trees.proofs.Registers.{reg_zero, changes_none, changes_wider, held_word, scratch_part, scratch_low, scratch_high, frame_outside, temp_in_frame}
 use Rattle.mv_select_trees.proofs.Instructions.{lw_sets, addi_sets}
-use Rattle.mv_select_trees.proofs.Gives.{Within, gives_after, one_gives, number_gives, entry_gives, load_gives}
+use Rattle.mv_select_trees.proofs.Gives.{Within, leaves_alone, leaves_after, leaves_within, one_gives, number_gives, entry_gives, load_gives}
 use Rattle.mv_select_trees.proofs.OperatorsGive.{unary_gives, binary_gives, narrow_gives}
 
 pub and_left : (a b : Bool) → (a && b) ≡ true → a ≡ true
@@ -32,9 +35,15 @@ pub and_right : (a b : Bool) → (a && b) ≡ true → b ≡ true
 and_right true b e = e
 and_right false b e = cc
 
--- a register of those that a tree of some depth uses
-in_scratch : (r n q : ℕ) → AreScratch r (r + n) → r ≤ q → q < r + n → Within r (r + n) q
-in_scratch r n q s l u = record { low = omega (arith, scratch_low r (r + n) s); from = l; below = u; high = scratch_high r (r + n) s }
+narrow_keeps : (k : Kind) (w : ℕ) → keeps_words k ≡ true → narrow k w ≡ w
+unfolding narrow
+narrow_keeps kind.Bool w e = absurd cc
+narrow_keeps kind.SChar w e = absurd cc
+narrow_keeps kind.UChar w e = absurd cc
+narrow_keeps kind.Short w e = absurd cc
+narrow_keeps kind.UShort w e = absurd cc
+narrow_keeps kind.Int w e = refl
+narrow_keeps kind.UInt w e = refl
 
 module _ {M : Type 0} (access : Access M) (m : M) (v : View) where
   -- temporaries stay where scratch registers change
@@ -67,92 +76,165 @@ module _ {M : Type 0} (access : Access M) (m : M) (v : View) where
           (one_gives access m v.entry lo hi r (slice_index v.temps t) (Lw r 2 (pos (temp_offset t))) regs are w (h.words t lt)
           (lw_sets access m r 2 (pos (temp_offset t)) regs (add (reg regs 2) (temp_offset t)) (slice_index v.temps t) (add_word (reg regs 2) (temp_offset t)) (h.in_frame t lt big)))
 
+  abbrev L : ℕ → ℕ → ℕ → ℕ → List Line → List ℕ → Type 0
+  L = Leaves access m v.entry
+
+  -- ---- a tree that stands in a register already
+
+  abbrev OwnHolds : List ℕ → Option ℕ → ℕ → Type 0
+  OwnHolds regs None w = Unit {0}
+  OwnHolds regs (Some q) w = reg regs q ≡ w
+
+  value_of : (x : Tree-F Tree) → view_value v (roll-Tree x) ≡ tree_value v.numbers v.bound (map-Tree Tree Value (value v.numbers v.bound) x) v.temps v.globals
+  value_of x = ap (λ (f : Value). f v.temps v.globals) (value_roll v.numbers v.bound x)
+
+  named_of : (x : Tree-F Tree) → is_in_view v (roll-Tree x) ≡ true → names_layer v (map-Tree Tree Bool (is_in_view v) x) ≡ true
+  named_of x k = sym (in_view_roll v x) ∙ k
+
+  module _ (regs : List ℕ) (temps : HoldsTemps access m v regs) where
+    abbrev Own : Tree → Type 0
+    Own t = is_in_view v t ≡ true → OwnHolds regs (own_register t) (view_value v t)
+
+    own_number : (n : ℕ) (is_zero : Bool) → eqb n 0 ≡ is_zero → OwnHolds regs (cond is_zero (Some 0) None) n
+    own_number n true e = reg_zero regs ∙ sym (eqb-true n 0 e)
+    own_number n false e = tt
+
+    own_temp : (t : ℕ) → t < length v.temps → (is_low : Bool) → ltb t 9 ≡ is_low → OwnHolds regs (cond is_low (Some (temp_register t)) None) (slice_index v.temps t)
+    own_temp t lt true e = temps.in_register t lt (ltb-true t 9 e)
+    own_temp t lt false e = tt
+
+    own_narrow : (k : Kind) (own : Option ℕ) (w : ℕ) (keeps : Bool) → keeps_words k ≡ keeps → OwnHolds regs own w → OwnHolds regs (cond keeps own None) (narrow k w)
+    own_narrow k own w true e h = subst (OwnHolds regs own) (sym (narrow_keeps k w e)) h
+    own_narrow k own w false e h = tt
+
+    own_layer_holds : (x : Tree-F Tree) → TreeChildren Own x → names_layer v (map-Tree Tree Bool (is_in_view v) x) ≡ true
+        → OwnHolds regs (own_layer (map-Tree Tree (Option ℕ) own_register x)) (tree_value v.numbers v.bound (map-Tree Tree Value (value v.numbers v.bound) x) v.temps v.globals)
+    own_layer_holds (tree.Number n) h k = own_number n (eqb n 0) refl
+    own_layer_holds (tree.Temp t) h k = own_temp t (ltb-true t (length v.temps) k) (ltb t 9) refl
+    own_layer_holds (tree.Global g) h k = tt
+    own_layer_holds (tree.Function f) h k = tt
+    own_layer_holds (tree.Unary o a) h k = tt
+    own_layer_holds (tree.Binary o a b) h k = tt
+    own_layer_holds (tree.Narrow c a) h k = own_narrow c (own_register a) (view_value v a) (keeps_words c) refl (h k)
+
+    own_holds : (t : Tree) → Own t
+    own_holds = tree_ind Own (λ x h k. subst (λ o. OwnHolds regs o (view_value v (roll-Tree x))) (sym (own_roll x)) (subst (OwnHolds regs (own_layer (map-Tree Tree (Option ℕ) own_register x))) (sym (value_of x)) (own_layer_holds x h (named_of x k))))
+
+  -- ---- trees
+
   abbrev Runs : Tree → Type 0
-  Runs t = (r : ℕ) (regs : List ℕ) → is_in_view v t ≡ true → AreRegisters regs → HoldsTemps access m v regs → AreScratch r (r + depth t)
-      → G r (r + depth t) r (view_value v t) (tree_lines v.place t r) regs
+  Runs t = (d r : ℕ) (regs : List ℕ) → is_in_view v t ≡ true → AreRegisters regs → HoldsTemps access m v regs → AreScratch r (r + depth t) → 0 < d → d < 32
+      → L r (r + depth t) d (view_value v t) (tree_into v.place t d r) regs
+
+  abbrev Stands : Tree → Type 0
+  Stands t = (r : ℕ) (regs : List ℕ) → is_in_view v t ≡ true → AreRegisters regs → HoldsTemps access m v regs → AreScratch r (r + depth t)
+      → G r (r + depth t) (operand_register t r) (view_value v t) (operand_lines v.place t r) regs
+
+  -- at its first register
+  within : (t : Tree) → Runs t → (r : ℕ) (regs : List ℕ) → is_in_view v t ≡ true → AreRegisters regs → HoldsTemps access m v regs → AreScratch r (r + depth t)
+      → G r (r + depth t) r (view_value v t) (tree_into v.place t r r) regs
+  within t h r regs k are temps s =
+      let some = depth_some t in
+      let low = scratch_low r (r + depth t) s in let high = scratch_high r (r + depth t) s in
+      leaves_within access m v.entry r (r + depth t) r (view_value v t) (tree_into v.place t r r) regs (omega arith) (omega arith)
+      (h r r regs k are temps s (omega arith) (omega arith))
+
+  operand : (t : Tree) → Runs t → Stands t
+  unfolding operand_lines operand_register tree_lines
+  operand t h r regs k are temps s = by_own (own_register t) (own_holds regs temps t k)
+    where
+      by_own : (own : Option ℕ) → OwnHolds regs own (view_value v t) → G r (r + depth t) (unwrap_or own r) (view_value v t) (unless own (tree_into v.place t r r)) regs
+      by_own None held = within t h r regs k are temps s
+      by_own (Some q) held = record { after = regs; runs = refl; changes = changes_none r (r + depth t) regs are; holds = held }
 
   module _ (sees : HoldsNamed access m v) where
-    at : (x : Tree-F Tree) (r n a : ℕ) (ls : ℕ → List Line) (regs : List ℕ) → depth (roll-Tree x) ≡ n → view_value v (roll-Tree x) ≡ a → tree_lines v.place (roll-Tree x) ≡ ls
-        → G r (r + n) r a (ls r) regs → G r (r + depth (roll-Tree x)) r (view_value v (roll-Tree x)) (tree_lines v.place (roll-Tree x) r) regs
-    at x r n a ls regs e f g h =
-        subst (λ d. G r (r + d) r (view_value v (roll-Tree x)) (tree_lines v.place (roll-Tree x) r) regs) (sym e)
-        (subst (λ w. G r (r + n) r w (tree_lines v.place (roll-Tree x) r) regs) (sym f)
-        (subst (λ (k : ℕ → List Line). G r (r + n) r a (k r) regs) (sym g) h))
+    alone : (d : ℕ) → 0 < d → d < 32 → Within d (d + 1) d
+    alone d p q = record { low = p; from = omega arith; below = omega arith; high = omega arith }
 
-    value_of : (x : Tree-F Tree) → view_value v (roll-Tree x) ≡ tree_value v.numbers v.bound (map-Tree Tree Value (value v.numbers v.bound) x) v.temps v.globals
-    value_of x = ap (λ (f : Value). f v.temps v.globals) (value_roll v.numbers v.bound x)
+    -- one register only
+    only : (lo hi d w : ℕ) (ls : List Line) (regs : List ℕ) → G d (d + 1) d w ls regs → L lo hi d w ls regs
+    only lo hi = leaves_alone access m v.entry lo hi
 
-    named_of : (x : Tree-F Tree) → is_in_view v (roll-Tree x) ≡ true → names_layer v (map-Tree Tree Bool (is_in_view v) x) ≡ true
-    named_of x k = sym (in_view_roll v x) ∙ k
+    wider : (r n k d w : ℕ) (ls : List Line) (regs : List ℕ) → n ≤ k → L r (r + n) d w ls regs → L r (r + k) d w ls regs
+    wider r n k d w ls regs l g = record {
+      after = g.after;
+      runs = g.runs;
+      are = g.are;
+      others = λ q o. g.others q (⊎_elim (λ (x : q < r). inl x) (λ (x : r + k ≤ q). inr (omega arith)) o);
+      holds = g.holds;
+    }
 
-    -- the scratch registers of a tree of a known depth
-    scratch : (r d n : ℕ) → d ≡ n → AreScratch r (r + d) → AreScratch r (r + n)
-    scratch r d n e s = subst (λ z. AreScratch r (r + z)) e s
-
-    first : (r n : ℕ) → AreScratch r (r + suc n) → Within r (r + suc n) r
-    first r n s = in_scratch r (suc n) r s (omega arith) (omega arith)
-
-    layer : (x : Tree-F Tree) → TreeChildren Runs x → Runs (roll-Tree x)
-    layer (tree.Number n) h r regs k are temps s =
-        let x = tree.Number n in
-        let s = scratch r (depth (roll-Tree x)) 1 (depth_roll x) s in
-        at x r 1 n (number_lines n) regs (depth_roll x) (value_of x) (lines_roll v.place x)
-        (number_gives access m v.entry r (r + 1) r n regs are (first r 0 s) (ltb-true n (2 ^ 32) (named_of x k)))
-    layer (tree.Temp t) h r regs k are temps s =
-        let x = tree.Temp t in
-        let s = scratch r (depth (roll-Tree x)) 1 (depth_roll x) s in
-        at x r 1 (slice_index v.temps t) (λ r. one (read_temp t r)) regs (depth_roll x) (value_of x) (lines_roll v.place x)
-        (temp_gives r (r + 1) r t regs temps are (ltb-true t (length v.temps) (named_of x k)) (first r 0 s))
-    layer (tree.Global g) h r regs k are temps s =
-        let x = tree.Global g in
-        let s = scratch r (depth (roll-Tree x)) 1 (depth_roll x) s in
-        let read = named_of x k in
-        at x r 1 (scalar v.globals g) (load_lines (v.place g)) regs (depth_roll x) (value_of x ∙ ap (λ o. read_as o (scalar v.globals g)) (sees.free g read)) (lines_roll v.place x)
-        (load_gives access m v.entry r (r + 1) r (v.place g) (scalar v.globals g) regs are (first r 0 s) (sees.places g read) (sees.words g read) (sees.loads g read))
-    layer (tree.Function f) h r regs k are temps s =
-        let x = tree.Function f in
-        let s = scratch r (depth (roll-Tree x)) 1 (depth_roll x) s in
-        let there = ltb-true f (length v.numbers) (named_of x k) in
-        at x r 1 (v.entry f) (λ r. Entry r f ∷ []) regs (depth_roll x) (value_of x ∙ sees.entries f there) (lines_roll v.place x)
-        (entry_gives access m v.entry r (r + 1) r f regs are (first r 0 s) (sees.entry_words f there))
-    layer (tree.Unary o a) h r regs k are temps s =
-        let x = tree.Unary o a in
+    layer : (x : Tree-F Tree) → TreeChildren Runs x → (d r : ℕ) (regs : List ℕ) → names_layer v (map-Tree Tree Bool (is_in_view v) x) ≡ true → AreRegisters regs → HoldsTemps access m v regs
+        → AreScratch r (r + node_depth (map-Tree Tree ℕ depth x)) → 0 < d → d < 32
+        → L r (r + node_depth (map-Tree Tree ℕ depth x)) d (tree_value v.numbers v.bound (map-Tree Tree Value (value v.numbers v.bound) x) v.temps v.globals) (into_tree v.place x d r) regs
+    layer (tree.Number n) h d r regs k are temps s p q =
+        only r (r + 1) d n (number_lines n d) regs (number_gives access m v.entry d (d + 1) d n regs are (alone d p q) (ltb-true n (2 ^ 32) k))
+    layer (tree.Temp t) h d r regs k are temps s p q =
+        only r (r + 1) d (slice_index v.temps t) (one (read_temp t d)) regs (temp_gives d (d + 1) d t regs temps are (ltb-true t (length v.temps) k) (alone d p q))
+    layer (tree.Global g) h d r regs k are temps s p q =
+        only r (r + 1) d (read_as (found v.bound g) (scalar v.globals g)) (load_lines (v.place g) d) regs
+        (subst (λ o. G d (d + 1) d (read_as o (scalar v.globals g)) (load_lines (v.place g) d) regs) (sym (sees.free g k))
+        (load_gives access m v.entry d (d + 1) d (v.place g) (scalar v.globals g) regs are (alone d p q) (sees.places g k) (sees.words g k) (sees.loads g k)))
+    layer (tree.Function f) h d r regs k are temps s p q =
+        let there = ltb-true f (length v.numbers) k in
+        only r (r + 1) d (slice_index v.numbers f) (Entry d f ∷ []) regs
+        (subst (λ w. G d (d + 1) d w (Entry d f ∷ []) regs) (sym (sees.entries f there)) (entry_gives access m v.entry d (d + 1) d f regs are (alone d p q) (sees.entry_words f there)))
+    layer (tree.Unary o a) h d r regs k are temps s p q =
         let n = depth a in
-        let s = scratch r (depth (roll-Tree x)) (suc n) (depth_roll x) s in
-        let some = depth_some a in
-        let ga = h r regs (named_of x k) are temps (scratch_part r (r + suc n) r (r + n) (omega arith) (omega arith) s) in
-        at x r (suc n) (unary o (view_value v a)) (λ r. tree_lines v.place a r ++ unary_lines o r) regs (depth_roll x) (value_of x) (lines_roll v.place x)
-        (gives_after access m v.entry r (r + suc n) r (unary o (view_value v a)) (tree_lines v.place a r) (unary_lines o r) regs ga.after ga.runs (changes_wider r (r + n) r (r + suc n) regs ga.after (omega arith) (omega arith) ga.changes)
-        (unary_gives access m v.entry r (r + suc n) r o (view_value v a) ga.after ga.changes.are (first r n s) (in_scratch r (suc n) (r + 1) s (omega arith) (omega arith)) ga.holds))
-    layer (tree.Binary o a b) h r regs k are temps s =
-        let x = tree.Binary o a b in
+        let from = operand_register a r in
+        let w = unary o (view_value v a) in
+        let ga = operand a h r regs k are temps (scratch_part r (r + suc n) r (r + n) (omega arith) (omega arith) s) in
+        leaves_after access m v.entry r (r + suc n) d w (operand_lines v.place a r) (unary_lines o d from) regs ga.after ga.runs (changes_wider r (r + n) r (r + suc n) regs ga.after (omega arith) (omega arith) ga.changes)
+        (only r (r + suc n) d w (unary_lines o d from) ga.after (unary_gives access m v.entry d (d + 1) d from o (view_value v a) ga.after ga.changes.are (alone d p q) ga.holds))
+    layer (tree.Binary o a b) h d r regs k are temps s p q =
         let na = depth a in let nb = depth b in
         let n = max na nb in
-        let s = scratch r (depth (roll-Tree x)) (suc n) (depth_roll x) s in
-        let some = depth_some a in
-        let named = named_of x k in
+        let x = operand_register a r in let y = operand_register b (r + 1) in
+        let w = binary o (view_value v a) (view_value v b) in
+        let last = binary_lines o d x y in
         let sa = scratch_part r (r + suc n) r (r + na) (omega arith) (omega arith) s in
-        let ga = h.0 r regs (and_left (is_in_view v a) (is_in_view v b) named) are temps sa in
-        let gb = h.1 (r + 1) ga.after (and_right (is_in_view v a) (is_in_view v b) named) ga.changes.are (temps_kept r (r + na) regs ga.after sa ga.changes temps) (scratch_part r (r + suc n) (r + 1) (r + 1 + nb) (omega arith) (omega arith) s) in
-        let left : reg gb.after r ≡ view_value v a = held_below (r + 1) (r + 1 + nb) r (view_value v a) ga.after gb.after gb.changes (omega arith) ga.holds in
-        let wa = held_word r (view_value v a) gb.after gb.changes.are left in
-        let wb = held_word (r + 1) (view_value v b) gb.after gb.changes.are gb.holds in
-        let u = binary o (view_value v a) (view_value v b) in
-        at x r (suc n) u (λ r. tree_lines v.place a r ++ (tree_lines v.place b (r + 1) ++ binary_lines o r)) regs (depth_roll x) (value_of x) (lines_roll v.place x)
-        (gives_after access m v.entry r (r + suc n) r u (tree_lines v.place a r) (tree_lines v.place b (r + 1) ++ binary_lines o r) regs ga.after ga.runs (changes_wider r (r + na) r (r + suc n) regs ga.after (omega arith) (omega arith) ga.changes)
-        (gives_after access m v.entry r (r + suc n) r u (tree_lines v.place b (r + 1)) (binary_lines o r) ga.after gb.after gb.runs (changes_wider (r + 1) (r + 1 + nb) r (r + suc n) ga.after gb.after (omega arith) (omega arith) gb.changes)
-        (binary_gives access m v.entry r (r + suc n) r o (view_value v a) (view_value v b) gb.after gb.changes.are (first r n s) wa wb left gb.holds)))
-    layer (tree.Narrow c a) h r regs k are temps s =
-        let x = tree.Narrow c a in
-        let n = depth a in
-        let s = scratch r (depth (roll-Tree x)) (suc n) (depth_roll x) s in
-        let ga = h r regs (named_of x k) are temps (scratch_part r (r + suc n) r (r + n) (omega arith) (omega arith) s) in
-        at x r (suc n) (narrow c (view_value v a)) (λ r. tree_lines v.place a r ++ narrow_lines c r) regs (depth_roll x) (value_of x) (lines_roll v.place x)
-        (gives_after access m v.entry r (r + suc n) r (narrow c (view_value v a)) (tree_lines v.place a r) (narrow_lines c r) regs ga.after ga.runs (changes_wider r (r + n) r (r + suc n) regs ga.after (omega arith) (omega arith) ga.changes)
-        (narrow_gives access m v.entry r (r + suc n) r (view_value v a) c ga.after ga.changes.are (first r n s) ga.holds))
+        let sb = scratch_part r (r + suc n) (r + 1) (r + 1 + nb) (omega arith) (omega arith) s in
+        let ga = operand a h.0 r regs (and_left (is_in_view v a) (is_in_view v b) k) are temps sa in
+        let gb = operand b h.1 (r + 1) ga.after (and_right (is_in_view v a) (is_in_view v b) k) ga.changes.are (temps_kept r (r + na) regs ga.after sa ga.changes temps) sb in
+        let left : reg gb.after x ≡ view_value v a = gb.changes.others x (operand_outside a r (r + 1 + nb) sb) ∙ ga.holds in
+        let wa = held_word x (view_value v a) gb.after gb.changes.are left in
+        let wb = held_word y (view_value v b) gb.after gb.changes.are gb.holds in
+        leaves_after access m v.entry r (r + suc n) d w (operand_lines v.place a r) (operand_lines v.place b (r + 1) ++ last) regs ga.after ga.runs (changes_wider r (r + na) r (r + suc n) regs ga.after (omega arith) (omega arith) ga.changes)
+        (leaves_after access m v.entry r (r + suc n) d w (operand_lines v.place b (r + 1)) last ga.after gb.after gb.runs (changes_wider (r + 1) (r + 1 + nb) r (r + suc n) ga.after gb.after (omega arith) (omega arith) gb.changes)
+        (only r (r + suc n) d w last gb.after (binary_gives access m v.entry d (d + 1) d x y o (view_value v a) (view_value v b) gb.after gb.changes.are (alone d p q) wa wb left gb.holds)))
+    layer (tree.Narrow c a) h d r regs k are temps s p q = by_kind (keeps_words c) refl
+      where
+        by_kind : (keeps : Bool) → keeps_words c ≡ keeps
+            → L r (r + suc (depth a)) d (narrow c (view_value v a)) (cond keeps (tree_into v.place a d r) (operand_lines v.place a r ++ narrow_lines c d (operand_register a r))) regs
+        by_kind true e =
+            let n = depth a in
+            subst (λ w. L r (r + suc n) d w (tree_into v.place a d r) regs) (sym (narrow_keeps c (view_value v a) e))
+            (wider r n (suc n) d (view_value v a) (tree_into v.place a d r) regs (omega arith) (h d r regs k are temps (scratch_part r (r + suc n) r (r + n) (omega arith) (omega arith) s) p q))
+        by_kind false e =
+            let n = depth a in
+            let from = operand_register a r in
+            let w = narrow c (view_value v a) in
+            let ga = operand a h r regs k are temps (scratch_part r (r + suc n) r (r + n) (omega arith) (omega arith) s) in
+            leaves_after access m v.entry r (r + suc n) d w (operand_lines v.place a r) (narrow_lines c d from) regs ga.after ga.runs (changes_wider r (r + n) r (r + suc n) regs ga.after (omega arith) (omega arith) ga.changes)
+            (only r (r + suc n) d w (narrow_lines c d from) ga.after (narrow_gives access m v.entry d (d + 1) d from (view_value v a) c ga.after ga.changes.are (alone d p q) ga.holds))
 
-    pub tree_runs : (t : Tree) → Runs t
-    tree_runs = tree_ind Runs layer
+    at : (x : Tree-F Tree) (d r : ℕ) (regs : List ℕ)
+        → L r (r + node_depth (map-Tree Tree ℕ depth x)) d (tree_value v.numbers v.bound (map-Tree Tree Value (value v.numbers v.bound) x) v.temps v.globals) (into_tree v.place x d r) regs
+        → L r (r + depth (roll-Tree x)) d (view_value v (roll-Tree x)) (tree_into v.place (roll-Tree x) d r) regs
+    at x d r regs h =
+        subst (λ n. L r (r + n) d (view_value v (roll-Tree x)) (tree_into v.place (roll-Tree x) d r) regs) (sym (depth_roll x))
+        (subst (λ w. L r (r + node_depth (map-Tree Tree ℕ depth x)) d w (tree_into v.place (roll-Tree x) d r) regs) (sym (value_of x))
+        (subst (λ ls. L r (r + node_depth (map-Tree Tree ℕ depth x)) d (tree_value v.numbers v.bound (map-Tree Tree Value (value v.numbers v.bound) x) v.temps v.globals) ls regs) (sym (into_roll v.place x d r)) h))
+
+    pub tree_leaves : (t : Tree) → Runs t
+    tree_leaves = tree_ind Runs (λ x h d r regs k are temps s p q. at x d r regs (layer x h d r regs (named_of x k) are temps (subst (λ n. AreScratch r (r + n)) (depth_roll x) s) p q))
+
+pub trees_leave : (M : Type 0) → TreesLeave M
+trees_leave M access m v sees t = tree_leaves access m v sees t
+
+pub operands_stand : (M : Type 0) → OperandsStand M
+operands_stand M access m v sees t = operand access m v t (tree_leaves access m v sees t)
 
 pub trees_run : (M : Type 0) → TreesRun M
-trees_run M access m v sees t = tree_runs access m v sees t
+trees_run M access m v sees t r regs k are temps s =
+    subst (λ ls. Gives access m v.entry r (r + depth t) r (view_value v t) ls regs) (sym (lines_are v.place t r)) (within access m v t (tree_leaves access m v sees t) r regs k are temps s)

@@ -1,8 +1,9 @@
 -- The arithmetic of words that the code of trees goes by.
-use Rattle.std.proofs.Common.{◌≡◌, ⊎_elim, ℕ, ◌+◌, ◌-◌, ◌*◌, ◌/◌, ◌%◌, ◌^◌, ◌<◌, ◌≤◌, suc, Bool, true, false, not, cond, eqb, ltb, ℤ, pos, negsuc, ◌-ℤ◌, refl, sym, ap, ◌∙◌, arith, bit_and}
+use Rattle.std.proofs.Common.{◌≡◌, ⊎_elim, ℕ, ◌+◌, ◌-◌, ◌*◌, ◌/◌, ◌%◌, ◌^◌, ◌<◌, ◌≤◌, suc, Bool, true, false, not, cond, eqb, ltb, ℤ, pos, negsuc, ◌-ℤ◌, refl, sym, ap, ◌∙◌, arith, bit_and, bit_xor}
 use Rattle.std.proofs.lemmas.Bool.{cases_lt, cases_eq, eq-eqb, ne_eqb, lt-ltb, le-ltb}
 use Rattle.std.proofs.lemmas.Int.{ints}
-use Rattle.std.proofs.lemmas.Nat.{and_le_l, mod_below}
+use Rattle.std.proofs.lemmas.Nat.{and_le_l, and_mask, mod_below}
+use Rattle.std.specs.Int.Bits.{xor_add_and}
 use Rattle.std.proofs.Math.Nat.{div-le_self}
 use Rattle.mv_num.specs.Words.{word_of, add, sub, mul, shl, shr_s, shr_u, lt_u, signed, floor_div, sign_extend}
 use Rattle.mv_num.proofs.Signed.{sub_is, sign_extend_low, sign_extend_high}
@@ -70,6 +71,10 @@ word_of_negsuc k h = omega arith
 pub minus_one_is : word_of minus_one ≡ 2 ^ 32 - 1
 unfolding word_of
 minus_one_is = refl
+
+-- each bit the other way round
+pub complement_is : (a : ℕ) → a < 2 ^ 32 → bit_xor a (2 ^ 32 - 1) ≡ sub (2 ^ 32 - 1) a
+complement_is a h = omega (arith, xor_add_and a (2 ^ 32 - 1), and_mask a 32, sub_is (2 ^ 32 - 1) a (omega arith) h)
 
 pub add_zero : (n : ℕ) → n < 2 ^ 32 → add 0 n ≡ n
 unfolding add

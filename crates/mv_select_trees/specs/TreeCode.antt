@@ -1,16 +1,16 @@
--- The code of trees: lines that leave a tree's value in a register r. A tree of depth n uses r and the n - 1 registers above it; the left operand is
--- computed first, in r itself.
-use Rattle.std.specs.Prelude.{ℕ, ◌+◌, ◌*◌, ◌/◌, ◌%◌, max, cond, eqb, ltb, List, [], ◌∷◌, ◌++◌, ℤ, pos, ◌-ℤ◌, slice_index_or}
+-- The code of trees: lines that leave a tree's value in a register. They go by way of a register r and those above it, as many as the tree is deep; the
+-- left operand is computed first. An operand that stands in a register already stays there.
+use Rattle.std.specs.Prelude.{ℕ, ◌+◌, ◌*◌, ◌/◌, ◌%◌, max, Bool, true, false, cond, eqb, ltb, List, [], ◌∷◌, ◌++◌, Option, Some, None, unwrap_or, ℤ, pos, ◌-ℤ◌, slice_index_or}
 use Rattle.mv_num.specs.declared.kind.Kind.{Kind}
 use Rattle.mv_num.specs.declared.kind.Kind.TheVariants as kind
 use Rattle.mv_isa.specs.declared.instr.Instr.{Instr}
-use Rattle.mv_isa.specs.declared.instr.Instr.TheVariants.{Lui, Lw, Addi, Sltiu, Slli, Srli, Srai, Add, Sub, Sll, Slt, Sltu, Xor, Srl, Sra, Or, And, Mul}
+use Rattle.mv_isa.specs.declared.instr.Instr.TheVariants.{Lui, Lw, Addi, Sltiu, Xori, Slli, Srli, Srai, Add, Sub, Sll, Slt, Sltu, Xor, Srl, Sra, Or, And, Mul}
 use Rattle.mv_isa.specs.declared.labelled.Line.{Line}
 use Rattle.mv_isa.specs.declared.labelled.Line.TheVariants.{Word, Entry}
 use Rattle.mv_ir.specs.declared.tree.Tree.{Tree}
 use Rattle.mv_ir.specs.declared.tree.Tree.TheOpen.{Tree-F}
 use Rattle.mv_ir.specs.declared.tree.Tree.TheOpen as tree
-use Rattle.mv_ir.specs.declared.tree.Tree.TheFolds.{fold-Tree}
+use Rattle.mv_ir.specs.declared.tree.Tree.TheFolds.{fold-Tree, map-Tree}
 
 abbrev pub one : Instr → List Line
 one i = Word i ∷ []
@@ -58,45 +58,96 @@ minus_one = pos 0 -ℤ pos 1
 abbrev pub clear : ℕ → List Line
 clear r = one (Addi r 0 (pos 0))
 
--- negation, complement, logical not of r
-unfoldable pub unary_lines : ℕ → ℕ → List Line
-unary_lines o r =
-    slice_index_or (one (Sub r 0 r) ∷ two (Addi (r + 1) 0 minus_one) (Sub r (r + 1) r) ∷ one (Sltiu r r (pos 1)) ∷ []) o (clear r)
+-- negation, complement, logical not of s into d
+unfoldable pub unary_lines : (o d s : ℕ) → List Line
+unary_lines o d s = slice_index_or (one (Sub d 0 s) ∷ one (Xori d s minus_one) ∷ one (Sltiu d s (pos 1)) ∷ []) o (clear d)
 
--- of r and the next register
-unfoldable pub binary_lines : ℕ → ℕ → List Line
-binary_lines o r =
-    let s = r + 1 in
+-- an operator on a and b into d
+unfoldable pub binary_lines : (o d a b : ℕ) → List Line
+binary_lines o d a b =
     slice_index_or
-    (one (Add r r s) ∷ one (Sub r r s) ∷ one (Mul r r s) ∷ one (And r r s) ∷ one (Or r r s) ∷ one (Xor r r s) ∷ one (Sll r r s)
-    ∷ one (Sra r r s) ∷ one (Srl r r s) ∷ one (Slt r r s) ∷ one (Sltu r r s)
-    ∷ two (Sub r r s) (Sltiu r r (pos 1)) ∷ two (Sub r r s) (Sltu r 0 r) ∷ [])
-    o (clear r)
+    (one (Add d a b) ∷ one (Sub d a b) ∷ one (Mul d a b) ∷ one (And d a b) ∷ one (Or d a b) ∷ one (Xor d a b) ∷ one (Sll d a b)
+    ∷ one (Sra d a b) ∷ one (Srl d a b) ∷ one (Slt d a b) ∷ one (Sltu d a b)
+    ∷ two (Sub d a b) (Sltiu d d (pos 1)) ∷ two (Sub d a b) (Sltu d 0 d) ∷ [])
+    o (clear d)
 
--- a conversion: of the short types by a shift to the left and one back, with the sign or with zeros
-unfoldable pub narrow_lines : Kind → ℕ → List Line
-narrow_lines kind.Bool r = one (Sltu r 0 r)
-narrow_lines kind.SChar r = two (Slli r r (pos 24)) (Srai r r (pos 24))
-narrow_lines kind.UChar r = two (Slli r r (pos 24)) (Srli r r (pos 24))
-narrow_lines kind.Short r = two (Slli r r (pos 16)) (Srai r r (pos 16))
-narrow_lines kind.UShort r = two (Slli r r (pos 16)) (Srli r r (pos 16))
-narrow_lines kind.Int r = []
-narrow_lines kind.UInt r = []
+-- a conversion that leaves each word as it is
+abbrev pub keeps_words : Kind → Bool
+keeps_words kind.Int = true
+keeps_words kind.UInt = true
+keeps_words _ = false
+
+-- a conversion of s into d: to the short types by a shift to the left and one back, with the sign or with zeros
+unfoldable pub narrow_lines : Kind → (d s : ℕ) → List Line
+narrow_lines kind.Bool d s = one (Sltu d 0 s)
+narrow_lines kind.SChar d s = two (Slli d s (pos 24)) (Srai d d (pos 24))
+narrow_lines kind.UChar d s = two (Slli d s (pos 24)) (Srli d d (pos 24))
+narrow_lines kind.Short d s = two (Slli d s (pos 16)) (Srai d d (pos 16))
+narrow_lines kind.UShort d s = two (Slli d s (pos 16)) (Srli d d (pos 16))
+narrow_lines kind.Int d s = one (Addi d s (pos 0))
+narrow_lines kind.UInt d s = one (Addi d s (pos 0))
 
 -- ---- trees
 
-abbrev pub tree_layer : (ℕ → ℕ) → Tree-F (ℕ → List Line) → ℕ → List Line
-tree_layer place (tree.Number n) r = number_lines n r
-tree_layer place (tree.Temp t) r = one (read_temp t r)
-tree_layer place (tree.Global g) r = load_lines (place g) r
-tree_layer place (tree.Function f) r = Entry r f ∷ []
-tree_layer place (tree.Unary o a) r = a r ++ unary_lines o r
-tree_layer place (tree.Binary o a b) r = a r ++ (b (r + 1) ++ binary_lines o r)
-tree_layer place (tree.Narrow k a) r = a r ++ narrow_lines k r
+abbrev pub own_layer : Tree-F (Option ℕ) → Option ℕ
+own_layer (tree.Number n) = cond (eqb n 0) (Some 0) None
+own_layer (tree.Temp t) = cond (ltb t 9) (Some (temp_register t)) None
+own_layer (tree.Global g) = None
+own_layer (tree.Function f) = None
+own_layer (tree.Unary o a) = None
+own_layer (tree.Binary o a b) = None
+own_layer (tree.Narrow k a) = cond (keeps_words k) a None
 
--- the code of a tree for a register, given the address of each global
+-- the register in which a tree's value stands already: that of one of the first nine temporaries, or x0 for the number 0
+unfoldable pub own_register : Tree → Option ℕ
+own_register = fold-Tree (Option ℕ) own_layer
+
+-- lines that aren't needed where there is a register already
+abbrev pub unless : Option ℕ → List Line → List Line
+unless None lines = lines
+unless (Some q) lines = []
+
+-- what is known of a tree's code: its own register, and the lines that leave its value in d by way of r and the registers above it
+pub record Code : Type 0 where
+  pub own : Option ℕ
+  pub into : (d r : ℕ) → List Line
+
+abbrev pub ready : Code → ℕ → List Line
+ready a r = unless a.own (a.into r r)
+
+abbrev pub stands : Code → ℕ → ℕ
+stands a r = unwrap_or a.own r
+
+abbrev pub into_layer : (ℕ → ℕ) → Tree-F Code → (d r : ℕ) → List Line
+into_layer place (tree.Number n) d r = number_lines n d
+into_layer place (tree.Temp t) d r = one (read_temp t d)
+into_layer place (tree.Global g) d r = load_lines (place g) d
+into_layer place (tree.Function f) d r = Entry d f ∷ []
+into_layer place (tree.Unary o a) d r = ready a r ++ unary_lines o d (stands a r)
+into_layer place (tree.Binary o a b) d r = ready a r ++ (ready b (r + 1) ++ binary_lines o d (stands a r) (stands b (r + 1)))
+into_layer place (tree.Narrow k a) d r = cond (keeps_words k) (a.into d r) (ready a r ++ narrow_lines k d (stands a r))
+
+abbrev pub tree_layer : (ℕ → ℕ) → Tree-F Code → Code
+tree_layer place x = record { own = own_layer (map-Tree Code (Option ℕ) (λ a. a.own) x); into = into_layer place x }
+
+-- given the address of each global
+unfoldable pub tree_code : (ℕ → ℕ) → Tree → Code
+tree_code place = fold-Tree Code (tree_layer place)
+
+-- the code of a tree for d, by way of r and the registers above it
+unfoldable pub tree_into : (ℕ → ℕ) → Tree → (d r : ℕ) → List Line
+tree_into place t = (tree_code place t).into
+
+-- the code of a tree for r
 unfoldable pub tree_lines : (ℕ → ℕ) → Tree → ℕ → List Line
-tree_lines place = fold-Tree (ℕ → List Line) (tree_layer place)
+tree_lines place t r = tree_into place t r r
+
+-- the code of a tree that may stay in its own register, and else comes into r; and where it stands then
+unfoldable pub operand_lines : (ℕ → ℕ) → Tree → ℕ → List Line
+operand_lines place t r = unless (own_register t) (tree_lines place t r)
+
+unfoldable pub operand_register : Tree → ℕ → ℕ
+operand_register t r = unwrap_or (own_register t) r
 
 -- ---- the temporaries of a tree
 

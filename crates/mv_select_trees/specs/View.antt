@@ -1,5 +1,5 @@
 -- What a tree is read against: the frame, the globals and the functions, and where they stand on the machine.
-use Rattle.std.specs.Prelude.{ℕ, ◌≡◌, ◌^◌, ◌<◌, ◌≤◌, ◌⊎◌, Bool, true, ◌&&◌, ltb, List, length, slice_index, Some, None}
+use Rattle.std.specs.Prelude.{ℕ, ◌≡◌, ◌≢◌, ◌^◌, ◌<◌, ◌≤◌, ◌⊎◌, Bool, true, ◌&&◌, ltb, List, length, slice_index, Some, None}
 use Rattle.mv_num.specs.Words.{add}
 use Rattle.mv_isa.specs.declared.labelled.Line.{Line}
 use Rattle.mv_isa.specs.Execution.{Access, reg}
@@ -81,3 +81,11 @@ module _ {M : Type 0} (access : Access M) (m : M) where
     pub runs : Straight access m entry lines regs after
     pub changes : Changes lo hi regs after
     pub holds : reg after r ≡ value
+
+  -- lines lead from registers to ones where d holds a value; of the others only some from lo to below hi have changed
+  pub record Leaves (entry : ℕ → ℕ) (lo hi d value : ℕ) (lines : List Line) (regs : List ℕ) : Type 0 where
+    pub after : List ℕ
+    pub runs : Straight access m entry lines regs after
+    pub are : AreRegisters after
+    pub others : (q : ℕ) → (q < lo) ⊎ (hi ≤ q) → q ≢ d → reg after q ≡ reg regs q
+    pub holds : reg after d ≡ value

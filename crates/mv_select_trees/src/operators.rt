@@ -1,5 +1,5 @@
 ghost use Rattle.std.specs.Prelude.{◌≡◌, ◌<◌, ◌++◌, OnOk};
-ghost use Rattle.mv_select_trees.specs.TreeCode.{unary_lines, binary_lines, narrow_lines};
+ghost use Rattle.mv_select_trees.specs.TreeCode.{unary_lines, binary_lines, keeps_words, narrow_lines};
 
 use crate::lines::{push_one, push_two};
 use mv_isa::Instr;
@@ -10,34 +10,36 @@ use std::alloc::AllocError;
 
 // Negation, complement or logical not of a register.
 #[tactic(auto, using(crate::proofs::Equations::unary_operators))]
-pub(crate) fn push_unary(code: &mut List<Line>, operator: u8, rd: u8) -> Result<(), AllocError>
-    requires { rd < 31 }
-    ensures { OnOk result (code.new ≡ code.old ++ unary_lines operator rd) }
+pub(crate) fn push_unary(
+    code: &mut List<Line>,
+    operator: u8,
+    rd: u8,
+    operand: u8,
+) -> Result<(), AllocError>
+    ensures { OnOk result (code.new ≡ code.old ++ unary_lines operator rd operand) }
 {
-    let next = rd + 1;
-    let ones = Instr::Addi {
-        rd: next,
-        rs1: 0,
-        imm: -1,
-    };
-    let from_zero = Instr::Sub {
-        rd,
-        rs1: 0,
-        rs2: rd,
-    };
-    let from_ones = Instr::Sub {
-        rd,
-        rs1: next,
-        rs2: rd,
-    };
     match operator {
-        0 => push_one(code, from_zero),
-        1 => push_two(code, ones, from_ones),
+        0 => push_one(
+            code,
+            Instr::Sub {
+                rd,
+                rs1: 0,
+                rs2: operand,
+            },
+        ),
+        1 => push_one(
+            code,
+            Instr::Xori {
+                rd,
+                rs1: operand,
+                imm: -1,
+            },
+        ),
         2 => push_one(
             code,
             Instr::Sltiu {
                 rd,
-                rs1: rd,
+                rs1: operand,
                 imm: 1,
             },
         ),
@@ -45,14 +47,17 @@ pub(crate) fn push_unary(code: &mut List<Line>, operator: u8, rd: u8) -> Result<
     }
 }
 
-// An operator on a register and the next one.
+// An operator on two registers.
 #[tactic(auto, using(crate::proofs::Equations::binary_operators))]
-pub(crate) fn push_binary(code: &mut List<Line>, operator: u8, rd: u8) -> Result<(), AllocError>
-    requires { rd < 31 }
-    ensures { OnOk result (code.new ≡ code.old ++ binary_lines operator rd) }
+pub(crate) fn push_binary(
+    code: &mut List<Line>,
+    operator: u8,
+    rd: u8,
+    rs1: u8,
+    rs2: u8,
+) -> Result<(), AllocError>
+    ensures { OnOk result (code.new ≡ code.old ++ binary_lines operator rd rs1 rs2) }
 {
-    let rs1 = rd;
-    let rs2 = rd + 1;
     let difference = Instr::Sub { rd, rs1, rs2 };
     match operator {
         0 => push_one(code, Instr::Add { rd, rs1, rs2 }),
@@ -66,7 +71,15 @@ pub(crate) fn push_binary(code: &mut List<Line>, operator: u8, rd: u8) -> Result
         8 => push_one(code, Instr::Srl { rd, rs1, rs2 }),
         9 => push_one(code, Instr::Slt { rd, rs1, rs2 }),
         10 => push_one(code, Instr::Sltu { rd, rs1, rs2 }),
-        11 => push_two(code, difference, Instr::Sltiu { rd, rs1, imm: 1 }),
+        11 => push_two(
+            code,
+            difference,
+            Instr::Sltiu {
+                rd,
+                rs1: rd,
+                imm: 1,
+            },
+        ),
         12 => push_two(
             code,
             difference,
@@ -80,27 +93,54 @@ pub(crate) fn push_binary(code: &mut List<Line>, operator: u8, rd: u8) -> Result
     }
 }
 
+// Whether a conversion leaves each word as it is.
+pub(crate) fn keeps_words(kind: Kind) -> bool
+    ensures { result ≡ keeps_words kind }
+{
+    matches!(kind, Kind::Int | Kind::UInt)
+}
+
 // A conversion of a register: by a shift to the left, and one back with the sign or with zeros.
 #[tactic(auto, unfolding(crate::specs::TreeCode::narrow_lines))]
-pub(crate) fn push_narrow(code: &mut List<Line>, kind: Kind, rd: u8) -> Result<(), AllocError>
-    ensures { OnOk result (code.new ≡ code.old ++ narrow_lines kind rd) }
+pub(crate) fn push_narrow(
+    code: &mut List<Line>,
+    kind: Kind,
+    rd: u8,
+    operand: u8,
+) -> Result<(), AllocError>
+    ensures { OnOk result (code.new ≡ code.old ++ narrow_lines kind rd operand) }
 {
+    let byte = Instr::Slli {
+        rd,
+        rs1: operand,
+        imm: 24,
+    };
+    let half = Instr::Slli {
+        rd,
+        rs1: operand,
+        imm: 16,
+    };
     let rs1 = rd;
-    let byte = Instr::Slli { rd, rs1, imm: 24 };
-    let half = Instr::Slli { rd, rs1, imm: 16 };
     match kind {
         Kind::Bool => push_one(
             code,
             Instr::Sltu {
                 rd,
                 rs1: 0,
-                rs2: rd,
+                rs2: operand,
             },
         ),
         Kind::SChar => push_two(code, byte, Instr::Srai { rd, rs1, imm: 24 }),
         Kind::UChar => push_two(code, byte, Instr::Srli { rd, rs1, imm: 24 }),
         Kind::Short => push_two(code, half, Instr::Srai { rd, rs1, imm: 16 }),
         Kind::UShort => push_two(code, half, Instr::Srli { rd, rs1, imm: 16 }),
-        Kind::Int | Kind::UInt => Ok(()),
+        Kind::Int | Kind::UInt => push_one(
+            code,
+            Instr::Addi {
+                rd,
+                rs1: operand,
+                imm: 0,
+            },
+        ),
     }
 }

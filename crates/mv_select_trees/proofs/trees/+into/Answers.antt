@@ -1,0 +1,44 @@
+use Rattle.std.proofs.Common.{◌≡◌, ◌+◌, ◌++◌, OnOk, false, cond, ap, ◌∙◌, subst}
+use Rattle.mv_ir.specs.declared.tree.Tree as tr
+use Rattle.mv_select_trees.specs.TreeCode.{unary_lines, binary_lines, keeps_words, narrow_lines, tree_into, operand_lines, operand_register}
+use Rattle.mv_select_trees.specs.Rooms.{place_in}
+use Rattle.mv_select_trees.proofs.Equations.{into_unary, into_binary, into_narrow, joined_two, joined_three}
+use Rattle.mv_select_trees.proofs.trees.+into.Goals as goal
+
+pub push_into-returns-in_ok-push_operand-in-Unary : goal.push_into-returns-in_ok-push_operand-in-Unary
+push_into-returns-in_ok-push_operand-in-Unary t c =
+    let p = place_in c.args.rooms.now in
+    let r = c.args.register in
+    let ls = tree_into p c.args.tree.now c.args.rd r in
+    let la = operand_lines p c.get.result.now r in
+    let u = unary_lines c.in-Unary.operator c.args.rd c.operand_register.result in
+    let same : ls ≡ la ++ u = cc (into_unary p c.in-Unary.operator c.in-Unary.a c.args.rd r) in
+    subst (λ z. OnOk c.push_unary.result (c.push_unary.new.code ≡ z)) (joined_two c.args.code.now c.push_operand.new.code u la ls c.in_ok-push_operand-in-Unary.ensures same) c.push_unary.ensures
+
+pub push_into-returns-in_ok-push_operand-in-Binary-2 : goal.push_into-returns-in_ok-push_operand-in-Binary-2
+push_into-returns-in_ok-push_operand-in-Binary-2 t c =
+    let p = place_in c.args.rooms.now in
+    let r = c.args.register in
+    let ls = tree_into p c.args.tree.now c.args.rd r in
+    let la = operand_lines p c.get-in-Binary.result.now r in
+    let lb = operand_lines p c.get-in-Binary-2.result.now (r + 1) in
+    let u = binary_lines c.in-Binary.operator c.args.rd c.operand_register-left.result c.operand_register-right.result in
+    let same : ls ≡ la ++ (lb ++ u) = cc (into_binary p c.in-Binary.operator c.in-Binary.a c.in-Binary.b c.args.rd r) in
+    subst (λ z. OnOk c.push_binary.result (c.push_binary.new.code ≡ z))
+    (joined_three c.args.code.now c.push_operand-in-Binary.new.code c.push_operand-in-Binary-2.new.code u la lb ls c.in_ok-push_operand-in-Binary.ensures c.in_ok-push_operand-in-Binary-2.ensures same)
+    c.push_binary.ensures
+
+pub push_into-returns-in_ok-push_operand-in-Narrow : goal.push_into-returns-in_ok-push_operand-in-Narrow
+push_into-returns-in_ok-push_operand-in-Narrow t c =
+    let p = place_in c.args.rooms.now in
+    let r = c.args.register in
+    let k = c.in-Narrow.kind in
+    let a = c.in-Narrow.a in
+    let ls = tree_into p c.args.tree.now c.args.rd r in
+    let la = operand_lines p c.get-else-keeps_words.result.now r in
+    let u = narrow_lines k c.args.rd c.operand_register-else-keeps_words.result in
+    let test : keeps_words k ≡ false = cc in
+    let changed : tree_into p (tr.Narrow k a) c.args.rd r ≡ operand_lines p a r ++ narrow_lines k c.args.rd (operand_register a r) =
+    into_narrow p k a c.args.rd r ∙ ap (λ b. cond b (tree_into p a c.args.rd r) (operand_lines p a r ++ narrow_lines k c.args.rd (operand_register a r))) test in
+    let same : ls ≡ la ++ u = cc changed in
+    subst (λ z. OnOk c.push_narrow.result (c.push_narrow.new.code ≡ z)) (joined_two c.args.code.now c.push_operand-else-keeps_words.new.code u la ls c.in_ok-push_operand-in-Narrow.ensures same) c.push_narrow.ensures
