@@ -153,13 +153,13 @@ fn function_type(
 ) -> Result<u32, RuleError>
     ensures { IsBehind (function_type result_type (map parameter params.now) scope.old) result scope.new }
 {
-    scope.enter(alloc)?;
+    scope.enter()?;
     let mut types = List::new(alloc);
     for param in params {
         let ctype = parameter(alloc, scope, param)?;
         types.push(ctype)?;
     }
-    scope.leave(alloc);
+    scope.leave();
     number_signature(alloc, scope, result_type, types)
 }
 

@@ -20,7 +20,7 @@ use std::alloc::Global;
 pub fn is_taken(scope: &Scope, name: &[u8]) -> bool
     ensures { result ≡ is_taken scope.now name.now }
 {
-    scope.names.here.find(name).is_some()
+    scope.names.find_here(name).is_some()
 }
 
 fn given_value(

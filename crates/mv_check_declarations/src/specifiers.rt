@@ -86,7 +86,7 @@ fn declare_enumeration(
             })
         }
         Some(tag) => {
-            if scope.tags.here.find(tag.bytes()).is_some() {
+            if scope.tags.find_here(tag.bytes()).is_some() {
                 return Ok(Enumeration {
                     number: None,
                     again: true,

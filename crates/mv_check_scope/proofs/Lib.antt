@@ -1,3 +1,6 @@
-mod Lookups
+mod Blocks
+mod BoundNames
+mod Entries
 mod SignatureLists
+mod Steps
 mod Types

@@ -1,3 +1,4 @@
+pub mod Bindings
 pub mod Constants
 pub mod Conversions
 pub mod Known
@@ -6,3 +7,4 @@ pub mod Scoped
 pub mod Scopes
 pub mod Signatures
 pub mod Spaces
+pub mod Steps

@@ -1,8 +1,10 @@
 //! What names mean: the scopes of a unit, what was declared in them, and the types of values.
 //!
-//! - `NameSpace` (`find`, `declare`, `enter`, `leave`) and `Scope`: what a name or a tag means is what the innermost
-//!   block that has it says, over plain lists of names in order of declaration; the blocks are `indexmap` maps behind a
-//!   model, which no clause above sees. `known_function`: the functions that are known without a declaration.
+//! - `NameSpace` (`find`, `find_here`, `declare`, `enter`, `leave`) and `Scope`: what a name or a tag means is what the
+//!   innermost block that has it says, over plain lists of names in order of declaration, which a model shows. Behind it
+//!   one ordered map (`Bindings`) has what decides the meaning of each name, and each step that led here (`Step`) what it
+//!   hides: a look-up takes the same time in however many blocks, whatever the names, and leaving a block takes back
+//!   what it declared. `known_function`: the functions that are known without a declaration.
 //! - `promotion`, `usual`, `converts`, `converted_to`, `promoted`: the integer promotions, the usual arithmetic
 //!   conversions, and conversion as by assignment, with null; a conversion is written only where the type changes.
 //!   `constant_value`: the value of an expression that is built of numbers and operators alone and whose evaluation
@@ -13,7 +15,7 @@
 //!   them.
 #![tactic(auto)]
 
-pub mod block;
+pub mod bindings;
 pub mod constant;
 pub mod convert;
 pub mod known;
@@ -21,3 +23,4 @@ pub mod meaning;
 pub mod scope;
 pub mod signatures;
 pub mod space;
+pub mod step;

@@ -95,18 +95,18 @@ impl Scope {
     }
 
     /// Enters a block.
-    pub fn enter(&mut self, alloc: Global) -> Result<(), AllocError>
+    pub fn enter(&mut self) -> Result<(), AllocError>
         ensures { OnOk result (self.new ≡ block_entered self.old) }
     {
-        self.names.enter(alloc)?;
-        self.tags.enter(alloc)
+        self.names.enter()?;
+        self.tags.enter()
     }
 
     /// Leaves a block. The locals that it declared stay.
-    pub fn leave(&mut self, alloc: Global)
+    pub fn leave(&mut self)
         ensures { self.new ≡ block_left self.old }
     {
-        self.names.leave(alloc);
-        self.tags.leave(alloc);
+        self.names.leave();
+        self.tags.leave();
     }
 }

@@ -1,32 +1,35 @@
-ghost use Rattle.std.specs.Prelude.{◌≡◌, [], OnOk, None};
-ghost use Rattle.mv_check_scope.specs.Spaces.{named, meaning_in};
+ghost use Rattle.std.specs.Prelude.{◌≡◌, ℕ, List, OnOk, None, IsTrue, false};
+ghost use Rattle.mv_check_scope.specs.Spaces.{named};
 ghost use Rattle.mv_check_scope.specs.Scopes.{no_names, sought, entered, left, with_name};
+ghost use Rattle.mv_check_scope.specs.Bindings.{binding};
+ghost use Rattle.mv_check_scope.specs.Steps.{HasDeclared};
 
-use crate::block::Block;
+use crate::bindings::Bindings;
 use crate::meaning::Meaning;
-use mv_num::list::List;
+use crate::step::{Binding, Step};
 use std::alloc::{AllocError, Global};
-use std::mem;
+use std::marker::Model;
 
 /// A name space (C11 6.2.3) at a place of the source: the names of the innermost block, and the blocks around it, of which the
-/// innermost comes last. A name means what the innermost block that declares it says.
+/// innermost comes last. A name means what the innermost block that declares it says. The steps that led here are kept, so that
+/// leaving a block takes back what it declared, and a look-up doesn't go from block to block.
 #[derive(Drop)]
 pub struct NameSpace {
-    pub here: Block,
-    pub around: List<Block>,
+    steps: Vec<Step>,
+    depth: usize,
+    bindings: Bindings,
 }
 
-// What a name means in some blocks, of which the last comes first.
-fn meaning_in(blocks: &[Block], name: &[u8]) -> Option<Meaning>
-    ensures { result ≡ meaning_in blocks.now name.now }
-{
-    match blocks {
-        [] => None,
-        [block, inner @ ..] => match meaning_in(inner, name) {
-            Some(meaning) => Some(meaning),
-            None => block.find(name),
-        },
-    }
+impl Model for NameSpace {
+    ghost use Rattle.mv_check_scope.specs.Names.{Space};
+    ghost use Rattle.mv_check_scope.specs.Scopes.{no_names};
+    ghost use Rattle.mv_check_scope.specs.Steps.{led_to, Represents};
+
+    ghost Value = { Space };
+
+    ghost view = { λ s. led_to no_names s.steps.items };
+
+    ghost invariant = { λ s. Represents s.steps.items s.depth s.bindings.map.entries };
 }
 
 impl NameSpace {
@@ -35,18 +38,38 @@ impl NameSpace {
         ensures { result ≡ no_names }
     {
         NameSpace {
-            here: Block::new(alloc),
-            around: List::new(alloc),
+            steps: Vec::new(alloc),
+            depth: 0,
+            bindings: Bindings::new(alloc),
         }
+    }
+
+    // What decides the meaning of a name.
+    fn binding(&self, name: &[u8]) -> Option<Binding>
+        ensures { result ≡ binding self.now name.now }
+    {
+        self.bindings.find(name)
     }
 
     /// What a name means.
     pub fn find(&self, name: &[u8]) -> Option<Meaning>
         ensures { result ≡ sought self.now name.now }
     {
-        match self.here.find(name) {
-            Some(meaning) => Some(meaning),
-            None => meaning_in(self.around.as_slice(), name),
+        match self.binding(name) {
+            Some(binding) => Some(binding.meaning),
+            None => None,
+        }
+    }
+
+    /// What a name means by a declaration of the innermost block.
+    pub fn find_here(&self, name: &[u8]) -> Option<Meaning>
+        ensures { result ≡ named name.now self.now.here }
+    {
+        let binding = self.bindings.find(name)?;
+        if binding.depth == self.depth {
+            Some(binding.meaning)
+        } else {
+            None
         }
     }
 
@@ -60,29 +83,52 @@ impl NameSpace {
         requires { named name.now self.old.here ≡ None }
         ensures { OnOk result (self.new ≡ with_name self.old name.now meaning) }
     {
-        self.here.declare(alloc, name, meaning)
-    }
-
-    /// Enters a block, which has no name of its own yet.
-    pub fn enter(&mut self, alloc: Global) -> Result<(), AllocError>
-        ensures { OnOk result (self.new ≡ entered self.old) }
-    {
-        let outer = mem::replace(&mut self.here, Block::new(alloc));
-        self.around.push(outer)?;
+        let key = Vec::from_slice(alloc, name)?;
+        let declared = Vec::from_slice(alloc, name)?;
+        let hidden = self.bindings.find(name);
+        let binding = Binding {
+            depth: self.depth,
+            meaning,
+        };
+        self.steps.push(Step::Declared(declared, meaning, hidden))?;
+        if self.bindings.bind(key, binding).is_err() {
+            self.steps.pop();
+            return Err(AllocError);
+        }
         Ok(())
     }
 
+    /// Enters a block, which has no name of its own yet.
+    pub fn enter(&mut self) -> Result<(), AllocError>
+        ensures { OnOk result (self.new ≡ entered self.old) }
+    {
+        self.steps.push(Step::Entered)?;
+        self.depth += 1;
+        Ok(())
+    }
+
+    // Takes the last step back. The answer says whether it was a declaration; if not, the block is left.
+    fn take_back(&mut self) -> bool
+        ensures declaration { IsTrue result → HasDeclared self.old self.new }
+        ensures block { result ≡ false → self.new ≡ left self.old }
+    {
+        match self.steps.pop() {
+            Some(Step::Declared(name, _, hidden)) => {
+                self.bindings.restore(name.as_slice(), hidden);
+                true
+            }
+            Some(Step::Entered) => {
+                self.depth -= 1;
+                false
+            }
+            None => false,
+        }
+    }
+
     /// Leaves a block: its names mean no more what they meant in it.
-    #[tactic(auto, using(crate::proofs::Lookups::last_of, crate::proofs::Lookups::before))]
-    pub fn leave(&mut self, alloc: Global)
+    pub fn leave(&mut self)
         ensures { self.new ≡ left self.old }
     {
-        let mut blocks = mem::replace(&mut self.around, List::new(alloc)).into_vec();
-        let here = match blocks.pop() {
-            Some(block) => block,
-            None => Block::new(alloc),
-        };
-        self.here = here;
-        self.around = List::from_vec(blocks);
+        'declared: while self.take_back() {}
     }
 }

@@ -73,7 +73,7 @@ fn statement(
         Act::While(test, body) => while_statement(alloc, scope, around, body.get(), test),
         Act::Do(body, test) => do_statement(alloc, scope, around, body.get(), test),
         Act::For(first, test, step, body) => {
-            scope.enter(alloc)?;
+            scope.enter()?;
             let first = first_clause(alloc, scope, around, first)?;
             for_statement(alloc, scope, around, body.get(), first, test, step)
         }
@@ -112,9 +112,9 @@ fn block(
 ) -> Result<Stmt, RuleError>
     ensures { IsBehind (block_judgement (map judges_of items.now) around scope.old) result scope.new }
 {
-    scope.enter(alloc)?;
+    scope.enter()?;
     let body = lines(alloc, scope, around, items)?;
-    scope.leave(alloc);
+    scope.leave();
     Ok(Stmt::Block(body))
 }
 
@@ -229,7 +229,7 @@ fn for_body(
 {
     let clauses = (first, test, step);
     let ((first, test, step), body) = both(clauses, alone(alloc, scope, around.in_loop(), body))?;
-    scope.leave(alloc);
+    scope.leave();
     Ok(Stmt::For(first, test, step, body))
 }
 
@@ -280,9 +280,9 @@ fn switch_block(
 ) -> Result<Option<Arms>, RuleError>
     ensures { IsBehind (and_then (arms_in_turn (map judges_of items.now) tested around (block_entered scope.old, no_arms)) (λ d. Good (block_left d.0, Some d.1))) result scope.new }
 {
-    scope.enter(alloc)?;
+    scope.enter()?;
     let arms = arms(alloc, scope, around, items, tested)?;
-    scope.leave(alloc);
+    scope.leave();
     Ok(Some(arms))
 }
 

@@ -203,7 +203,7 @@ fn count_parameters(declarator: &Declarator) -> Result<u32, AllocError>
 fn enter_body(alloc: Global, scope: &mut Scope, attributed: bool) -> Result<(), AllocError>
     ensures { OnOk result (scope.new ≡ spec.body_entered attributed scope.old) }
 {
-    scope.enter(alloc)?;
+    scope.enter()?;
     scope.locals = List::new(alloc);
     scope.attributed = attributed;
     Ok(())
@@ -214,7 +214,7 @@ fn leave_block(alloc: Global, scope: &mut Scope)
     ensures { scope.new ≡ spec.body_left scope.old }
 {
     scope.locals = List::new(alloc);
-    scope.leave(alloc);
+    scope.leave();
     scope.attributed = false;
 }
 
@@ -332,7 +332,7 @@ fn before_of(known: &Foreknown, name: &[u8], scope: &Scope) -> Result<Before, Al
 {
     let number = number_among(&known.outline.functions, name)?;
     Ok(Before {
-        meaning: scope.names.here.find(name),
+        meaning: scope.names.find_here(name),
         builtin: known_function(name),
         number,
     })

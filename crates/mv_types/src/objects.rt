@@ -334,7 +334,7 @@ pub fn declare(
 ) -> Result<(), RuleError>
     ensures { IsContinued (spec.object_judgement known.now declarator.now name.now local domain block contents.old) result contents.new }
 {
-    let before = contents.scope.names.here.find(name);
+    let before = contents.scope.names.find_here(name);
     declare_behind(
         alloc, known, declarator, name, local, domain, block, before, contents,
     )

@@ -37,7 +37,7 @@ fn is_main_type(signatures: &[Signature], number: u32) -> bool
 fn main_of(scope: &Scope) -> Option<u32>
     ensures { result ≡ main_of scope.now.signatures (named (codes "main") scope.now.names.here) }
 {
-    match scope.names.here.find(b"main".as_slice()) {
+    match scope.names.find_here(b"main".as_slice()) {
         Some(Meaning::Function(routine)) => {
             if is_main_type(scope.signatures.as_slice(), routine.signature) {
                 routine.number
