@@ -112,7 +112,8 @@ class Guest:
             kind, value = "jump" if target == 0 else "call", following
             following = self.pc + signed(word >> 31 << 20 | (word >> 12 & 255) << 12 | (word >> 20 & 1) << 11 | (word >> 21 & 1023) << 1, 21)
         elif opcode == 0x67:
-            kind, value, following = "jump by a register", following, a + immediate & ~1
+            kind = "call" if target else "return" if first == 1 else "jump by a register"
+            value, following = following, a + immediate & ~1
         elif opcode == 0x73:
             kind = "environment call"
         else:

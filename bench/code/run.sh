@@ -2,7 +2,8 @@
 # How many instructions a guest executes, as `multiverse` compiles it and as gcc does (-O0 and -O1, -march=rv32im); and what compiling costs the host as
 # a source grows: run.sh [code|compile]..
 # The guests are five programs of examples/ with their inputs. Ours are counted by the step limit, gcc's by QEMU, one line an instruction; gcc's input
-# and output are functions of a few instructions each, ours one. Compiling is counted by callgrind, up to the first instruction of the guest.
+# and output are functions of a few instructions each, ours one. The calls among the instructions are counted apart, ours by mix.py, gcc's by the
+# addresses that QEMU traces. Compiling is counted by callgrind, up to the first instruction of the guest.
 # Needs the program that .ci/run leaves (or PROGRAM), gcc-riscv64-unknown-elf, qemu-user and valgrind.
 set -e
 here=$(cd "$(dirname "$0")" && pwd)
@@ -26,12 +27,21 @@ ours() {
     echo "$high"
 }
 
-# gccs SOURCE INPUT LEVEL: the instructions that QEMU traces
+# our_calls SOURCE INPUT: the calls among them
+our_calls() {
+    PROGRAM=$program python3 "$here/mix.py" "$1" "$2" | awk '$1 == "call" { print $2 }'
+}
+
+# gccs SOURCE INPUT LEVEL: the instructions that QEMU traces, and how many of them are calls
 gccs() {
     sed '/#include/d' "$1" > "$scratch/guest.c"
     riscv64-unknown-elf-gcc "$3" -w -fwrapv -funsigned-char -fno-builtin -march=rv32im -mabi=ilp32 -nostdlib -static -Wl,--no-relax \
         -include "$here/linux.h" -o "$scratch/guest" "$scratch/guest.c" -lgcc 2> "$scratch/gcc.log" || { cat "$scratch/gcc.log" >&2; exit 1; }
-    qemu-riscv32 -singlestep -d exec,nochain -D /dev/stderr "$scratch/guest" < "$2" 2>&1 > "$scratch/guest.out" | grep -c '^Trace'
+    riscv64-unknown-elf-objdump -d "$scratch/guest" | awk '$3 == "jal" || $3 == "jalr" { sub(":", "", $1); print $1 }' > "$scratch/calls"
+    qemu-riscv32 -singlestep -d exec,nochain -D /dev/stderr "$scratch/guest" < "$2" 2>&1 > "$scratch/guest.out" |
+        awk -v calls="$scratch/calls" 'BEGIN { while ((getline at < calls) > 0) is_call[at] = 1 }
+            /^Trace/ { count++; split($4, parts, "/"); sub("^0*", "", parts[2]); if (parts[2] in is_call) called++ }
+            END { print count, called + 0 }'
 }
 
 code() {
@@ -39,8 +49,8 @@ code() {
         source=$examples/$name.c
         input=$examples/$name.in
         [ -f "$input" ] || input=/dev/null
-        awk -v name="$name" -v ours="$(ours "$source" "$input")" -v zero="$(gccs "$source" "$input" -O0)" -v one="$(gccs "$source" "$input" -O1)" \
-            'BEGIN { printf "%s: guest instructions %d, gcc -O0 %d, gcc -O1 %d; ratios %.2f, %.2f\n", name, ours, zero, one, ours / zero, ours / one }'
+        echo "$name $(ours "$source" "$input") $(our_calls "$source" "$input") $(gccs "$source" "$input" -O0) $(gccs "$source" "$input" -O1)" |
+            awk '{ printf "%s: guest instructions %d, gcc -O0 %d, gcc -O1 %d; ratios %.2f, %.2f; calls among them %d, %d, %d\n", $1, $2, $4, $6, $2 / $4, $2 / $6, $3, $5, $7 }'
     done
 }
 

@@ -1,5 +1,5 @@
 -- Walks of one instruction after the other.
-use Rattle.std.proofs.Common.{ℕ, ◌≡◌, ◌<◌, ◌≤◌, ◌+◌, inl, inr, List, [], ◌∷◌, ◌++◌, length, Option, Some, None, option_map, unwrap_or, slice_get, option_and_then, IsSomeAnd, refl, sym, ap, ap₂, ◌∙◌, subst, arith, append-nil}
+use Rattle.std.proofs.Common.{ℕ, zero, suc, ◌≡◌, ◌<◌, ◌≤◌, ◌+◌, inl, inr, List, [], ◌∷◌, ◌++◌, length, Option, Some, None, option_map, unwrap_or, slice_get, option_and_then, refl, sym, ap, ap₂, ◌∙◌, subst, arith, append-nil}
 use Rattle.std.proofs.lemmas.List.{length-append}
 use Rattle.std.proofs.lemmas.Option.{none-some}
 use Rattle.mv_ast.specs.declared.world.Action.{Action}
@@ -7,8 +7,8 @@ use Rattle.mv_ast.specs.declared.world.Event.{Event}
 use Rattle.mv_isa.specs.declared.instr.Cause.{Cause}
 use Rattle.mv_isa.specs.declared.instr.Cause.TheVariants as cause
 use Rattle.mv_isa.specs.Execution.{Goes as GoesTo, Calls, Faults, reg, step}
-use Rattle.mv_fetch.specs.Held.{Room, IsInText, choices, only}
-use Rattle.mv_rv32.specs.Stepping.{access, picked_step, picked_target, word_target, IsCarriedOut, Gives, Stays, Wants}
+use Rattle.mv_fetch.specs.Held.{Room, choices, only}
+use Rattle.mv_rv32.specs.Stepping.{access, picked_step, picked_target, word_target, Gives, Stays, Wants}
 use Rattle.mv_rv32.specs.declared.hart.Hart.{Hart}
 use Rattle.mv_rv32.specs.declared.hart.Stepped.{Stepped}
 use Rattle.mv_rv32.specs.declared.hart.Stepped.TheVariants as over
@@ -19,7 +19,7 @@ use Rattle.mv_machine.specs.declared.machine.Stopped.{Stopped}
 use Rattle.mv_machine.specs.declared.machine.Stopped.TheVariants as answer
 use Rattle.mv_machine.specs.Runs.{Stop, Going, Fault, State, Reads, Writes, request_of, environment_call, turn, executed}
 use Rattle.mv_machine.specs.Snapshots.{Under}
-use Rattle.mv_machine.specs.Moves.{Seen, seen, shown, Moves, Outcomes, FromCall, Called, Wanting, Fetched, Steps, Settles, Turns, Goes}
+use Rattle.mv_machine.specs.Moves.{Seen, seen, shown, Moves, Outcomes, FromCall, Called, Wanting, Fetched, Steps, GoOn, Strides, Settles, Turns, Goes}
 use Rattle.mv_machine.proofs.Turns.{turn_by, runs_none}
 use Rattle.mv_machine.proofs.Moved.{nothing_written, moves_quietly, moves_as, fetched, way_more, Joins, meets_more}
 
@@ -154,6 +154,39 @@ turns_since r x y way way' A B A' B' Told f k (inr t) = inr (t.0, t.1, t.2, outc
 
 pub goes_at : (x y : Seen) (way way' : Option Way) (Told : List Event → Type 0) (n m : ℕ) → n ≡ m → Goes n x y way way' Told → Goes m x y way way' Told
 goes_at x y way way' Told n m e g = subst (λ k. Goes k x y way way' Told) e g
+
+-- ---- instructions that just go on
+
+pub one_more_goes : (n m : ℕ) (s : Stepped) (hart h hart' : Hart) (room r room' : Room) (way w way' : Option Way) → suc n ≡ m → s ≡ over.Next
+    → GoOn n hart h room r way w → Steps s h hart' r room' w way' → GoOn m hart hart' room room' way way'
+one_more_goes n m s hart h hart' room r room' way w way' e next before last =
+    subst (λ k. GoOn k hart hart' room room' way way') e (h, r, w, before, subst (λ (t : Stepped). Steps t h hart' r room' w way') next last)
+
+pub goes_all : (n m : ℕ) (hart hart' : Hart) (room room' : Room) (way way' : Option Way) → n ≡ m → GoOn n hart hart' room room' way way' → GoOn m hart hart' room room' way way'
+goes_all n m hart hart' room room' way way' e g = subst (λ k. GoOn k hart hart' room room' way way') e g
+
+-- the last of some is the one behind the others
+pub ends_with_one : (steps : ℕ) (hart hart' : Hart) (room room' : Room) (way way' : Option Way) → 0 < steps → GoOn steps hart hart' room room' way way'
+    → Strides steps (record { stepped = over.Next; left = 0 }) hart hart' room room' way way'
+ends_with_one zero hart hart' room room' way way' some g = absurd (omega (arith, some))
+ends_with_one (suc n) hart hart' room room' way way' some g = (n, g.0, g.1, g.2, omega arith, g.3, g.4)
+
+-- they are instructions of the walk, of which no probe hears
+module _ (k : ℕ) (x : Seen) (e : Engine) (actions : List Action) (left written : Option (List ℕ)) (way v : Option Way) (Told Behind : List Event → Type 0)
+    (joins : Joins Told Behind Told) (quiet : Behind []) (before : Goes k x (seen e actions left written) way v Told) where
+  abbrev on : Hart → Room → Seen
+  on hart room = stepped (seen e actions left written) hart room
+
+  pub goes_on : (n : ℕ) (hart' : Hart) (room' : Room) (way' : Option Way) → GoOn n e.hart hart' e.memory room' v way' → Goes (k + n) x (on hart' room') way way' Told
+  goes_on zero hart' room' way' g =
+      goes_at x (on hart' room') way way' Told k (k + 0) (omega arith)
+      (subst (λ (w : Option Way). Goes k x (on hart' room') way w Told) (sym g.2)
+      (subst (λ (y : Seen). Goes k x y way v Told) (sym (same_stepped (seen e actions left written) e.hart hart' e.memory room' g.0 g.1)) before))
+  goes_on (suc n) hart' room' way' g =
+      let h = g.0 in let r = g.1 in let w = g.2 in
+      goes_at x (on hart' room') way way' Told (k + n + 1) (k + suc n) (omega arith)
+      (goes_more (k + n) x (on h r) (on hart' room') way w way' ⊥ ⊥ Told Behind Told joins (goes_on n h r w g.3)
+      (turns_by (record e { hart = h; memory = r }) actions left written None (on hart' room') hart' room' w way' ⊥ ⊥ Behind over.Next g.4 (refl, refl, quiet)))
 
 -- ---- a step with the word that was fetched
 

@@ -1,5 +1,5 @@
 -- What the code holds of a state, and that what it does to it is what a definition does to the state.
-use Rattle.std.specs.Prelude.{ℕ, ◌≡◌, ◌%◌, ◌^◌, ◌<◌, ◌⊎◌, ◌∷◌, List, [], ◌++◌, length, slice_get, Option, Some, None, option_map, IsSomeAnd, Ok}
+use Rattle.std.specs.Prelude.{ℕ, zero, suc, ◌+◌, ◌≡◌, ◌%◌, ◌^◌, ◌<◌, ◌⊎◌, ◌∷◌, List, [], ◌++◌, length, slice_get, Option, Some, None, option_map, IsSomeAnd, Ok}
 use Rattle.mv_num.specs.Words.{add}
 use Rattle.mv_ast.specs.declared.world.Binding.{Binding}
 use Rattle.mv_ast.specs.declared.world.Action.{Action}
@@ -16,6 +16,7 @@ use Rattle.mv_machine.specs.declared.engine.Engine.{Engine}
 use Rattle.mv_io.specs.Outside.{Takes}
 use Rattle.mv_io.specs.declared.outside.Failed.{Failed}
 use Rattle.mv_probe.specs.Ways.{Way, Follows, way_after}
+use Rattle.mv_machine.specs.declared.turning.Stride.{Stride}
 use Rattle.mv_machine.specs.declared.machine.Stopped.{Stopped}
 use Rattle.mv_machine.specs.declared.machine.Stopped.TheVariants as answer
 use Rattle.mv_machine.specs.Runs.{State, Stop, Going, Exit, Trap, Fault, Request, Reads, Writes, request_of, environment_call, word_read, turn, runs_from, executed}
@@ -134,6 +135,18 @@ Steps result hart hart' room room' way way' =
     ((count ≡ 0) × (result ≡ stepped.Fault cause.Fetch) × (hart' ≡ hart) × (room' ≡ room) × (way' ≡ way))
     ⊎ ((pick : ℕ) × (pick < count) × Follows way way' count pick
     × Gives (picked_step room pick hart.regs hart.pc) result hart' room' × Stays result hart hart' room room' × Wants result (picked_target room pick hart.regs hart.pc) room)
+
+-- so many instructions that just go on
+abbrev pub GoOn : ℕ → Hart → Hart → Room → Room → Option Way → Option Way → Type 0
+GoOn zero hart hart' room room' way way' = (hart' ≡ hart) × (room' ≡ room) × (way' ≡ way)
+GoOn (suc n) hart hart' room room' way way' =
+    (h : Hart) × (r : Room) × (w : Option Way) × GoOn n hart h room r way w × Steps stepped.Next h hart' r room' w way'
+
+-- some instructions that just go on, and one behind them; so many of them with those that are left
+abbrev pub Strides : (steps : ℕ) → Stride → Hart → Hart → Room → Room → Option Way → Option Way → Type 0
+Strides steps stride hart hart' room room' way way' =
+    (n : ℕ) × (h : Hart) × (r : Room) × (w : Option Way)
+    × (n + 1 + stride.left ≡ steps) × GoOn n hart h room r way w × Steps stride.stepped h hart' r room' w way'
 
 -- what follows an instruction: nothing where it goes on, the environment call, or an answer
 abbrev pub Settles : Stepped → Option Stopped → Seen → Seen → (input_rose output_rose : Type 0) → (Told : List Event → Type 0) → Type 0

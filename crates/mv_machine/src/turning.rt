@@ -6,7 +6,7 @@ ghost use Rattle.mv_io.specs.Outside.{Rose};
 ghost use Rattle.mv_probe.specs.Ways.{Follows};
 ghost use Rattle.mv_probe.specs.Hearing.{hearing, IsPatient, object_at, Becomes};
 ghost use Rattle.mv_probe.specs.Fates.{Fates};
-ghost use Rattle.mv_machine.specs.Moves.{Fetched, Steps, Settles, Walked, seen, FaultAt};
+ghost use Rattle.mv_machine.specs.Moves.{Fetched, Steps, Strides, Settles, Walked, seen, FaultAt};
 
 use crate::call::call;
 use crate::engine::Engine;
@@ -55,7 +55,40 @@ fn step(hart: &mut Hart, memory: &mut Memory, oracle: &mut Box<dyn FetchOracle>)
     }
 }
 
-// What follows an instruction that didn't just go on: an environment call, or the answer of the run.
+// What an instruction came to, with how many may still be executed behind it.
+struct Stride {
+    stepped: Stepped,
+    left: u64,
+}
+
+// Instructions, up to the first that doesn't just go on, and at most so many; what the last of them came to. It isn't generic, so that a program has
+// one copy of it and the compiler inlines the instruction there.
+#[inline(never)]
+fn go_on(
+    hart: &mut Hart,
+    memory: &mut Memory,
+    oracle: &mut Box<dyn FetchOracle>,
+    steps: u64,
+) -> Stride
+    requires { 0 < steps }
+    ensures { Strides steps result hart.old hart.new memory.old memory.new (way oracle.old) (way oracle.new) }
+{
+    let mut left = steps;
+    while left > 0 {
+        left -= 1;
+        let stepped = step(hart, memory, oracle);
+        match stepped {
+            Stepped::Next => {}
+            _ => return Stride { stepped, left },
+        }
+    }
+    Stride {
+        stepped: Stepped::Next,
+        left: 0,
+    }
+}
+
+// What follows an instruction: nothing where it just goes on, else an environment call or the answer of the run.
 #[cold]
 #[inline(never)]
 fn settle<I: Source, O: Sink>(
@@ -106,15 +139,13 @@ pub(crate) fn walk<I: Source, O: Sink>(
 {
     let mut left = steps;
     while left > 0 {
-        left -= 1;
-        let stepped = step(&mut engine.hart, &mut engine.memory, oracle);
-        match stepped {
-            Stepped::Next => {}
-            _ => {
-                if let Some(stopped) = settle(stepped, engine, operator, source, sink, probes) {
-                    return Some(stopped);
-                }
-            }
+        let Stride {
+            stepped,
+            left: behind,
+        } = go_on(&mut engine.hart, &mut engine.memory, oracle, left);
+        left = behind;
+        if let Some(stopped) = settle(stepped, engine, operator, source, sink, probes) {
+            return Some(stopped);
         }
     }
     None

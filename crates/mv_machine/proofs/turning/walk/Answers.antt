@@ -1,9 +1,9 @@
-use Rattle.std.proofs.Common.{◌≡◌, ◌-◌, ◌+◌, refl, ap, ◌∙◌, arith, None}
+use Rattle.std.proofs.Common.{◌-◌, ◌+◌, refl, ap, ◌∙◌, arith, None}
 use Rattle.mv_image.specs.Spelling.{Fields}
 use Rattle.mv_io.specs.Outside.{Rose}
 use Rattle.mv_probe.proofs.Logs.{told_nothing, told_then, patient_after}
 use Rattle.mv_machine.specs.Moves.{seen}
-use Rattle.mv_machine.proofs.Walks.{goes_none, goes_more, goes_at, turns_by, turns_since, rose_later, settles_next, stepped}
+use Rattle.mv_machine.proofs.Walks.{goes_none, goes_more, goes_at, goes_on, turns_by, turns_since, rose_later}
 use Rattle.mv_machine.proofs.turning.walk.Goals as goal
 
 pub loop-left-init : goal.loop-left-init
@@ -11,28 +11,6 @@ loop-left-init g c = record { few = omega arith; goes = goes_at _ _ _ _ _ 0 (c.a
 
 pub settle-requires : goal.settle-requires
 settle-requires g c = let i = c.loop-left.invariant in patient_after _ _ i.goes.3.1 c.args.probes.now.items c.loop-left.probes.items i.goes.3.3
-
-pub loop-left-preserved-in-Next : goal.loop-left-preserved-in-Next
-loop-left-preserved-in-Next g c =
-    let i = c.loop-left.invariant in
-    let l = c.loop-left in
-    let few = i.few in
-    let some = c.loop-left-test.true in
-    let x = seen c.args.engine.now c.args.operator.now (g.I.Source.left c.args.source.now) (g.O.Sink.written c.args.sink.now) in
-    let y = seen l.engine l.operator (g.I.Source.left l.source) (g.O.Sink.written l.sink) in
-    let z = stepped y c.step-stepped.new.hart c.step-stepped.new.memory in
-    let quiet = told_nothing _ _ l.probes.items (patient_after _ _ i.goes.3.1 c.args.probes.now.items l.probes.items i.goes.3.3) in
-    let turn = turns_by l.engine l.operator (g.I.Source.left l.source) (g.O.Sink.written l.sink) None z c.step-stepped.new.hart c.step-stepped.new.memory _ _ ⊥ ⊥ _ c.step-stepped.result c.step-stepped.ensures (settles_next c.step-stepped.result z ⊥ ⊥ _ c.in-Next.is quiet) in
-    record {
-      few = omega (arith, few);
-      goes = goes_at _ _ _ _ _ (c.args.steps - l.left + 1) (c.args.steps - (l.left - 1)) (omega (arith, few, some))
-          (goes_more (c.args.steps - l.left) x y z _ _ _ ⊥ ⊥ _ _ _
-          (λ xs ys before behind. told_then _ _ xs ys c.args.probes.now.items l.probes.items l.probes.items before behind) i.goes turn);
-      image = i.image;
-      quiet = i.quiet;
-      input = i.input;
-      output = i.output;
-    }
 
 pub loop-left-preserved : goal.loop-left-preserved
 loop-left-preserved g c =
@@ -46,16 +24,22 @@ loop-left-preserved g c =
     let z = seen n.engine n.operator (g.I.Source.left n.source) (g.O.Sink.written n.sink) in
     let A = Rose (g.I.Source.faults l.source) (g.I.Source.faults n.source) in
     let B = Rose (g.O.Sink.faults l.sink) (g.O.Sink.faults n.sink) in
-    let turn = turns_by l.engine l.operator (g.I.Source.left l.source) (g.O.Sink.written l.sink) None z c.step-stepped.new.hart c.step-stepped.new.memory _ _ A B _ c.step-stepped.result c.step-stepped.ensures c.in_default-settle.ensures.moves in
+    let s = c.go_on-stepped.ensures in
+    let last = record l.engine { hart = s.1; memory = s.2 } in
+    let count = s.4 in
+    let quiet = told_nothing _ _ l.probes.items (patient_after _ _ i.goes.3.1 c.args.probes.now.items l.probes.items i.goes.3.3) in
+    let goes = goes_on (c.args.steps - l.left) x l.engine l.operator (g.I.Source.left l.source) (g.O.Sink.written l.sink) _ _ _ _
+        (λ xs ys before behind. told_then _ _ xs ys c.args.probes.now.items l.probes.items l.probes.items before behind) quiet i.goes s.0 s.1 s.2 s.3 s.5 in
+    let turn = turns_by last l.operator (g.I.Source.left l.source) (g.O.Sink.written l.sink) None z c.go_on-stepped.new.hart c.go_on-stepped.new.memory _ _ A B _ c.go_on-stepped.result.stepped s.6 c.in_default.ensures.moves in
     record {
-      few = omega (arith, few);
-      goes = goes_at _ _ _ _ _ (c.args.steps - l.left + 1) (c.args.steps - (l.left - 1)) (omega (arith, few, some))
-          (goes_more (c.args.steps - l.left) x y z _ _ _ A B _ _ _
-          (λ xs ys before behind. told_then _ _ xs ys c.args.probes.now.items l.probes.items n.probes.items before behind) i.goes turn);
-      image = c.in_default-settle.ensures.image ∙ i.image;
-      quiet = λ none. c.in_default-settle.ensures.quiet (ap (λ (f : Fields). f.functions) i.image ∙ none) ∙ i.quiet none;
-      input = omega (arith, i.input, c.in_default-settle.ensures.input);
-      output = omega (arith, i.output, c.in_default-settle.ensures.output);
+      few = omega (arith, few, count);
+      goes = goes_at _ _ _ _ _ (c.args.steps - l.left + s.0 + 1) (c.args.steps - c.go_on-stepped.result.left) (omega (arith, few, some, count))
+          (goes_more (c.args.steps - l.left + s.0) x (seen last l.operator (g.I.Source.left l.source) (g.O.Sink.written l.sink)) z _ _ _ A B _ _ _
+          (λ xs ys before behind. told_then _ _ xs ys c.args.probes.now.items l.probes.items n.probes.items before behind) goes turn);
+      image = c.in_default.ensures.image ∙ i.image;
+      quiet = λ none. c.in_default.ensures.quiet (ap (λ (f : Fields). f.functions) i.image ∙ none) ∙ i.quiet none;
+      input = omega (arith, i.input, c.in_default.ensures.input);
+      output = omega (arith, i.output, c.in_default.ensures.output);
     }
 
 pub returns-in-Some-clause-walked : goal.returns-in-Some-clause-walked
@@ -65,17 +49,24 @@ returns-in-Some-clause-walked g c =
     let n = c.settle.new in
     let few = i.few in
     let some = c.loop-left-test.true in
-    let y = seen l.engine l.operator (g.I.Source.left l.source) (g.O.Sink.written l.sink) in
+    let x = seen c.args.engine.now c.args.operator.now (g.I.Source.left c.args.source.now) (g.O.Sink.written c.args.sink.now) in
     let z = seen n.engine n.operator (g.I.Source.left n.source) (g.O.Sink.written n.sink) in
     let A = Rose (g.I.Source.faults l.source) (g.I.Source.faults n.source) in
     let B = Rose (g.O.Sink.faults l.sink) (g.O.Sink.faults n.sink) in
-    let turn = turns_by l.engine l.operator (g.I.Source.left l.source) (g.O.Sink.written l.sink) _ z c.step-stepped.new.hart c.step-stepped.new.memory _ _ A B _ c.step-stepped.result c.step-stepped.ensures c.in-Some.ensures.moves in (
-      c.args.steps - l.left,
+    let s = c.go_on-stepped.ensures in
+    let last = record l.engine { hart = s.1; memory = s.2 } in
+    let y = seen last l.operator (g.I.Source.left l.source) (g.O.Sink.written l.sink) in
+    let count = s.4 in
+    let quiet = told_nothing _ _ l.probes.items (patient_after _ _ i.goes.3.1 c.args.probes.now.items l.probes.items i.goes.3.3) in
+    let goes = goes_on (c.args.steps - l.left) x l.engine l.operator (g.I.Source.left l.source) (g.O.Sink.written l.sink) _ _ _ _
+        (λ xs ys before behind. told_then _ _ xs ys c.args.probes.now.items l.probes.items l.probes.items before behind) quiet i.goes s.0 s.1 s.2 s.3 s.5 in
+    let turn = turns_by last l.operator (g.I.Source.left l.source) (g.O.Sink.written l.sink) _ z c.go_on-stepped.new.hart c.go_on-stepped.new.memory _ _ A B _ c.go_on-stepped.result.stepped s.6 c.in-Some.ensures.moves in (
+      c.args.steps - l.left + s.0,
       y,
       l.probes.items,
       _,
-      omega (arith, few, some),
-      i.goes,
+      omega (arith, few, some, count),
+      goes,
       turns_since _ y _ _ _ A B _ _ _ (rose_later _ _ _ i.input) (rose_later _ _ _ i.output) turn,
     )
 
