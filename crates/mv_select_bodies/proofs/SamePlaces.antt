@@ -23,7 +23,7 @@ use Rattle.mv_ir.specs.Measures.{callee_trees, layer_trees, stm_trees, trees, la
 use Rattle.mv_ir.specs.WellFormed.{layer_named, stm_named, named, has_room, is_there, IsWellFormed}
 use Rattle.mv_ir.proofs.Induction.{Each, TreeChildren, tree_ind, StmChildren, stm_ind, stms_ind}
 use Rattle.mv_ir.proofs.Rolls.{reads_roll, trees_roll, named_roll}
-use Rattle.mv_select_trees.specs.TreeCode.{one, two, upper_bits, lower_bits, load_lines, unary_lines, binary_lines, keeps_words, narrow_lines, own_register, unless, tree_into, tree_lines, operand_lines, operand_register}
+use Rattle.mv_select_trees.specs.TreeCode.{one, two, upper_bits, lower_bits, load_lines, unary_lines, operator_lines, keeps_words, narrow_lines, own_register, unless, tree_into, tree_lines, operand_lines, operand_register, immediate_of}
 use Rattle.mv_select_trees.specs.Rooms.{place_in}
 use Rattle.mv_select_trees.proofs.Rolls.{into_tree, into_roll, lines_are}
 use Rattle.mv_select_statements.specs.declared.elements.Home.{Home}
@@ -68,9 +68,10 @@ module _ (is_known : ℕ → Bool) where
     same_layer (tree.Function f) c h d r = refl
     same_layer (tree.Unary o a) c h d r = ap (λ l. l ++ unary_lines o d (operand_register a r)) (same_operand a c h r)
     same_layer (tree.Binary o a b) c h d r =
-        let last = binary_lines o d (operand_register a r) (operand_register b (r + 1)) in
-        ap (λ l. l ++ (operand_lines place b (r + 1) ++ last)) (same_operand a c.0 (each_front IsKnown (tree_reads a) (tree_reads b) h) r) ∙
-        ap (λ l. operand_lines place' a r ++ (l ++ last)) (same_operand b c.1 (each_back IsKnown (tree_reads a) (tree_reads b) h) (r + 1))
+        let right = immediate_of o b in
+        let p = operand_register a r in let q = operand_register b (r + 1) in
+        ap (λ l. l ++ operator_lines right o d p (operand_lines place b (r + 1)) q) (same_operand a c.0 (each_front IsKnown (tree_reads a) (tree_reads b) h) r) ∙
+        ap (λ l. operand_lines place' a r ++ operator_lines right o d p l q) (same_operand b c.1 (each_back IsKnown (tree_reads a) (tree_reads b) h) (r + 1))
     same_layer (tree.Narrow k a) c h d r =
         let last = narrow_lines k d (operand_register a r) in
         ap (λ l. cond (keeps_words k) l (operand_lines place a r ++ last)) (c h d r) ∙

@@ -2,7 +2,7 @@
 use Rattle.std.proofs.Common.{◌≡◌, ℕ, List, ℤ, Some, ap, ◌∙◌, bit_and, bit_or, bit_xor}
 use Rattle.mv_num.specs.Words.{word_of, add, sub, mul, shl, shr_s, shr_u, lt_s, lt_u, narrow}
 use Rattle.mv_num.specs.declared.kind.Kind.TheVariants as kind
-use Rattle.mv_isa.specs.declared.instr.Instr.TheVariants.{Lui, Lw, Addi, Sltiu, Xori, Slli, Srli, Srai, Add, Sub, Sll, Slt, Sltu, Xor, Srl, Sra, Or, And, Mul}
+use Rattle.mv_isa.specs.declared.instr.Instr.TheVariants.{Lui, Lw, Addi, Slti, Sltiu, Xori, Ori, Andi, Slli, Srli, Srai, Add, Sub, Sll, Slt, Sltu, Xor, Srl, Sra, Or, And, Mul}
 use Rattle.mv_isa.specs.Execution.{Access, Outcome, Goes, reg, put, truth, upper, sets, loaded, loads, execute}
 use Rattle.mv_select_trees.specs.Straight.{Sets}
 
@@ -33,6 +33,18 @@ module _ {M : Type 0} (access : Access M) (m : M) where
   pub xori_sets : (rd rs1 : ℕ) (imm : ℤ) (regs : List ℕ) (a b v : ℕ) → reg regs rs1 ≡ a → word_of imm ≡ b → bit_xor a b ≡ v → Sets access m (Xori rd rs1 imm) regs (put regs rd v)
   unfolding execute sets
   xori_sets rd rs1 imm regs a b v e f g pc = ap (left regs rd pc) (on bit_xor (reg regs rs1) (word_of imm) a b v e f g)
+
+  pub ori_sets : (rd rs1 : ℕ) (imm : ℤ) (regs : List ℕ) (a b v : ℕ) → reg regs rs1 ≡ a → word_of imm ≡ b → bit_or a b ≡ v → Sets access m (Ori rd rs1 imm) regs (put regs rd v)
+  unfolding execute sets
+  ori_sets rd rs1 imm regs a b v e f g pc = ap (left regs rd pc) (on bit_or (reg regs rs1) (word_of imm) a b v e f g)
+
+  pub andi_sets : (rd rs1 : ℕ) (imm : ℤ) (regs : List ℕ) (a b v : ℕ) → reg regs rs1 ≡ a → word_of imm ≡ b → bit_and a b ≡ v → Sets access m (Andi rd rs1 imm) regs (put regs rd v)
+  unfolding execute sets
+  andi_sets rd rs1 imm regs a b v e f g pc = ap (left regs rd pc) (on bit_and (reg regs rs1) (word_of imm) a b v e f g)
+
+  pub slti_sets : (rd rs1 : ℕ) (imm : ℤ) (regs : List ℕ) (a b v : ℕ) → reg regs rs1 ≡ a → word_of imm ≡ b → truth (lt_s a b) ≡ v → Sets access m (Slti rd rs1 imm) regs (put regs rd v)
+  unfolding execute sets
+  slti_sets rd rs1 imm regs a b v e f g pc = ap (left regs rd pc) (on (λ x y. truth (lt_s x y)) (reg regs rs1) (word_of imm) a b v e f g)
 
   pub slli_sets : (rd rs1 : ℕ) (imm : ℤ) (regs : List ℕ) (a b v : ℕ) → reg regs rs1 ≡ a → word_of imm ≡ b → shl a b ≡ v → Sets access m (Slli rd rs1 imm) regs (put regs rd v)
   unfolding execute sets

@@ -1,6 +1,7 @@
 pub mod Equations
 pub mod Gives
 pub mod Instructions
+pub mod NumbersStand
 pub mod Operands
 pub mod OperatorsGive
 pub mod Registers

@@ -1,19 +1,20 @@
 -- The lines of each operator leave what it gives.
-use Rattle.std.proofs.Common.{◌≡◌, ℕ, zero, suc, ◌-◌, ◌%◌, ◌^◌, ◌<◌, List, pos, refl, ap, ◌∙◌, subst, arith, bit_and, bit_or, bit_xor, cond, eqb, not}
+use Rattle.std.proofs.Common.{◌≡◌, ℕ, zero, suc, ◌-◌, ◌%◌, ◌^◌, ◌<◌, List, Some, ℤ, pos, refl, ap, ◌∙◌, subst, arith, bit_and, bit_or, bit_xor, cond, eqb, not}
 use Rattle.std.proofs.lemmas.Nat.{or_lt, xor_lt}
 use Rattle.mv_num.specs.declared.kind.Kind.{Kind}
 use Rattle.mv_num.specs.declared.kind.Kind.TheVariants as kind
 use Rattle.mv_num.specs.Words.{add, sub, mul, shl, shr_s, shr_u, lt_s, lt_u, narrow, sign_extend}
 use Rattle.mv_isa.specs.declared.instr.Instr.{Instr}
-use Rattle.mv_isa.specs.declared.instr.Instr.TheVariants.{Addi, Sltiu, Xori, Slli, Srli, Srai, Add, Sub, Sll, Slt, Sltu, Xor, Srl, Sra, Or, And, Mul}
+use Rattle.mv_isa.specs.declared.instr.Instr.TheVariants.{Addi, Slti, Sltiu, Xori, Ori, Andi, Slli, Srli, Srai, Add, Sub, Sll, Slt, Sltu, Xor, Srl, Sra, Or, And, Mul}
 use Rattle.mv_isa.specs.declared.labelled.Line.{Line}
 use Rattle.mv_isa.specs.Execution.{Access, reg, put}
 use Rattle.mv_ir.specs.Trees.{flag, unary, binary}
-use Rattle.mv_select_trees.specs.TreeCode.{one, two, minus_one, unary_lines, binary_lines, narrow_lines}
+use Rattle.mv_select_trees.specs.TreeCode.{one, two, minus_one, unary_lines, binary_lines, immediate, immediate_lines, narrow_lines}
 use Rattle.mv_select_trees.specs.Straight.{Sets}
 use Rattle.mv_select_trees.specs.View.{AreRegisters, Gives}
 use Rattle.mv_select_trees.proofs.Gives.{Within, put_within, one_gives, two_gives, clear_gives}
-use Rattle.mv_select_trees.proofs.Instructions.{addi_sets, sltiu_sets, xori_sets, slli_sets, srli_sets, srai_sets, add_sets, sub_sets, mul_sets, and_sets, or_sets, xor_sets, sll_sets, sra_sets, srl_sets, slt_sets, sltu_sets}
+use Rattle.mv_select_trees.proofs.NumbersStand.{short_stands, count_stands, add_negative}
+use Rattle.mv_select_trees.proofs.Instructions.{addi_sets, slti_sets, sltiu_sets, xori_sets, ori_sets, andi_sets, slli_sets, srli_sets, srai_sets, add_sets, sub_sets, mul_sets, and_sets, or_sets, xor_sets, sll_sets, sra_sets, srl_sets, slt_sets, sltu_sets}
 use Rattle.mv_select_trees.proofs.Registers.{reg_zero, held_word}
 use Rattle.mv_select_trees.proofs.Words.{word_of_pos, minus_one_is, complement_is, zero_add, add_below, sub_below, mul_below, and_below, shl_below, shr_s_below, shr_u_below, flag_below, truth_is, truth_below, is_zero, isnt_zero, same_difference, bool_is, byte_is, half_is, signed_byte, signed_half}
 
@@ -75,6 +76,35 @@ module _ {M : Type 0} (access : Access M) (m : M) (entry : ℕ → ℕ) (lo hi :
   binary_gives d s u (suc (suc (suc (suc (suc (suc (suc (suc (suc (suc (suc zero))))))))))) a b regs h w p q e f = equal_gives d s u a b regs h w p q e f
   binary_gives d s u (suc (suc (suc (suc (suc (suc (suc (suc (suc (suc (suc (suc zero)))))))))))) a b regs h w p q e f = unequal_gives d s u a b regs h w p q e f
   binary_gives d s u (suc (suc (suc (suc (suc (suc (suc (suc (suc (suc (suc (suc (suc o))))))))))))) a b regs h w p q e f = clear_gives access m entry lo hi d regs h w
+
+  -- an operator on a register and a number that stands in the instruction
+  pub immediate_gives : (d s o a n : ℕ) (i : ℤ) (regs : List ℕ) → AreRegisters regs → Within lo hi d → a < 2 ^ 32 → n < 2 ^ 32 → immediate o n ≡ Some i → reg regs s ≡ a
+      → Leaves d (binary o a n) (immediate_lines o d s i) regs
+  unfolding binary immediate immediate_lines
+  immediate_gives d s zero a n i regs h w p q k e = by_one d (add a n) (Addi d s i) regs h w (add_below a n) (addi_sets access m d s i regs a n (add a n) e (short_stands n i q k) refl)
+  immediate_gives d s (suc zero) a n i regs h w p q k e = by_one d (sub a n) (Addi d s i) regs h w (sub_below a n) (addi_sets access m d s i regs a (sub 0 n) (sub a n) e (short_stands (sub 0 n) i (sub_below 0 n) k) (add_negative a n p q))
+  immediate_gives d s (suc (suc zero)) a n i regs h w p q k e = absurd cc
+  immediate_gives d s (suc (suc (suc zero))) a n i regs h w p q k e = by_one d (bit_and a n) (Andi d s i) regs h w (and_below a n p) (andi_sets access m d s i regs a n (bit_and a n) e (short_stands n i q k) refl)
+  immediate_gives d s (suc (suc (suc (suc zero)))) a n i regs h w p q k e = by_one d (bit_or a n) (Ori d s i) regs h w (or_lt 32 a n p q) (ori_sets access m d s i regs a n (bit_or a n) e (short_stands n i q k) refl)
+  immediate_gives d s (suc (suc (suc (suc (suc zero))))) a n i regs h w p q k e = by_one d (bit_xor a n) (Xori d s i) regs h w (xor_lt 32 a n p q) (xori_sets access m d s i regs a n (bit_xor a n) e (short_stands n i q k) refl)
+  immediate_gives d s (suc (suc (suc (suc (suc (suc zero)))))) a n i regs h w p q k e = by_one d (shl a n) (Slli d s i) regs h w (shl_below a n) (slli_sets access m d s i regs a n (shl a n) e (count_stands n i k) refl)
+  immediate_gives d s (suc (suc (suc (suc (suc (suc (suc zero))))))) a n i regs h w p q k e = by_one d (shr_s a n) (Srai d s i) regs h w (shr_s_below a n) (srai_sets access m d s i regs a n (shr_s a n) e (count_stands n i k) refl)
+  immediate_gives d s (suc (suc (suc (suc (suc (suc (suc (suc zero)))))))) a n i regs h w p q k e = by_one d (shr_u a n) (Srli d s i) regs h w (shr_u_below a n p) (srli_sets access m d s i regs a n (shr_u a n) e (count_stands n i k) refl)
+  immediate_gives d s (suc (suc (suc (suc (suc (suc (suc (suc (suc zero))))))))) a n i regs h w p q k e =
+      by_one d (flag (lt_s a n)) (Slti d s i) regs h w (flag_below (lt_s a n)) (slti_sets access m d s i regs a n (flag (lt_s a n)) e (short_stands n i q k) (truth_is (lt_s a n)))
+  immediate_gives d s (suc (suc (suc (suc (suc (suc (suc (suc (suc (suc zero)))))))))) a n i regs h w p q k e =
+      by_one d (flag (lt_u a n)) (Sltiu d s i) regs h w (flag_below (lt_u a n)) (sltiu_sets access m d s i regs a n (flag (lt_u a n)) e (short_stands n i q k) (truth_is (lt_u a n)))
+  immediate_gives d s (suc (suc (suc (suc (suc (suc (suc (suc (suc (suc (suc zero))))))))))) a n i regs h w p q k e =
+      let x = sub a n in
+      by_two d (flag (eqb a n)) d x (Addi d s i) (Sltiu d d (pos 1)) regs h w (flag_below (eqb a n)) w (sub_below a n)
+      (addi_sets access m d s i regs a (sub 0 n) x e (short_stands (sub 0 n) i (sub_below 0 n) k) (add_negative a n p q))
+      (sltiu_sets access m d d (pos 1) (put regs d x) x 1 (flag (eqb a n)) (put_within lo hi d x regs h w) (word_of_pos 1 (omega arith)) (is_zero x ∙ ap flag (same_difference a n p q)))
+  immediate_gives d s (suc (suc (suc (suc (suc (suc (suc (suc (suc (suc (suc (suc zero)))))))))))) a n i regs h w p q k e =
+      let x = sub a n in
+      by_two d (flag (not (eqb a n))) d x (Addi d s i) (Sltu d 0 d) regs h w (flag_below (not (eqb a n))) w (sub_below a n)
+      (addi_sets access m d s i regs a (sub 0 n) x e (short_stands (sub 0 n) i (sub_below 0 n) k) (add_negative a n p q))
+      (sltu_sets access m d 0 d (put regs d x) 0 x (flag (not (eqb a n))) (reg_zero (put regs d x)) (put_within lo hi d x regs h w) (isnt_zero x ∙ ap (λ z. flag (not z)) (same_difference a n p q)))
+  immediate_gives d s (suc (suc (suc (suc (suc (suc (suc (suc (suc (suc (suc (suc (suc o))))))))))))) a n i regs h w p q k e = absurd cc
 
   -- a shift to the left and one to the right
   shifts_give : (d s a k v : ℕ) (j : Instr) (regs : List ℕ) → AreRegisters regs → Within lo hi d → k < 32 → v < 2 ^ 32 → reg regs s ≡ a

@@ -1,9 +1,9 @@
 -- What holds of single instructions, of the entries that a tree names and of lines that are put together holds of the tree's code.
-use Rattle.std.proofs.Common.{ℕ, zero, suc, ◌+◌, Bool, true, false, eqb, cond, List, [], ◌∷◌, ◌++◌, Option, Some, None, pos, sym, subst}
+use Rattle.std.proofs.Common.{ℕ, zero, suc, ◌+◌, Bool, true, false, eqb, cond, List, [], ◌∷◌, ◌++◌, Option, Some, None, ℤ, pos, sym, subst}
 use Rattle.mv_num.specs.declared.kind.Kind.{Kind}
 use Rattle.mv_num.specs.declared.kind.Kind.TheVariants as kind
 use Rattle.mv_isa.specs.declared.instr.Instr.{Instr}
-use Rattle.mv_isa.specs.declared.instr.Instr.TheVariants.{Lui, Lw, Addi, Sltiu, Xori, Slli, Srli, Srai, Add, Sub, Sll, Slt, Sltu, Xor, Srl, Sra, Or, And, Mul}
+use Rattle.mv_isa.specs.declared.instr.Instr.TheVariants.{Lui, Lw, Addi, Slti, Sltiu, Xori, Ori, Andi, Slli, Srli, Srai, Add, Sub, Sll, Slt, Sltu, Xor, Srl, Sra, Or, And, Mul}
 use Rattle.mv_isa.specs.declared.labelled.Line.{Line}
 use Rattle.mv_isa.specs.declared.labelled.Line.TheVariants.{Entry}
 use Rattle.mv_ir.specs.declared.tree.Tree.{Tree}
@@ -11,7 +11,7 @@ use Rattle.mv_ir.specs.declared.tree.Tree.TheOpen.{Tree-F}
 use Rattle.mv_ir.specs.declared.tree.Tree.TheOpen as tree
 use Rattle.mv_ir.specs.declared.tree.Tree.TheViews.{roll-Tree}
 use Rattle.mv_ir.proofs.Induction.{TreeChildren, tree_ind}
-use Rattle.mv_select_trees.specs.TreeCode.{one, two, upper_bits, lower_bits, number_lines, read_temp, minus_one, unary_lines, binary_lines, keeps_words, narrow_lines, own_register, unless, tree_into, tree_lines, operand_lines, operand_register}
+use Rattle.mv_select_trees.specs.TreeCode.{one, two, upper_bits, lower_bits, number_lines, read_temp, minus_one, unary_lines, binary_lines, immediate_lines, operator_lines, keeps_words, narrow_lines, own_register, unless, tree_into, tree_lines, operand_lines, operand_register, immediate_of}
 use Rattle.mv_select_trees.proofs.Rolls.{into_tree, into_roll, lines_are}
 
 module _ (P : List Line → Type 0) (none : P []) (word : (i : Instr) → P (one i)) (after : (a b : List Line) → P a → P b → P (a ++ b)) where
@@ -50,6 +50,23 @@ module _ (P : List Line → Type 0) (none : P []) (word : (i : Instr) → P (one
   binary_made (suc (suc (suc (suc (suc (suc (suc (suc (suc (suc (suc (suc zero)))))))))))) d a b = words (Sub d a b) (Sltu d 0 d)
   binary_made (suc (suc (suc (suc (suc (suc (suc (suc (suc (suc (suc (suc (suc o))))))))))))) d a b = word (Addi d 0 (pos 0))
 
+  immediate_made : (o d s : ℕ) (i : ℤ) → P (immediate_lines o d s i)
+  unfolding immediate_lines
+  immediate_made zero d s i = word (Addi d s i)
+  immediate_made (suc zero) d s i = word (Addi d s i)
+  immediate_made (suc (suc zero)) d s i = word (Addi d 0 (pos 0))
+  immediate_made (suc (suc (suc zero))) d s i = word (Andi d s i)
+  immediate_made (suc (suc (suc (suc zero)))) d s i = word (Ori d s i)
+  immediate_made (suc (suc (suc (suc (suc zero))))) d s i = word (Xori d s i)
+  immediate_made (suc (suc (suc (suc (suc (suc zero)))))) d s i = word (Slli d s i)
+  immediate_made (suc (suc (suc (suc (suc (suc (suc zero))))))) d s i = word (Srai d s i)
+  immediate_made (suc (suc (suc (suc (suc (suc (suc (suc zero)))))))) d s i = word (Srli d s i)
+  immediate_made (suc (suc (suc (suc (suc (suc (suc (suc (suc zero))))))))) d s i = word (Slti d s i)
+  immediate_made (suc (suc (suc (suc (suc (suc (suc (suc (suc (suc zero)))))))))) d s i = word (Sltiu d s i)
+  immediate_made (suc (suc (suc (suc (suc (suc (suc (suc (suc (suc (suc zero))))))))))) d s i = words (Addi d s i) (Sltiu d d (pos 1))
+  immediate_made (suc (suc (suc (suc (suc (suc (suc (suc (suc (suc (suc (suc zero)))))))))))) d s i = words (Addi d s i) (Sltu d 0 d)
+  immediate_made (suc (suc (suc (suc (suc (suc (suc (suc (suc (suc (suc (suc (suc o))))))))))))) d s i = word (Addi d 0 (pos 0))
+
   narrow_made : (k : Kind) (d s : ℕ) → P (narrow_lines k d s)
   unfolding narrow_lines
   narrow_made kind.Bool d s = word (Sltu d 0 s)
@@ -84,9 +101,13 @@ module _ (P : List Line → Type 0) (none : P []) (word : (i : Instr) → P (one
         after (operand_lines place a r) (unary_lines o d (operand_register a r)) (operand a h (inside (tree.Unary o a) f) r) (unary_made o d (operand_register a r))
     layer (tree.Binary o a b) h f d r =
         let has = inside (tree.Binary o a b) f in
-        let last = binary_lines o d (operand_register a r) (operand_register b (r + 1)) in
-        after (operand_lines place a r) (operand_lines place b (r + 1) ++ last) (operand a h.0 has.0 r)
-        (after (operand_lines place b (r + 1)) last (operand b h.1 has.1 (r + 1)) (binary_made o d (operand_register a r) (operand_register b (r + 1))))
+        after (operand_lines place a r) (operator_lines (immediate_of o b) o d (operand_register a r) (operand_lines place b (r + 1)) (operand_register b (r + 1))) (operand a h.0 has.0 r)
+        (by_right has.1 (immediate_of o b))
+      where
+        by_right : F b → (right : Option ℤ) → P (operator_lines right o d (operand_register a r) (operand_lines place b (r + 1)) (operand_register b (r + 1)))
+        by_right has None =
+            after (operand_lines place b (r + 1)) (binary_lines o d (operand_register a r) (operand_register b (r + 1))) (operand b h.1 has (r + 1)) (binary_made o d (operand_register a r) (operand_register b (r + 1)))
+        by_right has (Some i) = immediate_made o d (operand_register a r) i
     layer (tree.Narrow k a) h f d r = by_kind (keeps_words k)
       where
         by_kind : (keeps : Bool) → P (cond keeps (tree_into place a d r) (operand_lines place a r ++ narrow_lines k d (operand_register a r)))

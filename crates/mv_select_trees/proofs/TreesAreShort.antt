@@ -1,5 +1,5 @@
 -- The code of a tree has at most two words for each node.
-use Rattle.std.proofs.Common.{◌≡◌, ℕ, zero, suc, ◌+◌, ◌*◌, ◌≤◌, Bool, true, false, eqb, cond, List, ◌++◌, Option, Some, None, pos, sum_by, ap, arith}
+use Rattle.std.proofs.Common.{◌≡◌, ℕ, zero, suc, ◌+◌, ◌*◌, ◌≤◌, Bool, true, false, eqb, cond, List, ◌++◌, Option, Some, None, ℤ, pos, sum_by, ap, arith}
 use Rattle.std.proofs.lemmas.List.Sums.{sum_by-append}
 use Rattle.mv_num.specs.declared.kind.Kind.{Kind}
 use Rattle.mv_num.specs.declared.kind.Kind.TheVariants as kind
@@ -13,7 +13,7 @@ use Rattle.mv_ir.specs.declared.tree.Tree.TheFolds.{map-Tree}
 use Rattle.mv_ir.specs.Trees.{node_count, nodes}
 use Rattle.mv_ir.proofs.Induction.{TreeChildren, tree_ind}
 use Rattle.mv_ir.proofs.Rolls.{nodes_roll}
-use Rattle.mv_select_trees.specs.TreeCode.{one, two, upper_bits, lower_bits, number_lines, unary_lines, binary_lines, keeps_words, narrow_lines, own_register, unless, tree_into, tree_lines, operand_lines, operand_register}
+use Rattle.mv_select_trees.specs.TreeCode.{one, two, upper_bits, lower_bits, number_lines, unary_lines, binary_lines, immediate_lines, operator_lines, keeps_words, narrow_lines, own_register, unless, tree_into, tree_lines, operand_lines, operand_register, immediate_of}
 use Rattle.mv_select_trees.specs.Laws.{TreesAreShort}
 use Rattle.mv_select_trees.proofs.Rolls.{into_tree, into_roll, lines_are}
 
@@ -65,6 +65,23 @@ binary_size (suc (suc (suc (suc (suc (suc (suc (suc (suc (suc (suc zero)))))))))
 binary_size (suc (suc (suc (suc (suc (suc (suc (suc (suc (suc (suc (suc zero)))))))))))) d a b = omega arith
 binary_size (suc (suc (suc (suc (suc (suc (suc (suc (suc (suc (suc (suc (suc o))))))))))))) d a b = omega arith
 
+immediate_size : (o d s : ℕ) (i : ℤ) → words (immediate_lines o d s i) ≤ 2
+unfolding immediate_lines
+immediate_size zero d s i = omega arith
+immediate_size (suc zero) d s i = omega arith
+immediate_size (suc (suc zero)) d s i = omega arith
+immediate_size (suc (suc (suc zero))) d s i = omega arith
+immediate_size (suc (suc (suc (suc zero)))) d s i = omega arith
+immediate_size (suc (suc (suc (suc (suc zero))))) d s i = omega arith
+immediate_size (suc (suc (suc (suc (suc (suc zero)))))) d s i = omega arith
+immediate_size (suc (suc (suc (suc (suc (suc (suc zero))))))) d s i = omega arith
+immediate_size (suc (suc (suc (suc (suc (suc (suc (suc zero)))))))) d s i = omega arith
+immediate_size (suc (suc (suc (suc (suc (suc (suc (suc (suc zero))))))))) d s i = omega arith
+immediate_size (suc (suc (suc (suc (suc (suc (suc (suc (suc (suc zero)))))))))) d s i = omega arith
+immediate_size (suc (suc (suc (suc (suc (suc (suc (suc (suc (suc (suc zero))))))))))) d s i = omega arith
+immediate_size (suc (suc (suc (suc (suc (suc (suc (suc (suc (suc (suc (suc zero)))))))))))) d s i = omega arith
+immediate_size (suc (suc (suc (suc (suc (suc (suc (suc (suc (suc (suc (suc (suc o))))))))))))) d s i = omega arith
+
 module _ (place : ℕ → ℕ) where
   abbrev IsShort : Tree → Type 0
   IsShort t = (d r : ℕ) → words (tree_into place t d r) ≤ 2 * nodes t
@@ -87,8 +104,13 @@ module _ (place : ℕ → ℕ) where
       omega (arith, words_append (operand_lines place a r) (unary_lines o d s), operand_size a h r, unary_size o d s)
   layer (tree.Binary o a b) h d r =
       let p = operand_register a r in let q = operand_register b (r + 1) in
-      let last = binary_lines o d p q in
-      omega (arith, words_append (operand_lines place a r) (operand_lines place b (r + 1) ++ last), words_append (operand_lines place b (r + 1)) last, operand_size a h.0 r, operand_size b h.1 (r + 1), binary_size o d p q)
+      omega (arith, words_append (operand_lines place a r) (operator_lines (immediate_of o b) o d p (operand_lines place b (r + 1)) q), operand_size a h.0 r, by_right (immediate_of o b))
+    where
+      by_right : (right : Option ℤ) → words (operator_lines right o d (operand_register a r) (operand_lines place b (r + 1)) (operand_register b (r + 1))) ≤ 2 * suc (nodes b)
+      by_right None =
+          let p = operand_register a r in let q = operand_register b (r + 1) in
+          omega (arith, words_append (operand_lines place b (r + 1)) (binary_lines o d p q), operand_size b h.1 (r + 1), binary_size o d p q)
+      by_right (Some i) = omega (arith, immediate_size o d (operand_register a r) i)
   layer (tree.Narrow k a) h d r = by_kind (keeps_words k)
     where
       by_kind : (keeps : Bool) → words (cond keeps (tree_into place a d r) (operand_lines place a r ++ narrow_lines k d (operand_register a r))) ≤ 2 * suc (nodes a)

@@ -1,12 +1,14 @@
 -- The fields of a tree's code fit.
-use Rattle.std.proofs.Common.{⊎_elim, ℕ, zero, suc, ◌+◌, ◌*◌, ◌%◌, ◌^◌, ◌<◌, ◌≤◌, Bool, true, false, eqb, ltb, cond, List, [], ◌∷◌, ◌++◌, Option, Some, None, pos, ◌-ℤ◌, All, sym, subst, arith}
-use Rattle.std.proofs.lemmas.Bool.{cases_lt, lt-ltb, le-ltb, ne_eqb}
+use Rattle.std.specs.Int.{w32}
+use Rattle.std.proofs.Common.{FitsSigned, ◌≡◌, ⊎_elim, ℕ, zero, suc, ◌+◌, ◌*◌, ◌%◌, ◌^◌, ◌<◌, ◌≤◌, Bool, true, false, eqb, ltb, cond, List, [], ◌∷◌, ◌++◌, Option, Some, None, ℤ, pos, negsuc, ◌-ℤ◌, All, refl, sym, ◌∙◌, subst, arith}
+use Rattle.std.proofs.lemmas.Bool.{cases_lt, lt-ltb, le-ltb, ltb-true, ne_eqb}
 use Rattle.std.proofs.lemmas.Int.{ints}
 use Rattle.std.proofs.lemmas.List.Elements.{All-append, All-cons, All-nil}
+use Rattle.mv_num.specs.Words.{sub}
 use Rattle.mv_num.specs.declared.kind.Kind.{Kind}
 use Rattle.mv_num.specs.declared.kind.Kind.TheVariants as kind
 use Rattle.mv_isa.specs.declared.instr.Instr.{Instr}
-use Rattle.mv_isa.specs.declared.instr.Instr.TheVariants.{Lui, Lw, Addi, Sltiu, Xori, Slli, Srli, Srai, Add, Sub, Sll, Slt, Sltu, Xor, Srl, Sra, Or, And, Mul}
+use Rattle.mv_isa.specs.declared.instr.Instr.TheVariants.{Lui, Lw, Addi, Slti, Sltiu, Xori, Ori, Andi, Slli, Srli, Srai, Add, Sub, Sll, Slt, Sltu, Xor, Srl, Sra, Or, And, Mul}
 use Rattle.mv_isa.specs.declared.labelled.Line.{Line}
 use Rattle.mv_isa.specs.declared.labelled.Line.TheVariants.{Word, Entry}
 use Rattle.mv_isa.specs.Encoding.{IsSigned, IsUnsigned, Fits}
@@ -18,9 +20,9 @@ use Rattle.mv_ir.specs.declared.tree.Tree.TheFolds.{map-Tree}
 use Rattle.mv_ir.specs.Trees.{node_depth, depth}
 use Rattle.mv_ir.proofs.Induction.{TreeChildren, tree_ind}
 use Rattle.mv_ir.proofs.Rolls.{depth_roll}
-use Rattle.mv_select_trees.specs.TreeCode.{one, two, upper_bits, lower_bits, number_lines, load_lines, temp_register, temp_offset, read_temp, clear, minus_one, unary_lines, binary_lines, keeps_words, narrow_lines, own_register, unless, tree_into, tree_lines, operand_lines, operand_register, temps_layer, temps_of}
+use Rattle.mv_select_trees.specs.TreeCode.{one, two, upper_bits, lower_bits, number_lines, load_lines, temp_register, temp_offset, read_temp, clear, minus_one, unary_lines, binary_lines, short_immediate, count_immediate, immediate, immediate_lines, operator_lines, literal, right_of, keeps_words, narrow_lines, own_register, unless, tree_into, tree_lines, operand_lines, operand_register, immediate_of, temps_layer, temps_of}
 use Rattle.mv_select_trees.specs.Laws.{TreesFit}
-use Rattle.mv_select_trees.proofs.Rolls.{into_tree, into_roll, lines_are, temps_roll, depth_some}
+use Rattle.mv_select_trees.proofs.Rolls.{into_tree, into_roll, lines_are, immediate_is, temps_roll, depth_some}
 use Rattle.mv_select_trees.proofs.Operands.{operand_below}
 
 abbrev pub AllFit : List Line → Type 0
@@ -53,6 +55,20 @@ upper_fits n = (omega (arith, ints), omega (arith, ints))
 
 pub count_fits : (n : ℕ) → n < 32 → IsUnsigned 32 (pos n)
 count_fits n h = (omega (arith, ints), omega (arith, ints))
+
+short_fits : (n : ℕ) (i : ℤ) → short_immediate n ≡ Some i → IsSigned (2 ^ 11) i
+short_fits n i = by_test (eqb (upper_bits n) 0)
+  where
+    by_test : (is_short : Bool) → cond is_short (Some (lower_bits n)) None ≡ Some i → IsSigned (2 ^ 11) i
+    by_test true k = let same : lower_bits n ≡ i = cc in subst (IsSigned (2 ^ 11)) same (lower_fits n)
+    by_test false k = absurd cc
+
+count_is_short : (n : ℕ) (i : ℤ) → count_immediate n ≡ Some i → IsUnsigned 32 i
+count_is_short n i = by_test (ltb n 32) refl
+  where
+    by_test : (is_low : Bool) → ltb n 32 ≡ is_low → cond is_low (Some (pos n)) None ≡ Some i → IsUnsigned 32 i
+    by_test true e k = let same : pos n ≡ i = cc in subst (IsUnsigned 32) same (count_fits n (ltb-true n 32 e))
+    by_test false e k = absurd cc
 
 -- ---- leaves
 
@@ -121,6 +137,23 @@ module _ (d a b : ℕ) (h : d < 32) (p : a < 32) (q : b < 32) where
   binary_fits (suc (suc (suc (suc (suc (suc (suc (suc (suc (suc (suc (suc zero)))))))))))) = two_fit (Sub d a b) (Sltu d 0 d) both (h, omega arith, h)
   binary_fits (suc (suc (suc (suc (suc (suc (suc (suc (suc (suc (suc (suc (suc o))))))))))))) = clear_fits d h
 
+immediate_fits : (o d s n : ℕ) (i : ℤ) → d < 32 → s < 32 → immediate o n ≡ Some i → AllFit (immediate_lines o d s i)
+unfolding immediate immediate_lines
+immediate_fits zero d s n i h p k = one_fits (Addi d s i) (h, p, short_fits n i k)
+immediate_fits (suc zero) d s n i h p k = one_fits (Addi d s i) (h, p, short_fits (sub 0 n) i k)
+immediate_fits (suc (suc zero)) d s n i h p k = absurd cc
+immediate_fits (suc (suc (suc zero))) d s n i h p k = one_fits (Andi d s i) (h, p, short_fits n i k)
+immediate_fits (suc (suc (suc (suc zero)))) d s n i h p k = one_fits (Ori d s i) (h, p, short_fits n i k)
+immediate_fits (suc (suc (suc (suc (suc zero))))) d s n i h p k = one_fits (Xori d s i) (h, p, short_fits n i k)
+immediate_fits (suc (suc (suc (suc (suc (suc zero)))))) d s n i h p k = one_fits (Slli d s i) (h, p, count_is_short n i k)
+immediate_fits (suc (suc (suc (suc (suc (suc (suc zero))))))) d s n i h p k = one_fits (Srai d s i) (h, p, count_is_short n i k)
+immediate_fits (suc (suc (suc (suc (suc (suc (suc (suc zero)))))))) d s n i h p k = one_fits (Srli d s i) (h, p, count_is_short n i k)
+immediate_fits (suc (suc (suc (suc (suc (suc (suc (suc (suc zero))))))))) d s n i h p k = one_fits (Slti d s i) (h, p, short_fits n i k)
+immediate_fits (suc (suc (suc (suc (suc (suc (suc (suc (suc (suc zero)))))))))) d s n i h p k = one_fits (Sltiu d s i) (h, p, short_fits n i k)
+immediate_fits (suc (suc (suc (suc (suc (suc (suc (suc (suc (suc (suc zero))))))))))) d s n i h p k = two_fit (Addi d s i) (Sltiu d d (pos 1)) (h, p, short_fits (sub 0 n) i k) (h, h, small_fits 1 (omega arith))
+immediate_fits (suc (suc (suc (suc (suc (suc (suc (suc (suc (suc (suc (suc zero)))))))))))) d s n i h p k = two_fit (Addi d s i) (Sltu d 0 d) (h, p, short_fits (sub 0 n) i k) (h, omega arith, h)
+immediate_fits (suc (suc (suc (suc (suc (suc (suc (suc (suc (suc (suc (suc (suc o))))))))))))) d s n i h p k = absurd cc
+
 shifts_fit : (k d s : ℕ) (j : Instr) → d < 32 → s < 32 → k < 32 → Fits j → AllFit (two (Slli d s (pos k)) j)
 shifts_fit k d s j h p l f = two_fit (Slli d s (pos k)) j (h, p, count_fits k l) f
 
@@ -136,6 +169,39 @@ narrow_fits kind.Short d s h p = shifts_fit 16 d s (Srai d d (pos 16)) h p (omeg
 narrow_fits kind.UShort d s h p = shifts_fit 16 d s (Srli d d (pos 16)) h p (omega arith) (h, h, count_fits 16 (omega arith))
 narrow_fits kind.Int d s h p = copy_fits d s h p
 narrow_fits kind.UInt d s h p = copy_fits d s h p
+
+-- ---- immediates are short, so that i32 holds them
+
+count_fits_short : (i : ℤ) → IsUnsigned 32 i → IsSigned (2 ^ 11) i
+count_fits_short i h = let a = h.0 in let b = h.1 in (omega (arith, ints), omega (arith, ints))
+
+immediate_range : (o n : ℕ) (i : ℤ) → immediate o n ≡ Some i → IsSigned (2 ^ 11) i
+unfolding immediate
+immediate_range zero n i k = short_fits n i k
+immediate_range (suc zero) n i k = short_fits (sub 0 n) i k
+immediate_range (suc (suc zero)) n i k = absurd cc
+immediate_range (suc (suc (suc zero))) n i k = short_fits n i k
+immediate_range (suc (suc (suc (suc zero)))) n i k = short_fits n i k
+immediate_range (suc (suc (suc (suc (suc zero))))) n i k = short_fits n i k
+immediate_range (suc (suc (suc (suc (suc (suc zero)))))) n i k = count_fits_short i (count_is_short n i k)
+immediate_range (suc (suc (suc (suc (suc (suc (suc zero))))))) n i k = count_fits_short i (count_is_short n i k)
+immediate_range (suc (suc (suc (suc (suc (suc (suc (suc zero)))))))) n i k = count_fits_short i (count_is_short n i k)
+immediate_range (suc (suc (suc (suc (suc (suc (suc (suc (suc zero))))))))) n i k = short_fits n i k
+immediate_range (suc (suc (suc (suc (suc (suc (suc (suc (suc (suc zero)))))))))) n i k = short_fits n i k
+immediate_range (suc (suc (suc (suc (suc (suc (suc (suc (suc (suc (suc zero))))))))))) n i k = short_fits (sub 0 n) i k
+immediate_range (suc (suc (suc (suc (suc (suc (suc (suc (suc (suc (suc (suc zero)))))))))))) n i k = short_fits (sub 0 n) i k
+immediate_range (suc (suc (suc (suc (suc (suc (suc (suc (suc (suc (suc (suc (suc o))))))))))))) n i k = absurd cc
+
+small_signed : (i : ℤ) → IsSigned (2 ^ 11) i → FitsSigned w32 i
+small_signed (pos n) h = let b = h.1 in record { sfits = omega (arith, ints) }
+small_signed (negsuc n) h = let a = h.0 in record { sfits = omega (arith, ints) }
+
+pub immediate_signed : (o : ℕ) (t : Tree) (i : ℤ) → immediate_of o t ≡ Some i → FitsSigned w32 i
+immediate_signed o t i e = by_number (literal t) (immediate_is o t ∙ e)
+  where
+    by_number : (number : Option ℕ) → right_of o number ≡ Some i → FitsSigned w32 i
+    by_number None k = absurd cc
+    by_number (Some n) k = small_signed i (immediate_range o n i k)
 
 -- ---- trees
 
@@ -163,10 +229,22 @@ module _ (place : ℕ → ℕ) where
       let s = operand_register a r in
       after (operand_lines place a r) (unary_lines o d s) (operand a h r (omega arith) q) (unary_fits o d s l (operand_below a r (omega arith)))
   layer (tree.Binary o a b) h d r l p q =
-      let s = operand_register a r in let u = operand_register b (r + 1) in
-      let some = depth_some b in
-      after (operand_lines place a r) (operand_lines place b (r + 1) ++ binary_lines o d s u) (operand a h.0 r (omega arith) (omega arith))
-      (after (operand_lines place b (r + 1)) (binary_lines o d s u) (operand b h.1 (r + 1) (omega arith) (omega arith)) (binary_fits d s u l (operand_below a r (omega arith)) (operand_below b (r + 1) (omega arith)) o))
+      after (operand_lines place a r) (operator_lines (immediate_of o b) o d (operand_register a r) (operand_lines place b (r + 1)) (operand_register b (r + 1)))
+      (operand a h.0 r (omega arith) (omega arith)) (by_right (immediate_of o b) refl)
+    where
+      left : operand_register a r < 32
+      left = let some = depth_some b in operand_below a r (omega arith)
+
+      by_right : (right : Option ℤ) → immediate_of o b ≡ right → AllFit (operator_lines right o d (operand_register a r) (operand_lines place b (r + 1)) (operand_register b (r + 1)))
+      by_right None e =
+          let s = operand_register a r in let u = operand_register b (r + 1) in
+          let some = depth_some b in
+          after (operand_lines place b (r + 1)) (binary_lines o d s u) (operand b h.1 (r + 1) (omega arith) (omega arith)) (binary_fits d s u l left (operand_below b (r + 1) (omega arith)) o)
+      by_right (Some i) e = by_number (literal b) (immediate_is o b ∙ e)
+        where
+          by_number : (number : Option ℕ) → right_of o number ≡ Some i → AllFit (immediate_lines o d (operand_register a r) i)
+          by_number None k = absurd cc
+          by_number (Some n) k = immediate_fits o d (operand_register a r) n i l left k
   layer (tree.Narrow k a) h d r l p q = by_kind (keeps_words k)
     where
       by_kind : (keeps : Bool) → AllFit (cond keeps (tree_into place a d r) (operand_lines place a r ++ narrow_lines k d (operand_register a r)))

@@ -1,5 +1,5 @@
 -- The code of a tree leaves the tree's value in its register.
-use Rattle.std.proofs.Common.{◌≡◌, ⊎_elim, inl, inr, ℕ, suc, ◌+◌, ◌^◌, ◌<◌, ◌≤◌, max, Bool, true, false, eqb, cond, ◌&&◌, List, [], ◌∷◌, ◌++◌, length, slice_index, Option, Some, None, unwrap_or, ltb, pos, refl, sym, ap, ◌∙◌, subst, arith}
+use Rattle.std.proofs.Common.{◌≡◌, ⊎_elim, inl, inr, ℕ, suc, ◌+◌, ◌^◌, ◌<◌, ◌≤◌, max, Bool, true, false, eqb, cond, ◌&&◌, List, [], ◌∷◌, ◌++◌, length, slice_index, Option, Some, None, unwrap_or, ltb, ℤ, pos, refl, sym, ap, ◌∙◌, subst, arith}
 use Rattle.std.proofs.lemmas.Bool.{cases_lt, lt-ltb, le-ltb, ltb-true, eqb-true}
 use Rattle.mv_num.specs.declared.kind.Kind.{Kind}
 use Rattle.mv_num.specs.declared.kind.Kind.TheVariants as kind
@@ -16,16 +16,16 @@ use Rattle.mv_ir.specs.declared.tree.Tree.TheFolds.{map-Tree}
 use Rattle.mv_ir.specs.Trees.{unary, binary, found, scalar, read_as, Value, tree_value, value, node_depth, depth}
 use Rattle.mv_ir.proofs.Induction.{TreeChildren, tree_ind}
 use Rattle.mv_ir.proofs.Rolls.{value_roll, depth_roll}
-use Rattle.mv_select_trees.specs.TreeCode.{one, number_lines, load_lines, temp_register, temp_offset, read_temp, unary_lines, binary_lines, keeps_words, narrow_lines, own_layer, own_register, unless, tree_into, tree_lines, operand_lines, operand_register}
+use Rattle.mv_select_trees.specs.TreeCode.{one, number_lines, load_lines, temp_register, temp_offset, read_temp, unary_lines, binary_lines, immediate_lines, operator_lines, literal_layer, literal, right_of, keeps_words, narrow_lines, own_layer, own_register, unless, tree_into, tree_lines, operand_lines, operand_register, immediate_of}
 use Rattle.mv_select_trees.specs.View.{View, view_value, names_layer, is_in_view, AreRegisters, AreScratch, Changes, HoldsTemps, HoldsNamed, Gives, Leaves}
 use Rattle.mv_select_trees.specs.Laws.{TreesRun, TreesLeave, OperandsStand}
-use Rattle.mv_select_trees.proofs.Rolls.{own_roll, into_tree, into_roll, lines_are, in_view_roll, depth_some}
+use Rattle.mv_select_trees.proofs.Rolls.{own_roll, literal_roll, immediate_is, into_tree, into_roll, lines_are, in_view_roll, depth_some}
 use Rattle.mv_select_trees.proofs.Operands.{operand_outside}
 use Rattle.mv_select_trees.proofs.Words.{word_of_pos, zero_add, add_word}
 use Rattle.mv_select_trees.proofs.Registers.{reg_zero, changes_none, changes_wider, held_word, scratch_part, scratch_low, scratch_high, frame_outside, temp_in_frame}
 use Rattle.mv_select_trees.proofs.Instructions.{lw_sets, addi_sets}
 use Rattle.mv_select_trees.proofs.Gives.{Within, leaves_alone, leaves_after, leaves_within, one_gives, number_gives, entry_gives, load_gives}
-use Rattle.mv_select_trees.proofs.OperatorsGive.{unary_gives, binary_gives, narrow_gives}
+use Rattle.mv_select_trees.proofs.OperatorsGive.{unary_gives, binary_gives, immediate_gives, narrow_gives}
 
 pub and_left : (a b : Bool) → (a && b) ≡ true → a ≡ true
 and_left true b e = refl
@@ -120,6 +120,28 @@ module _ {M : Type 0} (access : Access M) (m : M) (v : View) where
     own_holds : (t : Tree) → Own t
     own_holds = tree_ind Own (λ x h k. subst (λ o. OwnHolds regs o (view_value v (roll-Tree x))) (sym (own_roll x)) (subst (OwnHolds regs (own_layer (map-Tree Tree (Option ℕ) own_register x))) (sym (value_of x)) (own_layer_holds x h (named_of x k))))
 
+  -- ---- a tree that is a number
+
+  abbrev IsNumber : Option ℕ → ℕ → Type 0
+  IsNumber None w = Unit {0}
+  IsNumber (Some n) w = (w ≡ n) × (n < 2 ^ 32)
+
+  written_layer : (x : Tree-F Tree) → names_layer v (map-Tree Tree Bool (is_in_view v) x) ≡ true
+      → IsNumber (literal_layer (map-Tree Tree (Option ℕ) literal x)) (tree_value v.numbers v.bound (map-Tree Tree Value (value v.numbers v.bound) x) v.temps v.globals)
+  written_layer (tree.Number n) k = (refl, ltb-true n (2 ^ 32) k)
+  written_layer (tree.Temp t) k = tt
+  written_layer (tree.Global g) k = tt
+  written_layer (tree.Function f) k = tt
+  written_layer (tree.Unary o a) k = tt
+  written_layer (tree.Binary o a b) k = tt
+  written_layer (tree.Narrow c a) k = tt
+
+  abbrev Literal : Tree → Type 0
+  Literal t = is_in_view v t ≡ true → IsNumber (literal t) (view_value v t)
+
+  literal_holds : (t : Tree) → Literal t
+  literal_holds = tree_ind Literal (λ x h k. subst (λ n. IsNumber n (view_value v (roll-Tree x))) (sym (literal_roll x)) (subst (IsNumber (literal_layer (map-Tree Tree (Option ℕ) literal x))) (sym (value_of x)) (written_layer x (named_of x k))))
+
   -- ---- trees
 
   abbrev Runs : Tree → Type 0
@@ -164,6 +186,39 @@ module _ {M : Type 0} (access : Access M) (m : M) (v : View) where
       holds = g.holds;
     }
 
+    abbrev Second : (a b : Tree) (d r : ℕ) → List ℕ → List Line → ℕ → Type 0
+    Second a b d r regs lines w = L r (r + suc (max (depth a) (depth b))) d w lines regs
+
+    -- the right operand and the operator, behind the left operand
+    second : (o : ℕ) (a b : Tree) (d r w : ℕ) (regs : List ℕ) → Runs b → is_in_view v b ≡ true → AreRegisters regs → HoldsTemps access m v regs → AreScratch r (r + suc (max (depth a) (depth b)))
+        → 0 < d → d < 32 → reg regs (operand_register a r) ≡ w
+        → Second a b d r regs (operator_lines (immediate_of o b) o d (operand_register a r) (operand_lines v.place b (r + 1)) (operand_register b (r + 1))) (binary o w (view_value v b))
+    second o a b d r w regs h k are temps s p q left = by_right (immediate_of o b) refl
+      where
+        by_number : (i : ℤ) (number : Option ℕ) → right_of o number ≡ Some i → IsNumber number (view_value v b) → Second a b d r regs (immediate_lines o d (operand_register a r) i) (binary o w (view_value v b))
+        by_number i None e is = absurd cc
+        by_number i (Some n) e is =
+            let x = operand_register a r in
+            subst (λ u. Second a b d r regs (immediate_lines o d x i) (binary o w u)) (sym is.0)
+            (only r (r + suc (max (depth a) (depth b))) d (binary o w n) (immediate_lines o d x i) regs
+            (immediate_gives access m v.entry d (d + 1) d x o w n i regs are (alone d p q) (held_word x w regs are left) is.1 e left))
+
+        by_right : (right : Option ℤ) → immediate_of o b ≡ right → Second a b d r regs (operator_lines right o d (operand_register a r) (operand_lines v.place b (r + 1)) (operand_register b (r + 1))) (binary o w (view_value v b))
+        by_right None e =
+            let nb = depth b in
+            let n = max (depth a) nb in
+            let x = operand_register a r in let y = operand_register b (r + 1) in
+            let last = binary_lines o d x y in
+            let sb = scratch_part r (r + suc n) (r + 1) (r + 1 + nb) (omega arith) (omega arith) s in
+            let gb = operand b h (r + 1) regs k are temps sb in
+            let stays : reg gb.after x ≡ w = gb.changes.others x (operand_outside a r (r + 1 + nb) sb) ∙ left in
+            let wa = held_word x w gb.after gb.changes.are stays in
+            let wb = held_word y (view_value v b) gb.after gb.changes.are gb.holds in
+            leaves_after access m v.entry r (r + suc n) d (binary o w (view_value v b)) (operand_lines v.place b (r + 1)) last regs gb.after gb.runs
+            (changes_wider (r + 1) (r + 1 + nb) r (r + suc n) regs gb.after (omega arith) (omega arith) gb.changes)
+            (only r (r + suc n) d (binary o w (view_value v b)) last gb.after (binary_gives access m v.entry d (d + 1) d x y o w (view_value v b) gb.after gb.changes.are (alone d p q) wa wb stays gb.holds))
+        by_right (Some i) e = by_number i (literal b) (immediate_is o b ∙ e) (literal_holds b k)
+
     layer : (x : Tree-F Tree) → TreeChildren Runs x → (d r : ℕ) (regs : List ℕ) → names_layer v (map-Tree Tree Bool (is_in_view v) x) ≡ true → AreRegisters regs → HoldsTemps access m v regs
         → AreScratch r (r + node_depth (map-Tree Tree ℕ depth x)) → 0 < d → d < 32
         → L r (r + node_depth (map-Tree Tree ℕ depth x)) d (tree_value v.numbers v.bound (map-Tree Tree Value (value v.numbers v.bound) x) v.temps v.globals) (into_tree v.place x d r) regs
@@ -189,19 +244,13 @@ module _ {M : Type 0} (access : Access M) (m : M) (v : View) where
     layer (tree.Binary o a b) h d r regs k are temps s p q =
         let na = depth a in let nb = depth b in
         let n = max na nb in
-        let x = operand_register a r in let y = operand_register b (r + 1) in
-        let w = binary o (view_value v a) (view_value v b) in
-        let last = binary_lines o d x y in
         let sa = scratch_part r (r + suc n) r (r + na) (omega arith) (omega arith) s in
-        let sb = scratch_part r (r + suc n) (r + 1) (r + 1 + nb) (omega arith) (omega arith) s in
         let ga = operand a h.0 r regs (and_left (is_in_view v a) (is_in_view v b) k) are temps sa in
-        let gb = operand b h.1 (r + 1) ga.after (and_right (is_in_view v a) (is_in_view v b) k) ga.changes.are (temps_kept r (r + na) regs ga.after sa ga.changes temps) sb in
-        let left : reg gb.after x ≡ view_value v a = gb.changes.others x (operand_outside a r (r + 1 + nb) sb) ∙ ga.holds in
-        let wa = held_word x (view_value v a) gb.after gb.changes.are left in
-        let wb = held_word y (view_value v b) gb.after gb.changes.are gb.holds in
-        leaves_after access m v.entry r (r + suc n) d w (operand_lines v.place a r) (operand_lines v.place b (r + 1) ++ last) regs ga.after ga.runs (changes_wider r (r + na) r (r + suc n) regs ga.after (omega arith) (omega arith) ga.changes)
-        (leaves_after access m v.entry r (r + suc n) d w (operand_lines v.place b (r + 1)) last ga.after gb.after gb.runs (changes_wider (r + 1) (r + 1 + nb) r (r + suc n) ga.after gb.after (omega arith) (omega arith) gb.changes)
-        (only r (r + suc n) d w last gb.after (binary_gives access m v.entry d (d + 1) d x y o (view_value v a) (view_value v b) gb.after gb.changes.are (alone d p q) wa wb left gb.holds)))
+        let held = temps_kept r (r + na) regs ga.after sa ga.changes temps in
+        leaves_after access m v.entry r (r + suc n) d (binary o (view_value v a) (view_value v b)) (operand_lines v.place a r)
+        (operator_lines (immediate_of o b) o d (operand_register a r) (operand_lines v.place b (r + 1)) (operand_register b (r + 1))) regs ga.after ga.runs
+        (changes_wider r (r + na) r (r + suc n) regs ga.after (omega arith) (omega arith) ga.changes)
+        (second o a b d r (view_value v a) ga.after h.1 (and_right (is_in_view v a) (is_in_view v b) k) ga.changes.are held s p q ga.holds)
     layer (tree.Narrow c a) h d r regs k are temps s p q = by_kind (keeps_words c) refl
       where
         by_kind : (keeps : Bool) → keeps_words c ≡ keeps

@@ -1,10 +1,11 @@
 -- The code of trees: lines that leave a tree's value in a register. They go by way of a register r and those above it, as many as the tree is deep; the
 -- left operand is computed first. An operand that stands in a register already stays there.
 use Rattle.std.specs.Prelude.{ℕ, ◌+◌, ◌*◌, ◌/◌, ◌%◌, max, Bool, true, false, cond, eqb, ltb, List, [], ◌∷◌, ◌++◌, Option, Some, None, unwrap_or, ℤ, pos, ◌-ℤ◌, slice_index_or}
+use Rattle.mv_num.specs.Words.{sub}
 use Rattle.mv_num.specs.declared.kind.Kind.{Kind}
 use Rattle.mv_num.specs.declared.kind.Kind.TheVariants as kind
 use Rattle.mv_isa.specs.declared.instr.Instr.{Instr}
-use Rattle.mv_isa.specs.declared.instr.Instr.TheVariants.{Lui, Lw, Addi, Sltiu, Xori, Slli, Srli, Srai, Add, Sub, Sll, Slt, Sltu, Xor, Srl, Sra, Or, And, Mul}
+use Rattle.mv_isa.specs.declared.instr.Instr.TheVariants.{Lui, Lw, Addi, Slti, Sltiu, Xori, Ori, Andi, Slli, Srli, Srai, Add, Sub, Sll, Slt, Sltu, Xor, Srl, Sra, Or, And, Mul}
 use Rattle.mv_isa.specs.declared.labelled.Line.{Line}
 use Rattle.mv_isa.specs.declared.labelled.Line.TheVariants.{Word, Entry}
 use Rattle.mv_ir.specs.declared.tree.Tree.{Tree}
@@ -71,6 +72,33 @@ binary_lines o d a b =
     ∷ two (Sub d a b) (Sltiu d d (pos 1)) ∷ two (Sub d a b) (Sltu d 0 d) ∷ [])
     o (clear d)
 
+-- ---- operators on a register and a number, which stands in the instruction
+
+abbrev pub short_immediate : ℕ → Option ℤ
+short_immediate n = cond (eqb (upper_bits n) 0) (Some (lower_bits n)) None
+
+abbrev pub count_immediate : ℕ → Option ℤ
+count_immediate n = cond (ltb n 32) (Some (pos n)) None
+
+-- What stands for a number at the right of an operator, if that is possible: the number itself, or its negative, which is added, where the operator
+-- begins with a difference. A product has no such instruction.
+unfoldable pub immediate : (o n : ℕ) → Option ℤ
+immediate o n =
+    let itself = short_immediate n in
+    let negative = short_immediate (sub 0 n) in
+    let count = count_immediate n in
+    slice_index_or (itself ∷ negative ∷ None ∷ itself ∷ itself ∷ itself ∷ count ∷ count ∷ count ∷ itself ∷ itself ∷ negative ∷ negative ∷ []) o None
+
+unfoldable pub immediate_lines : (o d s : ℕ) → ℤ → List Line
+immediate_lines o d s i =
+    slice_index_or
+    (one (Addi d s i) ∷ one (Addi d s i) ∷ clear d ∷ one (Andi d s i) ∷ one (Ori d s i) ∷ one (Xori d s i) ∷ one (Slli d s i)
+    ∷ one (Srai d s i) ∷ one (Srli d s i) ∷ one (Slti d s i) ∷ one (Sltiu d s i)
+    ∷ two (Addi d s i) (Sltiu d d (pos 1)) ∷ two (Addi d s i) (Sltu d 0 d) ∷ [])
+    o (clear d)
+
+-- ---- conversions
+
 -- a conversion that leaves each word as it is
 abbrev pub keeps_words : Kind → Bool
 keeps_words kind.Int = true
@@ -102,14 +130,38 @@ own_layer (tree.Narrow k a) = cond (keeps_words k) a None
 unfoldable pub own_register : Tree → Option ℕ
 own_register = fold-Tree (Option ℕ) own_layer
 
+abbrev pub literal_layer : Tree-F (Option ℕ) → Option ℕ
+literal_layer (tree.Number n) = Some n
+literal_layer (tree.Temp t) = None
+literal_layer (tree.Global g) = None
+literal_layer (tree.Function f) = None
+literal_layer (tree.Unary o a) = None
+literal_layer (tree.Binary o a b) = None
+literal_layer (tree.Narrow k a) = None
+
+-- the number that a tree is written as
+unfoldable pub literal : Tree → Option ℕ
+literal = fold-Tree (Option ℕ) literal_layer
+
+-- what stands for the right operand in the instruction of an operator
+abbrev pub right_of : ℕ → Option ℕ → Option ℤ
+right_of o None = None
+right_of o (Some n) = immediate o n
+
 -- lines that aren't needed where there is a register already
 abbrev pub unless : Option ℕ → List Line → List Line
 unless None lines = lines
 unless (Some q) lines = []
 
--- what is known of a tree's code: its own register, and the lines that leave its value in d by way of r and the registers above it
+-- an operator on s and what stands for its right operand, else on u, behind the lines that put that there
+abbrev pub operator_lines : Option ℤ → (o d s : ℕ) → List Line → (u : ℕ) → List Line
+operator_lines None o d s lines u = lines ++ binary_lines o d s u
+operator_lines (Some i) o d s lines u = immediate_lines o d s i
+
+-- what is known of a tree's code: its own register, the number that it is written as, and the lines that leave its value in d by way of r and the registers above it
 pub record Code : Type 0 where
   pub own : Option ℕ
+  pub written : Option ℕ
   pub into : (d r : ℕ) → List Line
 
 abbrev pub ready : Code → ℕ → List Line
@@ -124,11 +176,15 @@ into_layer place (tree.Temp t) d r = one (read_temp t d)
 into_layer place (tree.Global g) d r = load_lines (place g) d
 into_layer place (tree.Function f) d r = Entry d f ∷ []
 into_layer place (tree.Unary o a) d r = ready a r ++ unary_lines o d (stands a r)
-into_layer place (tree.Binary o a b) d r = ready a r ++ (ready b (r + 1) ++ binary_lines o d (stands a r) (stands b (r + 1)))
+into_layer place (tree.Binary o a b) d r = ready a r ++ operator_lines (right_of o b.written) o d (stands a r) (ready b (r + 1)) (stands b (r + 1))
 into_layer place (tree.Narrow k a) d r = cond (keeps_words k) (a.into d r) (ready a r ++ narrow_lines k d (stands a r))
 
 abbrev pub tree_layer : (ℕ → ℕ) → Tree-F Code → Code
-tree_layer place x = record { own = own_layer (map-Tree Code (Option ℕ) (λ a. a.own) x); into = into_layer place x }
+tree_layer place x = record {
+  own = own_layer (map-Tree Code (Option ℕ) (λ a. a.own) x);
+  written = literal_layer (map-Tree Code (Option ℕ) (λ a. a.written) x);
+  into = into_layer place x;
+}
 
 -- given the address of each global
 unfoldable pub tree_code : (ℕ → ℕ) → Tree → Code
@@ -148,6 +204,10 @@ operand_lines place t r = unless (own_register t) (tree_lines place t r)
 
 unfoldable pub operand_register : Tree → ℕ → ℕ
 operand_register t r = unwrap_or (own_register t) r
+
+-- what stands for a tree at the right of an operator, if that is possible
+unfoldable pub immediate_of : ℕ → Tree → Option ℤ
+immediate_of o t = right_of o (literal t)
 
 -- ---- the temporaries of a tree
 

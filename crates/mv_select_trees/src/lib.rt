@@ -2,7 +2,8 @@
 //!
 //! - `push_tree` puts exactly the lines of `specs/TreeCode.antt` behind some code, for a register with as many registers
 //!   from it on as the tree is deep; `push_into` those that leave the value in any register, by way of these. An operand
-//!   stays where it stands already, in the register of a temporary or in x0: `push_operand` puts no lines for it, and
+//!   stays where it stands already, in the register of a temporary or in x0, and a short number at the right of an
+//!   operator stands in the instruction: `push_operand` puts no lines for it, and
 //!   `operand_register` says where it stands. `push_number`, `place_of`, `upper_bits`, `lower_bits`, `temp_register`,
 //!   `temp_offset`, `push_one` and `push_two` are exact too.
 //! - `tree_code_law` says of these lines, over any memory: they lead straight to registers of which that one holds the
@@ -12,6 +13,7 @@
 //!   stand where the view says, and that no global that is read is bound in the frame.
 #![tactic(auto)]
 
+mod immediates;
 mod laws;
 mod leaves;
 mod lines;

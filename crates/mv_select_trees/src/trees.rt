@@ -3,6 +3,7 @@ ghost use Rattle.mv_ir.specs.Trees.{depth};
 ghost use Rattle.mv_select_trees.specs.TreeCode.{temps_of, own_register, tree_into, tree_lines, operand_lines, operand_register};
 ghost use Rattle.mv_select_trees.specs.Rooms.{place_in};
 
+use crate::immediates::{immediate_of, push_immediate};
 use crate::leaves::{place_of, push_load, push_number, read_temp, temp_register};
 use crate::lines::push_one;
 use crate::operators::{keeps_words, push_binary, push_narrow, push_unary};
@@ -94,10 +95,20 @@ pub fn push_into(
         }
         Tree::Binary(operator, a, b) => {
             push_operand(code, rooms, a.get(), register)?;
-            push_operand(code, rooms, b.get(), register + 1)?;
             let left = operand_register(a.get(), register);
-            let right = operand_register(b.get(), register + 1);
-            push_binary(code, *operator, rd, left, right)
+            match immediate_of(*operator, b.get()) {
+                Some(imm) => push_immediate(code, *operator, rd, left, imm),
+                None => {
+                    push_operand(code, rooms, b.get(), register + 1)?;
+                    push_binary(
+                        code,
+                        *operator,
+                        rd,
+                        left,
+                        operand_register(b.get(), register + 1),
+                    )
+                }
+            }
         }
         Tree::Narrow(kind, a) => {
             if keeps_words(*kind) {
