@@ -37,7 +37,7 @@ class File:
 
     def __init__(self, path):
         self.path, self.names, self.modules, self.items = path, {}, {}, {}
-        lines = open(path, encoding='utf-8').read().split('\n')
+        lines = open(path, encoding='utf-8').read().replace('«', '').replace('»', '').split('\n')
         starts = []
         for number, line in enumerate(lines):
             bare = line.split(' -- ')[0]

@@ -10,6 +10,7 @@ use Rattle.mv_ast.specs.declared.program.Form.{Form, Form-F, out-Form}
 use Rattle.mv_ast.specs.declared.program.Form.TheVariants as form
 use Rattle.mv_ast.specs.declared.program.Form.TheOpen as open_form
 use Rattle.mv_ast.specs.declared.program.Target.{Target}
+use Rattle.mv_ast.specs.Orders as orders
 use Rattle.mv_check_scope.specs.Conversions.{int, typed, is_pointer, converted_to}
 use Rattle.mv_check_scope.specs.Constants.{converts}
 use Rattle.mv_check_expressions.specs.declared.seen.Seen.{Seen}
@@ -42,11 +43,12 @@ abbrev pub known_arity : Known → ℕ
 known_arity known.Getchar = 0
 known_arity known.Putchar = 1
 known_arity known.Poll = 0
-known_arity (known.Plan code index) = if nat_lt code 2 then 0 else 1
+known_arity (known.Plan code index) = if nat_lt code orders.commit_function then 0 else 1
 
 -- what the arguments are used as
 abbrev pub planned_use : ℕ → Use
-planned_use code = if nat_lt code 2 then «use».Value else if nat_lt code 4 then «use».Function else «use».Switch
+planned_use code =
+    if nat_lt code orders.commit_function then «use».Value else if nat_lt code orders.commit_references then «use».Function else «use».Switch
 
 abbrev pub argument_use : Seen → Use
 argument_use (seen.Known (known.Plan code index)) = planned_use code

@@ -6,6 +6,7 @@ use Rattle.mv_ast.specs.declared.program.Expr.{Expr}
 use Rattle.mv_ast.specs.declared.program.Form.TheVariants as form
 use Rattle.mv_ast.specs.declared.unit.What.{What-F}
 use Rattle.mv_ast.specs.declared.unit.What.TheOpen as what
+use Rattle.mv_ast.specs.Marks as marks
 use Rattle.mv_check_scope.specs.declared.meaning.Elements.{Elements}
 use Rattle.mv_check_scope.specs.declared.scope.Scope.{Scope}
 use Rattle.mv_check_scope.specs.Conversions.{is_pointer, int, typed, usual, promotion, promoted, converted_to}
@@ -18,37 +19,35 @@ use Rattle.mv_check_expressions.specs.declared.seen.Use.TheVariants as «use»
 use Rattle.mv_check_expressions.specs.Seen.{value_of, array_of, object_of, switch_of, element_at, no_value, seen_name}
 use Rattle.mv_check_expressions.specs.Calls.{call_of}
 
--- ---- operators, by the numbers of their marks: ! 11, + 12, - 13, * 14, & 17
+-- ---- operators, by the numbers of their marks
 
 abbrev pub is_address : ℕ → Bool
-is_address op = nat_eq op 17
+is_address op = nat_eq op marks.ampersand
 
 abbrev pub is_indirection : ℕ → Bool
-is_indirection op = nat_eq op 14
+is_indirection op = nat_eq op marks.star
 
--- << 25, >> 26
 abbrev pub is_shift : ℕ → Bool
-is_shift op = nat_eq op 25 || nat_eq op 26
+is_shift op = nat_eq op marks.shift_left || nat_eq op marks.shift_right
 
--- == 29, != 30
 abbrev pub is_equality : ℕ → Bool
-is_equality op = nat_eq op 29 || nat_eq op 30
+is_equality op = nat_eq op marks.equal || nat_eq op marks.not_equal
 
--- < 20, > 21, <= 27, >= 28
 abbrev pub is_comparison : ℕ → Bool
-is_comparison op = nat_eq op 20 || nat_eq op 21 || nat_eq op 27 || nat_eq op 28 || is_equality op
+is_comparison op =
+    nat_eq op marks.less || nat_eq op marks.greater || nat_eq op marks.less_or_equal || nat_eq op marks.greater_or_equal || is_equality op
 
--- && 31
 abbrev pub is_both : ℕ → Bool
-is_both op = nat_eq op 31
+is_both op = nat_eq op marks.logical_and
 
--- || 32
 abbrev pub is_either : ℕ → Bool
-is_either op = nat_eq op 32
+is_either op = nat_eq op marks.logical_or
 
--- the operator of a compound assignment: += 33 to ^= 40 are + 12 to ^ 19, and <<= 41 and >>= 42 are << 25 and >> 26
+-- The operator of a compound assignment: `+=` to `^=` stand in the order of `+` to `^`, and `<<=` and `>>=` in that of `<<` and `>>`.
 abbrev pub compound_operator : ℕ → ℕ
-compound_operator op = if nat_lt op 41 then op - 21 else op - 16
+compound_operator op =
+    if nat_lt op marks.shift_left_assign then op - (marks.plus_assign - marks.plus)
+    else op - (marks.shift_left_assign - marks.shift_left)
 
 -- the type in which two operands meet: that of a pointer, opposite the same or null, else by the usual arithmetic conversions
 abbrev pub common_type : CType → CType → CType
@@ -58,7 +57,7 @@ common_type s t = if is_pointer s then s else if is_pointer t then t else usual 
 
 unfoldable pub unary_of : ℕ → Expr → Expr
 unary_of op a =
-    if nat_eq op 11 then typed int (form.Unary op a)
+    if nat_eq op marks.exclamation then typed int (form.Unary op a)
     else typed (promotion a.ctype) (form.Unary op (promoted a))
 
 -- the types in which the operands of an operator are computed: of a shift each is promoted by itself
@@ -93,7 +92,7 @@ change_of op o b =
 -- `=` is 22
 unfoldable pub assign_to : ℕ → Object → Expr → Expr
 assign_to op o b =
-    if nat_eq op 22 then typed o.ctype (form.Set o.target (converted_to o.ctype b)) else change_of (compound_operator op) o b
+    if nat_eq op marks.assign then typed o.ctype (form.Set o.target (converted_to o.ctype b)) else change_of (compound_operator op) o b
 
 abbrev pub assign_of : ℕ → Option Object → Expr → Expr
 assign_of op None b = no_value

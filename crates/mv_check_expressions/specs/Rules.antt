@@ -3,6 +3,7 @@ use Rattle.std.specs.Prelude.{ℕ, Bool, false, ◌&&◌, ◌||◌, not, nat_eq,
 use Rattle.mv_ast.specs.declared.program.CType.{CType}
 use Rattle.mv_ast.specs.declared.program.Expr.{Expr}
 use Rattle.mv_ast.specs.declared.unit.What.TheOpen as what
+use Rattle.mv_ast.specs.Marks as marks
 use Rattle.mv_check_scope.specs.declared.scope.Scope.{Scope}
 use Rattle.mv_check_scope.specs.Conversions.{is_integer, is_pointer, is_void}
 use Rattle.mv_check_scope.specs.Constants.{converts}
@@ -27,9 +28,8 @@ are_integers s t = is_integer s && is_integer t
 unfoldable pub meet : Expr → Expr → Bool
 meet a b = are_integers a.ctype b.ctype || (is_pointer a.ctype && converts b a.ctype) || (is_pointer b.ctype && converts a b.ctype)
 
--- `!` is 11
 unfoldable pub takes_one : ℕ → CType → Bool
-takes_one op t = is_integer t || (nat_eq op 11 && is_pointer t)
+takes_one op t = is_integer t || (nat_eq op marks.exclamation && is_pointer t)
 
 unfoldable pub takes_two : ℕ → Expr → Expr → Bool
 takes_two op a b =
@@ -48,7 +48,7 @@ abbrev pub breaks_operands : Layer → Bool
 breaks_operands (what.Unary op a) = not (is_address op || is_indirection op || takes_one op (type_of a))
 breaks_operands (what.Binary op a b) = not (takes_two op (value_of a) (value_of b))
 breaks_operands (what.Choose c a b) = not (is_scalar (type_of c) && meet (value_of a) (value_of b))
-breaks_operands (what.Assign op a b) = not (nat_eq op 22 || are_integers (type_of a) (type_of b))
+breaks_operands (what.Assign op a b) = not (nat_eq op marks.assign || are_integers (type_of a) (type_of b))
 breaks_operands (what.Before up a) = not (is_integer (type_of a))
 breaks_operands (what.After up a) = not (is_integer (type_of a))
 breaks_operands (what.Index a i) = not (is_integer (type_of i))
@@ -63,7 +63,7 @@ breaks_assignments _ = false
 
 -- a value is converted between types that don't convert
 abbrev pub breaks_conversions : Scope → Layer → Bool
-breaks_conversions scope (what.Assign op a b) = nat_eq op 22 && not (converts (value_of b) (type_of a))
+breaks_conversions scope (what.Assign op a b) = nat_eq op marks.assign && not (converts (value_of b) (type_of a))
 breaks_conversions scope (what.Call f args) = not (all_convert (callee_params scope.signatures f) args)
 breaks_conversions scope _ = false
 

@@ -7,12 +7,12 @@ use Rattle.mv_ast.specs.declared.program.CType.{CType}
 use Rattle.mv_ast.specs.declared.program.CType.TheVariants.{Void, Scalar}
 use Rattle.mv_ast.specs.declared.unit.Specs.{Specs, out-Specs}
 use Rattle.mv_ast.specs.declared.unit.EnumSpec.{EnumSpec, out-EnumSpec}
+use Rattle.mv_ast.specs.Keywords as keywords
 use Rattle.mv_check_scope.specs.declared.scope.Scope.{Scope}
 use Rattle.mv_check_scope.specs.Scoped.{tag_of}
 use Rattle.mv_check_expressions.specs.RuleNumbers as rules
 use Rattle.mv_check_expressions.specs.Judged.{Judged, Good, Broken}
 
--- _Bool 0, char 3, int 12, short 14, signed 15, unsigned 18, void 19
 abbrev pub stands_in : List ℕ → ℕ → Bool
 stands_in [] word = false
 stands_in (w ∷ words) word = nat_eq w word || stands_in words word
@@ -28,13 +28,13 @@ are words these = nat_eq (length words) (length these) && all_stand_in words the
 -- the integer type that type words name
 unfoldable pub named_kind : List ℕ → Option Kind
 named_kind words =
-    if are words (0 ∷ []) then Some kind.Bool
-    else if are words (15 ∷ 3 ∷ []) then Some kind.SChar
-    else if are words (3 ∷ []) || are words (18 ∷ 3 ∷ []) then Some kind.UChar
-    else if are words (14 ∷ []) || are words (15 ∷ 14 ∷ []) || are words (14 ∷ 12 ∷ []) || are words (15 ∷ 14 ∷ 12 ∷ []) then Some kind.Short
-    else if are words (18 ∷ 14 ∷ []) || are words (18 ∷ 14 ∷ 12 ∷ []) then Some kind.UShort
-    else if are words (12 ∷ []) || are words (15 ∷ []) || are words (15 ∷ 12 ∷ []) then Some kind.Int
-    else if are words (18 ∷ []) || are words (18 ∷ 12 ∷ []) then Some kind.UInt
+    if are words (keywords.bool ∷ []) then Some kind.Bool
+    else if are words (keywords.signed ∷ keywords.char ∷ []) then Some kind.SChar
+    else if are words (keywords.char ∷ []) || are words (keywords.unsigned ∷ keywords.char ∷ []) then Some kind.UChar
+    else if are words (keywords.short ∷ []) || are words (keywords.signed ∷ keywords.short ∷ []) || are words (keywords.short ∷ keywords.int ∷ []) || are words (keywords.signed ∷ keywords.short ∷ keywords.int ∷ []) then Some kind.Short
+    else if are words (keywords.unsigned ∷ keywords.short ∷ []) || are words (keywords.unsigned ∷ keywords.short ∷ keywords.int ∷ []) then Some kind.UShort
+    else if are words (keywords.int ∷ []) || are words (keywords.signed ∷ []) || are words (keywords.signed ∷ keywords.int ∷ []) then Some kind.Int
+    else if are words (keywords.unsigned ∷ []) || are words (keywords.unsigned ∷ keywords.int ∷ []) then Some kind.UInt
     else None
 
 abbrev pub as_scalar : Option Kind → Option CType
@@ -44,7 +44,7 @@ as_scalar (Some k) = Some (Scalar k)
 -- one enum names `int`, and type words name what they name; the two don't stand together
 abbrev pub named_type : (enums : ℕ) → List ℕ → Option CType
 named_type enums words =
-    if nat_eq enums 0 then (if are words (19 ∷ []) then Some Void else as_scalar (named_kind words))
+    if nat_eq enums 0 then (if are words (keywords.void ∷ []) then Some Void else as_scalar (named_kind words))
     else if nat_eq enums 1 && nat_eq (length words) 0 then Some (Scalar kind.Int)
     else None
 

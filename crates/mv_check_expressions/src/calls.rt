@@ -9,6 +9,7 @@ ghost use Rattle.mv_check_expressions.specs.Calls.{pointed, params_of, result_of
 use crate::breaches::{Breaches, breaches_of_use, concluded};
 use crate::error::RuleError;
 use crate::seen::{Seen, Use, number_or_zero, type_of, value_of};
+use mv_ast::orders;
 use mv_ast::place::Place;
 use mv_ast::program::{CType, Expr, Form, Known, Signature};
 use mv_check_scope::constant::converts;
@@ -52,16 +53,16 @@ fn known_arity(known: Known) -> usize
     match known {
         Known::Getchar | Known::Poll => 0,
         Known::Putchar => 1,
-        Known::Plan(code, _) => { if code < 2 { 0 } else { 1 } }
+        Known::Plan(code, _) => { if code < orders::COMMIT_FUNCTION { 0 } else { 1 } }
     }
 }
 
 fn planned_use(code: u8) -> Use
     ensures { result ≡ planned_use code }
 {
-    if code < 2 {
+    if code < orders::COMMIT_FUNCTION {
         Use::Value
-    } else if code < 4 {
+    } else if code < orders::COMMIT_REFERENCES {
         Use::Function
     } else {
         Use::Switch

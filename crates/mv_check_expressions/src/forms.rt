@@ -18,6 +18,7 @@ use crate::values::{
     after_of, are_integers, assign_of, before_of, binary_of, choose_of, is_scalar, meet, takes_one,
     takes_two, unary_of,
 };
+use mv_ast::marks::{AMPERSAND, ASSIGN, STAR};
 use mv_ast::place::Place;
 use mv_ast::program::{CType, Expr, Form, Target};
 use mv_check_scope::constant::converts;
@@ -27,12 +28,6 @@ use mv_check_scope::scope::Scope;
 use mv_num::boxed::Boxed;
 use mv_num::kind::Kind;
 use std::alloc::{AllocError, Global};
-
-const ADDRESS: u8 = 17;
-
-const INDIRECTION: u8 = 14;
-
-const ASSIGNMENT: u8 = 22;
 
 pub fn number(scope: &Scope, place: Place, used: Use, n: u32, kind: Kind) -> Result<Seen, RuleError>
     ensures { IsJudged (by_itself scope.now place used (what.Number n kind)) result }
@@ -72,13 +67,13 @@ pub fn name(scope: &Scope, place: Place, used: Use, name: &[u8]) -> Result<Seen,
 fn is_wrong_operand(used: Use, op: u8, seen: &Seen) -> bool
     ensures { result ≡ is_wrong_operand used op seen.now }
 {
-    if op == ADDRESS {
+    if op == AMPERSAND {
         return match used {
             Use::Switch => false,
             _ => !is_function(seen),
         };
     }
-    op == INDIRECTION && !is_pointer(type_of(seen))
+    op == STAR && !is_pointer(type_of(seen))
 }
 
 fn named_switch(switch: Option<u32>) -> Seen
@@ -108,12 +103,12 @@ fn address_of(used: Use, seen: Seen) -> Seen
 fn unary_seen(alloc: Global, used: Use, op: u8, operand: Seen) -> Result<Seen, AllocError>
     ensures { IfOk result (λ r. r ≡ unary_seen used op operand) }
 {
-    if op == ADDRESS {
+    if op == AMPERSAND {
         let seen = address_of(used, operand);
         return Ok(seen);
     }
     let value = value_of(operand);
-    if op == INDIRECTION {
+    if op == STAR {
         let seen = Seen::Designator(value);
         return Ok(seen);
     }
@@ -132,7 +127,7 @@ pub fn unary(
 ) -> Result<Seen, RuleError>
     ensures { IsJudged (by_itself scope.now place used (what.Unary op operand)) result }
 {
-    let operands = !(op == ADDRESS || op == INDIRECTION || takes_one(op, type_of(&operand)));
+    let operands = !(op == AMPERSAND || op == STAR || takes_one(op, type_of(&operand)));
     let misplaced = is_wrong_operand(used, op, &operand);
     let seen = unary_seen(alloc, used, op, operand)?;
     let breaches = Breaches {
@@ -203,9 +198,9 @@ pub fn assign(
 {
     let right = value_of(right);
     let stored = type_of(&left);
-    let operands = !(op == ASSIGNMENT || are_integers(stored, right.ctype));
+    let operands = !(op == ASSIGN || are_integers(stored, right.ctype));
     let assigned = !is_assignable(&left);
-    let converted = op == ASSIGNMENT && !converts(&right, stored);
+    let converted = op == ASSIGN && !converts(&right, stored);
     let switch = scope.attributed && switch_of(&left).is_some();
     let value = assign_of(alloc, op, object_of(left), right)?;
     let seen = Seen::Value(value);

@@ -9,6 +9,7 @@ use crate::error::RuleError;
 use crate::forms::{after, assign, before, binary, cast, choose, index, name, number, unary};
 use crate::seen::{Seen, Use, value_of};
 use crate::type_names::type_of;
+use mv_ast::marks::AMPERSAND;
 use mv_ast::program::{CType, Expr};
 use mv_ast::unit::{Node, What};
 use mv_check_scope::convert::is_void;
@@ -20,7 +21,11 @@ use std::alloc::Global;
 fn operand_use(op: u8) -> Use
     ensures { result ≡ operand_use op }
 {
-    if op == 17 { Use::Address } else { Use::Value }
+    if op == AMPERSAND {
+        Use::Address
+    } else {
+        Use::Value
+    }
 }
 
 // What is cast to `void` is used for its effect.

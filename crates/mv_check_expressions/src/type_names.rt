@@ -6,6 +6,7 @@ ghost use Rattle.mv_check_expressions.specs.TypeNames.{stands_in, are, all_stand
 
 use crate::error::RuleError;
 use crate::rules;
+use mv_ast::keywords::{BOOL, CHAR, INT, SHORT, SIGNED, UNSIGNED, VOID};
 use mv_ast::program::CType;
 use mv_ast::unit::{EnumSpec, Specs};
 use mv_check_scope::scope::Scope;
@@ -39,20 +40,6 @@ fn are(words: &[u8], these: &[u8]) -> bool
 {
     words.len() == these.len() && all_stand_in(words, these)
 }
-
-const BOOL: u8 = 0;
-
-const CHAR: u8 = 3;
-
-const INT: u8 = 12;
-
-const SHORT: u8 = 14;
-
-const SIGNED: u8 = 15;
-
-const UNSIGNED: u8 = 18;
-
-const VOID: u8 = 19;
 
 // The integer type that type words name.
 #[tactic(auto, unfolding(crate::specs::TypeNames::named_kind))]

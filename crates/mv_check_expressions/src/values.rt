@@ -3,10 +3,11 @@
 ghost use Rattle.std.specs.Prelude.{◌≡◌, IfOk};
 ghost use Rattle.mv_ast.specs.declared.program.Form.TheVariants as form;
 ghost use Rattle.mv_check_scope.specs.Conversions.{typed, int, converted_to};
-ghost use Rattle.mv_check_expressions.specs.Found.{is_shift, is_comparison, compound_operator, common_type, left_type, right_type, result_type, computed_of, unary_of, binary_of, choose_of, change_of, assign_to, assign_of, before_of, after_of};
+ghost use Rattle.mv_check_expressions.specs.Found.{is_shift, is_equality, is_comparison, compound_operator, common_type, left_type, right_type, result_type, computed_of, unary_of, binary_of, choose_of, change_of, assign_to, assign_of, before_of, after_of};
 ghost use Rattle.mv_check_expressions.specs.Rules.{is_scalar, are_integers, meet, takes_one, takes_two};
 
 use crate::seen::{Object, no_value, number};
+use mv_ast::marks;
 use mv_ast::program::{CType, Expr, Form};
 use mv_check_scope::constant::converts;
 use mv_check_scope::convert::{converted_to, is_integer, is_pointer, promoted, promotion, usual};
@@ -17,42 +18,36 @@ use std::alloc::{AllocError, Global};
 
 const INT: CType = CType::Scalar(Kind::Int);
 
-const NOT: u8 = 11;
-
-const PLUS: u8 = 12;
-
-const MINUS: u8 = 13;
-
-const ASSIGNMENT: u8 = 22;
-
-const EQUAL: u8 = 29;
-
-const UNEQUAL: u8 = 30;
-
-const BOTH: u8 = 31;
-
-const EITHER: u8 = 32;
-
 fn is_shift(op: u8) -> bool
     ensures { result ≡ is_shift op }
 {
-    op == 25 || op == 26
+    op == marks::SHIFT_LEFT || op == marks::SHIFT_RIGHT
+}
+
+fn is_equality(op: u8) -> bool
+    ensures { result ≡ is_equality op }
+{
+    op == marks::EQUAL || op == marks::NOT_EQUAL
 }
 
 fn is_comparison(op: u8) -> bool
     ensures { result ≡ is_comparison op }
 {
-    op == 20 || op == 21 || op == 27 || op == 28 || op == EQUAL || op == UNEQUAL
+    op == marks::LESS
+        || op == marks::GREATER
+        || op == marks::LESS_OR_EQUAL
+        || op == marks::GREATER_OR_EQUAL
+        || is_equality(op)
 }
 
 // The operator that a compound assignment computes with.
 fn compound_operator(op: u8) -> u8
     ensures { result ≡ compound_operator op }
 {
-    if op < 41 {
-        op.saturating_sub(21)
+    if op < marks::SHIFT_LEFT_ASSIGN {
+        op.saturating_sub(marks::PLUS_ASSIGN - marks::PLUS)
     } else {
-        op - 16
+        op - (marks::SHIFT_LEFT_ASSIGN - marks::SHIFT_LEFT)
     }
 }
 
@@ -85,7 +80,7 @@ pub fn meet(a: &Expr, b: &Expr) -> bool
 pub fn takes_one(op: u8, t: CType) -> bool
     ensures { result ≡ takes_one op t }
 {
-    is_integer(t) || (op == NOT && is_pointer(t))
+    is_integer(t) || (op == marks::EXCLAMATION && is_pointer(t))
 }
 
 /// Whether an operator on two operands takes them.
@@ -93,10 +88,10 @@ pub fn takes_one(op: u8, t: CType) -> bool
 pub fn takes_two(op: u8, a: &Expr, b: &Expr) -> bool
     ensures { result ≡ takes_two op a.now b.now }
 {
-    if op == BOTH || op == EITHER {
+    if op == marks::LOGICAL_AND || op == marks::LOGICAL_OR {
         return is_scalar(a.ctype) && is_scalar(b.ctype);
     }
-    are_integers(a.ctype, b.ctype) || ((op == EQUAL || op == UNEQUAL) && meet(a, b))
+    are_integers(a.ctype, b.ctype) || (is_equality(op) && meet(a, b))
 }
 
 fn common_type(s: CType, t: CType) -> CType
@@ -143,7 +138,7 @@ fn result_type(op: u8, t: CType) -> CType
 pub fn unary_of(alloc: Global, op: u8, a: Expr) -> Result<Expr, AllocError>
     ensures { IfOk result (λ r. r ≡ unary_of op a) }
 {
-    if op == NOT {
+    if op == marks::EXCLAMATION {
         let a = Boxed::new(alloc, a)?;
         let value = Expr {
             ctype: INT,
@@ -237,9 +232,9 @@ fn either_of(alloc: Global, a: Expr, b: Expr) -> Result<Expr, AllocError>
 pub fn binary_of(alloc: Global, op: u8, a: Expr, b: Expr) -> Result<Expr, AllocError>
     ensures { IfOk result (λ r. r ≡ binary_of op a b) }
 {
-    if op == BOTH {
+    if op == marks::LOGICAL_AND {
         both_of(alloc, a, b)
-    } else if op == EITHER {
+    } else if op == marks::LOGICAL_OR {
         either_of(alloc, a, b)
     } else {
         let s = left_type(op, a.ctype, b.ctype);
@@ -282,7 +277,7 @@ fn change_of(alloc: Global, op: u8, object: Object, b: Expr) -> Result<Expr, All
 fn assign_to(alloc: Global, op: u8, object: Object, b: Expr) -> Result<Expr, AllocError>
     ensures { IfOk result (λ r. r ≡ assign_to op object b) }
 {
-    if op == ASSIGNMENT {
+    if op == marks::ASSIGN {
         let ctype = object.ctype;
         let (object, b) = both(object, converted_box(alloc, ctype, b))?;
         let value = Expr {
@@ -314,7 +309,12 @@ pub fn before_of(alloc: Global, up: bool, object: Option<Object>) -> Result<Expr
 {
     match object {
         None => Ok(no_value()),
-        Some(object) => change_of(alloc, if up { PLUS } else { MINUS }, object, number(1)),
+        Some(object) => change_of(
+            alloc,
+            if up { marks::PLUS } else { marks::MINUS },
+            object,
+            number(1),
+        ),
     }
 }
 

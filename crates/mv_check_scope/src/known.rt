@@ -1,6 +1,7 @@
 ghost use Rattle.std.specs.Prelude.{◌≡◌};
 ghost use Rattle.mv_check_scope.specs.Known.{known_function};
 
+use mv_ast::orders;
 use mv_ast::program::Known;
 
 /// The function that is known by this name without a declaration.
@@ -14,17 +15,17 @@ pub fn known_function(name: &[u8]) -> Option<Known>
     } else if name == b"multiverse_poll".as_slice() {
         Some(Known::Poll)
     } else if name == b"multiverse_commit".as_slice() {
-        Some(Known::Plan(0, 0))
+        Some(Known::Plan(orders::COMMIT, 0))
     } else if name == b"multiverse_revert".as_slice() {
-        Some(Known::Plan(1, 0))
+        Some(Known::Plan(orders::REVERT, 0))
     } else if name == b"multiverse_commit_func".as_slice() {
-        Some(Known::Plan(2, 0))
+        Some(Known::Plan(orders::COMMIT_FUNCTION, 0))
     } else if name == b"multiverse_revert_func".as_slice() {
-        Some(Known::Plan(3, 0))
+        Some(Known::Plan(orders::REVERT_FUNCTION, 0))
     } else if name == b"multiverse_commit_refs".as_slice() {
-        Some(Known::Plan(4, 0))
+        Some(Known::Plan(orders::COMMIT_REFERENCES, 0))
     } else if name == b"multiverse_revert_refs".as_slice() {
-        Some(Known::Plan(5, 0))
+        Some(Known::Plan(orders::REVERT_REFERENCES, 0))
     } else {
         None
     }

@@ -9,6 +9,7 @@
 //!   refused before all else. Slices are in order, not empty, and within the text.
 //! - `one_reading`: two readings of one text are equal, and no text has both tokens and a refusal. `one_longest_lexeme`,
 //!   `tokens_are_slices`: the laws below it.
+//! - `names_are_spelled`: the numbers that `mv_ast` names are the places of their spellings in the tables of words and punctuators.
 //! - Nine tables of tests show the definition against gcc's values and clang's places. 1 MiB of C took 0.03 s.
 #![tactic(auto)]
 
@@ -17,6 +18,8 @@ ghost use Rattle.mv_ast.specs.declared.place.Place.{Place};
 ghost use Rattle.mv_ast.specs.declared.token.Token.{Token};
 ghost use Rattle.mv_lexer.specs.Lexemes.{IsLongestLexeme};
 ghost use Rattle.mv_lexer.specs.Reading as spec;
+ghost use Rattle.mv_lexer.specs.Spellings.{AreEntries, spelled_keywords, spelled_marks};
+ghost use Rattle.mv_lexer.specs.declared.table.Table.TheVariants.{Keywords, Punctuators};
 ghost use Rattle.mv_lexer.specs.declared.class.TokenClass.{TokenClass};
 
 mod bytes;
@@ -95,4 +98,10 @@ pub fn one_reading()
 pub fn tokens_are_slices()
     ensures slices { (text : List ℕ) (items : List Token) (end : Place) → spec.AreTokens text items end → spec.AreSlices 0 (length text) items }
     ensures count { (text : List ℕ) (items : List Token) (end : Place) → spec.AreTokens text items end → length items ≤ length text }
+{}
+
+/// Keywords and punctuators are spelled as the names of their numbers say.
+pub fn names_are_spelled()
+    ensures keywords { AreEntries Keywords spelled_keywords }
+    ensures marks { AreEntries Punctuators spelled_marks }
 {}
