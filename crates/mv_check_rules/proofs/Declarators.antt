@@ -13,6 +13,7 @@ use Rattle.mv_ast.specs.declared.unit.Line.{Line}
 use Rattle.mv_ast.specs.declared.unit.Shape.{Shape-F, out-Shape}
 use Rattle.mv_ast.specs.declared.unit.Shape.TheOpen as shape
 use Rattle.mv_check_scope.specs.declared.scope.Scope.{Scope}
+use Rattle.mv_check_scope.specs.Domains.{distinct}
 use Rattle.mv_check_expressions.specs.Judged.{Judged, Good, Broken, and_then}
 use Rattle.mv_check_expressions.specs.Judgements.{value_judgement}
 use Rattle.mv_check_outline.specs.Outlined.{is_function_form, name_of}
@@ -158,7 +159,7 @@ default_same : (s : Scope) (enumeration : Option ℕ) → code_globals.default_d
 default_same s None = refl
 default_same s (Some n) = by (slice_get s.enumerations n)
   where
-    by : (values : Option (List ℕ)) → code_globals.values_of_enumeration values ≡ code_globals.distinct (unwrap_or values [])
+    by : (values : Option (List ℕ)) → code_globals.values_of_enumeration values ≡ distinct (unwrap_or values [])
     by None = refl
     by (Some vs) = refl
 

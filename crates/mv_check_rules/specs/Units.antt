@@ -26,6 +26,7 @@ use Rattle.mv_check_scope.specs.declared.meaning.Storage.{Storage}
 use Rattle.mv_check_scope.specs.declared.meaning.Storage.TheVariants as storage
 use Rattle.mv_check_scope.specs.declared.scope.Scope.{Scope}
 use Rattle.mv_check_scope.specs.Conversions.{int, same_signature}
+use Rattle.mv_check_scope.specs.Domains.{distinct}
 use Rattle.mv_check_scope.specs.Known.{known_function, is_named}
 use Rattle.mv_check_scope.specs.Scoped.{start, declared, block_entered, block_left}
 use Rattle.mv_check_expressions.specs.Judged.{Judged, Good, Broken, and_then}
@@ -34,7 +35,7 @@ use Rattle.mv_check_outline.specs.declared.outline.Wanted.TheVariants as wanted
 use Rattle.mv_check_outline.specs.Names.{among, is_among, place_of}
 use Rattle.mv_check_outline.specs.Outlined as outlined
 use Rattle.mv_check_outline.specs.Outlined.{name_of}
-use Rattle.mv_check_declarations.specs.Globals.{constant_word, distinct}
+use Rattle.mv_check_declarations.specs.Globals.{constant_word}
 use Rattle.mv_types.specs.declared.foreknown.Said.TheVariants as said
 use Rattle.mv_types.specs.Foreknown as foreknown
 use Rattle.mv_check_uses.specs.Uses.{switches_named}

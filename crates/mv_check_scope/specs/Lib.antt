@@ -1,5 +1,6 @@
 pub mod Constants
 pub mod Conversions
+pub mod Domains
 pub mod Known
 pub mod Names
 pub mod Scoped
