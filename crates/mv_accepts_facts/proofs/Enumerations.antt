@@ -14,6 +14,7 @@ use Rattle.mv_check_scope.specs.declared.meaning.Meaning.{Meaning}
 use Rattle.mv_check_scope.specs.declared.meaning.Meaning.TheVariants as meaning
 use Rattle.mv_check_scope.specs.declared.scope.Scope.{Scope}
 use Rattle.mv_check_scope.specs.declared.space.NameSpace.{NameSpace}
+use Rattle.mv_check_scope.specs.Domains.{distinct_behind}
 use Rattle.mv_check_scope.specs.Spaces.{named, or_else, meaning_in}
 use Rattle.mv_check_scope.specs.Scoped.{tag_declared}
 use Rattle.mv_check_expressions.specs.TypeNames.{type_of}
@@ -24,7 +25,7 @@ use Rattle.mv_check_declarations.specs.declared.specifiers.Said.{Said}
 use Rattle.mv_check_declarations.specs.declared.specifiers.Specified.{Specified}
 use Rattle.mv_check_declarations.specs.Attributes.{attributes, holder_of_all}
 use Rattle.mv_check_declarations.specs.Enumerators.{is_taken, given_value, enumerator_of, new_enumerator, Enumerating, enumerator, enumerators}
-use Rattle.mv_check_declarations.specs.Globals.{distinct_behind, values_of_enumeration, default_domain}
+use Rattle.mv_check_declarations.specs.Globals.{values_of_enumeration, default_domain}
 use Rattle.mv_check_declarations.specs.Specifiers.{number_of_tag, named_enumeration, with_enumeration, tagged, enumeration_of, count_before_list, nothing_said, enum_specifier, enum_specifiers, kind_of, type_by_rules, specifiers}
 use Rattle.mv_check_declarations.specs.Turns.{through}
 use Rattle.mv_ast.specs.Plans.{is_among}

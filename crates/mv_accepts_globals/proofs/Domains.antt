@@ -13,6 +13,7 @@ use Rattle.mv_ast.specs.declared.unit.Mark.{Mark, out-Mark}
 use Rattle.mv_ast.specs.declared.unit.Node.{Node}
 use Rattle.mv_ast.specs.Plans.{is_among}
 use Rattle.mv_check_scope.specs.declared.scope.Scope.{Scope}
+use Rattle.mv_check_scope.specs.Domains.{distinct_behind}
 use Rattle.mv_check_expressions.specs.declared.constant.Constant.{Constant}
 use Rattle.mv_check_expressions.specs.Judged.{Good, and_then}
 use Rattle.mv_check_expressions.specs.NeededConstants.{constant_judgement}
@@ -21,7 +22,7 @@ use Rattle.mv_check_declarations.specs.declared.attributes.Holder.{Holder}
 use Rattle.mv_check_declarations.specs.Attributes.{switch_kind, with_value, domain_value, domain, given_domain, holds, held, attribute, attributes}
 use Rattle.mv_check_declarations.specs.Constants.{is_value_of}
 use Rattle.mv_check_declarations.specs.ValueSets.{with_member}
-use Rattle.mv_check_declarations.specs.Globals.{distinct_behind, values_of_enumeration, default_domain, domain_or, domain_of}
+use Rattle.mv_check_declarations.specs.Globals.{values_of_enumeration, default_domain, domain_or, domain_of}
 use Rattle.mv_accepts_statements.proofs.Judging.{IfGood, if_any, if_then, if_kept, if_more, if_through}
 use Rattle.mv_accepts_statements.proofs.Lists.{each_any, all_last, all_more}
 use Rattle.mv_accepts_globals.proofs.Tests.{if_given, not_same}

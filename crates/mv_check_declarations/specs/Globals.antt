@@ -11,9 +11,9 @@ use Rattle.mv_ast.specs.declared.unit.Initial.{Initial}
 use Rattle.mv_ast.specs.declared.unit.Initial.TheVariants as initial
 use Rattle.mv_ast.specs.declared.unit.Node.{Node}
 use Rattle.mv_ast.specs.Operators.{converted}
-use Rattle.mv_ast.specs.Plans.{is_among}
 use Rattle.mv_check_scope.specs.declared.scope.Scope.{Scope}
 use Rattle.mv_check_scope.specs.Constants.{constant_value, converts}
+use Rattle.mv_check_scope.specs.Domains.{distinct}
 use Rattle.mv_check_expressions.specs.RuleNumbers as rules
 use Rattle.mv_check_expressions.specs.Judged.{Judged, Good, Broken, and_then}
 use Rattle.mv_check_expressions.specs.Judgements.{value_judgement}
@@ -87,14 +87,6 @@ global_words l (Some (initial.Values nodes)) s = first_words l.ctype s nodes
 global_words l (Some (initial.Chars bytes)) s = Good (string_words l bytes)
 
 -- ---- domains
-
-abbrev pub distinct_behind : List ℕ → List ℕ → List ℕ
-distinct_behind done [] = done
-distinct_behind done (v ∷ vs) = distinct_behind (if is_among v done then done else done ++ v ∷ []) vs
-
--- the different ones of some values, in order of first appearance
-abbrev pub distinct : List ℕ → List ℕ
-distinct vs = distinct_behind [] vs
 
 abbrev pub values_of_enumeration : Option (List ℕ) → List ℕ
 values_of_enumeration None = []

@@ -5,13 +5,13 @@ ghost use Rattle.mv_check_expressions.specs.Judged.{IsJudged};
 ghost use Rattle.mv_check_declarations.specs.Attributes.{with_value, domain, given_domain, is_main, shape_holder, holder_of, holder_of_all, both_hold, nothing_holds, holds, held, switch_kind, attributes};
 
 use crate::constants::is_value_of;
-use crate::domain::Domain;
 use crate::value_set::ValueSet;
 use mv_ast::place::Place;
 use mv_ast::unit::{Declarator, Mark, Node, Shape};
 use mv_check_expressions::constant::{Constant, needed};
 use mv_check_expressions::error::RuleError;
 use mv_check_expressions::rules;
+use mv_check_scope::domain::Domain;
 use mv_check_scope::scope::Scope;
 use mv_num::kind::Kind;
 use mv_num::list::List;

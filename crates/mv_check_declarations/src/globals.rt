@@ -3,16 +3,13 @@
 ghost use Rattle.std.specs.Prelude.{◌≡◌, ◌++◌, [], ◌∷◌, map, IfOk, OnOk};
 ghost use Rattle.mv_ast.specs.declared.program.Form.{out-Form};
 ghost use Rattle.mv_ast.specs.Operators.{converted};
-ghost use Rattle.mv_ast.specs.Plans.{is_among};
 ghost use Rattle.mv_check_expressions.specs.Judged.{IsJudged};
 ghost use Rattle.mv_check_declarations.specs.Turns.{IsBehind};
-ghost use Rattle.mv_check_declarations.specs.Globals.{file_declarator, constant_word, with_word, no_words, first_word, first_words, room_behind, string_words, global_words, distinct, values_of_enumeration, default_domain, domain_of};
+ghost use Rattle.mv_check_declarations.specs.Globals.{file_declarator, constant_word, with_word, no_words, first_word, first_words, room_behind, string_words, global_words, values_of_enumeration, default_domain, domain_of};
 
 use crate::attributes::{Attribute, Position, attributes, holder_of, shared};
 use crate::declarators::{Entity, designated};
-use crate::domain::Domain;
 use crate::specifiers::{Specified, scalar_kind};
-use crate::value_set::ValueSet;
 use mv_ast::operators::converted;
 use mv_ast::program::{CType, Expr, Form, Local};
 use mv_ast::unit::{Declarator, Initial, Node};
@@ -20,6 +17,7 @@ use mv_check_expressions::error::RuleError;
 use mv_check_expressions::judge::value;
 use mv_check_expressions::rules;
 use mv_check_scope::constant::{constant_value, converts};
+use mv_check_scope::domain::Domain;
 use mv_check_scope::scope::Scope;
 use mv_num::list::List;
 use std::alloc::{AllocError, Global};
@@ -170,29 +168,22 @@ pub fn global_words(
     }
 }
 
-fn distinct(alloc: Global, values: &[u32]) -> Result<List<u32>, AllocError>
-    ensures { IfOk result (λ list. list ≡ distinct values.now) }
-{
-    let mut done = ValueSet::new(alloc);
-    for value in values {
-        done.add(*value)?;
-    }
-    done.to_list(alloc)
-}
-
 // 0 and 1, or all values of the enumeration that the declared type is.
 fn default_domain(
     alloc: Global,
     scope: &Scope,
     enumeration: Option<u32>,
-) -> Result<List<u32>, AllocError>
-    ensures { IfOk result (λ values. values ≡ default_domain scope.now enumeration) }
+) -> Result<Domain, AllocError>
+    ensures { IfOk result (λ domain. domain ≡ default_domain scope.now enumeration) }
 {
     match enumeration {
-        None => Ok(List::from_vec(Vec::from_slice(alloc, &[0, 1])?)),
+        None => {
+            let values = Vec::from_slice(alloc, &[0, 1])?;
+            Domain::of(alloc, List::from_vec(values))
+        }
         Some(number) => match scope.enumerations.get(number as usize) {
-            None => Ok(List::new(alloc)),
-            Some(values) => distinct(alloc, values.as_slice()),
+            None => Domain::of(alloc, List::new(alloc)),
+            Some(enumerated) => enumerated.domain(),
         },
     }
 }
@@ -208,9 +199,6 @@ pub fn domain_of(
 {
     match attribute.values {
         Some(domain) => Ok(domain),
-        None => {
-            let values = default_domain(alloc, scope, enumeration)?;
-            Domain::of(alloc, values)
-        }
+        None => default_domain(alloc, scope, enumeration),
     }
 }

@@ -11,15 +11,13 @@
 //!   ([docs/declarations.md](declarations.md)).
 //! - `ValueSet`: different values in the order in which they were added, by an `indexmap` set behind a model that shows a
 //!   plain list. The values of domains are told apart by it, so none is searched for among the others.
-//! - `Domain`: the values of a domain behind a model that shows a plain list; the declarators that an attribute holds for
-//!   share them.
 //! - `mv_test_top` shows declarations that keep the rules and some that break one.
 #![tactic(auto)]
 
 pub mod attributes;
 pub mod constants;
 pub mod declarators;
-pub mod domain;
+mod enumerated;
 pub mod enumerators;
 pub mod globals;
 pub mod initials;

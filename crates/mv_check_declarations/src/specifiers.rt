@@ -8,6 +8,7 @@ ghost use Rattle.mv_check_declarations.specs.Turns.{IsBehind};
 ghost use Rattle.mv_check_declarations.specs.Specifiers.{named_enumeration, tagged, enumeration_of, is_before, count_before, count_before_list, enum_specifier, enum_specifiers, scalar_kind, kind_of, at_file, type_by_rules, specifiers};
 
 use crate::attributes::{Attribute, Holder, Position, attributes, holder_of_all};
+use crate::enumerated::enumerated;
 use crate::enumerators::enumerators;
 use mv_ast::place::Place;
 use mv_ast::program::CType;
@@ -15,6 +16,7 @@ use mv_ast::unit::{Declarator, EnumSpec, Mark, Member, Specs};
 use mv_check_expressions::error::RuleError;
 use mv_check_expressions::rules;
 use mv_check_expressions::type_names::type_of;
+use mv_check_scope::enumerated::EnumeratedType;
 use mv_check_scope::meaning::Meaning;
 use mv_check_scope::scope::Scope;
 use mv_num::kind::Kind;
@@ -68,9 +70,9 @@ fn declare_enumeration(
     alloc: Global,
     scope: &mut Scope,
     tag: &Option<Text>,
-    values: List<u32>,
+    enumerated: EnumeratedType,
 ) -> Result<Enumeration, RuleError>
-    ensures { IsBehind (Good (tagged tag.now scope.old values)) result scope.new }
+    ensures { IsBehind (Good (tagged tag.now scope.old enumerated)) result scope.new }
 {
     let count = scope.enumerations.len();
     if count > 0xFFFF_FFFF {
@@ -79,7 +81,7 @@ fn declare_enumeration(
     let number = Some(count as u32);
     match tag {
         None => {
-            scope.enumerations.push(values)?;
+            scope.enumerations.push(enumerated)?;
             Ok(Enumeration {
                 number,
                 again: false,
@@ -92,7 +94,7 @@ fn declare_enumeration(
                     again: true,
                 });
             }
-            scope.enumerations.push(values)?;
+            scope.enumerations.push(enumerated)?;
             scope.declare_tag(alloc, tag.bytes(), Meaning::Tag(count as u32))?;
             Ok(Enumeration {
                 number,
@@ -117,7 +119,8 @@ fn enumeration_of(
         }),
         Some(members) => {
             let values = enumerators(alloc, scope, members.as_slice())?;
-            declare_enumeration(alloc, scope, tag, values)
+            let enumerated = enumerated(alloc, values)?;
+            declare_enumeration(alloc, scope, tag, enumerated)
         }
     }
 }

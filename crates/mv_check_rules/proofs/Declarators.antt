@@ -12,6 +12,7 @@ use Rattle.mv_ast.specs.declared.unit.Line.{Line}
 use Rattle.mv_ast.specs.declared.unit.Shape.{Shape-F, out-Shape}
 use Rattle.mv_ast.specs.declared.unit.Shape.TheOpen as shape
 use Rattle.mv_check_scope.specs.declared.scope.Scope.{Scope}
+use Rattle.mv_check_scope.specs.Domains.{distinct_behind}
 use Rattle.mv_check_expressions.specs.Judged.{Judged, Good, Broken, and_then}
 use Rattle.mv_check_expressions.specs.Judgements.{value_judgement}
 use Rattle.mv_check_outline.specs.Outlined.{is_function_form, name_of}
@@ -153,7 +154,7 @@ module _ (items : List Item) (fixed : Bool) where
 
 -- ---- domains
 
-distinct_same : (done values : List ℕ) → code_globals.distinct_behind done values ≡ fold with_member done values
+distinct_same : (done values : List ℕ) → distinct_behind done values ≡ fold with_member done values
 distinct_same done [] = refl
 distinct_same done (v ∷ vs) = distinct_same (with_member done v) vs
 

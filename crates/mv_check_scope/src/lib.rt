@@ -11,6 +11,8 @@
 //!   divides by no zero.
 //! - `SignatureList::number`: each signature stands once in the list, and has its place as its number. It is found by its
 //!   spelling in an `indexmap` set behind a model that shows the plain list, so a look-up searches nothing.
+//! - `Domain`: the values of a domain behind a model that shows a plain list; the declarators that an attribute holds for share
+//!   them, and so do the switches of an enumerated type, whose `EnumeratedType` has them made once.
 //! - `mv_test_top` shows constants, conversions, hiding and signatures against C's rules, the constants as gcc has
 //!   them.
 #![tactic(auto)]
@@ -18,6 +20,8 @@
 pub mod bindings;
 pub mod constant;
 pub mod convert;
+pub mod domain;
+pub mod enumerated;
 pub mod known;
 pub mod meaning;
 pub mod scope;

@@ -2,6 +2,7 @@ ghost use Rattle.std.specs.Prelude.{◌≡◌, ◌<◌, ◌^◌, length, OnOk, O
 ghost use Rattle.mv_check_scope.specs.Spaces.{named};
 ghost use Rattle.mv_check_scope.specs.Scoped.{start, meaning_of, tag_of, block_entered, block_left, declared, tag_declared, with_local};
 
+use crate::enumerated::EnumeratedType;
 use crate::known::known_function;
 use crate::meaning::Meaning;
 use crate::signatures::SignatureList;
@@ -16,7 +17,7 @@ use std::alloc::{AllocError, Global};
 pub struct Scope {
     pub names: NameSpace,
     pub tags: NameSpace,
-    pub enumerations: List<List<u32>>,
+    pub enumerations: List<EnumeratedType>,
     pub signatures: SignatureList,
     pub locals: List<Local>,
     pub attributed: bool,

@@ -1,9 +1,9 @@
 // What the declarations of a unit so far come to.
 
 use mv_ast::program::{Function, Global};
-use mv_check_declarations::domain::Domain;
 use mv_check_outline::names::Names;
 use mv_check_outline::outline::Outline;
+use mv_check_scope::domain::Domain;
 use mv_check_scope::scope::Scope;
 use mv_num::list::List;
 
