@@ -1,6 +1,7 @@
 pub mod Bindings
 pub mod Constants
 pub mod Conversions
+pub mod Entries
 pub mod Known
 pub mod Names
 pub mod Scoped
