@@ -1,4 +1,4 @@
--- What an ordered map has at each name, where one name is bound anew.
+-- What an ordered map has at each text, where one has a new value.
 use Rattle.std.proofs.Common.{◌≡◌, ℕ, ◌∙◌, refl, sym, ap, subst, Bool, true, false, if◌then◌else◌, nat_eq, List, Option, Some}
 use Rattle.std.specs.Cmp.Lexicographic.{pointwise, slice_cmp, same_text}
 use Rattle.std.specs.Cmp.{eq_by_cmp_equiv}
@@ -11,23 +11,34 @@ use Rattle.std.proofs.lemmas.Cmp.{nat_list_eq_equiv, nat_list_cmp_total}
 use Rattle.std.proofs.lemmas.Map.Text.{is_eq-slice_cmp}
 use Rattle.mv_check_scope.specs.declared.step.Binding.{Binding}
 use Rattle.mv_check_scope.specs.Bindings.{Entries, if_any, binding_among, IsBoundTo}
+use Rattle.mv_check_scope.specs.Entries.{value_at}
 
--- names that are apart, in either form
+-- texts that are apart, in either form
 apart_in_order : (m n k : List ℕ) → pointwise nat_eq n m ≡ false → is_eq (slice_cmp nat_cmp m k) ≡ true → is_eq (slice_cmp nat_cmp n k) ≡ false
 apart_in_order m n k apart same =
     is_eq-slice_cmp n k ∙
     (nat_list_eq_equiv.symm n k ∙ (sym (nat_list_eq_equiv.congr m k n (sym (is_eq-slice_cmp m k) ∙ same)) ∙ (nat_list_eq_equiv.symm m n ∙ apart)))
 
-pub written : (es fs : Entries) (name : List ℕ) (b : Option Binding) →
-    lookup (is_at (λ (k : Vec ℕ Global). slice_cmp nat_cmp name k.items)) fs ≡ Some b →
-    KeepsOthers (eq_by_cmp (λ (j k : Vec ℕ Global). slice_cmp nat_cmp j.items k.items)) (is_at (λ k. slice_cmp nat_cmp name k.items)) es fs →
-    IsBoundTo es fs name b
-unfolding KeepsOthers
-written es fs name b here others = λ other. by other (pointwise nat_eq other name) refl
+module _ {X : Type 0} (es fs : List (Vec ℕ Global × X)) (text : List ℕ) (v : X) where
+  abbrev pub IsThere : Type 0
+  IsThere = lookup (is_at (λ (k : Vec ℕ Global). slice_cmp nat_cmp text k.items)) fs ≡ Some v
+
+  abbrev pub OthersStay : Type 0
+  OthersStay = KeepsOthers (eq_by_cmp (λ (j k : Vec ℕ Global). slice_cmp nat_cmp j.items k.items)) (is_at (λ k. slice_cmp nat_cmp text k.items)) es fs
+
+  pub written : IsThere → OthersStay → (other : List ℕ) → value_at other fs ≡ (if pointwise nat_eq other text then Some v else value_at other es)
+  unfolding KeepsOthers
+  written here others other = by (pointwise nat_eq other text) refl
+    where
+      by : (t : Bool) → pointwise nat_eq other text ≡ t → value_at other fs ≡ (if t then Some v else value_at other es)
+      by true e = subst (λ l. value_at l fs ≡ Some v) (sym (same_text other text (sym e))) here
+      by false e =
+          others (λ k. is_eq (slice_cmp nat_cmp other k.items)) (λ j k. (eq_by_cmp_equiv nat_list_cmp_total).congr other j.items k.items)
+          (λ k. apart_in_order text other k.items e)
+
+pub bound_to : (es fs : Entries) (name : List ℕ) (b : Option Binding) → IsThere es fs name b → OthersStay es fs name b → IsBoundTo es fs name b
+bound_to es fs name b here others other = ap if_any (written es fs name b here others other) ∙ by (pointwise nat_eq other name)
   where
-    by : (other : List ℕ) (t : Bool) → pointwise nat_eq other name ≡ t → binding_among fs other ≡ (if t then b else binding_among es other)
-    by other true e = subst (λ l. binding_among fs l ≡ b) (sym (same_text other name (sym e))) (ap if_any here)
-    by other false e =
-        ap if_any (others (λ k. is_eq (slice_cmp nat_cmp other k.items))
-        (λ j k. (eq_by_cmp_equiv nat_list_cmp_total).congr other j.items k.items)
-        (λ k. apart_in_order name other k.items e))
+    by : (t : Bool) → if_any (if t then Some b else value_at other es) ≡ (if t then b else binding_among es other)
+    by true = refl
+    by false = refl

@@ -1,14 +1,14 @@
 -- A search among spellings is a search among signatures.
-use Rattle.std.proofs.Common.{◌≡◌, ℕ, ◌+◌, ◌&&◌, ◌||◌, ◌∙◌, Bool, true, false, not, cond, true≢false, refl, sym, ap, List, [], ◌∷◌, ◌++◌, map, nat_eq, if◌then◌else◌, arith}
-use Rattle.std.specs.Cmp.Lexicographic.{pointwise}
-use Rattle.std.specs.List.{list_any, position_or_len}
+use Rattle.std.proofs.Common.{◌≡◌, ℕ, ◌+◌, ◌&&◌, ◌∙◌, Bool, true, false, refl, sym, ap, subst, length, List, [], ◌∷◌, ◌++◌, nat_eq, if◌then◌else◌, Option, Some, None, MatchOption, arith}
+use Rattle.std.specs.Cmp.Lexicographic.{pointwise, same_text}
 use Rattle.std.specs.declared.vec.Vec.{Vec}
 use Rattle.std.specs.declared.alloc.Global.{Global}
 use Rattle.mv_ast.specs.declared.program.CType.{CType}
 use Rattle.mv_ast.specs.declared.program.CType.TheVariants.{Void, Scalar, Pointer}
 use Rattle.mv_ast.specs.declared.program.Signature.{Signature}
 use Rattle.mv_check_scope.specs.Conversions.{same_type, same_types, same_signature}
-use Rattle.mv_check_scope.specs.Signatures.{place_of, with_signature, sort_of, number_of, types_words, spelling}
+use Rattle.mv_check_scope.specs.Entries.{value_at}
+use Rattle.mv_check_scope.specs.Signatures.{place_of, with_signature, sort_of, number_of, types_words, spelling, next, place_spelled, ArePlaces}
 
 -- ---- spellings
 
@@ -36,74 +36,70 @@ same_spelling s t = same_spellings (s.result ∷ s.params) (t.result ∷ t.param
 
 -- ---- searches
 
-abbrev pub Words : Type 0
-Words = Vec ℕ Global
-
-abbrev pub spells : List Words → List (List ℕ)
-spells ks = map (λ (k : Words). k.items) ks
-
-place_along : (test : List ℕ → Bool) (ks : List Words) → position_or_len (λ k. test k.items) ks ≡ position_or_len test (spells ks)
-place_along test [] = refl
-place_along test (k ∷ ks) = ap (λ n. cond (not (test k.items)) (1 + n) 0) (place_along test ks)
-
-any_along : (test : List ℕ → Bool) (ks : List Words) → list_any (λ k. test k.items) ks ≡ list_any test (spells ks)
-any_along test [] = refl
-any_along test (k ∷ ks) = ap (λ b. test k.items || b) (any_along test ks)
-
-place_spelled : (s : Signature) (ts : List Signature) → position_or_len (pointwise nat_eq (spelling s)) (map spelling ts) ≡ place_of s ts
-place_spelled s [] = refl
-place_spelled s (t ∷ ts) =
-    ap (λ b. cond (not b) (1 + position_or_len (pointwise nat_eq (spelling s)) (map spelling ts)) 0) (same_spelling s t) ∙
-    by (same_signature s t) (place_spelled s ts)
+place_is : (s : Signature) (ts : List Signature) →
+    MatchOption (place_spelled (spelling s) ts) ((length ts ≡ place_of s ts) × (ts ++ s ∷ [] ≡ with_signature s ts)) (λ n. (n ≡ place_of s ts) × (ts ≡ with_signature s ts))
+place_is s [] = (refl, refl)
+place_is s (t ∷ ts) =
+    subst
+    (λ b. MatchOption (if b then Some 0 else next (place_spelled (spelling s) ts)) ((length (t ∷ ts) ≡ place_of s (t ∷ ts)) × (t ∷ (ts ++ s ∷ []) ≡ with_signature s (t ∷ ts)))
+    (λ n. (n ≡ place_of s (t ∷ ts)) × (t ∷ ts ≡ with_signature s (t ∷ ts))))
+    (sym (same_spelling s t)) (by (same_signature s t) (place_spelled (spelling s) ts) (place_is s ts))
   where
-    by : (b : Bool) {n m : ℕ} → n ≡ m → cond (not b) (1 + n) 0 ≡ (if b then 0 else m + 1)
-    by true e = refl
-    by false e = omega (arith, e)
+    by : (b : Bool) (o : Option ℕ) →
+        MatchOption o ((length ts ≡ place_of s ts) × (ts ++ s ∷ [] ≡ with_signature s ts)) (λ n. (n ≡ place_of s ts) × (ts ≡ with_signature s ts)) →
+        MatchOption (if b then Some 0 else next o)
+        ((length (t ∷ ts) ≡ (if b then 0 else place_of s ts + 1)) × (t ∷ (ts ++ s ∷ []) ≡ (if b then t ∷ ts else t ∷ with_signature s ts)))
+        (λ n. (n ≡ (if b then 0 else place_of s ts + 1)) × (t ∷ ts ≡ (if b then t ∷ ts else t ∷ with_signature s ts)))
+    by true o h = (refl, refl)
+    by false None h = (omega (arith, h.0), ap (λ x. t ∷ x) h.1)
+    by false (Some n) h = (omega (arith, h.0), ap (λ x. t ∷ x) h.1)
 
-any_spelled : (s : Signature) (ts : List Signature) → list_any (pointwise nat_eq (spelling s)) (map spelling ts) ≡ list_any (same_signature s) ts
-any_spelled s [] = refl
-any_spelled s (t ∷ ts) = λ i. same_spelling s t i || any_spelled s ts i
+module _ (s : Signature) (ts : List Signature) where
+  abbrev Answer : Option ℕ → Type 0
+  Answer o = MatchOption o ((length ts ≡ place_of s ts) × (ts ++ s ∷ [] ≡ with_signature s ts)) (λ n. (n ≡ place_of s ts) × (ts ≡ with_signature s ts))
 
-added : (s : Signature) (ts : List Signature) → with_signature s ts ≡ (if list_any (same_signature s) ts then ts else ts ++ s ∷ [])
-added s [] = refl
-added s (t ∷ ts) = by (same_signature s t) (list_any (same_signature s) ts) (added s ts)
+  pub found : (n : ℕ) → place_spelled (spelling s) ts ≡ Some n → (n ≡ place_of s ts) × (ts ≡ with_signature s ts)
+  found n e = subst Answer e (place_is s ts)
+
+  pub missing : place_spelled (spelling s) ts ≡ None → (length ts ≡ place_of s ts) × (ts ++ s ∷ [] ≡ with_signature s ts)
+  missing e = subst Answer e (place_is s ts)
+
+-- ---- one more
+
+abbrev or_last : Option ℕ → Option ℕ → Option ℕ
+or_last None last = last
+or_last (Some n) last = Some n
+
+or_none : (o : Option ℕ) → o ≡ or_last o None
+or_none None = refl
+or_none (Some n) = refl
+
+place_more : (words : List ℕ) (s : Signature) (ts : List Signature) →
+    place_spelled words (ts ++ s ∷ []) ≡ or_last (place_spelled words ts) (if pointwise nat_eq words (spelling s) then Some (length ts) else None)
+place_more words s [] = refl
+place_more words s (t ∷ ts) =
+    ap (λ o. if pointwise nat_eq words (spelling t) then Some 0 else next o) (place_more words s ts) ∙
+    by (pointwise nat_eq words (spelling t)) (place_spelled words ts) (pointwise nat_eq words (spelling s))
   where
-    by : (b c : Bool) → with_signature s ts ≡ (if c then ts else ts ++ s ∷ []) →
-        (if b then t ∷ ts else t ∷ with_signature s ts) ≡ (if b || c then t ∷ ts else t ∷ (ts ++ s ∷ []))
-    by true c e = refl
-    by false true e = ap (λ x. t ∷ x) e
-    by false false e = ap (λ x. t ∷ x) e
+    by : (b : Bool) (o : Option ℕ) (c : Bool) →
+        (if b then Some 0 else next (or_last o (if c then Some (length ts) else None))) ≡
+        or_last (if b then Some 0 else next o) (if c then Some (length (t ∷ ts)) else None)
+    by true o c = refl
+    by false (Some n) c = refl
+    by false None true = let e : length ts + 1 ≡ length (t ∷ ts) = omega arith in ap (λ n. Some n) e
+    by false None false = refl
 
--- a signature is sought by its spelling among those of others
-module _ (k : Words) (ks : List Words) (s : Signature) (ts : List Signature) (key : k.items ≡ spelling s) (keys : spells ks ≡ map spelling ts) where
-  abbrev same : Words → Bool
-  same w = pointwise nat_eq k.items w.items
-
-  pub place_found : position_or_len same ks ≡ place_of s ts
-  place_found =
-      place_along (pointwise nat_eq k.items) ks ∙
-      (ap (λ w. position_or_len (pointwise nat_eq w) (spells ks)) key ∙
-      (ap (position_or_len (pointwise nat_eq (spelling s))) keys ∙ place_spelled s ts))
-
-  is_found : list_any same ks ≡ list_any (same_signature s) ts
-  is_found =
-      any_along (pointwise nat_eq k.items) ks ∙
-      (ap (λ w. list_any (pointwise nat_eq w) (spells ks)) key ∙
-      (ap (list_any (pointwise nat_eq (spelling s))) keys ∙ any_spelled s ts))
-
-  with_signature_by : with_signature s ts ≡ (if list_any same ks then ts else ts ++ s ∷ [])
-  with_signature_by = added s ts ∙ ap (λ b. if b then ts else ts ++ s ∷ []) (sym is_found)
-
-  pub stays : (new : Bool) → new ≡ not (list_any same ks) → new ≡ false → ts ≡ with_signature s ts
-  stays new told is = by (list_any same ks) (sym told ∙ is) ∙ sym with_signature_by
-    where
-      by : (b : Bool) → not b ≡ false → ts ≡ (if b then ts else ts ++ s ∷ [])
-      by true e = refl
-      by false e = absurd (true≢false e)
-
-  pub goes_last : (new : Bool) → new ≡ not (list_any same ks) → new ≡ true → ts ++ s ∷ [] ≡ with_signature s ts
-  goes_last new told is = by (list_any same ks) (sym told ∙ is) ∙ sym with_signature_by
-    where
-      by : (b : Bool) → not b ≡ true → ts ++ s ∷ [] ≡ (if b then ts else ts ++ s ∷ [])
-      by true e = absurd (true≢false (sym e))
-      by false e = refl
+pub pushed : (es fs : List (Vec ℕ Global × ℕ)) (key : List ℕ) (place : ℕ) (s : Signature) (ts us : List Signature) → ArePlaces es ts → us ≡ ts ++ s ∷ [] →
+    key ≡ spelling s → place ≡ length ts → place_spelled key ts ≡ None →
+    ((words : List ℕ) → value_at words fs ≡ (if pointwise nat_eq words key then Some place else value_at words es)) → ArePlaces fs us
+pushed es fs key place s ts us kept is spelt at new put = λ words.
+    put words ∙
+    (by words (pointwise nat_eq words key) refl ∙
+    (ap (λ k. or_last (place_spelled words ts) (if pointwise nat_eq words k then Some (length ts) else None)) spelt ∙
+    (sym (place_more words s ts) ∙ ap (place_spelled words) (sym is))))
+  where
+    by : (words : List ℕ) (t : Bool) → pointwise nat_eq words key ≡ t →
+        (if t then Some place else value_at words es) ≡ or_last (place_spelled words ts) (if t then Some (length ts) else None)
+    by words true e =
+        ap (λ n. Some n) at ∙ ap (λ o. or_last o (Some (length ts))) (sym (ap (λ w. place_spelled w ts) (same_text words key (sym e)) ∙ new))
+    by words false e = kept words ∙ or_none (place_spelled words ts)

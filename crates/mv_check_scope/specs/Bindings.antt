@@ -1,12 +1,11 @@
 -- What decides the meaning of a name: its innermost declaration, with how many blocks stand around that one's block.
 use Rattle.std.specs.Prelude.{◌≡◌, ℕ, ◌+◌, nat_eq, if◌then◌else◌, length, List, [], ◌∷◌, Option, Some, None}
-use Rattle.std.specs.Cmp.Lexicographic.{pointwise, slice_cmp}
-use Rattle.std.specs.Ordering.{is_eq, nat_cmp}
-use Rattle.std.specs.Map.{lookup}
+use Rattle.std.specs.Cmp.Lexicographic.{pointwise}
 use Rattle.std.specs.declared.vec.Vec.{Vec}
 use Rattle.std.specs.declared.alloc.Global.{Global}
 use Rattle.mv_check_scope.specs.declared.meaning.Meaning.{Meaning}
 use Rattle.mv_check_scope.specs.declared.step.Binding.{Binding}
+use Rattle.mv_check_scope.specs.Entries.{value_at}
 use Rattle.mv_check_scope.specs.Names.{Names, Space}
 use Rattle.mv_check_scope.specs.Spaces.{named}
 
@@ -38,7 +37,7 @@ if_any None = None
 if_any (Some b) = b
 
 abbrev pub binding_among : Entries → List ℕ → Option Binding
-binding_among entries name = if_any (lookup (λ k. is_eq (slice_cmp nat_cmp name k.items)) entries)
+binding_among entries name = if_any (value_at name entries)
 
 -- a name is bound anew, and the others stay
 abbrev pub IsBoundTo : Entries → Entries → List ℕ → Option Binding → Type 0

@@ -2,6 +2,7 @@ pub mod Bindings
 pub mod Constants
 pub mod Conversions
 pub mod Domains
+pub mod Entries
 pub mod Known
 pub mod Names
 pub mod Scoped

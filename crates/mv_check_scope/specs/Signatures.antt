@@ -1,9 +1,13 @@
 -- Each signature once: the number of one is its place in the list.
-use Rattle.std.specs.Prelude.{ℕ, List, [], ◌∷◌, ◌++◌, ◌+◌, if◌then◌else◌}
+use Rattle.std.specs.Prelude.{◌≡◌, ℕ, List, [], ◌∷◌, ◌++◌, ◌+◌, if◌then◌else◌, nat_eq, Option, Some, None}
+use Rattle.std.specs.Cmp.Lexicographic.{pointwise}
+use Rattle.std.specs.declared.vec.Vec.{Vec}
+use Rattle.std.specs.declared.alloc.Global.{Global}
 use Rattle.mv_ast.specs.declared.program.CType.{CType}
 use Rattle.mv_ast.specs.declared.program.CType.TheVariants.{Void, Scalar, Pointer}
 use Rattle.mv_ast.specs.declared.program.Signature.{Signature}
 use Rattle.mv_check_scope.specs.Conversions.{kind_number, same_signature}
+use Rattle.mv_check_scope.specs.Entries.{value_at}
 
 -- the place of a signature in a list, or the list's length
 abbrev pub place_of : Signature → List Signature → ℕ
@@ -36,3 +40,16 @@ types_words (t ∷ ts) = type_words t ++ types_words ts
 
 abbrev pub spelling : Signature → List ℕ
 spelling s = types_words (s.result ∷ s.params)
+
+-- the place of the first signature with a spelling
+abbrev pub next : Option ℕ → Option ℕ
+next None = None
+next (Some n) = Some (n + 1)
+
+abbrev pub place_spelled : List ℕ → List Signature → Option ℕ
+place_spelled words [] = None
+place_spelled words (s ∷ ss) = if pointwise nat_eq words (spelling s) then Some 0 else next (place_spelled words ss)
+
+-- an ordered map finds each signature at its place
+abbrev pub ArePlaces : List (Vec ℕ Global × ℕ) → List Signature → Type 0
+ArePlaces entries ss = (words : List ℕ) → value_at words entries ≡ place_spelled words ss

@@ -10,7 +10,7 @@
 //!   `constant_value`: the value of an expression that is built of numbers and operators alone and whose evaluation
 //!   divides by no zero.
 //! - `SignatureList::number`: each signature stands once in the list, and has its place as its number. It is found by its
-//!   spelling in an `indexmap` set behind a model that shows the plain list, so a look-up searches nothing.
+//!   spelling in an ordered map behind a model that shows the plain list.
 //! - `Domain`: the values of a domain behind a model that shows a plain list; the declarators that an attribute holds for share
 //!   them, and so do the switches of an enumerated type, whose `EnumeratedType` has them made once.
 //! - `mv_test_top` shows constants, conversions, hiding and signatures against C's rules, the constants as gcc has

@@ -1,33 +1,33 @@
 //! Signatures, each once.
 
-ghost use Rattle.std.specs.Prelude.{◌≡◌, ◌<◌, ◌^◌, [], ◌++◌, OnOk, IfOk, length};
-ghost use Rattle.mv_check_scope.specs.Signatures.{place_of, with_signature, sort_of, number_of, type_words, spelling};
+ghost use Rattle.std.specs.Prelude.{◌≡◌, ◌<◌, ◌^◌, [], ◌∷◌, ◌++◌, None, OnOk, IfOk, length};
+ghost use Rattle.mv_check_scope.specs.Signatures.{place_of, with_signature, sort_of, number_of, type_words, spelling, place_spelled};
 
 use crate::convert::kind_number;
-use indexmap::IndexSet;
 use mv_ast::program::{CType, Signature};
 use mv_num::list::List;
 use std::alloc::{AllocError, Global};
+use std::collections::BTreeMap;
 use std::marker::Model;
 
-/// Signatures in the order in which they came up, each once. The number of one is its place. It is found by its spelling, with no
-/// search through the others.
+/// Signatures in the order in which they came up, each once. The number of one is its place. It is found by its spelling in an
+/// ordered map, with no search through the others.
 #[derive(Drop)]
 pub struct SignatureList {
-    signatures: List<Signature>,
-    spellings: IndexSet<Vec<u32>>,
+    signatures: Vec<Signature>,
+    places: BTreeMap<Vec<u32>, u32>,
 }
 
 impl Model for SignatureList {
-    ghost use Rattle.std.specs.Prelude.{◌≡◌, List, map};
+    ghost use Rattle.std.specs.Prelude.{List};
     ghost use Rattle.mv_ast.specs.declared.program.Signature.{Signature};
-    ghost use Rattle.mv_check_scope.specs.Signatures.{spelling};
+    ghost use Rattle.mv_check_scope.specs.Signatures.{ArePlaces};
 
     ghost Value = { List Signature };
 
-    ghost view = { λ l. l.signatures };
+    ghost view = { λ l. l.signatures.items };
 
-    ghost invariant = { λ l. map (λ words. words.items) l.spellings.keys ≡ map spelling l.signatures };
+    ghost invariant = { λ l. ArePlaces l.places.entries l.signatures.items };
 }
 
 // Which of the three a type is.
@@ -79,8 +79,8 @@ impl SignatureList {
         ensures { result ≡ [] }
     {
         SignatureList {
-            signatures: List::new(alloc),
-            spellings: IndexSet::new(alloc),
+            signatures: Vec::new(alloc),
+            places: BTreeMap::new(alloc),
         }
     }
 
@@ -104,9 +104,26 @@ impl SignatureList {
     {
         let SignatureList {
             signatures,
-            spellings: _,
+            places: _,
         } = self;
-        signatures
+        List::from_vec(signatures)
+    }
+
+    // Adds a signature that the list hasn't yet, by its spelling.
+    fn push(&mut self, words: Vec<u32>, s: Signature) -> Result<u32, AllocError>
+        requires room { length self.old < 2 ^ 32 }
+        requires spelt { words.items ≡ spelling s }
+        requires new { place_spelled words.items self.old ≡ None }
+        ensures number { IfOk result (λ number. number ≡ length self.old) }
+        ensures added { OnOk result (self.new ≡ self.old ++ s ∷ []) }
+    {
+        let place = self.signatures.len() as u32;
+        self.signatures.push(s)?;
+        if self.places.insert(words, place).is_err() {
+            self.signatures.pop();
+            return Err(AllocError);
+        }
+        Ok(place)
     }
 
     /// The number of a signature, which the list gets if it hasn't it yet.
@@ -116,14 +133,9 @@ impl SignatureList {
         ensures added { OnOk result (self.new ≡ with_signature s self.old) }
     {
         let words = spelling(alloc, &s)?;
-        let (place, new) = self.spellings.insert_full(words)?;
-        if !new {
-            return Ok(place as u32);
+        match self.places.get(words.as_slice()) {
+            Some(place) => Ok(*place),
+            None => self.push(words, s),
         }
-        if self.signatures.push(s).is_err() {
-            self.spellings.pop();
-            return Err(AllocError);
-        }
-        Ok(place as u32)
     }
 }

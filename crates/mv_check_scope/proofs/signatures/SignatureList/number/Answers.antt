@@ -1,34 +1,42 @@
-use Rattle.std.proofs.Common.{◌≡◌, ◌∙◌, ap, sym, true≢false, false, Result, Ok, Err, OnOk}
-use Rattle.std.specs.Result.{is_err}
-use Rattle.mv_check_scope.specs.Signatures.{place_of, with_signature}
-use Rattle.mv_check_scope.proofs.SignatureLists.{place_found, stays, goes_last}
+use Rattle.std.proofs.Common.{◌≡◌, ◌∙◌, ap, sym, subst, IfOk, OnOk, Some, None}
+use Rattle.mv_check_scope.specs.Signatures.{place_of, with_signature, place_spelled, spelling}
+use Rattle.mv_check_scope.proofs.SignatureLists.{found, missing}
 use Rattle.mv_check_scope.proofs.signatures.SignatureList.number.Goals as goal
 
-of_ok : {T E P : Type 0} (r : Result T E) → OnOk r P → false ≡ is_err r → P
-of_ok (Ok value) given e = given
-of_ok (Err error) given e = absurd (true≢false (sym e))
+pub returns-in-Some-clause-number : goal.returns-in-Some-clause-number
+returns-in-Some-clause-number c =
+    let ss = c.self.inside.signatures.items in
+    let there : place_spelled (spelling c.args.s) ss ≡ Some c.in-Some.place.now =
+    sym
+    (c.in-Some.ensures.value ∙
+    (c.self.invariant c.as_slice.result.now ∙ ap (λ w. place_spelled w ss) (c.as_slice.ensures.value ∙ c.in_ok-words.ensures))) in
+    (found c.args.s ss c.in-Some.place.now there).0 ∙ ap (place_of c.args.s) c.self.view_is
 
-pub returns-then-not-new-clause-number : goal.returns-then-not-new-clause-number
-returns-then-not-new-clause-number c =
-    c.in_ok-place.ensures.index ∙
-    (place_found c.in_ok-words.words c.self.inside.spellings.keys c.args.s c.self.inside.signatures c.in_ok-words.ensures c.self.invariant ∙
-    ap (λ l. place_of c.args.s l) c.self.view_is)
+pub returns-in-Some-clause-added : goal.returns-in-Some-clause-added
+returns-in-Some-clause-added c =
+    let ss = c.self.inside.signatures.items in
+    let there : place_spelled (spelling c.args.s) ss ≡ Some c.in-Some.place.now =
+    sym
+    (c.in-Some.ensures.value ∙
+    (c.self.invariant c.as_slice.result.now ∙ ap (λ w. place_spelled w ss) (c.as_slice.ensures.value ∙ c.in_ok-words.ensures))) in
+    sym c.self.view_is ∙ ((found c.args.s ss c.in-Some.place.now there).1 ∙ ap (with_signature c.args.s) c.self.view_is)
 
-pub returns-then-not-new-clause-added : goal.returns-then-not-new-clause-added
-returns-then-not-new-clause-added c =
-    stays c.in_ok-words.words c.self.inside.spellings.keys c.args.s c.self.inside.signatures c.in_ok-words.ensures c.self.invariant
-    c.in_ok-place.new c.in_ok-place.ensures.added c.if-not-new.true ∙
-    ap (λ l. with_signature c.args.s l) c.self.view_is
+pub returns-in-None-clause-number : goal.returns-in-None-clause-number
+returns-in-None-clause-number c =
+    let ss = c.self.inside.signatures.items in
+    let none : place_spelled (spelling c.args.s) c.args.self.now ≡ None =
+    sym
+    (c.in-None.ensures.value ∙
+    (c.self.invariant c.as_slice.result.now ∙
+    (ap (λ w. place_spelled w ss) (c.as_slice.ensures.value ∙ c.in_ok-words.ensures) ∙ ap (place_spelled (spelling c.args.s)) c.self.view_is))) in
+    subst (λ k. IfOk c.push.result (λ n. n ≡ k)) (missing c.args.s c.args.self.now none).0 c.push.ensures.number
 
-pub returns-clause-number : goal.returns-clause-number
-returns-clause-number c =
-    c.in_ok-place.ensures.index ∙
-    (place_found c.in_ok-words.words c.self.inside.spellings.keys c.args.s c.self.inside.signatures c.in_ok-words.ensures c.self.invariant ∙
-    ap (λ l. place_of c.args.s l) c.self.view_is)
-
-pub returns-clause-added : goal.returns-clause-added
-returns-clause-added c =
-    of_ok c.push.result c.push.ensures.ok c.if-is_err.ensures.value ∙
-    (goes_last c.in_ok-words.words c.self.inside.spellings.keys c.args.s c.self.inside.signatures c.in_ok-words.ensures c.self.invariant
-    c.in_ok-place.new c.in_ok-place.ensures.added c.if-not-new.false ∙
-    ap (λ l. with_signature c.args.s l) c.self.view_is)
+pub returns-in-None-clause-added : goal.returns-in-None-clause-added
+returns-in-None-clause-added c =
+    let ss = c.self.inside.signatures.items in
+    let none : place_spelled (spelling c.args.s) c.args.self.now ≡ None =
+    sym
+    (c.in-None.ensures.value ∙
+    (c.self.invariant c.as_slice.result.now ∙
+    (ap (λ w. place_spelled w ss) (c.as_slice.ensures.value ∙ c.in_ok-words.ensures) ∙ ap (place_spelled (spelling c.args.s)) c.self.view_is))) in
+    subst (λ l. OnOk c.push.result (c.push.new.self ≡ l)) (missing c.args.s c.args.self.now none).1 c.push.ensures.added
