@@ -1,0 +1,4 @@
+mod Globals
+mod Kept
+mod Induction
+mod Expressions
