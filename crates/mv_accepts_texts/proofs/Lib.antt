@@ -1,8 +1,6 @@
 mod Globals
-mod Kept
-mod Induction
-mod Names
-mod Judging
 mod Expressions
 mod Forms
 mod Scopes
+mod Specifiers
+mod Shapes

@@ -14,7 +14,7 @@ use Rattle.mv_check_scope.specs.Scopes.{sought}
 use Rattle.mv_check_scope.specs.Spaces.{named, or_else, meaning_in}
 use Rattle.mv_check_limits.specs.Limits.{first_above}
 use Rattle.mv_check_outline.specs.Names.{is_among, same_name}
-use Rattle.mv_accepts_texts.proofs.Names.{named_last, entered_means, left_is}
+use Rattle.mv_accepts_statements.proofs.Names.{named_last, entered_means, left_is}
 use Rattle.mv_accepts_texts.specs.Expressions.{NameList}
 use Rattle.mv_accepts_texts.specs.Meanings.{is_global, names_global}
 use Rattle.mv_accepts_texts.specs.Texts.{Part, undeclared, naming, declaring, next, block}
