@@ -4,3 +4,4 @@ mod Forms
 mod Scopes
 mod Specifiers
 mod Shapes
+mod Locals

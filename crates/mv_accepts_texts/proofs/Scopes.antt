@@ -136,6 +136,15 @@ module _ (start : Scope) where
   tells_counts part xs ys s t a q h =
       record { moves = record { around = h.moves.around; few = λ f. h.moves.few (q f) }; hidden = h.hidden; named = h.named }
 
+  -- what is neither a name nor a signature makes no difference
+  pub tells_same : (part : Part) (counts : List ℕ) (s t u : Scope) (a : ℕ → Bool) → u.names ≡ t.names → u.signatures ≡ t.signatures → Tells part counts s t a →
+      Tells part counts s u a
+  tells_same part counts s t u a q r h = record {
+    moves = record { around = ap (λ names. names.around) q ∙ h.moves.around; few = λ f k. rw r (h.moves.few f k) };
+    hidden = λ d k. hides_joined (part d).0 [] start t u (h.hidden d k) (hides_names t u q);
+    named = h.named;
+  }
+
   pub tells_naming : (names : NameList) (s : Scope) (made : ℕ → Bool) → ((g : ℕ) → made g ≡ names_global g s names) → Tells (naming names) [] s s made
   tells_naming names s made h = record {
     moves = moves_same s;
