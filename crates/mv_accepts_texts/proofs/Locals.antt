@@ -1,5 +1,5 @@
 -- What declarations in a block and the parameters of a function do to the scope.
-use Rattle.std.proofs.Common.{◌≡◌, ℕ, Bool, true, false, ◌||◌, refl, sym, ◌∙◌, ap, subst, is_some, if◌then◌else◌, length, List, [], ◌∷◌, ◌++◌, map, Option, Some, None}
+use Rattle.std.proofs.Common.{◌≡◌, ℕ, Bool, true, false, ◌||◌, refl, sym, ◌∙◌, ap, subst, is_some, if◌then◌else◌, length, List, [], ◌∷◌, ◌++◌, map, append-nil, append_assoc, Option, Some, None}
 use Rattle.std.specs.List.{concat, flat_map}
 use Rattle.std.proofs.lemmas.List.Folds.{list_any-append}
 use Rattle.mv_ast.specs.declared.place.Place.{Place}
@@ -162,3 +162,74 @@ module _ (start : Scope) where
 
   abbrev Locals : List Declarator → Scope × List Stmt → Scope × List Stmt → Type 0
   Locals ds d e = (new : List Stmt) × (e.1 ≡ d.1 ++ new) × Tells start (in_turn (map declarator ds)) (concat (map declarator_parameters ds)) d.0 e.0 (λ g. StmtsName g new)
+
+  stmts_more : (g : ℕ) (x : Stmt) (xs : List Stmt) → StmtsName g (x ∷ xs) ≡ (StmtNames g x || StmtsName g xs)
+  stmts_more g x xs = among_both g _ _
+
+  locals_tell : (t : CType) (fixed : Bool) (ds : List Declarator) (d : Scope × List Stmt) → IfGood (in_order (found_next (local t fixed)) ds d) (Locals ds d)
+  locals_tell t fixed [] d = ([], sym (append-nil d.1), tells_naming start [] d.0 (λ g. false) (λ g. refl))
+  locals_tell t fixed (x ∷ ds) d =
+      if_then (λ e. (s : Stmt) × (e.1 ≡ d.1 ++ s ∷ []) × Local x d.0 (e.0, s)) (Locals (x ∷ ds) d) (found_next (local t fixed) x d) (in_order (found_next (local t fixed)) ds)
+      (if_then (Local x d.0) (λ e. (s : Stmt) × (e.1 ≡ d.1 ++ s ∷ []) × Local x d.0 (e.0, s)) (local t fixed x d.0) _ (local_tells t fixed x d.0) (λ e h. (e.1, refl, h))) (λ e h.
+      if_more (Locals ds e) (Locals (x ∷ ds) d) (in_order (found_next (local t fixed)) ds e)
+      (λ z k. (
+        h.0 ∷ k.0,
+        k.1 ∙ (ap (λ ss. ss ++ k.0) h.1 ∙ append_assoc d.1 (h.0 ∷ []) k.0),
+        tells_made start _ _ d.0 z.0 _ _ (λ g. stmts_more g h.0 k.0)
+            (tells_next start (declarator x) (in_turn (map declarator ds)) (declarator_parameters x) (concat (map declarator_parameters ds)) d.0 e.0 z.0 _ _ h.2 k.2),
+      )) (locals_tell t fixed ds e))
+
+  adds_tell : (names : NameList) (s t : Scope) → Adds names s t → Tells start (declaring names) [] s t (λ g. false)
+  adds_tell names s t h = tells_declaring start names [] s t h.hides h.moves
+
+  pub declaration_tells : (s : Scope) (specs : Specs) (ds : List Declarator) →
+      IfGood (local_declaration s specs ds)
+      (λ e. Tells start (next (declaring (enumerators_of specs)) (in_turn (map declarator ds))) (concat (map declarator_parameters ds)) s e.0 (λ g. StmtsName g e.1))
+  declaration_tells s specs ds =
+      let c : List ℕ = concat (map declarator_parameters ds) in
+      let p : Part = in_turn (map declarator ds) in
+      if_then (λ b. Adds (enumerators_of specs) s b.0) (λ e. Tells start (next (declaring (enumerators_of specs)) p) c s e.0 (λ g. StmtsName g e.1))
+      (specifiers true (map (λ d. node.LocalObject) ds) specs s) _ (specifiers_adds true (map (λ d. node.LocalObject) ds) specs s) (λ b h.
+      if_more (Locals ds (b.0, [])) (λ e. Tells start (next (declaring (enumerators_of specs)) p) c s e.0 (λ g. StmtsName g e.1))
+      (in_order (found_next (local b.1.ctype b.1.constant)) ds (b.0, []))
+      (λ e k.
+      tells_made start _ c s e.0 _ _ (λ g. ap (StmtsName g) k.1)
+      (tells_next start (declaring (enumerators_of specs)) p [] c s b.0 e.0 (λ g. false) _ (adds_tell (enumerators_of specs) s b.0 h) k.2))
+      (locals_tell b.1.ctype b.1.constant ds (b.0, [])))
+
+  -- ---- parameters
+
+  abbrev pub params_counts : List Param → List ℕ
+  params_counts ps = concat (map (λ p. declarator_parameters p.name) ps)
+
+  parameter_tells : (p : Param) (s : Scope) → IfGood (rules.parameter p s) (λ t. Tells start (parameter p) (declarator_parameters p.name) s t (λ g. false))
+  parameter_tells p s =
+      let c : List ℕ = shape_parameters p.name.shape in
+      let R : Scope → Type 0 = λ t. Tells start (parameter p) (declarator_parameters p.name) s t (λ g. false) in
+      if_then (λ b. Adds (enumerators_of p.specs) s b.0) R (specifiers true (node.Parameter ∷ []) p.specs s) _ (specifiers_adds true (node.Parameter ∷ []) p.specs s) (λ b h.
+      if_then (λ e. Keeps c b.0 e.0) R (declared_as p.name.shape b.1.ctype b.1.constant b.0) _ (declared_keeps p.name.shape b.1.ctype b.1.constant b.0) (λ e k.
+      if_then (λ a. Unit {0}) R (attributes (node.Parameter ∷ []) None e.0 p.name.marks b.1.attribute) _
+      (if_any (attributes (node.Parameter ∷ []) None e.0 p.name.marks b.1.attribute)) (λ a u.
+      if_more (Found_parameter p.name.place e.0 p.name.name) R (concluded p.name.place e.0 (node.Parameter true p.name.name e.1) (defined_parameter p.name.name e.1 e.0))
+      (λ t f. told b.0 e.0 t h k f) (parameter_concluded p.name.place e.0 p.name.name e.1))))
+    where
+      told : (s1 s2 t : Scope) → Adds (enumerators_of p.specs) s s1 → Keeps (shape_parameters p.name.shape) s1 s2 → Adds (or_nothing p.name.name ∷ []) s2 t →
+          Tells start (parameter p) (declarator_parameters p.name) s t (λ g. false)
+      told s1 s2 t h k f =
+          let names : NameList = enumerators_of p.specs in
+          tells_declaring start (name_of p.name ∷ names) (declarator_parameters p.name) s t
+          (hides_joined names (name_of p.name ∷ []) s s2 t (hides_joined names [] s s1 s2 h.hides (hides_names s1 s2 k.0)) f.hides)
+          (record {
+            around = f.moves.around ∙ (ap (λ spaces. spaces.around) k.0 ∙ h.moves.around);
+            few = λ i j. f.moves.few refl (k.1 (subst few (declarator_is p.name) i) (h.moves.few refl j));
+          })
+
+  pub parameters_tell : (ps : List Param) (s : Scope) →
+      IfGood (parameters ps s) (λ t. Tells start (in_turn (map parameter ps)) (params_counts ps) s t (λ g. false))
+  parameters_tell [] s = tells_naming start [] s (λ g. false) (λ g. refl)
+  parameters_tell (p ∷ ps) s =
+      if_then (λ t. Tells start (parameter p) (declarator_parameters p.name) s t (λ g. false)) (λ t. Tells start (in_turn (map parameter (p ∷ ps))) (params_counts (p ∷ ps)) s t (λ g. false))
+      (rules.parameter p s) (parameters ps) (parameter_tells p s) (λ t h.
+      if_more (λ u. Tells start (in_turn (map parameter ps)) (params_counts ps) t u (λ g. false)) (λ u. Tells start (in_turn (map parameter (p ∷ ps))) (params_counts (p ∷ ps)) s u (λ g. false))
+      (parameters ps t)
+      (λ u k. tells_next start (parameter p) (in_turn (map parameter ps)) (declarator_parameters p.name) (params_counts ps) s t u (λ g. false) (λ g. false) h k) (parameters_tell ps t))
