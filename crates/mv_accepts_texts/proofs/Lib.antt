@@ -5,3 +5,4 @@ mod Scopes
 mod Specifiers
 mod Shapes
 mod Locals
+mod Statements

@@ -72,7 +72,7 @@ abbrev or_nothing : Option (List ℕ) → List ℕ
 or_nothing None = []
 or_nothing (Some name) = name
 
-broken_anyway : {A : Type 0} (P : A → Type 0) (place : Place) (found : A) (b : Bool) (first second : ℕ) →
+pub broken_anyway : {A : Type 0} (P : A → Type 0) (place : Place) (found : A) (b : Bool) (first second : ℕ) →
     IfGood (unless_broken place (if b then Some first else Some second) found) P
 broken_anyway P place found true first second = tt
 broken_anyway P place found false first second = tt
