@@ -6,3 +6,4 @@ mod Specifiers
 mod Shapes
 mod Locals
 mod Statements
+mod Functions

@@ -122,6 +122,9 @@ module _ (place : Place) (s : Scope) where
 keeps_moves : (counts : List ℕ) (s t : Scope) → Keeps counts s t → Moves counts s t
 keeps_moves counts s t h = record { around = ap (λ names. names.around) h.0; few = h.1 }
 
+abbrev pub params_counts : List Param → List ℕ
+params_counts ps = concat (map (λ p. declarator_parameters p.name) ps)
+
 module _ (start : Scope) where
   abbrev Local : Declarator → Scope → Scope × Stmt → Type 0
   Local d s e = Tells start (declarator d) (declarator_parameters d) s e.0 (λ g. StmtNames g e.1)
@@ -198,9 +201,6 @@ module _ (start : Scope) where
       (locals_tell b.1.ctype b.1.constant ds (b.0, [])))
 
   -- ---- parameters
-
-  abbrev pub params_counts : List Param → List ℕ
-  params_counts ps = concat (map (λ p. declarator_parameters p.name) ps)
 
   parameter_tells : (p : Param) (s : Scope) → IfGood (rules.parameter p s) (λ t. Tells start (parameter p) (declarator_parameters p.name) s t (λ g. false))
   parameter_tells p s =

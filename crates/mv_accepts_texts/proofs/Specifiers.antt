@@ -21,6 +21,7 @@ use Rattle.mv_check_rules.specs.Nodes as node
 use Rattle.mv_check_rules.specs.Rules.{least_broken, unless_broken, concluded}
 use Rattle.mv_check_rules.specs.Declarations.{in_order, Enumerators, enumerator_value, enumerator, new_enumeration, enumeration_of, enumeration, Attribution, attribute, Specifier, Enum, Attribute, stands_before, specifiers_in_order, Specified, specifier, kind_named, type_of_words, Base, base_of, specifiers}
 use Rattle.mv_accepts_statements.proofs.Judging.{IfGood, if_any, if_more, if_then}
+use Rattle.mv_accepts_statements.proofs.Names.{names_kept}
 use Rattle.mv_accepts_texts.specs.Expressions.{NameList}
 use Rattle.mv_accepts_texts.specs.Meanings.{is_global}
 use Rattle.mv_accepts_texts.specs.Texts.{members_of, enumerators_of}
@@ -32,11 +33,13 @@ use Rattle.mv_accepts_texts.proofs.Scopes.{Hides, hides_none, hides_names, hides
 pub record Adds (names : NameList) (s t : Scope) : Type 0 where
   pub moves : Moves [] s t
   pub hides : Hides names s t
+  pub kept : (n : List ℕ) (m : Meaning) → named n s.names.here ≡ Some m → named n t.names.here ≡ Some m
 
 pub adds_same : (s t : Scope) → t.names ≡ s.names → t.signatures ≡ s.signatures → Adds [] s t
 adds_same s t q r = record {
   moves = record { around = ap (λ names. names.around) q; few = λ f h. rw r h };
   hides = hides_names s t q;
+  kept = λ n m h. ap (λ names. named n names.here) q ∙ h;
 }
 
 pub adds_none : (s : Scope) → Adds [] s s
@@ -46,6 +49,7 @@ pub adds_joined : (xs ys : NameList) (s t u : Scope) → Adds xs s t → Adds ys
 adds_joined xs ys s t u h k = record {
   moves = moves_joined [] [] s t u h.moves k.moves;
   hides = hides_same (ys ++ xs) (xs ++ ys) s u other (hides_joined xs ys s t u h.hides k.hides);
+  kept = λ n m q. k.kept n m (h.kept n m q);
 }
   where
     other : (n : List ℕ) → is_among n (ys ++ xs) ≡ is_among n (xs ++ ys)
@@ -56,6 +60,7 @@ pub adds_declared : (s : Scope) (name : List ℕ) (m : Meaning) → named name s
 adds_declared s name m new local = record {
   moves = record { around = refl; few = λ f h. h };
   hides = hides_declared s name m new local;
+  kept = λ n k h. names_kept n s.names.here (name, m) k h;
 }
 
 -- ---- rules that are kept
