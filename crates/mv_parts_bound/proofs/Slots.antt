@@ -1,6 +1,5 @@
 -- One slot stands in the code of a function for each direct call of an attributed function, and it is the callee's.
-use Rattle.std.proofs.Common.{◌≡◌, ℕ, zero, suc, ◌+◌, ◌*◌, Bool, true, false, cond, eqb, List, [], ◌∷◌, ◌++◌, pos, Option, Some, None, map, refl, sym, subst, ap, ◌∙◌, arith}
-use Rattle.mv_num.specs.declared.kind.Kind.{Kind}
+use Rattle.std.proofs.Common.{◌≡◌, ℕ, zero, suc, ◌+◌, ◌*◌, Bool, true, false, cond, ltb, List, [], ◌∷◌, ◌++◌, pos, Option, Some, None, map, refl, sym, subst, ap, ◌∙◌, arith}
 use Rattle.mv_num.specs.declared.kind.Kind.TheVariants as kind
 use Rattle.mv_ast.specs.declared.program.Known.{Known}
 use Rattle.mv_ast.specs.declared.program.Known.TheVariants.{Getchar, Putchar, Poll, Plan}
@@ -18,12 +17,12 @@ use Rattle.mv_ir.specs.declared.stm.Stm.TheOpen.{Stm-F}
 use Rattle.mv_ir.specs.declared.stm.Stm.TheOpen as stm
 use Rattle.mv_ir.specs.declared.stm.Stm.TheViews.{roll-Stm}
 use Rattle.mv_ir.specs.declared.stm.Stm.TheFolds.{map-Stm}
-use Rattle.mv_ir.proofs.Induction.{Each, TreeChildren, tree_ind, StmChildren, stm_ind, stms_ind}
-use Rattle.mv_select_trees.specs.TreeCode.{one, two, upper_bits, lower_bits, number_lines, tree_lines, temp_register}
-use Rattle.mv_select_trees.proofs.TreesAreMade.{number_made, lines_made}
+use Rattle.mv_ir.proofs.Induction.{Each, TreeChildren, StmChildren, stm_ind, stms_ind}
+use Rattle.mv_select_trees.specs.TreeCode.{one, two, upper_bits, lower_bits, number_lines, tree_into, tree_lines, temp_register, temp_offset}
+use Rattle.mv_select_trees.proofs.TreesAreMade.{number_made, into_made, lines_made}
 use Rattle.mv_select_statements.specs.declared.elements.Home.{Home}
 use Rattle.mv_select_statements.specs.declared.elements.Home.TheVariants as place_at
-use Rattle.mv_select_statements.specs.StatementCode.{first, second, third, trap_label, write_temp, division, element_offset, element_lines, test_lines}
+use Rattle.mv_select_statements.specs.StatementCode.{first, second, third, trap_label, target, keep_lines, division, element_offset, element_lines, test_lines}
 use Rattle.mv_select_control.specs.declared.enclosing.Enclosing.{Enclosing}
 use Rattle.mv_select_control.specs.FlowCode.{Plan as PlanOfCode, Emitted, in_turn, branch_lines, loop_at, block_at, home, size, code_layer, statement_code}
 use Rattle.mv_select_control.proofs.StatementsDo.{code_roll}
@@ -72,10 +71,21 @@ anything_inside (tree.Unary o a) h = tt
 anything_inside (tree.Binary o a b) h = (tt, tt)
 anything_inside (tree.Narrow k a) h = tt
 
+into_none : (place : ℕ → ℕ) (t : Tree) (d r : ℕ) → HasNone (tree_into place t d r)
+into_none place t d r = into_made HasNone refl (λ i. refl) (λ a b h k. after a b h k) Anything anything_inside (λ f d h. refl) place t tt d r
+
 tree_none : (place : ℕ → ℕ) (t : Tree) (r : ℕ) → HasNone (tree_lines place t r)
 tree_none place t r = lines_made HasNone refl (λ i. refl) (λ a b h k. after a b h k) Anything anything_inside (λ f d h. refl) place t tt r
 
 -- ---- parts of statements
+
+keep_none : (t : ℕ) → HasNone (keep_lines t)
+unfolding keep_lines
+keep_none t = by_place (ltb t 9)
+  where
+    by_place : (is_low : Bool) → HasNone (cond is_low [] (one (Sw 2 first (pos (temp_offset t)))))
+    by_place true = refl
+    by_place false = refl
 
 test_none : (n : ℕ) → HasNone (test_lines n)
 test_none n = after (number_lines n third) (Branch 7 first third (trap_label 2) ∷ []) (number_none n third) refl
@@ -188,17 +198,17 @@ module _ (weight : ℕ → ℕ) (place : ℕ → ℕ) (is_attributed : ℕ → B
     trees = tree_none place
 
     layer : (x : Stm-F Stm) → StmChildren StmHas x → CodeHas (layer_weight direct 0 (map-Stm Stm ℕ w x)) (code_layer P (map-Stm Stm Emitted (statement_code P) x))
-    layer (stm.Set t v) h around label = behind weight (tree_lines place v first) (one (write_temp t first)) (trees v first) refl
+    layer (stm.Set t v) h around label = behind weight (tree_into place v (target t) first) (keep_lines t) (into_none place v (target t) first) (none_weighs weight (keep_lines t) (keep_none t))
     layer (stm.SetGlobal g v) h around label =
         behind weight (tree_lines place v first) (two (Lui second (pos (upper_bits (place g)))) (Sw second first (lower_bits (place g)))) (trees v first) refl
     layer (stm.Divide t o a b) h around label =
-        let rest = Branch 0 second 0 (trap_label 1) ∷ two (division o) (write_temp t first) in
-        behind weight (tree_lines place a first) (tree_lines place b second ++ rest) (trees a first) (behind weight (tree_lines place b second) rest (trees b second) refl)
+        let rest = Branch 0 second 0 (trap_label 1) ∷ (Word (division o (target t)) ∷ keep_lines t) in
+        behind weight (tree_lines place a first) (tree_lines place b second ++ rest) (trees a first) (behind weight (tree_lines place b second) rest (trees b second) (none_weighs weight rest (keep_none t)))
     layer (stm.Check a i) h around label = behind weight (tree_lines place i first) (test_lines (size P a)) (trees i first) (none_weighs weight (test_lines (size P a)) (test_none (size P a)))
     layer (stm.Read t a i) h around label =
-        let load = two (Lw first first (element_offset (home P a))) (write_temp t first) in
+        let load = Word (Lw (target t) first (element_offset (home P a))) ∷ keep_lines t in
         behind weight (tree_lines place i first) (test_lines (size P a) ++ (element_lines (home P a) ++ load)) (trees i first)
-        (behind weight (test_lines (size P a)) (element_lines (home P a) ++ load) (test_none (size P a)) (behind weight (element_lines (home P a)) load (element_none (home P a)) refl))
+        (behind weight (test_lines (size P a)) (element_lines (home P a) ++ load) (test_none (size P a)) (behind weight (element_lines (home P a)) load (element_none (home P a)) (none_weighs weight load (keep_none t))))
     layer (stm.Write a i v) h around label =
         let store = one (Sw first second (element_offset (home P a))) in
         behind weight (tree_lines place i first) (tree_lines place v second ++ (test_lines (size P a) ++ (element_lines (home P a) ++ store))) (trees i first)

@@ -7,7 +7,6 @@ use Rattle.mv_isa.specs.declared.labelled.Line.TheVariants.{Word, Label, Jump, B
 use Rattle.mv_ir.specs.declared.tree.Tree.{Tree}
 use Rattle.mv_ir.specs.declared.tree.Tree.TheOpen.{Tree-F}
 use Rattle.mv_ir.specs.declared.tree.Tree.TheOpen as tree
-use Rattle.mv_ir.specs.declared.tree.Tree.TheViews.{roll-Tree}
 use Rattle.mv_ir.specs.declared.tree.Tree.TheFolds.{map-Tree}
 use Rattle.mv_ir.specs.declared.stm.Array.{Array}
 use Rattle.mv_ir.specs.declared.stm.Array.TheVariants as array
@@ -28,8 +27,8 @@ use Rattle.mv_select_trees.specs.Rooms.{place_in}
 use Rattle.mv_select_trees.proofs.Rolls.{into_tree, into_roll, lines_are}
 use Rattle.mv_select_statements.specs.declared.elements.Home.{Home}
 use Rattle.mv_select_statements.specs.declared.elements.Home.TheVariants as place_at
-use Rattle.mv_select_statements.specs.StatementCode.{first, second, trap_label, write_temp, division, element_offset, element_lines, test_lines}
-use Rattle.mv_select_control.specs.FlowCode.{Plan, Emitted, both, branch_code, if_code, loop_code, block_code, plain, home, home_of, size_of, code_layer, statement_code, code_of}
+use Rattle.mv_select_statements.specs.StatementCode.{first, second, trap_label, target, keep_lines, division, element_offset, element_lines, test_lines}
+use Rattle.mv_select_control.specs.FlowCode.{Plan, Emitted, both, branch_code, if_code, loop_code, block_code, plain, home, code_layer, statement_code, code_of}
 use Rattle.mv_select_control.specs.FlowCode as flow_code
 use Rattle.mv_select_control.specs.Layouts.{size_in}
 use Rattle.mv_select_control.proofs.StatementsDo.{code_roll}
@@ -148,18 +147,18 @@ module _ (is_known : ℕ → Bool) where
 
       layer : (x : Stm-F Stm) → StmChildren IsSame x → Each ReadsKnown (layer_trees (map-Stm Stm (List Tree) stm_trees x)) →
           Each IsKnownArray (layer_named (map-Stm Stm (List Array) stm_named x)) → layer_code P x ≡ layer_code Q x
-      layer (stm.Set t v) c h k = ap (λ l. plain (l ++ one (write_temp t first))) (same_tree v h.0 first)
+      layer (stm.Set t v) c h k = ap (λ l. plain (l ++ keep_lines t)) (same_into v h.0 (target t) first)
       layer (stm.SetGlobal g v) c h k =
           ap (λ l. plain (l ++ two (Lui second (pos (upper_bits (place g)))) (Sw second first (lower_bits (place g))))) (same_tree v h.0 first) ∙
           ap (λ a. plain (tree_lines place' v first ++ two (Lui second (pos (upper_bits a))) (Sw second first (lower_bits a)))) (same_place g k.0)
       layer (stm.Divide t o a b) c h k =
-          let rest = λ (l : List Line). l ++ (Branch 0 second 0 (trap_label 1) ∷ two (division o) (write_temp t first)) in
+          let rest = λ (l : List Line). l ++ (Branch 0 second 0 (trap_label 1) ∷ (Word (division o (target t)) ∷ keep_lines t)) in
           ap (λ l. plain (l ++ rest (tree_lines place b second))) (same_tree a h.0 first) ∙
           ap (λ l. plain (tree_lines place' a first ++ rest l)) (same_tree b h.1.0 second)
       layer (stm.Check a i) c h k =
           ap (λ l. plain (l ++ test_lines (flow_code.size P a))) (same_tree i h.0 first) ∙ ap (λ n. plain (tree_lines place' i first ++ test_lines n)) (same_count a k.0)
       layer (stm.Read t a i) c h k =
-          let rest = λ (at : Home) (n : ℕ). test_lines n ++ (element_lines at ++ two (Lw first first (element_offset at)) (write_temp t first)) in
+          let rest = λ (at : Home) (n : ℕ). test_lines n ++ (element_lines at ++ (Word (Lw (target t) first (element_offset at)) ∷ keep_lines t)) in
           ap (λ l. plain (l ++ rest (home P a) (flow_code.size P a))) (same_tree i h.0 first) ∙
           ap (λ at. plain (tree_lines place' i first ++ rest at (flow_code.size P a))) (same_home a k.0) ∙
           ap (λ n. plain (tree_lines place' i first ++ rest (home Q a) n)) (same_count a k.0)

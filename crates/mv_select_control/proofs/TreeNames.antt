@@ -1,5 +1,5 @@
 -- Which labels the code of a tree and of statements without control names; no label stands there.
-use Rattle.std.proofs.Common.{◌≡◌, ℕ, ◌+◌, ◌*◌, List, [], ◌∷◌, ◌++◌, pos, All, subst}
+use Rattle.std.proofs.Common.{◌≡◌, ℕ, ◌+◌, ◌*◌, Bool, true, false, cond, ltb, List, [], ◌∷◌, ◌++◌, pos, All, subst}
 use Rattle.std.proofs.lemmas.List.Elements.{All-append, All-cons, All-nil, All-head, All-tail}
 use Rattle.mv_isa.specs.declared.instr.Instr.{Instr}
 use Rattle.mv_isa.specs.declared.instr.Instr.TheVariants.{Lui, Lw, Sw, Addi, Slli, Add}
@@ -11,11 +11,11 @@ use Rattle.mv_ir.specs.declared.tree.Tree.TheOpen as tree
 use Rattle.mv_ir.specs.declared.tree.Tree.TheViews.{roll-Tree}
 use Rattle.mv_ir.specs.declared.tree.Tree.TheFolds.{fold-roll-Tree, map-Tree}
 use Rattle.mv_ir.proofs.Induction.{TreeChildren}
-use Rattle.mv_select_trees.specs.TreeCode.{one, two, upper_bits, lower_bits, number_lines, tree_lines}
-use Rattle.mv_select_trees.proofs.TreesAreMade.{number_made, lines_made}
+use Rattle.mv_select_trees.specs.TreeCode.{one, two, upper_bits, lower_bits, number_lines, temp_offset, tree_into, tree_lines}
+use Rattle.mv_select_trees.proofs.TreesAreMade.{number_made, into_made, lines_made}
 use Rattle.mv_select_statements.specs.declared.elements.Home.{Home}
 use Rattle.mv_select_statements.specs.declared.elements.Home.TheVariants as home
-use Rattle.mv_select_statements.specs.StatementCode.{first, second, third, trap_label, write_temp, division, element_offset, element_lines, test_lines, bounds_lines, clear_lines, set_lines, set_global_lines, divide_lines, check_lines, read_lines, write_lines, return_lines}
+use Rattle.mv_select_statements.specs.StatementCode.{first, second, third, trap_label, target, keep_lines, division, element_offset, element_lines, test_lines, bounds_lines, clear_lines, set_lines, set_global_lines, divide_lines, check_lines, read_lines, write_lines, return_lines}
 use Rattle.mv_select_control.specs.Labels.{functions_layer, tree_functions, Names}
 
 pub all_front : {X : Type 0} (P : X → Type 0) (xs ys : List X) → All P (xs ++ ys) → All P xs
@@ -72,7 +72,21 @@ module _ (P : ℕ → Type 0) where
     pub tree_names : (t : Tree) → Fs t → (r : ℕ) → AllName (tree_lines place t r)
     tree_names = lines_made AllName (All-nil (Names P)) word after Fs (functions_inside P) entry_names place
 
+    into_names : (t : Tree) → Fs t → (d r : ℕ) → AllName (tree_into place t d r)
+    into_names = into_made AllName (All-nil (Names P)) word after Fs (functions_inside P) entry_names place
+
     -- ---- statements without control
+
+    keep_names : (t : ℕ) → AllName (keep_lines t)
+    unfolding keep_lines
+    keep_names t = by_place (ltb t 9)
+      where
+        by_place : (is_low : Bool) → AllName (cond is_low [] (one (Sw 2 first (pos (temp_offset t)))))
+        by_place true = All-nil (Names P)
+        by_place false = word (Sw 2 first (pos (temp_offset t)))
+
+    last_names : (i : Instr) (t : ℕ) → AllName (Word i ∷ keep_lines t)
+    last_names i t = after (one i) (keep_lines t) (word i) (keep_names t)
 
     pub jump_names : (l : ℕ) → P l → AllName (Jump 0 l ∷ [])
     jump_names l h = All-cons (Names P) (Jump 0 l) [] h (All-nil (Names P))
@@ -94,7 +108,7 @@ module _ (P : ℕ → Type 0) where
     clear_names = words (Sw first 0 (pos 0)) (Addi first first (pos 4))
 
     pub set_names : (t : ℕ) (v : Tree) → Fs v → AllName (set_lines place t v)
-    set_names t v h = after (tree_lines place v first) (one (write_temp t first)) (tree_names v h first) (word (write_temp t first))
+    set_names t v h = after (tree_into place v (target t) first) (keep_lines t) (into_names v h (target t) first) (keep_names t)
 
     pub set_global_names : (g : ℕ) (v : Tree) → Fs v → AllName (set_global_lines place g v)
     set_global_names g v h =
@@ -104,20 +118,20 @@ module _ (P : ℕ → Type 0) where
     pub divide_names : (t o : ℕ) (a b : Tree) → P (trap_label 1) → Fs a → Fs b → AllName (divide_lines place t o a b)
     divide_names t o a b p h k =
         let test = Branch 0 second 0 (trap_label 1) ∷ [] in
-        let divide = two (division o) (write_temp t first) in
+        let divide = Word (division o (target t)) ∷ keep_lines t in
         after (tree_lines place a first) (tree_lines place b second ++ (test ++ divide)) (tree_names a h first)
         (after (tree_lines place b second) (test ++ divide) (tree_names b k second)
-        (after test divide (branch_names 0 second 0 (trap_label 1) p) (words (division o) (write_temp t first))))
+        (after test divide (branch_names 0 second 0 (trap_label 1) p) (last_names (division o (target t)) t)))
 
     pub check_names : (size : ℕ) (i : Tree) → P (trap_label 2) → Fs i → AllName (check_lines place size i)
     check_names size i p h = after (tree_lines place i first) (test_lines size) (tree_names i h first) (test_names size p)
 
     pub read_names : (t size : ℕ) (e : Home) (i : Tree) → P (trap_label 2) → Fs i → AllName (read_lines place t e size i)
     read_names t size e i p h =
-        let load = two (Lw first first (element_offset e)) (write_temp t first) in
+        let load = Word (Lw (target t) first (element_offset e)) ∷ keep_lines t in
         after (tree_lines place i first) (test_lines size ++ (element_lines e ++ load)) (tree_names i h first)
         (after (test_lines size) (element_lines e ++ load) (test_names size p)
-        (after (element_lines e) load (element_names e) (words (Lw first first (element_offset e)) (write_temp t first))))
+        (after (element_lines e) load (element_names e) (last_names (Lw (target t) first (element_offset e)) t)))
 
     pub write_names : (size : ℕ) (e : Home) (i v : Tree) → P (trap_label 2) → Fs i → Fs v → AllName (write_lines place e size i v)
     write_names size e i v p h k =

@@ -4,7 +4,7 @@ use Rattle.std.proofs.lemmas.Bool.{ltb-true, ltb-false, lt-ltb, le-ltb}
 use Rattle.mv_num.specs.Words.{word_of, add, shl, lt_u}
 use Rattle.mv_isa.specs.declared.instr.Instr.TheVariants.{Lw, Sw}
 use Rattle.mv_isa.specs.declared.labelled.Line.{Line}
-use Rattle.mv_isa.specs.declared.labelled.Line.TheVariants.{Branch}
+use Rattle.mv_isa.specs.declared.labelled.Line.TheVariants.{Word, Branch}
 use Rattle.mv_isa.specs.Code.{greatest_words}
 use Rattle.mv_isa.specs.Execution.{Access, reg, put, upper}
 use Rattle.mv_ir.specs.declared.tree.Tree.{Tree}
@@ -15,21 +15,22 @@ use Rattle.mv_ir.specs.World as ir
 use Rattle.mv_ir.specs.Outcome.{State, Next}
 use Rattle.mv_ir.specs.Trees.{nodes}
 use Rattle.mv_ir.specs.Meaning.{of_tree, elements, with_temp, with_elements, traps}
-use Rattle.mv_select_trees.specs.TreeCode.{upper_bits, lower_bits, one, two, number_lines, tree_lines}
+use Rattle.mv_select_trees.specs.TreeCode.{upper_bits, lower_bits, one, number_lines, tree_lines}
 use Rattle.mv_select_trees.specs.Straight.{Straight}
 use Rattle.mv_select_trees.specs.View.{Changes}
 use Rattle.mv_select_trees.proofs.Gives.{number_gives}
 use Rattle.mv_select_trees.proofs.Instructions.{lui_sets, lw_sets, slli_sets, add_sets}
-use Rattle.mv_select_trees.proofs.Registers.{put_same, put_other, changes_put, changes_both}
+use Rattle.mv_select_trees.proofs.Registers.{put_same, put_other, put_registers, changes_put, changes_both}
 use Rattle.mv_select_trees.proofs.TreesAreShort.{number_size}
 use Rattle.mv_select_trees.proofs.Words.{word_of_pos, add_word, add_below, parts_add, upper_below}
-use Rattle.mv_select_statements.specs.StatementCode.{first, second, third, trap_label, write_temp, element_offset, element_lines, test_lines, check_lines, read_lines, write_lines}
+use Rattle.mv_select_statements.specs.StatementCode.{first, second, third, trap_label, target, keep_lines, element_offset, element_lines, test_lines, check_lines, read_lines, write_lines}
 use Rattle.mv_select_statements.specs.Leads.{Exit, Past, To, limited, Leads}
 use Rattle.mv_select_statements.specs.Frames.{Site, Element, IsRead, IsWritten, home_of, size_of, address, IsFine, IsFit, Shows}
 use Rattle.mv_select_statements.specs.Laws.{Follows, Does}
 use Rattle.mv_select_statements.proofs.FrameChanges.{updates_element, frame_scratch}
 use Rattle.mv_select_statements.proofs.ScalarStatements.{at_first, at_second, after_tree}
-use Rattle.mv_select_statements.proofs.TreesFirst.{HasValue, cell_loaded, tree_first, cell_written, temp_written}
+use Rattle.mv_select_statements.proofs.TreesFirst.{HasValue, cell_loaded, tree_first, cell_written}
+use Rattle.mv_select_statements.proofs.TempsKept.{target_range, temp_kept}
 use Rattle.mv_select_statements.proofs.Walks.{leads_more, leads_straight, leads_one, leads_next}
 
 -- ---- places of elements
@@ -197,7 +198,7 @@ module _ {M : Type 0} (access : Access M) (s : Site) (setting : ir.Setting) (fra
   read_done end t a i lt may fine bound l regs m f = by_index (ltb (V i l) (length (elements a l))) refl
     where
       load : List Line
-      load = two (Lw first first (element_offset (home_of s a))) (write_temp t first)
+      load = Word (Lw (target t) first (element_offset (home_of s a))) ∷ keep_lines t
 
       ks : List Line
       ks = element_lines (home_of s a) ++ load
@@ -218,16 +219,18 @@ module _ {M : Type 0} (access : Access M) (s : Site) (setting : ir.Setting) (fra
           let p = element_placed a (V i l) l z.after m below index z.shown in
           let w = slice_index (elements a l) (V i l) in
           let word = p.shown.words (Element a (V i l)) below in
-          let mid = put p.after first w in
-          let shown = frame_scratch s access 10 11 l p.after mid m (inl (omega arith, omega arith)) (changes_put 10 11 first w p.after p.shown.are (omega arith) (omega arith) (omega arith) (omega arith) word) p.shown in
-          let g = temp_written access s setting frame fit t first w l mid m lt word (put_same p.after first w (omega arith) (omega (arith, p.shown.are.count))) shown in
-          let lw = Lw first first (element_offset (home_of s a)) in
-          let loads = leads_next access s lw (one (write_temp t first)) 1 p.after m mid m Past g.after g.memory (
-            lw_sets (limited access s) m first first (element_offset (home_of s a)) p.after (address s (Element a (V i l))) w p.to
+          let d = target t in
+          let range = target_range t in
+          let mid = put p.after d w in
+          let are = put_registers p.after d w p.shown.are range.0 range.1 word in
+          let g = temp_kept access s setting frame fit t w l p.after mid m lt word are (λ q o ne. put_other p.after d q w range.0 ne) (put_same p.after d w range.0 (omega (arith, p.shown.are.count, range.1))) p.shown in
+          let lw = Lw d first (element_offset (home_of s a)) in
+          let loads = leads_next access s lw (keep_lines t) 1 p.after m mid m Past g.after g.memory (
+            lw_sets (limited access s) m d first (element_offset (home_of s a)) p.after (address s (Element a (V i l))) w p.to
                 (cell_loaded access s setting frame fit m (Element a (V i l)) w below may (p.shown.in_memory (Element a (V i l)) below)),
             inl refl,
           )
-          (leads_one access s (write_temp t first) mid m g.after g.memory g.moves) in
+          g.leads in
           let placed = leads_more access s ks (sum_by greatest_words (element_lines (home_of s a)) + 2) 5 z.after m Past g.after g.memory (omega (arith, element_size a))
           (leads_straight access s (element_lines (home_of s a)) load 2 z.after p.after m Past g.after g.memory p.runs loads) in (
             g.after,

@@ -1,22 +1,23 @@
 -- The fields of the code of statements fit, and it has few words.
-use Rattle.std.proofs.Common.{inl, inr, ⊎_elim, ℕ, zero, suc, ◌+◌, ◌*◌, ◌<◌, ◌≤◌, cond, ltb, List, [], ◌∷◌, ◌++◌, pos, arith}
+use Rattle.std.proofs.Common.{inl, inr, ⊎_elim, ℕ, zero, suc, ◌+◌, ◌*◌, ◌<◌, ◌≤◌, Bool, true, false, cond, ltb, List, [], ◌∷◌, ◌++◌, pos, arith}
 use Rattle.std.proofs.lemmas.Bool.{cases_lt, lt-ltb, le-ltb}
 use Rattle.std.proofs.lemmas.List.Elements.{All-append, All-cons, All-nil}
 use Rattle.std.proofs.lemmas.List.Sums.{sum_by-append}
 use Rattle.mv_isa.specs.declared.instr.Instr.{Instr}
 use Rattle.mv_isa.specs.declared.instr.Instr.TheVariants.{Lui, Lw, Sw, Addi, Slli, Add}
 use Rattle.mv_isa.specs.declared.labelled.Line.{Line}
-use Rattle.mv_isa.specs.declared.labelled.Line.TheVariants.{Jump, Branch}
+use Rattle.mv_isa.specs.declared.labelled.Line.TheVariants.{Word, Jump, Branch}
 use Rattle.mv_isa.specs.Encoding.{Fits, IsSigned}
 use Rattle.mv_isa.specs.Code.{LineFits, IsCondition, greatest_words}
 use Rattle.mv_ir.specs.declared.tree.Tree.{Tree}
 use Rattle.mv_ir.specs.Trees.{nodes}
-use Rattle.mv_select_trees.specs.TreeCode.{upper_bits, lower_bits, one, two, number_lines, temp_register, temp_offset, tree_lines}
-use Rattle.mv_select_trees.proofs.TreesAreShort.{number_size, trees_are_short}
-use Rattle.mv_select_trees.proofs.TreesFit.{one_fits, small_fits, lower_fits, upper_fits, count_fits, number_fits, register_below, trees_fit}
+use Rattle.mv_select_trees.specs.TreeCode.{upper_bits, lower_bits, one, two, number_lines, temp_register, temp_offset, tree_into, tree_lines}
+use Rattle.mv_select_trees.proofs.TreesAreShort.{number_size, trees_are_short, into_short}
+use Rattle.mv_select_trees.proofs.TreesFit.{one_fits, small_fits, lower_fits, upper_fits, count_fits, number_fits, register_below, trees_fit, into_fits}
 use Rattle.mv_select_statements.specs.declared.elements.Home.{Home}
 use Rattle.mv_select_statements.specs.declared.elements.Home.TheVariants as home
-use Rattle.mv_select_statements.specs.StatementCode.{first, second, third, trap_label, write_temp, division, element_offset, element_lines, home_below, test_lines, bounds_lines, clear_lines}
+use Rattle.mv_select_statements.specs.StatementCode.{first, second, third, trap_label, write_temp, target, keep_lines, division, element_offset, element_lines, home_below, test_lines, bounds_lines, clear_lines}
+use Rattle.mv_select_statements.proofs.TempsKept.{target_range}
 use Rattle.mv_select_statements.specs.Encoded.{IsCode, IsSmall, AreEncoded, StatementsAreEncoded}
 
 -- ---- parts put together
@@ -51,13 +52,24 @@ write_fits t r lt h = ⊎_elim low high (cases_lt t 9)
     high : 9 ≤ t → Fits (cond (ltb t 9) (Addi (temp_register t) r (pos 0)) (Sw 2 r (pos (4 * (t + 1)))))
     high big = rw (le-ltb t 9 big) (omega arith, h, small_fits (4 * (t + 1)) (omega arith))
 
-division_fits : (o : ℕ) → Fits (division o)
+target_fits : (t : ℕ) → target t < 32
+target_fits t = let range = target_range t in range.1
+
+keep_code : (t : ℕ) → t < 507 → IsCode 1 (keep_lines t)
+unfolding keep_lines temp_offset
+keep_code t lt = by_place (ltb t 9)
+  where
+    by_place : (is_low : Bool) → IsCode 1 (cond is_low [] (one (Sw 2 first (pos (4 * (t + 1))))))
+    by_place true = (All-nil LineFits, omega arith)
+    by_place false = single (Sw 2 first (pos (4 * (t + 1)))) (omega arith, omega arith, small_fits (4 * (t + 1)) (omega arith))
+
+division_fits : (o d : ℕ) → d < 32 → Fits (division o d)
 unfolding division
-division_fits zero = (omega arith, omega arith, omega arith)
-division_fits (suc zero) = (omega arith, omega arith, omega arith)
-division_fits (suc (suc zero)) = (omega arith, omega arith, omega arith)
-division_fits (suc (suc (suc zero))) = (omega arith, omega arith, omega arith)
-division_fits (suc (suc (suc (suc o)))) = (omega arith, omega arith, small_fits 0 (omega arith))
+division_fits zero d h = (h, omega arith, omega arith)
+division_fits (suc zero) d h = (h, omega arith, omega arith)
+division_fits (suc (suc zero)) d h = (h, omega arith, omega arith)
+division_fits (suc (suc (suc zero))) d h = (h, omega arith, omega arith)
+division_fits (suc (suc (suc (suc o)))) d h = (h, omega arith, small_fits 0 (omega arith))
 
 offset_fits : (h : Home) → home_below h 2032 → IsSigned 2048 (element_offset h)
 offset_fits (home.Data at) b = lower_fits at
@@ -90,18 +102,24 @@ module _ (place : ℕ → ℕ) where
   pub tree_code : (v : Tree) (r : ℕ) → r ≤ 28 → IsSmall v → IsCode (2 * nodes v) (tree_lines place v r)
   tree_code v r le h = (trees_fit place v r (omega (arith, h.0, le)) h.1, trees_are_short place v r)
 
+  into_code : (v : Tree) (d : ℕ) → d < 32 → IsSmall v → IsCode (2 * nodes v) (tree_into place v d first)
+  into_code v d lt h = (into_fits place v d first lt (omega (arith, h.0)) h.1, into_short place v d first)
+
+  last_code : (i : Instr) (t : ℕ) → Fits i → t < 507 → IsCode 2 (Word i ∷ keep_lines t)
+  last_code i t h lt = both 1 1 (one i) (keep_lines t) (single i h) (keep_code t lt)
+
   pub are_encoded : AreEncoded place
   are_encoded = record {
-    set = λ t v lt h. both (2 * nodes v) 1 (tree_lines place v first) (one (write_temp t first)) (tree_code v first (omega arith) h) (single (write_temp t first) (write_fits t first lt (omega arith)));
+    set = λ t v lt h. both (2 * nodes v) 1 (tree_into place v (target t) first) (keep_lines t) (into_code v (target t) (target_fits t) h) (keep_code t lt);
     set_global = λ g v h. both (2 * nodes v) 2 (tree_lines place v first) (two (Lui second (pos (upper_bits (place g)))) (Sw second first (lower_bits (place g)))) (tree_code v first (omega arith) h)
         (pair (Lui second (pos (upper_bits (place g)))) (Sw second first (lower_bits (place g))) (omega arith, upper_fits (place g)) (omega arith, omega arith, lower_fits (place g)));
-    divide = λ t o a b lt h l. both (2 * nodes a) (2 * nodes b + 4) (tree_lines place a first) (tree_lines place b second ++ (test ++ (two (division o) (write_temp t first)))) (tree_code a first (omega arith) h)
-        (both (2 * nodes b) 4 (tree_lines place b second) (test ++ (two (division o) (write_temp t first))) (tree_code b second (omega arith) l)
-        (both 2 2 test (two (division o) (write_temp t first)) (branch 0 second 0 (trap_label 1) (inl (omega arith)) (omega arith) (omega arith)) (pair (division o) (write_temp t first) (division_fits o) (write_fits t first lt (omega arith)))));
+    divide = λ t o a b lt h l. both (2 * nodes a) (2 * nodes b + 4) (tree_lines place a first) (tree_lines place b second ++ (test ++ (Word (division o (target t)) ∷ keep_lines t))) (tree_code a first (omega arith) h)
+        (both (2 * nodes b) 4 (tree_lines place b second) (test ++ (Word (division o (target t)) ∷ keep_lines t)) (tree_code b second (omega arith) l)
+        (both 2 2 test (Word (division o (target t)) ∷ keep_lines t) (branch 0 second 0 (trap_label 1) (inl (omega arith)) (omega arith) (omega arith)) (last_code (division o (target t)) t (division_fits o (target t) (target_fits t)) lt)));
     check = λ size i h. both (2 * nodes i) 4 (tree_lines place i first) (test_lines size) (tree_code i first (omega arith) h) (test_code size);
     read = λ t size h i lt b l. both (2 * nodes i) 9 (tree_lines place i first) (test_lines size ++ (element_lines h ++ load t h)) (tree_code i first (omega arith) l)
         (both 4 5 (test_lines size) (element_lines h ++ load t h) (test_code size)
-        (both 3 2 (element_lines h) (load t h) (element_code h) (pair (Lw first first (element_offset h)) (write_temp t first) (omega arith, omega arith, offset_fits h b) (write_fits t first lt (omega arith)))));
+        (both 3 2 (element_lines h) (load t h) (element_code h) (last_code (Lw (target t) first (element_offset h)) t (target_fits t, omega arith, offset_fits h b) lt)));
     write = λ size h i v b l k. both (2 * nodes i) (2 * nodes v + 8) (tree_lines place i first) (tree_lines place v second ++ (test_lines size ++ (element_lines h ++ store h))) (tree_code i first (omega arith) l)
         (both (2 * nodes v) 8 (tree_lines place v second) (test_lines size ++ (element_lines h ++ store h)) (tree_code v second (omega arith) k)
         (both 4 4 (test_lines size) (element_lines h ++ store h) (test_code size)
@@ -115,7 +133,7 @@ module _ (place : ℕ → ℕ) where
       test = Branch 0 second 0 (trap_label 1) ∷ []
 
       load : ℕ → Home → List Line
-      load t h = two (Lw first first (element_offset h)) (write_temp t first)
+      load t h = Word (Lw (target t) first (element_offset h)) ∷ keep_lines t
 
       store : Home → List Line
       store h = one (Sw first second (element_offset h))

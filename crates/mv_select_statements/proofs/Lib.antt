@@ -4,6 +4,7 @@ pub mod EncodedCode
 pub mod Equations
 pub mod FrameChanges
 pub mod ScalarStatements
+pub mod TempsKept
 pub mod TreesFirst
 pub mod Walks
 pub mod ZeroStatement

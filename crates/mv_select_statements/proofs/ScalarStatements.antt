@@ -1,10 +1,10 @@
 -- The code of the statements that store a value, divide and return.
-use Rattle.std.proofs.Common.{◌≡◌, inl, inr, ℕ, ◌+◌, ◌*◌, ◌^◌, ◌<◌, ◌≤◌, Bool, true, false, cond, eqb, List, [], ◌∷◌, ◌++◌, slice_set, pos, sum_by, refl, sym, ap, ◌∙◌, arith}
+use Rattle.std.proofs.Common.{◌≡◌, inl, inr, ⊎_elim, ℕ, ◌+◌, ◌*◌, ◌^◌, ◌<◌, ◌≤◌, Bool, true, false, cond, eqb, List, [], ◌∷◌, ◌++◌, slice_set, pos, sum_by, refl, sym, ap, ◌∙◌, subst, arith}
 use Rattle.std.proofs.lemmas.Bool.{eqb-true, eqb-false, eq-eqb, ne_eqb}
 use Rattle.mv_num.specs.Words.{word_of, add}
 use Rattle.mv_isa.specs.declared.instr.Instr.TheVariants.{Lui, Sw}
 use Rattle.mv_isa.specs.declared.labelled.Line.{Line}
-use Rattle.mv_isa.specs.declared.labelled.Line.TheVariants.{Jump, Branch}
+use Rattle.mv_isa.specs.declared.labelled.Line.TheVariants.{Word, Jump, Branch}
 use Rattle.mv_isa.specs.Code.{greatest_words}
 use Rattle.mv_isa.specs.Execution.{Access, reg, put, upper}
 use Rattle.mv_ir.specs.declared.tree.Tree.{Tree}
@@ -12,21 +12,23 @@ use Rattle.mv_ir.specs.declared.stm.Array.TheVariants as array
 use Rattle.mv_ir.specs.declared.stm.Stm.TheOpen as stm
 use Rattle.mv_ir.specs.World as ir
 use Rattle.mv_ir.specs.Outcome.{State, Next}
-use Rattle.mv_ir.specs.Trees.{nodes, divide}
+use Rattle.mv_ir.specs.Trees.{nodes, depth, divide}
 use Rattle.mv_ir.specs.Meaning.{of_tree, elements, with_temp, with_elements, traps}
-use Rattle.mv_select_trees.specs.TreeCode.{upper_bits, lower_bits, one, two, tree_lines}
+use Rattle.mv_select_trees.specs.TreeCode.{upper_bits, lower_bits, one, two, tree_into, tree_lines}
 use Rattle.mv_select_trees.specs.View.{AreScratch}
 use Rattle.mv_select_trees.proofs.Instructions.{lui_sets}
-use Rattle.mv_select_trees.proofs.Registers.{reg_zero, put_same, put_other, changes_put}
-use Rattle.mv_select_trees.proofs.TreesAreShort.{trees_are_short}
+use Rattle.mv_select_trees.proofs.Registers.{reg_zero, put_same, put_other, put_registers, changes_put, scratch_part}
+use Rattle.mv_select_trees.proofs.TreesAreShort.{trees_are_short, into_short}
+use Rattle.mv_select_trees.proofs.TreesRun.{trees_leave}
 use Rattle.mv_select_trees.proofs.Words.{parts_add, upper_below}
-use Rattle.mv_select_statements.specs.StatementCode.{first, second, trap_label, write_temp, division, set_lines, set_global_lines, divide_lines, return_lines}
+use Rattle.mv_select_statements.specs.StatementCode.{first, second, trap_label, target, keep_lines, division, set_lines, set_global_lines, divide_lines, return_lines}
 use Rattle.mv_select_statements.specs.Leads.{Exit, Past, To, limited, Leads}
-use Rattle.mv_select_statements.specs.Frames.{Site, Element, IsWritten, address, IsFine, IsFit}
+use Rattle.mv_select_statements.specs.Frames.{Site, Element, IsWritten, address, view_of, IsFine, IsFit}
 use Rattle.mv_select_statements.specs.Laws.{Follows, Does}
 use Rattle.mv_select_statements.proofs.Divisions.{divide_below, division_sets}
 use Rattle.mv_select_statements.proofs.FrameChanges.{updates_element, frame_scratch}
-use Rattle.mv_select_statements.proofs.TreesFirst.{HasValue, tree_first, cell_written, temp_written}
+use Rattle.mv_select_statements.proofs.TempsKept.{ChangesOne, target_range, temp_kept}
+use Rattle.mv_select_statements.proofs.TreesFirst.{HasValue, tree_first, temps_held, named_held, cell_written}
 use Rattle.mv_select_statements.proofs.Walks.{leads_more, leads_straight, leads_one, leads_next}
 
 pub at_first : AreScratch first (first + 4)
@@ -54,9 +56,22 @@ module _ {M : Type 0} (access : Access M) (s : Site) (setting : ir.Setting) (fra
 
   pub set_done : (end t : ℕ) (v : Tree) → t < s.temps → Fine v → Does access s setting frame end (set_lines s.place t v) (stm.Set t v)
   set_done end t v lt fine bound l regs m f =
-      let x = tree_first access s setting frame fit first v l regs m at_first fine f in
-      let w = temp_written access s setting frame fit t first (V v l) l x.after m lt x.below x.holds x.shown in
-      (w.after, w.memory, after_tree first v (one (write_temp t first)) 1 (8 + 3 * nodes v) l regs m Past w.after w.memory (omega arith) x (leads_one access s (write_temp t first) x.after m w.after w.memory w.moves), w.shown)
+      let d = target t in
+      let range = target_range t in
+      let low = fine.shallow in
+      let n = depth v in
+      let part = scratch_part first (first + 4) first (first + n) (omega arith) (omega arith) at_first in
+      let g = trees_leave _ (limited access s) m (view_of s setting frame l) (named_held access s setting frame fit l regs m f) v d first regs (fine.named l f.count) f.are (temps_held access s setting frame fit l regs m f) part range.0 range.1 in
+      let below : V v l < 2 ^ 32 = subst (λ z. z < 2 ^ 32) g.holds (g.are.words d) in
+      let others : ChangesOne access s setting frame fit d regs g.after = λ q o. g.others q (⊎_elim (λ (h : q < 10). inl h) (λ (h : 18 ≤ q). inr (omega arith)) o) in
+      let w = temp_kept access s setting frame fit t (V v l) l regs g.after m lt below g.are others g.holds f in
+      let ls = tree_into s.place v d first in
+      let ks = keep_lines t in (
+        w.after,
+        w.memory,
+        leads_more access s (ls ++ ks) (sum_by greatest_words ls + 1) (8 + 3 * nodes v) regs m Past w.after w.memory (omega (arith, into_short s.place v d first)) (leads_straight access s ls ks 1 regs g.after m Past w.after w.memory g.runs w.leads),
+        w.shown,
+      )
 
   pub set_global_done : (end g : ℕ) (v : Tree) → 0 < s.size g → IsWritten s (array.Global g) → Fine v → Does access s setting frame end (set_global_lines s.place g v) (stm.SetGlobal g v)
   set_global_done end g v lt may fine bound l regs m f =
@@ -92,7 +107,7 @@ module _ {M : Type 0} (access : Access M) (s : Site) (setting : ir.Setting) (fra
   divide_done end t o a b lt fa fb bound l regs m f = by_divisor (eqb (V b l) 0) refl
     where
       tail : List Line
-      tail = two (division o) (write_temp t first)
+      tail = Word (division o (target t)) ∷ keep_lines t
 
       n : ℕ
       n = 8 + 3 * (nodes a + nodes b)
@@ -119,17 +134,18 @@ module _ {M : Type 0} (access : Access M) (s : Site) (setting : ir.Setting) (fra
           let dividend : reg y.after first ≡ V a l = y.changes.others first (inl (omega arith)) ∙ x.holds in
           let v = divide o (V a l) (V b l) in
           let below = divide_below o (V a l) (V b l) nonzero x.below y.below in
-          let mid = put y.after first v in
-          let shown = frame_scratch s access 10 11 l y.after mid m (inl (omega arith, omega arith)) (changes_put 10 11 first v y.after y.shown.are (omega arith) (omega arith) (omega arith) (omega arith) below) y.shown in
-          let w = temp_written access s setting frame fit t first v l mid m lt below (put_same y.after first v (omega arith) (omega (arith, y.shown.are.count))) shown in (
+          let d = target t in
+          let range = target_range t in
+          let mid = put y.after d v in
+          let are = put_registers y.after d v y.shown.are range.0 range.1 below in
+          let w = temp_kept access s setting frame fit t v l y.after mid m lt below are (λ q o ne. put_other y.after d q v range.0 ne) (put_same y.after d v range.0 (omega (arith, y.shown.are.count, range.1))) y.shown in (
             w.after,
             w.memory,
             both 3 Past w.after w.memory (omega arith) (inr (
               holds,
               2,
               omega arith,
-              leads_next access s (division o) (one (write_temp t first)) 1 y.after m mid m Past w.after w.memory (division_sets (limited access s) m o (V a l) (V b l) y.after nonzero dividend y.holds, inl refl)
-                  (leads_one access s (write_temp t first) mid m w.after w.memory w.moves),
+              leads_next access s (division o d) (keep_lines t) 1 y.after m mid m Past w.after w.memory (division_sets (limited access s) m o d (V a l) (V b l) y.after nonzero dividend y.holds, inl refl) w.leads,
             )),
             w.shown,
           )

@@ -36,7 +36,7 @@ module _ {M : Type 0} (access : Access M) (s : Site) (setting : ir.Setting) (fra
   pub cell_loaded : (m : M) (x : Cell) (v : ℕ) → IsThere s x → IsLoaded s x → access.load m (address s x) 4 ≡ Some v → (limited access s).load m (address s x) 4 ≡ Some v
   cell_loaded m x v there may e = ap (λ b. cond b (access.load m (address s x) 4) None) (fit.loads x there may) ∙ e
 
-  temps_held : (l : State) (regs : List ℕ) (m : M) → Sh l regs m → HoldsTemps (limited access s) m (view_of s setting frame l) regs
+  pub temps_held : (l : State) (regs : List ℕ) (m : M) → Sh l regs m → HoldsTemps (limited access s) m (view_of s setting frame l) regs
   temps_held l regs m f = record {
     words = λ t p. ⊎_elim (λ (h : t < 9). f.low_words t (omega (arith, p, f.count)) h) (λ (h : 9 ≤ t). f.words (TempCell t) (h, omega (arith, p, f.count))) (cases_lt t 9);
     in_register = λ t p q. f.in_register t (omega (arith, p, f.count)) q;
@@ -48,7 +48,7 @@ module _ {M : Type 0} (access : Access M) (s : Site) (setting : ir.Setting) (fra
           ap (λ a. (limited access s).load m a 4) (ap (λ x. add x (temp_offset t)) (f.left 2 (inl (omega arith))) ∙ add_small (s.register 2) (temp_offset t) (fit.addresses (TempCell t) h))
           ∙ cell_loaded m (TempCell t) (slice_index l.temps t) h tt (f.in_memory (TempCell t) h)
 
-  named_held : (l : State) (regs : List ℕ) (m : M) → Sh l regs m → HoldsNamed (limited access s) m (view_of s setting frame l)
+  pub named_held : (l : State) (regs : List ℕ) (m : M) → Sh l regs m → HoldsNamed (limited access s) m (view_of s setting frame l)
   named_held l regs m f = record {
     places = λ g k. omega (arith, fit.addresses (Element (array.Global g) 0) (fit.has_word g k));
     words = λ g k. f.words (Element (array.Global g) 0) (fit.has_word g k);

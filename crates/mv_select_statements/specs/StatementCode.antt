@@ -5,7 +5,7 @@ use Rattle.mv_isa.specs.declared.instr.Instr.TheVariants.{Lui, Lw, Sw, Addi, Sll
 use Rattle.mv_isa.specs.declared.labelled.Line.{Line}
 use Rattle.mv_isa.specs.declared.labelled.Line.TheVariants.{Word, Jump, Branch}
 use Rattle.mv_ir.specs.declared.tree.Tree.{Tree}
-use Rattle.mv_select_trees.specs.TreeCode.{upper_bits, lower_bits, one, two, number_lines, temp_register, temp_offset, tree_lines}
+use Rattle.mv_select_trees.specs.TreeCode.{upper_bits, lower_bits, one, two, number_lines, temp_register, temp_offset, tree_into, tree_lines}
 use Rattle.mv_select_statements.specs.declared.elements.Home.{Home}
 use Rattle.mv_select_statements.specs.declared.elements.Home.TheVariants as home
 
@@ -27,9 +27,17 @@ trap_label c = 4294967289 + c
 unfoldable pub write_temp : ℕ → ℕ → Instr
 write_temp t r = cond (ltb t 9) (Addi (temp_register t) r (pos 0)) (Sw 2 r (pos (temp_offset t)))
 
--- a division of the first register by the second, by its number; one that names none gives 0
-unfoldable pub division : ℕ → Instr
-division o = slice_index_or (Div first first second ∷ Divu first first second ∷ Rem first first second ∷ Remu first first second ∷ []) o (Addi first 0 (pos 0))
+-- the register in which the new value of a temporary is computed: its own, and the first one for a temporary of the frame
+unfoldable pub target : ℕ → ℕ
+target t = cond (ltb t 9) (temp_register t) first
+
+-- from there into the frame
+unfoldable pub keep_lines : ℕ → List Line
+keep_lines t = cond (ltb t 9) [] (one (Sw 2 first (pos (temp_offset t))))
+
+-- a division of the first register by the second into d, by its number; one that names none gives 0
+unfoldable pub division : (o d : ℕ) → Instr
+division o d = slice_index_or (Div d first second ∷ Divu d first second ∷ Rem d first second ∷ Remu d first second ∷ []) o (Addi d 0 (pos 0))
 
 -- ---- elements: the place of one is its index times 4, and the place of the first
 
@@ -64,7 +72,7 @@ clear_lines = two (Sw first 0 (pos 0)) (Addi first first (pos 4))
 
 module _ (place : ℕ → ℕ) where
   abbrev pub set_lines : ℕ → Tree → List Line
-  set_lines t v = tree_lines place v first ++ one (write_temp t first)
+  set_lines t v = tree_into place v (target t) first ++ keep_lines t
 
   abbrev pub set_global_lines : ℕ → Tree → List Line
   set_global_lines g v = tree_lines place v first ++ two (Lui second (pos (upper_bits (place g)))) (Sw second first (lower_bits (place g)))
@@ -72,14 +80,14 @@ module _ (place : ℕ → ℕ) where
   -- trap 1 where the divisor is 0
   abbrev pub divide_lines : ℕ → ℕ → Tree → Tree → List Line
   divide_lines t o a b =
-      tree_lines place a first ++ (tree_lines place b second ++ (Branch 0 second 0 (trap_label 1) ∷ two (division o) (write_temp t first)))
+      tree_lines place a first ++ (tree_lines place b second ++ (Branch 0 second 0 (trap_label 1) ∷ (Word (division o (target t)) ∷ keep_lines t)))
 
   abbrev pub check_lines : ℕ → Tree → List Line
   check_lines size i = tree_lines place i first ++ test_lines size
 
   abbrev pub read_lines : ℕ → Home → ℕ → Tree → List Line
   read_lines t h size i =
-      tree_lines place i first ++ (test_lines size ++ (element_lines h ++ two (Lw first first (element_offset h)) (write_temp t first)))
+      tree_lines place i first ++ (test_lines size ++ (element_lines h ++ (Word (Lw (target t) first (element_offset h)) ∷ keep_lines t)))
 
   abbrev pub write_lines : Home → ℕ → Tree → Tree → List Line
   write_lines h size i v =

@@ -6,7 +6,7 @@ ghost use Rattle.mv_select_trees.specs.TreeCode.{temps_of};
 ghost use Rattle.mv_select_trees.specs.Rooms.{place_in};
 ghost use Rattle.mv_select_statements.specs.StatementCode.{home_below, element_offset, element_lines, test_lines, check_lines, read_lines, write_lines, bounds_lines, clear_lines};
 
-use crate::instructions::{FIRST, SECOND, THIRD, write_temp};
+use crate::instructions::{FIRST, SECOND, THIRD, push_keep, target};
 use mv_ir::body::Room;
 use mv_ir::tree::Tree;
 use mv_isa::Instr;
@@ -102,11 +102,12 @@ pub fn push_read(
     push_test(code, size)?;
     push_element(code, home)?;
     let load = Instr::Lw {
-        rd: FIRST,
+        rd: target(temp),
         rs1: FIRST,
         imm: element_offset(home),
     };
-    push_two(code, load, write_temp(temp, FIRST))
+    push_one(code, load)?;
+    push_keep(code, temp)
 }
 
 /// Puts a value into an element, with trap 2 as for `push_check`. The index is computed before the value.

@@ -1,9 +1,12 @@
 // Single instructions of statements.
-ghost use Rattle.std.specs.Prelude.{◌≡◌, ◌<◌};
-ghost use Rattle.mv_select_statements.specs.StatementCode.{write_temp, division};
+ghost use Rattle.std.specs.Prelude.{◌≡◌, ◌<◌, ◌++◌, OnOk};
+ghost use Rattle.mv_select_statements.specs.StatementCode.{write_temp, target, keep_lines, division};
 
 use mv_isa::Instr;
-use mv_select_trees::{temp_offset, temp_register};
+use mv_isa::labelled::Line;
+use mv_num::list::List;
+use mv_select_trees::{push_one, temp_offset, temp_register};
+use std::alloc::AllocError;
 
 /// The register of a statement's first tree, a0, which is also that of its result.
 pub(crate) const FIRST: u8 = 10;
@@ -33,12 +36,38 @@ pub fn write_temp(temp: u32, register: u8) -> Instr
     }
 }
 
+/// The register in which the new value of a temporary is computed: its own, and the first one for a temporary of the frame.
+#[tactic(auto, unfolding(crate::specs::StatementCode::target))]
+pub(crate) fn target(temp: u32) -> u8
+    ensures { result ≡ target temp }
+{
+    if temp < 9 { temp_register(temp) } else { FIRST }
+}
+
+/// Puts the value from there into the frame, if the temporary stands there.
+#[tactic(auto, unfolding(crate::specs::StatementCode::keep_lines))]
+pub(crate) fn push_keep(code: &mut List<Line>, temp: u32) -> Result<(), AllocError>
+    requires { temp < 507 }
+    ensures { OnOk result (code.new ≡ code.old ++ keep_lines temp) }
+{
+    if temp < 9 {
+        return Ok(());
+    }
+    push_one(
+        code,
+        Instr::Sw {
+            rs1: 2,
+            rs2: FIRST,
+            imm: temp_offset(temp),
+        },
+    )
+}
+
 // A division of the first register by the second.
 #[tactic(auto, using(crate::proofs::Equations::divisions))]
-pub(crate) fn division(operator: u8) -> Instr
-    ensures { result ≡ division operator }
+pub(crate) fn division(operator: u8, rd: u8) -> Instr
+    ensures { result ≡ division operator rd }
 {
-    let rd = FIRST;
     let rs1 = FIRST;
     let rs2 = SECOND;
     match operator {

@@ -6,13 +6,13 @@ ghost use Rattle.mv_select_trees.specs.TreeCode.{temps_of};
 ghost use Rattle.mv_select_trees.specs.Rooms.{place_in};
 ghost use Rattle.mv_select_statements.specs.StatementCode.{set_lines, set_global_lines, divide_lines, return_lines};
 
-use crate::instructions::{FIRST, SECOND, division, write_temp};
+use crate::instructions::{FIRST, SECOND, division, push_keep, target};
 use mv_ir::body::Room;
 use mv_ir::tree::Tree;
 use mv_isa::Instr;
 use mv_isa::labelled::Line;
 use mv_num::list::List;
-use mv_select_trees::{lower_bits, place_of, push_one, push_tree, push_two, upper_bits};
+use mv_select_trees::{lower_bits, place_of, push_into, push_one, push_tree, push_two, upper_bits};
 use std::alloc::AllocError;
 
 /// Puts a value into a temporary.
@@ -27,8 +27,8 @@ pub fn push_set(
     requires temps { temps_of value.now ≤ 507 }
     ensures { OnOk result (code.new ≡ code.old ++ set_lines (place_in rooms.now) temp value.now) }
 {
-    push_tree(code, rooms, value, FIRST)?;
-    push_one(code, write_temp(temp, FIRST))
+    push_into(code, rooms, value, target(temp), FIRST)?;
+    push_keep(code, temp)
 }
 
 /// Puts a value into a global.
@@ -75,7 +75,8 @@ pub fn push_divide(
     push_tree(code, rooms, dividend, FIRST)?;
     push_tree(code, rooms, divisor, SECOND)?;
     code.push(Line::Branch(0, SECOND, 0, 4_294_967_290))?;
-    push_two(code, division(operator), write_temp(temp, FIRST))
+    push_one(code, division(operator, target(temp)))?;
+    push_keep(code, temp)
 }
 
 /// Leaves a value as the result, and goes to the label of the function's end.
