@@ -8,6 +8,8 @@ use Rattle.mv_lower_spec.specs.Lowered.{Lowering, Lowered, binary, divide, temp,
 use Rattle.mv_lower_spec.specs.Lower.{unary_tree, converted_tree, bit_tree, quotient_number, remainder_number, lower_binary}
 use Rattle.mv_lower_expressions.specs.declared.value.Value.{Value}
 use Rattle.mv_lower_expressions.specs.declared.operands.Operands.{Operands}
+use Rattle.mv_ast.specs.Marks as marks
+use Rattle.mv_ir.specs.Operators as operators
 
 -- ---- results
 
@@ -59,9 +61,9 @@ binary_of turned op t a b n = lower_binary turned op t (given a) (given b) n
 -- the number of the division that an operator is, where it is one
 unfoldable pub division_number : ℕ → CType → Option ℕ
 division_number op t =
-    if nat_lt op 17 then
-    (if nat_eq op 12 then None else if nat_eq op 13 then None else if nat_eq op 14 then None
-    else if nat_eq op 15 then Some (quotient_number t) else Some (remainder_number t))
+    if nat_lt op marks.ampersand then
+    (if nat_eq op marks.plus then None else if nat_eq op marks.minus then None else if nat_eq op marks.star then None
+    else if nat_eq op marks.slash then Some (quotient_number t) else Some (remainder_number t))
     else None
 
 -- a quotient or remainder, in a temporary
@@ -71,8 +73,8 @@ divided division o n = record { code = o.code ++ divide n division o.left o.righ
 -- the tree of an operator that is no division
 unfoldable pub operator_tree : ℕ → CType → Tree → Tree → Tree
 operator_tree op t a b =
-    if nat_lt op 17 then
-    (if nat_eq op 12 then binary 0 a b else if nat_eq op 13 then binary 1 a b else binary 2 a b)
+    if nat_lt op marks.ampersand then
+    (if nat_eq op marks.plus then binary operators.add a b else if nat_eq op marks.minus then binary operators.sub a b else binary operators.mul a b)
     else bit_tree op t a b
 
 abbrev pub combined : ℕ → CType → Operands → Lowered

@@ -5,8 +5,10 @@ ghost use Rattle.mv_lower_expressions.specs.Values.{seen, second_of, first_of, A
 
 use crate::tree::{converted, is_low, operator, unary_tree};
 use crate::value::{Value, followed_by, followed_by_all, is_empty, kept_if, made_low};
+use mv_ast::marks;
 use mv_ast::operators::is_unsigned;
 use mv_ast::program::CType;
+use mv_ir::operators;
 use mv_ir::stm::Stm;
 use mv_ir::tree::Tree;
 use mv_num::list::List;
@@ -98,14 +100,22 @@ fn joined(turned: bool, first: Value, second: Value) -> Result<Operands, AllocEr
 fn division_number(op: u8, ctype: CType) -> Option<u8>
     ensures { result ≡ division_number op ctype }
 {
-    if op >= 17 {
+    if op >= marks::AMPERSAND {
         None
-    } else if op == 12 || op == 13 || op == 14 {
+    } else if op == marks::PLUS || op == marks::MINUS || op == marks::STAR {
         None
-    } else if op == 15 {
-        Some(if is_unsigned(ctype) { 1 } else { 0 })
+    } else if op == marks::SLASH {
+        Some(if is_unsigned(ctype) {
+            operators::QUOTIENT_UNSIGNED
+        } else {
+            operators::QUOTIENT_SIGNED
+        })
     } else {
-        Some(if is_unsigned(ctype) { 3 } else { 2 })
+        Some(if is_unsigned(ctype) {
+            operators::REMAINDER_UNSIGNED
+        } else {
+            operators::REMAINDER_SIGNED
+        })
     }
 }
 

@@ -1,11 +1,15 @@
 // Trees of operators.
 ghost use Rattle.std.specs.Prelude.{◌≡◌, IfOk};
+ghost use Rattle.mv_ast.specs.Marks as marks;
+ghost use Rattle.mv_ir.specs.Operators as operators;
 ghost use Rattle.mv_lower_spec.specs.Lowered.{is_low, unary, binary, truth};
 ghost use Rattle.mv_lower_spec.specs.Lower.{unary_tree, converted_tree, less_tree, bit_tree, next_tree};
 ghost use Rattle.mv_lower_expressions.specs.Values.{is_leaf, operator_tree};
 
+use mv_ast::marks;
 use mv_ast::operators::is_unsigned;
 use mv_ast::program::CType;
+use mv_ir::operators;
 use mv_ir::tree::Tree;
 use mv_num::boxed::Boxed;
 use mv_num::results;
@@ -64,9 +68,9 @@ pub fn unary_tree(alloc: Global, op: u8, a: Tree) -> Result<Tree, AllocError>
     ensures { IfOk result (λ t. t ≡ unary_tree op a) }
 {
     match op {
-        10 => binary(alloc, 5, a, Tree::Number(0xFFFF_FFFF)),
-        11 => unary(alloc, 2, a),
-        13 => unary(alloc, 0, a),
+        marks::TILDE => binary(alloc, operators::BIT_XOR, a, Tree::Number(0xFFFF_FFFF)),
+        marks::EXCLAMATION => unary(alloc, operators::LOGICAL_NOT, a),
+        marks::MINUS => unary(alloc, operators::NEGATE, a),
         _ => Ok(a),
     }
 }
@@ -88,28 +92,28 @@ fn less(alloc: Global, ctype: CType, a: Tree, b: Tree) -> Result<Tree, AllocErro
     ensures { IfOk result (λ t. t ≡ less_tree ctype a b) }
 {
     if is_unsigned(ctype) {
-        binary(alloc, 10, a, b)
+        binary(alloc, operators::LESS_UNSIGNED, a, b)
     } else {
-        binary(alloc, 9, a, b)
+        binary(alloc, operators::LESS_SIGNED, a, b)
     }
 }
 
 fn shifted_right(alloc: Global, ctype: CType, a: Tree, b: Tree) -> Result<Tree, AllocError>
-    ensures { IfOk result (λ t. t ≡ bit_tree 26 ctype a b) }
+    ensures { IfOk result (λ t. t ≡ bit_tree marks.shift_right ctype a b) }
 {
     if is_unsigned(ctype) {
-        binary(alloc, 8, a, b)
+        binary(alloc, operators::SHIFT_RIGHT_UNSIGNED, a, b)
     } else {
-        binary(alloc, 7, a, b)
+        binary(alloc, operators::SHIFT_RIGHT_SIGNED, a, b)
     }
 }
 
 // At least: not less.
 fn not_less(alloc: Global, ctype: CType, a: Tree, b: Tree) -> Result<Tree, AllocError>
-    ensures { IfOk result (λ t. t ≡ unary 2 (less_tree ctype a b)) }
+    ensures { IfOk result (λ t. t ≡ unary operators.logical_not (less_tree ctype a b)) }
 {
     let less = less(alloc, ctype, a, b)?;
-    unary(alloc, 2, less)
+    unary(alloc, operators::LOGICAL_NOT, less)
 }
 
 // Operators on bits, shifts and comparisons.
@@ -117,17 +121,17 @@ fn bits(alloc: Global, op: u8, ctype: CType, a: Tree, b: Tree) -> Result<Tree, A
     ensures { IfOk result (λ t. t ≡ bit_tree op ctype a b) }
 {
     match op {
-        17 => binary(alloc, 3, a, b),
-        18 => binary(alloc, 4, a, b),
-        19 => binary(alloc, 5, a, b),
-        20 => less(alloc, ctype, a, b),
-        21 => less(alloc, ctype, b, a),
-        25 => binary(alloc, 6, a, b),
-        26 => shifted_right(alloc, ctype, a, b),
-        27 => not_less(alloc, ctype, b, a),
-        28 => not_less(alloc, ctype, a, b),
-        29 => binary(alloc, 11, a, b),
-        _ => binary(alloc, 12, a, b),
+        marks::AMPERSAND => binary(alloc, operators::BIT_AND, a, b),
+        marks::BAR => binary(alloc, operators::BIT_OR, a, b),
+        marks::CARET => binary(alloc, operators::BIT_XOR, a, b),
+        marks::LESS => less(alloc, ctype, a, b),
+        marks::GREATER => less(alloc, ctype, b, a),
+        marks::SHIFT_LEFT => binary(alloc, operators::SHIFT_LEFT, a, b),
+        marks::SHIFT_RIGHT => shifted_right(alloc, ctype, a, b),
+        marks::LESS_OR_EQUAL => not_less(alloc, ctype, b, a),
+        marks::GREATER_OR_EQUAL => not_less(alloc, ctype, a, b),
+        marks::EQUAL => binary(alloc, operators::EQUAL, a, b),
+        _ => binary(alloc, operators::NOT_EQUAL, a, b),
     }
 }
 
@@ -136,14 +140,14 @@ fn bits(alloc: Global, op: u8, ctype: CType, a: Tree, b: Tree) -> Result<Tree, A
 pub fn operator(alloc: Global, op: u8, ctype: CType, a: Tree, b: Tree) -> Result<Tree, AllocError>
     ensures { IfOk result (λ t. t ≡ operator_tree op ctype a b) }
 {
-    if op >= 17 {
+    if op >= marks::AMPERSAND {
         bits(alloc, op, ctype, a, b)
-    } else if op == 12 {
-        binary(alloc, 0, a, b)
-    } else if op == 13 {
-        binary(alloc, 1, a, b)
+    } else if op == marks::PLUS {
+        binary(alloc, operators::ADD, a, b)
+    } else if op == marks::MINUS {
+        binary(alloc, operators::SUB, a, b)
     } else {
-        binary(alloc, 2, a, b)
+        binary(alloc, operators::MUL, a, b)
     }
 }
 
@@ -151,8 +155,8 @@ pub fn operator(alloc: Global, op: u8, ctype: CType, a: Tree, b: Tree) -> Result
 pub fn truth(alloc: Global, a: Tree) -> Result<Tree, AllocError>
     ensures { IfOk result (λ t. t ≡ truth a) }
 {
-    let not = unary(alloc, 2, a)?;
-    unary(alloc, 2, not)
+    let not = unary(alloc, operators::LOGICAL_NOT, a)?;
+    unary(alloc, operators::LOGICAL_NOT, not)
 }
 
 /// One more or one less than an old value.
@@ -160,7 +164,7 @@ pub fn truth(alloc: Global, a: Tree) -> Result<Tree, AllocError>
 pub fn next_tree(alloc: Global, up: bool, ctype: CType, old: Tree) -> Result<Tree, AllocError>
     ensures { IfOk result (λ t. t ≡ next_tree up ctype old) }
 {
-    let operator = if up { 0 } else { 1 };
+    let operator = if up { operators::ADD } else { operators::SUB };
     let next = binary(alloc, operator, old, Tree::Number(1))?;
     converted(alloc, ctype, next)
 }
