@@ -32,15 +32,19 @@ mod row;
 
 use crate::limits::show_limits;
 use crate::outcome::{Outcome, outcome_of};
-use crate::printing::print_outcome;
+use crate::printing::{REFUSED, print_outcome};
 use crate::row::{Row, add_line, row_of};
+use std::io;
 
 /// What stands in front of a line of the text.
 const INDENT: &str = "    ";
 
+/// The greatest number of the status of a run that ended or trapped.
+const TRAPPED: u8 = 1;
+
 // Carries out a command once more under an oracle, and prints what it came to where that is something else.
-fn repeat(rt: &HostRuntime, row: &Row, first: &Outcome, oracle: &str) -> anyhow::Result<()> {
-    let outcome = outcome_of(rt, row, row.words.as_str(), oracle)?;
+fn repeat(rt: &HostRuntime, row: &Row, first: &Outcome, oracle: &str) -> io::Result<()> {
+    let outcome = outcome_of(rt, row, row.words().0, oracle)?;
     if !first.is_same(&outcome) {
         println!(rt; "# and by another oracle")?;
         print_outcome(rt, row, &outcome)?;
@@ -48,66 +52,68 @@ fn repeat(rt: &HostRuntime, row: &Row, first: &Outcome, oracle: &str) -> anyhow:
     Ok(())
 }
 
-// Compares a run that ended, and in which no operator acted, with an evaluation of its file.
-fn compare(rt: &HostRuntime, row: &Row, outcome: &Outcome) -> anyhow::Result<()> {
-    let words = row.words.as_str();
-    if !words.starts_with("run ") || words.contains("--at") || !outcome.has_ended() {
+// Compares a run that ended, and in which no operator acted, with an evaluation of its file, lines of the notes before the last one aside.
+fn compare(rt: &HostRuntime, row: &Row, outcome: &Outcome) -> io::Result<()> {
+    let words = row.words().0;
+    if !words.starts_with("run ") || words.contains("--at") || outcome.status > TRAPPED {
         return Ok(());
     }
     let file = words.split(' ').nth(1).unwrap_or("");
     let line = format!(in rt.alloc(); "eval {file} --bound 1000000")?;
     let evaluated = outcome_of(rt, row, line.as_str(), "fresh")?;
-    if !evaluated.is_meant_by(outcome) {
+    if outcome.out.as_slice() != evaluated.out.as_slice()
+        || !outcome.notes.as_slice().ends_with(evaluated.notes.as_slice())
+    {
         println!(rt; "# and it means something else")?;
     }
     Ok(())
 }
 
-// Carries out a command under each oracle, and prints what it came to.
-fn carry_out(rt: &HostRuntime, row: &Row) -> anyhow::Result<()> {
-    let words = row.words.as_str();
-    let named = row.oracle.as_str();
-    let outcome = outcome_of(
-        rt,
-        row,
-        words,
-        if named.is_empty() { "oldest" } else { named },
-    )?;
-    print_outcome(rt, row, &outcome)?;
-    let is_run = words.starts_with("run") || words.starts_with("exec");
-    if is_run && named.is_empty() && !outcome.is_refused() {
-        repeat(rt, row, &outcome, "fresh")?;
-        repeat(rt, row, &outcome, "0,1,2")?;
-        compare(rt, row, &outcome)?;
-    }
-    if row.limits > 0 {
-        show_limits(rt, row, &outcome)?;
-    }
-    Ok(())
+// Carries out what runs under two more oracles, and compares it with what it means.
+fn again(rt: &HostRuntime, row: &Row, outcome: &Outcome) -> io::Result<()> {
+    repeat(rt, row, outcome, "fresh")?;
+    repeat(rt, row, outcome, "0,1,2")?;
+    compare(rt, row, outcome)
 }
 
-fn main(rt: HostRuntime) -> anyhow::Result<()> {
-    let alloc = rt.alloc();
-    let mut row: Option<Row> = None;
-    for line in rt.lines(alloc) {
+// Whether what runs does so under three oracles: no oracle is named.
+fn is_repeated(row: &Row) -> bool {
+    let words = row.words().0;
+    row.said("oracle").is_none() && (words.starts_with("run") || words.starts_with("exec"))
+}
+
+// Carries out a command, and prints what it came to.
+fn carry_out(rt: &HostRuntime, row: &Row) -> io::Result<()> {
+    let oracle = row.said("oracle").unwrap_or("oldest");
+    let outcome = outcome_of(rt, row, row.words().0, oracle)?;
+    print_outcome(rt, row, &outcome)?;
+    if is_repeated(row) && outcome.status != REFUSED {
+        again(rt, row, &outcome)?;
+    }
+    show_limits(rt, row, &outcome)
+}
+
+// Carries out the command of a row whose lines have all been read, or prints a remark. An empty line says nothing.
+fn finish(rt: &HostRuntime, row: &Row) -> io::Result<()> {
+    if row.line.is_empty() {
+        return Ok(());
+    }
+    if row.line.as_str().starts_with('#') {
+        return println!(rt; "{}", row.line);
+    }
+    carry_out(rt, row)
+}
+
+fn main(rt: HostRuntime) -> io::Result<()> {
+    let mut row = row_of(rt.alloc(), "")?;
+    for line in rt.lines(rt.alloc()) {
         let line = line?;
         if let Some(more) = line.as_str().strip_prefix(INDENT) {
-            if let Some(row) = &mut row {
-                add_line(alloc, row, more)?;
-            }
-            continue;
-        }
-        if let Some(row) = row.take() {
-            carry_out(&rt, &row)?;
-        }
-        if line.as_str().starts_with('#') {
-            println!(rt; "{line}")?;
+            add_line(rt.alloc(), &mut row, more)?;
         } else {
-            row = Some(row_of(alloc, line.as_str())?);
+            finish(&rt, &row)?;
+            row = row_of(rt.alloc(), line.as_str())?;
         }
     }
-    if let Some(row) = row {
-        carry_out(&rt, &row)?;
-    }
-    Ok(())
+    finish(&rt, &row)
 }

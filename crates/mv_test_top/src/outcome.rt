@@ -1,21 +1,22 @@
 //! What a command comes to.
 
+ghost use Rattle.std.specs.Prelude.{All};
+ghost use Rattle.mv_probe.specs.Hearing.{hearing, IsPatient};
+
 use crate::picks::picks_of;
-use crate::row::{Row, Taking};
+use crate::row::Row;
 use mv_ast::world::Event;
 use mv_io::{FileShelf, MemShelf, MemSink, MemSource, Shelf};
 use mv_probe::{FetchOracle, Probe, Recorder};
 use mv_top::multiverse;
 use std::alloc::{AllocError, Global};
+use std::{fs, io};
 
 /// How many events are kept of a run.
 const EVENTS: u32 = 1_000;
 
-/// The greatest number of the status of a run that ended or trapped.
-const TRAPPED: u8 = 1;
-
-/// The number of the status of a refused text.
-const REFUSED: u8 = 3;
+/// How many bytes a sink has room for where a row says nothing.
+const ROOM: u32 = 8_192;
 
 /// What a command came to.
 #[derive(Drop)]
@@ -23,107 +24,165 @@ pub(crate) struct Outcome {
     pub(crate) status: u8,
     pub(crate) out: Vec<u8>,
     pub(crate) notes: Vec<u8>,
-    /// How many of the two probes are left.
-    pub(crate) left: usize,
-    /// What the last one of them was told.
-    pub(crate) log: Vec<Event>,
+    /// How many of the two probes are left, and what the last one was told.
+    pub(crate) log: String,
+}
+
+/// The words of a command, and its devices.
+#[derive(Drop)]
+struct Command {
+    words: Vec<String>,
+    input: MemSource,
+    out: MemSink,
+    notes: MemSink,
 }
 
 impl Outcome {
     /// Whether another command came to the same.
     pub(crate) fn is_same(&self, other: &Outcome) -> bool {
         self.status == other.status
-            && self.left == other.left
             && self.out.as_slice() == other.out.as_slice()
             && self.notes.as_slice() == other.notes.as_slice()
-            && self.log.as_slice() == other.log.as_slice()
+            && self.log.as_str() == other.log.as_str()
     }
+}
 
-    /// Whether a run ended or trapped.
-    pub(crate) fn has_ended(&self) -> bool {
-        self.status <= TRAPPED
+// The words of a line.
+fn words_of(alloc: Global, line: &str) -> Result<Vec<String>, AllocError> {
+    let mut words = Vec::new(alloc);
+    for word in line.split(' ') {
+        words.push(word.to_string(alloc)?)?;
     }
-
-    /// Whether the text or an item was refused.
-    pub(crate) fn is_refused(&self) -> bool {
-        self.status == REFUSED
-    }
-
-    /// Whether this evaluation came to what a run came to, lines before its last one aside.
-    pub(crate) fn is_meant_by(&self, run: &Outcome) -> bool {
-        run.out.as_slice() == self.out.as_slice()
-            && run.notes.as_slice().ends_with(self.notes.as_slice())
-    }
+    Ok(words)
 }
 
 // The bytes of the file that is the input of a row, none where there is none.
-fn input_of(rt: &HostRuntime, row: &Row) -> anyhow::Result<Vec<u8>> {
-    if row.input.is_empty() {
+fn input_of(rt: &HostRuntime, row: &Row) -> io::Result<Vec<u8>> {
+    let name = row.words().1;
+    if name.is_empty() {
         return Ok(Vec::new(rt.alloc()));
     }
-    let mut shelf = FileShelf::new(rt);
-    Ok(shelf.load(rt.alloc(), row.input.as_str())?)
+    fs::read(rt, name)
 }
 
-fn sink_of(alloc: Global, taking: Taking) -> Result<MemSink, AllocError> {
-    let piece = if taking.piece == 0 { 1 } else { taking.piece };
-    MemSink::new(alloc, taking.room, piece, vec![in alloc; taking.failing]?)
+fn sink_of(alloc: Global, room: u32, piece: u32, failing: u32) -> Result<MemSink, AllocError> {
+    let piece = if piece == 0 { 1 } else { piece as usize };
+    MemSink::new(alloc, room as usize, piece, vec![in alloc; failing]?)
 }
 
-// The events that the last probe was told.
-fn last_log(alloc: Global, probes: &[Box<dyn Probe>]) -> Result<Vec<Event>, AllocError> {
-    let mut log = Vec::new(alloc);
-    if let Some(probe) = probes.last() {
-        for index in 0..probe.heard() {
-            if let Some(event) = probe.event(index) {
-                log.push(event)?;
-            }
+// The words of a line, with the input of a row and what takes its output and its notes.
+fn command_of(rt: &HostRuntime, row: &Row, line: &str) -> io::Result<Command> {
+    let alloc = rt.alloc();
+    Ok(Command {
+        words: words_of(alloc, line)?,
+        input: MemSource::new(input_of(rt, row)?, vec![in alloc; row.number("read", 0)]?),
+        out: sink_of(alloc, row.number("room", ROOM), ROOM, row.number("write", 0))?,
+        notes: sink_of(
+            alloc,
+            row.number("notes", ROOM),
+            row.number("piece", ROOM),
+            row.number("note", 0),
+        )?,
+    })
+}
+
+// Puts an event behind others: the number of the function, and the words that it is bound to.
+fn push_event(alloc: Global, log: &mut String, event: &Event) -> Result<(), AllocError> {
+    log.push_str(format!(in alloc; " {}", event.function)?.as_str())?;
+    if !event.binding.bound {
+        log.push_str(" free")?;
+    }
+    for (value, _) in event.binding.values.iter().zip(0..event.binding.count) {
+        log.push_str(format!(in alloc; " {value}")?.as_str())?;
+    }
+    Ok(())
+}
+
+// How many probes are left, and the events that the last one was told.
+fn log_of(alloc: Global, probes: &[Box<dyn Probe>]) -> Result<String, AllocError> {
+    let Some(probe) = probes.last() else {
+        return "0 left, 0 events".to_string(alloc);
+    };
+    let mut log = format!(in alloc; "{} left, {} events", probes.len(), probe.heard())?;
+    let mut mark = ":";
+    for index in 0..probe.heard() {
+        if let Some(event) = probe.event(index) {
+            log.push_str(mark)?;
+            push_event(alloc, &mut log, &event)?;
+            mark = ",";
         }
     }
     Ok(log)
 }
 
-// Carries out the command of some words over a shelf.
-fn carried_out<H: Shelf>(
-    rt: &HostRuntime,
-    row: &Row,
-    words: &[String],
+// Carries out a command, and gives the number of its status.
+fn status_of<H: Shelf>(
+    alloc: Global,
     shelf: &mut H,
+    command: &mut Command,
     oracle: &mut Box<dyn FetchOracle>,
-) -> anyhow::Result<Outcome> {
-    let alloc = rt.alloc();
-    let mut input = MemSource::new(input_of(rt, row)?, vec![in alloc; row.failing_read]?);
-    let mut out = sink_of(alloc, row.out)?;
-    let mut notes = sink_of(alloc, row.notes)?;
-    let mut probes: Vec<Box<dyn Probe>> = Vec::new(alloc);
-    probes.push(Box::new(alloc, Recorder::new(alloc, 1)?)?)?;
-    probes.push(Box::new(alloc, Recorder::new(alloc, EVENTS)?)?)?;
-    let status = multiverse(
+    probes: &mut Vec<Box<dyn Probe>>,
+) -> u8
+    requires { All (λ probe. IsPatient (hearing (told probe) (patience probe))) probes.old.items }
+{
+    multiverse(
         alloc,
-        words,
+        command.words.as_slice(),
         shelf,
-        &mut input,
-        &mut out,
-        &mut notes,
+        &mut command.input,
+        &mut command.out,
+        &mut command.notes,
         oracle,
-        &mut probes,
-    );
+        probes,
+    )
+    .number()
+}
+
+// What the devices and the probes tell of a command.
+fn told_outcome(
+    alloc: Global,
+    status: u8,
+    command: &Command,
+    probes: &[Box<dyn Probe>],
+) -> Result<Outcome, AllocError> {
     Ok(Outcome {
-        status: status.number(),
-        out: out.bytes().to_vec(alloc)?,
-        notes: notes.bytes().to_vec(alloc)?,
-        left: probes.len(),
-        log: last_log(alloc, &probes)?,
+        status,
+        out: command.out.bytes().to_vec(alloc)?,
+        notes: command.notes.bytes().to_vec(alloc)?,
+        log: log_of(alloc, probes)?,
     })
 }
 
+// Carries out a command over a shelf, under an oracle of this name, while two probes hear it.
+fn heard<H: Shelf>(
+    alloc: Global,
+    shelf: &mut H,
+    command: &mut Command,
+    oracle: &str,
+) -> Result<Outcome, AllocError> {
+    let mut oracle: Box<dyn FetchOracle> = Box::new(alloc, picks_of(alloc, oracle)?)?;
+    let mut probes: Vec<Box<dyn Probe>> = Vec::new(alloc);
+    probes.push(Box::new(alloc, Recorder::new(alloc, 1)?)?)?;
+    probes.push(Box::new(alloc, Recorder::new(alloc, EVENTS)?)?)?;
+    let status = status_of(alloc, shelf, command, &mut oracle, &mut probes);
+    told_outcome(alloc, status, command, probes.as_slice())
+}
+
 // A shelf in memory with the files of a row, of which a call fails.
-fn failing_shelf(alloc: Global, row: &Row) -> Result<MemShelf, AllocError> {
-    let mut shelf = MemShelf::new(alloc, vec![in alloc; row.failing_call]?);
+fn failing_shelf(alloc: Global, row: &Row, call: u32) -> Result<MemShelf, AllocError> {
+    let mut shelf = MemShelf::new(alloc, vec![in alloc; call]?);
     for file in row.files.iter() {
         shelf.put(alloc, file.name.as_str(), file.bytes.as_slice())?;
     }
     Ok(shelf)
+}
+
+// Puts the files of a row where the program runs.
+fn put_files(rt: &HostRuntime, row: &Row) -> io::Result<()> {
+    for file in row.files.iter() {
+        fs::write(rt, file.name.as_str(), file.bytes.as_slice())?;
+    }
+    Ok(())
 }
 
 /// Carries out the command of some words, with the files, the input and the devices of a row, under an oracle of this name. What it saves stays for the
@@ -133,20 +192,15 @@ pub(crate) fn outcome_of(
     row: &Row,
     line: &str,
     oracle: &str,
-) -> anyhow::Result<Outcome> {
+) -> io::Result<Outcome> {
     let alloc = rt.alloc();
-    let mut words = Vec::new(alloc);
-    for word in line.split(' ') {
-        words.push(word.to_string(alloc)?)?;
+    let call = row.number("shelf", 0);
+    if call > 0 {
+        let mut shelf = failing_shelf(alloc, row, call)?;
+        let mut command = command_of(rt, row, line)?;
+        return Ok(heard(alloc, &mut shelf, &mut command, oracle)?);
     }
-    let mut oracle: Box<dyn FetchOracle> = Box::new(alloc, picks_of(alloc, oracle)?)?;
-    if row.failing_call > 0 {
-        let mut shelf = failing_shelf(alloc, row)?;
-        return carried_out(rt, row, words.as_slice(), &mut shelf, &mut oracle);
-    }
-    let mut shelf = FileShelf::new(rt);
-    for file in row.files.iter() {
-        shelf.save(alloc, file.name.as_str(), file.bytes.as_slice())?;
-    }
-    carried_out(rt, row, words.as_slice(), &mut shelf, &mut oracle)
+    put_files(rt, row)?;
+    let mut command = command_of(rt, row, line)?;
+    Ok(heard(alloc, &mut FileShelf::new(rt), &mut command, oracle)?)
 }
