@@ -8,6 +8,7 @@ use Rattle.mv_ast.specs.declared.program.Local.{Local}
 use Rattle.mv_ast.specs.declared.program.Stmt.{Stmt}
 use Rattle.mv_ast.specs.declared.unit.Line.{Line}
 use Rattle.mv_ast.specs.declared.unit.Param.{Param}
+use Rattle.mv_ast.specs.Orders as orders
 use Rattle.mv_ast.specs.Plans.{attributed_functions}
 use Rattle.mv_check_scope.specs.declared.meaning.Meaning.{Meaning}
 use Rattle.mv_check_scope.specs.declared.meaning.Meaning.TheVariants as meaning
@@ -44,7 +45,7 @@ abbrev pub IsKindOfOrder : Known → Type 0
 IsKindOfOrder Getchar = Unit {0}
 IsKindOfOrder Putchar = Unit {0}
 IsKindOfOrder Poll = Unit {0}
-IsKindOfOrder (Plan code index) = nat_lt code 6 ≡ true
+IsKindOfOrder (Plan code index) = nat_lt code orders.count ≡ true
 
 -- the switch that an object is and the number of an attributed function are there
 abbrev pub IsShaped : Program → ℕ → Function → Meaning → Type 0

@@ -8,6 +8,7 @@ ghost use Rattle.mv_lower.specs.Switches.{default_place, all_tests, switch_of};
 
 use crate::code::{Code, Jumps, alone};
 use mv_ast::program::Arm;
+use mv_ir::operators;
 use mv_ir::stm::Stm;
 use mv_ir::tree::Tree;
 use mv_lower_expressions::value::{Value, is_empty};
@@ -46,7 +47,11 @@ fn test_label(alloc: Global, n: u32, i: u32, label: u32) -> Result<Stm, AllocErr
     let begins = begin_at(alloc, n, i)?;
     let value = Boxed::new(alloc, Tree::Temp(n))?;
     let label = Boxed::new(alloc, Tree::Number(label))?;
-    Ok(Stm::If(Tree::Binary(11, value, label), begins, List::new(alloc)))
+    Ok(Stm::If(
+        Tree::Binary(operators::EQUAL, value, label),
+        begins,
+        List::new(alloc),
+    ))
 }
 
 #[tactic(auto, using(crate::proofs::Declaring::label_tests))]
@@ -110,7 +115,11 @@ pub fn arm_code(alloc: Global, n: u32, i: u32, mut code: List<Stm>) -> Result<Li
     let place = Boxed::new(alloc, Tree::Temp(n))?;
     alone(
         alloc,
-        Stm::If(Tree::Binary(10, arm, place), List::new(alloc), code),
+        Stm::If(
+            Tree::Binary(operators::LESS_UNSIGNED, arm, place),
+            List::new(alloc),
+            code,
+        ),
     )
 }
 

@@ -14,6 +14,7 @@ use Rattle.mv_ast.specs.Layers.{target_parts, stmt_parts, stmt_expressions}
 use Rattle.mv_ast.specs.Plans.{attributed_functions, is_among, switch_global}
 use Rattle.mv_lower_spec.specs.Lower.{all_of}
 use Rattle.mv_lower_correct.specs.Scopes.{form_in, layer_in}
+use Rattle.mv_ast.specs.Orders as orders
 
 -- ---- all expressions of a statement
 
@@ -37,9 +38,9 @@ known_parameters (Plan code index) = 0
 -- an order's function or switch is there
 abbrev pub order_is_there : Program → (code index : ℕ) → Bool
 order_is_there p code index =
-    if nat_lt code 2 then true
-    else if nat_lt code 4 then nat_lt index (length (attributed_functions p))
-    else nat_lt code 6 && nat_lt index (length p.switches)
+    if nat_lt code orders.commit_function then true
+    else if nat_lt code orders.commit_references then nat_lt index (length (attributed_functions p))
+    else nat_lt code orders.count && nat_lt index (length p.switches)
 
 abbrev pub known_is_there : Program → Known → Bool
 known_is_there p (Plan code index) = order_is_there p code index

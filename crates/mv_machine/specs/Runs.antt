@@ -7,11 +7,13 @@ use Rattle.mv_ast.specs.declared.world.Binding.{Binding}
 use Rattle.mv_ast.specs.declared.world.Event.{Event}
 use Rattle.mv_ast.specs.declared.world.Action.{Action}
 use Rattle.mv_ast.specs.declared.world.Action.TheVariants.{Skip, Flip}
+use Rattle.mv_ast.specs.Orders as orders
 use Rattle.mv_ast.specs.Plans.{events_from}
 use Rattle.mv_descriptors.specs.declared.rows.SwitchRow.{SwitchRow}
 use Rattle.mv_isa.specs.declared.instr.Cause.{Cause}
 use Rattle.mv_isa.specs.declared.instr.Cause.TheVariants as cause
 use Rattle.mv_isa.specs.Execution.{Outcome, Goes, Calls, Faults, reg, put}
+pub use Rattle.mv_fetch.specs.Regions.{plan_area}
 use Rattle.mv_fetch.specs.Held.{Room, first as first_memory, choices}
 use Rattle.mv_rv32.specs.Stepping.{access, picked_step}
 use Rattle.mv_image.specs.Spelling.{Fields}
@@ -103,11 +105,7 @@ unfoldable pub stored_words : Room → (address : ℕ) → List ℕ → Room
 stored_words room address [] = room
 stored_words room address (word ∷ words) = stored_words (stored_word room address word) (address + 4) words
 
--- the plan area: how many pairs there are, then address and word of each
-
-abbrev pub plan_area : ℕ
-plan_area = 0x0040_0000
-
+-- the plan area holds how many pairs there are, then address and word of each
 unfoldable pub spelled_pairs : List Pair → List ℕ
 spelled_pairs [] = []
 spelled_pairs (pair ∷ pairs) = pair.address ∷ pair.word ∷ spelled_pairs pairs
@@ -149,7 +147,7 @@ with_value image room switch value = with_word_of room value (slice_get image.sw
 -- the value is stored in the switch, and all functions are committed
 abbrev pub flipped : State → (switch value : ℕ) → State
 flipped s switch value =
-    let room = with_value s.image s.room switch value in carried_out (record s { room = room }) (plan_of s.image room.held s.bindings 0 0) 1
+    let room = with_value s.image s.room switch value in carried_out (record s { room = room }) (plan_of s.image room.held s.bindings orders.commit 0) 1
 
 abbrev pub act : Action → State → State
 act Skip s = refused s 0

@@ -1,6 +1,7 @@
 //! Environment calls that commit, revert and poll.
 
 ghost use Rattle.std.specs.Prelude.{◌≡◌, ◌≤◌, ◌<◌, [], All, IfSome, length, ℕ, Option, List};
+ghost use Rattle.mv_ast.specs.Orders as orders;
 ghost use Rattle.mv_ast.specs.Plans.{events_from};
 ghost use Rattle.mv_ast.specs.declared.world.Action.{Action};
 ghost use Rattle.mv_isa.specs.Execution.{reg};
@@ -17,6 +18,7 @@ use crate::machine::Stopped;
 use crate::operator::Operator;
 use crate::plans::{store_word, take_on, tell_changes, write_plan};
 use crate::registers::{answer, argument, index, live_frames};
+use mv_ast::orders;
 use mv_ast::world::Action;
 use mv_fetch::Memory;
 use mv_image::Image;
@@ -55,26 +57,26 @@ fn carry_out(engine: &mut Engine, value: u32, probes: &mut Vec<Box<dyn Probe>>)
 fn is_known(image: &Image, code: u32, index: u32) -> bool
     ensures { result ≡ is_known_order image.now code index }
 {
-    if code < 2 {
+    if code < u32::from(orders::COMMIT_FUNCTION) {
         return true;
     }
-    if code < 4 {
+    if code < u32::from(orders::COMMIT_REFERENCES) {
         return (index as usize) < image.functions().len();
     }
-    code < 6 && (index as usize) < image.switches().len()
+    code < u32::from(orders::COUNT) && (index as usize) < image.switches().len()
 }
 
 // The order of a code and an index.
 fn order_of(code: u32, index: u32) -> Order
-    requires { code < 6 }
+    requires { code < orders.count }
     ensures { IsAsked code index result }
 {
-    match code {
-        0 => Order::CommitAll,
-        1 => Order::RevertAll,
-        2 => Order::CommitFunction(index),
-        3 => Order::RevertFunction(index),
-        4 => Order::CommitRefs(index),
+    match code as u8 {
+        orders::COMMIT => Order::CommitAll,
+        orders::REVERT => Order::RevertAll,
+        orders::COMMIT_FUNCTION => Order::CommitFunction(index),
+        orders::REVERT_FUNCTION => Order::RevertFunction(index),
+        orders::COMMIT_REFERENCES => Order::CommitRefs(index),
         _ => Order::RevertRefs(index),
     }
 }

@@ -5,20 +5,19 @@ ghost use Rattle.mv_ast.specs.Plans.{events_from};
 ghost use Rattle.mv_probe.specs.Hearing.{hearing, IsPatient, object_at, Becomes};
 ghost use Rattle.mv_probe.specs.Fates.{Fates};
 ghost use Rattle.mv_machine.specs.Runs.{stored_word, with_plan};
+ghost use Rattle.mv_fetch.specs.Regions.{data_start};
 ghost use Rattle.mv_machine.specs.Engines.{change};
 
 use mv_ast::world::{Binding, Event};
 use mv_fetch::Memory;
+use mv_fetch::regions::PLAN_AREA;
 use mv_num::list::List;
 use mv_patch::Pair;
 use mv_probe::{Probe, tell_all};
 
-// The first address of the plan area.
-const PLAN_AREA: u32 = 0x0040_0000;
-
 /// Stores a word outside text; nothing where there is no region.
 pub(crate) fn store_word(memory: &mut Memory, address: u32, word: u32)
-    requires { 0x0010_0000 ≤ address }
+    requires { data_start ≤ address }
     ensures { memory.new ≡ stored_word memory.old address word }
 {
     let _stored = memory.store(address, 4, word);

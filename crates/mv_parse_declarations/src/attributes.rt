@@ -1,5 +1,6 @@
 //! The one attribute, `__attribute__ ((multiverse))`.
 ghost use Rattle.std.specs.Prelude.{◌<◌, ◌≤◌, ℕ, length, IfOk};
+ghost use Rattle.mv_ast.specs.Marks as marks;
 ghost use Rattle.mv_parse_grammar.specs.Terminals.{terminals, is_mark};
 ghost use Rattle.mv_parse_grammar.specs.Expressions.{Cond};
 ghost use Rattle.mv_parse_grammar.specs.Reader.{optional, comma_list};
@@ -7,13 +8,13 @@ ghost use Rattle.mv_parse_grammar.specs.ExpressionReader.{read};
 ghost use Rattle.mv_parse_grammar.specs.DeclarationReader as model;
 ghost use Rattle.mv_parse_nodes.specs.Gives.{Gives};
 
+use mv_ast::keywords::ATTRIBUTE;
+use mv_ast::marks::{CLOSE_PARENTHESIS, COMMA, OPEN_PARENTHESIS};
 use mv_ast::token::Token;
 use mv_ast::unit::{Mark, Node};
 use mv_num::list::List;
 use mv_parse_expressions::expression::conditional;
 use mv_parse_nodes::fault::Fault;
-use mv_parse_nodes::keywords::ATTRIBUTE;
-use mv_parse_nodes::marks::{CLOSE, COMMA, OPEN};
 use mv_parse_nodes::nodes::append;
 use mv_parse_nodes::tokens::{expect_keyword, expect_mark, expect_multiverse, next_mark};
 use std::alloc::Global;
@@ -28,12 +29,12 @@ pub fn attribute<'a>(
     ensures shorter { IfOk result (λ x. length x.1.now < length tokens.now) }
 {
     let (first, rest) = expect_keyword(tokens, ATTRIBUTE)?;
-    let (_, outer) = expect_mark(rest, OPEN)?;
-    let (_, inner) = expect_mark(outer, OPEN)?;
+    let (_, outer) = expect_mark(rest, OPEN_PARENTHESIS)?;
+    let (_, inner) = expect_mark(outer, OPEN_PARENTHESIS)?;
     let (_, rest) = expect_multiverse(text, inner)?;
     let (values, rest) = domain_if_any(alloc, text, rest)?;
-    let (_, outer) = expect_mark(rest, CLOSE)?;
-    let (_, rest) = expect_mark(outer, CLOSE)?;
+    let (_, outer) = expect_mark(rest, CLOSE_PARENTHESIS)?;
+    let (_, rest) = expect_mark(outer, CLOSE_PARENTHESIS)?;
     let place = first.place;
     Ok((Mark { place, values }, rest))
 }
@@ -43,10 +44,10 @@ fn domain_if_any<'a>(
     text: &[u8],
     tokens: &'a [Token],
 ) -> Result<(Option<List<Node>>, &'a [Token]), Fault>
-    ensures reads { (n : ℕ) → Gives (λ x. (x.0, terminals text.now x.1.now)) result (optional (is_mark 0) (model.domain n (read n)) (terminals text.now tokens.now)) }
+    ensures reads { (n : ℕ) → Gives (λ x. (x.0, terminals text.now x.1.now)) result (optional (is_mark marks.open_parenthesis) (model.domain n (read n)) (terminals text.now tokens.now)) }
     ensures shorter { IfOk result (λ x. length x.1.now ≤ length tokens.now) }
 {
-    let Some(_) = next_mark(tokens, OPEN) else {
+    let Some(_) = next_mark(tokens, OPEN_PARENTHESIS) else {
         return Ok((None, tokens));
     };
     let (values, rest) = domain(alloc, text, tokens)?;
@@ -62,9 +63,9 @@ fn domain<'a>(
     ensures reads { (n : ℕ) → Gives (λ x. (x.0, terminals text.now x.1.now)) result (model.domain n (read n) (terminals text.now tokens.now)) }
     ensures shorter { IfOk result (λ x. length x.1.now < length tokens.now) }
 {
-    let (_, rest) = expect_mark(tokens, OPEN)?;
+    let (_, rest) = expect_mark(tokens, OPEN_PARENTHESIS)?;
     let (values, rest) = constants(alloc, text, rest)?;
-    let (_, rest) = expect_mark(rest, CLOSE)?;
+    let (_, rest) = expect_mark(rest, CLOSE_PARENTHESIS)?;
     Ok((values, rest))
 }
 

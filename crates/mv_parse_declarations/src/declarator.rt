@@ -1,5 +1,6 @@
 //! Declarators (C11 6.7.6), with their attributes and their initial values.
 ghost use Rattle.std.specs.Prelude.{◌<◌, ◌≤◌, ℕ, length, IfOk};
+ghost use Rattle.mv_ast.specs.Marks as marks;
 ghost use Rattle.mv_parse_grammar.specs.Terminals.{terminal, terminals, is_mark};
 ghost use Rattle.mv_parse_grammar.specs.Reader.{optional, comma_list};
 ghost use Rattle.mv_parse_grammar.specs.ExpressionReader.{read};
@@ -10,14 +11,16 @@ use crate::attributes::attribute;
 use crate::initial::init;
 use crate::nodes;
 use crate::parameters::{constant, parameter_list};
+use mv_ast::keywords::ATTRIBUTE;
+use mv_ast::marks::{
+    ASSIGN, CLOSE_BRACKET, CLOSE_PARENTHESIS, COMMA, OPEN_BRACKET, OPEN_PARENTHESIS, STAR,
+};
 use mv_ast::token::Token;
 use mv_ast::unit::{Declarator, Node, Shape};
 use mv_num::boxed::Boxed;
 use mv_num::list::List;
 use mv_parse_expressions::expression::conditional;
 use mv_parse_nodes::fault::Fault;
-use mv_parse_nodes::keywords::ATTRIBUTE;
-use mv_parse_nodes::marks::{CLOSE, CLOSE_INDEX, COMMA, EQUALS, OPEN, OPEN_INDEX, STAR};
 use mv_parse_nodes::nodes::append;
 use mv_parse_nodes::tokens::{
     expect_mark, expect_name, next_keyword, next_mark, next_name, text_of,
@@ -67,7 +70,7 @@ pub fn with_init<'a>(
     ensures reads { (n : ℕ) → Gives (λ x. (x.0, terminals text.now x.1.now)) result (model.with_init n (read n) declarator (terminals text.now tokens.now)) }
     ensures shorter { IfOk result (λ x. length x.1.now ≤ length tokens.now) }
 {
-    let Some(_) = next_mark(tokens, EQUALS) else {
+    let Some(_) = next_mark(tokens, ASSIGN) else {
         return Ok((declarator, tokens));
     };
     let (value, rest) = init(alloc, text, tokens)?;
@@ -117,7 +120,7 @@ fn after_name<'a>(
     ensures shorter { IfOk result (λ x. length x.1.now ≤ length tokens.now) }
 {
     let spelling = Some(text_of(alloc, text, name)?);
-    if let Some(_) = next_mark(tokens, OPEN) {
+    if let Some(_) = next_mark(tokens, OPEN_PARENTHESIS) {
         let (params, rest) = parameter_list(alloc, text, tokens)?;
         let shape = Shape::Function(params);
         let declarator = nodes::declarator(alloc, name.place, spelling, shape)?;
@@ -138,13 +141,13 @@ fn pointer<'a>(
     ensures reads { (n : ℕ) → Gives (λ x. (x.0, terminals text.now x.1.now)) result (model.pointer (read n) (model.params n) (terminals text.now tokens.now)) }
     ensures shorter { IfOk result (λ x. length x.1.now < length tokens.now) }
 {
-    let (open, rest) = expect_mark(tokens, OPEN)?;
+    let (open, rest) = expect_mark(tokens, OPEN_PARENTHESIS)?;
     let (_, rest) = expect_mark(rest, STAR)?;
     let (fixed, rest) = constant(rest);
     let (name, rest) = expect_name(rest)?;
     let spelling = Some(text_of(alloc, text, name)?);
     let (extent, rest) = extent_if_any(alloc, text, rest)?;
-    let (_, rest) = expect_mark(rest, CLOSE)?;
+    let (_, rest) = expect_mark(rest, CLOSE_PARENTHESIS)?;
     let (params, rest) = parameter_list(alloc, text, rest)?;
     let shape = nodes::pointer_shape(fixed, extent, params);
     let declarator = nodes::declarator(alloc, open.place, spelling, shape)?;
@@ -156,10 +159,10 @@ fn extent_if_any<'a>(
     text: &[u8],
     tokens: &'a [Token],
 ) -> Result<(Option<Option<Boxed<Node>>>, &'a [Token]), Fault>
-    ensures reads { (n : ℕ) → Gives (λ x. (x.0, terminals text.now x.1.now)) result (optional (is_mark 2) (model.extent (read n)) (terminals text.now tokens.now)) }
+    ensures reads { (n : ℕ) → Gives (λ x. (x.0, terminals text.now x.1.now)) result (optional (is_mark marks.open_bracket) (model.extent (read n)) (terminals text.now tokens.now)) }
     ensures shorter { IfOk result (λ x. length x.1.now ≤ length tokens.now) }
 {
-    let Some(_) = next_mark(tokens, OPEN_INDEX) else {
+    let Some(_) = next_mark(tokens, OPEN_BRACKET) else {
         return Ok((None, tokens));
     };
     let (extent, rest) = extent(alloc, text, tokens)?;
@@ -175,11 +178,11 @@ fn extent<'a>(
     ensures reads { (n : ℕ) → Gives (λ x. (x.0, terminals text.now x.1.now)) result (model.extent (read n) (terminals text.now tokens.now)) }
     ensures shorter { IfOk result (λ x. length x.1.now < length tokens.now) }
 {
-    let (_, rest) = expect_mark(tokens, OPEN_INDEX)?;
-    if let Some((_, rest)) = next_mark(rest, CLOSE_INDEX) {
+    let (_, rest) = expect_mark(tokens, OPEN_BRACKET)?;
+    if let Some((_, rest)) = next_mark(rest, CLOSE_BRACKET) {
         return Ok((None, rest));
     }
     let (count, rest) = conditional(alloc, text, rest)?;
-    let (_, rest) = expect_mark(rest, CLOSE_INDEX)?;
+    let (_, rest) = expect_mark(rest, CLOSE_BRACKET)?;
     Ok((Some(count), rest))
 }

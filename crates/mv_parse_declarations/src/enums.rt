@@ -7,14 +7,14 @@ ghost use Rattle.mv_parse_grammar.specs.DeclarationReader as model;
 ghost use Rattle.mv_parse_nodes.specs.Gives.{Gives};
 
 use crate::nodes;
+use mv_ast::keywords::ENUM;
+use mv_ast::marks::{ASSIGN, CLOSE_BRACE, COMMA, OPEN_BRACE};
 use mv_ast::token::Token;
 use mv_ast::unit::{EnumSpec, Member};
 use mv_num::boxed::Boxed;
 use mv_num::list::List;
 use mv_parse_expressions::expression::conditional;
 use mv_parse_nodes::fault::Fault;
-use mv_parse_nodes::keywords::ENUM;
-use mv_parse_nodes::marks::{CLOSE_BLOCK, COMMA, EQUALS, OPEN_BLOCK};
 use mv_parse_nodes::nodes::append;
 use mv_parse_nodes::specifiers::tag_of;
 use mv_parse_nodes::tokens::{
@@ -49,7 +49,7 @@ fn after_tag<'a>(
     ensures reads { (n : ℕ) → Gives (λ x. (x.0, terminals text.now x.1.now)) result (model.after_tag n (read n) (terminal text.now name.now) (terminals text.now tokens.now)) }
     ensures shorter { IfOk result (λ x. length x.1.now ≤ length tokens.now) }
 {
-    let Some(_) = next_mark(tokens, OPEN_BLOCK) else {
+    let Some(_) = next_mark(tokens, OPEN_BRACE) else {
         let tag = tag_of(alloc, text, name)?;
         return Ok((tag, tokens));
     };
@@ -69,18 +69,18 @@ fn enumerators<'a>(
     ensures shorter { IfOk result (λ x. length x.1.now < length tokens.now) }
 {
     let mut members = List::new(alloc);
-    let (_, rest) = expect_mark(tokens, OPEN_BLOCK)?;
+    let (_, rest) = expect_mark(tokens, OPEN_BRACE)?;
     let (first, mut rest) = enumerator(alloc, text, rest)?;
     append(&mut members, first)?;
     while let Some((_, after)) = next_mark(rest, COMMA) {
-        if let Some((_, after)) = next_mark(after, CLOSE_BLOCK) {
+        if let Some((_, after)) = next_mark(after, CLOSE_BRACE) {
             return Ok((members, after));
         }
         let (next, after) = enumerator(alloc, text, after)?;
         append(&mut members, next)?;
         rest = after;
     }
-    let (_, rest) = expect_mark(rest, CLOSE_BLOCK)?;
+    let (_, rest) = expect_mark(rest, CLOSE_BRACE)?;
     Ok((members, rest))
 }
 
@@ -93,7 +93,7 @@ fn enumerator<'a>(
     ensures shorter { IfOk result (λ x. length x.1.now < length tokens.now) }
 {
     let (name, rest) = expect_name(tokens)?;
-    let Some((_, after)) = next_mark(rest, EQUALS) else {
+    let Some((_, after)) = next_mark(rest, ASSIGN) else {
         let member = nodes::member(alloc, text, name, None)?;
         return Ok((member, rest));
     };

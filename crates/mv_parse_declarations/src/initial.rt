@@ -9,13 +9,13 @@ ghost use Rattle.mv_parse_grammar.specs.DeclarationReader as model;
 ghost use Rattle.mv_parse_nodes.specs.Gives.{Gives};
 
 use crate::nodes;
+use mv_ast::marks::{ASSIGN, CLOSE_BRACE, COMMA, OPEN_BRACE};
 use mv_ast::token::{Piece, Token};
 use mv_ast::unit::{Initial, Node};
 use mv_num::boxed::Boxed;
 use mv_num::list::List;
 use mv_parse_expressions::expression::assign;
 use mv_parse_nodes::fault::Fault;
-use mv_parse_nodes::marks::{CLOSE_BLOCK, COMMA, EQUALS, OPEN_BLOCK};
 use mv_parse_nodes::nodes::append;
 use mv_parse_nodes::tokens::{expect_mark, expect_string, next_mark, next_string};
 use std::alloc::{AllocError, Global};
@@ -29,8 +29,8 @@ pub fn init<'a>(
     ensures reads { (n : ℕ) → Gives (λ x. (x.0, terminals text.now x.1.now)) result (model.init n (read n) (terminals text.now tokens.now)) }
     ensures shorter { IfOk result (λ x. length x.1.now < length tokens.now) }
 {
-    let (_, rest) = expect_mark(tokens, EQUALS)?;
-    if let Some(_) = next_mark(rest, OPEN_BLOCK) {
+    let (_, rest) = expect_mark(tokens, ASSIGN)?;
+    if let Some(_) = next_mark(rest, OPEN_BRACE) {
         let (values, rest) = values(alloc, text, rest)?;
         let initial = nodes::values(alloc, values)?;
         return Ok((initial, rest));
@@ -55,18 +55,18 @@ fn values<'a>(
     ensures shorter { IfOk result (λ x. length x.1.now < length tokens.now) }
 {
     let mut values = List::new(alloc);
-    let (_, rest) = expect_mark(tokens, OPEN_BLOCK)?;
+    let (_, rest) = expect_mark(tokens, OPEN_BRACE)?;
     let (first, mut rest) = assign(alloc, text, rest)?;
     append(&mut values, first)?;
     while let Some((_, after)) = next_mark(rest, COMMA) {
-        if let Some((_, after)) = next_mark(after, CLOSE_BLOCK) {
+        if let Some((_, after)) = next_mark(after, CLOSE_BRACE) {
             return Ok((values, after));
         }
         let (next, after) = assign(alloc, text, after)?;
         append(&mut values, next)?;
         rest = after;
     }
-    let (_, rest) = expect_mark(rest, CLOSE_BLOCK)?;
+    let (_, rest) = expect_mark(rest, CLOSE_BRACE)?;
     Ok((values, rest))
 }
 

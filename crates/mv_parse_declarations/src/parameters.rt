@@ -9,14 +9,14 @@ ghost use Rattle.mv_parse_nodes.specs.Gives.{Gives};
 
 use crate::nodes;
 use crate::specifiers::specs;
+use mv_ast::keywords::{CONST, VOID};
+use mv_ast::marks::{CLOSE_PARENTHESIS, COMMA, OPEN_PARENTHESIS, STAR};
 use mv_ast::token::Token;
 use mv_ast::unit::{Param, Shape, Specs};
 use mv_num::boxed::Boxed;
 use mv_num::list::List;
 use mv_num::text::Text;
 use mv_parse_nodes::fault::Fault;
-use mv_parse_nodes::keywords::{CONST, VOID};
-use mv_parse_nodes::marks::{CLOSE, COMMA, OPEN, STAR};
 use mv_parse_nodes::nodes::append;
 use mv_parse_nodes::tokens::{
     expect_mark, next_keyword, next_mark, next_name, next_specifier, text_of,
@@ -89,7 +89,7 @@ fn parameter_name<'a>(
         let param = nodes::param(alloc, specs, name.place, spelling, Shape::Plain)?;
         return Ok((param, rest));
     }
-    let Some((open, rest)) = next_mark(tokens, OPEN) else {
+    let Some((open, rest)) = next_mark(tokens, OPEN_PARENTHESIS) else {
         let place = specs.place;
         let param = nodes::param(alloc, specs, place, None, Shape::Plain)?;
         return Ok((param, tokens));
@@ -97,7 +97,7 @@ fn parameter_name<'a>(
     let (_, rest) = expect_mark(rest, STAR)?;
     let (fixed, rest) = constant(rest);
     let (name, rest) = name_if_any(alloc, text, rest)?;
-    let (_, rest) = expect_mark(rest, CLOSE)?;
+    let (_, rest) = expect_mark(rest, CLOSE_PARENTHESIS)?;
     let (params, rest) = parameter_list(alloc, text, rest)?;
     let shape = Shape::Pointer(fixed, params);
     let param = nodes::param(alloc, specs, open.place, name, shape)?;
@@ -114,9 +114,9 @@ pub fn parameter_list<'a>(
     ensures reads { (n : ℕ) → Gives (λ x. (x.0, terminals text.now x.1.now)) result (model.parameter_list (model.params n) (terminals text.now tokens.now)) }
     ensures shorter { IfOk result (λ x. length x.1.now < length tokens.now) }
 {
-    let (_, rest) = expect_mark(tokens, OPEN)?;
+    let (_, rest) = expect_mark(tokens, OPEN_PARENTHESIS)?;
     let (params, rest) = params(alloc, text, rest)?;
-    let (_, rest) = expect_mark(rest, CLOSE)?;
+    let (_, rest) = expect_mark(rest, CLOSE_PARENTHESIS)?;
     Ok((params, rest))
 }
 

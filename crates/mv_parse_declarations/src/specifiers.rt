@@ -7,10 +7,10 @@ ghost use Rattle.mv_parse_nodes.specs.Gives.{Gives};
 
 use crate::attributes::attribute;
 use crate::enums::enum_specifier;
+use mv_ast::keywords::{CONST, ENUM, STATIC};
 use mv_ast::token::Token;
 use mv_ast::unit::Specs;
 use mv_parse_nodes::fault::Fault;
-use mv_parse_nodes::keywords::{CONST, ENUM, STATIC};
 use mv_parse_nodes::specifiers::{
     add_const, add_mark, add_static, add_tag, add_word, no_specs, put_at,
 };

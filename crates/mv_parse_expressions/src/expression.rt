@@ -7,6 +7,10 @@ ghost use Rattle.mv_parse_grammar.specs.ExpressionReader as model;
 ghost use Rattle.mv_parse_nodes.specs.Gives.{Gives};
 
 use crate::type_name::type_name;
+use mv_ast::marks::{
+    CLOSE_BRACKET, CLOSE_PARENTHESIS, COLON, COMMA, INCREMENT, OPEN_BRACKET, OPEN_PARENTHESIS,
+    QUESTION,
+};
 use mv_ast::place::Place;
 use mv_ast::token::{Piece, Token};
 use mv_ast::unit::Node;
@@ -14,9 +18,6 @@ use mv_num::boxed::Boxed;
 use mv_num::kind::Kind;
 use mv_num::list::List;
 use mv_parse_nodes::fault::Fault;
-use mv_parse_nodes::marks::{
-    CLOSE, CLOSE_INDEX, COLON, COMMA, OPEN, OPEN_INDEX, PLUS_PLUS, QUESTION,
-};
 use mv_parse_nodes::nodes;
 use mv_parse_nodes::tokens::{
     expect_mark, expect_step, mark_of, next_cast, next_mark, next_name, next_number, next_rank,
@@ -113,7 +114,7 @@ fn cast<'a>(
         return operand(alloc, text, tokens);
     };
     let (specs, rest) = type_name(alloc, text, after)?;
-    let (_, rest) = expect_mark(rest, CLOSE)?;
+    let (_, rest) = expect_mark(rest, CLOSE_PARENTHESIS)?;
     let (inner, rest) = cast(alloc, text, rest)?;
     let node = nodes::cast(alloc, open.place, specs, inner)?;
     Ok((node, rest))
@@ -143,7 +144,7 @@ fn operand<'a>(
 {
     if let Some((step, after)) = next_step(tokens) {
         let (inner, rest) = unary(alloc, text, after)?;
-        let node = nodes::before(alloc, step.place, mark_of(step) == PLUS_PLUS, inner)?;
+        let node = nodes::before(alloc, step.place, mark_of(step) == INCREMENT, inner)?;
         return Ok((node, rest));
     }
     if let Some((sign, after)) = next_sign(tokens) {
@@ -185,19 +186,19 @@ fn suffix<'a>(
     ensures reads { (n : ℕ) → Gives (λ x. ((place, x.0), terminals text.now x.1.now)) result (model.suffix n (model.read n) (place, left) (terminals text.now tokens.now)) }
     ensures shorter { IfOk result (λ x. length x.1.now < length tokens.now) }
 {
-    if let Some((_, after)) = next_mark(tokens, OPEN_INDEX) {
+    if let Some((_, after)) = next_mark(tokens, OPEN_BRACKET) {
         let (index, after) = assign(alloc, text, after)?;
-        let (_, after) = expect_mark(after, CLOSE_INDEX)?;
+        let (_, after) = expect_mark(after, CLOSE_BRACKET)?;
         let node = nodes::index(alloc, place, left, index)?;
         return Ok((node, after));
     }
-    if let Some((_, after)) = next_mark(tokens, OPEN) {
+    if let Some((_, after)) = next_mark(tokens, OPEN_PARENTHESIS) {
         let (given, after) = arguments(alloc, text, after)?;
         let node = nodes::call(alloc, place, left, given)?;
         return Ok((node, after));
     }
     let (step, after) = expect_step(tokens)?;
-    let node = nodes::after(alloc, place, mark_of(step) == PLUS_PLUS, left)?;
+    let node = nodes::after(alloc, place, mark_of(step) == INCREMENT, left)?;
     Ok((node, after))
 }
 
@@ -211,7 +212,7 @@ fn arguments<'a>(
     ensures shorter { IfOk result (λ x. length x.1.now < length tokens.now) }
 {
     let mut given = List::new(alloc);
-    if let Some((_, after)) = next_mark(tokens, CLOSE) {
+    if let Some((_, after)) = next_mark(tokens, CLOSE_PARENTHESIS) {
         return Ok((given, after));
     }
     let (first, mut rest) = assign(alloc, text, tokens)?;
@@ -221,7 +222,7 @@ fn arguments<'a>(
         nodes::append(&mut given, next)?;
         rest = after;
     }
-    let (_, rest) = expect_mark(rest, CLOSE)?;
+    let (_, rest) = expect_mark(rest, CLOSE_PARENTHESIS)?;
     Ok((given, rest))
 }
 
@@ -243,9 +244,9 @@ fn primary<'a>(
         let node = nodes::number(alloc, token.place, value, kind)?;
         return Ok((node, after));
     }
-    let (_, after) = expect_mark(tokens, OPEN)?;
+    let (_, after) = expect_mark(tokens, OPEN_PARENTHESIS)?;
     let (inner, after) = assign(alloc, text, after)?;
-    let (_, after) = expect_mark(after, CLOSE)?;
+    let (_, after) = expect_mark(after, CLOSE_PARENTHESIS)?;
     Ok((inner, after))
 }
 

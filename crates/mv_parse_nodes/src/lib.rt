@@ -8,8 +8,6 @@
 #![tactic(auto)]
 
 pub mod fault;
-pub mod keywords;
-pub mod marks;
 pub mod nodes;
 pub mod specifiers;
 pub mod tokens;

@@ -1,20 +1,26 @@
 //! What the next tokens are.
 ghost use Rattle.std.specs.Prelude.{◌≡◌, ◌<◌, [], ℕ, List, true, false, length, IfOk, IfSome, MatchOption};
+ghost use Rattle.mv_ast.specs.Marks as marks;
 ghost use Rattle.mv_parse_grammar.specs.Language as language;
 ghost use Rattle.mv_parse_grammar.specs.Reader.{next, next_two, token};
 ghost use Rattle.mv_parse_grammar.specs.Terminals.{terminal, terminals, mark_of, keyword_of, is_mark, is_keyword, is_no_end, is_name, is_number, is_string, is_multiverse, rank, is_rank, is_step, is_sign, is_type_word, is_type_part, is_specifier};
 ghost use Rattle.mv_parse_nodes.specs.Gives.{Gives, IsTaken, IsTakenBefore};
 
 use crate::fault::Fault;
-use crate::keywords::{ATTRIBUTE, CONST, ENUM, STATIC};
-use crate::marks::{CLOSE_BLOCK, MINUS_MINUS, OPEN, PLUS_PLUS};
+use mv_ast::keywords::{
+    ATTRIBUTE, BOOL, CHAR, CONST, ENUM, INT, SHORT, SIGNED, STATIC, UNSIGNED, VOID,
+};
+use mv_ast::marks::{
+    AMPERSAND, CLOSE_BRACE, COUNT, DECREMENT, EXCLAMATION, INCREMENT, MINUS, OPEN_PARENTHESIS,
+    PLUS, STAR, TILDE,
+};
 use mv_ast::place::Place;
 use mv_ast::token::{Piece, Token};
 use mv_num::text::Text;
 use std::alloc::{AllocError, Global};
 
 /// How loosely each punctuator binds what is before it.
-const RANKS: [u8; 43] = [
+const RANKS: [u8; COUNT] = [
     0, 13, 0, 13, 13, 13, 13, 13, 13, 11, 13, 13, 2, 2, 1, 1, 1, 6, 8, 7, 4, 4, 12, 0, 0, 3, 3, 4,
     4, 5, 5, 9, 10, 12, 12, 12, 12, 12, 12, 12, 12, 12, 12,
 ];
@@ -54,7 +60,7 @@ pub fn rank_of(token: &Token) -> u8
     ensures { result ≡ rank (terminal [] token.now) }
 {
     let mark = mark_of(token) as usize;
-    if mark < 43 { RANKS[mark] } else { 13 }
+    if mark < COUNT { RANKS[mark] } else { 13 }
 }
 
 /// Whether a token is `++` or `--`.
@@ -62,7 +68,7 @@ pub fn steps(token: &Token) -> bool
     ensures { result ≡ is_step (terminal [] token.now) }
 {
     let mark = mark_of(token);
-    mark == PLUS_PLUS || mark == MINUS_MINUS
+    mark == INCREMENT || mark == DECREMENT
 }
 
 /// Whether a token is an operator on the operand behind it, other than `++` and `--`.
@@ -70,7 +76,12 @@ pub fn signs(token: &Token) -> bool
     ensures { result ≡ is_sign (terminal [] token.now) }
 {
     let mark = mark_of(token);
-    mark == 10 || mark == 11 || mark == 12 || mark == 13 || mark == 14 || mark == 17
+    mark == TILDE
+        || mark == EXCLAMATION
+        || mark == PLUS
+        || mark == MINUS
+        || mark == STAR
+        || mark == AMPERSAND
 }
 
 /// Whether a token is one of `_Bool char int short signed unsigned void`.
@@ -78,7 +89,13 @@ pub fn types(token: &Token) -> bool
     ensures { result ≡ is_type_word (terminal [] token.now) }
 {
     let word = keyword_of(token);
-    word == 0 || word == 3 || word == 12 || word == 14 || word == 15 || word == 18 || word == 19
+    word == BOOL
+        || word == CHAR
+        || word == INT
+        || word == SHORT
+        || word == SIGNED
+        || word == UNSIGNED
+        || word == VOID
 }
 
 /// Whether a token may stand in the type of a cast.
@@ -235,10 +252,10 @@ pub fn next_specifier(tokens: &[Token]) -> Option<(&Token, &[Token])>
 
 /// The first token, where it is a `(` and the type of a cast comes behind it.
 pub fn next_cast(tokens: &[Token]) -> Option<(&Token, &[Token])>
-    ensures next { (text : List ℕ) → MatchOption result (next_two (is_mark 0) is_type_part (terminals text tokens.now) ≡ false) (λ x. IsTakenBefore (is_mark 0) is_type_part (terminals text tokens.now) (terminal text x.0.now) (terminals text x.1.now)) }
+    ensures next { (text : List ℕ) → MatchOption result (next_two (is_mark marks.open_parenthesis) is_type_part (terminals text tokens.now) ≡ false) (λ x. IsTakenBefore (is_mark marks.open_parenthesis) is_type_part (terminals text tokens.now) (terminal text x.0.now) (terminals text x.1.now)) }
     ensures shorter { IfSome result (λ x. length x.1.now < length tokens.now) }
 {
-    let Some((open, rest)) = next_mark(tokens, OPEN) else {
+    let Some((open, rest)) = next_mark(tokens, OPEN_PARENTHESIS) else {
         return None;
     };
     let Some(_) = next_type_part(rest) else {
@@ -307,7 +324,7 @@ pub fn next_inside(tokens: &[Token]) -> Option<(&Token, &[Token])>
 {
     match tokens {
         [token, rest @ ..] => {
-            if mark_of(token) != CLOSE_BLOCK {
+            if mark_of(token) != CLOSE_BRACE {
                 Some((token, rest))
             } else {
                 None

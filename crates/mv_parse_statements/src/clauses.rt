@@ -7,12 +7,12 @@ ghost use Rattle.mv_parse_nodes.specs.Gives.{Gives};
 
 use crate::lines;
 use crate::local::local;
+use mv_ast::marks::{CLOSE_PARENTHESIS, OPEN_PARENTHESIS, SEMICOLON};
 use mv_ast::token::Token;
 use mv_ast::unit::{Line, Node};
 use mv_num::boxed::Boxed;
 use mv_parse_expressions::expression::assign;
 use mv_parse_nodes::fault::Fault;
-use mv_parse_nodes::marks::{CLOSE, OPEN, SEMICOLON};
 use mv_parse_nodes::tokens::{expect_mark, next_mark, next_specifier, place_of};
 use std::alloc::Global;
 
@@ -25,9 +25,9 @@ pub fn condition<'a>(
     ensures reads { (n : ℕ) → Gives (λ x. (x.0, terminals text.now x.1.now)) result (model.condition (read n) (terminals text.now tokens.now)) }
     ensures shorter { IfOk result (λ x. length x.1.now < length tokens.now) }
 {
-    let (_, rest) = expect_mark(tokens, OPEN)?;
+    let (_, rest) = expect_mark(tokens, OPEN_PARENTHESIS)?;
     let (test, rest) = assign(alloc, text, rest)?;
-    let (_, rest) = expect_mark(rest, CLOSE)?;
+    let (_, rest) = expect_mark(rest, CLOSE_PARENTHESIS)?;
     Ok((test, rest))
 }
 

@@ -9,14 +9,14 @@ use crate::clauses::{condition, first_clause, value};
 use crate::leaves::leaf;
 use crate::lines;
 use crate::local::local;
+use mv_ast::keywords::{DO, ELSE, FOR, IF, SWITCH, WHILE};
+use mv_ast::marks::{CLOSE_BRACE, CLOSE_PARENTHESIS, OPEN_BRACE, OPEN_PARENTHESIS, SEMICOLON};
 use mv_ast::place::Place;
 use mv_ast::token::Token;
 use mv_ast::unit::Line;
 use mv_num::boxed::Boxed;
 use mv_num::list::List;
 use mv_parse_nodes::fault::Fault;
-use mv_parse_nodes::keywords::{DO, ELSE, FOR, IF, SWITCH, WHILE};
-use mv_parse_nodes::marks::{CLOSE, CLOSE_BLOCK, OPEN, OPEN_BLOCK, SEMICOLON};
 use mv_parse_nodes::nodes;
 use mv_parse_nodes::tokens::{
     expect_keyword, expect_mark, next_inside, next_keyword, next_mark, next_specifier,
@@ -32,7 +32,7 @@ pub fn block<'a>(
     ensures reads { (n : ℕ) → Gives (λ x. (x.0, terminals text.now x.1.now)) result (model.block n (model.locals n) (model.statements n) (terminals text.now tokens.now)) }
     ensures shorter { IfOk result (λ x. length x.1.now < length tokens.now) }
 {
-    let (open, rest) = expect_mark(tokens, OPEN_BLOCK)?;
+    let (open, rest) = expect_mark(tokens, OPEN_BRACE)?;
     block_rest(alloc, text, open.place, rest)
 }
 
@@ -46,7 +46,7 @@ pub fn statement<'a>(
     ensures reads { (n : ℕ) → Gives (λ x. (x.0, terminals text.now x.1.now)) result (model.statements n (terminals text.now tokens.now)) }
     ensures shorter { IfOk result (λ x. length x.1.now < length tokens.now) }
 {
-    if let Some((first, rest)) = next_mark(tokens, OPEN_BLOCK) {
+    if let Some((first, rest)) = next_mark(tokens, OPEN_BRACE) {
         return block_rest(alloc, text, first.place, rest);
     }
     if let Some((first, rest)) = next_keyword(tokens, IF) {
@@ -85,7 +85,7 @@ fn block_rest<'a>(
         nodes::append(&mut lines, line)?;
         rest = after;
     }
-    let (_, rest) = expect_mark(rest, CLOSE_BLOCK)?;
+    let (_, rest) = expect_mark(rest, CLOSE_BRACE)?;
     let line = lines::block(alloc, place, lines)?;
     Ok((line, rest))
 }
@@ -175,10 +175,10 @@ fn for_rest<'a>(
     ensures reads { (n : ℕ) → Gives (λ x. (x.0, terminals text.now x.1.now)) result (model.for_rest (read n) (model.locals n) (model.statements n) place (terminals text.now tokens.now)) }
     ensures shorter { IfOk result (λ x. length x.1.now < length tokens.now) }
 {
-    let (_, rest) = expect_mark(tokens, OPEN)?;
+    let (_, rest) = expect_mark(tokens, OPEN_PARENTHESIS)?;
     let (first, rest) = first_clause(alloc, text, rest)?;
     let (test, rest) = value(alloc, text, rest, SEMICOLON)?;
-    let (step, rest) = value(alloc, text, rest, CLOSE)?;
+    let (step, rest) = value(alloc, text, rest, CLOSE_PARENTHESIS)?;
     let (body, rest) = statement(alloc, text, rest)?;
     let line = lines::for_statement(alloc, place, first, test, step, body)?;
     Ok((line, rest))

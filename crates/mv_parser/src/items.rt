@@ -9,6 +9,7 @@ ghost use Rattle.mv_parse_grammar.specs.Units.{item_of};
 ghost use Rattle.mv_parse_nodes.specs.Gives.{Gives};
 ghost use Rattle.mv_parser.specs.Items as forms;
 
+use mv_ast::marks::{COMMA, OPEN_BRACE, SEMICOLON};
 use mv_ast::token::Token;
 use mv_ast::unit::{Declarator, Item, Line, Specs};
 use mv_num::boxed::Boxed;
@@ -16,7 +17,6 @@ use mv_num::list::List;
 use mv_parse_declarations::declarator::{declarator, declared, with_init};
 use mv_parse_declarations::specifiers::specs;
 use mv_parse_nodes::fault::Fault;
-use mv_parse_nodes::marks::{COMMA, OPEN_BLOCK, SEMICOLON};
 use mv_parse_nodes::nodes;
 use mv_parse_nodes::tokens::{expect_mark, next_any, next_mark};
 use mv_parse_statements::statement::block;
@@ -65,7 +65,7 @@ fn after_declarator<'a>(
     ensures reads { (n : ℕ) → Gives (λ x. (x.0, terminals text.now x.1.now)) result (model.after_declarator n (read n) (params n) (statement.block n (statement.locals n) (statement.statements n)) specs first (terminals text.now tokens.now)) }
     ensures shorter { IfOk result (λ x. length x.1.now < length tokens.now) }
 {
-    if let Some(_) = next_mark(tokens, OPEN_BLOCK) {
+    if let Some(_) = next_mark(tokens, OPEN_BRACE) {
         let (body, rest) = block(alloc, text, tokens)?;
         let item = definition(alloc, specs, first, body)?;
         return Ok((item, rest));

@@ -2,6 +2,7 @@
 use Rattle.std.specs.Prelude.{ℕ, suc, ◌+◌, Bool, ◌&&◌, ◌||◌, List, [], ◌∷◌, map, take, length, replicate, is_some, Option, Some, None, if◌then◌else◌, nat_eq, nat_lt, slice_get, unwrap_or, option_and_then}
 use Rattle.std.specs.Result.{result_ok}
 use Rattle.mv_ast.specs.declared.world.Binding.{Binding}
+use Rattle.mv_ast.specs.Orders as orders
 use Rattle.mv_ast.specs.Plans.{is_among, is_commit, free, bound_to}
 use Rattle.mv_descriptors.specs.declared.rows.SwitchRow.{SwitchRow}
 use Rattle.mv_descriptors.specs.declared.rows.FunctionRow.{FunctionRow}
@@ -13,15 +14,15 @@ use Rattle.mv_patch.specs.declared.order.Order.TheVariants.{CommitAll, RevertAll
 use Rattle.mv_patch.specs.declared.prepared.Pair.{Pair}
 use Rattle.mv_patch.specs.Pairs.{pairs_between}
 
--- ---- orders, by their codes: 0 and 1 address all functions, 2 and 3 one, 4 and 5 those that have a switch; an even one commits, an odd one reverts
+-- ---- orders, by their codes
 
 abbrev pub code_of : Order → ℕ
-code_of CommitAll = 0
-code_of RevertAll = 1
-code_of (CommitFunction f) = 2
-code_of (RevertFunction f) = 3
-code_of (CommitRefs s) = 4
-code_of (RevertRefs s) = 5
+code_of CommitAll = orders.commit
+code_of RevertAll = orders.revert
+code_of (CommitFunction f) = orders.commit_function
+code_of (RevertFunction f) = orders.revert_function
+code_of (CommitRefs s) = orders.commit_references
+code_of (RevertRefs s) = orders.revert_references
 
 -- the number of its function or switch, and 0 where it addresses all functions
 abbrev pub index_of : Order → ℕ
@@ -35,12 +36,13 @@ index_of (RevertRefs s) = s
 -- whether there is an order with a code, and the image has the function or the switch
 unfoldable pub is_known_order : Fields → (code index : ℕ) → Bool
 is_known_order image code index =
-    nat_lt code 2 || (if nat_lt code 4 then nat_lt index (length image.functions) else nat_lt code 6 && nat_lt index (length image.switches))
+    nat_lt code orders.commit_function || (if nat_lt code orders.commit_references then nat_lt index (length image.functions)
+    else nat_lt code orders.count && nat_lt index (length image.switches))
 
 -- whether an order addresses a function, given with its number
 abbrev pub is_ordered : (code index : ℕ) → ℕ → FunctionRow → Bool
 is_ordered code index i row =
-    nat_lt code 2 || (if nat_lt code 4 then nat_eq i index else is_among index (take row.count row.switches))
+    nat_lt code orders.commit_function || (if nat_lt code orders.commit_references then nat_eq i index else is_among index (take row.count row.switches))
 
 -- ---- bindings
 

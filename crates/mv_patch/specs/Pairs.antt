@@ -1,11 +1,9 @@
 -- Where two texts differ.
 use Rattle.std.specs.Prelude.{ℕ, ◌≡◌, ◌≢◌, ◌+◌, ◌*◌, ◌==◌, if◌then◌else◌, List, [], ◌∷◌, slice_get, Some}
+pub use Rattle.mv_fetch.specs.Regions.{text_start}
 use Rattle.mv_patch.specs.declared.prepared.Pair.{Pair}
 
--- the first address of text, and the address of a word of text by its index
-abbrev pub text_start : ℕ
-text_start = 0x1000
-
+-- the address of a word of text by its index
 abbrev pub place : ℕ → ℕ
 place k = text_start + 4 * k
 

@@ -2,6 +2,7 @@
 use Rattle.std.proofs.Common.{◌≡◌, inl, inr, ⊎_elim, ℕ, ◌+◌, ◌-◌, ◌*◌, ◌%◌, ◌^◌, ◌<◌, ◌≤◌, Bool, true, cond, List, [], ◌∷◌, length, slice_index, pos, Option, Some, None, refl, sym, ap, ◌∙◌, subst, arith}
 use Rattle.std.proofs.lemmas.Bool.{ltb-true, eq-eqb, cases_eq}
 use Rattle.mv_num.specs.Words.{word_of, add}
+use Rattle.mv_ast.specs.Traps.{depth_limit}
 use Rattle.mv_isa.specs.declared.instr.Cause.TheVariants as cause
 use Rattle.mv_isa.specs.declared.instr.Instr.{Instr}
 use Rattle.mv_isa.specs.declared.instr.Instr.TheVariants.{Addi, Jalr}
@@ -35,7 +36,7 @@ use Rattle.mv_select_control.proofs.Walk as walk
 use Rattle.mv_select_control.proofs.Walk.{Reaches, placed_split, stands_at, line_does, steps_on, branch_passes, taken, leads_walk, to_stands, to_here}
 use Rattle.mv_select_calls.specs.CallCode.{link_register, left_register, live_register, scratch_register, result_lines, back_lines, jump_lines}
 use Rattle.mv_select_calls.specs.Convention as convention
-use Rattle.mv_select_calls.specs.Convention.{Layout, depth_limit, frame_limit, IsSaved, IsAbove, HoldsGlobals, Enters, Returns, FollowsCall, Answers, IsTarget, Convention, Conventions}
+use Rattle.mv_select_calls.specs.Convention.{Layout, frame_limit, IsSaved, IsAbove, HoldsGlobals, Enters, Returns, FollowsCall, Answers, IsTarget, Convention, Conventions}
 use Rattle.mv_select_calls.specs.Laws.{IsCaller, IsLinked}
 use Rattle.mv_select_calls.proofs.CallerShown.{globals_held, shows_after}
 

@@ -3,6 +3,7 @@
 -- how many calls are left: one less in the callee than in its caller. For each of these, and one more, there is room for a frame below sp.
 use Rattle.std.specs.Prelude.{ℕ, ◌≡◌, ◌+◌, ◌*◌, ◌%◌, ◌^◌, ◌<◌, ◌≤◌, ◌⊎◌, Bool, true, List, [], ◌∷◌, length, slice_index, slice_index_or, Some, None}
 use Rattle.mv_ast.specs.declared.program.Known.{Known}
+use Rattle.mv_ast.specs.Traps.{depth_limit}
 use Rattle.mv_isa.specs.Execution.{Access, reg}
 use Rattle.mv_ir.specs.World.{World}
 use Rattle.mv_ir.specs.Outcome.{End, Returned, Trapped, More, Stuck, Call, Calls, Bound}
@@ -23,12 +24,9 @@ pub record Layout : Type 0 where
   pub bottom : ℕ
   pub top : ℕ
 
--- the greatest number of bytes of a frame, and of frames above that of main
+-- the greatest number of bytes of a frame
 abbrev pub frame_limit : ℕ
 frame_limit = 2032
-
-abbrev pub depth_limit : ℕ
-depth_limit = 512
 
 -- of what a call costs, what is left at the callee's first word for its entry, its return and a jump where it is bound; and at a slot's first word
 abbrev pub entry_cost : ℕ

@@ -1,6 +1,7 @@
 -- What the code of calls promises: it does what they mean, at every bound, over any callees that keep the calling convention.
 use Rattle.std.specs.Prelude.{ℕ, ◌≡◌, ◌+◌, ◌*◌, ◌%◌, ◌<◌, ◌≤◌, Bool, true, length}
 use Rattle.mv_ast.specs.declared.program.Known.{Known}
+use Rattle.mv_ast.specs.Traps.{depth_limit}
 use Rattle.mv_isa.specs.Code.{IsPlace}
 use Rattle.mv_isa.specs.Execution.{Access}
 use Rattle.mv_ir.specs.declared.tree.Tree.{Tree}
@@ -12,7 +13,7 @@ use Rattle.mv_select_statements.specs.Frames.{Site, Cell, Element, IsThere, addr
 use Rattle.mv_select_control.specs.Runs.{Machine, IsRun}
 use Rattle.mv_select_control.specs.Laws.{CallsDo}
 use Rattle.mv_select_calls.specs.CallCode.{left_register, live_register, commit_label, calls_of}
-use Rattle.mv_select_calls.specs.Convention.{Layout, frame_limit, depth_limit, IsAbove, Conventions}
+use Rattle.mv_select_calls.specs.Convention.{Layout, frame_limit, IsAbove, Conventions}
 use Rattle.mv_select_calls.specs.Environment.{ServesKnown}
 
 -- a cell of the frame itself, or one that it keeps

@@ -1,11 +1,12 @@
 -- What a function finds where it begins, told by the numbers of its own frame.
 use Rattle.std.proofs.Common.{◌≡◌, ℕ, ◌+◌, ◌*◌, ◌%◌, ◌<◌, ◌≤◌, Bool, true, false, cond, List, [], length, slice_index, arith}
+use Rattle.mv_ast.specs.Traps.{depth_limit}
 use Rattle.mv_isa.specs.Execution.{Access, reg}
 use Rattle.mv_ir.specs.World as ir
 use Rattle.mv_select_statements.specs.StatementCode.{first}
 use Rattle.mv_select_control.specs.Runs.{Machine}
 use Rattle.mv_select_calls.specs.CallCode.{left_register, live_register}
-use Rattle.mv_select_calls.specs.Convention.{Layout, Enters, frame_limit, depth_limit}
+use Rattle.mv_select_calls.specs.Convention.{Layout, Enters, frame_limit}
 use Rattle.mv_select_functions.specs.Functions.{Begins}
 
 -- a frame with so many above that of main, where so many others of attributed functions are live

@@ -2,6 +2,7 @@
 use Rattle.std.proofs.Common.{◌≡◌, inl, inr, ⊎_elim, ℕ, zero, suc, ◌+◌, ◌*◌, ◌%◌, ◌^◌, ◌<◌, ◌≤◌, ◌⊎◌, Bool, true, false, not, ◌&&◌, ◌||◌, eqb, ltb, max, List, [], ◌∷◌, length, slice_index, None, refl, sym, ap, ◌∙◌, subst, arith}
 use Rattle.std.proofs.Math.Nat.{le-max_left, le-max_right}
 use Rattle.std.proofs.lemmas.Bool.{eqb-true, ltb-true, ltb-false, lt-ltb, le-ltb, eq-eqb}
+use Rattle.mv_ast.specs.Traps.{depth_limit}
 use Rattle.mv_isa.specs.Code.{IsPlace}
 use Rattle.mv_isa.specs.Execution.{Access}
 use Rattle.mv_ir.specs.declared.stm.Array.{Array}
@@ -13,7 +14,7 @@ use Rattle.mv_select_trees.specs.TreeCode.{temp_offset}
 use Rattle.mv_select_trees.proofs.TreesRun.{and_left, and_right}
 use Rattle.mv_select_statements.specs.Frames.{Site, Cell, TempCell, Element, Kept, IsThere, address, size_of, Stored, IsFit, Reach, IsLoaded}
 use Rattle.mv_select_control.specs.Runs.{Machine}
-use Rattle.mv_select_calls.specs.Convention.{Layout, IsAbove, frame_limit, depth_limit}
+use Rattle.mv_select_calls.specs.Convention.{Layout, IsAbove, frame_limit}
 use Rattle.mv_select_calls.specs.Laws.{IsOfFrame, IsCaller}
 use Rattle.mv_select_functions.specs.FunctionCode.{words_before, Shape, bytes_of}
 use Rattle.mv_select_functions.specs.Functions as functions

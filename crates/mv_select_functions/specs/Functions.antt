@@ -1,5 +1,6 @@
 -- What the code of a whole function promises: it keeps the calling convention, if the functions do at each lower bound.
 use Rattle.std.specs.Prelude.{ℕ, ◌≡◌, ◌≢◌, ◌+◌, ◌-◌, ◌*◌, ◌%◌, ◌^◌, ◌<◌, ◌≤◌, ◌⊎◌, Bool, true, false, ◌&&◌, cond, leb, ltb, List, [], length, slice_index, Some, None}
+use Rattle.mv_ast.specs.Traps.{depth_limit}
 use Rattle.mv_isa.specs.Code.{IsPlace}
 use Rattle.mv_isa.specs.Execution.{Access, reg, put}
 use Rattle.mv_ir.specs.declared.tree.Tree.{Tree}
@@ -14,7 +15,7 @@ use Rattle.mv_select_control.specs.FlowCode.{are_fine}
 use Rattle.mv_select_control.specs.Placed.{Text, Placed}
 use Rattle.mv_select_control.specs.Runs.{Machine, IsRun}
 use Rattle.mv_select_calls.specs.CallCode.{link_register, left_register, live_register}
-use Rattle.mv_select_calls.specs.Convention.{Layout, IsTarget, IsAbove, frame_limit, depth_limit, Stands, FollowsCall, Conventions, Answers}
+use Rattle.mv_select_calls.specs.Convention.{Layout, IsTarget, IsAbove, frame_limit, Stands, FollowsCall, Conventions, Answers}
 use Rattle.mv_select_calls.specs.Environment.{ServesKnown}
 use Rattle.mv_select_calls.specs.Laws.{IsLinked}
 use Rattle.mv_select_functions.specs.FunctionCode.{Shape, array_offset, bytes_of, later_lines, function_lines}

@@ -12,6 +12,7 @@ ghost use Rattle.mv_types.specs.Functions as spec;
 
 use crate::contents::{Contents, Foreknown};
 use crate::foreknown::{attributed_number, number_among};
+use mv_ast::orders;
 use mv_ast::program::{CType, Function, Known, Signature, Stmt};
 use mv_ast::unit::{Declarator, Line, Shape};
 use mv_check_declarations::initials::check_plain_values;
@@ -79,7 +80,7 @@ fn is_prototype(known: Known, signature: &Signature) -> bool
     match known {
         Known::Getchar | Known::Poll => is_plain_int(signature),
         Known::Putchar => is_int_of_int(signature),
-        Known::Plan(code, _) => code < 2 && is_plain_int(signature),
+        Known::Plan(code, _) => code < orders::COMMIT_FUNCTION && is_plain_int(signature),
     }
 }
 
