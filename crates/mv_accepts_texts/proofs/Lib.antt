@@ -12,3 +12,4 @@ mod Files
 mod Objects
 mod Routines
 mod Units
+mod Programs

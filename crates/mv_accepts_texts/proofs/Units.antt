@@ -110,11 +110,11 @@ module _ (items : List Item) (W : Type 0) (ObjectTold FunctionTold : List ℕ �
   abbrev Is : (List ℕ → Part) → Declarations → Type 0
   Is = Sound items W ObjectTold FunctionTold
 
-  abbrev Told : Option Line → List ℕ → Type 0
+  abbrev pub Told : Option Line → List ℕ → Type 0
   Told None name = ObjectTold name
   Told (Some b) name = FunctionTold name
 
-  abbrev HasNumber : Option Line → List ℕ → Type 0
+  abbrev pub HasNumber : Option Line → List ℕ → Type 0
   HasNumber None name = Unit {0}
   HasNumber (Some b) name = (k : ℕ) × (function_number items name ≡ Some k)
 
