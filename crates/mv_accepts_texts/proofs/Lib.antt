@@ -1,3 +1,4 @@
+mod Lists
 mod Globals
 mod Expressions
 mod Forms
@@ -7,3 +8,8 @@ mod Shapes
 mod Locals
 mod Statements
 mod Functions
+mod Files
+mod Objects
+mod Routines
+mod Units
+mod Programs

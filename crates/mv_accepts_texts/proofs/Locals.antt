@@ -68,7 +68,7 @@ converted_all g t (e ∷ es) = among_both g _ _ ∙ (either_same g _ _ _ _ (conv
 
 -- ---- names
 
-abbrev or_nothing : Option (List ℕ) → List ℕ
+abbrev pub or_nothing : Option (List ℕ) → List ℕ
 or_nothing None = []
 or_nothing (Some name) = name
 
