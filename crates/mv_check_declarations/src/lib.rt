@@ -9,8 +9,8 @@
 //! - Each answer is the judgement of `specs/`, and the scope that is left is the one after it: the declaration with its
 //!   conversions written out, or the first place that breaks a rule with the least rule there
 //!   ([docs/declarations.md](declarations.md)).
-//! - `ValueSet`: different values in the order in which they were added, by an `indexmap` set behind a model that shows a
-//!   plain list. The values of domains are told apart by it, so none is searched for among the others.
+//! - `ValueSet`: different values in the order in which they were added, with an ordered set behind a model that shows a
+//!   plain list. The values of domains are told apart by it, so none is searched for among the others, whatever they are.
 //! - `mv_test_top` shows declarations that keep the rules and some that break one.
 #![tactic(auto)]
 

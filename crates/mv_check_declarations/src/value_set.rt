@@ -4,23 +4,28 @@ ghost use Rattle.std.specs.Prelude.{◌≡◌, [], not, IfOk, OnOk};
 ghost use Rattle.mv_ast.specs.Plans.{is_among};
 ghost use Rattle.mv_check_declarations.specs.ValueSets.{with_member};
 
-use indexmap::IndexSet;
 use mv_num::list::List;
 use std::alloc::{AllocError, Global};
+use std::collections::BTreeSet;
 use std::marker::Model;
 
-/// Values in the order in which they were added, each once. Whether one is there takes no search through the others.
+/// Values in the order in which they were added, each once. Whether one is there is found in an ordered set, with no search through
+/// the others.
 #[derive(Drop)]
 pub struct ValueSet {
-    values: IndexSet<u32>,
+    values: Vec<u32>,
+    present: BTreeSet<u32>,
 }
 
 impl Model for ValueSet {
     ghost use Rattle.std.specs.Prelude.{ℕ, List};
+    ghost use Rattle.mv_check_declarations.specs.ValueSets.{HasEach};
 
     ghost Value = { List ℕ };
 
-    ghost view = { λ s. s.values.keys };
+    ghost view = { λ s. s.values.items };
+
+    ghost invariant = { λ s. HasEach s.present.keys s.values.items };
 }
 
 impl ValueSet {
@@ -29,18 +34,25 @@ impl ValueSet {
         ensures { result ≡ [] }
     {
         ValueSet {
-            values: IndexSet::new(alloc),
+            values: Vec::new(alloc),
+            present: BTreeSet::new(alloc),
         }
     }
 
     /// Adds a value at the end, unless it is there. The answer says whether it was new.
-    #[tactic(auto, using(crate::proofs::ValueSets::among, crate::proofs::ValueSets::added))]
     pub fn add(&mut self, value: u32) -> Result<bool, AllocError>
         ensures new { IfOk result (λ new. new ≡ not (is_among value self.old)) }
         ensures added { OnOk result (self.new ≡ with_member self.old value) }
     {
-        let new = self.values.insert(value)?;
-        Ok(new)
+        if self.present.contains(&value) {
+            return Ok(false);
+        }
+        self.values.push(value)?;
+        if self.present.insert(value).is_err() {
+            self.values.pop();
+            return Err(AllocError);
+        }
+        Ok(true)
     }
 
     /// The values as a list.
