@@ -18,8 +18,8 @@ use Rattle.mv_check_expressions.specs.Judged.{Good, and_then}
 use Rattle.mv_check_outline.specs.Names.{place_of}
 use Rattle.mv_check_declarations.specs.Parameters.{parameters_judgement}
 use Rattle.mv_check_statements.specs.Statements.{body_judgement}
-use Rattle.mv_meaning_numbering.specs.Typing.{IsIntegerSwitch, IsTypedFunction}
-use Rattle.mv_lower_correct.specs.WellFormed.{IsWellFormedSwitch, IsWellFormedFunction}
+use Rattle.mv_source_forms.specs.Typing.{IsIntegerSwitch, IsTypedFunction}
+use Rattle.mv_source_forms.specs.WellFormed.{IsWellFormedSwitch, IsWellFormedFunction}
 use Rattle.mv_accepts_expressions.specs.Soundness.{Fits}
 use Rattle.mv_accepts_expressions.proofs.Kept.{went_on, same_good}
 use Rattle.mv_accepts_statements.specs.Bodies.{Keeps}

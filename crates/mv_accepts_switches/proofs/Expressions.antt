@@ -8,10 +8,10 @@ use Rattle.mv_ast.specs.declared.program.Form.{Form, Form-F, roll-Form, map-Form
 use Rattle.mv_ast.specs.declared.program.Form.TheOpen as form
 use Rattle.mv_ast.specs.declared.program.Target.{Target, Target-F, roll-Target, map-Target, fold-Target, fold-roll-Target}
 use Rattle.mv_ast.specs.Layers.{form_parts}
-use Rattle.mv_lower_spec.specs.Lower.{all_of}
-use Rattle.mv_lower_spec.proofs.SourceInduction.{FormChildren, TargetChildren, expr_ind}
-use Rattle.mv_lower_correct.specs.Scopes.{form_in, layer_in}
-use Rattle.mv_lower_correct.specs.Named.{is_own, target_is_own, names_own}
+use Rattle.mv_source_forms.specs.Lists.{all_of}
+use Rattle.mv_source_forms.proofs.ExpressionInduction.{FormChildren, TargetChildren, expr_ind}
+use Rattle.mv_source_forms.specs.Scopes.{form_in, layer_in}
+use Rattle.mv_source_forms.specs.Uses.{is_own, target_is_own, names_own}
 use Rattle.mv_check_uses.specs.Uses.{form_layer, target_layer, expr_layer, expr_globals}
 use Rattle.mv_check_uses.specs.Flags.{form_globals, target_globals}
 use Rattle.mv_accepts_switches.proofs.Lists.{cons, joined, all_own, own_concat, same_tests}

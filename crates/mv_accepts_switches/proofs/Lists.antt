@@ -4,8 +4,8 @@ use Rattle.std.specs.List.{concat}
 use Rattle.std.proofs.lemmas.Bool.{and_from, eq-eqb}
 use Rattle.std.proofs.Math.Bool.{or-true}
 use Rattle.mv_ast.specs.Plans.{is_among}
-use Rattle.mv_ir.proofs.Induction.{Each}
-use Rattle.mv_lower_spec.specs.Lower.{all_of}
+use Rattle.std.specs.List.{AllByRecursion}
+use Rattle.mv_source_forms.specs.Lists.{all_of}
 
 pub cons : (a b : Bool) (xs ys : List Bool) → a ≡ b → xs ≡ ys → (a ∷ xs) ≡ (b ∷ ys)
 cons a b xs ys h k = ap (λ c. c ∷ xs) h ∙ ap (λ zs. b ∷ zs) k
@@ -13,7 +13,7 @@ cons a b xs ys h k = ap (λ c. c ∷ xs) h ∙ ap (λ zs. b ∷ zs) k
 pub joined : (xs ys zs ws : List Bool) → xs ≡ zs → ys ≡ ws → (xs ++ ys) ≡ (zs ++ ws)
 joined xs ys zs ws h k = ap (λ vs. vs ++ ys) h ∙ ap (λ vs. zs ++ vs) k
 
-pub each_all : {A : Type 0} (P : A → Type 0) → ((x : A) → P x) → (xs : List A) → Each P xs
+pub each_all : {A : Type 0} (P : A → Type 0) → ((x : A) → P x) → (xs : List A) → AllByRecursion P xs
 each_all P h [] = tt
 each_all P h (x ∷ xs) = (h x, each_all P h xs)
 
@@ -34,7 +34,7 @@ module _ (own : ℕ → Bool) where
   own_concat (xs ∷ xss) = own_both xs (concat xss) ∙ ap (λ b. all_own xs && b) (own_concat xss)
 
   -- a test of each of some parts is one of the names of each
-  pub same_tests : {A : Type 0} (test : A → Bool) (names : A → List ℕ) (xs : List A) → Each (λ x. test x ≡ all_own (names x)) xs → map test xs ≡ map all_own (map names xs)
+  pub same_tests : {A : Type 0} (test : A → Bool) (names : A → List ℕ) (xs : List A) → AllByRecursion (λ x. test x ≡ all_own (names x)) xs → map test xs ≡ map all_own (map names xs)
   same_tests test names [] h = refl
   same_tests test names (x ∷ xs) h = cons (test x) (all_own (names x)) (map test xs) (map all_own (map names xs)) h.0 (same_tests test names xs h.1)
 

@@ -10,10 +10,10 @@ use Rattle.mv_ast.specs.declared.program.Stmt.TheOpen as stmt
 use Rattle.mv_ast.specs.declared.program.Arm.{Arm, Arm-F, roll-Arm, fold-Arm, fold-roll-Arm}
 use Rattle.mv_ast.specs.Layers.{stmt_parts, stmt_expressions}
 use Rattle.mv_ast.specs.Plans.{is_among, switch_global}
-use Rattle.mv_ir.proofs.Induction.{Each}
-use Rattle.mv_lower_spec.specs.Lower.{all_of}
-use Rattle.mv_lower_correct.specs.Named.{all_layer, all_arm_layer, all_expressions, is_switch, is_own, names_own}
-use Rattle.mv_lower_correct.proofs.StatementInduction.{StmtChildren, stmt_ind}
+use Rattle.std.specs.List.{AllByRecursion}
+use Rattle.mv_source_forms.specs.Lists.{all_of}
+use Rattle.mv_source_forms.specs.Uses.{all_layer, all_arm_layer, all_expressions, is_switch, is_own, names_own}
+use Rattle.mv_source_forms.proofs.StatementInduction.{StmtChildren, stmt_ind}
 use Rattle.mv_check_uses.specs.Uses.{expr_globals, stmt_layer, arm_layer, stmt_globals, switches_named}
 use Rattle.mv_check_uses.specs.Flags.{arm_globals}
 use Rattle.mv_check_uses.proofs.Owning.{own_switch}
@@ -55,10 +55,10 @@ module _ (p : Program) (f : Function) where
   same_expressions stmt.Continue = refl
   same_expressions (stmt.Return e) = refl
 
-  stmts : (ss : List Stmt) → Each P ss → map stmt_test ss ≡ map own (map stmt_globals ss)
+  stmts : (ss : List Stmt) → AllByRecursion P ss → map stmt_test ss ≡ map own (map stmt_globals ss)
   stmts ss h = same_tests (is_own p f) stmt_test stmt_globals ss h
 
-  both_parts : (ss ts : List Stmt) → Each P ss → Each P ts → (map stmt_test ss ++ map stmt_test ts) ≡ map own (map stmt_globals ss ++ map stmt_globals ts)
+  both_parts : (ss ts : List Stmt) → AllByRecursion P ss → AllByRecursion P ts → (map stmt_test ss ++ map stmt_test ts) ≡ map own (map stmt_globals ss ++ map stmt_globals ts)
   both_parts ss ts h k = joined _ _ _ _ (stmts ss h) (stmts ts k) ∙ sym (map-append own (map stmt_globals ss) (map stmt_globals ts))
 
   parts : (x : Stmt-F Stmt Arm) → StmtChildren P Q x → stmt_parts (tests x) ≡ map own (stmt_parts (names x))
@@ -93,7 +93,7 @@ module _ (p : Program) (f : Function) where
       fold-roll-Stmt Bool Bool (all_layer (names_own p f)) all_arm_layer x ∙
       (layer x h ∙ ap own (sym (fold-roll-Stmt (List ℕ) (List ℕ) stmt_layer arm_layer x)))
 
-  arm_step : (x : Arm-F Stmt Arm) → Each P x.body → Q (roll-Arm x)
+  arm_step : (x : Arm-F Stmt Arm) → AllByRecursion P x.body → Q (roll-Arm x)
   unfolding arm_globals stmt_globals
   arm_step x h =
       fold-roll-Arm Bool Bool (all_layer (names_own p f)) all_arm_layer x ∙

@@ -2,8 +2,8 @@
 use Rattle.std.specs.Prelude.{◌≡◌, true, map}
 use Rattle.mv_ast.specs.declared.program.Program.{Program}
 use Rattle.mv_ast.specs.declared.program.Function.{Function}
-use Rattle.mv_lower_spec.specs.Lower.{all_of}
-use Rattle.mv_lower_correct.specs.Named.{all_expressions, names_own}
+use Rattle.mv_source_forms.specs.Lists.{all_of}
+use Rattle.mv_source_forms.specs.Uses.{all_expressions, names_own}
 use Rattle.mv_check_uses.specs.Uses.{switches_named}
 
 -- where a function's switches are those that its statements name, each switch that an expression in it names is among them

@@ -13,7 +13,7 @@
 ghost use Rattle.std.specs.Prelude.{◌≡◌, IfOk};
 ghost use Rattle.mv_lower_spec.specs.Functions.{lower_program};
 ghost use Rattle.mv_lower_promise.specs.Lowering.{IsLowering};
-ghost use Rattle.mv_lower_correct.specs.WellFormed.{IsWellFormed};
+ghost use Rattle.mv_source_forms.specs.WellFormed.{IsWellFormed};
 ghost use Rattle.mv_lower.specs.Programs.{IsSmall};
 
 mod code;

@@ -8,7 +8,7 @@ use Rattle.mv_ast.specs.declared.program.Function.{Function}
 use Rattle.mv_ir.specs.declared.body.Body.{Body}
 use Rattle.mv_lower_spec.specs.Functions.{lower_function, lower_program}
 use Rattle.mv_lower_correct.specs.Laws.{FunctionsAreRight, ProgramsAreRight}
-use Rattle.mv_lower_correct.specs.WellFormed.{IsWellFormed}
+use Rattle.mv_source_forms.specs.WellFormed.{IsWellFormed}
 use Rattle.mv_lower_shape.specs.Law.{IsFunctionOf, LoweredAreShallow, LoweredAreWhole, LoweredAreWellFormed, LoweredCallAsOften, LoweredReadNoMore, LoweredAreSmall}
 use Rattle.mv_lower_promise.specs.Lowering.{IsLoweredFunction, IsLowering}
 

@@ -20,9 +20,9 @@ use Rattle.mv_ir.specs.WellFormed as bodies
 use Rattle.mv_lower_spec.specs.Correct.{seen}
 use Rattle.mv_lower_spec.specs.Functions.{lower_program}
 use Rattle.mv_lower_spec.specs.Law.{strict_context}
-use Rattle.mv_lower_spec.specs.Lower.{is_void}
+use Rattle.mv_source_forms.specs.Names.{is_void}
 use Rattle.mv_lower_correct.specs.Laws.{HasGlobals, IsCall, IsExecution, goes_astray}
-use Rattle.mv_lower_correct.specs.WellFormed.{IsWellFormed}
+use Rattle.mv_source_forms.specs.WellFormed.{IsWellFormed}
 use Rattle.mv_lower_shape.specs.Law.{CallsAsOften, ReadsNoMore, IsSmall}
 
 -- ---- functions

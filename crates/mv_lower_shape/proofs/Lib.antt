@@ -4,7 +4,6 @@ pub mod Plain
 pub mod Given
 pub mod Operators
 pub mod Expressions
-pub mod StatementInduction
 pub mod Paid
 pub mod Clears
 pub mod Statements

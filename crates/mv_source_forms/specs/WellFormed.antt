@@ -7,14 +7,13 @@ use Rattle.mv_ast.specs.declared.program.Function.{Function}
 use Rattle.mv_ast.specs.Actions.{is_value_of}
 use Rattle.mv_ast.specs.Counts.{words_of_size, nodes, assignments}
 use Rattle.mv_ast.specs.Plans.{attributed_functions}
-use Rattle.mv_meaning_numbering.specs.Typing.{IsInteger, IsTyped}
-use Rattle.mv_lower_spec.specs.Lower.{all_of, is_void}
-use Rattle.mv_lower_spec.specs.LowerStatements.{stmt_is_well_formed}
-use Rattle.mv_lower_spec.specs.Functions.{size_in}
-use Rattle.mv_lower_correct.specs.Jumps.{all_jump, stmt_jumps}
-use Rattle.mv_lower_spec.specs.Labels.{stmt_labelled}
-use Rattle.mv_lower_correct.specs.Scopes.{Scope, all_scoped, stmt_scoped}
-use Rattle.mv_lower_correct.specs.Named.{all_expressions, calls_known, names_own}
+use Rattle.mv_source_forms.specs.Typing.{IsInteger, IsTyped}
+use Rattle.mv_source_forms.specs.Lists.{all_of}
+use Rattle.mv_source_forms.specs.Names.{is_void, stmt_is_well_formed, size_in}
+use Rattle.mv_source_forms.specs.Jumps.{all_jump, stmt_jumps}
+use Rattle.mv_source_forms.specs.Labels.{stmt_labelled}
+use Rattle.mv_source_forms.specs.Scopes.{Scope, all_scoped, stmt_scoped}
+use Rattle.mv_source_forms.specs.Uses.{all_expressions, calls_known, names_own}
 
 -- the parameters of a function
 abbrev pub parameters : Function → Scope

@@ -8,7 +8,7 @@ use Rattle.mv_ast.specs.declared.program.Stmt.{Stmt, Stmt-F, fold-Stmt}
 use Rattle.mv_ast.specs.declared.program.Stmt.TheOpen as stmt
 use Rattle.mv_ast.specs.declared.program.Arm.{Arm, Arm-F, fold-Arm}
 use Rattle.mv_ast.specs.Layers.{form_parts}
-use Rattle.mv_lower_spec.specs.Lower.{all_of}
+use Rattle.mv_source_forms.specs.Lists.{all_of}
 
 -- the locals that are declared
 abbrev pub Scope : Type 0

@@ -1,7 +1,7 @@
 -- The program `int f(int a) { int b = a; while (b) { if (a) break; switch (a) { case 1: break; default: b = 0; } } return b; } int main(void) { return f(3); }`
 -- is well formed.
 use Rattle.std.proofs.Common.{◌≡◌, ℕ, ◌+◌, ◌≤◌, zero, suc, Bool, true, false, [], ◌∷◌, List, length, refl, sym, subst, ap, arith, Option, Some, None}
-use Rattle.std.specs.Prelude.{slice_get}
+use Rattle.std.specs.Prelude.{slice_get, All}
 use Rattle.std.proofs.lemmas.List.Elements.{All-nil, All-cons}
 use Rattle.mv_num.specs.declared.kind.Kind.TheVariants.{Int}
 use Rattle.mv_ast.specs.declared.program.CType.{CType}
@@ -17,17 +17,14 @@ use Rattle.mv_ast.specs.declared.program.Stmt.{Stmt, Stmt-F, map-Stmt, roll-Stmt
 use Rattle.mv_ast.specs.declared.program.Stmt.TheOpen as stmt
 use Rattle.mv_ast.specs.declared.program.Arm.{Arm, Arm-F, fold-Arm, map-Arm, roll-Arm, every-Arm, every_made-Arm, fold-roll-Arm}
 use Rattle.mv_ast.specs.Counts.{words_of_size, form_sum, target_sum, one_more_than, expr_nodes, stmt_sum, arm_sum, own_nodes, stmt_nodes}
-use Rattle.mv_lower_correct.specs.Named.{all_layer, all_arm_layer, all_expressions, form_calls_known, target_in_parts, calls_known}
-use Rattle.mv_lower_correct.specs.WellFormed.{program_nodes}
-use Rattle.std.specs.Prelude.{All}
-use Rattle.mv_meaning_numbering.specs.Typing.{HasType, LvalueHasType, HasTypedParts, IsTypedExpr, IsTypedAt, local_types, IsTypedStmt, IsTypedFunction}
+use Rattle.mv_source_forms.specs.Uses.{all_layer, all_arm_layer, all_expressions, form_calls_known, target_in_parts, calls_known}
+use Rattle.mv_source_forms.specs.WellFormed.{program_nodes, IsWellFormedFunction, IsWellFormed}
+use Rattle.mv_source_forms.specs.Typing.{HasType, LvalueHasType, HasTypedParts, IsTypedExpr, IsTypedAt, local_types, IsTypedStmt, IsTypedFunction}
 use Rattle.mv_ast.specs.Names.{names_local, form_names, target_names, inner_names, target_names_local}
-use Rattle.mv_lower_spec.specs.Lower.{names_form, names_target, names_layer, is_well_named, form_is_well_named, target_is_well_named}
-use Rattle.mv_lower_spec.specs.LowerStatements.{stmt_named_layer, arm_named_layer, stmt_is_well_formed, arm_is_well_formed}
-use Rattle.mv_lower_correct.specs.Jumps.{Jumping, stmt_jumps, arm_jumps, jumps_layer, arm_jumps_layer}
-use Rattle.mv_lower_spec.specs.Labels.{ArmLabels, labels_layer, arm_labels_layer, stmt_labelled, arm_labels}
-use Rattle.mv_lower_correct.specs.Scopes.{Scope, Scoped, stmt_scoped, arm_scoped, scoped_layer, arm_scoped_layer, form_in, target_in, layer_in, names_declared, form_names_declared, target_names_declared}
-use Rattle.mv_lower_correct.specs.WellFormed.{IsWellFormedFunction, IsWellFormed}
+use Rattle.mv_source_forms.specs.Names.{names_form, names_target, names_layer, is_well_named, form_is_well_named, target_is_well_named, stmt_named_layer, arm_named_layer, stmt_is_well_formed, arm_is_well_formed}
+use Rattle.mv_source_forms.specs.Jumps.{Jumping, stmt_jumps, arm_jumps, jumps_layer, arm_jumps_layer}
+use Rattle.mv_source_forms.specs.Labels.{ArmLabels, labels_layer, arm_labels_layer, stmt_labelled, arm_labels}
+use Rattle.mv_source_forms.specs.Scopes.{Scope, Scoped, stmt_scoped, arm_scoped, scoped_layer, arm_scoped_layer, form_in, target_in, layer_in, names_declared, form_names_declared, target_names_declared}
 
 abbrev int : CType
 int = Scalar Int

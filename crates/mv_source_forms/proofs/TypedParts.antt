@@ -9,7 +9,7 @@ use Rattle.mv_ast.specs.declared.program.Target.{Target, Target-F, out-Target, m
 use Rattle.mv_ast.specs.declared.program.Stmt.{Stmt, Stmt-F, out-Stmt, map-Stmt, every-Stmt, every_held-Stmt, every_here-Stmt}
 use Rattle.mv_ast.specs.declared.program.Stmt.TheOpen as stmt
 use Rattle.mv_ast.specs.declared.program.Arm.{Arm, Arm-F, out-Arm, every-Arm, every_held-Arm}
-use Rattle.mv_meaning_numbering.specs.Typing.{HasType, HasTypedParts}
+use Rattle.mv_source_forms.specs.Typing.{HasType, HasTypedParts}
 
 module _ (p : Program) (f : Function) where
   abbrev any_form : Form-F Form Target Expr → Type 0

@@ -5,7 +5,7 @@ use Rattle.mv_ast.specs.declared.program.Stmt.{Stmt, Stmt-F, fold-Stmt}
 use Rattle.mv_ast.specs.declared.program.Stmt.TheOpen as stmt
 use Rattle.mv_ast.specs.declared.program.Arm.{Arm, Arm-F, fold-Arm}
 use Rattle.mv_ast.specs.Names.{any_of}
-use Rattle.mv_lower_spec.specs.Lower.{all_of}
+use Rattle.mv_source_forms.specs.Lists.{all_of}
 
 abbrev pub at_most_one : List Bool → Bool
 at_most_one [] = true
