@@ -29,7 +29,7 @@ use Rattle.mv_accepts_bodies.specs.Declared.{Covers}
 use Rattle.mv_accepts_bodies.specs.Formed.{AreShaped, HasParameters}
 use Rattle.mv_accepts_bodies.specs.Definitions.{IsDefinition, HasScalarParameters, DefinitionHasParameters, IsFormed, DefinitionIsFormed}
 use Rattle.mv_check_uses.specs.Uses.{switches_named}
-use Rattle.mv_accepts_switches.specs.OwnSwitches.{OwnSwitchesAreNamed}
+use Rattle.mv_accepts_programs.specs.OwnSwitches.{OwnSwitchesAreNamed}
 use Rattle.mv_types.specs.declared.contents.Contents.{Contents}
 use Rattle.mv_types.specs.declared.contents.Foreknown.{Foreknown}
 use Rattle.mv_types.specs.Foreknown.{attributed_number, is_attributed}

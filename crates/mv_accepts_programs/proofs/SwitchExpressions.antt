@@ -14,7 +14,7 @@ use Rattle.mv_source_forms.specs.Scopes.{form_in, layer_in}
 use Rattle.mv_source_forms.specs.Uses.{is_own, target_is_own, names_own}
 use Rattle.mv_check_uses.specs.Uses.{form_layer, target_layer, expr_layer, expr_globals}
 use Rattle.mv_check_uses.specs.Flags.{form_globals, target_globals}
-use Rattle.mv_accepts_switches.proofs.Lists.{cons, joined, all_own, own_concat, same_tests}
+use Rattle.mv_accepts_programs.proofs.SwitchLists.{cons, joined, all_own, own_concat, same_tests}
 
 module _ (p : Program) (f : Function) where
   abbrev own : List ℕ → Bool

@@ -17,8 +17,8 @@ use Rattle.mv_source_forms.proofs.StatementInduction.{StmtChildren, stmt_ind}
 use Rattle.mv_check_uses.specs.Uses.{expr_globals, stmt_layer, arm_layer, stmt_globals, switches_named}
 use Rattle.mv_check_uses.specs.Flags.{arm_globals}
 use Rattle.mv_check_uses.proofs.Owning.{own_switch}
-use Rattle.mv_accepts_switches.proofs.Lists.{joined, each_all, all_own, own_both, own_concat, same_tests, all_among}
-use Rattle.mv_accepts_switches.proofs.Expressions.{S, expr_owns}
+use Rattle.mv_accepts_programs.proofs.SwitchLists.{joined, each_all, all_own, own_both, own_concat, same_tests, all_among}
+use Rattle.mv_accepts_programs.proofs.SwitchExpressions.{S, expr_owns}
 
 module _ (p : Program) (f : Function) where
   abbrev own : List ℕ → Bool
