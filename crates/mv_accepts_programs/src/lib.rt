@@ -14,12 +14,11 @@ ghost use Rattle.mv_accepts_programs.specs.OwnSwitches.{OwnSwitchesAreNamed};
 use mv_accepts_bodies::good_definitions_are_well_formed;
 use mv_accepts_globals::{good_first_values_are_typed, good_globals_are_formed};
 use mv_accepts_limits::{
-    main_is_typed, main_is_unmarked, programs_of_small_units_are_small,
+    main_is_typed, main_is_unmarked, programs_of_small_units_are_small, units_of_texts_are_small,
     unreported_programs_are_within_limits,
 };
 use mv_accepts_names::good_units_are_sound;
 use mv_accepts_numbers::{functions_have_their_numbers, objects_have_their_numbers};
-use mv_accepts_sizes::units_of_texts_are_small;
 use mv_accepts_statements::{good_bodies_are_typed, good_parameters_fit};
 
 /// Where the switches of a function are listed as those that its statements name, each switch that an expression in it names is one of

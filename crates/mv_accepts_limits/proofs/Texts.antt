@@ -13,8 +13,8 @@ use Rattle.mv_parse_grammar.specs.Terminals.{terminals}
 use Rattle.mv_parse_grammar.specs.Declarations.{characters_of_piece}
 use Rattle.mv_parse_reading.specs.Texts.{ReadsAs}
 use Rattle.mv_accepts_limits.specs.Nodes.{unit_nodes}
-use Rattle.mv_accepts_sizes.proofs.Phrases.{size}
-use Rattle.mv_accepts_sizes.proofs.Units.{items_small}
+use Rattle.mv_accepts_limits.proofs.Phrases.{size}
+use Rattle.mv_accepts_limits.proofs.UnitBytes.{items_small}
 
 -- ---- strings
 

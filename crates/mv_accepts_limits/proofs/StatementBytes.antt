@@ -8,11 +8,11 @@ use Rattle.mv_parse_grammar.specs.Declarations.{Parameters, params, place_of_spe
 use Rattle.mv_parse_grammar.specs.Statements as T
 use Rattle.mv_parse_grammar.specs.Statements.{Lines, line_at, locals, statements}
 use Rattle.mv_accepts_limits.specs.Nodes.{node_nodes, optional_nodes, line_nodes}
-use Rattle.mv_accepts_sizes.proofs.Phrases.{Within, of_some, of_all, given, first, after, either, placed, allowed, chained, commas, pushed}
-use Rattle.mv_accepts_sizes.proofs.DeclaratorCounts.{param_nodes}
-use Rattle.mv_accepts_sizes.proofs.LineCounts.{nodes_block, nodes_declare, nodes_express, nodes_if, nodes_else, nodes_while, nodes_do, nodes_for, nodes_switch, nodes_case, nodes_default, nodes_break, nodes_continue, nodes_return, nodes_clause}
-use Rattle.mv_accepts_sizes.proofs.Expressions.{expressions}
-use Rattle.mv_accepts_sizes.proofs.Declarations.{specifiers, declared, parameter_lists}
+use Rattle.mv_accepts_limits.proofs.Phrases.{Within, of_some, of_all, given, first, after, either, placed, allowed, chained, commas, pushed}
+use Rattle.mv_accepts_limits.proofs.DeclaratorCounts.{param_nodes}
+use Rattle.mv_accepts_limits.proofs.LineCounts.{nodes_block, nodes_declare, nodes_express, nodes_if, nodes_else, nodes_while, nodes_do, nodes_for, nodes_switch, nodes_case, nodes_default, nodes_break, nodes_continue, nodes_return, nodes_clause}
+use Rattle.mv_accepts_limits.proofs.ExpressionBytes.{expressions}
+use Rattle.mv_accepts_limits.proofs.DeclarationBytes.{specifiers, declared, parameter_lists}
 
 -- an expression or none, and its mark
 abbrev ended : Option Node → ℕ

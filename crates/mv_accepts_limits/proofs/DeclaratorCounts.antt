@@ -11,7 +11,7 @@ use Rattle.mv_ast.specs.declared.unit.Shape.TheVariants as shape
 use Rattle.mv_ast.specs.declared.unit.Specs.{Specs}
 use Rattle.mv_parse_grammar.specs.Declarations.{declarator_of, attributed, initialised, array_shape, pointer_shape, param_of, is_void_parameter, without_void}
 use Rattle.mv_accepts_limits.specs.Nodes.{shape_count, declarator_count, param_count, node_nodes, mark_nodes, specs_nodes, initial_nodes, declarator_nodes}
-use Rattle.mv_accepts_sizes.proofs.Phrases.{of_some, of_all, all_then}
+use Rattle.mv_accepts_limits.proofs.Phrases.{of_some, of_all, all_then}
 
 abbrev shape_nodes : Shape → ℕ
 shape_nodes = fold-Shape ℕ ℕ ℕ shape_count declarator_count param_count

@@ -7,8 +7,8 @@ use Rattle.mv_parse_grammar.specs.Terminals.{Terminal, mark, keyword, is_mark}
 use Rattle.mv_parse_grammar.specs.Expressions as G
 use Rattle.mv_parse_grammar.specs.Expressions.{Nonterminal, Expressions, Assign, Cond, Cast, Unary, no_specs, tag_of}
 use Rattle.mv_accepts_limits.specs.Nodes.{node_nodes, specs_nodes}
-use Rattle.mv_accepts_sizes.proofs.Phrases.{Within, of_all, wider, given, first, after, through, either, placed, chained, commas}
-use Rattle.mv_accepts_sizes.proofs.NodeCounts.{nodes_piece, nodes_name, nodes_unary, nodes_binary, nodes_choose, nodes_assign, nodes_before, nodes_after, nodes_index, nodes_call, nodes_cast, nodes_tag, nodes_none, nodes_placed, nodes_const, nodes_word, nodes_tagged}
+use Rattle.mv_accepts_limits.proofs.Phrases.{Within, of_all, wider, given, first, after, through, either, placed, chained, commas}
+use Rattle.mv_accepts_limits.proofs.NodeCounts.{nodes_piece, nodes_name, nodes_unary, nodes_binary, nodes_choose, nodes_assign, nodes_before, nodes_after, nodes_index, nodes_call, nodes_cast, nodes_tag, nodes_none, nodes_placed, nodes_const, nodes_word, nodes_tagged}
 
 -- ---- type names
 

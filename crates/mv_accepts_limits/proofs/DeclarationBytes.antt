@@ -12,10 +12,10 @@ use Rattle.mv_parse_grammar.specs.Expressions.{Nonterminal, Expressions, Assign,
 use Rattle.mv_parse_grammar.specs.Declarations as D
 use Rattle.mv_parse_grammar.specs.Declarations.{Parameters, declarator_of, spelling_of, place_of_specs, characters_of}
 use Rattle.mv_accepts_limits.specs.Nodes.{node_nodes, mark_nodes, specs_nodes, initial_nodes, declarator_nodes}
-use Rattle.mv_accepts_sizes.proofs.Phrases.{Within, of_some, of_all, all_more, wider, given, spelled, first, taken, after, through, either, placed, chained, optional, commas, braced}
-use Rattle.mv_accepts_sizes.proofs.NodeCounts.{enum_nodes, member_nodes, nodes_tag, nodes_member, nodes_enum, nodes_mark, nodes_none, nodes_placed, nodes_const, nodes_static, nodes_word, nodes_tagged, nodes_marked}
-use Rattle.mv_accepts_sizes.proofs.DeclaratorCounts.{param_nodes, nodes_object, nodes_array, nodes_called, nodes_pointers, nodes_attributed, nodes_initialised, nodes_param, fewer_parameters}
-use Rattle.mv_accepts_sizes.proofs.Expressions.{some_specs, expressions}
+use Rattle.mv_accepts_limits.proofs.Phrases.{Within, of_some, of_all, all_more, wider, given, spelled, first, taken, after, through, either, placed, chained, optional, commas, braced}
+use Rattle.mv_accepts_limits.proofs.NodeCounts.{enum_nodes, member_nodes, nodes_tag, nodes_member, nodes_enum, nodes_mark, nodes_none, nodes_placed, nodes_const, nodes_static, nodes_word, nodes_tagged, nodes_marked}
+use Rattle.mv_accepts_limits.proofs.DeclaratorCounts.{param_nodes, nodes_object, nodes_array, nodes_called, nodes_pointers, nodes_attributed, nodes_initialised, nodes_param, fewer_parameters}
+use Rattle.mv_accepts_limits.proofs.ExpressionBytes.{some_specs, expressions}
 
 -- an enum and an attribute have a token more than nodes
 

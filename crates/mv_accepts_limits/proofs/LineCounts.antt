@@ -9,7 +9,7 @@ use Rattle.mv_ast.specs.declared.unit.Node.{Node}
 use Rattle.mv_ast.specs.declared.unit.Specs.{Specs}
 use Rattle.mv_parse_grammar.specs.Statements.{line_at, express}
 use Rattle.mv_accepts_limits.specs.Nodes.{act_count, line_count, node_nodes, optional_nodes, specs_nodes, declarator_nodes, line_nodes}
-use Rattle.mv_accepts_sizes.proofs.Phrases.{of_some, of_all}
+use Rattle.mv_accepts_limits.proofs.Phrases.{of_some, of_all}
 
 abbrev act_nodes : Act → ℕ
 act_nodes = fold-Act ℕ ℕ act_count line_count

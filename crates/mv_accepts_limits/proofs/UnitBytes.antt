@@ -10,10 +10,10 @@ use Rattle.mv_parse_grammar.specs.Expressions.{phrase}
 use Rattle.mv_parse_grammar.specs.Declarations.{params}
 use Rattle.mv_parse_grammar.specs.Units.{item_of, items, AreItems}
 use Rattle.mv_accepts_limits.specs.Nodes.{specs_nodes, declarator_nodes, line_nodes, body_nodes, item_nodes}
-use Rattle.mv_accepts_sizes.proofs.Phrases.{Within, of_all, size, all_and, given, first, after, either, chained, commas, pushed}
-use Rattle.mv_accepts_sizes.proofs.Expressions.{expressions}
-use Rattle.mv_accepts_sizes.proofs.Declarations.{specifiers, declarator, declared, parameter_lists}
-use Rattle.mv_accepts_sizes.proofs.Statements.{blocks}
+use Rattle.mv_accepts_limits.proofs.Phrases.{Within, of_all, size, all_and, given, first, after, either, chained, commas, pushed}
+use Rattle.mv_accepts_limits.proofs.ExpressionBytes.{expressions}
+use Rattle.mv_accepts_limits.proofs.DeclarationBytes.{specifiers, declarator, declared, parameter_lists}
+use Rattle.mv_accepts_limits.proofs.StatementBytes.{blocks}
 
 abbrev with_body : Option Line → Declarator → ℕ
 with_body b d = declarator_nodes d + body_nodes b

@@ -16,7 +16,7 @@ use Rattle.mv_ast.specs.declared.token.Piece.TheVariants as piece
 use Rattle.mv_parse_grammar.specs.Terminals.{Terminal}
 use Rattle.mv_parse_grammar.specs.Expressions.{node_at, piece_value, no_specs, specs_of, specs_at, with_const, with_word, with_tag, tag_of}
 use Rattle.mv_parse_grammar.specs.Declarations.{with_static, with_mark, member_of, enum_of, mark_at}
-use Rattle.mv_accepts_sizes.proofs.Phrases.{of_some, of_all, all_then}
+use Rattle.mv_accepts_limits.proofs.Phrases.{of_some, of_all, all_then}
 use Rattle.mv_accepts_limits.specs.Nodes.{what_count, enum_count, mark_count, member_count, node_count, specs_count, node_nodes, mark_nodes, specs_nodes}
 
 -- ---- expressions
