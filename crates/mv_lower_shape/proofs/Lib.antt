@@ -27,3 +27,4 @@ pub mod WithinExpressions
 pub mod WithinStatements
 pub mod OfPrograms
 pub mod WorkedReads
+pub mod Lowering

@@ -10,7 +10,7 @@ use Rattle.mv_lower_spec.specs.Functions.{lower_function, lower_program}
 use Rattle.mv_lower_correct.specs.Laws.{FunctionsAreRight, ProgramsAreRight}
 use Rattle.mv_source_forms.specs.WellFormed.{IsWellFormed}
 use Rattle.mv_lower_shape.specs.Law.{IsFunctionOf, LoweredAreShallow, LoweredAreWhole, LoweredAreWellFormed, LoweredCallAsOften, LoweredReadNoMore, LoweredAreSmall}
-use Rattle.mv_lower_promise.specs.Lowering.{IsLoweredFunction, IsLowering}
+use Rattle.mv_lower_shape.specs.Lowering.{IsLoweredFunction, IsLowering}
 
 -- the body with the number of a function is its lowering
 body_is : (p : Program) (f : ℕ) (g : Function) (b : Body) → slice_get p.functions f ≡ Some g → slice_get (lower_program p).bodies f ≡ Some b → lower_function p g ≡ b

@@ -1,5 +1,5 @@
-use Rattle.mv_lower_promise.proofs.Lowering.{lowering_right}
-use Rattle.mv_lower_promise.proofs.lowering_is_right.Goals as goal
+use Rattle.mv_lower_shape.proofs.Lowering.{lowering_right}
+use Rattle.mv_lower_shape.proofs.lowering_is_right.Goals as goal
 
 pub returns : goal.returns
 returns c = λ p formed.
