@@ -17,7 +17,7 @@ use Rattle.mv_image.specs.Spelling.{Fields}
 use Rattle.mv_ir.specs.World.{World}
 use Rattle.mv_ir.specs.Levels.{Code}
 use Rattle.mv_ir.specs.Programs.{setting_of, code_of, call_of_main}
-use Rattle.mv_ir_ends.specs.Reached.{IsReached, EndsAreReached}
+use Rattle.mv_ir.specs.Reached.{IsReached, EndsAreReached}
 use Rattle.mv_lower_spec.specs.Functions.{lower_program}
 use Rattle.mv_source_forms.specs.WellFormed.{IsWellFormed}
 use Rattle.mv_machine.specs.Runs.{bytes_to_come}

@@ -10,7 +10,7 @@ use Rattle.mv_ast.specs.Worlds as source
 use Rattle.mv_ast.specs.Plans.{Answered, ordered, acted, polled}
 use Rattle.mv_ir.specs.World.{World}
 use Rattle.mv_ir.specs.KnownFunctions.{seen, seen_from, next_byte, known_answer}
-use Rattle.mv_ir_ends.specs.Reached.{TakesInput}
+use Rattle.mv_ir.specs.Reached.{TakesInput}
 
 -- the input is left as it is
 record Leaves (before after : source.World) : Type 0 where

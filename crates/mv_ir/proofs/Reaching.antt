@@ -18,8 +18,8 @@ use Rattle.mv_ir.specs.Levels.{Code, frame_of_call, called, levels, program_mean
 use Rattle.mv_ir.specs.Programs.{setting_of}
 use Rattle.mv_ir.proofs.Induction.{Each, StmChildren, stm_ind, stms_ind}
 use Rattle.mv_ir.proofs.Keeping.{meaning_roll}
-use Rattle.mv_ir_ends.specs.Reached.{TakesInput, IsReached}
-use Rattle.mv_ir_ends.proofs.Known.{known_takes}
+use Rattle.mv_ir.specs.Reached.{TakesInput, IsReached}
+use Rattle.mv_ir.proofs.KnownEnds.{known_takes}
 
 -- ---- what is reached from a world
 
