@@ -11,8 +11,8 @@ use Rattle.mv_ast.specs.declared.program.Expr.{Expr}
 use Rattle.mv_ast.specs.Names.{any_of}
 use Rattle.mv_ast.specs.Plans.{same_truth}
 use Rattle.mv_check_scope.specs.Conversions as conversions
-use Rattle.mv_meaning_numbering.specs.Typing.{types_of, parameter_types}
-use Rattle.mv_lower_spec.specs.Lower.{is_void, takes, is_callable}
+use Rattle.mv_source_forms.specs.Typing.{types_of, parameter_types}
+use Rattle.mv_source_forms.specs.Names.{is_void, takes, is_callable}
 use Rattle.mv_accepts_bodies.specs.Formed.{HasParameters}
 
 pub any_last : (bs : List Bool) (b : Bool) → any_of (bs ++ b ∷ []) ≡ false → (any_of bs ≡ false) × (b ≡ false)

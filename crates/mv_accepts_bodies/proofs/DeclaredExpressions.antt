@@ -20,7 +20,7 @@ use Rattle.mv_accepts_statements.proofs.Judging.{IfGood}
 use Rattle.mv_accepts_bodies.proofs.ExprJudged.{value_kept, effect_kept}
 use Rattle.mv_check_expressions.specs.Seen.{object_at, element_at}
 use Rattle.mv_check_expressions.specs.Calls.{with_index}
-use Rattle.mv_lower_correct.specs.Scopes.{form_in, target_in, layer_in, names_declared}
+use Rattle.mv_source_forms.specs.Scopes.{form_in, target_in, layer_in, names_declared}
 use Rattle.mv_accepts_bodies.specs.Declared.{IsIn, Covers}
 use Rattle.mv_accepts_bodies.proofs.Tests.{all_tested, all_last_tested, one_tested, two_tested, three_tested}
 use Rattle.mv_accepts_bodies.proofs.ExprProperty.{ExprProperty}

@@ -29,10 +29,10 @@ use Rattle.mv_check_declarations.specs.Locals.{scalar_meaning, array_meaning}
 use Rattle.mv_check_statements.specs.declared.arms.Arms.{Arms}
 use Rattle.mv_check_statements.specs.SwitchBodies.{no_arm, has_statements, at_label, with_statement, arms_of}
 use Rattle.mv_check_statements.specs.Statements.{body_judgement}
-use Rattle.mv_lower_spec.specs.Lower.{all_of}
-use Rattle.mv_lower_correct.specs.Scopes as scopes
-use Rattle.mv_lower_correct.specs.Scopes.{Scoped, with_declared, names_declared, option_declared, all_scoped, scope_behind, scoped_layer, arm_scoped_layer, stmt_scoped, arm_scoped}
-use Rattle.mv_lower_correct.specs.WellFormed.{parameters}
+use Rattle.mv_source_forms.specs.Lists.{all_of}
+use Rattle.mv_source_forms.specs.Scopes as scopes
+use Rattle.mv_source_forms.specs.Scopes.{Scoped, with_declared, names_declared, option_declared, all_scoped, scope_behind, scoped_layer, arm_scoped_layer, stmt_scoped, arm_scoped}
+use Rattle.mv_source_forms.specs.WellFormed.{parameters}
 use Rattle.mv_accepts_expressions.specs.Soundness.{Fits}
 use Rattle.mv_accepts_statements.specs.Bodies.{Keeps}
 use Rattle.mv_accepts_statements.proofs.Judging.{IfGood, by_good, of_good}

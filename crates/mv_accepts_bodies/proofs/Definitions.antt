@@ -15,7 +15,7 @@ use Rattle.mv_check_scope.specs.declared.meaning.Meaning.TheVariants as meaning
 use Rattle.mv_check_scope.specs.declared.meaning.Storage.{Storage}
 use Rattle.mv_check_scope.specs.declared.meaning.Storage.TheVariants as storage
 use Rattle.mv_check_scope.specs.declared.scope.Scope.{Scope}
-use Rattle.mv_lower_correct.specs.WellFormed.{parameters}
+use Rattle.mv_source_forms.specs.WellFormed.{parameters}
 use Rattle.mv_accepts_expressions.specs.Soundness.{IsStored, IsMeant, Fits}
 use Rattle.mv_accepts_statements.specs.Bodies.{Keeps, BodyGrows, BodyIsTyped, AreParameters, ParametersFit}
 use Rattle.mv_accepts_statements.proofs.Places.{keeps_take}

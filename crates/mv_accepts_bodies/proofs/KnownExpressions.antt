@@ -26,8 +26,8 @@ use Rattle.mv_accepts_statements.proofs.Judging.{IfGood}
 use Rattle.mv_accepts_bodies.proofs.ExprJudged.{value_kept, effect_kept}
 use Rattle.mv_check_expressions.specs.Seen.{object_at, element_at}
 use Rattle.mv_check_expressions.specs.Calls.{known_params, with_index}
-use Rattle.mv_lower_correct.specs.Scopes.{layer_in}
-use Rattle.mv_lower_correct.specs.Named.{known_parameters, order_is_there, known_is_there, form_calls_known, target_in_parts, calls_known}
+use Rattle.mv_source_forms.specs.Scopes.{layer_in}
+use Rattle.mv_source_forms.specs.Uses.{known_parameters, order_is_there, known_is_there, form_calls_known, target_in_parts, calls_known}
 use Rattle.mv_accepts_bodies.specs.Formed.{AreShaped}
 use Rattle.mv_accepts_bodies.proofs.Tests.{all_tested, all_last_tested, one_tested, two_tested, three_tested}
 use Rattle.mv_accepts_bodies.proofs.ExprProperty.{NamesKnown, IsPlanned, IsOrder, ExprProperty}

@@ -16,8 +16,8 @@ use Rattle.mv_check_scope.specs.Conversions.{promotion, promoted, converted_to}
 use Rattle.mv_check_statements.specs.SwitchBodies.{arms_of}
 use Rattle.mv_check_statements.specs.Statements.{body_judgement}
 use Rattle.mv_check_expressions.specs.Judged.{Good}
-use Rattle.mv_lower_spec.specs.Lower.{all_of}
-use Rattle.mv_lower_correct.specs.Named.{all_layer, all_arm_layer, all_expressions, calls_known}
+use Rattle.mv_source_forms.specs.Lists.{all_of}
+use Rattle.mv_source_forms.specs.Uses.{all_layer, all_arm_layer, all_expressions, calls_known}
 use Rattle.mv_accepts_expressions.specs.Soundness.{Fits}
 use Rattle.mv_accepts_statements.specs.Bodies.{Keeps}
 use Rattle.mv_ast.specs.declared.unit.Param.{Param}

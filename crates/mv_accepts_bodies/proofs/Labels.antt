@@ -15,8 +15,8 @@ use Rattle.mv_check_statements.specs.declared.arms.Arms.{Arms}
 use Rattle.mv_check_statements.specs.SwitchBodies.{no_arm, has_statements, at_label, labelled, labelled_other, with_case, with_default, with_statement, arms_of}
 use Rattle.mv_check_expressions.specs.Judgements.{value_judgement, effect_judgement}
 use Rattle.mv_check_declarations.specs.Locals.{local_values}
-use Rattle.mv_lower_spec.specs.Lower.{all_of}
-use Rattle.mv_lower_spec.specs.Labels.{at_most_one, has_label, ArmLabels, later_arms, arms_labelled, labels_layer, arm_labels_layer, stmt_labelled, arm_labels}
+use Rattle.mv_source_forms.specs.Lists.{all_of}
+use Rattle.mv_source_forms.specs.Labels.{at_most_one, has_label, ArmLabels, later_arms, arms_labelled, labels_layer, arm_labels_layer, stmt_labelled, arm_labels}
 use Rattle.mv_ast.specs.declared.unit.Line.{Line}
 use Rattle.mv_check_scope.specs.declared.scope.Scope.{Scope}
 use Rattle.mv_check_expressions.specs.Judged.{Good}

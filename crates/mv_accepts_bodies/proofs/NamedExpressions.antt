@@ -24,10 +24,10 @@ use Rattle.mv_check_scope.specs.Conversions.{same_type, int, typed, converted_to
 use Rattle.mv_check_expressions.specs.Judgements.{value_judgement, effect_judgement}
 use Rattle.mv_check_expressions.specs.Seen.{object_at, element_at}
 use Rattle.mv_check_expressions.specs.Calls.{with_index}
-use Rattle.mv_meaning_numbering.specs.Typing.{HasType, IsTypedExpr}
-use Rattle.mv_meaning_numbering.proofs.Typed.{TypedTarget, AllTyped, FormParts, TargetParts, form_parts, target_parts, expr_form, expr_node}
-use Rattle.mv_lower_spec.specs.Lower.{all_of, is_scalar, names_target, names_form, names_layer, target_is_well_named, is_well_named}
-use Rattle.mv_lower_spec.specs.Functions.{size_of_local, size_in}
+use Rattle.mv_source_forms.specs.Typing.{HasType, IsTypedExpr}
+use Rattle.mv_source_forms.proofs.TypedParts.{TypedTarget, AllTyped, FormParts, TargetParts, form_parts, target_parts, expr_form, expr_node}
+use Rattle.mv_source_forms.specs.Lists.{all_of}
+use Rattle.mv_source_forms.specs.Names.{is_scalar, names_target, names_form, names_layer, target_is_well_named, is_well_named, size_of_local, size_in}
 use Rattle.mv_accepts_statements.proofs.Judging.{IfGood}
 use Rattle.mv_accepts_bodies.specs.Formed.{IsScalar, IsArray, AreShaped, HasParameters}
 use Rattle.mv_accepts_bodies.proofs.Counted.{any_last, callable}

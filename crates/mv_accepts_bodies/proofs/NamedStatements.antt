@@ -25,12 +25,11 @@ use Rattle.mv_check_statements.specs.Statements.{body_judgement}
 use Rattle.mv_check_expressions.specs.Judged.{Good}
 use Rattle.mv_check_expressions.specs.Judgements.{value_judgement, effect_judgement}
 use Rattle.mv_check_declarations.specs.Locals.{local_values}
-use Rattle.mv_meaning_numbering.specs.Typing.{IsTypedExpr}
+use Rattle.mv_source_forms.specs.Typing.{IsTypedExpr}
 use Rattle.mv_accepts_expressions.specs.Soundness.{Fits, GoodIsTyped, EffectIsTyped}
 use Rattle.mv_accepts_expressions.proofs.Types.{integer_is}
-use Rattle.mv_lower_spec.specs.Lower.{all_of, is_void, is_well_named}
-use Rattle.mv_lower_spec.specs.LowerStatements.{but_for, named_option, stmt_named_layer, arm_named_layer, stmt_is_well_formed, arm_is_well_formed}
-use Rattle.mv_lower_spec.specs.Functions.{size_of_local, size_in}
+use Rattle.mv_source_forms.specs.Lists.{all_of}
+use Rattle.mv_source_forms.specs.Names.{is_void, is_well_named, but_for, named_option, stmt_named_layer, arm_named_layer, stmt_is_well_formed, arm_is_well_formed, size_of_local, size_in}
 use Rattle.mv_accepts_statements.specs.Bodies.{Keeps}
 use Rattle.mv_accepts_statements.proofs.Judging.{IfGood, by_good, if_both}
 use Rattle.mv_accepts_statements.proofs.Bodies.{body_has}

@@ -2,7 +2,7 @@
 use Rattle.std.proofs.Common.{◌≡◌, Bool, true, false, refl, List, [], ◌∷◌, ◌++◌, map}
 use Rattle.std.specs.List.{AllByRecursion}
 use Rattle.std.proofs.lemmas.Bool.{and_from}
-use Rattle.mv_lower_spec.specs.Lower.{all_of}
+use Rattle.mv_source_forms.specs.Lists.{all_of}
 
 module _ {A : Type 0} (test : A → Bool) where
   pub all_tested : (xs : List A) → AllByRecursion (λ x. test x ≡ true) xs → all_of (map test xs) ≡ true

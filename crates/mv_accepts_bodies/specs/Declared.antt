@@ -12,8 +12,8 @@ use Rattle.mv_check_scope.specs.declared.scope.Scope.{Scope}
 use Rattle.mv_check_scope.specs.Scoped.{meaning_of}
 use Rattle.mv_check_expressions.specs.Judged.{Good}
 use Rattle.mv_check_statements.specs.Statements.{body_judgement}
-use Rattle.mv_lower_correct.specs.Scopes.{all_scoped, stmt_scoped}
-use Rattle.mv_lower_correct.specs.WellFormed.{parameters}
+use Rattle.mv_source_forms.specs.Scopes.{all_scoped, stmt_scoped}
+use Rattle.mv_source_forms.specs.WellFormed.{parameters}
 use Rattle.mv_accepts_expressions.specs.Soundness.{Fits}
 use Rattle.mv_accepts_statements.specs.Bodies.{Keeps}
 

@@ -8,15 +8,14 @@ use Rattle.mv_check_scope.specs.declared.scope.Scope.{Scope}
 use Rattle.mv_check_expressions.specs.Judged.{Good}
 use Rattle.mv_check_declarations.specs.Parameters.{parameters_judgement}
 use Rattle.mv_check_statements.specs.Statements.{body_judgement}
-use Rattle.mv_meaning_numbering.specs.Typing.{IsTypedStmt}
-use Rattle.mv_lower_spec.specs.Lower.{all_of, is_void}
-use Rattle.mv_lower_spec.specs.LowerStatements.{stmt_is_well_formed}
-use Rattle.mv_lower_spec.specs.Functions.{size_in}
-use Rattle.mv_lower_correct.specs.Jumps.{all_jump, stmt_jumps}
-use Rattle.mv_lower_spec.specs.Labels.{stmt_labelled}
-use Rattle.mv_lower_correct.specs.Named.{all_expressions, calls_known}
-use Rattle.mv_lower_correct.specs.Scopes.{all_scoped, stmt_scoped}
-use Rattle.mv_lower_correct.specs.WellFormed.{parameters}
+use Rattle.mv_source_forms.specs.Typing.{IsTypedStmt}
+use Rattle.mv_source_forms.specs.Lists.{all_of}
+use Rattle.mv_source_forms.specs.Names.{is_void, stmt_is_well_formed, size_in}
+use Rattle.mv_source_forms.specs.Jumps.{all_jump, stmt_jumps}
+use Rattle.mv_source_forms.specs.Labels.{stmt_labelled}
+use Rattle.mv_source_forms.specs.Uses.{all_expressions, calls_known}
+use Rattle.mv_source_forms.specs.Scopes.{all_scoped, stmt_scoped}
+use Rattle.mv_source_forms.specs.WellFormed.{parameters}
 use Rattle.mv_accepts_expressions.specs.Soundness.{Fits}
 use Rattle.mv_accepts_statements.specs.Bodies.{Keeps}
 use Rattle.mv_accepts_bodies.specs.Formed.{AreShaped, HasParameters}

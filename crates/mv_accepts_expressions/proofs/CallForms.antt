@@ -21,7 +21,7 @@ use Rattle.mv_check_expressions.specs.declared.seen.Seen.{Seen}
 use Rattle.mv_check_expressions.specs.declared.seen.Seen.TheVariants as seen
 use Rattle.mv_check_expressions.specs.Seen.{value_of}
 use Rattle.mv_check_expressions.specs.Calls.{pointed, params_of, result_of, known_params, known_arity, callee_params, takes_count, passed, all_convert, named_index, function_form, named_function, direct_or_through, with_index, called_with, call_of}
-use Rattle.mv_meaning_numbering.specs.Typing.{IsInteger, types_of, HasType, IsTypedExpr}
+use Rattle.mv_source_forms.specs.Typing.{IsInteger, types_of, HasType, IsTypedExpr}
 use Rattle.mv_accepts_expressions.specs.Soundness.{IsListed}
 use Rattle.mv_accepts_expressions.proofs.Types.{pointer_is}
 use Rattle.mv_accepts_expressions.proofs.Converted.{converted_type, converted_typed, converts_is}

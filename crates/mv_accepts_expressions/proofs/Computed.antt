@@ -9,7 +9,7 @@ use Rattle.mv_ast.specs.declared.program.Target.{Target, Target-F, roll-Target, 
 use Rattle.mv_ast.specs.Operators.{unary_value, binary_value, converted, as_word}
 use Rattle.mv_check_scope.specs.Constants.{Evaluated, of_one, of_two, by_test, truth, value_form, value_target, value_expr, evaluated, computed}
 use Rattle.mv_meaning.specs.Meaning.{truth_of}
-use Rattle.mv_meaning_numbering.specs.Typing.{ComesTo}
+use Rattle.mv_source_forms.specs.Typing.{ComesTo}
 use Rattle.mv_meaning_numbering.proofs.Constants.{comes_number, comes_unary, comes_convert, comes_binary, comes_no, comes_yes, comes_both, comes_either, comes_first, comes_second}
 
 -- ---- what a computed value comes from

@@ -11,7 +11,7 @@ use Rattle.mv_check_scope.specs.Conversions.{same_type, is_integer, is_pointer, 
 use Rattle.mv_check_scope.specs.Constants.{is_constant, computed, constant_value, is_zero, is_null, converts}
 use Rattle.mv_check_expressions.specs.Found.{common_type}
 use Rattle.mv_check_expressions.specs.Rules.{are_integers, meet}
-use Rattle.mv_meaning_numbering.specs.Typing.{IsInteger, IsNull, ConvertsTo, IsTypedExpr}
+use Rattle.mv_source_forms.specs.Typing.{IsInteger, IsNull, ConvertsTo, IsTypedExpr}
 use Rattle.mv_accepts_expressions.proofs.Types.{same_is, integer_is, pointer_is, usual_integer}
 use Rattle.mv_accepts_expressions.proofs.Computed.{comes}
 use Rattle.mv_accepts_expressions.proofs.Made.{convert_made}

@@ -20,7 +20,7 @@ use Rattle.mv_check_expressions.specs.declared.seen.Seen.TheVariants as seen
 use Rattle.mv_check_expressions.specs.Seen.{value_of, no_value, object_at, element_at, number_or_zero}
 use Rattle.mv_check_expressions.specs.Found.{is_shift, is_equality, is_comparison, is_both, is_either, common_type, left_type, right_type, result_type, computed_of, unary_of, binary_of, choose_of, change_of}
 use Rattle.mv_check_expressions.specs.Rules.{are_integers, is_scalar, meet, takes_one, takes_two}
-use Rattle.mv_meaning_numbering.specs.Typing.{IsInteger, ConvertsTo, LvalueHasType, IsFunctionOf, IsTypedExpr, TakesTwo}
+use Rattle.mv_source_forms.specs.Typing.{IsInteger, ConvertsTo, LvalueHasType, IsFunctionOf, IsTypedExpr, TakesTwo}
 use Rattle.mv_accepts_expressions.specs.Soundness.{IsListed, IsStored}
 use Rattle.mv_accepts_expressions.proofs.Types.{integer_is, promotion_integer, usual_integer}
 use Rattle.mv_accepts_expressions.proofs.Converted.{converted_type, converted_typed, integer_converts, Meets, meet_is}

@@ -13,7 +13,7 @@ use Rattle.mv_ast.specs.declared.program.Target.{Target, Target-F, map-Target, r
 use Rattle.mv_ast.specs.declared.program.Target.TheVariants as target
 use Rattle.mv_ast.specs.declared.program.Target.TheVariants.{outs-Global, outs-Local, outs-GlobalAt, outs-LocalAt}
 use Rattle.mv_check_scope.specs.Conversions.{typed}
-use Rattle.mv_meaning_numbering.specs.Typing.{HasType, IsTypedExpr}
+use Rattle.mv_source_forms.specs.Typing.{HasType, IsTypedExpr}
 
 module _ (p : Program) (f : Function) where
   abbrev node : Expr-F Form Target Expr → Type 0

@@ -27,7 +27,7 @@ use Rattle.mv_check_expressions.specs.Calls.{callee_params, takes_count, all_con
 use Rattle.mv_check_expressions.specs.Found.{unary_of, is_address, is_indirection, named_switch, address_of, unary_seen, assign_of, assign_to, before_of, after_of, change_of, one, element_of, compound_operator}
 use Rattle.mv_check_expressions.specs.Rules.{takes_one, takes_two, are_integers, is_scalar, meet, is_wrong_cast}
 use Rattle.mv_check_expressions.specs.Judgements.{judgement, value_judgement, effect_judgement}
-use Rattle.mv_meaning_numbering.specs.Typing.{IsTypedExpr}
+use Rattle.mv_source_forms.specs.Typing.{IsTypedExpr}
 use Rattle.mv_accepts_expressions.specs.Soundness.{IsListed, IsMeant, Fits}
 use Rattle.mv_accepts_expressions.proofs.Types.{integer_is}
 use Rattle.mv_accepts_expressions.proofs.Converted.{converted_type, converted_typed, converts_is}

@@ -6,7 +6,7 @@ use Rattle.mv_num.specs.declared.kind.Kind.TheVariants as kind
 use Rattle.mv_ast.specs.declared.program.CType.{CType}
 use Rattle.mv_ast.specs.declared.program.CType.TheVariants.{Void, Scalar, Pointer}
 use Rattle.mv_check_scope.specs.Conversions.{kind_number, same_type, is_integer, is_pointer, promotion, usual, int, unsigned}
-use Rattle.mv_meaning_numbering.specs.Typing.{IsInteger}
+use Rattle.mv_source_forms.specs.Typing.{IsInteger}
 
 kind_of : ℕ → Kind
 kind_of n =

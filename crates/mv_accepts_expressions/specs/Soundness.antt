@@ -13,7 +13,7 @@ use Rattle.mv_check_scope.specs.declared.meaning.Meaning.{Meaning}
 use Rattle.mv_check_scope.specs.declared.meaning.Meaning.TheVariants as meaning
 use Rattle.mv_check_scope.specs.declared.scope.Scope.{Scope}
 use Rattle.mv_check_scope.specs.Scoped.{meaning_of}
-use Rattle.mv_meaning_numbering.specs.Typing.{global_types, local_types, IsFunctionOf, IsTypedExpr}
+use Rattle.mv_source_forms.specs.Typing.{global_types, local_types, IsFunctionOf, IsTypedExpr}
 use Rattle.mv_check_expressions.specs.Judged.{Good}
 use Rattle.mv_check_expressions.specs.Judgements.{value_judgement, effect_judgement}
 

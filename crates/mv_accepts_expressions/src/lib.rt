@@ -1,6 +1,6 @@
 //! Expressions that keep the rules are well typed.
 //!
-//! - `good_expressions_are_typed`: the tree of a good node has the type at each node that `mv_meaning_numbering`'s well-typed
+//! - `good_expressions_are_typed`: the tree of a good node has the type at each node that `mv_source_forms`'s well-typed
 //!   programs have, in each program that fits the scope (`Fits`). `constants_come_to_their_values`: a constant comes to
 //!   its value wherever it is evaluated.
 #![tactic(auto)]
@@ -9,7 +9,7 @@ ghost use Rattle.std.specs.Prelude.{◌≡◌, ℕ, Some};
 ghost use Rattle.mv_ast.specs.declared.program.Program.{Program};
 ghost use Rattle.mv_ast.specs.declared.program.Expr.{Expr};
 ghost use Rattle.mv_check_scope.specs.Constants.{computed};
-ghost use Rattle.mv_meaning_numbering.specs.Typing.{ComesTo};
+ghost use Rattle.mv_source_forms.specs.Typing.{ComesTo};
 ghost use Rattle.mv_accepts_expressions.specs.Soundness.{GoodIsTyped, EffectIsTyped};
 
 /// What is computed of a constant is what it comes to wherever it is evaluated. The call does nothing: its contract is the law.

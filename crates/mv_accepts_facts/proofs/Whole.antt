@@ -18,8 +18,8 @@ use Rattle.mv_ast.specs.Actions.{is_value_of}
 use Rattle.mv_ast.specs.Counts.{assignments, product_of, words_of_size}
 use Rattle.mv_ast.specs.Plans.{attributed_functions, switch_global, switch_domain, global_or_none, values_or_none}
 use Rattle.mv_check_declarations.specs.Turns.{through}
-use Rattle.mv_meaning_numbering.specs.Typing.{IsInteger, IsIntegerSwitch, global_types}
-use Rattle.mv_lower_correct.specs.WellFormed.{IsWellFormed, IsWellFormedSwitch, IsWithinLimits}
+use Rattle.mv_source_forms.specs.Typing.{IsInteger, IsIntegerSwitch, global_types}
+use Rattle.mv_source_forms.specs.WellFormed.{IsWellFormed, IsWellFormedSwitch, IsWithinLimits}
 use Rattle.mv_accepts_statements.specs.Bodies.{BodyGrows, ParametersFit}
 use Rattle.mv_accepts_statements.proofs.Judging.{of_good}
 use Rattle.mv_accepts_statements.proofs.Lists.{all_more, all_mapped, mapped_there}

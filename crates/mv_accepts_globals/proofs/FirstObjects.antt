@@ -20,7 +20,7 @@ use Rattle.mv_check_declarations.specs.declared.specifiers.Specified.{Specified}
 use Rattle.mv_check_declarations.specs.Globals.{file_declarator}
 use Rattle.mv_check_declarations.specs.Initials.{array_size}
 use Rattle.mv_check_declarations.specs.Objects.{scalar, sized}
-use Rattle.mv_meaning_numbering.specs.Typing.{IsFirstValue}
+use Rattle.mv_source_forms.specs.Typing.{IsFirstValue}
 use Rattle.mv_accepts_expressions.specs.Soundness.{Fits}
 use Rattle.mv_types.specs.declared.contents.Contents.{Contents}
 use Rattle.mv_types.specs.declared.contents.Foreknown.{Foreknown}

@@ -29,8 +29,8 @@ use Rattle.mv_check_declarations.specs.Globals.{address_form, address_or, consta
 use Rattle.mv_check_declarations.specs.Objects.{has_room, is_char, string_fits, is_overfull, least}
 use Rattle.mv_types.specs.declared.contents.Object.{Object}
 use Rattle.mv_types.specs.Objects.{breaches, object_words}
-use Rattle.mv_meaning_numbering.specs.Typing.{ComesTo, HasType, IsFunctionOf, IsFirstValue}
-use Rattle.mv_meaning_numbering.proofs.Typed.{TypedExpr, expr_node}
+use Rattle.mv_source_forms.specs.Typing.{ComesTo, HasType, IsFunctionOf, IsFirstValue}
+use Rattle.mv_source_forms.proofs.TypedParts.{TypedExpr, expr_node}
 use Rattle.mv_accepts_expressions.specs.Soundness.{Fits, GoodIsTyped}
 use Rattle.mv_accepts_expressions.proofs.Converted.{to_pointer}
 use Rattle.mv_accepts_expressions.proofs.Types.{same_is}

@@ -12,8 +12,8 @@ use Rattle.mv_ast.specs.Worlds.{World, Came}
 use Rattle.mv_check_scope.specs.Constants.{by_test, value_form, computed}
 use Rattle.mv_meaning.specs.declared.state.Frame.{Frame}
 use Rattle.mv_meaning.specs.Meaning.{context_at}
-use Rattle.mv_meaning_numbering.specs.Typing.{ComesTo, ConvertsTo, HasType}
-use Rattle.mv_meaning_numbering.proofs.Typed.{TypedExpr, FormParts, form_parts, expr_form, expr_node}
+use Rattle.mv_source_forms.specs.Typing.{ComesTo, ConvertsTo, HasType}
+use Rattle.mv_source_forms.proofs.TypedParts.{TypedExpr, FormParts, form_parts, expr_form, expr_node}
 use Rattle.mv_accepts_expressions.proofs.Computed.{from_one, layer_of, computed_is}
 
 -- ---- what a computed value comes from

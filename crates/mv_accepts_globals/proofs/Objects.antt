@@ -14,8 +14,8 @@ use Rattle.mv_check_scope.specs.Conversions.{is_void, same_type}
 use Rattle.mv_check_scope.specs.Spaces.{named}
 use Rattle.mv_check_declarations.specs.Globals.{global_words}
 use Rattle.mv_check_declarations.specs.Objects.{least}
-use Rattle.mv_meaning_numbering.specs.Typing.{IsInteger}
-use Rattle.mv_lower_correct.specs.WellFormed.{IsWellFormedGlobal}
+use Rattle.mv_source_forms.specs.Typing.{IsInteger}
+use Rattle.mv_source_forms.specs.WellFormed.{IsWellFormedGlobal}
 use Rattle.mv_types.specs.declared.contents.Contents.{Contents}
 use Rattle.mv_types.specs.declared.contents.Foreknown.{Foreknown}
 use Rattle.mv_types.specs.declared.contents.Object.{Object}

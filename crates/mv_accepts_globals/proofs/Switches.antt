@@ -7,8 +7,8 @@ use Rattle.mv_ast.specs.declared.program.Global.{Global}
 use Rattle.mv_ast.specs.declared.program.Program.{Program}
 use Rattle.mv_ast.specs.declared.program.Switch.{Switch}
 use Rattle.mv_ast.specs.Actions.{is_value_of}
-use Rattle.mv_meaning_numbering.specs.Typing.{IsInteger, global_types, IsIntegerSwitch}
-use Rattle.mv_lower_correct.specs.WellFormed.{IsWellFormedGlobal, IsWellFormedSwitch}
+use Rattle.mv_source_forms.specs.Typing.{IsInteger, global_types, IsIntegerSwitch}
+use Rattle.mv_source_forms.specs.WellFormed.{IsWellFormedGlobal, IsWellFormedSwitch}
 use Rattle.mv_types.specs.declared.contents.Contents.{Contents}
 use Rattle.mv_types.specs.declared.contents.Object.{Object}
 use Rattle.mv_types.specs.Contents.{switch_of, switches_from}

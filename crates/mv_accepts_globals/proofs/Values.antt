@@ -14,7 +14,7 @@ use Rattle.mv_ast.specs.Actions.{is_value_of}
 use Rattle.mv_ast.specs.Operators.{converted}
 use Rattle.mv_check_expressions.specs.declared.constant.Constant.{Constant}
 use Rattle.mv_check_declarations.specs.Constants as constants
-use Rattle.mv_meaning_numbering.specs.Typing.{IsInteger}
+use Rattle.mv_source_forms.specs.Typing.{IsInteger}
 
 -- a value of a type, if that is an integer
 abbrev pub IsOf : CType → ℕ → Type 0

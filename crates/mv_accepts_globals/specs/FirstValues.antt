@@ -9,7 +9,7 @@ use Rattle.mv_check_scope.specs.declared.meaning.Meaning.{Meaning}
 use Rattle.mv_check_scope.specs.declared.scope.Scope.{Scope}
 use Rattle.mv_check_expressions.specs.Judged.{Good}
 use Rattle.mv_check_declarations.specs.declared.specifiers.Specified.{Specified}
-use Rattle.mv_meaning_numbering.specs.Typing.{IsFirstValue}
+use Rattle.mv_source_forms.specs.Typing.{IsFirstValue}
 use Rattle.mv_accepts_expressions.specs.Soundness.{Fits}
 use Rattle.mv_types.specs.declared.contents.Contents.{Contents}
 use Rattle.mv_types.specs.declared.contents.Foreknown.{Foreknown}

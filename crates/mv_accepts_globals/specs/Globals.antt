@@ -5,8 +5,8 @@ use Rattle.mv_ast.specs.declared.program.Global.{Global}
 use Rattle.mv_ast.specs.declared.unit.Unit as unit
 use Rattle.mv_ast.specs.Counts.{words_of_size}
 use Rattle.mv_check_expressions.specs.Judged.{Good}
-use Rattle.mv_meaning_numbering.specs.Typing.{IsIntegerSwitch}
-use Rattle.mv_lower_correct.specs.WellFormed.{IsWellFormedGlobal, IsWellFormedSwitch}
+use Rattle.mv_source_forms.specs.Typing.{IsIntegerSwitch}
+use Rattle.mv_source_forms.specs.WellFormed.{IsWellFormedGlobal, IsWellFormedSwitch}
 use Rattle.mv_types.specs.Units.{unit_judgement}
 
 -- A program whose globals and switches are well formed. Each of its globals has a word (C11 6.7.6.2: the size of an array is above 0), and each of its

@@ -18,7 +18,7 @@ use Rattle.mv_check_scope.specs.Known.{known_function}
 use Rattle.mv_check_scope.specs.Scoped.{meaning_of, unless_declared}
 use Rattle.mv_check_scope.specs.Spaces.{named, or_else, meaning_in}
 use Rattle.mv_check_expressions.specs.Judged.{Good}
-use Rattle.mv_meaning_numbering.specs.Typing.{IsInteger, IsFunctionOf, HasTypedMain, parameter_types}
+use Rattle.mv_source_forms.specs.Typing.{IsInteger, IsFunctionOf, HasTypedMain, parameter_types}
 use Rattle.mv_accepts_expressions.specs.Soundness.{Fits}
 use Rattle.mv_accepts_bodies.specs.Formed.{HasParameters}
 use Rattle.mv_types.specs.declared.contents.Contents.{Contents}

@@ -9,7 +9,7 @@ use Rattle.mv_ast.specs.declared.program.Local.{Local}
 use Rattle.mv_ast.specs.Counts.{words_of_size, assignments}
 use Rattle.mv_check_limits.specs.declared.excess.Exceeded.{Exceeded}
 use Rattle.mv_check_limits.specs.Limits.{Limit, elements, own_switches, first_above, reported, excess, first_some, limits, first_exceeded, global_sizes, local_sizes}
-use Rattle.mv_lower_correct.specs.WellFormed.{program_nodes, IsWithinLimits}
+use Rattle.mv_source_forms.specs.WellFormed.{program_nodes, IsWithinLimits}
 
 -- ---- no report
 

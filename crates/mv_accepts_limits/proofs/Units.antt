@@ -34,7 +34,7 @@ use Rattle.mv_types.specs.Objects.{domain_by}
 use Rattle.mv_types.specs.Units.{by_entity, nameless_values, named_declarator, base_of, declarator_judgement, holders, declares_nothing, item_judgement, main_of, with_switches, program_of, program_or_broken, program_judgement, unit_judgement}
 use Rattle.mv_check_scope.specs.Spaces.{named}
 use Rattle.mv_accepts_statements.proofs.Judging.{IfGood, of_good, if_any, if_then, if_kept, if_more}
-use Rattle.mv_lower_correct.specs.WellFormed.{program_nodes}
+use Rattle.mv_source_forms.specs.WellFormed.{program_nodes}
 use Rattle.mv_accepts_limits.specs.Nodes.{declarator_nodes, body_nodes, item_nodes, unit_nodes}
 use Rattle.mv_accepts_limits.proofs.Totals.{total, sum_total}
 use Rattle.mv_accepts_limits.proofs.Definitions.{function_weight, object_weight, weight, Adding, function_adds, object_adds}

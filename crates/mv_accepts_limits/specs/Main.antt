@@ -6,7 +6,7 @@ use Rattle.mv_ast.specs.declared.program.Program.{Program}
 use Rattle.mv_ast.specs.declared.unit.Item.{Item}
 use Rattle.mv_check_expressions.specs.Judged.{Good}
 use Rattle.mv_check_declarations.specs.Turns.{through}
-use Rattle.mv_meaning_numbering.specs.Typing.{HasTypedMain}
+use Rattle.mv_source_forms.specs.Typing.{HasTypedMain}
 use Rattle.mv_accepts_expressions.specs.Soundness.{Fits}
 use Rattle.mv_accepts_bodies.specs.Formed.{HasParameters}
 use Rattle.mv_types.specs.declared.contents.Contents.{Contents}

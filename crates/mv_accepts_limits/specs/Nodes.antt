@@ -21,7 +21,7 @@ use Rattle.mv_ast.specs.declared.unit.Act.{Act-F}
 use Rattle.mv_ast.specs.declared.unit.Act.TheOpen as act
 use Rattle.mv_check_expressions.specs.Judged.{Good}
 use Rattle.mv_types.specs.Units.{unit_judgement}
-use Rattle.mv_lower_correct.specs.WellFormed.{program_nodes}
+use Rattle.mv_source_forms.specs.WellFormed.{program_nodes}
 
 -- ---- what may be left out
 

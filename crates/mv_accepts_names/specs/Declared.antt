@@ -11,7 +11,7 @@ use Rattle.mv_check_scope.specs.declared.meaning.Routine.{Routine}
 use Rattle.mv_check_scope.specs.declared.meaning.Storage.{Storage}
 use Rattle.mv_check_scope.specs.declared.meaning.Storage.TheVariants as storage
 use Rattle.mv_check_scope.specs.Spaces.{named}
-use Rattle.mv_meaning_numbering.specs.Typing.{parameter_types}
+use Rattle.mv_source_forms.specs.Typing.{parameter_types}
 use Rattle.mv_check_outline.specs.Names.{place_of}
 use Rattle.mv_accepts_expressions.specs.Soundness.{IsListed}
 use Rattle.mv_accepts_statements.specs.Bodies.{Keeps, AreListed}

@@ -22,9 +22,9 @@ use Rattle.mv_check_scope.specs.Known.{is_named, known_function}
 use Rattle.mv_check_scope.specs.Scoped.{unless_declared, meaning_of}
 use Rattle.mv_check_scope.specs.Spaces.{named, or_else, meaning_in}
 use Rattle.mv_check_outline.specs.Names.{same_name, place_of}
-use Rattle.mv_meaning_numbering.specs.Typing.{global_types, IsFunctionOf}
-use Rattle.mv_lower_spec.specs.Lower.{is_own_switch}
-use Rattle.mv_lower_correct.specs.WellFormed.{IsWellFormedSwitch}
+use Rattle.mv_source_forms.specs.Typing.{global_types, IsFunctionOf}
+use Rattle.mv_source_forms.specs.Names.{is_own_switch}
+use Rattle.mv_source_forms.specs.WellFormed.{IsWellFormedSwitch}
 use Rattle.mv_accepts_expressions.specs.Soundness.{IsStored, IsMeant, Fits}
 use Rattle.mv_accepts_bodies.specs.Declared.{IsIn, IsCovered, Covers}
 use Rattle.mv_accepts_bodies.specs.Formed.{IsScalar, IsArray, IsKindOfOrder, IsShaped, AreShaped}

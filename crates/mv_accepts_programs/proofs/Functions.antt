@@ -18,8 +18,8 @@ use Rattle.mv_check_expressions.specs.Judged.{Good, and_then}
 use Rattle.mv_check_outline.specs.Names.{place_of}
 use Rattle.mv_check_declarations.specs.Parameters.{parameters_judgement}
 use Rattle.mv_check_statements.specs.Statements.{body_judgement}
-use Rattle.mv_meaning_numbering.specs.Typing.{IsIntegerSwitch, IsTypedFunction}
-use Rattle.mv_lower_correct.specs.WellFormed.{IsWellFormedSwitch, IsWellFormedFunction}
+use Rattle.mv_source_forms.specs.Typing.{IsIntegerSwitch, IsTypedFunction}
+use Rattle.mv_source_forms.specs.WellFormed.{IsWellFormedSwitch, IsWellFormedFunction}
 use Rattle.mv_accepts_expressions.specs.Soundness.{Fits}
 use Rattle.mv_accepts_expressions.proofs.Kept.{went_on, same_good}
 use Rattle.mv_accepts_statements.specs.Bodies.{Keeps}
@@ -29,7 +29,7 @@ use Rattle.mv_accepts_bodies.specs.Declared.{Covers}
 use Rattle.mv_accepts_bodies.specs.Formed.{AreShaped, HasParameters}
 use Rattle.mv_accepts_bodies.specs.Definitions.{IsDefinition, HasScalarParameters, DefinitionHasParameters, IsFormed, DefinitionIsFormed}
 use Rattle.mv_check_uses.specs.Uses.{switches_named}
-use Rattle.mv_accepts_switches.specs.OwnSwitches.{OwnSwitchesAreNamed}
+use Rattle.mv_accepts_programs.specs.OwnSwitches.{OwnSwitchesAreNamed}
 use Rattle.mv_types.specs.declared.contents.Contents.{Contents}
 use Rattle.mv_types.specs.declared.contents.Foreknown.{Foreknown}
 use Rattle.mv_types.specs.Foreknown.{attributed_number, is_attributed}

@@ -4,3 +4,6 @@ mod Fitting
 mod Functions
 mod Given
 mod Whole
+pub mod SwitchExpressions
+pub mod SwitchLists
+pub mod SwitchStatements

@@ -14,10 +14,10 @@ use Rattle.mv_accepts_expressions.specs.Soundness.{Fits}
 use Rattle.mv_accepts_statements.specs.Bodies.{BodyGrows, ParametersFit}
 use Rattle.mv_accepts_statements.proofs.Judging.{of_good}
 use Rattle.mv_check_limits.specs.Limits.{first_exceeded}
-use Rattle.mv_meaning_numbering.specs.Typing.{IsFirstValue, IsTypedFunction, HasTypedMain}
-use Rattle.mv_lower_correct.specs.WellFormed.{IsWellFormedFunction, IsWellFormed, program_nodes}
+use Rattle.mv_source_forms.specs.Typing.{IsFirstValue, IsTypedFunction, HasTypedMain}
+use Rattle.mv_source_forms.specs.WellFormed.{IsWellFormedFunction, IsWellFormed, program_nodes}
 use Rattle.mv_accepts_bodies.specs.Definitions.{DefinitionHasParameters, DefinitionIsFormed}
-use Rattle.mv_accepts_switches.specs.OwnSwitches.{OwnSwitchesAreNamed}
+use Rattle.mv_accepts_programs.specs.OwnSwitches.{OwnSwitchesAreNamed}
 use Rattle.mv_types.specs.declared.contents.Contents.{Contents}
 use Rattle.mv_types.specs.declared.contents.Foreknown.{Foreknown}
 use Rattle.mv_types.specs.declared.contents.Object.{Object}

@@ -5,7 +5,7 @@ use Rattle.mv_ast.specs.declared.unit.Unit as unit
 use Rattle.mv_front.specs.Verdicts.{IsProgram}
 use Rattle.mv_check_expressions.specs.Judged.{Good}
 use Rattle.mv_check_limits.specs.Limits.{first_exceeded}
-use Rattle.mv_lower_correct.specs.WellFormed.{IsWellFormed, program_nodes}
+use Rattle.mv_source_forms.specs.WellFormed.{IsWellFormed, program_nodes}
 use Rattle.mv_types.specs.Units.{unit_judgement}
 use Rattle.mv_accepts_limits.specs.Nodes.{unit_nodes}
 

@@ -4,22 +4,28 @@
 //!   formed and well typed; so it is lowered by `lower`. Nothing else is asked of the text.
 //! - Below it, `programs_of_small_units_are_well_formed`: the same of the program of each unit that breaks no rule, of
 //!   which no limit is reported, and that has at most 4,194,304 nodes; `checked_programs_are_well_formed`: and of each
-//!   such program of at most 16,777,216 nodes.
+//!   such program of at most 16,777,216 nodes. `own_switches_are_named`: a function whose switches are those that its
+//!   statements name names no other.
 #![tactic(auto)]
 
 ghost use Rattle.mv_accepts_programs.specs.Checked.{CheckedAreWellFormed, ProgramsOfTextsAreWellFormed, SmallUnitsAreWellFormed};
+ghost use Rattle.mv_accepts_programs.specs.OwnSwitches.{OwnSwitchesAreNamed};
 
 use mv_accepts_bodies::good_definitions_are_well_formed;
 use mv_accepts_globals::{good_first_values_are_typed, good_globals_are_formed};
 use mv_accepts_limits::{
-    main_is_typed, main_is_unmarked, programs_of_small_units_are_small,
+    main_is_typed, main_is_unmarked, programs_of_small_units_are_small, units_of_texts_are_small,
     unreported_programs_are_within_limits,
 };
 use mv_accepts_names::good_units_are_sound;
 use mv_accepts_numbers::{functions_have_their_numbers, objects_have_their_numbers};
-use mv_accepts_sizes::units_of_texts_are_small;
 use mv_accepts_statements::{good_bodies_are_typed, good_parameters_fit};
-use mv_accepts_switches::own_switches_are_named;
+
+/// Where the switches of a function are listed as those that its statements name, each switch that an expression in it names is one of
+/// them. The call does nothing: its contract is the law.
+pub fn own_switches_are_named()
+    ensures { OwnSwitchesAreNamed }
+{}
 
 /// The program of a unit whose declarations keep the rules (C11 6.9) is well typed and well formed, where no limit is reported and its
 /// nodes are few enough. The call does nothing: its contract is the law.

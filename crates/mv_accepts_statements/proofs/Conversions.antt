@@ -6,7 +6,7 @@ use Rattle.mv_ast.specs.declared.program.Function.{Function}
 use Rattle.mv_ast.specs.declared.program.Expr.{Expr}
 use Rattle.mv_check_scope.specs.Conversions.{promotion, promoted, converted_to}
 use Rattle.mv_check_scope.specs.Constants.{converts}
-use Rattle.mv_meaning_numbering.specs.Typing.{IsInteger, IsTypedExpr, IsTypedAt}
+use Rattle.mv_source_forms.specs.Typing.{IsInteger, IsTypedExpr, IsTypedAt}
 use Rattle.mv_accepts_expressions.proofs.Types.{promotion_integer}
 use Rattle.mv_accepts_expressions.proofs.Converted.{converted_type, converts_is, converted_typed, integer_converts}
 

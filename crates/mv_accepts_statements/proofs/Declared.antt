@@ -23,7 +23,7 @@ use Rattle.mv_check_declarations.specs.Locals.{scalar_meaning, array_meaning, ow
 use Rattle.mv_check_declarations.specs.Objects.{scalar, array}
 use Rattle.mv_check_declarations.specs.Specifiers.{specifiers}
 use Rattle.mv_check_declarations.specs.Turns.{Behind, next_part, in_turn}
-use Rattle.mv_meaning_numbering.specs.Typing.{local_types}
+use Rattle.mv_source_forms.specs.Typing.{local_types}
 use Rattle.mv_accepts_expressions.specs.Soundness.{IsListed, IsMeant}
 use Rattle.mv_accepts_expressions.proofs.Plain.{IsPlain}
 use Rattle.mv_accepts_statements.proofs.Judging.{IfGood, by_good, of_good, if_any, if_then, if_more, if_through}

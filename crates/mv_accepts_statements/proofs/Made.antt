@@ -11,7 +11,7 @@ use Rattle.mv_ast.specs.declared.program.Stmt.{Stmt, Stmt-F, map-Stmt, roll-Stmt
 use Rattle.mv_ast.specs.declared.program.Stmt.TheVariants as stmt
 use Rattle.mv_ast.specs.declared.program.Stmt.TheVariants.{outs-Block, outs-Clear, outs-Express, outs-If, outs-While, outs-Do, outs-For, outs-Switch, outs-Break, outs-Continue, outs-Return}
 use Rattle.mv_ast.specs.declared.program.Stmt.TheOpen as open_stmt
-use Rattle.mv_meaning_numbering.specs.Typing.{IsInteger, IsTypedExpr, IsTypedAt, IsTypedOption, ReturnsTyped, HasTypedParts, IsTypedStmt}
+use Rattle.mv_source_forms.specs.Typing.{IsInteger, IsTypedExpr, IsTypedAt, IsTypedOption, ReturnsTyped, HasTypedParts, IsTypedStmt}
 
 module _ {A : Type 0} (P : A → Type 0) where
   abbrev pub paired : (xs : List A) → AllByRecursion P xs → List ((x : A) × P x)

@@ -16,7 +16,7 @@ use Rattle.mv_accepts_statements.proofs.Parameters.{Adds, parameters_lead, param
 use Rattle.mv_check_scope.specs.declared.scope.Scope.{Scope}
 use Rattle.mv_check_expressions.specs.Judged.{Good}
 use Rattle.mv_check_expressions.specs.Judgements.{value_judgement, effect_judgement}
-use Rattle.mv_meaning_numbering.specs.Typing.{IsTypedExpr, IsTypedAt, IsTypedOption, IsTypedStmt}
+use Rattle.mv_source_forms.specs.Typing.{IsTypedExpr, IsTypedAt, IsTypedOption, IsTypedStmt}
 use Rattle.mv_accepts_expressions.specs.Soundness.{Fits, GoodIsTyped, EffectIsTyped}
 use Rattle.mv_accepts_expressions.proofs.Types.{integer_is}
 use Rattle.mv_check_statements.specs.SwitchBodies.{arms_of}

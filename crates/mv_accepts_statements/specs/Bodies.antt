@@ -11,7 +11,7 @@ use Rattle.mv_ast.specs.declared.unit.Param.{Param}
 use Rattle.mv_check_scope.specs.declared.scope.Scope.{Scope}
 use Rattle.mv_check_expressions.specs.Judged.{Good}
 use Rattle.mv_check_declarations.specs.Parameters.{parameters_judgement}
-use Rattle.mv_meaning_numbering.specs.Typing.{IsTypedStmt}
+use Rattle.mv_source_forms.specs.Typing.{IsTypedStmt}
 use Rattle.mv_check_statements.specs.Statements.{body_judgement}
 use Rattle.mv_accepts_expressions.specs.Soundness.{IsListed, Fits}
 

@@ -14,7 +14,7 @@ use Rattle.mv_select_calls.specs.CallCode.{is_marked}
 use Rattle.mv_select_functions.specs.Functions.{shape_of}
 use Rattle.mv_select_control.specs.Layouts.{size_in}
 use Rattle.mv_select_trees.specs.Rooms.{place_in}
-use Rattle.mv_lower_correct.specs.WellFormed.{IsWellFormed}
+use Rattle.mv_source_forms.specs.WellFormed.{IsWellFormed}
 use Rattle.mv_lower_shape.specs.Law.{IsFunctionOf, LoweredCallAsOften}
 use Rattle.mv_parts_bound.specs.Slots.{slots, AtMost, SlotsAreFew, OwnSlotsAreFew, RenamedSlotsAreFew, SlotsArePatchable}
 use Rattle.mv_select.specs.Selected.{selected_lines}

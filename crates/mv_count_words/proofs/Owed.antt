@@ -8,7 +8,7 @@ use Rattle.mv_ast.specs.declared.world.Binding.{Binding}
 use Rattle.mv_ast.specs.Counts.{is_attributed}
 use Rattle.mv_descriptors.specs.declared.rows.FunctionRow.{FunctionRow}
 use Rattle.mv_ir.specs.declared.body.Body.{Body}
-use Rattle.mv_lower_correct.specs.WellFormed.{IsWellFormed}
+use Rattle.mv_source_forms.specs.WellFormed.{IsWellFormed}
 use Rattle.mv_image.specs.Faults.{Rules}
 use Rattle.mv_image.specs.Patched.{variant_under}
 use Rattle.mv_image.specs.Spelling.{Fields}

@@ -15,7 +15,7 @@ use Rattle.mv_ir.specs.declared.body.Room.{Room}
 use Rattle.mv_ir.specs.declared.body.Body.{Body}
 use Rattle.mv_ir.specs.declared.stm.Stm.{Stm}
 use Rattle.mv_lower_spec.specs.Lowered.{number}
-use Rattle.mv_lower_spec.specs.Lower.{is_void}
+use Rattle.mv_source_forms.specs.Names.{is_void}
 use Rattle.mv_lower_spec.specs.Statements.{Code, return_with}
 use Rattle.mv_lower_spec.specs.Functions.{outermost, lower_body, lower_function_code, lower_function, array_sizes, names_global, functions_called, address_behind, rooms_from, marked_from}
 use Rattle.mv_lower.specs.Statements.{stmt_at, stmts_at}

@@ -11,12 +11,12 @@ use Rattle.mv_ast.specs.declared.program.Stmt.TheOpen as stmt
 use Rattle.mv_ast.specs.declared.program.Arm.{Arm, Arm-F, out-Arm, roll-Arm, out-roll-Arm, map-Arm, fold-Arm, fold_out-Arm}
 use Rattle.mv_ast.specs.Counts.{expr_nodes, own_nodes, stmt_sum, arm_sum, stmt_nodes, nodes}
 use Rattle.mv_ir.proofs.Induction.{Each}
-use Rattle.mv_lower_spec.specs.Lower.{all_of}
+use Rattle.mv_source_forms.specs.Lists.{all_of}
 use Rattle.mv_lower_spec.proofs.Expressions.{split}
 use Rattle.mv_lower_spec.proofs.Bare.{bare_of, bare_arms, labels_of, labelled_switch}
-use Rattle.mv_lower_spec.specs.Labels.{ArmLabels, labels_layer, arm_labels_layer, stmt_labelled, arm_labels}
-use Rattle.mv_lower_correct.specs.WellFormed.{IsWellFormed}
-use Rattle.mv_lower_correct.proofs.StatementInduction.{StmtChildren, stmt_ind}
+use Rattle.mv_source_forms.specs.Labels.{ArmLabels, labels_layer, arm_labels_layer, stmt_labelled, arm_labels}
+use Rattle.mv_source_forms.specs.WellFormed.{IsWellFormed}
+use Rattle.mv_source_forms.proofs.StatementInduction.{StmtChildren, stmt_ind}
 use Rattle.mv_lower.specs.Programs.{HasRoom, IsSmall}
 use Rattle.mv_lower.specs.Statements.{stmt_size, stmts_size}
 use Rattle.mv_lower_expressions.proofs.Sizes.{sum_cons, before_suc}

@@ -13,11 +13,10 @@ use Rattle.mv_ast.specs.Counts.{expr_nodes, own_nodes, stmt_sum, arm_sum, stmt_t
 use Rattle.mv_ast.specs.Names.{any_of, names_local}
 use Rattle.mv_ir.specs.declared.stm.Stm.{Stm}
 use Rattle.mv_lower_spec.specs.Lowered.{Lowered, set, number}
-use Rattle.mv_lower_spec.specs.Lower.{is_void, lower_expr}
-use Rattle.mv_lower_spec.specs.Statements.{Jumps, Code, Placed, LoweredArm, in_body, enclosed, store_values, values_top, store_zeros, store_word, clear_words, arms_code, arms_top, test_arms, test_labels, arm_place}
-use Rattle.mv_lower_spec.specs.Statements.{all_tests as lowered_tests}
+use Rattle.mv_source_forms.specs.Names.{is_void, size_in}
+use Rattle.mv_lower_spec.specs.Lower.{lower_expr}
+use Rattle.mv_lower_spec.specs.Statements.{Jumps, Code, Placed, LoweredArm, in_body, enclosed, store_values, values_top, store_zeros, store_word, clear_words, arms_code, arms_top, test_arms, test_labels, arm_place, all_tests as lowered_tests}
 use Rattle.mv_lower_spec.specs.LowerStatements.{lower_stmt_layer, lower_arm_layer, lower_stmt, lower_arm}
-use Rattle.mv_lower_spec.specs.Functions.{size_in}
 use Rattle.mv_lower_expressions.specs.Values.{given}
 use Rattle.mv_lower_expressions.specs.Expressions.{expr_at, expr_size, exprs_size, each_at, optional_at, optional_size}
 use Rattle.mv_lower.specs.Statements.{stmt_at, stmts_at, arm_at, express_of, return_of, if_of, while_of, do_of, for_of, break_at, continue_at, end_at, return_at, stmt_size, arm_size, stmts_size, arms_size}

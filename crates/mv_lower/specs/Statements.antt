@@ -6,10 +6,10 @@ use Rattle.mv_ast.specs.declared.program.Stmt.{Stmt}
 use Rattle.mv_ast.specs.declared.program.Arm.{Arm}
 use Rattle.mv_ast.specs.Counts.{expr_nodes, own_nodes, stmt_total, arm_total}
 use Rattle.mv_lower_spec.specs.Lowered.{Lowered}
-use Rattle.mv_lower_spec.specs.Lower.{is_void}
+use Rattle.mv_source_forms.specs.Names.{is_void, size_in}
 use Rattle.mv_lower_spec.specs.Statements.{Jumps, Code, Placed, LoweredArm, in_sequence, lower_express, lower_return, lower_end, lower_break, lower_continue, lower_if, lower_while, lower_do, lower_for}
 use Rattle.mv_lower_spec.specs.LowerStatements.{lower_stmt, lower_arm}
-use Rattle.mv_lower_spec.specs.Functions.{size_in, outermost}
+use Rattle.mv_lower_spec.specs.Functions.{outermost}
 use Rattle.mv_lower.specs.declared.code.Jumps as declared
 use Rattle.mv_lower.specs.declared.code.Code as declared_code
 use Rattle.mv_lower_expressions.specs.Values.{given}

@@ -2,7 +2,7 @@
 ghost use Rattle.std.specs.Prelude.{◌≡◌, ◌+◌, ◌*◌, ◌-◌, ◌++◌, ◌∷◌, [], ◌<◌, ◌≤◌, ◌^◌, Bool, IfOk, OnOk, map, length, slice_get};
 ghost use Rattle.mv_ast.specs.Counts.{words_of_size};
 ghost use Rattle.mv_lower_spec.specs.Statements.{store_word, clear_words, store_zeros};
-ghost use Rattle.mv_lower_spec.specs.Functions.{size_in};
+ghost use Rattle.mv_source_forms.specs.Names.{size_in};
 ghost use Rattle.mv_lower_expressions.specs.Values.{seen, given};
 ghost use Rattle.mv_lower.specs.Statements.{seen_code};
 ghost use Rattle.mv_lower.specs.Declarations.{values_stored, values_top_of, clears_first, clear_of};

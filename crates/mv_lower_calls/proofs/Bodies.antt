@@ -9,7 +9,7 @@ use Rattle.mv_ir.specs.KnownFunctions.{seen_from}
 use Rattle.mv_ir.specs.Outcome.{Call}
 use Rattle.mv_ir.specs.Meaning.{body_from}
 use Rattle.mv_ir.specs.Programs.{setting_of}
-use Rattle.mv_lower_spec.specs.Lower.{is_void}
+use Rattle.mv_source_forms.specs.Names.{is_void}
 use Rattle.mv_lower_spec.specs.Correct.{is_astray}
 use Rattle.mv_lower_spec.specs.Law.{strict_context}
 use Rattle.mv_lower_spec.specs.Functions.{lower_function}

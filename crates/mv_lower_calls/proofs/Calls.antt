@@ -14,13 +14,13 @@ use Rattle.mv_meaning.specs.Meaning.{flow_of_all, frame_of, deeper, back_in, cal
 use Rattle.mv_ir.specs.World as code_world
 use Rattle.mv_ir.specs.Outcome.{End, Stuck, Bound, Call}
 use Rattle.mv_ir.specs.Programs.{setting_of}
-use Rattle.mv_lower_spec.specs.Lower.{is_void, takes}
+use Rattle.mv_source_forms.specs.Names.{is_void, takes}
 use Rattle.mv_lower_spec.specs.Statements.{levels}
 use Rattle.mv_lower_spec.specs.Correct as c
 use Rattle.mv_lower_spec.specs.Correct.{seen, end_of, is_astray}
 use Rattle.mv_lower_spec.specs.Law.{strict_context}
 use Rattle.mv_lower_spec.proofs.Expressions.{no, split}
-use Rattle.mv_lower_correct.specs.WellFormed.{IsWellFormedFunction}
+use Rattle.mv_source_forms.specs.WellFormed.{IsWellFormedFunction}
 use Rattle.mv_lower_correct.proofs.Knot.{Agreed, lowered_calls, all_agreed}
 use Rattle.mv_lower_calls.specs.SourceCalls.{meaningless, as_call, any_frame, call_by_source, source_call}
 

@@ -14,7 +14,7 @@ use Rattle.mv_ir.specs.World as code_world
 use Rattle.mv_ir.specs.KnownFunctions.{seen_from}
 use Rattle.mv_ir.specs.Outcome.{Returned, Stuck, Call}
 use Rattle.mv_ir.specs.Meaning.{cleared}
-use Rattle.mv_lower_spec.specs.Lower.{is_void}
+use Rattle.mv_source_forms.specs.Names.{is_void}
 use Rattle.mv_lower_spec.specs.Correct.{seen, end_of, is_astray}
 use Rattle.mv_lower_spec.specs.Law.{strict_context}
 use Rattle.mv_lower_correct.specs.Laws.{HasGlobals}

@@ -13,7 +13,7 @@ use Rattle.mv_meaning.specs.Growth.{world_left}
 use Rattle.mv_ir.specs.World as code_world
 use Rattle.mv_ir.specs.KnownFunctions.{seen_from}
 use Rattle.mv_ir.specs.Outcome.{Stuck, Call}
-use Rattle.mv_lower_spec.specs.Lower.{is_void}
+use Rattle.mv_source_forms.specs.Names.{is_void}
 use Rattle.mv_lower_spec.specs.Correct.{seen, astray, end_of, is_astray}
 use Rattle.mv_lower_spec.specs.Law.{strict_context}
 use Rattle.mv_lower_calls.specs.SourceCalls.{meaningless, as_call, any_frame, call_by_source}

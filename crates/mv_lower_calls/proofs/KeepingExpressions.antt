@@ -17,7 +17,7 @@ use Rattle.mv_ast.specs.Worlds.{stop}
 use Rattle.mv_meaning.specs.declared.state.Lvalue.{Lvalue}
 use Rattle.mv_meaning.specs.declared.state.Lvalue.TheVariants as lvalue
 use Rattle.mv_meaning.specs.Meaning.{Evaluation, Context, Denotation, truth_of, values_of, call_at, call_numbered, call_through, target_lvalue, form_value, expr_denotation, form_of, lvalue_of, denotation_of, value_of}
-use Rattle.mv_lower_spec.proofs.SourceInduction.{FormChildren, TargetChildren, expr_ind}
+use Rattle.mv_source_forms.proofs.ExpressionInduction.{FormChildren, TargetChildren, expr_ind}
 use Rattle.mv_lower_calls.proofs.Keeping.{Keeps, keeps_give, keeps_stop, keeps_counted, keeps_either, keeps_unless, keeps_bind, keeps_read, keeps_store, keeps_trap, keeps_global, keeps_local, keeps_known}
 
 -- ---- expressions

@@ -9,9 +9,9 @@ use Rattle.mv_ast.specs.declared.program.Form.{Form-F}
 use Rattle.mv_ast.specs.declared.program.Form.TheOpen as form
 use Rattle.mv_ir.specs.World.{World}
 use Rattle.mv_ir.specs.Outcome.{End, Returned, Trapped, More, Stuck}
-use Rattle.mv_lower_spec.specs.Lower.{all_of}
-use Rattle.mv_lower_correct.specs.Scopes.{form_in, layer_in}
-use Rattle.mv_lower_correct.specs.Named.{all_expressions, target_in_parts}
+use Rattle.mv_source_forms.specs.Lists.{all_of}
+use Rattle.mv_source_forms.specs.Scopes.{form_in, layer_in}
+use Rattle.mv_source_forms.specs.Uses.{all_expressions, target_in_parts}
 
 -- whether a known function is neither a commit or revert nor a poll
 abbrev pub keeps_bindings : Known → Bool

@@ -14,7 +14,7 @@ use Rattle.mv_ir.specs.Meaning.{Contents, body_from}
 use Rattle.mv_ir.specs.Programs.{setting_of, execution_of, run_of_main}
 use Rattle.mv_lower_spec.specs.Correct.{seen}
 use Rattle.mv_lower_spec.specs.Functions.{lower_function, lower_program}
-use Rattle.mv_lower_correct.specs.WellFormed.{IsWellFormed}
+use Rattle.mv_source_forms.specs.WellFormed.{IsWellFormed}
 use Rattle.mv_lower_correct.specs.Laws.{HasGlobals, IsExecution, callee_frame}
 use Rattle.mv_lower_calls.specs.SourceCalls.{source_call, source_levels, Promises}
 use Rattle.mv_lower_calls.specs.Bindings.{EndsIn}

@@ -7,7 +7,7 @@ use Rattle.mv_meaning.specs.declared.state.Frame.{Frame}
 use Rattle.mv_meaning.specs.Meaning.{call_of}
 use Rattle.mv_ir.specs.KnownFunctions.{seen_from}
 use Rattle.mv_ir.specs.Outcome.{Returned, Stuck, Call, Calls, Bound}
-use Rattle.mv_lower_spec.specs.Lower.{is_void}
+use Rattle.mv_source_forms.specs.Names.{is_void}
 use Rattle.mv_lower_spec.specs.Correct.{seen, end_of, is_astray, result_of}
 use Rattle.mv_lower_spec.specs.Law.{strict_context}
 use Rattle.mv_lower_spec.specs.Statements.{levels}

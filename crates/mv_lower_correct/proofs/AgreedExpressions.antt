@@ -17,10 +17,10 @@ use Rattle.mv_meaning.specs.declared.state.Lvalue.{Lvalue}
 use Rattle.mv_meaning.specs.declared.state.Lvalue.TheVariants as lvalue
 use Rattle.mv_meaning.specs.Meaning.{Evaluation, Context, Denotation, read_lvalue, store_lvalue, global_element, local_element, value_or_trap, unless_zero, truth_of, values_of, known_value, call_at, call_through, target_lvalue, form_value, expr_denotation, form_of, lvalue_of, denotation_of, value_of}
 use Rattle.mv_meaning.proofs.Equations.{ctype_of_lem}
-use Rattle.mv_lower_spec.specs.Lower.{all_of}
+use Rattle.mv_source_forms.specs.Lists.{all_of}
 use Rattle.mv_lower_spec.proofs.Expressions.{split}
-use Rattle.mv_lower_spec.proofs.SourceInduction.{FormChildren, TargetChildren, expr_ind}
-use Rattle.mv_lower_correct.specs.Scopes.{Scope, form_in, target_in, layer_in, names_declared, form_names_declared, target_names_declared}
+use Rattle.mv_source_forms.proofs.ExpressionInduction.{FormChildren, TargetChildren, expr_ind}
+use Rattle.mv_source_forms.specs.Scopes.{Scope, form_in, target_in, layer_in, names_declared, form_names_declared, target_names_declared}
 use Rattle.mv_lower_correct.proofs.Agreement.{Agree, Post, Alike, alike_give, alike_counted, alike_unless, alike_bind, alike_by}
 use Rattle.mv_lower_correct.proofs.Leaves as leaves
 use Rattle.mv_lower_correct.proofs.Leaves.{Found, InScope}

@@ -22,13 +22,13 @@ use Rattle.mv_meaning.specs.Loops.{arms_from}
 use Rattle.mv_meaning.specs.Meaning.{Evaluation, Context, ArmDenotation, store_lvalue, unless_zero, then_on, after_body, after_switch, in_order, bodies_of, tried_labels, switch_flow, put_values, size_of, clear_local, optional_value, value_of, flow_of, flow_of_all, arm_of}
 use Rattle.mv_meaning.proofs.Equations.{flow_of-Block, flow_of-Clear, flow_of-Express, flow_of-If, flow_of-While, flow_of-Do, flow_of-For, flow_of-Switch, flow_of-Break, flow_of-Continue, flow_of-Return, arm_of_lem}
 use Rattle.mv_meaning.proofs.SwitchArms.{leads_to}
-use Rattle.mv_lower_spec.specs.Lower.{all_of}
+use Rattle.mv_source_forms.specs.Lists.{all_of}
 use Rattle.mv_lower_spec.proofs.Expressions.{split}
 use Rattle.mv_lower_spec.proofs.Forms.{words_is}
 use Rattle.mv_lower_spec.proofs.Switches.{in_order_both}
-use Rattle.mv_lower_correct.specs.Jumps.{Jumping, all_jump, jumps_layer, arm_jumps_layer, stmt_jumps, arm_jumps}
-use Rattle.mv_lower_correct.specs.Scopes.{Scope, Scoped, with_local, with_declared, scope_behind, names_declared, option_declared, all_scoped, scoped_layer, arm_scoped_layer, stmt_scoped, arm_scoped}
-use Rattle.mv_lower_correct.proofs.StatementInduction.{StmtChildren, stmt_ind}
+use Rattle.mv_source_forms.specs.Jumps.{Jumping, all_jump, jumps_layer, arm_jumps_layer, stmt_jumps, arm_jumps}
+use Rattle.mv_source_forms.specs.Scopes.{Scope, Scoped, with_local, with_declared, scope_behind, names_declared, option_declared, all_scoped, scoped_layer, arm_scoped_layer, stmt_scoped, arm_scoped}
+use Rattle.mv_source_forms.proofs.StatementInduction.{StmtChildren, stmt_ind}
 use Rattle.mv_lower_correct.proofs.Agreement.{Agree, Post, Alike, AlikeOutcome, alike_give, alike_counted, alike_unless, alike_weaken, alike_bind, alike_by, alike_pointwise}
 use Rattle.mv_lower_correct.proofs.Leaves as leaves
 use Rattle.mv_lower_correct.proofs.Leaves.{agree_changed}

@@ -5,7 +5,7 @@ use Rattle.mv_ast.specs.declared.world.Stop.{Stop}
 use Rattle.mv_ast.specs.Worlds.{World, Outcome, Came, Stopped, after, and_then, bind, give, stop, counted}
 use Rattle.mv_meaning.specs.declared.state.Frame.{Frame}
 use Rattle.mv_meaning.specs.Meaning.{Evaluation, unless_zero}
-use Rattle.mv_lower_correct.specs.Scopes.{Scope}
+use Rattle.mv_source_forms.specs.Scopes.{Scope}
 
 -- frames of one function, with locals of the same sizes, of which those in scope hold the same
 pub record Agree (scope : Scope) (f g : Frame) : Type 0 where

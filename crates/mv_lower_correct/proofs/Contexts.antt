@@ -10,8 +10,8 @@ use Rattle.mv_ast.specs.Worlds.{World, Outcome, Came, Stopped}
 use Rattle.mv_meaning.specs.declared.state.Frame.{Frame}
 use Rattle.mv_meaning.specs.declared.state.Flow.{Flow}
 use Rattle.mv_meaning.specs.Meaning.{Evaluation, Context, context_with, call_numbered, call_of, back_in, flow_of_all, frame_of, deeper}
-use Rattle.mv_lower_correct.specs.Scopes.{Scope, with_declared, stmt_scoped}
-use Rattle.mv_lower_correct.specs.WellFormed.{parameters, IsWellFormedFunction}
+use Rattle.mv_source_forms.specs.Scopes.{Scope, with_declared, stmt_scoped}
+use Rattle.mv_source_forms.specs.WellFormed.{parameters, IsWellFormedFunction}
 use Rattle.mv_lower_correct.proofs.Agreement.{Agree, agree_refl, AlikeOutcome, alike_stop}
 use Rattle.mv_lower_correct.proofs.Leaves as leaves
 use Rattle.mv_lower_correct.proofs.AgreedStatements.{Leads, Flows, Steady, stmt_flows, body_flows}

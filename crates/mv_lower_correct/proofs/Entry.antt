@@ -20,11 +20,11 @@ use Rattle.mv_ir.specs.Meaning.{Contents, first_items, first_arrays, entry_state
 use Rattle.mv_ir.specs.Levels.{Code, read_under, switches_read, one_if, frame_of_call}
 use Rattle.mv_ir.specs.Programs.{setting_of, place_if, next_place, code_from, code_of}
 use Rattle.mv_lower_spec.specs.Correct.{seen}
-use Rattle.mv_lower_spec.specs.Lower.{global_words}
+use Rattle.mv_source_forms.specs.Names.{global_words, size_in}
 use Rattle.mv_lower_spec.specs.Statements as statements
-use Rattle.mv_lower_spec.specs.Functions.{size_in, elements_of, array_sizes, lower_function, lower_program}
+use Rattle.mv_lower_spec.specs.Functions.{elements_of, array_sizes, lower_function, lower_program}
 use Rattle.mv_lower_spec.proofs.Forms.{word_is}
-use Rattle.mv_lower_correct.specs.WellFormed.{parameters, IsWellFormedFunction}
+use Rattle.mv_source_forms.specs.WellFormed.{parameters, IsWellFormedFunction}
 use Rattle.mv_lower_correct.proofs.Agreement.{Agree}
 
 -- ---- what the code's state holds, as words of locals

@@ -23,10 +23,10 @@ use Rattle.mv_ir.specs.Levels.{Code, one_if, called, levels}
 use Rattle.mv_ir.specs.Programs.{setting_of, place_if, code_of}
 use Rattle.mv_ir.proofs.Keeping.{map_append, in_order_append, one_meaning}
 use Rattle.mv_lower_spec.specs.Lowered.{number}
-use Rattle.mv_lower_spec.specs.Lower.{is_void, takes}
+use Rattle.mv_source_forms.specs.Names.{is_void, takes, size_in}
 use Rattle.mv_lower_spec.specs.Statements as statements
 use Rattle.mv_lower_spec.specs.Statements.{return_with, out_of}
-use Rattle.mv_lower_spec.specs.Functions.{size_in, lower_body, lower_function, lower_program, outermost, ending}
+use Rattle.mv_lower_spec.specs.Functions.{lower_body, lower_function, lower_program, outermost, ending}
 use Rattle.mv_lower_spec.specs.Correct as c
 use Rattle.mv_lower_spec.specs.Correct.{seen, ran, end_of, is_astray, astray, result_of, IsStrict}
 use Rattle.mv_lower_spec.specs.Law.{fits_call, strict_context}
@@ -34,8 +34,8 @@ use Rattle.mv_lower_spec.proofs.Running as run
 use Rattle.mv_lower_spec.proofs.Running.{nodes_number}
 use Rattle.mv_lower_spec.proofs.Expressions.{no, split}
 use Rattle.mv_lower_spec.proofs.AllStatements.{body_correct}
-use Rattle.mv_lower_correct.specs.Scopes.{Scope}
-use Rattle.mv_lower_correct.specs.WellFormed.{parameters, IsWellFormedFunction}
+use Rattle.mv_source_forms.specs.Scopes.{Scope}
+use Rattle.mv_source_forms.specs.WellFormed.{parameters, IsWellFormedFunction}
 use Rattle.mv_lower_correct.specs.Laws.{HasGlobals}
 use Rattle.mv_lower_correct.proofs.Agreement.{Agree, AlikeOutcome}
 use Rattle.mv_lower_correct.proofs.Leaves as leaves

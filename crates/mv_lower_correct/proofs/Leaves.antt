@@ -16,7 +16,7 @@ use Rattle.mv_meaning.specs.declared.state.Lvalue.{Lvalue}
 use Rattle.mv_meaning.specs.declared.state.Lvalue.TheVariants as lvalue
 use Rattle.mv_meaning.specs.Meaning.{Evaluation, Context, value_in, read_lvalue, store_lvalue, element_below, global_element, local_element, byte_of, known_value, value_or_trap, call_at, call_numbered, call_through}
 use Rattle.mv_lower_spec.proofs.Forms.{words_is, word_is, with_word_is}
-use Rattle.mv_lower_correct.specs.Scopes.{Scope}
+use Rattle.mv_source_forms.specs.Scopes.{Scope}
 use Rattle.mv_lower_correct.proofs.Agreement.{Agree, Post, Alike, AlikeOutcome, alike_give, alike_stop, alike_either, alike_by}
 
 -- ---- one local changed

@@ -1,7 +1,6 @@
 pub mod Agreement
 pub mod Leaves
 pub mod AgreedExpressions
-pub mod StatementInduction
 pub mod AgreedStatements
 pub mod KnownAgree
 pub mod Entry
@@ -9,4 +8,3 @@ pub mod Contexts
 pub mod Pairs
 pub mod Knot
 pub mod Programs
-pub mod WorkedProgram

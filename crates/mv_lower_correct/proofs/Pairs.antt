@@ -10,8 +10,8 @@ use Rattle.mv_ast.specs.Worlds.{give, stop}
 use Rattle.mv_meaning.specs.Meaning.{Evaluation, Context, context_with, call_at, call_numbered}
 use Rattle.mv_lower_spec.specs.Correct.{is_astray, astray}
 use Rattle.mv_lower_spec.specs.Law.{fits_call}
-use Rattle.mv_lower_correct.specs.Scopes.{Scope}
-use Rattle.mv_lower_correct.specs.WellFormed.{IsWellFormedFunction}
+use Rattle.mv_source_forms.specs.Scopes.{Scope}
+use Rattle.mv_source_forms.specs.WellFormed.{IsWellFormedFunction}
 use Rattle.mv_lower_correct.proofs.Agreement.{Agree, lost_alike, alike_either, alike_by}
 use Rattle.mv_lower_correct.proofs.Leaves as leaves
 use Rattle.mv_lower_correct.proofs.AgreedStatements.{Steady}

@@ -23,7 +23,7 @@ use Rattle.mv_meaning.specs.declared.state.Flow.{Flow}
 use Rattle.mv_meaning.specs.declared.meant.Meant.{Meant}
 use Rattle.mv_meaning.specs.declared.meant.End.TheVariants.{Trap}
 use Rattle.mv_meaning.specs.Meaning.{Context, flow_of_all, frame_of, context_at, meaning_of, run_of_main, returned_value, mean}
-use Rattle.mv_meaning_numbering.specs.Typing.{IsInteger}
+use Rattle.mv_source_forms.specs.Typing.{IsInteger}
 use Rattle.mv_meaning_numbering.specs.Numberings.{IsNumbering, Admits, meaning_in}
 use Rattle.mv_meaning_numbering.specs.Laws.{AnyNumberingServes, StraysDoNotShow}
 use Rattle.mv_ir.specs.World as code_world
@@ -31,15 +31,15 @@ use Rattle.mv_ir.specs.Outcome.{State, Returned, Call, Calls, Bound}
 use Rattle.mv_ir.specs.Meaning.{Contents, cleared, entry_state, body_from}
 use Rattle.mv_ir.specs.Levels.{Code}
 use Rattle.mv_ir.specs.Programs.{setting_of, code_of, call_of_main, execution_of, ir_meaning}
-use Rattle.mv_lower_spec.specs.Lower.{is_void, takes, words_of_global}
+use Rattle.mv_source_forms.specs.Names.{is_void, takes, words_of_global, size_in}
 use Rattle.mv_lower_spec.specs.Correct.{seen, is_astray, astray, result_of}
 use Rattle.mv_lower_spec.specs.Law.{fits_call, strict_context}
 use Rattle.mv_lower_spec.specs.Statements as statements
-use Rattle.mv_lower_spec.specs.Functions.{size_in, lower_function, lower_program}
+use Rattle.mv_lower_spec.specs.Functions.{lower_function, lower_program}
 use Rattle.mv_lower_spec.proofs.Expressions.{no}
-use Rattle.mv_lower_correct.specs.WellFormed.{parameters, IsWellFormed, IsWellFormedFunction, IsWellFormedGlobal}
+use Rattle.mv_source_forms.specs.WellFormed.{parameters, IsWellFormed, IsWellFormedFunction, IsWellFormedGlobal}
 use Rattle.mv_lower_correct.specs.Laws.{HasGlobals, IsExecution}
-use Rattle.mv_lower_correct.specs.Scopes.{Scope}
+use Rattle.mv_source_forms.specs.Scopes.{Scope}
 use Rattle.mv_lower_correct.proofs.Agreement.{agree_refl, AlikeOutcome}
 use Rattle.mv_lower_correct.proofs.Leaves as leaves
 use Rattle.mv_lower_correct.proofs.AgreedStatements.{Leads}

@@ -17,11 +17,11 @@ use Rattle.mv_ir.specs.Outcome.{Returned, Call}
 use Rattle.mv_ir.specs.Meaning.{Contents, body_from}
 use Rattle.mv_ir.specs.Levels.{frame_of_call, levels}
 use Rattle.mv_ir.specs.Programs.{Ending, Exited, Trapped, Unfinished, Execution, setting_of, place_if, code_of, ir_meaning}
-use Rattle.mv_lower_spec.specs.Lower.{is_void, global_words}
+use Rattle.mv_source_forms.specs.Names.{is_void, global_words}
 use Rattle.mv_lower_spec.specs.Correct.{seen, end_of, is_astray, result_of}
 use Rattle.mv_lower_spec.specs.Law.{strict_context}
 use Rattle.mv_lower_spec.specs.Functions.{lower_function, lower_program}
-use Rattle.mv_lower_correct.specs.WellFormed.{IsWellFormed}
+use Rattle.mv_source_forms.specs.WellFormed.{IsWellFormed}
 
 -- ---- functions
 

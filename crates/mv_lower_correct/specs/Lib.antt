@@ -1,5 +1,1 @@
-pub mod Jumps
-pub mod Scopes
-pub mod Named
-pub mod WellFormed
 pub mod Laws

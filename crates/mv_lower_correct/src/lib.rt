@@ -1,6 +1,6 @@
 //! That lowered functions and programs mean what the source means.
 //!
-//! A well-formed program (`specs/WellFormed.antt`) is lowered function by function (`mv_lower_spec`). Two laws, each the contract of a function that does nothing,
+//! A well-formed program (`IsWellFormed` of `mv_source_forms`) is lowered function by function (`mv_lower_spec`). Two laws, each the contract of a function that does nothing,
 //! say what its bodies do: `functions_are_right` of a call at a bound, `programs_are_right` of a whole run.
 //!
 //! - `functions_are_right`: a lowered function of a well-formed program does what the source's does, with all that it
@@ -10,8 +10,6 @@
 //! - `programs_are_right`: a lowered program means what the program means: under each numbering, on each input, with all
 //!   actions that fit, at each bound, at a cost of at most 20 + 100 × work. It has no condition on calls, since a
 //!   well-typed program makes none that doesn't fit.
-//! - `specs/WellFormed.antt` says what a well-formed program is, in terms of the source alone, the labels of each
-//!   `switch` included; a small program with a loop and a `switch` is proved to be one.
 //! - A crate of laws, without a test.
 #![tactic(auto)]
 

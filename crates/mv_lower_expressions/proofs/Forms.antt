@@ -19,7 +19,8 @@ use Rattle.mv_ir.specs.declared.stm.Array.{Array}
 use Rattle.mv_ir.specs.declared.stm.Array.TheVariants as array
 use Rattle.mv_ir.specs.declared.stm.Callee.TheVariants as callee
 use Rattle.mv_lower_spec.specs.Lowered.{Lowered, Lowering, Arguments, number, function, lower_all, lower_call_to, lower_division, lower_local, lower_global, lower_element, lower_read_element, temp, global, known, binary, last_of, but_last}
-use Rattle.mv_lower_spec.specs.Lower.{Part, Place, InLocal, InGlobal, Element, lower_form, place_of_layer, lower_layer, form_lowering, place_of, part_of, lower_expr, is_void, lower_read, lower_set, lower_change, lower_after, lower_binary, bit_tree, quotient_number, remainder_number, lower_operator}
+use Rattle.mv_lower_spec.specs.Lower.{Part, Place, InLocal, InGlobal, Element, lower_form, place_of_layer, lower_layer, form_lowering, place_of, part_of, lower_expr, lower_read, lower_set, lower_change, lower_after, lower_binary, bit_tree, quotient_number, remainder_number, lower_operator}
+use Rattle.mv_source_forms.specs.Names.{is_void}
 use Rattle.mv_lower_expressions.specs.Values.{seen, given, set_local_of, set_global_of, unary_of, converted_of, binary_of, both_of, either_of, choice_of}
 use Rattle.mv_lower_expressions.specs.Calls.{prepended, arguments_of, direct_of, through_of, known_of}
 use Rattle.mv_lower_expressions.specs.Places.{placed, start_of, alone, read_of, set_of, set_element_of, change_of, after_of}

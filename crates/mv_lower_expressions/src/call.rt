@@ -1,6 +1,6 @@
 // Calls, with arguments that are lowered.
 ghost use Rattle.std.specs.Prelude.{◌≡◌, ◌+◌, ◌<◌, ◌^◌, ◌∷◌, IfOk, map, length};
-ghost use Rattle.mv_lower_spec.specs.Lower.{is_void};
+ghost use Rattle.mv_source_forms.specs.Names.{is_void};
 ghost use Rattle.mv_lower_spec.specs.Lowered.{lower_call_to, last_of, but_last};
 ghost use Rattle.mv_lower_expressions.specs.Values.{seen};
 ghost use Rattle.mv_lower_expressions.specs.Calls.{seen_arguments, arguments_of, prepended, direct_of, through_of, known_of};

@@ -1,6 +1,6 @@
 // The lowering of expressions.
 ghost use Rattle.std.specs.Prelude.{◌≡◌, ◌+◌, ◌++◌, ◌∷◌, [], ◌<◌, ◌^◌, IfOk, false, map, length};
-ghost use Rattle.mv_lower_spec.specs.Lower.{is_void};
+ghost use Rattle.mv_source_forms.specs.Names.{is_void};
 ghost use Rattle.mv_lower_expressions.specs.Values.{seen, unary_of, converted_of, binary_of, both_of, either_of, choice_of};
 ghost use Rattle.mv_lower_expressions.specs.Calls.{direct_of, through_of, known_of};
 ghost use Rattle.mv_lower_expressions.specs.Places.{seen_place, start_of, read_of, set_of, change_of, after_of};

@@ -14,8 +14,9 @@ use Rattle.mv_ir.specs.declared.stm.Array.{Array}
 use Rattle.mv_ir.specs.declared.stm.Stm.{Stm}
 use Rattle.mv_ir.proofs.Induction.{Each, each_append}
 use Rattle.mv_lower_spec.specs.Lowered.{Lowered, Lowering, is_low, is_empty, kept_if, number, temp, global, unary, binary, set, set_global, truth, truth_in, first, second, lower_local, lower_global, lower_one, lower_two, lower_division, lower_both, lower_either, lower_choice, lower_set_local, lower_set_global, lower_all, lower_call, lower_through, lower_known, place_of_result, result_tree, last_of, but_last, index_in, lower_element, lower_read_element, lower_set_element}
-use Rattle.mv_lower_spec.specs.Lower.{Part, Place, InLocal, InGlobal, Element, quotient_number, remainder_number, unary_tree, converted_tree, less_tree, bit_tree, lower_operator, lower_product, lower_binary, lower_changed, lower_change, lower_after, next_tree, lower_read, lower_set, is_void, place_of_layer, lower_form, lower_layer, form_lowering, place_of, part_of, lower_expr}
-use Rattle.mv_lower_spec.proofs.SourceInduction.{FormChildren, TargetChildren, expr_ind}
+use Rattle.mv_lower_spec.specs.Lower.{Part, Place, InLocal, InGlobal, Element, quotient_number, remainder_number, unary_tree, converted_tree, less_tree, bit_tree, lower_operator, lower_product, lower_binary, lower_changed, lower_change, lower_after, next_tree, lower_read, lower_set, place_of_layer, lower_form, lower_layer, form_lowering, place_of, part_of, lower_expr}
+use Rattle.mv_source_forms.specs.Names.{is_void}
+use Rattle.mv_source_forms.proofs.ExpressionInduction.{FormChildren, TargetChildren, expr_ind}
 use Rattle.mv_lower_names.proofs.Naming.{TreeNames, CodeNames, both, then, number_names, temp_names, global_names, function_names, unary_names, binary_names, narrowed_names, set_names, set_global_names, divide_names, check_names, read_names, write_names, choose_names, known_names, direct_names, through_names}
 use Rattle.mv_lower_names.proofs.Premises.{OwnNames, KnownOf}
 

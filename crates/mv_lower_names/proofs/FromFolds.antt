@@ -13,11 +13,11 @@ use Rattle.mv_ast.specs.declared.program.Arm.{Arm, Arm-F, fold-Arm, fold-roll-Ar
 use Rattle.mv_ast.specs.Counts.{words_of_size}
 use Rattle.mv_ast.specs.Layers.{stmt_expressions, stmt_parts}
 use Rattle.mv_ir.proofs.Induction.{Each}
-use Rattle.mv_lower_spec.specs.Lower.{all_of}
+use Rattle.mv_source_forms.specs.Lists.{all_of}
 use Rattle.mv_lower_spec.proofs.Expressions.{split}
-use Rattle.mv_lower_spec.proofs.SourceInduction.{FormChildren, TargetChildren}
-use Rattle.mv_lower_correct.specs.Scopes.{form_in, layer_in}
-use Rattle.mv_lower_correct.specs.Named.{target_in_parts, all_layer}
+use Rattle.mv_source_forms.proofs.ExpressionInduction.{FormChildren, TargetChildren}
+use Rattle.mv_source_forms.specs.Scopes.{form_in, layer_in}
+use Rattle.mv_source_forms.specs.Uses.{target_in_parts, all_layer}
 use Rattle.mv_lower_names.proofs.Premises.{OwnNames, KnownOf, Optional, StmtKnown, StmtsKnown}
 
 -- ---- tests in order

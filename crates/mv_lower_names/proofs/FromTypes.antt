@@ -13,9 +13,9 @@ use Rattle.mv_ast.specs.declared.program.Stmt.{Stmt, Stmt-F, roll-Stmt, out-roll
 use Rattle.mv_ast.specs.declared.program.Stmt.TheOpen as stmt
 use Rattle.mv_ast.specs.declared.program.Arm.{Arm, Arm-F, roll-Arm, out-roll-Arm}
 use Rattle.mv_ir.proofs.Induction.{Each}
-use Rattle.mv_meaning_numbering.specs.Typing.{HasType, HasTypedParts, IsTypedAt, IsTypedOption, IsTypedStmt, ReturnsTyped}
-use Rattle.mv_meaning_numbering.proofs.Typed.{TypedForm, TypedTarget, TypedExpr, AllTyped, FormParts, TargetParts, form_parts, target_parts, expr_form, expr_node, TypedStmt, TypedArm, AllStmts, AllArms, StmtParts, stmt_parts, stmt_node, arm_parts}
-use Rattle.mv_lower_spec.proofs.SourceInduction.{FormChildren, TargetChildren}
+use Rattle.mv_source_forms.specs.Typing.{HasType, HasTypedParts, IsTypedAt, IsTypedOption, IsTypedStmt, ReturnsTyped}
+use Rattle.mv_source_forms.proofs.TypedParts.{TypedForm, TypedTarget, TypedExpr, AllTyped, FormParts, TargetParts, form_parts, target_parts, expr_form, expr_node, TypedStmt, TypedArm, AllStmts, AllArms, StmtParts, stmt_parts, stmt_node, arm_parts}
+use Rattle.mv_source_forms.proofs.ExpressionInduction.{FormChildren, TargetChildren}
 use Rattle.mv_lower_names.proofs.Premises.{OwnNames, KnownOf, Optional, StmtKnown, StmtsKnown}
 
 module _ (p : Program) (g : Function) (sizes : ℕ → Option ℕ) where

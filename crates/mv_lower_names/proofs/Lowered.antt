@@ -20,11 +20,12 @@ use Rattle.mv_ast.specs.Counts.{words_of_size}
 use Rattle.mv_ir.proofs.Induction.{Each}
 use Rattle.mv_select_calls.specs.Environment.{IsDirect}
 use Rattle.mv_select_control.specs.Labels.{functions}
-use Rattle.mv_meaning_numbering.specs.Typing.{IsTypedFunction}
-use Rattle.mv_lower_spec.specs.Lower.{all_of, is_void}
-use Rattle.mv_lower_spec.specs.Functions.{size_in, outermost, lower_body, ending, lower_function_code, lower_function, marked_from}
+use Rattle.mv_source_forms.specs.Typing.{IsTypedFunction}
+use Rattle.mv_source_forms.specs.Lists.{all_of}
+use Rattle.mv_source_forms.specs.Names.{is_void, size_in}
+use Rattle.mv_lower_spec.specs.Functions.{outermost, lower_body, ending, lower_function_code, lower_function, marked_from}
 use Rattle.mv_lower_spec.proofs.Expressions.{split, no}
-use Rattle.mv_lower_correct.specs.Named.{known_is_there, known_parameters, form_calls_known, calls_known, all_layer, all_arm_layer}
+use Rattle.mv_source_forms.specs.Uses.{known_is_there, known_parameters, form_calls_known, calls_known, all_layer, all_arm_layer}
 use Rattle.mv_lower_shape.specs.Law.{IsFunctionOf}
 use Rattle.mv_lower_shape.proofs.WithinExpressions.{at_index}
 use Rattle.mv_select_bodies.specs.SelectedBodies.{HasWords, IsOrder, constants, knowns}

@@ -19,7 +19,7 @@ use Rattle.mv_lower_spec.specs.Lowered.{Lowering, number, temp, binary, set}
 use Rattle.mv_lower_spec.specs.Lower.{lower_expr}
 use Rattle.mv_lower_spec.specs.Statements.{Jumps, Placed, LoweredArm, break, enclosed, in_body, in_arm, store_word, clear_words, store_zeros, store_values, lower_clear, test_labels, test_arms, arm_place, all_tests, arm_code, arms_code, lower_switch, in_sequence, lower_if, test_and_body, lower_while, lower_do, lower_for}
 use Rattle.mv_lower_spec.specs.LowerStatements.{lower_optional, lower_stmt_layer, lower_arm_layer, lower_stmt, lower_arm}
-use Rattle.mv_lower_shape.proofs.StatementInduction as induction
+use Rattle.mv_source_forms.proofs.StatementInduction as induction
 use Rattle.mv_lower_names.proofs.Naming.{TreeNames, StmNames, CodeNames, both, then, number_names, temp_names, binary_names, set_names, write_names, zero_names, choose_names, return_names, break_names, repeat_names, enclosed_names}
 use Rattle.mv_lower_names.proofs.Premises.{KnownOf, Optional, StmtKnown, StmtsKnown}
 use Rattle.mv_lower_names.proofs.Expressions.{FineLowering, expr_fine}
@@ -186,7 +186,7 @@ module _ (F : ℕ → Type 0) (K : Known → Type 0) (C : ℕ → Type 0) (zero_
       abbrev lowers : Stmt-F Stmt Arm → Stmt-F Placed LoweredArm
       lowers = map-Stmt Stmt Arm Placed LoweredArm (lower_stmt locals sizes void) (lower_arm locals sizes void)
 
-      layer : (x : Stmt-F Stmt Arm) → induction.Children S A x → StmtKnown F K C sizes PE PS PA x → FinePlaced (lower_stmt_layer locals sizes void (lowers x))
+      layer : (x : Stmt-F Stmt Arm) → induction.StmtChildren S A x → StmtKnown F K C sizes PE PS PA x → FinePlaced (lower_stmt_layer locals sizes void (lowers x))
       layer (stmt.Block body) h k j = sequence_fine body h k j
       layer (stmt.Clear l values) h k j =
           declared_fine (sizes l) l (any_of (map (names_local l) values)) (map lower_expr values) (λ i lt. k.0 i (omega (arith, lt, length-map values lower_expr))) (all_values_fine values k.1) j
@@ -203,7 +203,7 @@ module _ (F : ℕ → Type 0) (K : Known → Type 0) (C : ℕ → Type 0) (zero_
       layer (stmt.Return None) h k j = (break_names F K C j.around, tt)
       layer (stmt.Return (Some e)) h k j = then F K C (lower_expr e locals).code _ (value_fine e k locals).0 (return_names F K C (lower_expr e locals).tree (value_fine e k locals).1)
 
-      stmt_step : (x : Stmt-F Stmt Arm) → induction.Children S A x → S (roll-Stmt x)
+      stmt_step : (x : Stmt-F Stmt Arm) → induction.StmtChildren S A x → S (roll-Stmt x)
       stmt_step x h b =
           subst FinePlaced (sym (fold-roll-Stmt Placed LoweredArm (lower_stmt_layer locals sizes void) (lower_arm_layer locals sizes void) x)) (layer x h (known.parts x b))
 

@@ -7,7 +7,7 @@ use Rattle.mv_select_calls.specs.Environment.{IsDirect}
 use Rattle.mv_select_control.specs.Labels.{functions}
 use Rattle.mv_lower_shape.specs.Law.{IsFunctionOf}
 use Rattle.mv_lower_names.specs.Sources.{NumbersAreWords}
-use Rattle.mv_lower_correct.specs.Named.{known_is_there}
+use Rattle.mv_source_forms.specs.Uses.{known_is_there}
 use Rattle.mv_lower_spec.specs.Functions.{lower_function}
 use Rattle.mv_regalloc.specs.Rename.{renamed}
 use Rattle.mv_select_bodies.specs.SelectedBodies.{HasWords, constants, knowns}

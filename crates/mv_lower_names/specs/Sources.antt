@@ -10,9 +10,9 @@ use Rattle.mv_ast.specs.declared.program.Form.TheOpen as form
 use Rattle.mv_ast.specs.declared.program.Stmt.{Stmt, Stmt-F, fold-Stmt}
 use Rattle.mv_ast.specs.declared.program.Stmt.TheOpen as stmt
 use Rattle.mv_ast.specs.declared.program.Arm.{Arm-F}
-use Rattle.mv_lower_spec.specs.Lower.{all_of}
-use Rattle.mv_lower_correct.specs.Scopes.{form_in, layer_in}
-use Rattle.mv_lower_correct.specs.Named.{target_in_parts, all_layer}
+use Rattle.mv_source_forms.specs.Lists.{all_of}
+use Rattle.mv_source_forms.specs.Scopes.{form_in, layer_in}
+use Rattle.mv_source_forms.specs.Uses.{target_in_parts, all_layer}
 
 -- whether a number is a word
 abbrev pub is_word : ℕ → Bool

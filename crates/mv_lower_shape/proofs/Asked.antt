@@ -12,10 +12,10 @@ use Rattle.mv_ast.specs.declared.program.Stmt.TheOpen as stmt
 use Rattle.mv_ast.specs.declared.program.Arm.{Arm, Arm-F, fold-Arm}
 use Rattle.mv_ast.specs.Names.{any_of, names_local}
 use Rattle.mv_ir.specs.WellFormed.{known_arguments}
-use Rattle.mv_lower_spec.specs.Lower.{all_of, is_scalar}
-use Rattle.mv_lower_spec.specs.Functions.{size_in}
-use Rattle.mv_lower_correct.specs.Jumps.{all_jump, stmt_jumps}
-use Rattle.mv_lower_correct.specs.Scopes.{with_local}
+use Rattle.mv_source_forms.specs.Lists.{all_of}
+use Rattle.mv_source_forms.specs.Names.{is_scalar, size_in}
+use Rattle.mv_source_forms.specs.Jumps.{all_jump, stmt_jumps}
+use Rattle.mv_source_forms.specs.Scopes.{with_local}
 
 -- ---- globals
 

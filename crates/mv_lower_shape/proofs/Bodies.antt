@@ -15,8 +15,8 @@ use Rattle.mv_ast.specs.declared.program.Program.{Program}
 use Rattle.mv_ast.specs.declared.program.Function.{Function}
 use Rattle.mv_ast.specs.Counts.{nodes, depth}
 use Rattle.mv_lower_spec.specs.Lowered.{number}
-use Rattle.mv_lower_spec.specs.Lower.{is_scalar, is_void}
-use Rattle.mv_lower_spec.specs.Functions.{size_in, elements_of, array_sizes, lower_body, outermost, ending, lower_function}
+use Rattle.mv_source_forms.specs.Names.{is_scalar, is_void, size_in}
+use Rattle.mv_lower_spec.specs.Functions.{elements_of, array_sizes, lower_body, outermost, ending, lower_function}
 use Rattle.mv_lower_spec.proofs.Depths.{ShallowCode, both_parts}
 use Rattle.mv_lower_spec.proofs.Expressions.{no}
 use Rattle.mv_lower_shape.proofs.Asked.{Globals, IsAsked}

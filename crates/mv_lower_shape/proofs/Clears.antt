@@ -9,7 +9,8 @@ use Rattle.mv_ir.specs.declared.stm.Stm.{Stm}
 use Rattle.mv_ast.specs.declared.program.Expr.{Expr}
 use Rattle.mv_ast.specs.Counts.{expr_nodes, words_of_size}
 use Rattle.mv_lower_spec.specs.Lowered.{Lowering, number}
-use Rattle.mv_lower_spec.specs.Lower.{lower_expr, is_scalar}
+use Rattle.mv_lower_spec.specs.Lower.{lower_expr}
+use Rattle.mv_source_forms.specs.Names.{is_scalar}
 use Rattle.mv_lower_spec.specs.Statements.{Jumps, store_word, clear_words, store_zeros, store_values, values_top, lower_clear}
 use Rattle.mv_lower_spec.proofs.Expressions.{split}
 use Rattle.mv_lower_shape.proofs.Asked.{Globals, is_within, all_exprs_within}

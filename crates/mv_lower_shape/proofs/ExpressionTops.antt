@@ -16,10 +16,10 @@ use Rattle.mv_ast.specs.declared.program.Target.{Target, Target-F, fold-Target, 
 use Rattle.mv_ast.specs.Counts.{greatest, form_greatest, target_greatest, one_more_than, expr_depth}
 use Rattle.mv_lower_spec.specs.Lowered.{Lowered, Lowering, is_low, is_empty, kept_if, binary, first, second, lower_local, lower_global, lower_one, lower_two, lower_division, lower_all, lower_element}
 use Rattle.mv_lower_spec.specs.Lower.{Part, Place, InLocal, InGlobal, Element, quotient_number, remainder_number, bit_tree, lower_operator, lower_product, lower_binary, lower_changed, lower_change, lower_after, lower_read, lower_set, unary_tree, converted_tree, place_of_layer, lower_form, lower_layer, form_lowering, place_of, part_of, lower_expr}
-use Rattle.mv_lower_spec.proofs.SourceInduction.{FormChildren, TargetChildren, expr_ind}
+use Rattle.mv_source_forms.proofs.ExpressionInduction.{FormChildren, TargetChildren, expr_ind}
 use Rattle.mv_lower_spec.proofs.Expressions.{split}
 use Rattle.mv_lower_shape.proofs.Asked.{Globals, Access, target_access, form_names_only, inner_names_only, form_is_within, target_is_within, is_within}
-use Rattle.mv_lower_spec.specs.Lower.{all_of}
+use Rattle.mv_source_forms.specs.Lists.{all_of}
 
 -- ---- tops at one place
 

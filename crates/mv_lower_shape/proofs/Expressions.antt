@@ -19,8 +19,10 @@ use Rattle.mv_ast.specs.declared.program.Form.TheOpen as form
 use Rattle.mv_ast.specs.declared.program.Target.{Target, Target-F, fold-Target, fold-roll-Target, map-Target, roll-Target}
 use Rattle.mv_ast.specs.Counts.{form_sum, target_sum, one_more_than, inner_calls, expr_nodes}
 use Rattle.mv_lower_spec.specs.Lowered.{Lowering, lower_number, lower_function, lower_one, lower_through, lower_both, lower_either, lower_choice, lower_local, lower_global, lower_element, temp}
-use Rattle.mv_lower_spec.specs.Lower.{Part, Place, InLocal, InGlobal, Element, all_of, is_scalar, place_of_layer, lower_read, lower_set, lower_binary, lower_changed, lower_change, next_tree, lower_after, is_void, lower_form, lower_layer, form_lowering, place_of, part_of, lower_expr, unary_tree, converted_tree}
-use Rattle.mv_lower_spec.proofs.SourceInduction.{FormChildren, TargetChildren, expr_ind}
+use Rattle.mv_lower_spec.specs.Lower.{Part, Place, InLocal, InGlobal, Element, place_of_layer, lower_read, lower_set, lower_binary, lower_changed, lower_change, next_tree, lower_after, lower_form, lower_layer, form_lowering, place_of, part_of, lower_expr, unary_tree, converted_tree}
+use Rattle.mv_source_forms.specs.Lists.{all_of}
+use Rattle.mv_source_forms.specs.Names.{is_scalar, is_void}
+use Rattle.mv_source_forms.proofs.ExpressionInduction.{FormChildren, TargetChildren, expr_ind}
 use Rattle.mv_lower_spec.proofs.Expressions.{split}
 use Rattle.mv_lower_shape.proofs.Asked.{Globals, Access, local_access, target_access, form_names_only, inner_names_only, form_is_within, target_is_within, is_within}
 use Rattle.mv_lower_shape.specs.Calls.{form_weights, form_weight, target_weight, expr_weight}

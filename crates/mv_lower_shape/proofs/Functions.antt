@@ -6,8 +6,8 @@ use Rattle.mv_ir.specs.declared.stm.Stm.{Stm}
 use Rattle.mv_ast.specs.declared.program.Function.{Function}
 use Rattle.mv_ast.specs.Counts.{stmt_nodes}
 use Rattle.mv_lower_spec.specs.Lowered.{number}
-use Rattle.mv_lower_spec.specs.Lower.{is_void}
-use Rattle.mv_lower_spec.specs.Functions.{size_in, lower_body, outermost, ending, lower_function_code}
+use Rattle.mv_source_forms.specs.Names.{is_void, size_in}
+use Rattle.mv_lower_spec.specs.Functions.{lower_body, outermost, ending, lower_function_code}
 use Rattle.mv_lower_shape.proofs.Asked.{Globals, all_within, scopes_of}
 use Rattle.mv_lower_shape.specs.Calls.{function_weight}
 use Rattle.mv_lower_shape.proofs.Rules.{Rules, BlockRules}

@@ -8,8 +8,8 @@ use Rattle.mv_ir.specs.Live.{any, filled, mark_at, all_marks, interval, count_at
 use Rattle.mv_ir.proofs.Keeping.{map_append}
 use Rattle.mv_ast.specs.declared.program.Local.{Local}
 use Rattle.mv_ast.specs.Counts.{words_of_size}
-use Rattle.mv_lower_spec.specs.Lower.{is_scalar}
-use Rattle.mv_lower_spec.specs.Functions.{size_in, elements_of, array_sizes}
+use Rattle.mv_source_forms.specs.Names.{is_scalar, size_in}
+use Rattle.mv_lower_spec.specs.Functions.{elements_of, array_sizes}
 use Rattle.mv_lower_shape.proofs.Expressions.{is_used, sum_cons}
 
 -- ---- marks

@@ -4,7 +4,6 @@ pub mod Plain
 pub mod Given
 pub mod Operators
 pub mod Expressions
-pub mod StatementInduction
 pub mod Paid
 pub mod Clears
 pub mod Statements
@@ -28,3 +27,4 @@ pub mod WithinExpressions
 pub mod WithinStatements
 pub mod OfPrograms
 pub mod WorkedReads
+pub mod Lowering

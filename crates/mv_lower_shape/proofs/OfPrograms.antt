@@ -12,12 +12,12 @@ use Rattle.mv_ast.specs.Plans.{is_among, switch_global}
 use Rattle.mv_ir.specs.Live.{IsWhole}
 use Rattle.mv_ir.specs.WellFormed.{IsWellFormed}
 use Rattle.mv_ir.proofs.Induction.{Each}
-use Rattle.mv_meaning_numbering.specs.Typing.{IsTypedFunction, IsTypedStmt}
-use Rattle.mv_meaning_numbering.proofs.Typed.{AllStmts}
-use Rattle.mv_lower_spec.specs.Lower.{is_scalar, is_void, is_own_switch}
-use Rattle.mv_lower_spec.specs.Functions.{size_in, lower_function}
+use Rattle.mv_source_forms.specs.Typing.{IsTypedFunction, IsTypedStmt}
+use Rattle.mv_source_forms.proofs.TypedParts.{AllStmts}
+use Rattle.mv_source_forms.specs.Names.{is_scalar, is_void, is_own_switch, size_in}
+use Rattle.mv_lower_spec.specs.Functions.{lower_function}
 use Rattle.mv_lower_spec.proofs.Expressions.{split}
-use Rattle.mv_lower_correct.specs.WellFormed.{IsWellFormedFunction, parameters}
+use Rattle.mv_source_forms.specs.WellFormed.{IsWellFormedFunction, parameters}
 use Rattle.mv_lower_correct.proofs.Entry.{scalar_at}
 use Rattle.mv_lower_shape.specs.Reads.{reads_scalar, reads_array, stmt_reads}
 use Rattle.mv_lower_shape.specs.Law.{IsFunctionOf, CallsAsOften, ReadsNoMore, IsSmall}

@@ -25,7 +25,7 @@ use Rattle.mv_lower_spec.specs.LowerStatements.{lower_optional, lower_stmt_layer
 use Rattle.mv_lower_spec.proofs.Depths.{Shallow, ShallowCode, ShallowLowered, both_parts, shallow_set, shallow_choose}
 use Rattle.mv_lower_spec.proofs.ExpressionDepths.{expr_shallow}
 use Rattle.mv_lower_shape.proofs.Counted.{trees_one}
-use Rattle.mv_lower_shape.proofs.StatementInduction as source
+use Rattle.mv_source_forms.proofs.StatementInduction as source
 
 one : (x : Stm-F Stm) → Each Shallow (layer_trees (map-Stm Stm (List Tree) stm_trees x)) → ShallowCode (roll-Stm x ∷ [])
 one x h = subst (Each Shallow) (sym (trees_one x)) h
@@ -149,7 +149,7 @@ module _ (locals : ℕ) where
     test_and l body h k =
         both_parts (l locals).code (choose (l locals).tree body (break 0 ∷ []) ∷ []) h.code (shallow_choose (l locals).tree body (break 0 ∷ []) h.tree k (shallow_break 0))
 
-    layer : (x : Stmt-F Stmt Arm) → source.Children S A x → (j : Jumps) → ShallowCode (lower_stmt_layer locals sizes void (map-Stmt Stmt Arm Placed LoweredArm (lower_stmt locals sizes void) (lower_arm locals sizes void) x) j).code
+    layer : (x : Stmt-F Stmt Arm) → source.StmtChildren S A x → (j : Jumps) → ShallowCode (lower_stmt_layer locals sizes void (map-Stmt Stmt Arm Placed LoweredArm (lower_stmt locals sizes void) (lower_arm locals sizes void) x) j).code
     layer (stmt.Block body) h j = all_shallow body h j
     layer (stmt.Clear l values) h j = shallow_clear (sizes l) l (any_of (map (names_local l) values)) values j
     layer (stmt.Express e) h j = (expr_shallow e locals).code
@@ -186,7 +186,7 @@ module _ (locals : ℕ) where
         let x = expr_shallow e locals in
         both_parts (lower_expr e locals).code (return_with (lower_expr e locals).tree ∷ []) x.code (shallow_return (lower_expr e locals).tree x.tree)
 
-    stmt_step : (x : Stmt-F Stmt Arm) → source.Children S A x → S (roll-Stmt x)
+    stmt_step : (x : Stmt-F Stmt Arm) → source.StmtChildren S A x → S (roll-Stmt x)
     stmt_step x h j = subst (λ (l : Placed). ShallowCode (l j).code) (sym (fold-roll-Stmt Placed LoweredArm (lower_stmt_layer locals sizes void) (lower_arm_layer locals sizes void) x)) (layer x h j)
 
     arm_step : (x : Arm-F Stmt Arm) → Each S x.body → A (roll-Arm x)

@@ -14,10 +14,10 @@ use Rattle.mv_lower_spec.specs.Lower.{lower_expr}
 use Rattle.mv_lower_spec.specs.Statements.{Jumps, Placed, LoweredArm, in_body, in_arm, in_sequence, values_top, arms_top}
 use Rattle.mv_lower_spec.specs.LowerStatements.{lower_optional, lower_stmt_layer, lower_arm_layer, lower_stmt, lower_arm}
 use Rattle.mv_lower_spec.proofs.Expressions.{split}
-use Rattle.mv_lower_correct.specs.Scopes.{with_local}
+use Rattle.mv_source_forms.specs.Scopes.{with_local}
 use Rattle.mv_lower_shape.proofs.Asked.{Globals, Scope, ArmScope, all_within, all_behind, arms_within, is_within, all_exprs_within, optional_within, stmt_scope_layer, arm_scope_layer, stmt_scope, arm_scope}
 use Rattle.mv_lower_shape.proofs.ExpressionTops.{expr_top, greatest_append}
-use Rattle.mv_lower_shape.proofs.StatementInduction as source
+use Rattle.mv_source_forms.proofs.StatementInduction as source
 
 abbrev depth_layer : Stmt-F ℕ ℕ → ℕ
 depth_layer s = max (greatest (map expr_depth (stmt_expressions s))) (greatest (stmt_parts s))
@@ -89,7 +89,7 @@ module _ (globals : Globals) (locals : ℕ) (sizes : ℕ → Option ℕ) (void :
   abbrev depths : Stmt-F Stmt Arm → Stmt-F ℕ ℕ
   depths = map-Stmt Stmt Arm ℕ ℕ stmt_depth arm_depth
 
-  layer : (x : Stmt-F Stmt Arm) → source.Children S A x → (declared : ℕ → Bool) → (stmt_scope_layer globals locals sizes (tests x)).within declared ≡ true → (j : Jumps) →
+  layer : (x : Stmt-F Stmt Arm) → source.StmtChildren S A x → (declared : ℕ → Bool) → (stmt_scope_layer globals locals sizes (tests x)).within declared ≡ true → (j : Jumps) →
       (lower_stmt_layer locals sizes void (lowers x) j).top ≤ locals + 8 * depth_layer (depths x)
   layer (stmt.Block body) h declared b j = let k = all_top body h declared b j in omega (arith, k)
   layer (stmt.Clear l values) h declared b j =
@@ -139,7 +139,7 @@ module _ (globals : Globals) (locals : ℕ) (sizes : ℕ → Option ℕ) (void :
   layer (stmt.Return None) h declared b j = omega arith
   layer (stmt.Return (Some e)) h declared b j = let k = value_top declared e b in omega (arith, k)
 
-  stmt_step : (x : Stmt-F Stmt Arm) → source.Children S A x → S (roll-Stmt x)
+  stmt_step : (x : Stmt-F Stmt Arm) → source.StmtChildren S A x → S (roll-Stmt x)
   stmt_step x h declared b j =
       let lowered_as = fold-roll-Stmt Placed LoweredArm (lower_stmt_layer locals sizes void) (lower_arm_layer locals sizes void) x in
       let scoped = fold-roll-Stmt Scope ArmScope (stmt_scope_layer globals locals sizes) (arm_scope_layer globals locals sizes) x in

@@ -16,7 +16,7 @@ use Rattle.mv_lower_spec.specs.Lower.{lower_expr}
 use Rattle.mv_lower_spec.specs.Statements.{Jumps, Placed, LoweredArm, in_body, in_arm, in_sequence, test_labels, test_arms, arm_place, all_tests, arm_code, arms_code, arms_top, lower_switch, test_and_body}
 use Rattle.mv_lower_spec.specs.LowerStatements.{lower_optional, lower_stmt_layer, lower_arm_layer, lower_stmt, lower_arm}
 use Rattle.mv_lower_spec.proofs.Expressions.{split}
-use Rattle.mv_lower_correct.specs.Scopes.{with_local}
+use Rattle.mv_source_forms.specs.Scopes.{with_local}
 use Rattle.mv_lower_shape.proofs.Asked.{Globals, Scope, ArmScope, all_within, all_behind, arms_within, is_within, all_exprs_within, optional_within, stmt_scope_layer, arm_scope_layer, stmt_scope, arm_scope}
 use Rattle.mv_lower_shape.specs.Calls.{expr_weight, stmt_weight, arm_weight}
 use Rattle.mv_lower_shape.proofs.Rules.{Allowed, Rules, BlockRules}
@@ -24,7 +24,7 @@ use Rattle.mv_lower_shape.proofs.Plain.{plain_set, covers_number, covers_none, c
 use Rattle.mv_lower_shape.proofs.Paid as paying
 use Rattle.mv_lower_shape.proofs.Clears as clears
 use Rattle.mv_lower_shape.proofs.Expressions.{allowed, scratch_used, sum_cons, sum_append}
-use Rattle.mv_lower_shape.proofs.StatementInduction as source
+use Rattle.mv_source_forms.proofs.StatementInduction as source
 
 module _ (globals : Globals) (locals : ℕ) (sizes : ℕ → Option ℕ) (void : Bool) (room : ℕ) (direct : ℕ → ℕ) (through : ℕ)
     (B : ℕ → ℕ → ℕ → ℕ → List Tree → List Stm → List Tree → Type 0)
@@ -285,7 +285,7 @@ module _ (globals : Globals) (locals : ℕ) (sizes : ℕ → Option ℕ) (void :
   test_paid : {s w t k s' w' t' k' : ℕ} {body : List Stm} (l : Lowering) → B s' w' t' k' [] (l locals).code ((l locals).tree ∷ []) → B s w t k [] body [] → B (s' + (s + 1 + 1)) (w' + (w + 1 + 3)) (t' + t) (k' + k) [] (test_and_body locals l body) []
   test_paid l p h = r.weaken (omega arith) (omega arith) (omega arith) (omega arith) (r.chain p (r.choose (l locals).tree h (blocks.leaves 0)))
 
-  layer : (x : Stmt-F Stmt Arm) → source.Children S A x → (declared : ℕ → Bool) → (stmt_scope_layer globals locals sizes (tests x)).within declared ≡ true → (j : Jumps) →
+  layer : (x : Stmt-F Stmt Arm) → source.StmtChildren S A x → (declared : ℕ → Bool) → (stmt_scope_layer globals locals sizes (tests x)).within declared ≡ true → (j : Jumps) →
       (lower_stmt_layer locals sizes void (lowers x) j).top ≤ room → StmtPaid (node_sum (counts x)) (weight_sum (weights x)) (lower_stmt_layer locals sizes void (lowers x) j).code
   layer (stmt.Block body) h declared b j top =
       let p = all_paid body h declared b j top in
@@ -354,7 +354,7 @@ module _ (globals : Globals) (locals : ℕ) (sizes : ℕ → Option ℕ) (void :
       one_more (p.units + 1) (p.words + 1) (p.nodes + 0) (r.weaken (omega arith) (omega arith) (omega arith) (omega arith) (r.chain p.made (blocks.returns (lower_expr e locals).tree)))
       (omega (arith, p.few_units)) (omega (arith, p.few_nodes)) (omega (arith, p.few_words))
 
-  stmt_step : (x : Stmt-F Stmt Arm) → source.Children S A x → S (roll-Stmt x)
+  stmt_step : (x : Stmt-F Stmt Arm) → source.StmtChildren S A x → S (roll-Stmt x)
   stmt_step x h declared b j =
       let lowered_as = fold-roll-Stmt Placed LoweredArm (lower_stmt_layer locals sizes void) (lower_arm_layer locals sizes void) x in
       let scoped = fold-roll-Stmt Scope ArmScope (stmt_scope_layer globals locals sizes) (arm_scope_layer globals locals sizes) x in

@@ -23,13 +23,13 @@ use Rattle.mv_lower_spec.specs.Lower.{lower_expr}
 use Rattle.mv_lower_spec.specs.Statements.{Jumps, Placed, LoweredArm, in_body, in_arm, in_sequence, test_labels, test_arms, arm_place, all_tests, arm_code, arms_code, values_top, break, enclosed, repeat, return_with, test_and_body}
 use Rattle.mv_lower_spec.specs.LowerStatements.{lower_optional, lower_stmt_layer, lower_arm_layer, lower_stmt, lower_arm}
 use Rattle.mv_lower_spec.proofs.Expressions.{split}
-use Rattle.mv_lower_correct.specs.Jumps.{Jumping, all_jump, jumps_layer, arm_jumps_layer, stmt_jumps, arm_jumps}
-use Rattle.mv_lower_correct.specs.Scopes.{with_local}
+use Rattle.mv_source_forms.specs.Jumps.{Jumping, all_jump, jumps_layer, arm_jumps_layer, stmt_jumps, arm_jumps}
+use Rattle.mv_source_forms.specs.Scopes.{with_local}
 use Rattle.mv_lower_shape.proofs.Asked.{Globals, Scope, ArmScope, all_within, all_behind, arms_within, is_within, all_exprs_within, optional_within, stmt_scope_layer, arm_scope_layer, stmt_scope, arm_scope}
 use Rattle.mv_lower_shape.proofs.Rules.{Allowed, Rules}
 use Rattle.mv_lower_shape.proofs.Expressions.{allowed}
 use Rattle.mv_lower_shape.proofs.Clears as clears
-use Rattle.mv_lower_shape.proofs.StatementInduction as source
+use Rattle.mv_source_forms.proofs.StatementInduction as source
 
 -- the jumps of some code have targets, where these loops and blocks are around it
 abbrev pub HasTargets : List Bool → List Stm → Type 0
@@ -165,7 +165,7 @@ module _ (globals : Globals) (locals : ℕ) (sizes : ℕ → Option ℕ) (void :
   body_targets body h declared b u v l j r k =
       targets_one (true ∷ r) (stm.Block (lowered body (in_body j)).code) (all_targets body h declared b true true l (in_body j) (false ∷ (true ∷ r)) (leads_in_loop u v j r k))
 
-  layer : (x : Stmt-F Stmt Arm) → source.Children S A x → (declared : ℕ → Bool) → (stmt_scope_layer globals locals sizes (map-Stmt Stmt Arm Scope ArmScope (stmt_scope globals locals sizes) (arm_scope globals locals sizes) x)).within declared ≡ true →
+  layer : (x : Stmt-F Stmt Arm) → source.StmtChildren S A x → (declared : ℕ → Bool) → (stmt_scope_layer globals locals sizes (map-Stmt Stmt Arm Scope ArmScope (stmt_scope globals locals sizes) (arm_scope globals locals sizes) x)).within declared ≡ true →
       (u v : Bool) → jumps_layer (map-Stmt Stmt Arm Jumping Jumping stmt_jumps arm_jumps x) u v ≡ true → (j : Jumps) (r : List Bool) → Leads u v j r →
       HasTargets r (lower_stmt_layer locals sizes void (map-Stmt Stmt Arm Placed LoweredArm (lower_stmt locals sizes void) (lower_arm locals sizes void) x) j).code
   layer (stmt.Block body) h declared b u v l j r k = all_targets body h declared b u v l j r k
@@ -229,7 +229,7 @@ module _ (globals : Globals) (locals : ℕ) (sizes : ℕ → Option ℕ) (void :
   layer (stmt.Return (Some e)) h declared b u v l j r k =
       targets_append r (lower_expr e locals).code (return_with (lower_expr e locals).tree ∷ []) (value declared e b r) (targets_one r (stm.Return (lower_expr e locals).tree) refl)
 
-  stmt_step : (x : Stmt-F Stmt Arm) → source.Children S A x → S (roll-Stmt x)
+  stmt_step : (x : Stmt-F Stmt Arm) → source.StmtChildren S A x → S (roll-Stmt x)
   stmt_step x h declared b u v l j r k =
       let lowered_as = fold-roll-Stmt Placed LoweredArm (lower_stmt_layer locals sizes void) (lower_arm_layer locals sizes void) x in
       let scoped = fold-roll-Stmt Scope ArmScope (stmt_scope_layer globals locals sizes) (arm_scope_layer globals locals sizes) x in

@@ -15,18 +15,19 @@ use Rattle.mv_ast.specs.declared.program.Stmt.TheOpen as stmt
 use Rattle.mv_ast.specs.declared.program.Arm.{Arm, Arm-F, roll-Arm, fold-roll-Arm}
 use Rattle.mv_ast.specs.Names.{any_of, names_local}
 use Rattle.mv_lower_spec.specs.Lowered.{Lowering, number, temp, binary, set, choose}
-use Rattle.mv_lower_spec.specs.Lower.{lower_expr, is_scalar}
+use Rattle.mv_lower_spec.specs.Lower.{lower_expr}
+use Rattle.mv_source_forms.specs.Names.{is_scalar}
 use Rattle.mv_lower_spec.specs.Statements.{Jumps, Placed, LoweredArm, in_body, in_arm, in_sequence, store_zeros, store_values, values_top, lower_clear, test_labels, test_arms, arm_place, all_tests, arm_code, arms_code, arms_top, lower_switch, break, enclosed, repeat, return_with, test_and_body}
 use Rattle.mv_lower_spec.specs.LowerStatements.{lower_optional, lower_stmt_layer, lower_arm_layer, lower_stmt, lower_arm}
 use Rattle.mv_lower_spec.proofs.Expressions.{split, no}
-use Rattle.mv_lower_correct.specs.Scopes.{with_local}
+use Rattle.mv_source_forms.specs.Scopes.{with_local}
 use Rattle.mv_lower_shape.proofs.Asked.{Globals, Scope, ArmScope, all_within, all_behind, arms_within, is_within, all_exprs_within, optional_within, stmt_scope_layer, arm_scope_layer, stmt_scope, arm_scope}
 use Rattle.mv_lower_shape.proofs.Rules.{Allowed}
 use Rattle.mv_lower_shape.proofs.Expressions.{allowed}
 use Rattle.mv_lower_shape.proofs.Clears as clears
 use Rattle.mv_lower_shape.proofs.Flowing.{live_at, live_append, live_one, reads_one}
 use Rattle.mv_lower_shape.proofs.Passing as passing
-use Rattle.mv_lower_shape.proofs.StatementInduction as source
+use Rattle.mv_source_forms.proofs.StatementInduction as source
 
 -- a temporary that is live behind none of the places to which control may lead
 pub record IsShut (j : Jumps) (r : Around) : Type 0 where
@@ -295,7 +296,7 @@ module _ (globals : Globals) (locals : ℕ) (sizes : ℕ → Option ℕ) (void :
   within_dead : (body : List Stmt) → Each S body → (declared : ℕ → Bool) → all_within (scopes body) declared ≡ true → declared u ≡ false → (j : Jumps) → (lowered body j).top ≤ room → (r : Around) → IsShut j r → r.next ≡ false → live_at u (lowered body j).code r ≡ false
   within_dead body h declared b k j top r q n = all_dead body h declared b k j top r q (λ e. n)
 
-  layer : (x : Stmt-F Stmt Arm) → source.Children S A x → IsDead (stmt_scope_layer globals locals sizes (tests x)).within (stmt_scope_layer globals locals sizes (tests x)).behind (lower_stmt_layer locals sizes void (lowers x))
+  layer : (x : Stmt-F Stmt Arm) → source.StmtChildren S A x → IsDead (stmt_scope_layer globals locals sizes (tests x)).within (stmt_scope_layer globals locals sizes (tests x)).behind (lower_stmt_layer locals sizes void (lowers x))
   layer (stmt.Block body) h declared b k j top r q n = within_dead body h declared b k j top r q (n k)
   layer (stmt.Clear l values) h declared b k j top r q n =
       let itself = any_of (map (names_local l) values) in
@@ -366,7 +367,7 @@ module _ (globals : Globals) (locals : ℕ) (sizes : ℕ → Option ℕ) (void :
       then_dead (lower_expr e locals).code (return_with t ∷ []) t (value declared e b k top) r
       (λ reads. live_one u (stm.Return t) (plain u (t ∷ []) None (λ r. false)) r (flow_roll u (stm.Return t)) ∙ or_from (any_reads u (t ∷ [])) false (reads_one u t ∙ reads) refl)
 
-  stmt_step : (x : Stmt-F Stmt Arm) → source.Children S A x → S (roll-Stmt x)
+  stmt_step : (x : Stmt-F Stmt Arm) → source.StmtChildren S A x → S (roll-Stmt x)
   stmt_step x h declared b k j =
       let lowered_as = fold-roll-Stmt Placed LoweredArm (lower_stmt_layer locals sizes void) (lower_arm_layer locals sizes void) x in
       let scoped = fold-roll-Stmt Scope ArmScope (stmt_scope_layer globals locals sizes) (arm_scope_layer globals locals sizes) x in

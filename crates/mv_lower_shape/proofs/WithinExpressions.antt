@@ -18,14 +18,15 @@ use Rattle.mv_ast.specs.declared.program.Target.{Target, Target-F, fold-Target, 
 use Rattle.mv_ast.specs.Names.{any_of}
 use Rattle.mv_ir.specs.WellFormed.{known_arguments}
 use Rattle.mv_ir.proofs.Induction.{Each}
-use Rattle.mv_meaning_numbering.specs.Typing.{HasType, LvalueHasType, global_types, parameter_types, types_of}
-use Rattle.mv_meaning_numbering.proofs.Typed.{TypedForm, TypedTarget, TypedExpr, AllTyped, FormParts, TargetParts, form_parts, target_parts, expr_form, expr_node}
-use Rattle.mv_lower_spec.specs.Lower.{all_of, is_scalar, is_own_switch, names_form, names_target, names_layer, form_is_well_named, target_is_well_named, is_well_named}
+use Rattle.mv_source_forms.specs.Typing.{HasType, LvalueHasType, global_types, parameter_types, types_of}
+use Rattle.mv_source_forms.proofs.TypedParts.{TypedForm, TypedTarget, TypedExpr, AllTyped, FormParts, TargetParts, form_parts, target_parts, expr_form, expr_node}
+use Rattle.mv_source_forms.specs.Lists.{all_of}
+use Rattle.mv_source_forms.specs.Names.{is_scalar, is_own_switch, names_form, names_target, names_layer, form_is_well_named, target_is_well_named, is_well_named}
 use Rattle.mv_lower_spec.proofs.Expressions.{split}
-use Rattle.mv_lower_spec.proofs.SourceInduction.{FormChildren, TargetChildren, expr_ind}
-use Rattle.mv_lower_correct.specs.Scopes.{form_in, target_in, layer_in, names_declared, form_names_declared, target_names_declared}
-use Rattle.mv_lower_correct.specs.Named.{known_parameters, known_is_there, form_calls_known, target_in_parts, calls_known}
-use Rattle.mv_lower_correct.specs.WellFormed.{IsWithinLimits}
+use Rattle.mv_source_forms.proofs.ExpressionInduction.{FormChildren, TargetChildren, expr_ind}
+use Rattle.mv_source_forms.specs.Scopes.{form_in, target_in, layer_in, names_declared, form_names_declared, target_names_declared}
+use Rattle.mv_source_forms.specs.Uses.{known_parameters, known_is_there, form_calls_known, target_in_parts, calls_known}
+use Rattle.mv_source_forms.specs.WellFormed.{IsWithinLimits}
 use Rattle.mv_lower_shape.specs.Reads.{LvalueReads, reads_layer, lvalue_reads, inner_reads, form_reads, target_reads, expr_reads}
 use Rattle.mv_lower_shape.proofs.Asked.{Globals, Access, local_access, target_access, form_names_only, inner_names_only, form_is_within, target_is_within, is_within}
 use Rattle.mv_lower_shape.proofs.Holding as holding

@@ -12,21 +12,21 @@ use Rattle.mv_ast.specs.Counts.{words_of_size}
 use Rattle.mv_ast.specs.Names.{any_of, names_local}
 use Rattle.mv_ir.proofs.Induction.{Each}
 use Rattle.mv_ir.proofs.Keeping.{map_append}
-use Rattle.mv_meaning_numbering.specs.Typing.{HasTypedParts, IsTypedAt, IsTypedExpr, IsTypedOption}
-use Rattle.mv_meaning_numbering.proofs.Typed.{TypedStmt, TypedArm, AllStmts, AllArms, StmtParts, stmt_parts, stmt_node, arm_parts}
-use Rattle.mv_lower_spec.specs.Lower.{all_of, is_well_named, is_own_switch}
-use Rattle.mv_lower_spec.specs.LowerStatements.{but_for, named_option, stmt_named_layer, arm_named_layer, stmt_is_well_formed, arm_is_well_formed}
+use Rattle.mv_source_forms.specs.Typing.{HasTypedParts, IsTypedAt, IsTypedExpr, IsTypedOption}
+use Rattle.mv_source_forms.proofs.TypedParts.{TypedStmt, TypedArm, AllStmts, AllArms, StmtParts, stmt_parts, stmt_node, arm_parts}
+use Rattle.mv_source_forms.specs.Lists.{all_of}
+use Rattle.mv_source_forms.specs.Names.{is_well_named, is_own_switch, but_for, named_option, stmt_named_layer, arm_named_layer, stmt_is_well_formed, arm_is_well_formed}
 use Rattle.mv_lower_spec.proofs.Expressions.{split, no}
-use Rattle.mv_lower_correct.specs.Scopes.{Scope, Scoped, with_local, with_declared, all_scoped, scope_behind, names_declared, option_declared, scoped_layer, arm_scoped_layer, stmt_scoped, arm_scoped}
-use Rattle.mv_lower_correct.specs.Named.{calls_known, all_layer, all_arm_layer, all_expressions}
-use Rattle.mv_lower_correct.specs.WellFormed.{IsWithinLimits}
+use Rattle.mv_source_forms.specs.Scopes.{Scope, Scoped, with_local, with_declared, all_scoped, scope_behind, names_declared, option_declared, scoped_layer, arm_scoped_layer, stmt_scoped, arm_scoped}
+use Rattle.mv_source_forms.specs.Uses.{calls_known, all_layer, all_arm_layer, all_expressions}
+use Rattle.mv_source_forms.specs.WellFormed.{IsWithinLimits}
 use Rattle.mv_lower_shape.specs.Reads.{expr_reads, stmt_reads_layer, arm_reads_layer, stmt_reads, arm_reads}
 use Rattle.mv_lower_shape.proofs.Asked as asked
 use Rattle.mv_lower_shape.proofs.Asked.{Globals, ArmScope, is_within, all_within, all_behind, arms_within, all_exprs_within, optional_within, stmt_scope_layer, arm_scope_layer, stmt_scope, arm_scope}
 use Rattle.mv_lower_shape.proofs.Holding as holding
 use Rattle.mv_lower_shape.proofs.Holding.{any_left, any_right}
 use Rattle.mv_lower_shape.proofs.WithinExpressions as exprs
-use Rattle.mv_lower_shape.proofs.StatementInduction as source
+use Rattle.mv_source_forms.proofs.StatementInduction as source
 
 all_apart : (xs ys : List Bool) → all_of (xs ++ ys) ≡ true → (all_of xs ≡ true) × (all_of ys ≡ true)
 all_apart [] ys e = (refl, e)
@@ -268,7 +268,7 @@ module _ (p : Program) (own : ℕ) (fn : Function) (globals : Globals) (locals :
         holding.holds_within globals count is_own (reads_exprs ys) (reads_exprs (xs ++ ys)) (λ r a e. q r a ∙ any_right (map (expr_reads r a) xs) (map (expr_reads r a) ys) e) h,
       )
 
-  layer : (x : Stmt-F Stmt Arm) → source.Children Inside ArmInside x → (scope : Scope) → GoodLayer x scope → (stmt_scope_layer globals locals sizes (within_parts x)).within scope ≡ true
+  layer : (x : Stmt-F Stmt Arm) → source.StmtChildren Inside ArmInside x → (scope : Scope) → GoodLayer x scope → (stmt_scope_layer globals locals sizes (within_parts x)).within scope ≡ true
   layer (stmt.Block body) h scope g = all_inside body h scope (record { typed = g.parts; formed = g.formed; scoped = g.scoped; known = g.known; held = g.held })
   layer (stmt.Clear l values_of) h scope g =
       let names_itself = any_of (map (names_local l) values_of) in
@@ -339,7 +339,7 @@ module _ (p : Program) (own : ℕ) (fn : Function) (globals : Globals) (locals :
 
   -- ---- by induction
 
-  stmt_step : (x : Stmt-F Stmt Arm) → source.Children Inside ArmInside x → Inside (roll-Stmt x)
+  stmt_step : (x : Stmt-F Stmt Arm) → source.StmtChildren Inside ArmInside x → Inside (roll-Stmt x)
   stmt_step x h =
       let within_as = fold-roll-Stmt asked.Scope ArmScope (stmt_scope_layer globals locals sizes) (arm_scope_layer globals locals sizes) x in
       let scoped_as = fold-roll-Stmt Scoped (Scope → Bool) scoped_layer arm_scoped_layer x in

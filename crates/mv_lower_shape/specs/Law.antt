@@ -10,7 +10,7 @@ use Rattle.mv_ast.specs.Counts as counts
 use Rattle.mv_ast.specs.Counts.{nodes, depth, declared_words}
 use Rattle.mv_ast.specs.Plans.{is_among}
 use Rattle.mv_lower_spec.specs.Functions.{lower_function}
-use Rattle.mv_lower_correct.specs.WellFormed as programs
+use Rattle.mv_source_forms.specs.WellFormed as programs
 use Rattle.mv_lower_shape.specs.Reads.{reads_scalar, reads_array}
 use Rattle.mv_lower_shape.specs.Allowances.{allowance}
 use Rattle.mv_lower_shape.specs.Calls.{code_weight, function_weight, each_once, attributed_once}

@@ -1,5 +1,5 @@
-//! The form of the code that functions are lowered to: it is whole and well formed, reads nothing that the function doesn't read,
-//! and its sizes are bounded by those of the source.
+//! What the lowering of a program promises: its meaning, and the form of the code, which is whole and well formed, reads nothing that
+//! the function doesn't read, and has sizes that are bounded by those of the source.
 //!
 //! What is proved of the code of a well-formed program's functions stands in `specs/Law.antt`, and what a function reads in `specs/Reads.antt`.
 //!
@@ -8,10 +8,16 @@
 //!   that the function reads (`specs/Reads.antt`). The frame is bounded by the declared words and 8 for each level of
 //!   depth, and the code by 6 statements and 9 tree nodes for each node of the source, with `allowance + 2 * tree nodes ≤
 //!   40 * nodes + 7`: each form of statement is allowed the words that its code takes at most (`specs/Allowances.antt`).
-//! - A crate of one law, without a test.
+//! - `lowering_is_right`: each well-formed program is lowered so that `IsLowering` holds (`specs/Lowering.antt`), which the code that
+//!   lowers cites: the program's meaning and each function's, at every bound and under every numbering, at a cost of at
+//!   most 20 + 100 × work, and the form of each body.
+//! - A crate of laws, without a test.
 #![tactic(auto)]
 
+ghost use Rattle.mv_lower_shape.specs.Lowering.{LoweringIsRight};
 ghost use Rattle.mv_lower_shape.specs.Law.{LoweredAreShallow, LoweredAreSmall, LoweredAreWellFormed, LoweredAreWhole, LoweredCallAsOften, LoweredReadNoMore};
+
+use mv_lower_correct::{functions_are_right, programs_are_right};
 
 /// The code of the functions of a well-formed program has the form that the passes behind it ask for. The call does nothing: its contract is the law.
 ///
@@ -26,3 +32,12 @@ pub fn lowered_forms_are_right()
     ensures reads { LoweredReadNoMore }
     ensures small { LoweredAreSmall }
 {}
+
+/// The lowering of a well-formed program keeps its promises. The call does nothing: its contract is the law.
+pub fn lowering_is_right()
+    ensures { LoweringIsRight }
+{
+    functions_are_right();
+    programs_are_right();
+    lowered_forms_are_right();
+}

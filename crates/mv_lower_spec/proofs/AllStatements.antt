@@ -12,7 +12,7 @@ use Rattle.mv_ast.specs.declared.program.Program.{Program}
 use Rattle.mv_ast.specs.declared.world.Binding.{Binding}
 use Rattle.mv_ast.specs.declared.program.Known.{Known}
 use Rattle.mv_ast.specs.declared.program.Expr.{Expr}
-use Rattle.mv_ast.specs.declared.program.Stmt.{Stmt, Stmt-F, roll-Stmt, out-roll-Stmt, map-Stmt, ind-Stmt, fold-roll-Stmt}
+use Rattle.mv_ast.specs.declared.program.Stmt.{Stmt, Stmt-F, roll-Stmt, out-roll-Stmt, map-Stmt, fold-roll-Stmt}
 use Rattle.mv_ast.specs.declared.program.Stmt.TheOpen as stmt
 use Rattle.mv_ast.specs.declared.program.Arm.{Arm, Arm-F, roll-Arm, fold-roll-Arm, fold_out-Arm}
 use Rattle.mv_ast.specs.Counts.{words_of_size}
@@ -24,10 +24,13 @@ use Rattle.mv_meaning.specs.declared.state.Flow.{Flow}
 use Rattle.mv_meaning.specs.declared.state.Flow.TheVariants.{Goes, Breaks, Continues, Returns}
 use Rattle.mv_meaning.specs.Meaning.{Evaluation, Context, ArmDenotation, value_of, optional_value, flow_of, flow_of_all, arm_of, in_order, then_on, after_body, unless_zero, clear_local, switch_flow}
 use Rattle.mv_meaning.proofs.Equations.{flow_of-Block, flow_of-Clear, flow_of-Express, flow_of-If, flow_of-While, flow_of-Do, flow_of-For, flow_of-Switch, flow_of-Break, flow_of-Continue, flow_of-Return, arm_of_lem}
-use Rattle.mv_lower_spec.specs.Lower.{lower_expr, is_well_named, all_of}
+use Rattle.mv_source_forms.proofs.StatementInduction.{StmtChildren, stmts_ind}
+use Rattle.mv_lower_spec.specs.Lower.{lower_expr}
+use Rattle.mv_source_forms.specs.Names.{is_well_named, but_for, named, named_option, stmt_named_layer, arm_named_layer, stmt_is_well_formed, arm_is_well_formed}
+use Rattle.mv_source_forms.specs.Lists.{all_of}
 use Rattle.mv_lower_spec.specs.Statements.{Jumps, Placed, repeat, enclosed, test_and_body, LoweredArm, in_arm, in_body, in_sequence, arms_top, out_of, turn_out, levels}
-use Rattle.mv_lower_spec.specs.LowerStatements.{lower_optional, lower_stmt_layer, lower_arm_layer, lower_stmt, lower_arm, but_for, named, named_option, stmt_named_layer, arm_named_layer, stmt_is_well_formed, arm_is_well_formed}
-use Rattle.mv_lower_spec.specs.Labels.{ArmLabels, labels_layer, arm_labels_layer, stmt_labelled, arm_labels}
+use Rattle.mv_lower_spec.specs.LowerStatements.{lower_optional, lower_stmt_layer, lower_arm_layer, lower_stmt, lower_arm}
+use Rattle.mv_source_forms.specs.Labels.{ArmLabels, labels_layer, arm_labels_layer, stmt_labelled, arm_labels}
 use Rattle.mv_lower_spec.specs.Correct as c
 use Rattle.mv_lower_spec.proofs.Sequences.{after_then, given}
 use Rattle.mv_lower_spec.proofs.Expressions.{expr_correct, no, split, denied}
@@ -151,36 +154,6 @@ module _ (p : Program) (setting : Setting) (frame : code_world.Frame) (began : L
       (flows.in_turn p setting frame began own locals sizes room void (in_arm j) (at k) 72 0 first.rest others (lower_stmt locals sizes void s (in_arm j)).code (lowered body (in_arm j)).code first.right
       (all_correct body h.1 bs.1 ls.1 (in_arm j) (omega (arith, le)) k up) f w st sh)))))
 
-  abbrev Children : Stmt-F Stmt Arm → Type 0
-  Children (stmt.Block body) = Each S body
-  Children (stmt.If e a b) = Each S a × Each S b
-  Children (stmt.While e body) = Each S body
-  Children (stmt.Do body e) = Each S body
-  Children (stmt.For first test step body) = Each S first × Each S body
-  Children (stmt.Switch e arms) = Each A arms
-  Children _ = Unit {0}
-
-  each_of : (xs : List ((s : Stmt) × S s)) → Each S (map (λ e. e.0) xs)
-  each_of [] = tt
-  each_of (x ∷ xs) = (x.1, each_of xs)
-
-  each_arm : (xs : List ((a : Arm) × A a)) → Each A (map (λ e. e.0) xs)
-  each_arm [] = tt
-  each_arm (x ∷ xs) = (x.1, each_arm xs)
-
-  children : (y : Stmt-F ((s : Stmt) × S s) ((a : Arm) × A a)) → Children (map-Stmt ((s : Stmt) × S s) ((a : Arm) × A a) Stmt Arm (λ e. e.0) (λ e. e.0) y)
-  children (stmt.Block body) = each_of body
-  children (stmt.Clear l values) = tt
-  children (stmt.Express e) = tt
-  children (stmt.If e a b) = (each_of a, each_of b)
-  children (stmt.While e body) = each_of body
-  children (stmt.Do body e) = each_of body
-  children (stmt.For first test step body) = (each_of first, each_of body)
-  children (stmt.Switch e arms) = each_arm arms
-  children stmt.Break = tt
-  children stmt.Continue = tt
-  children (stmt.Return e) = tt
-
   -- ---- loops
 
   abbrev loop_of : ℕ → Stmt → Evaluation Flow
@@ -230,7 +203,7 @@ module _ (p : Program) (setting : Setting) (frame : code_world.Frame) (began : L
       let others = switches.bare_arms (map (lower_arm locals sizes void) arms) in
       ap (λ (l : LoweredArm). bare_of l.labels + others) (fold_out-Arm Placed LoweredArm (lower_stmt_layer locals sizes void) (lower_arm_layer locals sizes void) a) ∙ ap (λ n. bare a + n) (as_bare arms)
 
-  layer : (x : Stmt-F Stmt Arm) → Children x → stmt_named_layer p own locals sizes void (tests x) ≡ true → labels_layer (labels x) ≡ true → (j : Jumps) → (lower_stmt_layer locals sizes void (blocks x) j).top ≤ room → (k : ℕ) → k ≤ limit →
+  layer : (x : Stmt-F Stmt Arm) → StmtChildren S A x → stmt_named_layer p own locals sizes void (tests x) ≡ true → labels_layer (labels x) ≡ true → (j : Jumps) → (lower_stmt_layer locals sizes void (blocks x) j).top ≤ room → (k : ℕ) → k ≤ limit →
       Counts j k (flow_of p (context k) (roll-Stmt x)) (lower_stmt_layer locals sizes void (blocks x) j).code
   layer (stmt.Block body) h b l j le k up =
       let x : Stmt-F Stmt Arm = stmt.Block body in
@@ -337,7 +310,7 @@ module _ (p : Program) (setting : Setting) (frame : code_world.Frame) (began : L
       counts j k (roll-Stmt x) (bind (value_of p (context k) e) (λ v. give (Returns v))) (lower_stmt_layer locals sizes void (blocks x) j).code (flow_of-Return p (context k) (roll-Stmt x) (Some e) (out-roll-Stmt x))
       (flows.returns p setting frame began own locals sizes room void j (at k) (value_of p (context k) e) (lower_expr e) (denied void bs.0) le (value k up e bs.1))
 
-  stmt_step : (x : Stmt-F Stmt Arm) → Children x → S (roll-Stmt x)
+  stmt_step : (x : Stmt-F Stmt Arm) → StmtChildren S A x → S (roll-Stmt x)
   stmt_step x h b l j =
       subst (λ (l : Placed). (l j).top ≤ room → (k : ℕ) → k ≤ limit → Counts j k (flow_of p (context k) (roll-Stmt x)) (l j).code) (sym (fold-roll-Stmt Placed LoweredArm (lower_stmt_layer locals sizes void) (lower_arm_layer locals sizes void) x))
       (layer x h (sym (fold-roll-Stmt Bool Bool (stmt_named_layer p own locals sizes void) (arm_named_layer p own locals sizes void) x) ∙ b) (sym (fold-roll-Stmt Bool ArmLabels labels_layer arm_labels_layer x) ∙ l) j)
@@ -355,15 +328,6 @@ module _ (p : Program) (setting : Setting) (frame : code_world.Frame) (began : L
             (all_pay x.body h (sym (fold-roll-Arm Bool Bool (stmt_named_layer p own locals sizes void) (arm_named_layer p own locals sizes void) x) ∙ b) (sym (ap (λ (z : ArmLabels). z.holds) labels_as) ∙ l) j le k up);
       })
 
-  pub stmt_correct : (s : Stmt) → S s
-  stmt_correct s =
-      ind-Stmt S A (λ x y q. stmt_step x (subst Children q (children y)))
-      (λ x y q. arm_step x (subst (λ (z : Arm-F Stmt Arm). Each S z.body) q (each_of y.body))) s
-
   -- Statements that name only what there is are lowered correctly, at each bound.
   pub body_correct : (body : List Stmt) → formed body ≡ true → labelled body ≡ true → (j : Jumps) → (lowered body j).top ≤ room → (k : ℕ) → k ≤ limit → FlowCorrect j k (flow_of_all p (context k) body) (lowered body j).code
-  body_correct body b l j le k up = all_correct body (each body) b l j le k up
-    where
-      each : (xs : List Stmt) → Each S xs
-      each [] = tt
-      each (x ∷ xs) = (stmt_correct x, each xs)
+  body_correct body b l j le k up = all_correct body (stmts_ind S A stmt_step arm_step body) b l j le k up

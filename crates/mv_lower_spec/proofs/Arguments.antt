@@ -2,9 +2,9 @@
 use Rattle.std.proofs.Common.{◌≡◌, ℕ, suc, ◌+◌, ◌*◌, ◌<◌, ◌≤◌, Bool, true, false, cond, eqb, ltb, List, [], ◌∷◌, ◌++◌, map, Option, Some, None, refl, sym, ◌∙◌, subst, ap, arith}
 use Rattle.std.specs.Prelude.{slice_index_or, length}
 use Rattle.mv_ast.specs.Plans.{word_at}
-use Rattle.mv_ir.specs.Meaning.{code_meaning}
+use Rattle.mv_ir.specs.Meaning.{code_meaning, with_temp, with_world, traps, call_end, made_call, within, call_to, Goal, Null, At, goal, goal_of, goal_at, place, callee_nodes, known_end}
 use Rattle.std.proofs.lemmas.List.{get_or-set_same, length-map}
-use Rattle.mv_lower_spec.specs.Lower.{is_callable, is_void}
+use Rattle.mv_source_forms.specs.Names.{is_callable, is_void}
 use Rattle.mv_ir.specs.declared.tree.Tree.{Tree}
 use Rattle.mv_ir.specs.declared.stm.Stm.{Stm}
 use Rattle.mv_ast.specs.declared.program.Program.{Program}
@@ -24,7 +24,6 @@ use Rattle.mv_ir.specs.Outcome as ir
 use Rattle.mv_ir.specs.Trees.{nodes, nodes_of_all}
 use Rattle.mv_ir.specs.declared.stm.Callee.{Callee}
 use Rattle.mv_ir.specs.declared.stm.Callee.TheVariants as callees
-use Rattle.mv_ir.specs.Meaning.{with_temp, with_world, traps, call_end, made_call, within, call_to, Goal, Null, At, goal, goal_of, goal_at, place, callee_nodes, known_end}
 use Rattle.mv_lower_spec.specs.Lowered.{Lowered, Lowering, Arguments, temp, call, known, is_empty, kept_if, lower_all, place_of_result, result_tree, lower_call, but_last, last_of, lower_through, lower_known}
 use Rattle.mv_lower_spec.specs.Correct as c
 use Rattle.mv_lower_spec.proofs.Running as run

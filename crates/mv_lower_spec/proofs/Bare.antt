@@ -4,8 +4,8 @@ use Rattle.std.specs.Prelude.{◌&&◌, ◌||◌}
 use Rattle.mv_ast.specs.declared.program.Stmt.{Stmt}
 use Rattle.mv_ast.specs.declared.program.Arm.{Arm, out-Arm, map-Arm, fold_out-Arm}
 use Rattle.mv_ast.specs.Names.{any_of}
-use Rattle.mv_lower_spec.specs.Lower.{all_of}
-use Rattle.mv_lower_spec.specs.Labels.{at_most_one, has_label, ArmLabels, later_arms, arms_labelled, labels_layer, arm_labels_layer, stmt_labelled, arm_labels}
+use Rattle.mv_source_forms.specs.Lists.{all_of}
+use Rattle.mv_source_forms.specs.Labels.{at_most_one, has_label, ArmLabels, later_arms, arms_labelled, labels_layer, arm_labels_layer, stmt_labelled, arm_labels}
 use Rattle.mv_lower_spec.proofs.Expressions.{no, split, denied}
 
 -- 1 for an arm without labels

@@ -27,7 +27,8 @@ use Rattle.mv_ir.specs.Outcome as ir
 use Rattle.mv_ir.specs.Trees.{nodes}
 use Rattle.mv_ir.specs.Meaning.{elements, with_temp, with_world, with_global, with_elements, traps}
 use Rattle.mv_lower_spec.specs.Lowered.{Lowering, number, temp, binary, set, set_global, global, check, read, write, lower_element, lower_read_element, lower_set_element}
-use Rattle.mv_lower_spec.specs.Lower.{InLocal, InGlobal, Element, next_tree, lower_after, global_words}
+use Rattle.mv_lower_spec.specs.Lower.{InLocal, InGlobal, Element, next_tree, lower_after}
+use Rattle.mv_source_forms.specs.Names.{global_words}
 use Rattle.mv_lower_spec.specs.Correct as c
 use Rattle.mv_lower_spec.specs.Correct.{IsScalar, IsArrayLocal}
 use Rattle.mv_lower_spec.proofs.Running as run

@@ -15,8 +15,9 @@ use Rattle.mv_ast.specs.declared.program.Form.TheOpen as form
 use Rattle.mv_ast.specs.declared.program.Target.{Target, Target-F, fold-roll-Target, map-Target}
 use Rattle.mv_ast.specs.Operators.{is_unsigned}
 use Rattle.mv_lower_spec.specs.Lowered.{Lowering, number, temp, global, binary, set, set_global, read, write, lower_number, lower_local, lower_global, index_in, lower_element}
-use Rattle.mv_lower_spec.specs.Lower.{Part, Place, InLocal, InGlobal, Element, narrowed, unary_tree, converted_tree, less_tree, bit_tree, quotient_number, remainder_number, lower_operator, lower_product, lower_binary, place_of_layer, lower_read, lower_set, lower_changed, lower_change, next_tree, lower_after, is_void, lower_form, lower_layer, form_lowering, place_of, part_of, lower_expr}
-use Rattle.mv_lower_spec.proofs.SourceInduction.{FormChildren, TargetChildren, expr_ind}
+use Rattle.mv_lower_spec.specs.Lower.{Part, Place, InLocal, InGlobal, Element, narrowed, unary_tree, converted_tree, less_tree, bit_tree, quotient_number, remainder_number, lower_operator, lower_product, lower_binary, place_of_layer, lower_read, lower_set, lower_changed, lower_change, next_tree, lower_after, lower_form, lower_layer, form_lowering, place_of, part_of, lower_expr}
+use Rattle.mv_source_forms.specs.Names.{is_void}
+use Rattle.mv_source_forms.proofs.ExpressionInduction.{FormChildren, TargetChildren, expr_ind}
 use Rattle.mv_lower_spec.proofs.Depths.{Shallow, AlwaysShallow, both_parts, shallow_set, shallow_set_global, shallow_one, shallow_two, shallow_division, shallow_both, shallow_either, shallow_choice, shallow_set_local, shallow_store, shallow_call, shallow_through, shallow_known, shallow_read, shallow_write, shallow_index, shallow_element, shallow_read_element, shallow_set_element}
 
 within_if : (z : Bool) (x y : Tree) (m : ℕ) → depth x ≤ m → depth y ≤ m → depth (cond z x y) ≤ m

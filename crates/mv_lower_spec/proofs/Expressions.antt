@@ -30,7 +30,9 @@ use Rattle.mv_meaning.specs.declared.state.Lvalue.TheVariants as lvalue
 use Rattle.mv_ast.specs.Operators.{is_unsigned, converted, unary_value, product_value, bit_value, binary_value}
 use Rattle.mv_meaning.specs.Meaning.{Evaluation, Context, Denotation, read_lvalue, store_lvalue, value_or_trap, target_lvalue, form_value, expr_denotation, form_of, lvalue_of, denotation_of, value_of}
 use Rattle.mv_lower_spec.specs.Lowered.{Lowering, binary, lower_number, lower_local, lower_global, lower_function, lower_division, lower_set_local, lower_set_global, lower_element, lower_read_element, lower_set_element}
-use Rattle.mv_lower_spec.specs.Lower.{Part, Place, InLocal, InGlobal, Element, place_of_layer, lower_read, lower_set, lower_changed, lower_change, lower_after, lower_form, lower_layer, form_lowering, place_of, part_of, lower_expr, lower_operator, lower_binary, lower_product, bit_tree, unary_tree, converted_tree, quotient_number, remainder_number, is_void, is_callable, is_scalar, all_of, is_own_switch, names_form, names_target, names_layer, form_is_well_named, target_is_well_named, is_well_named}
+use Rattle.mv_lower_spec.specs.Lower.{Part, Place, InLocal, InGlobal, Element, place_of_layer, lower_read, lower_set, lower_changed, lower_change, lower_after, lower_form, lower_layer, form_lowering, place_of, part_of, lower_expr, lower_operator, lower_binary, lower_product, bit_tree, unary_tree, converted_tree, quotient_number, remainder_number}
+use Rattle.mv_source_forms.specs.Names.{is_void, is_callable, is_scalar, is_own_switch, names_form, names_target, names_layer, form_is_well_named, target_is_well_named, is_well_named}
+use Rattle.mv_source_forms.specs.Lists.{all_of}
 use Rattle.mv_lower_spec.specs.Correct as c
 use Rattle.mv_lower_spec.specs.Correct.{IsScalar}
 use Rattle.mv_lower_spec.proofs.Running.{nodes_binary}
@@ -42,7 +44,7 @@ use Rattle.mv_lower_spec.proofs.Elements as elements
 use Rattle.mv_lower_spec.proofs.Elements.{element_of}
 use Rattle.mv_lower_spec.proofs.Arguments as arguments
 use Rattle.mv_lower_spec.proofs.Operators as operators
-use Rattle.mv_lower_spec.proofs.SourceInduction.{FormChildren, TargetChildren, expr_ind}
+use Rattle.mv_source_forms.proofs.ExpressionInduction.{FormChildren, TargetChildren, expr_ind}
 
 pub no : {A : Type 0} → false ≡ true → A
 no e = absurd (subst Is e tt)

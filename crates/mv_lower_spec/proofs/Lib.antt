@@ -1,4 +1,3 @@
-pub mod SourceInduction
 pub mod Running
 pub mod Showing
 pub mod Operators

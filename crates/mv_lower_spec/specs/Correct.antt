@@ -20,7 +20,7 @@ use Rattle.mv_meaning.specs.declared.state.Frame.{Frame}
 use Rattle.mv_meaning.specs.Meaning.{Evaluation, Context, Denotation, known_value}
 use Rattle.mv_ast.specs.declared.program.Known.{Known}
 use Rattle.mv_lower_spec.specs.Lowered.{Lowering}
-use Rattle.mv_lower_spec.specs.Lower.{is_callable, is_void, global_words}
+use Rattle.mv_source_forms.specs.Names.{is_callable, is_void, global_words}
 
 -- the source's world as the code sees it: the numbers of frames stand in the code's frame
 abbrev pub seen : World → code_world.World

@@ -1,5 +1,5 @@
 -- What functions and programs are lowered to.
-use Rattle.std.specs.Prelude.{ℕ, suc, ◌+◌, ◌*◌, ◌%◌, ◌^◌, max, Bool, ◌&&◌, ◌||◌, List, [], ◌∷◌, ◌++◌, map, length, cond, Option, Some, None, slice_get}
+use Rattle.std.specs.Prelude.{ℕ, suc, ◌+◌, ◌*◌, ◌%◌, ◌^◌, max, Bool, ◌&&◌, ◌||◌, List, [], ◌∷◌, ◌++◌, map, length, cond, Option, Some, None}
 use Rattle.mv_ir.specs.declared.stm.Callee.{Callee}
 use Rattle.mv_ir.specs.declared.stm.Callee.TheVariants as callee
 use Rattle.mv_ir.specs.declared.stm.Stm.{Stm}
@@ -17,20 +17,12 @@ use Rattle.mv_ast.specs.declared.program.Function.{Function}
 use Rattle.mv_ast.specs.declared.program.Local.{Local}
 use Rattle.mv_ast.specs.Counts.{words_of_size}
 use Rattle.mv_ast.specs.Plans.{is_among, switch_global}
+use Rattle.mv_source_forms.specs.Names.{size_in, is_void}
 use Rattle.mv_lower_spec.specs.Lowered.{number}
-use Rattle.mv_lower_spec.specs.Lower.{is_void}
 use Rattle.mv_lower_spec.specs.Statements.{Jumps, Code, in_sequence, return_with}
 use Rattle.mv_lower_spec.specs.LowerStatements.{lower_stmt}
 
 -- ---- locals
-
-abbrev pub size_of_local : Option Local → Option ℕ
-size_of_local None = None
-size_of_local (Some l) = l.size
-
--- the size of a local, by its number, where it is an array
-abbrev pub size_in : List Local → ℕ → Option ℕ
-size_in locals l = size_of_local (slice_get locals l)
 
 abbrev pub elements_of : Option ℕ → ℕ
 elements_of None = 0

@@ -13,11 +13,13 @@ use Rattle.mv_ir.specs.Outcome.{Bound, Calls}
 use Rattle.mv_ir.specs.Trees.{depth}
 use Rattle.mv_ir.specs.Measures.{deepest}
 use Rattle.mv_meaning.specs.Meaning.{Context, context_with, value_of, flow_of_all}
-use Rattle.mv_lower_spec.specs.Lower.{lower_expr, is_well_named, is_callable, is_void, all_of}
+use Rattle.mv_lower_spec.specs.Lower.{lower_expr}
+use Rattle.mv_source_forms.specs.Names.{is_well_named, is_callable, is_void, stmt_is_well_formed}
+use Rattle.mv_source_forms.specs.Lists.{all_of}
 use Rattle.mv_lower_spec.specs.Correct.{astray, IsStrict, CallsAgree, KnownAgrees, Correct}
 use Rattle.mv_lower_spec.specs.Statements.{Jumps, in_sequence, out_of, levels, FlowCorrect}
-use Rattle.mv_lower_spec.specs.LowerStatements.{lower_stmt, stmt_is_well_formed}
-use Rattle.mv_lower_spec.specs.Labels.{stmt_labelled}
+use Rattle.mv_lower_spec.specs.LowerStatements.{lower_stmt}
+use Rattle.mv_source_forms.specs.Labels.{stmt_labelled}
 
 -- An expression that names only what there is does, lowered from any free temporary on and in any frame that has room, what it means: where
 -- the functions that it calls and the known functions do so, and a call through a pointer reaches only functions that fit.

@@ -5,4 +5,3 @@ pub mod Law
 pub mod Statements
 pub mod LowerStatements
 pub mod Functions
-pub mod Labels

@@ -1,5 +1,5 @@
 -- The lowering of expressions: a fold that gives, for each, its code and its tree from the first free temporary on.
-use Rattle.std.specs.Prelude.{ℕ, ◌+◌, Bool, true, false, ◌&&◌, cond, List, [], ◌∷◌, ◌++◌, map, length, Option, Some, None, if◌then◌else◌, nat_eq, nat_lt, not, slice_get}
+use Rattle.std.specs.Prelude.{ℕ, ◌+◌, Bool, true, false, cond, [], ◌∷◌, ◌++◌, map, if◌then◌else◌, nat_eq, nat_lt}
 use Rattle.mv_ir.specs.declared.tree.Tree.{Tree}
 use Rattle.mv_ir.specs.declared.tree.Tree.TheOpen as tree
 use Rattle.mv_ir.specs.declared.tree.Tree.TheViews.{roll-Tree}
@@ -8,16 +8,14 @@ use Rattle.mv_ir.specs.declared.stm.Array.TheVariants as array
 use Rattle.mv_num.specs.declared.kind.Kind.{Kind}
 use Rattle.mv_ast.specs.declared.program.CType.{CType}
 use Rattle.mv_ast.specs.declared.program.CType.TheVariants.{Void, Scalar, Pointer}
-use Rattle.mv_ast.specs.declared.program.Program.{Program}
 use Rattle.mv_ast.specs.declared.program.Global.{Global}
 use Rattle.mv_ast.specs.declared.program.Function.{Function}
 use Rattle.mv_ast.specs.declared.program.Expr.{Expr, Expr-F, fold-Expr}
 use Rattle.mv_ast.specs.declared.program.Form.{Form, Form-F, fold-Form}
 use Rattle.mv_ast.specs.declared.program.Form.TheOpen as form
 use Rattle.mv_ast.specs.declared.program.Target.{Target, Target-F, fold-Target}
-use Rattle.mv_ast.specs.Counts.{words_of_size}
-use Rattle.mv_ast.specs.Plans.{same_truth, is_among, switch_global}
 use Rattle.mv_ast.specs.Operators.{is_unsigned}
+use Rattle.mv_source_forms.specs.Names.{is_void}
 use Rattle.mv_lower_spec.specs.Lowered.{Lowering, number, unary, binary, temp, global, set, set_global, read, write, lower_number, lower_local, lower_global, lower_function, lower_one, lower_two, lower_division, lower_both, lower_either, lower_choice, lower_set_local, lower_set_global, lower_call, lower_through, lower_known, index_in, lower_element, lower_read_element, lower_set_element}
 use Rattle.mv_ast.specs.Marks as marks
 use Rattle.mv_ir.specs.Operators as operators
@@ -132,11 +130,6 @@ lower_after up t (Element r i) n =
       top = at.top;
     }
 
-abbrev pub is_void : CType → Bool
-is_void Void = true
-is_void (Scalar kind) = false
-is_void (Pointer signature) = false
-
 abbrev pub lower_form : Form-F (CType → Lowering) Place Part → CType → Lowering
 lower_form (form.Number n) t = lower_number n
 lower_form (form.Read target) t = lower_read target
@@ -169,74 +162,3 @@ part_of = fold-Expr (CType → Lowering) Place Part lower_form place_of_layer lo
 -- The lowering of an expression.
 abbrev pub lower_expr : Expr → Lowering
 lower_expr e = (part_of e).lower
-
--- ---- what well-formed expressions name
-
-abbrev pub takes : Option Function → ℕ → Bool → Bool
-takes None n void = false
-takes (Some g) n void = nat_eq g.params n && same_truth (is_void g.result) void
-
--- whether a number is that of a function with so many parameters, which is void or not
-abbrev pub is_callable : Program → ℕ → ℕ → Bool → Bool
-is_callable p f n void = takes (slice_get p.functions f) n void
-
-abbrev pub words_of_global : Option Global → ℕ
-words_of_global None = 0
-words_of_global (Some g) = words_of_size g.size
-
--- how many words a global has
-abbrev pub global_words : Program → ℕ → ℕ
-global_words p g = words_of_global (slice_get p.globals g)
-
--- whether all of some hold
-abbrev pub all_of : List Bool → Bool
-all_of [] = true
-all_of (b ∷ bs) = b && all_of bs
-
-abbrev pub is_scalar : Option ℕ → Bool
-is_scalar None = true
-is_scalar (Some n) = false
-
--- whether a global is one of a function's switches
-abbrev pub is_own_switch : Program → Option Function → ℕ → Bool
-is_own_switch p None g = false
-is_own_switch p (Some f) g = is_among g (map (switch_global p) f.switches)
-
-module _ (p : Program) (function locals : ℕ) (sizes : ℕ → Option ℕ) (free : ℕ → Bool) where
-  -- a local is named as the scalar or the array that it is, and none that is being declared, and no switch of the function as an array
-  abbrev pub names_target : Target-F (CType → Bool) Bool Bool → Bool
-  names_target (form.Global g) = true
-  names_target (form.Local l) = nat_lt l locals && (free l && is_scalar (sizes l))
-  names_target (form.GlobalAt g e) = not (is_own_switch p (slice_get p.functions function) g) && e
-  names_target (form.LocalAt l e) = nat_lt l locals && (free l && (not (is_scalar (sizes l)) && e))
-
-  -- a called function takes as many arguments, and is void where the call is
-  abbrev pub names_form : Form-F (CType → Bool) Bool Bool → CType → Bool
-  names_form (form.Number n) t = true
-  names_form (form.Read target) t = target
-  names_form (form.Function f) t = true
-  names_form (form.Unary op a) t = a
-  names_form (form.Binary op a b) t = a && b
-  names_form (form.Both a b) t = a && b
-  names_form (form.Either a b) t = a && b
-  names_form (form.Choose c a b) t = c && (a && b)
-  names_form (form.Convert a) t = a
-  names_form (form.Set target a) t = target && a
-  names_form (form.Change op kind target a) t = target && a
-  names_form (form.After up target) t = target
-  names_form (form.Direct f args) t = is_callable p f (length args) (is_void t) && all_of args
-  names_form (form.Through args f) t = all_of args && f
-  names_form (form.Known k args) t = all_of args
-
-  abbrev pub names_layer : Expr-F (CType → Bool) Bool Bool → Bool
-  names_layer e = e.what e.ctype
-
-  abbrev pub form_is_well_named : Form → CType → Bool
-  form_is_well_named = fold-Form (CType → Bool) Bool Bool names_form names_target names_layer
-
-  abbrev pub target_is_well_named : Target → Bool
-  target_is_well_named = fold-Target (CType → Bool) Bool Bool names_form names_target names_layer
-
-  -- whether an expression names only what there is
-  abbrev pub is_well_named : Expr → Bool
-  is_well_named = fold-Expr (CType → Bool) Bool Bool names_form names_target names_layer

@@ -13,7 +13,7 @@ use Rattle.mv_meaning.specs.declared.state.Flow.{Flow}
 use Rattle.mv_meaning.specs.declared.state.Flow.TheVariants.{Goes, Breaks, Continues, Returns}
 use Rattle.mv_meaning.specs.Meaning.{Context, call_at, call_numbered, call_through}
 use Rattle.mv_meaning_numbering.specs.Numberings.{Admits}
-use Rattle.mv_meaning_numbering.specs.Typing.{IsFunctionOf, IsTypedStmt, local_types, parameter_types}
+use Rattle.mv_source_forms.specs.Typing.{IsFunctionOf, IsTypedStmt, local_types, parameter_types}
 use Rattle.mv_meaning_numbering.proofs.Numbers.{Distinguishes, number_above, number_found}
 use Rattle.mv_meaning_numbering.proofs.Alike.{Setting, Same, SamePointer, SameValues}
 use Rattle.mv_meaning_numbering.proofs.Outcomes.{Alike, alike_stop, alike_either}

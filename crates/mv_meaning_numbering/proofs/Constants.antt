@@ -8,7 +8,7 @@ use Rattle.mv_ast.specs.Worlds.{World, Came, after, and_then, bind, give, counte
 use Rattle.mv_meaning.specs.declared.state.Frame.{Frame}
 use Rattle.mv_ast.specs.Operators.{unary_value, binary_value, converted}
 use Rattle.mv_meaning.specs.Meaning.{Evaluation, value_of, unless_zero, truth_of, value_or_trap}
-use Rattle.mv_meaning_numbering.specs.Typing.{ComesTo}
+use Rattle.mv_source_forms.specs.Typing.{ComesTo}
 use Rattle.mv_meaning.proofs.Equations.{value_of-Number, value_of-Unary, value_of-Binary, value_of-Both, value_of-Either, value_of-Choose, value_of-Convert}
 
 -- an evaluation comes to a value at some work and does nothing else

@@ -7,7 +7,7 @@ use Rattle.std.specs.Bool.{Decides}
 use Rattle.mv_ast.specs.declared.program.Program.{Program}
 use Rattle.mv_ast.specs.Numbering.{own_numbers}
 use Rattle.mv_meaning_numbering.specs.Numberings.{IsNumbering}
-use Rattle.mv_meaning_numbering.specs.Typing.{IsTyped}
+use Rattle.mv_source_forms.specs.Typing.{IsTyped}
 use Rattle.mv_meaning_numbering.specs.Laws.{MeansItself, StraysDoNotShow, NumbersDoNotShow, AnyNumberingServes, OwnNumberingIsOne}
 use Rattle.mv_meaning_numbering.proofs.Numbers.{numbering_distinguishes, own_distinguishes}
 use Rattle.mv_meaning_numbering.proofs.Programs.{same_meaning, own_meaning}

@@ -19,7 +19,7 @@ use Rattle.mv_meaning.specs.declared.state.Frame.{Frame}
 use Rattle.mv_meaning.specs.declared.state.Lvalue.{Lvalue}
 use Rattle.mv_meaning.specs.declared.state.Lvalue.TheVariants as lvalue
 use Rattle.mv_meaning.specs.Meaning.{value_in, read_lvalue, store_lvalue, element_below, global_element, local_element, byte_of, known_value, value_or_trap}
-use Rattle.mv_meaning_numbering.specs.Typing.{IsInteger, IsTypedFunction, global_types}
+use Rattle.mv_source_forms.specs.Typing.{IsInteger, IsTypedFunction, global_types}
 use Rattle.mv_meaning_numbering.proofs.Alike.{Setting, Same, SameObjects, integer_same, word_alike, store_alike, size_alike}
 use Rattle.mv_meaning_numbering.proofs.Outcomes.{SameWorld, SameFrame, AlikeOutcome, Alike, alike_give, alike_stop, alike_either, with_globals, moved}
 use Rattle.mv_meaning_numbering.proofs.Switches.{all_head, all_tail, all_got, bound_integer, bindings_same}

@@ -10,5 +10,4 @@ mod Outcomes
 mod Programs
 mod Statements
 mod Switches
-pub mod Typed
 mod WorkedProgram

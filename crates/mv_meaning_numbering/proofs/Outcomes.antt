@@ -7,7 +7,7 @@ use Rattle.mv_ast.specs.Actions.{fits}
 use Rattle.mv_ast.specs.Worlds.{World, Outcome, Came, Stopped, after, and_then, bind, give, stop, counted}
 use Rattle.mv_meaning.specs.declared.state.Frame.{Frame}
 use Rattle.mv_meaning.specs.Meaning.{Evaluation, unless_zero}
-use Rattle.mv_meaning_numbering.specs.Typing.{global_types}
+use Rattle.mv_source_forms.specs.Typing.{global_types}
 use Rattle.mv_meaning_numbering.proofs.Alike.{Setting, SameObjects}
 
 -- two worlds, with actions that fit

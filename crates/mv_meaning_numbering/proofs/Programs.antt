@@ -21,7 +21,7 @@ use Rattle.mv_meaning.specs.declared.meant.End.TheVariants.{Exit}
 use Rattle.mv_ast.specs.Starts.{first_words, first_world, renumbered, renumbered_at, first_words_under, first_world_under}
 use Rattle.mv_meaning.specs.Meaning.{Context, returned_value, frame_of, deeper, popped, back_in, call_of, flow_of_all, Evaluation, context_at, context_with, end_of_stop, meant_by, meaning_of, run_of_main, mean}
 use Rattle.mv_meaning_numbering.specs.Numberings.{Admits, meaning_in, meaning_under}
-use Rattle.mv_meaning_numbering.specs.Typing.{IsInteger, IsTypedFunction, IsFirstValue, local_types, parameter_types}
+use Rattle.mv_source_forms.specs.Typing.{IsInteger, IsTypedFunction, IsFirstValue, local_types, parameter_types}
 use Rattle.mv_meaning_numbering.proofs.Numbers.{Distinguishes}
 use Rattle.mv_meaning_numbering.proofs.Alike.{Setting, Same, SameWords, SameObjects, SameValues, same_null, same_integer, words_null}
 use Rattle.mv_meaning_numbering.proofs.Outcomes.{SameWorld, SameFrame, AlikeOutcome, Alike, alike_stop}

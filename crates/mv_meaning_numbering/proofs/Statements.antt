@@ -19,13 +19,13 @@ use Rattle.mv_meaning.specs.Arms.{first_arm}
 use Rattle.mv_meaning.specs.Loops.{arms_from}
 use Rattle.mv_meaning.proofs.Equations.{flow_of-Block, flow_of-Clear, flow_of-Express, flow_of-If, flow_of-While, flow_of-Do, flow_of-For, flow_of-Switch, flow_of-Break, flow_of-Continue, flow_of-Return, arm_of_lem}
 use Rattle.mv_meaning.proofs.SwitchArms.{leads_to}
-use Rattle.mv_meaning_numbering.specs.Typing.{HasTypedParts, IsTypedAt, IsTypedExpr, IsTypedOption, ReturnsTyped, local_types}
+use Rattle.mv_source_forms.specs.Typing.{HasTypedParts, IsTypedAt, IsTypedExpr, IsTypedOption, ReturnsTyped, local_types}
 use Rattle.mv_meaning_numbering.proofs.Alike.{Setting, Same, same_null, same_test, words_null, objects_set, size_alike, same_integer}
 use Rattle.mv_meaning_numbering.proofs.Outcomes.{SameFrame, Alike, AlikeOutcome, alike_give, alike_counted, alike_unless, alike_weaken, alike_bind}
 use Rattle.mv_meaning_numbering.proofs.Switches.{all_head, all_tail}
 use Rattle.mv_meaning_numbering.proofs.Leaves.{alike_store}
 use Rattle.mv_meaning_numbering.proofs.Calls.{SameContext, SameFlow}
-use Rattle.mv_meaning_numbering.proofs.Typed.{TypedStmt, TypedArm, AllStmts, AllArms, StmtParts, stmt_parts, stmt_node, arm_parts}
+use Rattle.mv_source_forms.proofs.TypedParts.{TypedStmt, TypedArm, AllStmts, AllArms, StmtParts, stmt_parts, stmt_node, arm_parts}
 use Rattle.mv_meaning_numbering.proofs.Expressions.{alike_expr}
 
 -- the same number in a test against zero

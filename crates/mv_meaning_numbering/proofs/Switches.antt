@@ -8,7 +8,7 @@ use Rattle.mv_ast.specs.declared.program.Program.{Program}
 use Rattle.mv_ast.specs.declared.program.Function.{Function}
 use Rattle.mv_ast.specs.declared.world.Binding.{Binding}
 use Rattle.mv_ast.specs.Plans.{attributed_functions, attributed_before, switch_global, global_or_none, word_at, switch_words, all_in_domain, bound_to, free, committed, value_among, binding_value, bound_value, is_addressed, is_commit, ordered_from, bindings_after}
-use Rattle.mv_meaning_numbering.specs.Typing.{IsInteger, IsIntegerSwitch, IsTypedFunction, global_types}
+use Rattle.mv_source_forms.specs.Typing.{IsInteger, IsIntegerSwitch, IsTypedFunction, global_types}
 use Rattle.mv_meaning_numbering.proofs.Alike.{Setting, SameObjects, same_integer, word_alike}
 
 -- ---- lists

@@ -17,7 +17,7 @@ use Rattle.mv_ast.specs.declared.program.Stmt.TheOpen as stmt
 use Rattle.mv_ast.specs.declared.program.Arm.{Arm, every-Arm}
 use Rattle.mv_ast.specs.Starts.{first_words_under}
 use Rattle.mv_meaning_numbering.proofs.Constants.{comes_number}
-use Rattle.mv_meaning_numbering.specs.Typing.{IsNull, IsFirstValue, HasType, LvalueHasType, HasTypedParts, IsTypedExpr, IsTypedStmt, IsTypedFunction, IsFunctionOf, IsTyped}
+use Rattle.mv_source_forms.specs.Typing.{IsNull, IsFirstValue, HasType, LvalueHasType, HasTypedParts, IsTypedExpr, IsTypedStmt, IsTypedFunction, IsFunctionOf, IsTyped}
 
 abbrev int : CType
 int = Scalar Int

@@ -7,7 +7,7 @@ use Rattle.mv_ast.specs.Actions.{fits}
 use Rattle.mv_ast.specs.Numbering.{own_numbers}
 use Rattle.mv_meaning.specs.Meaning.{Evaluation, context_with, mean}
 use Rattle.mv_meaning_numbering.specs.Numberings.{IsNumbering, Admits, meaning_in, meaning_under}
-use Rattle.mv_meaning_numbering.specs.Typing.{IsTyped}
+use Rattle.mv_source_forms.specs.Typing.{IsTyped}
 
 -- under two numberings a program has one meaning, on each input, with all actions that fit, at each bound
 abbrev pub MeansTheSame : Program → (numbers others : List ℕ) → Type 0

@@ -7,7 +7,7 @@ use Rattle.mv_ast.specs.declared.world.Action.{Action}
 use Rattle.mv_meaning.specs.declared.meant.Meant.{Meant}
 use Rattle.mv_ast.specs.Starts.{first_world_under}
 use Rattle.mv_meaning.specs.Meaning.{Context, context_at, meaning_of, run_of_main}
-use Rattle.mv_meaning_numbering.specs.Typing.{IsFunctionOf}
+use Rattle.mv_source_forms.specs.Typing.{IsFunctionOf}
 
 -- A numbering has a word above 0 for each function, different for different functions.
 pub record IsNumbering (p : Program) (numbers : List ℕ) : Type 0 where

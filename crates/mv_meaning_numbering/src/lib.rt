@@ -1,9 +1,8 @@
 //! Numberings of the functions of a program: a well-typed program means the same under each.
 //!
 //! - `specs/Numberings.antt`: what a numbering is (a word above 0 for each function, all different), and the meaning of a
-//!   program under one: function pointers have its numbers, the first values of globals among them. `specs/Typing.antt`:
-//!   well-typed programs, one definition a syntax class: every node of an expression has its type, and each statement's
-//!   expressions have the types that it asks for.
+//!   program under one: function pointers have its numbers, the first values of globals among them. Well-typed programs are those of
+//!   `mv_source_forms`.
 //! - `numbering_law`: a well-typed program has one meaning (output, bytes taken, end, bindings, log, work) under any two
 //!   numberings, and under any numbering the meaning that it has: on each input, with all actions that fit, at each
 //!   bound. And what any program means is its meaning under its own numbering. Nor does it show what a call through a

@@ -3,7 +3,7 @@
 ghost use Rattle.std.specs.Prelude.{◌≢◌, AllPairs, IfOk, IsTrue};
 ghost use Rattle.std.specs.Bool.{Decides};
 ghost use Rattle.mv_meaning_numbering.specs.Numberings.{IsNumbering};
-ghost use Rattle.mv_meaning_numbering.specs.Typing.{IsTyped};
+ghost use Rattle.mv_source_forms.specs.Typing.{IsTyped};
 ghost use Rattle.mv_meaning_numbering.specs.Laws.{MeansItself};
 
 use mv_ast::program::Program;

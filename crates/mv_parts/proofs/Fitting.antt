@@ -10,7 +10,7 @@ use Rattle.mv_ir.specs.Live.{most_intervals}
 use Rattle.mv_ir.specs.Measures.{total}
 use Rattle.mv_lower_spec.specs.Functions.{lower_function}
 use Rattle.mv_lower_shape.specs.Law.{LoweredAreShallow, LoweredAreWellFormed}
-use Rattle.mv_lower_correct.specs.WellFormed.{IsWellFormed}
+use Rattle.mv_source_forms.specs.WellFormed.{IsWellFormed}
 use Rattle.mv_select_functions.specs.FunctionCode.{arrays_start, frame_bytes}
 use Rattle.mv_parts_bound.specs.Led.{BodiesAreMade}
 use Rattle.mv_parts_bound.specs.Meant.{IsVariantOf, MadeAreVariants}

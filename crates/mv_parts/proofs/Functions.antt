@@ -10,7 +10,7 @@ use Rattle.mv_ir.specs.Live.{IsWhole, HasTemps}
 use Rattle.mv_select_calls.specs.Convention.{frame_limit}
 use Rattle.mv_lower_spec.specs.Functions.{lower_function}
 use Rattle.mv_lower_shape.specs.Law.{LoweredAreWhole, LoweredAreWellFormed}
-use Rattle.mv_lower_correct.specs.WellFormed.{IsWellFormed}
+use Rattle.mv_source_forms.specs.WellFormed.{IsWellFormed}
 use Rattle.mv_regalloc.specs.Intervals.{IsRenamed}
 use Rattle.mv_select.specs.declared.error.SelectError.{SelectError}
 use Rattle.mv_select.specs.declared.error.SelectError.TheVariants.{Frame, Memory}

@@ -14,8 +14,8 @@ use Rattle.mv_isa.specs.declared.labelled.Labelled.{Labelled}
 use Rattle.mv_descriptors.specs.declared.rows.GuardRow.{GuardRow}
 use Rattle.mv_ir.specs.declared.body.Body.{Body}
 use Rattle.mv_ir.specs.Measures.{joined}
-use Rattle.mv_meaning_numbering.specs.Typing.{IsFirstValue}
-use Rattle.mv_lower_correct.specs.WellFormed.{IsWellFormed}
+use Rattle.mv_source_forms.specs.Typing.{IsFirstValue}
+use Rattle.mv_source_forms.specs.WellFormed.{IsWellFormed}
 use Rattle.mv_source_facts.specs.Facts.{IsTableFunction, HasTableFacts}
 use Rattle.mv_parts_bound.specs.Led.{BodiesAreMade}
 use Rattle.mv_parts_bound.specs.Rows.{GroupedIsLed}

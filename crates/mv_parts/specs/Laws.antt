@@ -5,7 +5,7 @@ use Rattle.mv_ast.specs.Counts.{patchable}
 use Rattle.mv_isa.specs.Code.{text_start}
 use Rattle.mv_asm.specs.Outcome.{PassesText}
 use Rattle.mv_ir.specs.declared.body.Body.{Body}
-use Rattle.mv_lower_correct.specs.WellFormed.{IsWellFormed}
+use Rattle.mv_source_forms.specs.WellFormed.{IsWellFormed}
 use Rattle.mv_source_facts.specs.Facts.{HasTableFacts}
 use Rattle.mv_linker.specs.declared.parts.Parts.{Parts}
 use Rattle.mv_linker.specs.Linked.{linked_lines}

@@ -2,7 +2,7 @@
 
 ghost use Rattle.std.specs.Prelude.{◌≡◌, ◌<◌, ◌≤◌, ◌^◌, [], ◌∷◌, ◌++◌, All, cond, length, map, true, IfOk, OnOk};
 ghost use Rattle.mv_lower_spec.specs.Functions.{lower_function};
-ghost use Rattle.mv_lower_correct.specs.WellFormed.{IsWellFormed};
+ghost use Rattle.mv_source_forms.specs.WellFormed.{IsWellFormed};
 ghost use Rattle.mv_ir.specs.Measures.{deepest};
 ghost use Rattle.mv_ir.specs.WellFormed as ir;
 ghost use Rattle.mv_select.specs.Selected.{FitsFrame};

@@ -3,7 +3,7 @@
 ghost use Rattle.std.specs.Prelude.{◌≡◌, map, slice_get, IfErr, IfOk};
 ghost use Rattle.mv_ast.specs.Counts.{is_attributed};
 ghost use Rattle.mv_lower_spec.specs.Functions.{lower_function};
-ghost use Rattle.mv_lower_correct.specs.WellFormed.{IsWellFormed};
+ghost use Rattle.mv_source_forms.specs.WellFormed.{IsWellFormed};
 ghost use Rattle.mv_select.specs.Selected.{OnFrame};
 ghost use Rattle.mv_parts.specs.Codes.{AreGenerics, IsGeneric, HasCode, HaveCode, PassesFirstFrame, PassesFrame};
 

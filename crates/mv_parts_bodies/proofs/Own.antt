@@ -12,7 +12,7 @@ use Rattle.mv_ir.specs.Measures.{scalars_read, arrays_read}
 use Rattle.mv_ir.specs.Programs.{setting_of}
 use Rattle.mv_ir.specs.Trees.{found}
 use Rattle.mv_lower_spec.specs.Functions.{names_global, lower_function, lower_function_code}
-use Rattle.mv_lower_correct.specs.Named.{known_is_there}
+use Rattle.mv_source_forms.specs.Uses.{known_is_there}
 use Rattle.mv_lower_shape.specs.Law.{IsFunctionOf}
 use Rattle.mv_lower_names.specs.Laws.{NamesTheSame}
 use Rattle.mv_regalloc.specs.Intervals.{IsRenamed}

@@ -6,7 +6,7 @@ use Rattle.mv_ast.specs.declared.program.Program.{Program}
 use Rattle.mv_ast.specs.declared.program.Global.{Global}
 use Rattle.mv_ast.specs.Counts.{words_of_size}
 use Rattle.mv_ir.specs.declared.body.Room.{Room}
-use Rattle.mv_lower_spec.specs.Lower.{words_of_global}
+use Rattle.mv_source_forms.specs.Names.{words_of_global}
 use Rattle.mv_lower_spec.specs.Functions.{address_behind, rooms_from}
 use Rattle.mv_select_calls.specs.Convention.{Layout}
 use Rattle.mv_select_bodies.specs.SelectedBodies.{AreRooms, IsRoom, RoomsStand}

@@ -13,9 +13,9 @@ use Rattle.mv_ir.specs.declared.body.Body.{Body}
 use Rattle.mv_ir.specs.Keeps.{KeepsBody}
 use Rattle.mv_ir.specs.Programs.{setting_of}
 use Rattle.mv_lower_spec.specs.Functions.{lower_function}
-use Rattle.mv_lower_spec.specs.Lower.{global_words}
-use Rattle.mv_lower_correct.specs.Named.{known_is_there}
-use Rattle.mv_lower_correct.specs.WellFormed.{IsWellFormed}
+use Rattle.mv_source_forms.specs.Names.{global_words}
+use Rattle.mv_source_forms.specs.Uses.{known_is_there}
+use Rattle.mv_source_forms.specs.WellFormed.{IsWellFormed}
 use Rattle.mv_select_control.specs.Labels.{OwnLabels}
 use Rattle.mv_select_calls.specs.CallCode.{is_marked}
 use Rattle.mv_select_calls.specs.Convention.{Layout}

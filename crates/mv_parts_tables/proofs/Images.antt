@@ -23,9 +23,9 @@ use Rattle.mv_descriptors.specs.declared.rows.SwitchRow.{SwitchRow}
 use Rattle.mv_descriptors.specs.declared.rows.FunctionRow.{FunctionRow}
 use Rattle.mv_image.specs.Spelling.{Fields}
 use Rattle.mv_ir.specs.declared.body.Body.{Body}
-use Rattle.mv_lower_spec.specs.Lower.{global_words, words_of_global}
-use Rattle.mv_lower_correct.specs.Named.{known_is_there}
-use Rattle.mv_lower_correct.specs.WellFormed.{IsWellFormed, IsWellFormedSwitch}
+use Rattle.mv_source_forms.specs.Names.{global_words, words_of_global}
+use Rattle.mv_source_forms.specs.Uses.{known_is_there}
+use Rattle.mv_source_forms.specs.WellFormed.{IsWellFormed, IsWellFormedSwitch}
 use Rattle.mv_patch.specs.Orders.{is_known_order}
 use Rattle.mv_patch.specs.Tables.{patchable}
 use Rattle.mv_machine.specs.Actions as machine

@@ -14,7 +14,7 @@ use Rattle.mv_isa.specs.Encoding.{Fits}
 use Rattle.mv_image.specs.Spelling.{Fields}
 use Rattle.mv_image.specs.Patched.{variants_before, fitting_variant, variant_under}
 use Rattle.mv_ir.specs.declared.body.Body.{Body}
-use Rattle.mv_lower_correct.specs.WellFormed.{IsWellFormed}
+use Rattle.mv_source_forms.specs.WellFormed.{IsWellFormed}
 use Rattle.mv_select_inline.specs.InlineOf.{inline_of, encoded}
 use Rattle.mv_select_inline.specs.Laws.{InlineFits, InlineIsTheSame}
 use Rattle.mv_linker.specs.declared.parts.Parts.{Parts}

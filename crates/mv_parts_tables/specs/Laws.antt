@@ -9,9 +9,9 @@ use Rattle.mv_ast.specs.Counts as counts
 use Rattle.mv_ast.specs.Plans.{attributed_before}
 use Rattle.mv_ast.specs.Starts.{first_world_under}
 use Rattle.mv_ir.specs.declared.body.Body.{Body}
-use Rattle.mv_lower_spec.specs.Lower.{global_words}
-use Rattle.mv_lower_correct.specs.Named.{known_is_there}
-use Rattle.mv_lower_correct.specs.WellFormed.{IsWellFormed}
+use Rattle.mv_source_forms.specs.Names.{global_words}
+use Rattle.mv_source_forms.specs.Uses.{known_is_there}
+use Rattle.mv_source_forms.specs.WellFormed.{IsWellFormed}
 use Rattle.mv_image.specs.Spelling.{Fields}
 use Rattle.mv_patch.specs.Orders.{is_known_order, first_bindings}
 use Rattle.mv_patch.specs.Tables.{patchable}

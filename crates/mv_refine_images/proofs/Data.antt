@@ -14,8 +14,8 @@ use Rattle.mv_isa.specs.declared.labelled.Labelled.{Labelled}
 use Rattle.mv_isa.specs.declared.labelled.Line.{Line}
 use Rattle.mv_isa.specs.Code.{IsPlace, least_words, line_at}
 use Rattle.mv_image.specs.Spelling.{Fields}
-use Rattle.mv_lower_spec.specs.Lower.{words_of_global}
-use Rattle.mv_lower_correct.specs.WellFormed.{IsWellFormed, IsWellFormedGlobal}
+use Rattle.mv_source_forms.specs.Names.{words_of_global}
+use Rattle.mv_source_forms.specs.WellFormed.{IsWellFormed, IsWellFormedGlobal}
 use Rattle.mv_select_statements.specs.Frames.{Site}
 use Rattle.mv_select_calls.specs.Convention.{Layout}
 use Rattle.mv_refine_machine.specs.Layout.{IsPacked, IsSetOut}

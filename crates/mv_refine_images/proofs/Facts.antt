@@ -1,6 +1,6 @@
 -- The laws of the crates below that the law on built programs stands on.
 use Rattle.mv_image.specs.Format.{RulesAreTables}
-use Rattle.mv_ir_ends.specs.Reached.{EndsAreReached}
+use Rattle.mv_ir.specs.Reached.{EndsAreReached}
 use Rattle.mv_select_bodies.specs.SelectedBodies.{BodiesAreFunctions}
 use Rattle.mv_refine_machine.specs.Laws.{PackedIsLaidOut}
 use Rattle.mv_refine_machine.specs.Shown.{FreeFunctionsShow, BoundFunctionsShow}

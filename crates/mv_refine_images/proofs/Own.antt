@@ -17,8 +17,8 @@ use Rattle.mv_ir_worlds.proofs.Functions.{attributed_at}
 use Rattle.mv_image.specs.Patched.{site_at, site_before, variants_before}
 use Rattle.mv_image.specs.Spelling.{Fields}
 use Rattle.mv_lower_spec.specs.Functions.{lower_function}
-use Rattle.mv_lower_spec.specs.Lower.{words_of_global}
-use Rattle.mv_lower_correct.specs.WellFormed.{IsWellFormed}
+use Rattle.mv_source_forms.specs.Names.{words_of_global}
+use Rattle.mv_source_forms.specs.WellFormed.{IsWellFormed}
 use Rattle.mv_machine.specs.Runs.{State, bytes_to_come, runs}
 use Rattle.mv_select_calls.specs.Convention.{Layout}
 use Rattle.mv_refine_commits.specs.Tabled.{IsTabled}

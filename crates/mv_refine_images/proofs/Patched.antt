@@ -17,7 +17,7 @@ use Rattle.mv_image.specs.Spelling.{Fields}
 use Rattle.mv_ir.specs.Combinations.{IsCombination}
 use Rattle.mv_ir_worlds.proofs.Functions.{attributed_at}
 use Rattle.mv_ir_worlds.specs.Functions.{IsFreeIn, IsBoundIn}
-use Rattle.mv_lower_correct.specs.WellFormed.{IsWellFormed}
+use Rattle.mv_source_forms.specs.WellFormed.{IsWellFormed}
 use Rattle.mv_select_calls.specs.Convention.{Layout}
 use Rattle.mv_select_functions.specs.FunctionCode.{bytes_of}
 use Rattle.mv_select_functions.specs.Functions.{shape_of}

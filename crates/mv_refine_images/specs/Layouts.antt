@@ -3,8 +3,8 @@ use Rattle.std.specs.Prelude.{ℕ, ◌+◌, ◌*◌, List, length, map, take, su
 use Rattle.std.specs.List.{range_with_len}
 use Rattle.mv_ast.specs.declared.program.Program.{Program}
 use Rattle.mv_isa.specs.Code.{text_start, label_address}
-use Rattle.mv_lower_spec.specs.Lower.{global_words}
-use Rattle.mv_lower_correct.specs.Named.{known_is_there}
+use Rattle.mv_source_forms.specs.Names.{global_words}
+use Rattle.mv_source_forms.specs.Uses.{known_is_there}
 use Rattle.mv_select_statements.specs.StatementCode.{trap_label}
 use Rattle.mv_select_calls.specs.CallCode.{commit_label}
 use Rattle.mv_select_calls.specs.Convention.{Layout}

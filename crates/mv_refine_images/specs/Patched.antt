@@ -17,7 +17,7 @@ use Rattle.mv_ir.specs.Combinations.{IsCombination}
 use Rattle.mv_ir.specs.Keeps.{KeepsBody}
 use Rattle.mv_ir.specs.Programs.{setting_of}
 use Rattle.mv_lower_spec.specs.Functions.{lower_function}
-use Rattle.mv_lower_correct.specs.WellFormed.{IsWellFormed}
+use Rattle.mv_source_forms.specs.WellFormed.{IsWellFormed}
 use Rattle.mv_select_control.specs.Placed.{Placed}
 use Rattle.mv_select_calls.specs.Convention.{Layout}
 use Rattle.mv_select_calls.specs.Laws.{IsLinked}

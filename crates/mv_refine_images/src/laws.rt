@@ -2,7 +2,7 @@ ghost use Rattle.mv_refine_images.specs.Laws.{BuiltProgramsBehave};
 ghost use Rattle.mv_refine_images.specs.Patched.{PatchedFunctionsStand};
 
 use mv_image::facts::format_law;
-use mv_ir_ends::ends_are_reached;
+use mv_ir::laws::ends_are_reached;
 use mv_ir_worlds::{fit_frames_law, fit_worlds_law};
 use mv_link_data::data_law;
 use mv_link_text::linked_text_law;

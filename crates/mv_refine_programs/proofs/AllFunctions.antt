@@ -19,7 +19,7 @@ use Rattle.mv_ir.specs.Outcome.{End, Stuck, Call, Bound}
 use Rattle.mv_ir.specs.Programs.{setting_of}
 use Rattle.mv_ir_worlds.specs.Functions.{IsFreeIn, IsBoundIn}
 use Rattle.mv_ir_worlds.specs.Laws.{FunctionsAreFreeOrBound, FramesOfFree, FramesOfBound}
-use Rattle.mv_lower_spec.specs.Lower.{is_void}
+use Rattle.mv_source_forms.specs.Names.{is_void}
 use Rattle.mv_lower_spec.specs.Functions.{lower_function}
 use Rattle.mv_lower_spec.specs.Law.{strict_context}
 use Rattle.mv_select_control.specs.Runs.{Machine, outside}

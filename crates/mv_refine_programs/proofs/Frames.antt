@@ -17,7 +17,7 @@ use Rattle.mv_ir_worlds.specs.Functions.{IsFreeIn, IsBoundIn}
 use Rattle.mv_ir_worlds.specs.Laws.{FramesOfFree, FramesOfBound}
 use Rattle.mv_ir_worlds.proofs.Functions.{attributed_at}
 use Rattle.mv_lower_spec.specs.Functions.{lower_function}
-use Rattle.mv_lower_correct.specs.WellFormed.{IsWellFormed}
+use Rattle.mv_source_forms.specs.WellFormed.{IsWellFormed}
 use Rattle.mv_select_functions.specs.Functions.{frame_in}
 use Rattle.mv_select_slots.specs.Narrowed.{LeavesTrue}
 use Rattle.mv_lower_calls.specs.Bindings.{EndsIn}

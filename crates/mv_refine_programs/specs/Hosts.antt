@@ -21,8 +21,8 @@ use Rattle.mv_ir.specs.World.{World, Setting}
 use Rattle.mv_ir_worlds.specs.Fit.{IsFit, is_fit}
 use Rattle.mv_ir_worlds.specs.Functions.{IsFreeIn, IsBoundIn}
 use Rattle.mv_lower_spec.specs.Functions.{lower_function}
-use Rattle.mv_lower_spec.specs.Lower.{global_words}
-use Rattle.mv_lower_correct.specs.WellFormed.{IsWellFormed}
+use Rattle.mv_source_forms.specs.Names.{global_words}
+use Rattle.mv_source_forms.specs.WellFormed.{IsWellFormed}
 use Rattle.mv_select_control.specs.Placed.{Text, Placed}
 use Rattle.mv_select_control.specs.Runs.{Machine}
 use Rattle.mv_select_calls.specs.Convention.{Layout}

@@ -12,7 +12,7 @@ use Rattle.mv_ir.specs.World.{World}
 use Rattle.mv_ir.specs.Outcome.{End, Returned, Trapped, More, Stuck}
 use Rattle.mv_ir.specs.Programs as code
 use Rattle.mv_ir.specs.Programs.{Ending, executed, execution_of}
-use Rattle.mv_ir_ends.specs.Reached.{IsReached}
+use Rattle.mv_ir.specs.Reached.{IsReached}
 use Rattle.mv_lower_correct.specs.Laws.{IsExecution, ending_of}
 use Rattle.mv_machine.specs.Runs.{State, Stop, Going, Exit, Trap, bytes_to_come, first as first_state, runs}
 use Rattle.mv_meaning.specs.declared.meant.End as meant

@@ -6,7 +6,7 @@ use Rattle.mv_image.specs.Spelling.{Fields}
 use Rattle.mv_ir.specs.World.{World}
 use Rattle.mv_ir.specs.Outcome.{Call, Returned}
 use Rattle.mv_ir.specs.Programs.{execution_of}
-use Rattle.mv_ir_ends.specs.Reached.{IsReached}
+use Rattle.mv_ir.specs.Reached.{IsReached}
 use Rattle.mv_lower_correct.specs.Laws.{IsExecution}
 use Rattle.mv_machine.specs.Runs.{bytes_to_come}
 use Rattle.mv_meaning.specs.Meaning.{mean}

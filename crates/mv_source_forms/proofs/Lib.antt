@@ -1,1 +1,5 @@
+pub mod ExpressionInduction
 pub mod Naming
+pub mod StatementInduction
+pub mod TypedParts
+pub mod WorkedProgram

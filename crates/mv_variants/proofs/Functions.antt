@@ -9,7 +9,7 @@ use Rattle.mv_ast.specs.Plans.{attributed_functions, attributed_before, switch_d
 use Rattle.mv_ast.specs.Counts.{is_attributed, product_of, assignments}
 use Rattle.mv_ir.specs.Combinations.{Fresh, AllApart, AreDomains}
 use Rattle.mv_ir_worlds.proofs.Functions.{attributed_at}
-use Rattle.mv_lower_correct.specs.WellFormed.{IsWellFormed, IsWellFormedSwitch}
+use Rattle.mv_source_forms.specs.WellFormed.{IsWellFormed, IsWellFormedSwitch}
 
 -- an attributed function, by its number
 pub record IsAttributed (p : Program) (f : ℕ) : Type 0 where

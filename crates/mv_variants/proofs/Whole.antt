@@ -12,7 +12,7 @@ use Rattle.mv_ir.specs.Combinations.{AreDomains, AreAllCombinations, values_of}
 use Rattle.mv_ir.specs.Live.{IsWhole}
 use Rattle.mv_ir.specs.WellFormed as ir
 use Rattle.mv_lower_shape.specs.Law.{LoweredAreWhole, LoweredAreWellFormed}
-use Rattle.mv_lower_correct.specs.WellFormed.{IsWellFormed}
+use Rattle.mv_source_forms.specs.WellFormed.{IsWellFormed}
 use Rattle.mv_merge.specs.declared.rows.Domain.{Domain}
 use Rattle.mv_merge.specs.declared.rows.Bound.{Bound}
 use Rattle.mv_merge.specs.declared.rows.Variants.{Variants}

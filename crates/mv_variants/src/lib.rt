@@ -11,7 +11,7 @@
 
 ghost use Rattle.std.specs.Prelude.{◌≡◌, true, slice_get, IfOk};
 ghost use Rattle.mv_ast.specs.Counts.{is_attributed};
-ghost use Rattle.mv_lower_correct.specs.WellFormed.{IsWellFormed};
+ghost use Rattle.mv_source_forms.specs.WellFormed.{IsWellFormed};
 ghost use Rattle.mv_variants.specs.Variants.{IsLoweredFrom, AreVariantsOf};
 
 mod domain;

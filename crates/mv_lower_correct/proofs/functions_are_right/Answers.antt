@@ -6,12 +6,12 @@ use Rattle.mv_meaning.specs.declared.state.Frame.{Frame}
 use Rattle.mv_meaning.specs.declared.state.Flow.{Flow}
 use Rattle.mv_meaning.specs.Meaning.{back_in, flow_of_all, frame_of, deeper, context_at, returned_value}
 use Rattle.mv_ir.specs.Outcome.{Call, Returned}
-use Rattle.mv_lower_spec.specs.Lower.{is_void}
+use Rattle.mv_source_forms.specs.Names.{is_void}
 use Rattle.mv_lower_spec.specs.Correct.{seen, result_of, end_of}
 use Rattle.mv_lower_spec.specs.Law.{strict_context}
 use Rattle.mv_lower_spec.proofs.Expressions.{no}
 use Rattle.mv_lower_correct.specs.Laws.{IsCall, goes_astray}
-use Rattle.mv_lower_correct.specs.WellFormed.{parameters}
+use Rattle.mv_source_forms.specs.WellFormed.{parameters}
 use Rattle.mv_lower_correct.proofs.Agreement.{agree_refl, AlikeOutcome}
 use Rattle.mv_lower_correct.proofs.AgreedStatements.{Leads}
 use Rattle.mv_lower_correct.proofs.Contexts.{function_flows}

@@ -1,9 +1,0 @@
-mod Phrases
-mod NodeCounts
-mod Expressions
-mod DeclaratorCounts
-mod Declarations
-mod LineCounts
-mod Statements
-mod Units
-mod Texts

@@ -1,5 +1,0 @@
-use Rattle.mv_accepts_switches.proofs.Statements.{body_owns}
-use Rattle.mv_accepts_switches.proofs.own_switches_are_named.Goals as goal
-
-pub returns : goal.returns
-returns c = body_owns
