@@ -11,13 +11,8 @@ use Rattle.mv_ast.specs.declared.program.Global.{Global}
 use Rattle.mv_ast.specs.declared.program.CType.{CType}
 use Rattle.mv_ast.specs.declared.program.CType.TheVariants.{Void, Scalar, Pointer}
 use Rattle.mv_ast.specs.declared.world.Action.{Action}
-<<<<<<< HEAD
 use Rattle.mv_ast.specs.Actions.{fits, IsOfWord}
-use Rattle.mv_meaning_numbering.specs.Typing.{IsFirstValue}
-=======
-use Rattle.mv_ast.specs.Actions.{fits}
 use Rattle.mv_source_forms.specs.Typing.{IsFirstValue}
->>>>>>> c01a62f455398b85b9d09e3b38b2339d27392c10
 use Rattle.mv_image.specs.Spelling.{Fields}
 use Rattle.mv_ir.specs.World.{World}
 use Rattle.mv_ir.specs.Levels.{Code}

@@ -4,12 +4,7 @@ use Rattle.mv_ast.specs.declared.world.Action.{Action}
 use Rattle.mv_ast.specs.declared.program.Program.{Program}
 use Rattle.mv_ast.specs.Actions.{fits, IsOfWord}
 use Rattle.mv_image.specs.Spelling.{Fields}
-<<<<<<< HEAD
-use Rattle.mv_lower_correct.specs.WellFormed.{IsWellFormed}
-=======
 use Rattle.mv_source_forms.specs.WellFormed.{IsWellFormed}
-use Rattle.mv_refine_commits.specs.Tabled.{IsOfWord}
->>>>>>> c01a62f455398b85b9d09e3b38b2339d27392c10
 use Rattle.mv_refine_runs.specs.Behaves.{Behaves, LoadsWhatIsOpen}
 use Rattle.mv_refine_images.specs.Built.{HasWordsOfGlobals, IsBuilt}
 use Rattle.mv_refine_images.specs.Closed.{closed}

@@ -12,14 +12,9 @@ use Rattle.mv_ast.specs.declared.program.Stmt.{Stmt, Stmt-F, fold-Stmt}
 use Rattle.mv_ast.specs.declared.program.Arm.{Arm-F}
 use Rattle.mv_ast.specs.Layers.{target_parts, stmt_parts, stmt_expressions}
 use Rattle.mv_ast.specs.Plans.{attributed_functions, is_among, switch_global}
-<<<<<<< HEAD:crates/mv_lower_correct/specs/Named.antt
-use Rattle.mv_lower_spec.specs.Lower.{all_of}
-use Rattle.mv_lower_correct.specs.Scopes.{form_in, layer_in}
 use Rattle.mv_ast.specs.Orders as orders
-=======
 use Rattle.mv_source_forms.specs.Lists.{all_of}
 use Rattle.mv_source_forms.specs.Scopes.{form_in, layer_in}
->>>>>>> c01a62f455398b85b9d09e3b38b2339d27392c10:crates/mv_source_forms/specs/Uses.antt
 
 -- ---- all expressions of a statement
 
