@@ -13,3 +13,4 @@ mod Objects
 mod Routines
 mod Units
 mod Programs
+mod Excesses

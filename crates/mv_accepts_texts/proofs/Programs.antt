@@ -124,7 +124,7 @@ same_numbers p q h n (s ∷ ss) =
     ap (λ b. cond b (n ∷ numbers_from p (suc n) ss) (numbers_from p (suc n) ss)) (h s.global) ∙
     ap (λ rest. cond (q s.global) (n ∷ rest) rest) (same_numbers p q h (suc n) ss)
 
-those_have : (P : Function → Type 0) (fs : List (Option Function)) → ((k : ℕ) (f : Function) → slice_get fs k ≡ Some (Some f) → P f) → AllByRecursion P (those_there fs)
+pub those_have : (P : Function → Type 0) (fs : List (Option Function)) → ((k : ℕ) (f : Function) → slice_get fs k ≡ Some (Some f) → P f) → AllByRecursion P (those_there fs)
 those_have P [] h = tt
 those_have P (None ∷ fs) h = those_have P fs (λ k f q. h (suc k) f q)
 those_have P (Some f ∷ fs) h = (h zero f refl, those_have P fs (λ k f q. h (suc k) f q))
