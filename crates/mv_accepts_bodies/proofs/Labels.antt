@@ -1,4 +1,5 @@
 -- That the arms of each `switch` are labelled as they should be comes from the parts of a statement.
+use mathlib.Core.Bool.{or-true}
 use Rattle.std.proofs.Common.{◌≡◌, ℕ, Bool, true, false, not, ◌||◌, refl, ◌∙◌, ap, if◌then◌else◌, List, [], ◌∷◌, ◌++◌, map, Some, None}
 use Rattle.std.specs.List.{AllByRecursion}
 use Rattle.std.proofs.lemmas.Bool.{and_from}
@@ -150,10 +151,6 @@ has_more : (ls : List ℕ) (v : ℕ) (b : Bool) → (has_label (ls ++ v ∷ []) 
 has_more [] v b = refl
 has_more (l ∷ ls) v b = refl
 
-or_yes : (b : Bool) → (b || true) ≡ true
-or_yes true = refl
-or_yes false = refl
-
 -- ---- labels and statements
 
 case_at : (v : ℕ) (y : Arms) (b : Bool) → AreLabelled y → BodiesHave Labelled (if b then record y { done = y.done ++ y.last ∷ []; last = no_arm } else y) →
@@ -195,7 +192,7 @@ default_at y false q h k =
       bodies = k;
       default = first_default y.done b (any_before y.done y.last (h.any q));
       any = λ r. absurd (cc);
-      later = last_labelled y.done y.last b (or_yes (has_label y.last.labels)) h.later;
+      later = last_labelled y.done y.last b (or-true (has_label y.last.labels)) h.later;
     }
 
 default_labelled : (y : Arms) → y.other ≡ false → AreLabelled y → AreLabelled (with_default y)

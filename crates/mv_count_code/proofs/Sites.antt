@@ -1,5 +1,5 @@
 -- The slots in the code of a program's functions and variants.
-use Rattle.std.proofs.Common.{arith, ◌≡◌, ℕ, zero, suc, ◌+◌, ◌*◌, ◌≤◌, Bool, true, false, cond, List, [], ◌∷◌, length, map, Some, refl, sym, ap, subst}
+use Rattle.std.proofs.Common.{arith, ◌≡◌, ℕ, zero, suc, ◌+◌, ◌*◌, ◌≤◌, Bool, true, false, cond, List, [], ◌∷◌, length, map, Some, refl, sym, subst}
 use Rattle.std.specs.Prelude.{sum, slice_get}
 use Rattle.std.specs.List.{filter}
 use Rattle.std.proofs.lemmas.List.Sums.{sum_by-cons}
@@ -10,16 +10,18 @@ use Rattle.mv_ast.specs.Counts.{calls, assignments}
 use Rattle.mv_ast.specs.Plans.{attributed_functions}
 use Rattle.mv_isa.specs.declared.labelled.Labelled.{Labelled}
 use Rattle.mv_ir.specs.declared.body.Body.{Body}
-use Rattle.mv_select_calls.specs.CallCode.{is_marked}
 use Rattle.mv_select_functions.specs.Functions.{shape_of}
 use Rattle.mv_select_control.specs.Layouts.{size_in}
 use Rattle.mv_select_trees.specs.Rooms.{place_in}
+<<<<<<< HEAD
 use Rattle.mv_source_forms.specs.WellFormed.{IsWellFormed}
+=======
+>>>>>>> 813ff72a754cd3559e61b4d2d1048f1b92274589
 use Rattle.mv_lower_shape.specs.Law.{IsFunctionOf, LoweredCallAsOften}
 use Rattle.mv_parts_bound.specs.Slots.{slots, AtMost, SlotsAreFew, OwnSlotsAreFew, RenamedSlotsAreFew, SlotsArePatchable}
 use Rattle.mv_select.specs.Selected.{selected_lines}
 use Rattle.mv_count_code.specs.Sizes.{IsBodyOf, renamed, folded, bound}
-use Rattle.mv_count_code.specs.Texts.{IsCodeOf, HaveCode, SlotsAreFewInCode, AreVariantCodes, HaveVariantCodes, slots_in, SlotsAreCounted, SitesAreFew}
+use Rattle.mv_count_code.specs.Texts.{SlotsAreFewInCode, AreVariantCodes, slots_in, SlotsAreCounted, SitesAreFew}
 
 sum_cons : (n : ℕ) (ns : List ℕ) → sum (n ∷ ns) ≡ n + sum ns
 sum_cons n ns = sum_by-cons (λ (k : ℕ). k) n ns

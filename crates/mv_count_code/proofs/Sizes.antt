@@ -8,7 +8,7 @@ use Rattle.std.proofs.Math.Nat.{mul-le-mul_right, mul_comm, suc-mul}
 use Rattle.mv_ast.specs.declared.program.Program.{Program}
 use Rattle.mv_ast.specs.declared.program.Function.{Function}
 use Rattle.mv_ir.specs.declared.body.Body.{Body}
-use Rattle.mv_ir.specs.Measures.{total, tree_nodes}
+use Rattle.mv_ir.specs.Measures.{total}
 use Rattle.mv_ir.specs.Live.{most_intervals}
 use Rattle.mv_select_control.specs.Encoded.{own_words, most_words}
 use Rattle.mv_select_functions.specs.FunctionCode.{arrays_start}

@@ -1,7 +1,7 @@
 -- The slots of a body are the calls of attributed functions in it.
-use Rattle.std.proofs.Common.{arith, ◌≡◌, ℕ, zero, suc, ◌+◌, ◌≤◌, Bool, true, false, cond, eqb, ◌&&◌, ◌||◌, List, [], ◌∷◌, refl, sym, ap, ◌∙◌, subst}
+use Rattle.std.proofs.Common.{arith, ◌≡◌, ℕ, zero, suc, ◌+◌, ◌≤◌, Bool, true, false, cond, eqb, ◌&&◌, List, [], ◌∷◌, refl, sym, ap, ◌∙◌, subst}
 use Rattle.std.specs.Prelude.{slice_get, nat_eq}
-use Rattle.std.proofs.lemmas.Bool.{eq-eqb}
+use Rattle.std.proofs.lemmas.Bool.{eq-eqb, or_right, or_left, and_from}
 use Rattle.std.proofs.lemmas.List.Sums.{sum_by-cons}
 use Rattle.mv_ast.specs.declared.program.Program.{Program}
 use Rattle.mv_ast.specs.declared.program.Function.{Function}
@@ -45,19 +45,8 @@ counted (Slot f ∷ lines) = let rest = counted lines in omega (arith, slot_cons
 
 -- ---- a function that is attributed and called is marked
 
-or_first : (a b : Bool) → a ≡ true → (a || b) ≡ true
-or_first a b e = ap (λ c. c || b) e
-
-or_second : (a b : Bool) → b ≡ true → (a || b) ≡ true
-or_second true b e = refl
-or_second false b e = e
-
-both : (a b : Bool) → a ≡ true → b ≡ true → (a && b) ≡ true
-both true b e h = h
-both false b e h = absurd cc
-
 behind : (b : Bool) (k f : ℕ) (marked : List ℕ) → is_marked marked f ≡ true → is_marked (cond b (k ∷ marked) marked) f ≡ true
-behind true k f marked h = or_second (eqb k f) (is_marked marked f) h
+behind true k f marked h = or_right (eqb k f) (is_marked marked f) h
 behind false k f marked h = h
 
 pub among_marked : (is_called : ℕ → Bool) (f k : ℕ) (gs : List Function) → is_called f ≡ true → Among f k gs → is_marked (marked_from is_called k gs) f ≡ true
@@ -67,14 +56,14 @@ among_marked is_called f k (g ∷ gs) c (suc i, e, a) =
 among_marked is_called f k (g ∷ gs) c (zero, e, a) =
     let rest = marked_from is_called (suc k) gs in
     let same : f ≡ k = omega (arith, e) in
-    let first : (g.attributed && is_called k) ≡ true = both g.attributed (is_called k) a (subst (λ n. is_called n ≡ true) same c) in
+    let first : (g.attributed && is_called k) ≡ true = and_from g.attributed (is_called k) a (subst (λ n. is_called n ≡ true) same c) in
     let here : eqb k f ≡ true = eq-eqb k f (sym same) in
-    subst (λ b. is_marked (cond b (k ∷ rest) rest) f ≡ true) (sym first) (or_first (eqb k f) (is_marked rest f) here)
+    subst (λ b. is_marked (cond b (k ∷ rest) rest) f ≡ true) (sym first) (or_left (eqb k f) (is_marked rest f) here)
 
 pub each_among : (P : ℕ → Type 0) (fs : List ℕ) → ((f : ℕ) → is_among f fs ≡ true → P f) → Each P fs
 each_among P [] h = tt
 each_among P (f ∷ fs) h =
-    (h f (or_first (nat_eq f f) (is_among f fs) (eq-eqb f f refl)), each_among P fs (λ k e. h k (or_second (nat_eq k f) (is_among k fs) e)))
+    (h f (or_left (nat_eq f f) (is_among f fs) (eq-eqb f f refl)), each_among P fs (λ k e. h k (or_right (nat_eq k f) (is_among k fs) e)))
 
 -- ---- no call of a function that is attributed and isn't marked
 

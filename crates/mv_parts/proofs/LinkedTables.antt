@@ -27,7 +27,7 @@ use Rattle.mv_linker.specs.declared.parts.PartFunction.{PartFunction}
 use Rattle.mv_linker.specs.declared.parts.PartVariant.{PartVariant}
 use Rattle.mv_linker.specs.Linked.{AreParts, IsFunction, IsDatum, codes, function_variants, variant_codes}
 use Rattle.mv_linker.specs.Tables as linker
-use Rattle.mv_linker.specs.Tables.{BeginsWithWords, CallsAmong, FitsPartSwitch, FitsPartFunction, FitsPartVariant, FitTables, IsRange, kinds_of}
+use Rattle.mv_linker.specs.Tables.{CallsAmong, FitsPartSwitch, FitsPartFunction, FitsPartVariant, FitTables, IsRange, kinds_of}
 use Rattle.mv_link_data.specs.FirstData.{first_data}
 use Rattle.mv_link_data.specs.Laws.{IsFirstValueAmong, HasFirstValues, CountIsSum, FunctionsAreThere}
 use Rattle.mv_variants.specs.declared.variant.Variant.{Variant}

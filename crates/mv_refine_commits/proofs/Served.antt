@@ -30,7 +30,7 @@ use Rattle.mv_select_trees.proofs.Registers.{put_same, put_other, put_registers}
 use Rattle.mv_select_control.proofs.Walk.{before_next}
 use Rattle.mv_select_functions.specs.Loads.{loads_from}
 use Rattle.mv_refine_machine.specs.Layout.{IsOutsideText}
-use Rattle.mv_refine_machine.specs.MachineRuns.{spot_of, machine_text, may_be_patched, word_at, image_word, unpatched_word}
+use Rattle.mv_refine_machine.specs.MachineRuns.{spot_of, machine_text, may_be_patched, image_word, unpatched_word}
 use Rattle.mv_refine_machine.specs.MachineRuns as runs
 use Rattle.mv_refine_stores.specs.Stores.{stored_all, AreTexts}
 use Rattle.mv_refine_stores.specs.Between.{IsSettled, is_between, IsStored}

@@ -33,7 +33,7 @@ use Rattle.mv_select_functions.specs.Functions.{part}
 use Rattle.mv_select_slots.specs.Narrowed.{narrowed, has_bindings, words_alone}
 use Rattle.mv_select_slots.proofs.Bindings.{bindings_are_told}
 use Rattle.mv_refine_machine.specs.Layout.{IsOutsideText, OwnOutsideText}
-use Rattle.mv_refine_machine.specs.MachineRuns.{rest_of, machine_text, unpatched_word, word_at, image_word, bound_word, opens}
+use Rattle.mv_refine_machine.specs.MachineRuns.{machine_text, unpatched_word, word_at, image_word, bound_word}
 use Rattle.mv_refine_machine.specs.MachineRuns as runs
 use Rattle.mv_refine_machine.specs.Under.{words_under}
 use Rattle.mv_refine_machine.proofs.OnRuns.{in_part}
