@@ -13,10 +13,6 @@ use Rattle.mv_ir.specs.declared.body.Body.{Body}
 use Rattle.mv_select_functions.specs.Functions.{shape_of}
 use Rattle.mv_select_control.specs.Layouts.{size_in}
 use Rattle.mv_select_trees.specs.Rooms.{place_in}
-<<<<<<< HEAD
-use Rattle.mv_source_forms.specs.WellFormed.{IsWellFormed}
-=======
->>>>>>> 813ff72a754cd3559e61b4d2d1048f1b92274589
 use Rattle.mv_lower_shape.specs.Law.{IsFunctionOf, LoweredCallAsOften}
 use Rattle.mv_parts_bound.specs.Slots.{slots, AtMost, SlotsAreFew, OwnSlotsAreFew, RenamedSlotsAreFew, SlotsArePatchable}
 use Rattle.mv_select.specs.Selected.{selected_lines}

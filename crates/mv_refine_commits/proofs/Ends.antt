@@ -27,13 +27,8 @@ use Rattle.mv_select_control.specs.Runs.{Spot, Machine, outside, IsRun}
 use Rattle.mv_select_control.proofs.Walk as walk
 use Rattle.mv_select_control.proofs.Walk.{before_next, line_does, steps_on}
 use Rattle.mv_select_calls.specs.CallCode.{link_register, left_register, request_register}
-<<<<<<< HEAD
 use Rattle.mv_select_calls.specs.Convention.{Layout, HoldsGlobals}
-use Rattle.mv_refine_machine.specs.MachineRuns.{rest_of, spot_of, machine_text, machine_of, unpatched_word}
-=======
-use Rattle.mv_select_calls.specs.Convention.{Layout, HoldsGlobals, depth_limit}
 use Rattle.mv_refine_machine.specs.MachineRuns.{spot_of, machine_text, machine_of, unpatched_word}
->>>>>>> 813ff72a754cd3559e61b4d2d1048f1b92274589
 use Rattle.mv_refine_machine.specs.MachineRuns as runs
 use Rattle.mv_refine_machine.specs.Laws.{IsFirst}
 use Rattle.mv_refine_stubs.specs.Ends.{ComesTo}
