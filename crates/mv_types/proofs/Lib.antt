@@ -4,4 +4,5 @@ mod Types
 mod Answers
 mod Counted
 mod Ends
+mod Repeated
 mod Turns

@@ -4,4 +4,5 @@ pub mod Contents
 pub mod Foreknown
 pub mod Functions
 pub mod Objects
+pub mod Repeated
 pub mod Units

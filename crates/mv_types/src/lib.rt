@@ -6,7 +6,8 @@
 //!   passes it in the order of the text. `specs/Units.antt` has the judgement on a unit, item by item and declarator by declarator over what was
 //!   declared before; `specs/Objects.antt` and `specs/Functions.antt` say how often an object or a function may be
 //!   declared, and what its declarations come to; `specs/Foreknown.antt` what is known of names from the start
-//!   ([docs/declarations.md](declarations.md)).
+//!   ([docs/declarations.md](declarations.md)). A bare name that stands again in an attributed declaration is passed over: by
+//!   `specs/Repeated.antt` it declares nothing new.
 //! - `mv_test_top` shows what 187 units are answered. Limits 1 to 4 are tested before the program is made.
 #![tactic(auto)]
 

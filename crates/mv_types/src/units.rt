@@ -1,6 +1,6 @@
 // The declarations of a unit in their order (C11 6.9).
 
-ghost use Rattle.std.specs.Prelude.{◌≡◌, IfOk, None, replicate};
+ghost use Rattle.std.specs.Prelude.{◌≡◌, IfOk, OnOk, None, replicate, true};
 ghost use Rattle.std.specs.List.{list_any};
 ghost use Rattle.mv_check_expressions.specs.Judged.{and_then, IsJudged};
 ghost use Rattle.mv_check_declarations.specs.declared.attributes.Position.TheVariants as position;
@@ -10,6 +10,7 @@ ghost use Rattle.mv_types.specs.Completed.{IsCompleted};
 ghost use Rattle.mv_types.specs.Contents.{nothing_declared, IsContinued};
 ghost use Rattle.mv_types.specs.Foreknown.{is_fixed};
 ghost use Rattle.mv_types.specs.Objects.{object_judgement, domain_by};
+ghost use Rattle.mv_types.specs.Repeated.{is_bare, AreSettled};
 ghost use Rattle.mv_types.specs.Units.{base_of, by_entity, nameless_values, named_declarator, declarator_judgement, declares_constant, holders, declares_nothing, names_judgement, item_judgement, program_judgement, unit_judgement};
 
 use crate::contents::{Completed, Contents, Foreknown};
@@ -17,7 +18,7 @@ use crate::foreknown::{foreknown_of, is_function, name_of};
 use crate::program::complete;
 use crate::{functions, objects};
 use mv_ast::program::{Function, Local};
-use mv_ast::unit::{Declarator, Initial, Item, Line, Unit};
+use mv_ast::unit::{Declarator, Initial, Item, Line, Shape, Unit};
 use mv_check_declarations::attributes::{Attribute, Position, shared};
 use mv_check_declarations::declarators::Entity;
 use mv_check_declarations::globals::{Designated, file_declarator, global_words};
@@ -26,6 +27,7 @@ use mv_check_declarations::objects::{scalar, sized};
 use mv_check_declarations::specifiers::{Specified, specifiers};
 use mv_check_expressions::error::RuleError;
 use mv_check_expressions::rules;
+use mv_check_outline::names::Names;
 use mv_check_scope::scope::Scope;
 use mv_num::list::List;
 use mv_num::results::both;
@@ -180,6 +182,64 @@ fn declare(
     named_declarator(alloc, known, base, body, declarator, designated, contents)
 }
 
+// Whether a declarator is the name of a scalar alone.
+fn is_bare(body: &Option<Line>, declarator: &Declarator) -> bool
+    ensures { result ≡ is_bare body.now declarator.now }
+{
+    matches!(&declarator.shape, Shape::Plain)
+        && declarator.name.is_some()
+        && declarator.marks.len() == 0
+        && declarator.initial.is_none()
+        && body.is_none()
+}
+
+// Declares a bare name, unless it is settled already: its domain isn't compared with that of its object again, however many values it has.
+#[tactic(auto, using(crate::proofs::Repeated::settled_again, crate::proofs::Repeated::one_settled))]
+fn declare_bare(
+    alloc: Global,
+    known: &Foreknown,
+    base: &Specified,
+    body: &Option<Line>,
+    declarator: &Declarator,
+    settled: &mut Names,
+    contents: &mut Contents,
+) -> Result<(), RuleError>
+    requires bare { is_bare body.now declarator.now ≡ true }
+    requires settled { AreSettled base.now contents.old settled.old }
+    ensures judged { IsContinued (declarator_judgement known.now base.now body.now declarator.now contents.old) result contents.new }
+    ensures settled { OnOk result (AreSettled base.now contents.new settled.new) }
+{
+    let name = name_of(declarator);
+    if settled.has(name) {
+        return Ok(());
+    }
+    declare(alloc, known, base, body, declarator, contents)?;
+    settled.add(alloc, name)?;
+    Ok(())
+}
+
+// Declares what a declarator says, where some names are settled, and these and its own are behind it.
+#[tactic(auto, using(crate::proofs::Repeated::none_settled))]
+fn declare_once(
+    alloc: Global,
+    known: &Foreknown,
+    base: &Specified,
+    body: &Option<Line>,
+    declarator: &Declarator,
+    settled: &mut Names,
+    contents: &mut Contents,
+) -> Result<(), RuleError>
+    requires { AreSettled base.now contents.old settled.old }
+    ensures judged { IsContinued (declarator_judgement known.now base.now body.now declarator.now contents.old) result contents.new }
+    ensures settled { OnOk result (AreSettled base.now contents.new settled.new) }
+{
+    if base.attribute.is_some() && is_bare(body, declarator) {
+        return declare_bare(alloc, known, base, body, declarator, settled, contents);
+    }
+    *settled = Names::new(alloc);
+    declare(alloc, known, base, body, declarator, contents)
+}
+
 fn declare_all(
     alloc: Global,
     known: &Foreknown,
@@ -190,8 +250,9 @@ fn declare_all(
 ) -> Result<(), RuleError>
     ensures { IsContinued (through (declarator_judgement known.now base.now body.now) names.now contents.old) result contents.new }
 {
+    let mut settled = Names::new(alloc);
     for declarator in names {
-        declare(alloc, known, base, body, declarator, contents)?;
+        declare_once(alloc, known, base, body, declarator, &mut settled, contents)?;
     }
     Ok(())
 }

@@ -1,0 +1,44 @@
+-- Bare names that stand again in a declaration, where they declare nothing new.
+use Rattle.std.specs.Prelude.{◌≡◌, ℕ, Bool, true, false, ◌&&◌, not, is_some, List, [], Option, Some, slice_get}
+use Rattle.mv_ast.specs.declared.program.CType.{CType}
+use Rattle.mv_ast.specs.declared.unit.Declarator.{Declarator}
+use Rattle.mv_ast.specs.declared.unit.Line.{Line}
+use Rattle.mv_ast.specs.declared.unit.Shape.{Shape-F, out-Shape}
+use Rattle.mv_ast.specs.declared.unit.Shape.TheOpen as shape
+use Rattle.mv_check_scope.specs.declared.meaning.Meaning.{Meaning}
+use Rattle.mv_check_scope.specs.Conversions.{is_void}
+use Rattle.mv_check_scope.specs.Spaces.{named}
+use Rattle.mv_check_outline.specs.Names.{is_among}
+use Rattle.mv_check_outline.specs.Outlined.{is_filled}
+use Rattle.mv_check_declarations.specs.declared.specifiers.Specified.{Specified}
+use Rattle.mv_check_declarations.specs.Objects.{scalar}
+use Rattle.mv_types.specs.declared.contents.Contents.{Contents}
+use Rattle.mv_types.specs.declared.contents.Object.{Object}
+use Rattle.mv_types.specs.Objects.{number_of, agrees, again, domain_by}
+
+abbrev pub is_plain : {A B C : Type 0} → Shape-F A B C → Bool
+is_plain shape.Plain = true
+is_plain (shape.Array size) = false
+is_plain (shape.Function params) = false
+is_plain (shape.Pointer constant params) = false
+is_plain (shape.PointerArray constant size params) = false
+
+-- the name of a scalar alone, with no attribute, initial value or block behind it
+abbrev pub is_bare : Option Line → Declarator → Bool
+is_bare body d = is_plain (out-Shape d.shape) && (is_some d.name && (not (is_filled d.marks) && (not (is_some d.initial) && not (is_some body))))
+
+-- a name means an object that one more bare name of this type and domain leaves as it is
+pub record IsSettled (t : CType) (domain : Option (List ℕ)) (c : Contents) (name : List ℕ) : Type 0 where
+  pub meaning : Meaning
+  pub number : ℕ
+  pub object : Object
+  pub sound : is_void t ≡ false
+  pub means : named name c.scope.names.here ≡ Some meaning
+  pub numbered : number_of meaning ≡ Some number
+  pub there : slice_get c.objects number ≡ Some object
+  pub allowed : agrees object (scalar t) false domain ≡ true
+  pub kept : again object [] false domain ≡ object
+
+-- so does each of some names, behind what these specifiers say
+pub record AreSettled (b : Specified) (c : Contents) (names : List (List ℕ)) : Type 0 where
+  pub settled : (name : List ℕ) → is_among name names ≡ true → IsSettled b.ctype (domain_by c.scope b.enumeration b.attribute) c name
