@@ -1,5 +1,5 @@
 -- What a program exceeds is what the text of its unit tells.
-use Rattle.std.proofs.Common.{◌≡◌, ℕ, zero, suc, refl, sym, ◌∙◌, ap, subst, Bool, true, false, if◌then◌else◌, List, [], ◌∷◌, ◌++◌, map, length, nat_lt, slice_get, Option, Some, None}
+use Rattle.std.proofs.Common.{◌≡◌, ℕ, zero, suc, refl, sym, ◌∙◌, ap, subst, Bool, if◌then◌else◌, List, [], ◌∷◌, ◌++◌, map, length, nat_lt, slice_get, Option, Some, None}
 use Rattle.std.specs.List.{AllByRecursion, concat, flat_map}
 use Rattle.std.specs.Option.{option_or}
 use Rattle.std.proofs.lemmas.List.Elements.{recursion_from_All}
@@ -14,18 +14,18 @@ use Rattle.mv_ast.specs.declared.unit.Unit as tree
 use Rattle.mv_check_expressions.specs.Judged.{Good}
 use Rattle.mv_check_limits.specs.declared.excess.Exceeded.{Exceeded}
 use Rattle.mv_check_limits.specs.Limits.{Limit, elements, first_above, reported, excess, first_some, functions_limit, globals_limit, parameters_limit, switches_limit, values_limit, switches_of_function_limit, assignments_limit, elements_limit, global_sizes, local_sizes}
-use Rattle.mv_check_limits.specs.Ordered.{unit_parameters, has_name, global_elements, local_elements, declarator_elements, item_elements, unit_elements, in_text, first_excess}
+use Rattle.mv_check_limits.specs.Ordered.{unit_parameters, global_elements, local_elements, declarator_elements, item_elements, unit_elements, in_text, first_excess}
 use Rattle.mv_check_rules.specs.Nodes.{Global}
 use Rattle.mv_check_rules.specs.Declarations.{in_order}
 use Rattle.mv_check_rules.specs.Units.{Declarations, none_declared, item, global_of, those_there, with_switches, switches_from, program, judged_by_rules}
 use Rattle.mv_accepts_numbers.specs.Numbers.{ItemsAreForeknown}
-use Rattle.mv_accepts_statements.proofs.Judging.{IfGood, of_good}
+use Rattle.mv_accepts_statements.proofs.Judging.{of_good}
 use Rattle.mv_accepts_statements.proofs.Lists.{all_at, all_mapped, mapped_back, mapped_there}
-use Rattle.mv_accepts_texts.specs.Texts.{Part, in_turn, item_objects}
-use Rattle.mv_accepts_texts.specs.Told.{told_parameters, told_elements, first_told}
-use Rattle.mv_accepts_texts.proofs.Files.{global_names, Sound}
+use Rattle.mv_accepts_texts.specs.Texts.{in_turn, item_objects}
+use Rattle.mv_accepts_texts.specs.Told.{told_parameters, first_told}
+use Rattle.mv_accepts_texts.proofs.Files.{Sound}
 use Rattle.mv_accepts_texts.proofs.Lists.{name_itself}
-use Rattle.mv_accepts_texts.proofs.Programs.{TellsName, items_known, Ends, ended, those_have}
+use Rattle.mv_accepts_texts.proofs.Programs.{TellsName, items_known, ended, those_have}
 use Rattle.mv_accepts_texts.proofs.Scopes.{few, few_more}
 use Rattle.mv_accepts_texts.proofs.Units.{unit_sound}
 

@@ -3,13 +3,12 @@ use Rattle.std.proofs.Common.{◌≡◌, ℕ, Bool, true, false, not, ◌&&◌, 
 use Rattle.std.proofs.Math.Bool.{or-false}
 use Rattle.std.proofs.lemmas.Bool.{and_parts, eqb-true, not-false, or_parts, or_from}
 use Rattle.std.proofs.lemmas.List.Folds.{list_any-append}
-use Rattle.std.specs.List.{list_any, flat_map}
+use Rattle.std.specs.List.{flat_map}
 use Rattle.mv_ast.specs.declared.program.CType.{CType}
 use Rattle.mv_ast.specs.declared.program.CType.TheVariants.{Void, Pointer, Scalar}
 use Rattle.mv_ast.specs.declared.program.Expr.{Expr}
 use Rattle.mv_ast.specs.declared.program.Known.{Known}
 use Rattle.mv_ast.specs.declared.program.Known.TheVariants as known
-use Rattle.mv_ast.specs.declared.program.Form.TheVariants as form
 use Rattle.mv_ast.specs.declared.unit.Node.{Node, out-Node, fold_out-Node}
 use Rattle.mv_ast.specs.declared.unit.What.{What, What-F, out-What, map-What, fold-What, fold_out-What}
 use Rattle.mv_ast.specs.declared.unit.What.TheOpen as what
@@ -26,9 +25,9 @@ use Rattle.mv_check_expressions.specs.declared.seen.Seen.{Seen}
 use Rattle.mv_check_expressions.specs.declared.seen.Seen.TheVariants as seen
 use Rattle.mv_check_expressions.specs.declared.seen.Use.{Use}
 use Rattle.mv_check_expressions.specs.declared.seen.Use.TheVariants as «use»
-use Rattle.mv_check_expressions.specs.Calls.{known_params, known_arity, planned_use, argument_use, callee_params, params_of, pointed, result_of, named_function, direct_or_through, takes_count, passed, named_index, with_index, called_with, call_of}
+use Rattle.mv_check_expressions.specs.Calls.{known_params, known_arity, planned_use, argument_use, params_of, pointed, result_of, named_function, direct_or_through, takes_count, passed, called_with, call_of}
 use Rattle.mv_check_expressions.specs.Found.{is_address, is_indirection, element_of, named_switch, address_of, unary_of, unary_seen, assign_of, before_of, after_of}
-use Rattle.mv_check_expressions.specs.Judged.{Judged, Good}
+use Rattle.mv_check_expressions.specs.Judged.{Good}
 use Rattle.mv_check_expressions.specs.Judgements.{operand_use, cast_use, judgement, value_judgement, effect_judgement}
 use Rattle.mv_check_expressions.specs.Rules.{is_bare, is_misnamed, is_misapplied, is_wrong_operand}
 use Rattle.mv_check_expressions.specs.Seen.{value_of, type_of, array_of, object_of, is_array, is_assignable, is_attributed, is_function, is_named_switch, switch_of, seen_name}
@@ -36,7 +35,7 @@ use Rattle.mv_accepts_expressions.proofs.Induction.{Steps, every_node}
 use Rattle.mv_accepts_expressions.proofs.Kept.{went_on}
 use Rattle.mv_accepts_texts.specs.Expressions.{NameList, Standing, what_names, no_enum, no_mark, no_member, node_names, no_specs, standing, names_in}
 use Rattle.mv_accepts_texts.specs.Meanings.{is_stored, is_global, names_global}
-use Rattle.mv_accepts_texts.proofs.Globals.{either_same, Names, NamesAny, TargetNames, among_both, number_names, read_names, function_names, known_names, after_names, object_names, element_names, converted_names, promoted_names, one_names, two_names, three_names, assigned_names, before_names, called_names}
+use Rattle.mv_accepts_texts.proofs.Globals.{either_same, Names, NamesAny, among_both, number_names, read_names, function_names, known_names, after_names, object_names, element_names, converted_names, promoted_names, one_names, two_names, three_names, assigned_names, before_names, called_names}
 
 -- ---- the names of a node, form by form
 

@@ -1,8 +1,8 @@
 -- What names of file scope mean through the declarations of a unit, and which of them its functions name.
-use Rattle.std.proofs.Common.{◌≡◌, ℕ, zero, suc, ◌<◌, ◌⊎◌, inl, inr, refl, sym, ◌∙◌, ap, subst, Bool, true, false, not, ◌&&◌, ◌||◌, is_some, if◌then◌else◌, nat_eq, List, [], ◌∷◌, ◌++◌, map, filter, length, append-nil, arith, slice_get, Option, Some, None}
+use Rattle.std.proofs.Common.{◌≡◌, ℕ, ◌⊎◌, inl, inr, refl, sym, ◌∙◌, ap, Bool, true, false, not, ◌||◌, is_some, if◌then◌else◌, nat_eq, List, [], ◌∷◌, map, length, slice_get, Option, Some, None}
 use Rattle.std.specs.Cmp.Lexicographic.{pointwise}
 use Rattle.std.specs.List.{AllByRecursion}
-use Rattle.std.proofs.lemmas.Bool.{and_parts, eqb-true, eq-eqb, or_cases}
+use Rattle.std.proofs.lemmas.Bool.{and_parts}
 use Rattle.mv_ast.specs.declared.program.Function.{Function}
 use Rattle.mv_ast.specs.declared.unit.Item.{Item}
 use Rattle.mv_check_scope.specs.Known.{known_function}

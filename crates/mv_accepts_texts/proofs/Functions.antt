@@ -1,11 +1,10 @@
 -- A function that is defined names what its text names.
-use Rattle.std.proofs.Common.{◌≡◌, ℕ, Bool, true, false, ◌||◌, refl, sym, ◌∙◌, ap, subst, if◌then◌else◌, List, [], ◌∷◌, ◌++◌, map, length, Option, Some, None}
+use Rattle.std.proofs.Common.{◌≡◌, ℕ, Bool, true, false, ◌||◌, refl, sym, ◌∙◌, ap, if◌then◌else◌, List, [], ◌∷◌, map, length, Option, Some, None}
 use Rattle.std.proofs.lemmas.List.Folds.{list_any-append}
 use Rattle.std.specs.List.{AllByRecursion}
 use Rattle.mv_ast.specs.declared.place.Place.{Place}
 use Rattle.mv_ast.specs.declared.program.CType.{CType}
 use Rattle.mv_ast.specs.declared.program.Function.{Function}
-use Rattle.mv_ast.specs.declared.program.Stmt.{Stmt}
 use Rattle.mv_ast.specs.declared.unit.Item.{Item}
 use Rattle.mv_ast.specs.declared.unit.Line.{Line}
 use Rattle.mv_ast.specs.declared.unit.Param.{Param}
@@ -16,14 +15,14 @@ use Rattle.mv_check_rules.specs.Nodes as node
 use Rattle.mv_check_rules.specs.Rules.{breaches, first_broken, least_broken, unless_broken, concluded}
 use Rattle.mv_check_rules.specs.Declarations.{parameters}
 use Rattle.mv_check_rules.specs.Statements.{body}
-use Rattle.mv_check_rules.specs.Units.{function_entered, function_left, definition, is_attributed}
-use Rattle.mv_accepts_statements.proofs.Judging.{IfGood, if_more, if_then}
+use Rattle.mv_check_rules.specs.Units.{function_entered, definition, is_attributed}
+use Rattle.mv_accepts_statements.proofs.Judging.{IfGood, if_then}
 use Rattle.mv_accepts_statements.proofs.Names.{entered_means, left_is}
 use Rattle.mv_accepts_texts.specs.Expressions.{NameList}
 use Rattle.mv_accepts_texts.specs.Meanings.{is_global, names_global}
-use Rattle.mv_accepts_texts.specs.Texts.{Part, in_turn, parameter, part_of, names_in_function}
+use Rattle.mv_accepts_texts.specs.Texts.{in_turn, parameter, part_of, names_in_function}
 use Rattle.mv_accepts_texts.proofs.Forms.{StmtsName}
-use Rattle.mv_accepts_texts.proofs.Scopes.{few, few_both, FewIn, Hides, hides_none, Tells}
+use Rattle.mv_accepts_texts.proofs.Scopes.{few, FewIn, hides_none, Tells}
 use Rattle.mv_accepts_texts.proofs.Locals.{params_counts, parameters_tell}
 use Rattle.mv_accepts_texts.proofs.Statements.{Body, body_tells}
 

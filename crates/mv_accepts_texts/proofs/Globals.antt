@@ -11,7 +11,6 @@ use Rattle.mv_ast.specs.declared.program.Form.TheVariants as form
 use Rattle.mv_ast.specs.declared.program.Form.TheVariants.{outs-Number, outs-Read, outs-Function, outs-Unary, outs-Binary, outs-Both, outs-Either, outs-Choose, outs-Convert, outs-Set, outs-Change, outs-After, outs-Direct, outs-Through, outs-Known}
 use Rattle.mv_ast.specs.declared.program.Known.{Known}
 use Rattle.mv_ast.specs.declared.program.Target.{Target, Target-F, out-Target, map-Target, fold_out-Target}
-use Rattle.mv_ast.specs.declared.program.Target.TheVariants as target
 use Rattle.mv_ast.specs.declared.program.Target.TheVariants.{outs-Global, outs-Local, outs-GlobalAt, outs-LocalAt}
 use Rattle.mv_ast.specs.Plans.{is_among}
 use Rattle.mv_check_scope.specs.Conversions.{int, typed, same_type, promotion, promoted, converted_to}

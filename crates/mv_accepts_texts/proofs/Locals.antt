@@ -13,18 +13,18 @@ use Rattle.mv_ast.specs.declared.unit.Node.{Node}
 use Rattle.mv_ast.specs.declared.unit.Param.{Param}
 use Rattle.mv_ast.specs.declared.unit.Specs.{Specs}
 use Rattle.mv_check_scope.specs.Conversions.{is_void, converted_to}
-use Rattle.mv_check_scope.specs.Scoped.{declared, with_local}
+use Rattle.mv_check_scope.specs.Scoped.{with_local}
 use Rattle.mv_check_scope.specs.Spaces.{named}
 use Rattle.mv_check_scope.specs.declared.meaning.Meaning.{Meaning}
 use Rattle.mv_check_scope.specs.declared.scope.Scope.{Scope}
-use Rattle.mv_check_expressions.specs.Judged.{Judged, Good, and_then, each}
+use Rattle.mv_check_expressions.specs.Judged.{each}
 use Rattle.mv_check_expressions.specs.Judgements.{value_judgement}
 use Rattle.mv_check_limits.specs.Ordered.{declarator_parameters, shape_parameters}
 use Rattle.mv_check_limits.proofs.Forms.{declarator_is}
 use Rattle.mv_check_outline.specs.Outlined.{name_of}
 use Rattle.mv_check_rules.specs.Nodes.{Declared, Scalar, Array, Function, Given, Nothing, Value, Values, Characters}
 use Rattle.mv_check_rules.specs.Nodes as node
-use Rattle.mv_check_rules.specs.Rules.{stands_here, least_broken, unless_broken, concluded}
+use Rattle.mv_check_rules.specs.Rules.{stands_here, unless_broken, concluded}
 use Rattle.mv_check_rules.specs.Declarations.{Found, in_order, found_next, Base, attributes, specifiers, declared_as, type_or_void, is_constant, local_of, scalar_here, defined_parameter, parameters, given, expressions_of, local_size, local_meaning, named_unless, local_named, local_found, local_node, local, local_declaration}
 use Rattle.mv_check_rules.specs.Declarations as rules
 use Rattle.mv_accepts_statements.proofs.Judging.{IfGood, by_good, if_any, if_more, if_then}
@@ -33,9 +33,9 @@ use Rattle.mv_accepts_texts.specs.Meanings.{is_global, names_global}
 use Rattle.mv_accepts_texts.specs.Texts.{Part, enumerators_of, names_in_initial, naming, declaring, next, in_turn, declarator, parameter}
 use Rattle.mv_accepts_texts.proofs.Globals.{either_same, among_both, NamesAny, Names, converted_names}
 use Rattle.mv_accepts_texts.proofs.Expressions.{value_names}
-use Rattle.mv_accepts_texts.proofs.Forms.{StmtNames, StmtsName, stmts_both, stmts_one, any_one, clear_names}
-use Rattle.mv_accepts_texts.proofs.Scopes.{few, few_alone, few_both, Hides, hides_names, hides_joined, Moves, moves_same, moves_joined, Tells, tells_made, tells_counts, tells_same, tells_naming, tells_declaring, tells_next}
-use Rattle.mv_accepts_texts.proofs.Specifiers.{Adds, adds_same, adds_joined, adds_declared, if_found, if_new, specifiers_adds}
+use Rattle.mv_accepts_texts.proofs.Forms.{StmtNames, StmtsName, any_one, clear_names}
+use Rattle.mv_accepts_texts.proofs.Scopes.{few, few_alone, hides_names, hides_joined, Moves, Tells, tells_made, tells_counts, tells_same, tells_naming, tells_declaring, tells_next}
+use Rattle.mv_accepts_texts.proofs.Specifiers.{Adds, adds_same, adds_joined, adds_declared, if_new, specifiers_adds}
 use Rattle.mv_accepts_texts.proofs.Shapes.{Keeps, declared_keeps}
 
 -- ---- initial values

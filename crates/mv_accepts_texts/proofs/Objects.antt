@@ -1,14 +1,12 @@
 -- A declarator of an object at file scope.
-use Rattle.std.proofs.Common.{◌≡◌, ℕ, zero, suc, ◌⊎◌, inl, inr, refl, sym, ◌∙◌, ap, subst, Bool, true, false, not, ◌&&◌, ◌||◌, is_some, if◌then◌else◌, nat_eq, List, [], ◌∷◌, ◌++◌, map, filter, length, append-nil, slice_get, Option, Some, None}
-use Rattle.std.specs.Cmp.Lexicographic.{pointwise, same_text}
-use Rattle.std.specs.List.{AllByRecursion}
+use Rattle.std.proofs.Common.{◌≡◌, ℕ, ◌⊎◌, inl, inr, refl, sym, ◌∙◌, ap, subst, Bool, true, false, not, ◌&&◌, ◌||◌, is_some, if◌then◌else◌, nat_eq, List, [], ◌∷◌, ◌++◌, length, append-nil, slice_get, Option, Some, None}
+use Rattle.std.specs.Cmp.Lexicographic.{pointwise}
 use Rattle.std.specs.Prelude.{slice_set}
 use Rattle.std.proofs.lemmas.Bool.{eqb-true, eq-eqb, or_cases, not-false}
 use Rattle.std.proofs.lemmas.List.{map-append, length-map}
 use Rattle.std.proofs.lemmas.Option.{same_Some}
 use Rattle.mv_ast.specs.declared.unit.Declarator.{Declarator}
 use Rattle.mv_ast.specs.declared.unit.Item.{Item}
-use Rattle.mv_ast.specs.declared.unit.Line.{Line}
 use Rattle.mv_check_scope.specs.Scoped.{declared}
 use Rattle.mv_check_scope.specs.Spaces.{named, or_else}
 use Rattle.mv_check_scope.specs.declared.meaning.Meaning.{Meaning}
@@ -16,9 +14,7 @@ use Rattle.mv_check_scope.specs.declared.meaning.Meaning.TheVariants as meaning
 use Rattle.mv_check_scope.specs.declared.meaning.Storage.{Storage}
 use Rattle.mv_check_scope.specs.declared.meaning.Storage.TheVariants as storage
 use Rattle.mv_check_scope.specs.declared.scope.Scope.{Scope}
-use Rattle.mv_check_expressions.specs.Judged.{Judged, Good}
 use Rattle.mv_check_outline.specs.Names.{is_among, same_name}
-use Rattle.mv_check_outline.specs.Outlined.{is_function, name_of}
 use Rattle.mv_check_rules.specs.Nodes.{Declared, Given, Global}
 use Rattle.mv_check_rules.specs.Nodes as node
 use Rattle.mv_check_rules.specs.Rules.{meaning_here, stands_here, allows_object, concluded}
@@ -30,7 +26,7 @@ use Rattle.mv_accepts_statements.proofs.Names.{named_last, names_kept}
 use Rattle.mv_accepts_statements.proofs.Places.{keeps_more, last_there}
 use Rattle.mv_accepts_texts.specs.Expressions.{NameList}
 use Rattle.mv_accepts_texts.specs.Meanings.{is_stored, is_global}
-use Rattle.mv_accepts_texts.specs.Texts.{Part, next, object_names, declarator_objects}
+use Rattle.mv_accepts_texts.specs.Texts.{Part, next}
 use Rattle.mv_accepts_texts.proofs.Functions.{rules_kept}
 use Rattle.mv_accepts_texts.proofs.Lists.{name_itself, name_is, among_last, among_more, there_last, set_same}
 use Rattle.mv_accepts_texts.proofs.Files.{texts_same, global_names, Sound}

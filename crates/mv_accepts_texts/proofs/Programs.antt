@@ -1,16 +1,11 @@
 -- The program of a unit: its functions have the switches that their texts name, and what it exceeds is told.
-use Rattle.std.proofs.Common.{◌≡◌, ℕ, zero, suc, refl, sym, ◌∙◌, ap, subst, Bool, true, false, cond, ◌||◌, if◌then◌else◌, List, [], ◌∷◌, ◌++◌, map, length, nat_lt, slice_get, Option, Some, None}
+use Rattle.std.proofs.Common.{◌≡◌, ℕ, zero, suc, refl, sym, ◌∙◌, ap, subst, Bool, true, false, cond, ◌||◌, if◌then◌else◌, List, [], ◌∷◌, map, slice_get, Option, Some, None}
 use Rattle.std.specs.Prelude.{All, unwrap_or, codes}
-use Rattle.std.specs.List.{AllByRecursion, concat, list_any, flat_map}
-use Rattle.std.specs.Option.{option_or}
+use Rattle.std.specs.List.{AllByRecursion, concat}
 use Rattle.std.proofs.lemmas.List.Elements.{recursion_from_All, All-from_recursion}
-use Rattle.std.proofs.lemmas.List.Folds.{find-append}
 use Rattle.std.proofs.lemmas.Option.{same_Some}
-use Rattle.mv_ast.specs.declared.place.Place.{Place}
 use Rattle.mv_ast.specs.declared.program.Function.{Function}
-use Rattle.mv_ast.specs.declared.program.Global as program_global
 use Rattle.mv_ast.specs.declared.program.Program.{Program}
-use Rattle.mv_ast.specs.declared.program.Stmt.{Stmt}
 use Rattle.mv_ast.specs.declared.program.Switch.{Switch}
 use Rattle.mv_ast.specs.declared.unit.Declarator.{Declarator}
 use Rattle.mv_ast.specs.declared.unit.Item.{Item}
@@ -18,9 +13,8 @@ use Rattle.mv_ast.specs.declared.unit.Line.{Line}
 use Rattle.mv_ast.specs.declared.unit.Unit as tree
 use Rattle.mv_check_scope.specs.Scoped.{meaning_of}
 use Rattle.mv_check_scope.specs.Spaces.{named}
-use Rattle.mv_check_expressions.specs.Judged.{Judged, Good, and_then}
-use Rattle.mv_check_limits.specs.Limits.{first_above}
-use Rattle.mv_check_limits.specs.Ordered.{declarator_parameters, optional_parameters, item_parameters, unit_parameters, global_elements, local_elements, declarator_elements, item_elements, unit_elements}
+use Rattle.mv_check_expressions.specs.Judged.{Good}
+use Rattle.mv_check_limits.specs.Ordered.{declarator_parameters, optional_parameters, item_parameters}
 use Rattle.mv_check_outline.specs.Names.{is_among, same_name}
 use Rattle.mv_check_outline.specs.Outlined.{is_function, name_of}
 use Rattle.mv_check_uses.specs.Uses.{numbers_from, switches_named}
@@ -28,16 +22,16 @@ use Rattle.mv_check_rules.specs.Nodes.{Global}
 use Rattle.mv_check_rules.specs.Nodes as node
 use Rattle.mv_check_rules.specs.Rules.{meaning_here}
 use Rattle.mv_check_rules.specs.Declarations.{in_order}
-use Rattle.mv_check_rules.specs.Units.{Declarations, none_declared, function_number, item, global_of, those_there, with_switches, switches_from, program, main_number, unit_end, judged_by_rules}
+use Rattle.mv_check_rules.specs.Units.{Declarations, none_declared, item, global_of, those_there, with_switches, switches_from, program, main_number, unit_end, judged_by_rules}
 use Rattle.mv_types.specs.Foreknown.{foreknown}
 use Rattle.mv_accepts_expressions.proofs.Kept.{went_on}
 use Rattle.mv_accepts_numbers.specs.Numbers.{IsForeknown, ItemsAreForeknown}
-use Rattle.mv_accepts_statements.proofs.Judging.{IfGood, of_good}
-use Rattle.mv_accepts_statements.proofs.Lists.{all_by, all_mapped, all_more}
+use Rattle.mv_accepts_statements.proofs.Judging.{of_good}
+use Rattle.mv_accepts_statements.proofs.Lists.{all_mapped}
 use Rattle.mv_accepts_texts.specs.Expressions.{NameList}
 use Rattle.mv_accepts_texts.specs.Meanings.{is_global, names_global}
-use Rattle.mv_accepts_texts.specs.Switches.{has_name_among, switches_in_text, SwitchesAreThoseOfTheText}
-use Rattle.mv_accepts_texts.specs.Texts.{Part, in_turn, item_objects, objects_named}
+use Rattle.mv_accepts_texts.specs.Switches.{has_name_among, switches_in_text}
+use Rattle.mv_accepts_texts.specs.Texts.{in_turn, item_objects, objects_named}
 use Rattle.mv_accepts_texts.proofs.Forms.{StmtsName}
 use Rattle.mv_accepts_texts.proofs.Scopes.{few, few_both}
 use Rattle.mv_accepts_texts.proofs.Functions.{rules_kept}

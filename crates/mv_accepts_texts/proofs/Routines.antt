@@ -1,7 +1,6 @@
 -- A declarator of a function at file scope, and the function that it defines.
-use Rattle.std.proofs.Common.{◌≡◌, ℕ, zero, suc, ◌<◌, ◌⊎◌, inl, inr, refl, sym, ◌∙◌, ap, subst, Bool, true, false, not, ◌&&◌, ◌||◌, is_some, if◌then◌else◌, nat_eq, List, [], ◌∷◌, ◌++◌, map, filter, length, append-nil, arith, slice_get, Option, Some, None}
-use Rattle.std.specs.List.{AllByRecursion, list_any}
-use Rattle.std.specs.Option.{IfSome}
+use Rattle.std.proofs.Common.{◌≡◌, ℕ, zero, suc, ◌<◌, ◌⊎◌, inl, inr, refl, sym, ◌∙◌, ap, subst, Bool, true, false, ◌&&◌, ◌||◌, is_some, if◌then◌else◌, List, [], ◌∷◌, ◌++◌, filter, length, append-nil, arith, slice_get, Option, Some, None}
+use Rattle.std.specs.List.{AllByRecursion}
 use Rattle.std.specs.Prelude.{slice_set, unwrap_or}
 use Rattle.std.proofs.lemmas.List.{length-set}
 use Rattle.std.proofs.lemmas.Map.Views.{any-filter_same}
@@ -16,9 +15,7 @@ use Rattle.mv_check_scope.specs.Scoped.{meaning_of, declared}
 use Rattle.mv_check_scope.specs.Spaces.{named}
 use Rattle.mv_check_scope.specs.Known.{known_function}
 use Rattle.mv_check_scope.specs.declared.meaning.Meaning.{Meaning}
-use Rattle.mv_check_scope.specs.declared.meaning.Meaning.TheVariants as meaning
 use Rattle.mv_check_scope.specs.declared.scope.Scope.{Scope}
-use Rattle.mv_check_expressions.specs.Judged.{Judged, Good}
 use Rattle.mv_check_expressions.specs.Judgements.{value_judgement}
 use Rattle.mv_check_limits.specs.Ordered.{line_parameters}
 use Rattle.mv_check_outline.specs.Names.{is_among, same_name}
@@ -27,18 +24,18 @@ use Rattle.mv_check_outline.specs.Outlined.{name_of}
 use Rattle.mv_check_rules.specs.Nodes as node
 use Rattle.mv_check_rules.specs.Rules.{stands_here, is_given, breaches, concluded}
 use Rattle.mv_check_rules.specs.Declarations.{given}
-use Rattle.mv_check_rules.specs.Units.{Declarations, behind, function_number, is_defined, is_defined_at, routine_named, params_of, definition, defined_as, defined_if, routine}
-use Rattle.mv_accepts_statements.proofs.Judging.{IfGood, if_any, if_more, if_then}
+use Rattle.mv_check_rules.specs.Units.{Declarations, behind, function_number, is_defined_at, routine_named, params_of, definition, defined_if, routine}
+use Rattle.mv_accepts_statements.proofs.Judging.{IfGood, if_any, if_then}
 use Rattle.mv_accepts_statements.proofs.Lists.{all_append}
 use Rattle.mv_accepts_texts.specs.Expressions.{NameList}
 use Rattle.mv_accepts_texts.specs.Meanings.{is_global, names_global}
-use Rattle.mv_accepts_texts.specs.Texts.{Part, next, naming, names_in_function, names_in_definition}
+use Rattle.mv_accepts_texts.specs.Texts.{Part, next, names_in_function}
 use Rattle.mv_accepts_texts.proofs.Forms.{StmtsName}
 use Rattle.mv_accepts_texts.proofs.Scopes.{few, FewIn}
 use Rattle.mv_accepts_texts.proofs.Locals.{params_counts}
 use Rattle.mv_accepts_texts.proofs.Lists.{name_itself, name_is, place_within, all_pass, set_there}
 use Rattle.mv_accepts_texts.proofs.Functions.{rules_kept, names_same, Defined, definition_tells}
-use Rattle.mv_accepts_texts.proofs.Files.{file_global, Steady, steady_names, steady_joined, steady_declared, texts_same, Sound, sound_behind, sound_text}
+use Rattle.mv_accepts_texts.proofs.Files.{file_global, Steady, steady_names, steady_declared, Sound, sound_behind, sound_text}
 
 -- ---- lists of functions
 

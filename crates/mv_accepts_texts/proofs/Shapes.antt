@@ -1,23 +1,21 @@
 -- A declarator leaves the names as they were, and adds no type of more parameters than its text has: by induction over it.
-use Rattle.std.proofs.Common.{◌≡◌, ℕ, ◌+◌, Bool, true, false, refl, sym, ◌∙◌, ap, subst, if◌then◌else◌, List, [], ◌∷◌, ◌++◌, map, length, length-append, arith, Option, Some, None}
+use Rattle.std.proofs.Common.{◌≡◌, ℕ, ◌+◌, Bool, true, false, refl, sym, ap, subst, if◌then◌else◌, List, [], ◌∷◌, ◌++◌, map, length, length-append, arith, Option, Some, None}
 use Rattle.std.specs.List.{concat}
 use Rattle.mv_ast.specs.declared.program.CType.{CType}
 use Rattle.mv_ast.specs.declared.program.Signature.{Signature}
 use Rattle.mv_ast.specs.declared.unit.Declarator.{Declarator, Declarator-F, roll-Declarator, map-Declarator, fold-Declarator, fold-roll-Declarator}
-use Rattle.mv_ast.specs.declared.unit.Node.{Node}
 use Rattle.mv_ast.specs.declared.unit.Param.{Param, Param-F, roll-Param, map-Param, fold-Param, fold-roll-Param}
 use Rattle.mv_ast.specs.declared.unit.Shape.{Shape, Shape-F, roll-Shape, map-Shape, ind-Shape, fold-roll-Shape}
 use Rattle.mv_ast.specs.declared.unit.Shape.TheOpen as shape
 use Rattle.mv_check_scope.specs.declared.scope.Scope.{Scope}
 use Rattle.mv_check_scope.specs.Conversions.{same_signature}
-use Rattle.mv_check_scope.specs.Scoped.{block_entered, block_left}
+use Rattle.mv_check_scope.specs.Scoped.{block_entered}
 use Rattle.mv_check_scope.specs.Signatures.{with_signature}
-use Rattle.mv_check_expressions.specs.Judged.{Judged, Good, and_then}
 use Rattle.mv_check_limits.specs.Ordered.{of_type, shape_layer, declarator_layer, param_layer, shape_parameters, declarator_parameters, param_parameters}
 use Rattle.mv_check_rules.specs.Nodes.{Declared}
 use Rattle.mv_check_rules.specs.Nodes as node
 use Rattle.mv_check_rules.specs.Rules.{concluded}
-use Rattle.mv_check_rules.specs.Declarations.{Found, in_order, Base, found_next, attributes, specifiers, function_type, Shapes, Declarators, Params, parameter_types, written_size, shape_step, parameter_declared, type_or_void, declarator_step, param_step, declared_as}
+use Rattle.mv_check_rules.specs.Declarations.{in_order, Base, found_next, attributes, specifiers, function_type, Shapes, Declarators, Params, parameter_types, written_size, shape_step, parameter_declared, type_or_void, declarator_step, param_step, declared_as}
 use Rattle.mv_accepts_statements.proofs.Judging.{IfGood, if_any, if_more, if_then}
 use Rattle.mv_accepts_statements.proofs.Names.{left_is}
 use Rattle.mv_accepts_texts.proofs.Scopes.{few, FewIn, few_both, few_more, Moves, moves_same, moves_joined}

@@ -1,5 +1,5 @@
 -- What a statement names is what its text names, and it adds no type of more parameters than its text has: by induction over the lines of a body.
-use Rattle.std.proofs.Common.{◌≡◌, ℕ, Bool, true, false, not, ◌||◌, refl, sym, ◌∙◌, ap, subst, if◌then◌else◌, List, [], ◌∷◌, ◌++◌, map, append-nil, append_assoc, Option, Some, None}
+use Rattle.std.proofs.Common.{◌≡◌, ℕ, Bool, true, false, not, ◌||◌, refl, sym, ◌∙◌, ap, subst, List, [], ◌∷◌, ◌++◌, map, append-nil, append_assoc, Option, Some, None}
 use Rattle.std.specs.List.{concat}
 use Rattle.mv_ast.specs.declared.place.Place.{Place}
 use Rattle.mv_ast.specs.declared.program.CType.{CType}
@@ -8,29 +8,27 @@ use Rattle.mv_ast.specs.declared.program.Stmt.{Stmt}
 use Rattle.mv_ast.specs.declared.program.Stmt.TheVariants as stmt
 use Rattle.mv_ast.specs.declared.unit.Act.{Act, Act-F, roll-Act, map-Act, fold-Act, fold-roll-Act}
 use Rattle.mv_ast.specs.declared.unit.Act.TheOpen as act
-use Rattle.mv_ast.specs.declared.unit.Declarator.{Declarator}
 use Rattle.mv_ast.specs.declared.unit.Line.{Line, Line-F, roll-Line, map-Line, ind-Line, fold-roll-Line}
 use Rattle.mv_ast.specs.declared.unit.Node.{Node}
-use Rattle.mv_ast.specs.declared.unit.Specs.{Specs}
 use Rattle.mv_ast.specs.Operators.{converted}
 use Rattle.mv_check_scope.specs.Conversions.{is_integer, promotion, promoted, converted_to}
 use Rattle.mv_check_scope.specs.Scoped.{block_entered, block_left}
 use Rattle.mv_check_scope.specs.declared.scope.Scope.{Scope}
 use Rattle.mv_check_expressions.specs.Judged.{Judged, Good, and_then}
 use Rattle.mv_check_expressions.specs.Judgements.{value_judgement, effect_judgement}
-use Rattle.mv_check_limits.specs.Ordered.{declarator_parameters, all_of, act_layer, line_layer, act_parameters, line_parameters}
+use Rattle.mv_check_limits.specs.Ordered.{declarator_parameters, act_layer, line_layer, act_parameters, line_parameters}
 use Rattle.mv_check_rules.specs.Nodes as node
-use Rattle.mv_check_rules.specs.Rules.{least_broken, unless_broken, concluded}
-use Rattle.mv_check_rules.specs.Declarations.{Found, in_order, constant, local_declaration}
-use Rattle.mv_check_rules.specs.Statements.{Surroundings, Piece, Labelled, Otherwise, Statement, labels, has_default, arms, Judges, Layer, loop_around, switch_around, lines, pieces, optional, alone, alone_if_any, first_clause, express, convert_result, is_block, arms_if_any, for_behind, statement_found, statement_of, line_of, piece_of, switch_body_of, function_body_of, act_step, line_step, judges, body, function_around}
+use Rattle.mv_check_rules.specs.Rules.{least_broken, concluded}
+use Rattle.mv_check_rules.specs.Declarations.{Found, constant, local_declaration}
+use Rattle.mv_check_rules.specs.Statements.{Surroundings, Piece, Labelled, Otherwise, Statement, labels, has_default, arms, Judges, Layer, loop_around, switch_around, lines, pieces, optional, alone, express, convert_result, is_block, arms_if_any, for_behind, statement_found, statement_of, line_of, piece_of, switch_body_of, function_body_of, act_step, line_step, judges, body, function_around}
 use Rattle.mv_accepts_statements.proofs.Judging.{IfGood, by_good, if_any, if_more, if_then}
 use Rattle.mv_accepts_texts.specs.Expressions.{NameList, names_in, names_in_any}
 use Rattle.mv_accepts_texts.specs.Meanings.{names_global}
-use Rattle.mv_accepts_texts.specs.Texts.{Part, enumerators_of, naming, declaring, next, in_turn, block, if_there, declarator, act_part, line_part, part_of}
-use Rattle.mv_accepts_texts.proofs.Globals.{either_same, among_both, Names, NamesAny, promoted_names, converted_names}
+use Rattle.mv_accepts_texts.specs.Texts.{Part, enumerators_of, naming, declaring, next, in_turn, block, declarator, act_part, line_part, part_of}
+use Rattle.mv_accepts_texts.proofs.Globals.{either_same, Names, promoted_names, converted_names}
 use Rattle.mv_accepts_texts.proofs.Expressions.{value_names, effect_names}
-use Rattle.mv_accepts_texts.proofs.Forms.{StmtNames, StmtsName, OptionNames, PieceNames, PiecesName, stmts_both, stmts_one, any_one, pieces_both, arms_names, block_names, express_names, if_names, while_names, do_names, for_names, switch_names, break_names, continue_names, return_names}
-use Rattle.mv_accepts_texts.proofs.Scopes.{few, few_alone, Hides, Moves, Tells, tells_made, tells_counts, tells_same, tells_naming, tells_next, tells_block}
+use Rattle.mv_accepts_texts.proofs.Forms.{StmtNames, StmtsName, OptionNames, PiecesName, stmts_both, stmts_one, any_one, pieces_both, arms_names, block_names, express_names, if_names, while_names, do_names, for_names, switch_names, break_names, continue_names, return_names}
+use Rattle.mv_accepts_texts.proofs.Scopes.{few_alone, Hides, Moves, Tells, tells_made, tells_counts, tells_naming, tells_next, tells_block}
 use Rattle.mv_accepts_texts.proofs.Specifiers.{if_found}
 use Rattle.mv_accepts_texts.proofs.Locals.{broken_anyway, declaration_tells}
 

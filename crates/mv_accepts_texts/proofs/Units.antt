@@ -1,5 +1,5 @@
 -- Declarators, declarations and units.
-use Rattle.std.proofs.Common.{◌≡◌, ℕ, zero, suc, refl, sym, ◌∙◌, ap, subst, Bool, true, false, not, ◌&&◌, ◌||◌, is_some, nat_eq, if◌then◌else◌, List, [], ◌∷◌, ◌++◌, map, filter, length, append-nil, append_assoc, slice_get, replicate, Option, Some, None}
+use Rattle.std.proofs.Common.{◌≡◌, ℕ, zero, suc, refl, sym, ◌∙◌, ap, subst, Bool, true, false, is_some, nat_eq, if◌then◌else◌, List, [], ◌∷◌, ◌++◌, map, filter, length, append-nil, append_assoc, slice_get, replicate, Option, Some, None}
 use Rattle.std.specs.List.{AllByRecursion, concat}
 use Rattle.std.proofs.lemmas.List.{length-map, length-replicate}
 use Rattle.mv_ast.specs.declared.program.CType.{CType}
@@ -13,8 +13,7 @@ use Rattle.mv_ast.specs.declared.unit.Shape.TheOpen as shape
 use Rattle.mv_ast.specs.declared.unit.Specs.{out-Specs}
 use Rattle.mv_check_scope.specs.declared.meaning.Meaning.{Meaning}
 use Rattle.mv_check_scope.specs.declared.scope.Scope.{Scope}
-use Rattle.mv_check_expressions.specs.Judged.{Judged, Good, and_then}
-use Rattle.mv_check_limits.specs.Ordered.{of_type, shape_layer, declarator_layer, param_layer, shape_parameters, declarator_parameters, param_parameters, optional_parameters}
+use Rattle.mv_check_limits.specs.Ordered.{shape_layer, declarator_layer, param_layer, shape_parameters, declarator_parameters, param_parameters, optional_parameters}
 use Rattle.mv_check_limits.proofs.Forms.{declarator_is}
 use Rattle.mv_check_outline.specs.Names.{is_among, same_name}
 use Rattle.mv_check_outline.specs.Outlined as outlined
@@ -22,19 +21,19 @@ use Rattle.mv_check_outline.specs.Outlined.{is_function_form, is_function, name_
 use Rattle.mv_check_rules.specs.Nodes.{Declared, Scalar, Array}
 use Rattle.mv_check_rules.specs.Nodes as node
 use Rattle.mv_check_rules.specs.Rules.{breaches, concluded}
-use Rattle.mv_check_rules.specs.Declarations.{Found, in_order, Base, Attribution, attributes, scalar_kind, specifiers, Shapes, Declarators, Params, written_size, parameter_types, function_type, shape_step, declarator_step, param_step, declared_as, parameters, given}
-use Rattle.mv_check_rules.specs.Units.{Declarations, none_declared, behind, bearer, bearers, is_constant_object, function_number, constant_expression, domain, earlier, object_named, new_global, object_meaning, object_found, object, routine, function_entered, function_left, params_of_form, params_of, by_form, value_of_form, nameless, by_name, defined_parameters, declarator, declares_nothing, item}
+use Rattle.mv_check_rules.specs.Declarations.{in_order, Base, Attribution, attributes, scalar_kind, specifiers, Shapes, Declarators, Params, written_size, parameter_types, function_type, shape_step, declarator_step, param_step, declared_as, parameters, given}
+use Rattle.mv_check_rules.specs.Units.{Declarations, none_declared, behind, bearer, bearers, is_constant_object, function_number, constant_expression, domain, earlier, object_named, new_global, object_meaning, object_found, object, routine, function_entered, params_of_form, params_of, by_form, value_of_form, by_name, defined_parameters, declarator, declares_nothing, item}
 use Rattle.mv_accepts_statements.proofs.Judging.{IfGood, if_any, if_both, if_more, if_then}
 use Rattle.mv_accepts_statements.proofs.Names.{left_is}
 use Rattle.mv_accepts_texts.specs.Expressions.{NameList}
 use Rattle.mv_accepts_texts.specs.Meanings.{is_global}
-use Rattle.mv_accepts_texts.specs.Texts.{Part, naming, next, in_turn, parameter, object_names, names_in_function, names_in_definition, declarator_objects, item_objects, enumerators_of}
+use Rattle.mv_accepts_texts.specs.Texts.{Part, naming, next, in_turn, parameter, names_in_function, names_in_definition, declarator_objects, item_objects, enumerators_of}
 use Rattle.mv_accepts_texts.proofs.Scopes.{few, few_both, FewIn, Tells}
 use Rattle.mv_accepts_texts.proofs.Specifiers.{Adds, if_found, specifiers_adds}
 use Rattle.mv_accepts_texts.proofs.Shapes.{Keeps, declarator_found, param_found, declared_keeps}
 use Rattle.mv_accepts_texts.proofs.Locals.{or_nothing, params_counts, parameters_tell}
 use Rattle.mv_accepts_texts.proofs.Functions.{rules_kept}
-use Rattle.mv_accepts_texts.proofs.Files.{Steady, steady_names, steady_joined, steady_adds, Sound, sound_behind, sound_text}
+use Rattle.mv_accepts_texts.proofs.Files.{steady_names, steady_adds, Sound, sound_behind, sound_text}
 use Rattle.mv_accepts_texts.proofs.Objects.{With, object_sound}
 use Rattle.mv_accepts_texts.proofs.Routines.{WithOptional, Counts, Numbered, routine_sound}
 

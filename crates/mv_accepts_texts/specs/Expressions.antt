@@ -1,5 +1,5 @@
 -- Which names stand in an expression, by the tree of the unit alone.
-use Rattle.std.specs.Prelude.{ℕ, Bool, false, List, [], ◌∷◌, ◌++◌, map, if◌then◌else◌, Option, Some, None}
+use Rattle.std.specs.Prelude.{ℕ, Bool, false, List, [], ◌∷◌, ◌++◌, if◌then◌else◌, Option, Some, None}
 use Rattle.std.specs.List.{flat_map}
 use Rattle.mv_ast.specs.declared.unit.EnumSpec.{EnumSpec-F}
 use Rattle.mv_ast.specs.declared.unit.Mark.{Mark-F}

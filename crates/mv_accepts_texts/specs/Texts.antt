@@ -1,5 +1,5 @@
 -- Which names stand in the text of a function and mean nothing that the function declares (C11 6.2.1), by the tree of the unit alone.
-use Rattle.std.specs.Prelude.{ℕ, Bool, true, false, not, List, [], ◌∷◌, ◌++◌, map, filter, if◌then◌else◌, Option, Some, None}
+use Rattle.std.specs.Prelude.{ℕ, not, List, [], ◌∷◌, ◌++◌, map, filter, if◌then◌else◌, Option, Some, None}
 use Rattle.std.specs.List.{flat_map}
 use Rattle.mv_ast.specs.declared.unit.Act.{Act-F}
 use Rattle.mv_ast.specs.declared.unit.Act.TheOpen as act
