@@ -109,7 +109,8 @@ unit_elements u p = concat (map (item_elements p) u.items)
 
 -- ---- the limits
 
--- The counts of a limit as the text has them, and behind them those of the program, of which the text has each.
+-- The counts of a limit as the text has them, and behind them those of the program, which decide nothing where the unit breaks no rule: the text tells what
+-- its program exceeds.
 abbrev pub in_text : List ℕ → Limit → Limit
 in_text told l = record l { counts = told ++ l.counts }
 
