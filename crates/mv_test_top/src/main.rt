@@ -62,7 +62,10 @@ fn compare(rt: &HostRuntime, row: &Row, outcome: &Outcome) -> io::Result<()> {
     let line = format!(in rt.alloc(); "eval {file} --bound 1000000")?;
     let evaluated = outcome_of(rt, row, line.as_str(), "fresh")?;
     if outcome.out.as_slice() != evaluated.out.as_slice()
-        || !outcome.notes.as_slice().ends_with(evaluated.notes.as_slice())
+        || !outcome
+            .notes
+            .as_slice()
+            .ends_with(evaluated.notes.as_slice())
     {
         println!(rt; "# and it means something else")?;
     }

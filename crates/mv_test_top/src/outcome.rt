@@ -76,7 +76,12 @@ fn command_of(rt: &HostRuntime, row: &Row, line: &str) -> io::Result<Command> {
     Ok(Command {
         words: words_of(alloc, line)?,
         input: MemSource::new(input_of(rt, row)?, vec![in alloc; row.number("read", 0)]?),
-        out: sink_of(alloc, row.number("room", ROOM), ROOM, row.number("write", 0))?,
+        out: sink_of(
+            alloc,
+            row.number("room", ROOM),
+            ROOM,
+            row.number("write", 0),
+        )?,
         notes: sink_of(
             alloc,
             row.number("notes", ROOM),
