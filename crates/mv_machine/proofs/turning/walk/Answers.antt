@@ -29,7 +29,7 @@ loop-left-preserved g c =
     let count = s.4 in
     let quiet = told_nothing _ _ l.probes.items (patient_after _ _ i.goes.3.1 c.args.probes.now.items l.probes.items i.goes.3.3) in
     let goes = goes_on (c.args.steps - l.left) x l.engine l.operator (g.I.Source.left l.source) (g.O.Sink.written l.sink) _ _ _ _
-        (λ xs ys before behind. told_then _ _ xs ys c.args.probes.now.items l.probes.items l.probes.items before behind) quiet i.goes s.0 s.1 s.2 s.3 s.5 in
+    (λ xs ys before behind. told_then _ _ xs ys c.args.probes.now.items l.probes.items l.probes.items before behind) quiet i.goes s.0 s.1 s.2 s.3 s.5 in
     let turn = turns_by last l.operator (g.I.Source.left l.source) (g.O.Sink.written l.sink) None z c.go_on-stepped.new.hart c.go_on-stepped.new.memory _ _ A B _ c.go_on-stepped.result.stepped s.6 c.in_default.ensures.moves in
     record {
       few = omega (arith, few, count);
@@ -59,7 +59,7 @@ returns-in-Some-clause-walked g c =
     let count = s.4 in
     let quiet = told_nothing _ _ l.probes.items (patient_after _ _ i.goes.3.1 c.args.probes.now.items l.probes.items i.goes.3.3) in
     let goes = goes_on (c.args.steps - l.left) x l.engine l.operator (g.I.Source.left l.source) (g.O.Sink.written l.sink) _ _ _ _
-        (λ xs ys before behind. told_then _ _ xs ys c.args.probes.now.items l.probes.items l.probes.items before behind) quiet i.goes s.0 s.1 s.2 s.3 s.5 in
+    (λ xs ys before behind. told_then _ _ xs ys c.args.probes.now.items l.probes.items l.probes.items before behind) quiet i.goes s.0 s.1 s.2 s.3 s.5 in
     let turn = turns_by last l.operator (g.I.Source.left l.source) (g.O.Sink.written l.sink) _ z c.go_on-stepped.new.hart c.go_on-stepped.new.memory _ _ A B _ c.go_on-stepped.result.stepped s.6 c.in-Some.ensures.moves in (
       c.args.steps - l.left + s.0,
       y,
