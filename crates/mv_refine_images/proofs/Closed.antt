@@ -1,5 +1,4 @@
 -- What the code of a function, of a variant and of an inline body may load isn't closed to its words.
-use mathlib.Core.Bool.{and-false}
 use Rattle.std.proofs.Common.{◌≡◌, ◌⊎◌, inl, inr, ⊎_elim, ℕ, zero, suc, ◌+◌, ◌*◌, ◌%◌, ◌<◌, ◌≤◌, Bool, true, false, not, cond, ◌&&◌, ◌||◌, ◌==◌, eqb, leb, ltb, List, [], ◌∷◌, Option, Some, None, is_some, length, slice_get, refl, sym, ap, ap₂, ◌∙◌, subst, arith, eq-eqb}
 use Rattle.std.specs.List.{find}
 use Rattle.std.proofs.lemmas.Bool.{cases_eq, cases_lt, and_parts, eqb-true, leb-true, ltb-true, lt-leb, le-ltb, ne_eqb}
@@ -23,6 +22,10 @@ use Rattle.mv_linker.specs.Linked.{codes}
 use Rattle.mv_refine_programs.specs.Hosts.{IsOpenIn}
 use Rattle.mv_refine_images.specs.Closed.{is_closed_to_function, is_closed_to_variant, is_closed_to_variants_of, closed_to_codes, is_data_of, is_data_among, is_data_where, is_word_of, is_closed_from, is_closed_beside, closed}
 use Rattle.mv_refine_images.specs.Layouts.{address_of, layout_of}
+
+never : (b : Bool) → (b && false) ≡ false
+never true = refl
+never false = refl
 
 -- ---- globals
 
@@ -181,7 +184,7 @@ module _ (image : Fields) (parts : Parts) (sizing : List ℕ) (p : Program) (out
             let last = ne_eqb (suc k) count (λ e. omega (arith, e, lt, within)) in
             let behind = le-ltb pc (address_of parts sizing (suc k)) (upper lt) in
             ap (λ c. leb (address_of parts sizing k) pc && (c || ltb pc (address_of parts sizing (suc k)))) last
-            ∙ ap (λ c. leb (address_of parts sizing k) pc && c) behind ∙ and-false (leb (address_of parts sizing k) pc)
+            ∙ ap (λ c. leb (address_of parts sizing k) pc && c) behind ∙ never (leb (address_of parts sizing k) pc)
 
         later : f ≤ k → is_word_of image parts sizing p k pc ≡ false
         later le =
@@ -200,7 +203,7 @@ module _ (image : Fields) (parts : Parts) (sizing : List ℕ) (p : Program) (out
         by : (k : ℕ) (x : ℕ → Bool) → slice_get (closed_to_codes p parts) k ≡ Some x → (k ≡ f) ⊎ (k ≡ f → ⊥) → (is_word_of image parts sizing p (0 + k) pc && is_data_where image parts sizing p x a) ≡ false
         by k x e (inl is) =
             let same : x ≡ test = some_same x test (sym e ∙ ap (slice_get (closed_to_codes p parts)) is ∙ here) in
-            ap (λ c. is_word_of image parts sizing p (0 + k) pc && c) (subst (λ (t : ℕ → Bool). shuts t a) (sym same) free) ∙ and-false (is_word_of image parts sizing p (0 + k) pc)
+            ap (λ c. is_word_of image parts sizing p (0 + k) pc && c) (subst (λ (t : ℕ → Bool). shuts t a) (sym same) free) ∙ never (is_word_of image parts sizing p (0 + k) pc)
         by k x e (inr ne) =
             let zero_more : k ≡ 0 + k = omega arith in
             let lt = slice_get_within (closed_to_codes p parts) k x e in
@@ -213,7 +216,7 @@ module _ (image : Fields) (parts : Parts) (sizing : List ℕ) (p : Program) (out
         let h = beside image pc word stands in
         ap₂ (λ (s t : Option SiteRow). eqb (pc % 4) 0 && is_closed_beside image parts sizing p s t pc a) h.first h.second
         ∙ ap (λ c. eqb (pc % 4) 0 && c) (open_from pc a (omega (arith, low, ge)) lt (none_read y out a test b reads may (length p.globals)))
-        ∙ and-false (eqb (pc % 4) 0)
+        ∙ never (eqb (pc % 4) 0)
 
   -- ---- sites
 
@@ -257,7 +260,7 @@ module _ (image : Fields) (parts : Parts) (sizing : List ℕ) (p : Program) (out
 
   -- none of it is closed to any code
   pub plan_open : (stub : ℕ) → IsPlanOpen (closed image parts sizing p) stub
-  plan_open stub pc a ge lt plan = ap (λ c. eqb (pc % 4) 0 && c) (all_open (site_at image pc) (site_before image pc)) ∙ and-false (eqb (pc % 4) 0)
+  plan_open stub pc a ge lt plan = ap (λ c. eqb (pc % 4) 0 && c) (all_open (site_at image pc) (site_before image pc)) ∙ never (eqb (pc % 4) 0)
     where
       none : (test : ℕ → Bool) → shuts test a
       none test = none_behind y out a test (omega (arith, plan)) (length p.globals)
@@ -266,4 +269,4 @@ module _ (image : Fields) (parts : Parts) (sizing : List ℕ) (p : Program) (out
       all_open (Some s) t = none (is_closed_to_variants_of p (slice_get (attributed_functions p) s.function))
       all_open None (Some t) = none (is_closed_to_variants_of p (slice_get (attributed_functions p) t.function))
       all_open None None =
-          from_shut (closed_to_codes p parts) 0 pc a (λ k test e. ap (λ c. is_word_of image parts sizing p (0 + k) pc && c) (none test) ∙ and-false (is_word_of image parts sizing p (0 + k) pc))
+          from_shut (closed_to_codes p parts) 0 pc a (λ k test e. ap (λ c. is_word_of image parts sizing p (0 + k) pc && c) (none test) ∙ never (is_word_of image parts sizing p (0 + k) pc))

@@ -1,7 +1,7 @@
 -- What is closed to a variant's code is so to its function's switches: so none is loaded there.
 use Rattle.std.proofs.Common.{◌≡◌, ◌⊎◌, inl, inr, ⊎_elim, ℕ, zero, suc, ◌+◌, ◌-◌, ◌*◌, ◌%◌, ◌<◌, ◌≤◌, Bool, true, false, cond, ◌&&◌, ◌||◌, eqb, leb, ltb, List, [], ◌∷◌, Option, Some, None, length, map, take, slice_get, refl, sym, ap, ◌∙◌, subst, arith, eq-eqb}
 use Rattle.std.specs.Prelude.{Contains, nat_eq}
-use Rattle.std.proofs.lemmas.Bool.{and_from, cases_eq, cases_lt, le-leb, lt-ltb, or_right, or_left}
+use Rattle.std.proofs.lemmas.Bool.{and_from, cases_eq, cases_lt, le-leb, lt-ltb}
 use Rattle.std.proofs.lemmas.List.{length-append, length-map}
 use Rattle.std.proofs.lemmas.List.Sums.{sum_by_more}
 use Rattle.std.proofs.lemmas.Option.{get_or_from_slice_get, slice_get_within}
@@ -41,12 +41,19 @@ use Rattle.mv_refine_images.proofs.Listed.{rows_count, test_of_variant, variants
 
 -- ---- tests that hold
 
+later : (b c : Bool) → c ≡ true → (b || c) ≡ true
+later true c h = refl
+later false c h = h
+
+first : (b c : Bool) → b ≡ true → (b || c) ≡ true
+first b c h = ap (λ d. d || c) h
+
 -- a test holds of an address in the data words of a global that passes it
 in_data : (y : Layout) (test : ℕ → Bool) (x a : ℕ) → (is_data_of y x a && test x) ≡ true → (count : ℕ) → x < count → is_data_among y test count a ≡ true
 in_data y test x a h zero lt = absurd (omega (arith, lt))
 in_data y test x a h (suc c) lt = ⊎_elim
-    (λ (e : x ≡ c). or_left (is_data_of y c a && test c) (is_data_among y test c a) (subst (λ z. (is_data_of y z a && test z) ≡ true) e h))
-    (λ (ne : x ≡ c → ⊥). or_right (is_data_of y c a && test c) (is_data_among y test c a) (in_data y test x a h c (less ne)))
+    (λ (e : x ≡ c). first (is_data_of y c a && test c) (is_data_among y test c a) (subst (λ z. (is_data_of y z a && test z) ≡ true) e h))
+    (λ (ne : x ≡ c → ⊥). later (is_data_of y c a && test c) (is_data_among y test c a) (in_data y test x a h c (less ne)))
     (cases_eq x c)
   where
     less : (x ≡ c → ⊥) → x < c
@@ -55,8 +62,8 @@ in_data y test x a h (suc c) lt = ⊎_elim
 -- an element is among what its list is mapped to
 is_mapped : (f : ℕ → ℕ) (ss : List ℕ) (i s : ℕ) → slice_get ss i ≡ Some s → is_among (f s) (map f ss) ≡ true
 is_mapped f [] i s e = absurd (cc e)
-is_mapped f (z ∷ ss) zero s e = let same : z ≡ s = some_same z s e in or_left (nat_eq (f s) (f z)) (is_among (f s) (map f ss)) (eq-eqb (f s) (f z) (ap f (sym same)))
-is_mapped f (z ∷ ss) (suc i) s e = or_right (nat_eq (f s) (f z)) (is_among (f s) (map f ss)) (is_mapped f ss i s e)
+is_mapped f (z ∷ ss) zero s e = let same : z ≡ s = some_same z s e in first (nat_eq (f s) (f z)) (is_among (f s) (map f ss)) (eq-eqb (f s) (f z) (ap f (sym same)))
+is_mapped f (z ∷ ss) (suc i) s e = later (nat_eq (f s) (f z)) (is_among (f s) (map f ss)) (is_mapped f ss i s e)
 
 -- the address of a variant's row is that of its code
 row_at : (address : ℕ → ℕ) (vs : List PartVariant) (number k : ℕ) (row : VariantRow) → slice_get (variant_rows address number vs) k ≡ Some row → row.address ≡ address (number + k)
@@ -133,7 +140,7 @@ module _ (laws : Laws) (p : Program) (image : Fields) (formed : IsWellFormed p) 
       let from = o.from in let to = o.to in
       let inside : is_data_of y x a ≡ true =
       and_from (leb (y.place x) a) (ltb a (y.place x + 4 * y.size x)) (le-leb (y.place x) a (omega (arith, from, place))) (lt-ltb a (y.place x + 4 * y.size x) (omega (arith, to, place, some))) in
-      in_data y (is_closed_to_variant p g) x a (and_from (is_data_of y x a) (is_closed_to_variant p g x) inside (or_left (is_among x (lower_function p g).switches) _ among)) (length p.globals) (a_global x some)
+      in_data y (is_closed_to_variant p g) x a (and_from (is_data_of y x a) (is_closed_to_variant p g x) inside (first (is_among x (lower_function p g).switches) _ among)) (length p.globals) (a_global x some)
 
   -- ---- code of its variants
 
@@ -143,12 +150,12 @@ module _ (laws : Laws) (p : Program) (image : Fields) (formed : IsWellFormed p) 
   from_closed (t ∷ tests) f zero pc a test e word holds =
       let same : t ≡ test = some_same t test e in
       let none : f + 0 ≡ f = omega arith in
-      or_left (is_word_of image parts sizing p f pc && is_data_where image parts sizing p t a) (is_closed_from image parts sizing p (suc f) tests pc a)
+      first (is_word_of image parts sizing p f pc && is_data_where image parts sizing p t a) (is_closed_from image parts sizing p (suc f) tests pc a)
       (and_from (is_word_of image parts sizing p f pc) (is_data_where image parts sizing p t a) (subst (λ z. is_word_of image parts sizing p z pc ≡ true) none word)
       (subst (λ (u : ℕ → Bool). is_data_where image parts sizing p u a ≡ true) (sym same) holds))
   from_closed (t ∷ tests) f (suc k) pc a test e word holds =
       let one : f + suc k ≡ suc f + k = omega arith in
-      or_right (is_word_of image parts sizing p f pc && is_data_where image parts sizing p t a) (is_closed_from image parts sizing p (suc f) tests pc a)
+      later (is_word_of image parts sizing p f pc && is_data_where image parts sizing p t a) (is_closed_from image parts sizing p (suc f) tests pc a)
       (from_closed tests (suc f) k pc a test e (subst (λ z. is_word_of image parts sizing p z pc ≡ true) one word) holds)
 
   module _ (n a pc : ℕ) (o : IsOwnSwitch image n a) where
@@ -220,11 +227,11 @@ module _ (laws : Laws) (p : Program) (image : Fields) (formed : IsWellFormed p) 
           let address = address_is (v.variant + 1) next.0 next.1 in
           let same : length parts.functions + (v.variant + 1) ≡ suc (length parts.functions + v.variant) = omega arith in
           let behind = v.ends next.0 next.1 in
-          or_right last below (lt-ltb pc (at (suc (length parts.functions + v.variant))) (subst (λ z. pc < z) (address ∙ ap at same) behind))
+          later last below (lt-ltb pc (at (suc (length parts.functions + v.variant))) (subst (λ z. pc < z) (address ∙ ap at same) behind))
       ends (inr end) =
           let lt = slice_get_within image.variants v.variant v.row v.there in
           let count = many in
-          or_left last below (eq-eqb (suc (length parts.functions + v.variant)) (length (codes parts)) (omega (arith, end, lt, count)))
+          first last below (eq-eqb (suc (length parts.functions + v.variant)) (length (codes parts)) (omega (arith, end, lt, count)))
 
       is_its_word : is_word_of image parts sizing p (length parts.functions + v.variant) pc ≡ true
       is_its_word =
