@@ -18,8 +18,8 @@ use Rattle.mv_ir.specs.declared.stm.Stm.TheOpen as stm
 use Rattle.mv_ir.specs.declared.stm.Stm.TheViews.{roll-Stm}
 use Rattle.mv_ir.specs.declared.stm.Stm.TheFolds.{map-Stm}
 use Rattle.mv_ir.proofs.Induction.{Each, TreeChildren, StmChildren, stm_ind, stms_ind}
-use Rattle.mv_select_trees.specs.TreeCode.{one, two, upper_bits, lower_bits, number_lines, tree_into, tree_lines, temp_register, temp_offset}
-use Rattle.mv_select_trees.proofs.TreesAreMade.{number_made, into_made, lines_made}
+use Rattle.mv_select_trees.specs.TreeCode.{one, two, upper_bits, lower_bits, number_lines, tree_into, tree_lines, operand_lines, operand_register, temp_register, temp_offset}
+use Rattle.mv_select_trees.proofs.TreesAreMade.{number_made, into_made, lines_made, operand_made}
 use Rattle.mv_select_statements.specs.declared.elements.Home.{Home}
 use Rattle.mv_select_statements.specs.declared.elements.Home.TheVariants as place_at
 use Rattle.mv_select_statements.specs.StatementCode.{first, second, third, trap_label, target, keep_lines, division, element_offset, element_lines, test_lines}
@@ -76,6 +76,9 @@ into_none place t d r = into_made HasNone refl (λ i. refl) (λ a b h k. after a
 
 tree_none : (place : ℕ → ℕ) (t : Tree) (r : ℕ) → HasNone (tree_lines place t r)
 tree_none place t r = lines_made HasNone refl (λ i. refl) (λ a b h k. after a b h k) Anything anything_inside (λ f d h. refl) place t tt r
+
+operand_none : (place : ℕ → ℕ) (t : Tree) (r : ℕ) → HasNone (operand_lines place t r)
+operand_none place t r = operand_made HasNone refl (λ i. refl) (λ a b h k. after a b h k) Anything anything_inside (λ f d h. refl) place t tt r
 
 -- ---- parts of statements
 
@@ -197,10 +200,13 @@ module _ (weight : ℕ → ℕ) (place : ℕ → ℕ) (is_attributed : ℕ → B
     trees : (t : Tree) (r : ℕ) → HasNone (tree_lines place t r)
     trees = tree_none place
 
+    operands : (t : Tree) (r : ℕ) → HasNone (operand_lines place t r)
+    operands = operand_none place
+
     layer : (x : Stm-F Stm) → StmChildren StmHas x → CodeHas (layer_weight direct 0 (map-Stm Stm ℕ w x)) (code_layer P (map-Stm Stm Emitted (statement_code P) x))
     layer (stm.Set t v) h around label = behind weight (tree_into place v (target t) first) (keep_lines t) (into_none place v (target t) first) (none_weighs weight (keep_lines t) (keep_none t))
     layer (stm.SetGlobal g v) h around label =
-        behind weight (tree_lines place v first) (two (Lui second (pos (upper_bits (place g)))) (Sw second first (lower_bits (place g)))) (trees v first) refl
+        behind weight (operand_lines place v first) (two (Lui second (pos (upper_bits (place g)))) (Sw second (operand_register v first) (lower_bits (place g)))) (operands v first) refl
     layer (stm.Divide t o a b) h around label =
         let rest = Branch 0 second 0 (trap_label 1) ∷ (Word (division o (target t)) ∷ keep_lines t) in
         behind weight (tree_lines place a first) (tree_lines place b second ++ rest) (trees a first) (behind weight (tree_lines place b second) rest (trees b second) (none_weighs weight rest (keep_none t)))

@@ -82,6 +82,9 @@ module _ (is_known : ℕ → Bool) where
     same_tree : (t : Tree) → ReadsKnown t → (r : ℕ) → tree_lines place t r ≡ tree_lines place' t r
     same_tree t h r = lines_are place t r ∙ same_into t h r r ∙ sym (lines_are place' t r)
 
+    same_operands : (t : Tree) → ReadsKnown t → (r : ℕ) → operand_lines place t r ≡ operand_lines place' t r
+    same_operands t = same_operand t (same_into t)
+
     -- ---- calls
 
     same_arguments : (n : ℕ) (ts : List Tree) → Each ReadsKnown ts → argument_lines place n ts ≡ argument_lines place' n ts
@@ -149,8 +152,9 @@ module _ (is_known : ℕ → Bool) where
           Each IsKnownArray (layer_named (map-Stm Stm (List Array) stm_named x)) → layer_code P x ≡ layer_code Q x
       layer (stm.Set t v) c h k = ap (λ l. plain (l ++ keep_lines t)) (same_into v h.0 (target t) first)
       layer (stm.SetGlobal g v) c h k =
-          ap (λ l. plain (l ++ two (Lui second (pos (upper_bits (place g)))) (Sw second first (lower_bits (place g))))) (same_tree v h.0 first) ∙
-          ap (λ a. plain (tree_lines place' v first ++ two (Lui second (pos (upper_bits a))) (Sw second first (lower_bits a)))) (same_place g k.0)
+          let q = operand_register v first in
+          ap (λ l. plain (l ++ two (Lui second (pos (upper_bits (place g)))) (Sw second q (lower_bits (place g))))) (same_operands v h.0 first) ∙
+          ap (λ a. plain (operand_lines place' v first ++ two (Lui second (pos (upper_bits a))) (Sw second q (lower_bits a)))) (same_place g k.0)
       layer (stm.Divide t o a b) c h k =
           let rest = λ (l : List Line). l ++ (Branch 0 second 0 (trap_label 1) ∷ (Word (division o (target t)) ∷ keep_lines t)) in
           ap (λ l. plain (l ++ rest (tree_lines place b second))) (same_tree a h.0 first) ∙

@@ -11,8 +11,8 @@ use Rattle.mv_ir.specs.declared.tree.Tree.TheOpen as tree
 use Rattle.mv_ir.specs.declared.tree.Tree.TheViews.{roll-Tree}
 use Rattle.mv_ir.specs.declared.tree.Tree.TheFolds.{fold-roll-Tree, map-Tree}
 use Rattle.mv_ir.proofs.Induction.{TreeChildren}
-use Rattle.mv_select_trees.specs.TreeCode.{one, two, upper_bits, lower_bits, number_lines, temp_offset, tree_into, tree_lines}
-use Rattle.mv_select_trees.proofs.TreesAreMade.{number_made, into_made, lines_made}
+use Rattle.mv_select_trees.specs.TreeCode.{one, two, upper_bits, lower_bits, number_lines, temp_offset, tree_into, tree_lines, operand_lines, operand_register}
+use Rattle.mv_select_trees.proofs.TreesAreMade.{number_made, into_made, lines_made, operand_made}
 use Rattle.mv_select_statements.specs.declared.elements.Home.{Home}
 use Rattle.mv_select_statements.specs.declared.elements.Home.TheVariants as home
 use Rattle.mv_select_statements.specs.StatementCode.{first, second, third, trap_label, target, keep_lines, division, element_offset, element_lines, test_lines, bounds_lines, clear_lines, set_lines, set_global_lines, divide_lines, check_lines, read_lines, write_lines, return_lines}
@@ -72,6 +72,9 @@ module _ (P : ℕ → Type 0) where
     pub tree_names : (t : Tree) → Fs t → (r : ℕ) → AllName (tree_lines place t r)
     tree_names = lines_made AllName (All-nil (Names P)) word after Fs (functions_inside P) entry_names place
 
+    operand_names : (t : Tree) → Fs t → (r : ℕ) → AllName (operand_lines place t r)
+    operand_names = operand_made AllName (All-nil (Names P)) word after Fs (functions_inside P) entry_names place
+
     into_names : (t : Tree) → Fs t → (d r : ℕ) → AllName (tree_into place t d r)
     into_names = into_made AllName (All-nil (Names P)) word after Fs (functions_inside P) entry_names place
 
@@ -112,8 +115,9 @@ module _ (P : ℕ → Type 0) where
 
     pub set_global_names : (g : ℕ) (v : Tree) → Fs v → AllName (set_global_lines place g v)
     set_global_names g v h =
-        let store = two (Lui second (pos (upper_bits (place g)))) (Sw second first (lower_bits (place g))) in
-        after (tree_lines place v first) store (tree_names v h first) (words (Lui second (pos (upper_bits (place g)))) (Sw second first (lower_bits (place g))))
+        let high = Lui second (pos (upper_bits (place g))) in
+        let store = Sw second (operand_register v first) (lower_bits (place g)) in
+        after (operand_lines place v first) (two high store) (operand_names v h first) (words high store)
 
     pub divide_names : (t o : ℕ) (a b : Tree) → P (trap_label 1) → Fs a → Fs b → AllName (divide_lines place t o a b)
     divide_names t o a b p h k =

@@ -11,9 +11,10 @@ use Rattle.mv_isa.specs.Encoding.{Fits, IsSigned}
 use Rattle.mv_isa.specs.Code.{LineFits, IsCondition, greatest_words}
 use Rattle.mv_ir.specs.declared.tree.Tree.{Tree}
 use Rattle.mv_ir.specs.Trees.{nodes}
-use Rattle.mv_select_trees.specs.TreeCode.{upper_bits, lower_bits, one, two, number_lines, temp_register, temp_offset, tree_into, tree_lines}
-use Rattle.mv_select_trees.proofs.TreesAreShort.{number_size, trees_are_short, into_short}
-use Rattle.mv_select_trees.proofs.TreesFit.{one_fits, small_fits, lower_fits, upper_fits, count_fits, number_fits, register_below, trees_fit, into_fits}
+use Rattle.mv_select_trees.specs.TreeCode.{upper_bits, lower_bits, one, two, number_lines, temp_register, temp_offset, tree_into, tree_lines, operand_lines, operand_register}
+use Rattle.mv_select_trees.proofs.Operands.{operand_below}
+use Rattle.mv_select_trees.proofs.TreesAreShort.{number_size, trees_are_short, into_short, operand_short}
+use Rattle.mv_select_trees.proofs.TreesFit.{one_fits, small_fits, lower_fits, upper_fits, count_fits, number_fits, register_below, trees_fit, into_fits, operand_fits}
 use Rattle.mv_select_statements.specs.declared.elements.Home.{Home}
 use Rattle.mv_select_statements.specs.declared.elements.Home.TheVariants as home
 use Rattle.mv_select_statements.specs.StatementCode.{first, second, third, trap_label, write_temp, target, keep_lines, division, element_offset, element_lines, home_below, test_lines, bounds_lines, clear_lines}
@@ -102,6 +103,9 @@ module _ (place : ℕ → ℕ) where
   pub tree_code : (v : Tree) (r : ℕ) → r ≤ 28 → IsSmall v → IsCode (2 * nodes v) (tree_lines place v r)
   tree_code v r le h = (trees_fit place v r (omega (arith, h.0, le)) h.1, trees_are_short place v r)
 
+  operand_code : (v : Tree) (r : ℕ) → r ≤ 28 → IsSmall v → IsCode (2 * nodes v) (operand_lines place v r)
+  operand_code v r le h = (operand_fits place v r (omega (arith, h.0, le)) h.1, operand_short place v r)
+
   into_code : (v : Tree) (d : ℕ) → d < 32 → IsSmall v → IsCode (2 * nodes v) (tree_into place v d first)
   into_code v d lt h = (into_fits place v d first lt (omega (arith, h.0)) h.1, into_short place v d first)
 
@@ -111,8 +115,11 @@ module _ (place : ℕ → ℕ) where
   pub are_encoded : AreEncoded place
   are_encoded = record {
     set = λ t v lt h. both (2 * nodes v) 1 (tree_into place v (target t) first) (keep_lines t) (into_code v (target t) (target_fits t) h) (keep_code t lt);
-    set_global = λ g v h. both (2 * nodes v) 2 (tree_lines place v first) (two (Lui second (pos (upper_bits (place g)))) (Sw second first (lower_bits (place g)))) (tree_code v first (omega arith) h)
-        (pair (Lui second (pos (upper_bits (place g)))) (Sw second first (lower_bits (place g))) (omega arith, upper_fits (place g)) (omega arith, omega arith, lower_fits (place g)));
+    set_global = λ g v h. let high = Lui second (pos (upper_bits (place g))) in
+        let q = operand_register v first in
+        let store = Sw second q (lower_bits (place g)) in
+        both (2 * nodes v) 2 (operand_lines place v first) (two high store) (operand_code v first (omega arith) h)
+        (pair high store (omega arith, upper_fits (place g)) (omega arith, operand_below v first (omega arith), lower_fits (place g)));
     divide = λ t o a b lt h l. both (2 * nodes a) (2 * nodes b + 4) (tree_lines place a first) (tree_lines place b second ++ (test ++ (Word (division o (target t)) ∷ keep_lines t))) (tree_code a first (omega arith) h)
         (both (2 * nodes b) 4 (tree_lines place b second) (test ++ (Word (division o (target t)) ∷ keep_lines t)) (tree_code b second (omega arith) l)
         (both 2 2 test (Word (division o (target t)) ∷ keep_lines t) (branch 0 second 0 (trap_label 1) (inl (omega arith)) (omega arith) (omega arith)) (last_code (division o (target t)) t (division_fits o (target t) (target_fits t)) lt)));

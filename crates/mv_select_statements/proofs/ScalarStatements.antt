@@ -14,11 +14,11 @@ use Rattle.mv_ir.specs.World as ir
 use Rattle.mv_ir.specs.Outcome.{State, Next}
 use Rattle.mv_ir.specs.Trees.{nodes, depth, divide}
 use Rattle.mv_ir.specs.Meaning.{of_tree, elements, with_temp, with_elements, traps}
-use Rattle.mv_select_trees.specs.TreeCode.{upper_bits, lower_bits, one, two, tree_into, tree_lines}
+use Rattle.mv_select_trees.specs.TreeCode.{upper_bits, lower_bits, one, two, tree_into, tree_lines, operand_lines, operand_register}
 use Rattle.mv_select_trees.specs.View.{AreScratch}
 use Rattle.mv_select_trees.proofs.Instructions.{lui_sets}
 use Rattle.mv_select_trees.proofs.Registers.{reg_zero, put_same, put_other, put_registers, changes_put, scratch_part}
-use Rattle.mv_select_trees.proofs.TreesAreShort.{trees_are_short, into_short}
+use Rattle.mv_select_trees.proofs.TreesAreShort.{trees_are_short, into_short, operand_short}
 use Rattle.mv_select_trees.proofs.TreesRun.{trees_leave}
 use Rattle.mv_select_trees.proofs.Words.{parts_add, upper_below}
 use Rattle.mv_select_statements.specs.StatementCode.{first, second, trap_label, target, keep_lines, division, set_lines, set_global_lines, divide_lines, return_lines}
@@ -28,7 +28,7 @@ use Rattle.mv_select_statements.specs.Laws.{Follows, Does}
 use Rattle.mv_select_statements.proofs.Divisions.{divide_below, division_sets}
 use Rattle.mv_select_statements.proofs.FrameChanges.{updates_element, frame_scratch}
 use Rattle.mv_select_statements.proofs.TempsKept.{ChangesOne, target_range, temp_kept}
-use Rattle.mv_select_statements.proofs.TreesFirst.{HasValue, tree_first, temps_held, named_held, cell_written}
+use Rattle.mv_select_statements.proofs.TreesFirst.{operand_beside, HasValue, tree_first, HasOperand, operand_first, temps_held, named_held, cell_written}
 use Rattle.mv_select_statements.proofs.Walks.{leads_more, leads_straight, leads_one, leads_next}
 
 pub at_first : AreScratch first (first + 4)
@@ -54,6 +54,13 @@ module _ {M : Type 0} (access : Access M) (s : Site) (setting : ir.Setting) (fra
       let ls = tree_lines s.place t r in
       leads_more access s (ls ++ ks) (sum_by greatest_words ls + n) k regs m exit regs' m' (omega (arith, trees_are_short s.place t r, le)) (leads_straight access s ls ks n regs x.after m exit regs' m' x.runs h)
 
+  -- the same for an operand
+  pub after_operand : (r : ℕ) (t : Tree) (ks : List Line) (n k : ℕ) (l : State) (regs : List ℕ) (m : M) (exit : Exit) (regs' : List ℕ) (m' : M) → n + 2 * nodes t ≤ k
+      → (x : HasOperand access s setting frame fit r t l regs m) → L ks n x.after m exit regs' m' → L (operand_lines s.place t r ++ ks) k regs m exit regs' m'
+  after_operand r t ks n k l regs m exit regs' m' le x h =
+      let ls = operand_lines s.place t r in
+      leads_more access s (ls ++ ks) (sum_by greatest_words ls + n) k regs m exit regs' m' (omega (arith, operand_short s.place t r, le)) (leads_straight access s ls ks n regs x.after m exit regs' m' x.runs h)
+
   pub set_done : (end t : ℕ) (v : Tree) → t < s.temps → Fine v → Does access s setting frame end (set_lines s.place t v) (stm.Set t v)
   set_done end t v lt fine bound l regs m f =
       let d = target t in
@@ -77,7 +84,8 @@ module _ {M : Type 0} (access : Access M) (s : Site) (setting : ir.Setting) (fra
   set_global_done end g v lt may fine bound l regs m f =
       let a = array.Global g in
       let at = s.place g in
-      let x = tree_first access s setting frame fit first v l regs m at_first fine f in
+      let q = operand_register v first in
+      let x = operand_first access s setting frame fit first v l regs m at_first fine f in
       let up = upper (pos (upper_bits at)) in
       let mid = put x.after second up in
       let below : at < 2 ^ 32 = omega (arith, fit.addresses (Element a 0) lt) in
@@ -86,14 +94,14 @@ module _ {M : Type 0} (access : Access M) (s : Site) (setting : ir.Setting) (fra
       let same : at ≡ address s (Element a 0) = omega arith in
       let to : add (reg mid second) (word_of (lower_bits at)) ≡ address s (Element a 0) =
       ap (λ z. add z (word_of (lower_bits at))) (put_same x.after second up (omega arith) (omega (arith, x.shown.are.count))) ∙ parts_add at below ∙ same in
-      let value : reg mid first ≡ V v l = put_other x.after second first up (omega arith) (λ e. omega arith) ∙ x.holds in
+      let value : reg mid q ≡ V v l = put_other x.after second q up (omega arith) (operand_beside v first second (λ e. omega arith) (omega arith) (omega arith)) ∙ x.holds in
       let l' = with_elements a l (slice_set (elements a l) 0 (V v l)) in
-      let w = cell_written access s setting frame fit second first (lower_bits at) (Element a 0) (V v l) l l' mid m to value x.below may lt (updates_element s l a 0 (V v l) (omega (arith, lt, f.sizes a))) shown in
+      let w = cell_written access s setting frame fit second q (lower_bits at) (Element a 0) (V v l) l l' mid m to value x.below may lt (updates_element s l a 0 (V v l) (omega (arith, lt, f.sizes a))) shown in
       let high = Lui second (pos (upper_bits at)) in
-      let store = Sw second first (lower_bits at) in (
+      let store = Sw second q (lower_bits at) in (
         w.after,
         w.memory,
-        after_tree first v (two high store) (1 + 1) (8 + 3 * nodes v) l regs m Past w.after w.memory (omega arith) x
+        after_operand first v (two high store) (1 + 1) (8 + 3 * nodes v) l regs m Past w.after w.memory (omega arith) x
             (leads_next access s high (one store) 1 x.after m mid m Past w.after w.memory (lui_sets (limited access s) m second (pos (upper_bits at)) x.after up refl, inl refl) (leads_one access s store mid m w.after w.memory w.moves)),
         w.shown,
       )

@@ -1,11 +1,12 @@
--- The code of statements without control. Each tree of a statement is computed first, in written order.
+-- The code of statements without control. Each tree of a statement is computed first, in written order; an operand that stands in a register already
+-- stays there.
 use Rattle.std.specs.Prelude.{ℕ, ◌+◌, ◌*◌, ◌≤◌, cond, ltb, List, [], ◌∷◌, ◌++◌, ℤ, pos, slice_index_or}
 use Rattle.mv_isa.specs.declared.instr.Instr.{Instr}
 use Rattle.mv_isa.specs.declared.instr.Instr.TheVariants.{Lui, Lw, Sw, Addi, Slli, Add, Div, Divu, Rem, Remu}
 use Rattle.mv_isa.specs.declared.labelled.Line.{Line}
 use Rattle.mv_isa.specs.declared.labelled.Line.TheVariants.{Word, Jump, Branch}
 use Rattle.mv_ir.specs.declared.tree.Tree.{Tree}
-use Rattle.mv_select_trees.specs.TreeCode.{upper_bits, lower_bits, one, two, number_lines, temp_register, temp_offset, tree_into, tree_lines}
+use Rattle.mv_select_trees.specs.TreeCode.{upper_bits, lower_bits, one, two, number_lines, temp_register, temp_offset, tree_into, tree_lines, operand_lines, operand_register}
 use Rattle.mv_select_statements.specs.declared.elements.Home.{Home}
 use Rattle.mv_select_statements.specs.declared.elements.Home.TheVariants as home
 
@@ -75,7 +76,8 @@ module _ (place : ℕ → ℕ) where
   set_lines t v = tree_into place v (target t) first ++ keep_lines t
 
   abbrev pub set_global_lines : ℕ → Tree → List Line
-  set_global_lines g v = tree_lines place v first ++ two (Lui second (pos (upper_bits (place g)))) (Sw second first (lower_bits (place g)))
+  set_global_lines g v =
+      operand_lines place v first ++ two (Lui second (pos (upper_bits (place g)))) (Sw second (operand_register v first) (lower_bits (place g)))
 
   -- trap 1 where the divisor is 0
   abbrev pub divide_lines : ℕ → ℕ → Tree → Tree → List Line
