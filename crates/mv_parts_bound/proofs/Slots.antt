@@ -208,8 +208,10 @@ module _ (weight : ℕ → ℕ) (place : ℕ → ℕ) (is_attributed : ℕ → B
     layer (stm.SetGlobal g v) h around label =
         behind weight (operand_lines place v first) (two (Lui second (pos (upper_bits (place g)))) (Sw second (operand_register v first) (lower_bits (place g)))) (operands v first) refl
     layer (stm.Divide t o a b) h around label =
-        let rest = Branch 0 second 0 (trap_label 1) ∷ (Word (division o (target t)) ∷ keep_lines t) in
-        behind weight (tree_lines place a first) (tree_lines place b second ++ rest) (trees a first) (behind weight (tree_lines place b second) rest (trees b second) (none_weighs weight rest (keep_none t)))
+        let p = operand_register a first in
+        let q = operand_register b second in
+        let rest = Branch 0 q 0 (trap_label 1) ∷ (Word (division o (target t) p q) ∷ keep_lines t) in
+        behind weight (operand_lines place a first) (operand_lines place b second ++ rest) (operands a first) (behind weight (operand_lines place b second) rest (operands b second) (none_weighs weight rest (keep_none t)))
     layer (stm.Check a i) h around label = behind weight (tree_lines place i first) (test_lines (size P a)) (trees i first) (none_weighs weight (test_lines (size P a)) (test_none (size P a)))
     layer (stm.Read t a i) h around label =
         let load = Word (Lw (target t) first (element_offset (home P a))) ∷ keep_lines t in

@@ -156,9 +156,11 @@ module _ (is_known : ℕ → Bool) where
           ap (λ l. plain (l ++ two (Lui second (pos (upper_bits (place g)))) (Sw second q (lower_bits (place g))))) (same_operands v h.0 first) ∙
           ap (λ a. plain (operand_lines place' v first ++ two (Lui second (pos (upper_bits a))) (Sw second q (lower_bits a)))) (same_place g k.0)
       layer (stm.Divide t o a b) c h k =
-          let rest = λ (l : List Line). l ++ (Branch 0 second 0 (trap_label 1) ∷ (Word (division o (target t)) ∷ keep_lines t)) in
-          ap (λ l. plain (l ++ rest (tree_lines place b second))) (same_tree a h.0 first) ∙
-          ap (λ l. plain (tree_lines place' a first ++ rest l)) (same_tree b h.1.0 second)
+          let p = operand_register a first in
+          let q = operand_register b second in
+          let rest = λ (l : List Line). l ++ (Branch 0 q 0 (trap_label 1) ∷ (Word (division o (target t) p q) ∷ keep_lines t)) in
+          ap (λ l. plain (l ++ rest (operand_lines place b second))) (same_operands a h.0 first) ∙
+          ap (λ l. plain (operand_lines place' a first ++ rest l)) (same_operands b h.1.0 second)
       layer (stm.Check a i) c h k =
           ap (λ l. plain (l ++ test_lines (flow_code.size P a))) (same_tree i h.0 first) ∙ ap (λ n. plain (tree_lines place' i first ++ test_lines n)) (same_count a k.0)
       layer (stm.Read t a i) c h k =

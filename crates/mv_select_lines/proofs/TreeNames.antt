@@ -128,11 +128,13 @@ module _ (L P C Q S : ℕ → Type 0) where
 
     pub divide_names : (t o : ℕ) (a b : Tree) → P (trap_label 1) → Fs a → Fs b → AllName (divide_lines place t o a b)
     divide_names t o a b p h k =
-        let test = Branch 0 second 0 (trap_label 1) ∷ [] in
-        let divide = Word (division o (target t)) ∷ keep_lines t in
-        after (tree_lines place a first) (tree_lines place b second ++ (test ++ divide)) (tree_names a h first)
-        (after (tree_lines place b second) (test ++ divide) (tree_names b k second)
-        (after test divide (branch_names 0 second 0 (trap_label 1) p) (last_names (division o (target t)) t)))
+        let left = operand_register a first in
+        let right = operand_register b second in
+        let test = Branch 0 right 0 (trap_label 1) ∷ [] in
+        let divide = division o (target t) left right in
+        after (operand_lines place a first) (operand_lines place b second ++ (test ++ (Word divide ∷ keep_lines t))) (operand_names a h first)
+        (after (operand_lines place b second) (test ++ (Word divide ∷ keep_lines t)) (operand_names b k second)
+        (after test (Word divide ∷ keep_lines t) (branch_names 0 right 0 (trap_label 1) p) (last_names divide t)))
 
     pub check_names : (size : ℕ) (i : Tree) → P (trap_label 2) → Fs i → AllName (check_lines place size i)
     check_names size i p h = after (tree_lines place i first) (test_lines size) (tree_names i h first) (test_names size p)

@@ -64,13 +64,13 @@ keep_code t lt = by_place (ltb t 9)
     by_place true = (All-nil LineFits, omega arith)
     by_place false = single (Sw 2 first (pos (4 * (t + 1)))) (omega arith, omega arith, small_fits (4 * (t + 1)) (omega arith))
 
-division_fits : (o d : ℕ) → d < 32 → Fits (division o d)
+division_fits : (o d a b : ℕ) → d < 32 → a < 32 → b < 32 → Fits (division o d a b)
 unfolding division
-division_fits zero d h = (h, omega arith, omega arith)
-division_fits (suc zero) d h = (h, omega arith, omega arith)
-division_fits (suc (suc zero)) d h = (h, omega arith, omega arith)
-division_fits (suc (suc (suc zero))) d h = (h, omega arith, omega arith)
-division_fits (suc (suc (suc (suc o)))) d h = (h, omega arith, small_fits 0 (omega arith))
+division_fits zero d a b h p q = (h, p, q)
+division_fits (suc zero) d a b h p q = (h, p, q)
+division_fits (suc (suc zero)) d a b h p q = (h, p, q)
+division_fits (suc (suc (suc zero))) d a b h p q = (h, p, q)
+division_fits (suc (suc (suc (suc o)))) d a b h p q = (h, omega arith, small_fits 0 (omega arith))
 
 offset_fits : (h : Home) → home_below h 2032 → IsSigned 2048 (element_offset h)
 offset_fits (home.Data at) b = lower_fits at
@@ -120,9 +120,15 @@ module _ (place : ℕ → ℕ) where
         let store = Sw second q (lower_bits (place g)) in
         both (2 * nodes v) 2 (operand_lines place v first) (two high store) (operand_code v first (omega arith) h)
         (pair high store (omega arith, upper_fits (place g)) (omega arith, operand_below v first (omega arith), lower_fits (place g)));
-    divide = λ t o a b lt h l. both (2 * nodes a) (2 * nodes b + 4) (tree_lines place a first) (tree_lines place b second ++ (test ++ (Word (division o (target t)) ∷ keep_lines t))) (tree_code a first (omega arith) h)
-        (both (2 * nodes b) 4 (tree_lines place b second) (test ++ (Word (division o (target t)) ∷ keep_lines t)) (tree_code b second (omega arith) l)
-        (both 2 2 test (Word (division o (target t)) ∷ keep_lines t) (branch 0 second 0 (trap_label 1) (inl (omega arith)) (omega arith) (omega arith)) (last_code (division o (target t)) t (division_fits o (target t) (target_fits t)) lt)));
+    divide = λ t o a b lt h l. let p = operand_register a first in
+        let q = operand_register b second in
+        let test = Branch 0 q 0 (trap_label 1) ∷ [] in
+        let last = division o (target t) p q in
+        let below = operand_below b second (omega arith) in
+        both (2 * nodes a) (2 * nodes b + 4) (operand_lines place a first) (operand_lines place b second ++ (test ++ (Word last ∷ keep_lines t))) (operand_code a first (omega arith) h)
+        (both (2 * nodes b) 4 (operand_lines place b second) (test ++ (Word last ∷ keep_lines t)) (operand_code b second (omega arith) l)
+        (both 2 2 test (Word last ∷ keep_lines t) (branch 0 q 0 (trap_label 1) (inl (omega arith)) below (omega arith))
+        (last_code last t (division_fits o (target t) p q (target_fits t) (operand_below a first (omega arith)) below) lt)));
     check = λ size i h. both (2 * nodes i) 4 (tree_lines place i first) (test_lines size) (tree_code i first (omega arith) h) (test_code size);
     read = λ t size h i lt b l. both (2 * nodes i) 9 (tree_lines place i first) (test_lines size ++ (element_lines h ++ load t h)) (tree_code i first (omega arith) l)
         (both 4 5 (test_lines size) (element_lines h ++ load t h) (test_code size)
@@ -136,9 +142,6 @@ module _ (place : ℕ → ℕ) where
     returns = λ end v h. both (2 * nodes v) 1 (tree_lines place v first) (Jump 0 end ∷ []) (tree_code v first (omega arith) h) (jump end);
   }
     where
-      test : List Line
-      test = Branch 0 second 0 (trap_label 1) ∷ []
-
       load : ℕ → Home → List Line
       load t h = Word (Lw (target t) first (element_offset h)) ∷ keep_lines t
 

@@ -17,6 +17,7 @@ use Rattle.mv_ir.specs.Meaning.{of_tree, elements, with_temp, with_elements, tra
 use Rattle.mv_select_trees.specs.TreeCode.{upper_bits, lower_bits, one, two, tree_into, tree_lines, operand_lines, operand_register}
 use Rattle.mv_select_trees.specs.View.{AreScratch}
 use Rattle.mv_select_trees.proofs.Instructions.{lui_sets}
+use Rattle.mv_select_trees.proofs.Operands.{operand_outside}
 use Rattle.mv_select_trees.proofs.Registers.{reg_zero, put_same, put_other, put_registers, changes_put, scratch_part}
 use Rattle.mv_select_trees.proofs.TreesAreShort.{trees_are_short, into_short, operand_short}
 use Rattle.mv_select_trees.proofs.TreesRun.{trees_leave}
@@ -114,46 +115,52 @@ module _ {M : Type 0} (access : Access M) (s : Site) (setting : ir.Setting) (fra
   pub divide_done : (end t o : ℕ) (a b : Tree) → t < s.temps → Fine a → Fine b → Does access s setting frame end (divide_lines s.place t o a b) (stm.Divide t o a b)
   divide_done end t o a b lt fa fb bound l regs m f = by_divisor (eqb (V b l) 0) refl
     where
+      p : ℕ
+      p = operand_register a first
+
+      q : ℕ
+      q = operand_register b second
+
       tail : List Line
-      tail = Word (division o (target t)) ∷ keep_lines t
+      tail = Word (division o (target t) p q) ∷ keep_lines t
 
       n : ℕ
       n = 8 + 3 * (nodes a + nodes b)
 
-      x : HasValue access s setting frame fit first a l regs m
-      x = tree_first access s setting frame fit first a l regs m at_first fa f
+      x : HasOperand access s setting frame fit first a l regs m
+      x = operand_first access s setting frame fit first a l regs m at_first fa f
 
-      y : HasValue access s setting frame fit second b l x.after m
-      y = tree_first access s setting frame fit second b l x.after m at_second fb x.shown
+      y : HasOperand access s setting frame fit second b l x.after m
+      y = operand_first access s setting frame fit second b l x.after m at_second fb x.shown
 
       -- lines behind both trees
-      both : (k : ℕ) (exit : Exit) (regs' : List ℕ) (m' : M) → k ≤ 8 → L (Branch 0 second 0 (trap_label 1) ∷ tail) k y.after m exit regs' m' → L (divide_lines s.place t o a b) (8 + 3 * (nodes a + nodes b)) regs m exit regs' m'
+      both : (k : ℕ) (exit : Exit) (regs' : List ℕ) (m' : M) → k ≤ 8 → L (Branch 0 q 0 (trap_label 1) ∷ tail) k y.after m exit regs' m' → L (divide_lines s.place t o a b) (8 + 3 * (nodes a + nodes b)) regs m exit regs' m'
       both k exit regs' m' le h =
-          after_tree first a (tree_lines s.place b second ++ (Branch 0 second 0 (trap_label 1) ∷ tail)) (8 + 2 * nodes b) (8 + 3 * (nodes a + nodes b)) l regs m exit regs' m' (omega arith) x
-          (after_tree second b (Branch 0 second 0 (trap_label 1) ∷ tail) k (8 + 2 * nodes b) l x.after m exit regs' m' (omega arith) y h)
+          after_operand first a (operand_lines s.place b second ++ (Branch 0 q 0 (trap_label 1) ∷ tail)) (8 + 2 * nodes b) (8 + 3 * (nodes a + nodes b)) l regs m exit regs' m' (omega arith) x
+          (after_operand second b (Branch 0 q 0 (trap_label 1) ∷ tail) k (8 + 2 * nodes b) l x.after m exit regs' m' (omega arith) y h)
 
       by_divisor : (d : Bool) → eqb (V b l) 0 ≡ d → Follows access s setting frame end (divide_lines s.place t o a b) (8 + 3 * (nodes a + nodes b)) regs m (cond d (traps 1 l) (Next (with_temp l t (divide o (V a l) (V b l)))))
       by_divisor true is =
-          let holds : eqb (reg y.after second) (reg y.after 0) ≡ true = eq-eqb (reg y.after second) (reg y.after 0) (y.holds ∙ eqb-true (V b l) 0 is ∙ sym (reg_zero y.after)) in
+          let holds : eqb (reg y.after q) (reg y.after 0) ≡ true = eq-eqb (reg y.after q) (reg y.after 0) (y.holds ∙ eqb-true (V b l) 0 is ∙ sym (reg_zero y.after)) in
           (l, refl, (y.after, m, both 2 (To (trap_label 1)) y.after m (omega arith) (inl (holds, omega arith, refl, (refl, refl))), y.shown))
       by_divisor false is =
           let nonzero = eqb-false (V b l) 0 is in
-          let holds : eqb (reg y.after second) (reg y.after 0) ≡ false = ne_eqb (reg y.after second) (reg y.after 0) (λ e. nonzero (sym y.holds ∙ e ∙ reg_zero y.after)) in
-          let dividend : reg y.after first ≡ V a l = y.changes.others first (inl (omega arith)) ∙ x.holds in
+          let holds : eqb (reg y.after q) (reg y.after 0) ≡ false = ne_eqb (reg y.after q) (reg y.after 0) (λ e. nonzero (sym y.holds ∙ e ∙ reg_zero y.after)) in
+          let dividend : reg y.after p ≡ V a l = y.changes.others p (operand_outside a first (second + 4) at_second) ∙ x.holds in
           let v = divide o (V a l) (V b l) in
           let below = divide_below o (V a l) (V b l) nonzero x.below y.below in
           let d = target t in
           let range = target_range t in
           let mid = put y.after d v in
           let are = put_registers y.after d v y.shown.are range.0 range.1 below in
-          let w = temp_kept access s setting frame fit t v l y.after mid m lt below are (λ q o ne. put_other y.after d q v range.0 ne) (put_same y.after d v range.0 (omega (arith, y.shown.are.count, range.1))) y.shown in (
+          let w = temp_kept access s setting frame fit t v l y.after mid m lt below are (λ z o ne. put_other y.after d z v range.0 ne) (put_same y.after d v range.0 (omega (arith, y.shown.are.count, range.1))) y.shown in (
             w.after,
             w.memory,
             both 3 Past w.after w.memory (omega arith) (inr (
               holds,
               2,
               omega arith,
-              leads_next access s (division o d) (keep_lines t) 1 y.after m mid m Past w.after w.memory (division_sets (limited access s) m o d (V a l) (V b l) y.after nonzero dividend y.holds, inl refl) w.leads,
+              leads_next access s (division o d p q) (keep_lines t) 1 y.after m mid m Past w.after w.memory (division_sets (limited access s) m o d p q (V a l) (V b l) y.after nonzero dividend y.holds, inl refl) w.leads,
             )),
             w.shown,
           )

@@ -36,9 +36,9 @@ target t = cond (ltb t 9) (temp_register t) first
 unfoldable pub keep_lines : ℕ → List Line
 keep_lines t = cond (ltb t 9) [] (one (Sw 2 first (pos (temp_offset t))))
 
--- a division of the first register by the second into d, by its number; one that names none gives 0
-unfoldable pub division : (o d : ℕ) → Instr
-division o d = slice_index_or (Div d first second ∷ Divu d first second ∷ Rem d first second ∷ Remu d first second ∷ []) o (Addi d 0 (pos 0))
+-- a division of a by b into d, by its number; one that names none gives 0
+unfoldable pub division : (o d a b : ℕ) → Instr
+division o d a b = slice_index_or (Div d a b ∷ Divu d a b ∷ Rem d a b ∷ Remu d a b ∷ []) o (Addi d 0 (pos 0))
 
 -- ---- elements: the place of one is its index times 4, and the place of the first
 
@@ -82,7 +82,9 @@ module _ (place : ℕ → ℕ) where
   -- trap 1 where the divisor is 0
   abbrev pub divide_lines : ℕ → ℕ → Tree → Tree → List Line
   divide_lines t o a b =
-      tree_lines place a first ++ (tree_lines place b second ++ (Branch 0 second 0 (trap_label 1) ∷ (Word (division o (target t)) ∷ keep_lines t)))
+      let p = operand_register a first in
+      let q = operand_register b second in
+      operand_lines place a first ++ (operand_lines place b second ++ (Branch 0 q 0 (trap_label 1) ∷ (Word (division o (target t) p q) ∷ keep_lines t)))
 
   abbrev pub check_lines : ℕ → Tree → List Line
   check_lines size i = tree_lines place i first ++ test_lines size

@@ -75,10 +75,12 @@ pub fn push_divide(
     requires divisor_temps { temps_of divisor.now ≤ 507 }
     ensures { OnOk result (code.new ≡ code.old ++ divide_lines (place_in rooms.now) temp operator dividend.now divisor.now) }
 {
-    push_tree(code, rooms, dividend, FIRST)?;
-    push_tree(code, rooms, divisor, SECOND)?;
-    code.push(Line::Branch(0, SECOND, 0, 4_294_967_290))?;
-    push_one(code, division(operator, target(temp)))?;
+    push_operand(code, rooms, dividend, FIRST)?;
+    push_operand(code, rooms, divisor, SECOND)?;
+    let left = operand_register(dividend, FIRST);
+    let right = operand_register(divisor, SECOND);
+    code.push(Line::Branch(0, right, 0, 4_294_967_290))?;
+    push_one(code, division(operator, target(temp), left, right))?;
     push_keep(code, temp)
 }
 
