@@ -90,12 +90,12 @@ keep_none t = by_place (ltb t 9)
     by_place true = refl
     by_place false = refl
 
-test_none : (n : ℕ) → HasNone (test_lines n)
-test_none n = after (number_lines n third) (Branch 7 first third (trap_label 2) ∷ []) (number_none n third) refl
+test_none : (n q : ℕ) → HasNone (test_lines n q)
+test_none n q = after (number_lines n third) (Branch 7 q third (trap_label 2) ∷ []) (number_none n third) refl
 
-element_none : (h : Home) → HasNone (element_lines h)
-element_none (place_at.Data a) = refl
-element_none (place_at.Frame a) = refl
+element_none : (h : Home) (q : ℕ) → HasNone (element_lines h q)
+element_none (place_at.Data a) q = refl
+element_none (place_at.Frame a) q = refl
 
 -- ---- calls
 
@@ -212,16 +212,20 @@ module _ (weight : ℕ → ℕ) (place : ℕ → ℕ) (is_attributed : ℕ → B
         let q = operand_register b second in
         let rest = Branch 0 q 0 (trap_label 1) ∷ (Word (division o (target t) p q) ∷ keep_lines t) in
         behind weight (operand_lines place a first) (operand_lines place b second ++ rest) (operands a first) (behind weight (operand_lines place b second) rest (operands b second) (none_weighs weight rest (keep_none t)))
-    layer (stm.Check a i) h around label = behind weight (tree_lines place i first) (test_lines (size P a)) (trees i first) (none_weighs weight (test_lines (size P a)) (test_none (size P a)))
+    layer (stm.Check a i) h around label =
+        let q = operand_register i first in
+        behind weight (operand_lines place i first) (test_lines (size P a) q) (operands i first) (none_weighs weight (test_lines (size P a) q) (test_none (size P a) q))
     layer (stm.Read t a i) h around label =
         let load = Word (Lw (target t) first (element_offset (home P a))) ∷ keep_lines t in
-        behind weight (tree_lines place i first) (test_lines (size P a) ++ (element_lines (home P a) ++ load)) (trees i first)
-        (behind weight (test_lines (size P a)) (element_lines (home P a) ++ load) (test_none (size P a)) (behind weight (element_lines (home P a)) load (element_none (home P a)) (none_weighs weight load (keep_none t))))
+        let q = operand_register i first in
+        behind weight (operand_lines place i first) (test_lines (size P a) q ++ (element_lines (home P a) q ++ load)) (operands i first)
+        (behind weight (test_lines (size P a) q) (element_lines (home P a) q ++ load) (test_none (size P a) q) (behind weight (element_lines (home P a) q) load (element_none (home P a) q) (none_weighs weight load (keep_none t))))
     layer (stm.Write a i v) h around label =
-        let store = one (Sw first second (element_offset (home P a))) in
-        behind weight (tree_lines place i first) (tree_lines place v second ++ (test_lines (size P a) ++ (element_lines (home P a) ++ store))) (trees i first)
-        (behind weight (tree_lines place v second) (test_lines (size P a) ++ (element_lines (home P a) ++ store)) (trees v second)
-        (behind weight (test_lines (size P a)) (element_lines (home P a) ++ store) (test_none (size P a)) (behind weight (element_lines (home P a)) store (element_none (home P a)) refl)))
+        let q = operand_register i first in
+        let store = one (Sw first (operand_register v second) (element_offset (home P a))) in
+        behind weight (operand_lines place i first) (operand_lines place v second ++ (test_lines (size P a) q ++ (element_lines (home P a) q ++ store))) (operands i first)
+        (behind weight (operand_lines place v second) (test_lines (size P a) q ++ (element_lines (home P a) q ++ store)) (operands v second)
+        (behind weight (test_lines (size P a) q) (element_lines (home P a) q ++ store) (test_none (size P a) q) (behind weight (element_lines (home P a) q) store (element_none (home P a) q) refl)))
     layer (stm.Zero a) h around label = refl
     layer (stm.If t a b) h around label =
         let one_code = in_turn (map (statement_code P) a) in

@@ -162,18 +162,22 @@ module _ (is_known : ℕ → Bool) where
           ap (λ l. plain (l ++ rest (operand_lines place b second))) (same_operands a h.0 first) ∙
           ap (λ l. plain (operand_lines place' a first ++ rest l)) (same_operands b h.1.0 second)
       layer (stm.Check a i) c h k =
-          ap (λ l. plain (l ++ test_lines (flow_code.size P a))) (same_tree i h.0 first) ∙ ap (λ n. plain (tree_lines place' i first ++ test_lines n)) (same_count a k.0)
+          let q = operand_register i first in
+          ap (λ l. plain (l ++ test_lines (flow_code.size P a) q)) (same_operands i h.0 first) ∙ ap (λ n. plain (operand_lines place' i first ++ test_lines n q)) (same_count a k.0)
       layer (stm.Read t a i) c h k =
-          let rest = λ (at : Home) (n : ℕ). test_lines n ++ (element_lines at ++ (Word (Lw (target t) first (element_offset at)) ∷ keep_lines t)) in
-          ap (λ l. plain (l ++ rest (home P a) (flow_code.size P a))) (same_tree i h.0 first) ∙
-          ap (λ at. plain (tree_lines place' i first ++ rest at (flow_code.size P a))) (same_home a k.0) ∙
-          ap (λ n. plain (tree_lines place' i first ++ rest (home Q a) n)) (same_count a k.0)
+          let q = operand_register i first in
+          let rest = λ (at : Home) (n : ℕ). test_lines n q ++ (element_lines at q ++ (Word (Lw (target t) first (element_offset at)) ∷ keep_lines t)) in
+          ap (λ l. plain (l ++ rest (home P a) (flow_code.size P a))) (same_operands i h.0 first) ∙
+          ap (λ at. plain (operand_lines place' i first ++ rest at (flow_code.size P a))) (same_home a k.0) ∙
+          ap (λ n. plain (operand_lines place' i first ++ rest (home Q a) n)) (same_count a k.0)
       layer (stm.Write a i v) c h k =
-          let rest = λ (l : List Line) (at : Home) (n : ℕ). l ++ (test_lines n ++ (element_lines at ++ one (Sw first second (element_offset at)))) in
-          ap (λ l. plain (l ++ rest (tree_lines place v second) (home P a) (flow_code.size P a))) (same_tree i h.0 first) ∙
-          ap (λ l. plain (tree_lines place' i first ++ rest l (home P a) (flow_code.size P a))) (same_tree v h.1.0 second) ∙
-          ap (λ at. plain (tree_lines place' i first ++ rest (tree_lines place' v second) at (flow_code.size P a))) (same_home a k.0) ∙
-          ap (λ n. plain (tree_lines place' i first ++ rest (tree_lines place' v second) (home Q a) n)) (same_count a k.0)
+          let q = operand_register i first in
+          let w = operand_register v second in
+          let rest = λ (l : List Line) (at : Home) (n : ℕ). l ++ (test_lines n q ++ (element_lines at q ++ one (Sw first w (element_offset at)))) in
+          ap (λ l. plain (l ++ rest (operand_lines place v second) (home P a) (flow_code.size P a))) (same_operands i h.0 first) ∙
+          ap (λ l. plain (operand_lines place' i first ++ rest l (home P a) (flow_code.size P a))) (same_operands v h.1.0 second) ∙
+          ap (λ at. plain (operand_lines place' i first ++ rest (operand_lines place' v second) at (flow_code.size P a))) (same_home a k.0) ∙
+          ap (λ n. plain (operand_lines place' i first ++ rest (operand_lines place' v second) (home Q a) n)) (same_count a k.0)
       layer (stm.Zero a) c h k = refl
       layer (stm.If t a b) c h k = same_branch t a b c (h.0, h.1) k
       layer (stm.Loop b) c h k = ap loop_code (same_code b c h k)

@@ -97,12 +97,12 @@ module _ (P : ℕ → Type 0) where
     branch_names : (funct3 a b l : ℕ) → P l → AllName (Branch funct3 a b l ∷ [])
     branch_names funct3 a b l h = All-cons (Names P) (Branch funct3 a b l) [] h (All-nil (Names P))
 
-    element_names : (h : Home) → AllName (element_lines h)
-    element_names (home.Data at) = after (one (Slli first first (pos 2))) (two (Lui third (pos (upper_bits at))) (Add first first third)) (word (Slli first first (pos 2))) (words (Lui third (pos (upper_bits at))) (Add first first third))
-    element_names (home.Frame at) = words (Slli first first (pos 2)) (Add first first 2)
+    element_names : (h : Home) (q : ℕ) → AllName (element_lines h q)
+    element_names (home.Data at) q = after (one (Slli first q (pos 2))) (two (Lui third (pos (upper_bits at))) (Add first first third)) (word (Slli first q (pos 2))) (words (Lui third (pos (upper_bits at))) (Add first first third))
+    element_names (home.Frame at) q = words (Slli first q (pos 2)) (Add first first 2)
 
-    test_names : (size : ℕ) → P (trap_label 2) → AllName (test_lines size)
-    test_names size h = after (number_lines size third) (Branch 7 first third (trap_label 2) ∷ []) (number_names size third) (branch_names 7 first third (trap_label 2) h)
+    test_names : (size q : ℕ) → P (trap_label 2) → AllName (test_lines size q)
+    test_names size q h = after (number_lines size third) (Branch 7 q third (trap_label 2) ∷ []) (number_names size third) (branch_names 7 q third (trap_label 2) h)
 
     pub bounds_names : (at n : ℕ) → AllName (bounds_lines at n)
     bounds_names at n = words (Addi first 2 (pos at)) (Addi second 2 (pos (at + 4 * n)))
@@ -130,22 +130,24 @@ module _ (P : ℕ → Type 0) where
         (after test (Word divide ∷ keep_lines t) (branch_names 0 right 0 (trap_label 1) p) (last_names divide t)))
 
     pub check_names : (size : ℕ) (i : Tree) → P (trap_label 2) → Fs i → AllName (check_lines place size i)
-    check_names size i p h = after (tree_lines place i first) (test_lines size) (tree_names i h first) (test_names size p)
+    check_names size i p h = let q = operand_register i first in after (operand_lines place i first) (test_lines size q) (operand_names i h first) (test_names size q p)
 
     pub read_names : (t size : ℕ) (e : Home) (i : Tree) → P (trap_label 2) → Fs i → AllName (read_lines place t e size i)
     read_names t size e i p h =
+        let q = operand_register i first in
         let load = Word (Lw (target t) first (element_offset e)) ∷ keep_lines t in
-        after (tree_lines place i first) (test_lines size ++ (element_lines e ++ load)) (tree_names i h first)
-        (after (test_lines size) (element_lines e ++ load) (test_names size p)
-        (after (element_lines e) load (element_names e) (last_names (Lw (target t) first (element_offset e)) t)))
+        after (operand_lines place i first) (test_lines size q ++ (element_lines e q ++ load)) (operand_names i h first)
+        (after (test_lines size q) (element_lines e q ++ load) (test_names size q p)
+        (after (element_lines e q) load (element_names e q) (last_names (Lw (target t) first (element_offset e)) t)))
 
     pub write_names : (size : ℕ) (e : Home) (i v : Tree) → P (trap_label 2) → Fs i → Fs v → AllName (write_lines place e size i v)
     write_names size e i v p h k =
-        let store = one (Sw first second (element_offset e)) in
-        after (tree_lines place i first) (tree_lines place v second ++ (test_lines size ++ (element_lines e ++ store))) (tree_names i h first)
-        (after (tree_lines place v second) (test_lines size ++ (element_lines e ++ store)) (tree_names v k second)
-        (after (test_lines size) (element_lines e ++ store) (test_names size p)
-        (after (element_lines e) store (element_names e) (word (Sw first second (element_offset e))))))
+        let q = operand_register i first in
+        let store = Sw first (operand_register v second) (element_offset e) in
+        after (operand_lines place i first) (operand_lines place v second ++ (test_lines size q ++ (element_lines e q ++ one store))) (operand_names i h first)
+        (after (operand_lines place v second) (test_lines size q ++ (element_lines e q ++ one store)) (operand_names v k second)
+        (after (test_lines size q) (element_lines e q ++ one store) (test_names size q p)
+        (after (element_lines e q) (one store) (element_names e q) (word store))))
 
     pub return_names : (end : ℕ) (v : Tree) → P end → Fs v → AllName (return_lines place end v)
     return_names end v p h = after (tree_lines place v first) (Jump 0 end ∷ []) (tree_names v h first) (jump_names end p)

@@ -76,19 +76,19 @@ offset_fits : (h : Home) → home_below h 2032 → IsSigned 2048 (element_offset
 offset_fits (home.Data at) b = lower_fits at
 offset_fits (home.Frame at) b = small_fits at (omega (arith, b))
 
-element_code : (h : Home) → IsCode 3 (element_lines h)
-element_code (home.Data at) =
-    both 1 2 (one (Slli first first (pos 2))) (two (Lui third (pos (upper_bits at))) (Add first first third))
-    (single (Slli first first (pos 2)) (omega arith, omega arith, count_fits 2 (omega arith)))
+element_code : (h : Home) (q : ℕ) → q < 32 → IsCode 3 (element_lines h q)
+element_code (home.Data at) q p =
+    both 1 2 (one (Slli first q (pos 2))) (two (Lui third (pos (upper_bits at))) (Add first first third))
+    (single (Slli first q (pos 2)) (omega arith, p, count_fits 2 (omega arith)))
     (pair (Lui third (pos (upper_bits at))) (Add first first third) (omega arith, upper_fits at) (omega arith, omega arith, omega arith))
-element_code (home.Frame at) =
-    wider 2 3 (element_lines (home.Frame at)) (omega arith)
-    (pair (Slli first first (pos 2)) (Add first first 2) (omega arith, omega arith, count_fits 2 (omega arith)) (omega arith, omega arith, omega arith))
+element_code (home.Frame at) q p =
+    wider 2 3 (element_lines (home.Frame at) q) (omega arith)
+    (pair (Slli first q (pos 2)) (Add first first 2) (omega arith, p, count_fits 2 (omega arith)) (omega arith, omega arith, omega arith))
 
-test_code : (size : ℕ) → IsCode 4 (test_lines size)
-test_code size =
-    both 2 2 (number_lines size third) (Branch 7 first third (trap_label 2) ∷ []) (number_fits size third (omega arith), number_size size third)
-    (branch 7 first third (trap_label 2) (inr (omega arith, omega arith)) (omega arith) (omega arith))
+test_code : (size q : ℕ) → q < 32 → IsCode 4 (test_lines size q)
+test_code size q p =
+    both 2 2 (number_lines size third) (Branch 7 q third (trap_label 2) ∷ []) (number_fits size third (omega arith), number_size size third)
+    (branch 7 q third (trap_label 2) (inr (omega arith, omega arith)) p (omega arith))
 
 bounds_code : (at n : ℕ) → at + 4 * n ≤ 2032 → IsCode 2 (bounds_lines at n)
 bounds_code at n h =
@@ -129,14 +129,20 @@ module _ (place : ℕ → ℕ) where
         (both (2 * nodes b) 4 (operand_lines place b second) (test ++ (Word last ∷ keep_lines t)) (operand_code b second (omega arith) l)
         (both 2 2 test (Word last ∷ keep_lines t) (branch 0 q 0 (trap_label 1) (inl (omega arith)) below (omega arith))
         (last_code last t (division_fits o (target t) p q (target_fits t) (operand_below a first (omega arith)) below) lt)));
-    check = λ size i h. both (2 * nodes i) 4 (tree_lines place i first) (test_lines size) (tree_code i first (omega arith) h) (test_code size);
-    read = λ t size h i lt b l. both (2 * nodes i) 9 (tree_lines place i first) (test_lines size ++ (element_lines h ++ load t h)) (tree_code i first (omega arith) l)
-        (both 4 5 (test_lines size) (element_lines h ++ load t h) (test_code size)
-        (both 3 2 (element_lines h) (load t h) (element_code h) (last_code (Lw (target t) first (element_offset h)) t (target_fits t, omega arith, offset_fits h b) lt)));
-    write = λ size h i v b l k. both (2 * nodes i) (2 * nodes v + 8) (tree_lines place i first) (tree_lines place v second ++ (test_lines size ++ (element_lines h ++ store h))) (tree_code i first (omega arith) l)
-        (both (2 * nodes v) 8 (tree_lines place v second) (test_lines size ++ (element_lines h ++ store h)) (tree_code v second (omega arith) k)
-        (both 4 4 (test_lines size) (element_lines h ++ store h) (test_code size)
-        (both 3 1 (element_lines h) (store h) (element_code h) (single (Sw first second (element_offset h)) (omega arith, omega arith, offset_fits h b)))));
+    check = λ size i h. let q = operand_register i first in
+        both (2 * nodes i) 4 (operand_lines place i first) (test_lines size q) (operand_code i first (omega arith) h) (test_code size q (operand_below i first (omega arith)));
+    read = λ t size h i lt b l. let q = operand_register i first in
+        let below = operand_below i first (omega arith) in
+        both (2 * nodes i) 9 (operand_lines place i first) (test_lines size q ++ (element_lines h q ++ load t h)) (operand_code i first (omega arith) l)
+        (both 4 5 (test_lines size q) (element_lines h q ++ load t h) (test_code size q below)
+        (both 3 2 (element_lines h q) (load t h) (element_code h q below) (last_code (Lw (target t) first (element_offset h)) t (target_fits t, omega arith, offset_fits h b) lt)));
+    write = λ size h i v b l k. let q = operand_register i first in
+        let below = operand_below i first (omega arith) in
+        let store = Sw first (operand_register v second) (element_offset h) in
+        both (2 * nodes i) (2 * nodes v + 8) (operand_lines place i first) (operand_lines place v second ++ (test_lines size q ++ (element_lines h q ++ one store))) (operand_code i first (omega arith) l)
+        (both (2 * nodes v) 8 (operand_lines place v second) (test_lines size q ++ (element_lines h q ++ one store)) (operand_code v second (omega arith) k)
+        (both 4 4 (test_lines size q) (element_lines h q ++ one store) (test_code size q below)
+        (both 3 1 (element_lines h q) (one store) (element_code h q below) (single store (omega arith, operand_below v second (omega arith), offset_fits h b)))));
     bounds = bounds_code;
     clear = clear_code;
     returns = λ end v h. both (2 * nodes v) 1 (tree_lines place v first) (Jump 0 end ∷ []) (tree_code v first (omega arith) h) (jump end);
@@ -144,9 +150,6 @@ module _ (place : ℕ → ℕ) where
     where
       load : ℕ → Home → List Line
       load t h = Word (Lw (target t) first (element_offset h)) ∷ keep_lines t
-
-      store : Home → List Line
-      store h = one (Sw first second (element_offset h))
 
 pub statements_are_encoded : StatementsAreEncoded
 statements_are_encoded = are_encoded

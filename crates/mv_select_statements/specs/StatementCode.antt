@@ -47,19 +47,19 @@ abbrev pub element_offset : Home → ℤ
 element_offset (home.Data at) = lower_bits at
 element_offset (home.Frame at) = pos at
 
--- the rest of it, out of the index in the first register
-abbrev pub element_lines : Home → List Line
-element_lines (home.Data at) = Word (Slli first first (pos 2)) ∷ two (Lui third (pos (upper_bits at))) (Add first first third)
-element_lines (home.Frame at) = two (Slli first first (pos 2)) (Add first first 2)
+-- the rest of it, out of the index in a register, into the first one
+abbrev pub element_lines : Home → ℕ → List Line
+element_lines (home.Data at) q = Word (Slli first q (pos 2)) ∷ two (Lui third (pos (upper_bits at))) (Add first first third)
+element_lines (home.Frame at) q = two (Slli first q (pos 2)) (Add first first 2)
 
 -- an array of the frame begins within so many bytes
 abbrev pub home_below : Home → ℕ → Type 0
 home_below (home.Data at) bytes = Unit {0}
 home_below (home.Frame at) bytes = at ≤ bytes
 
--- trap 2 where the index in the first register isn't below the number of elements
-abbrev pub test_lines : ℕ → List Line
-test_lines size = number_lines size third ++ (Branch 7 first third (trap_label 2) ∷ [])
+-- trap 2 where the index in a register isn't below the number of elements
+abbrev pub test_lines : ℕ → ℕ → List Line
+test_lines size q = number_lines size third ++ (Branch 7 q third (trap_label 2) ∷ [])
 
 -- the addresses of the first of so many words of the frame, from a place on, and of their end into the first two registers
 abbrev pub bounds_lines : ℕ → ℕ → List Line
@@ -87,15 +87,18 @@ module _ (place : ℕ → ℕ) where
       operand_lines place a first ++ (operand_lines place b second ++ (Branch 0 q 0 (trap_label 1) ∷ (Word (division o (target t) p q) ∷ keep_lines t)))
 
   abbrev pub check_lines : ℕ → Tree → List Line
-  check_lines size i = tree_lines place i first ++ test_lines size
+  check_lines size i = operand_lines place i first ++ test_lines size (operand_register i first)
 
   abbrev pub read_lines : ℕ → Home → ℕ → Tree → List Line
   read_lines t h size i =
-      tree_lines place i first ++ (test_lines size ++ (element_lines h ++ (Word (Lw (target t) first (element_offset h)) ∷ keep_lines t)))
+      let q = operand_register i first in
+      operand_lines place i first ++ (test_lines size q ++ (element_lines h q ++ (Word (Lw (target t) first (element_offset h)) ∷ keep_lines t)))
 
   abbrev pub write_lines : Home → ℕ → Tree → Tree → List Line
   write_lines h size i v =
-      tree_lines place i first ++ (tree_lines place v second ++ (test_lines size ++ (element_lines h ++ one (Sw first second (element_offset h)))))
+      let q = operand_register i first in
+      let store = one (Sw first (operand_register v second) (element_offset h)) in
+      operand_lines place i first ++ (operand_lines place v second ++ (test_lines size q ++ (element_lines h q ++ store)))
 
   -- to the label of the function's end
   abbrev pub return_lines : ℕ → Tree → List Line
