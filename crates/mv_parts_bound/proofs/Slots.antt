@@ -237,7 +237,7 @@ module _ (weight : ℕ → ℕ) (place : ℕ → ℕ) (is_attributed : ℕ → B
         let both : Weighs weight (code_weight direct 0 a + code_weight direct 0 b) (ls ++ (Jump 0 (label + 1) ∷ Label label ∷ rest)) =
         weight_append weight ls (Jump 0 (label + 1) ∷ Label label ∷ rest) ∙ ap (λ n. n + slot_weight weight rest) (in_order_has a h.0 around (label + 2)) ∙ ap (λ n. code_weight direct 0 a + n) later
         in
-        behind weight (tree_lines place t first) (branch_lines label ls ls') (trees t first) both
+        behind weight (operand_lines place t first) (branch_lines (operand_register t first) label ls ls') (operands t first) both
     layer (stm.Loop b) h around label =
         let inner = in_turn (map (statement_code P) b) in
         ahead weight (inner.lines (loop_at label ∷ around) (label + 2)) (Jump 0 label ∷ Label (label + 1) ∷ []) (in_order_has b h (loop_at label ∷ around) (label + 2)) refl

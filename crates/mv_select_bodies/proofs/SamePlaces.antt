@@ -134,16 +134,17 @@ module _ (is_known : ℕ → Bool) where
           ap (λ e. both e (code_of P code)) (c.0 (each_front ReadsKnown (stm_trees s) (trees code) h) (each_front IsKnownArray (stm_named s) (named code) k)) ∙
           ap (λ e. both (statement_code Q s) e) (same_code code c.1 (each_back ReadsKnown (stm_trees s) (trees code) h) (each_back IsKnownArray (stm_named s) (named code) k))
 
-      -- the code of a branch behind its test
-      abbrev tested : List Line → Emitted → Emitted → Emitted
-      tested test a b = record { labels = (branch_code a b).labels; lines = λ around label. test ++ (branch_code a b).lines around label }
+      -- the code of a branch behind its test, which is in a register
+      abbrev tested : ℕ → List Line → Emitted → Emitted → Emitted
+      tested q test a b = record { labels = (branch_code q a b).labels; lines = λ around label. test ++ (branch_code q a b).lines around label }
 
       same_branch : (t : Tree) (a b : List Stm) → Each IsSame a × Each IsSame b → ReadsKnown t × Each ReadsKnown (trees a ++ trees b) → Each IsKnownArray (named a ++ named b) →
           if_code place t (code_of P a) (code_of P b) ≡ if_code place' t (code_of Q a) (code_of Q b)
       same_branch t a b c h k =
-          ap (λ l. tested l (code_of P a) (code_of P b)) (same_tree t h.0 first) ∙
-          ap (λ e. tested (tree_lines place' t first) e (code_of P b)) (same_code a c.0 (each_front ReadsKnown (trees a) (trees b) h.1) (each_front IsKnownArray (named a) (named b) k)) ∙
-          ap (λ e. tested (tree_lines place' t first) (code_of Q a) e) (same_code b c.1 (each_back ReadsKnown (trees a) (trees b) h.1) (each_back IsKnownArray (named a) (named b) k))
+          let q = operand_register t first in
+          ap (λ l. tested q l (code_of P a) (code_of P b)) (same_operands t h.0 first) ∙
+          ap (λ e. tested q (operand_lines place' t first) e (code_of P b)) (same_code a c.0 (each_front ReadsKnown (trees a) (trees b) h.1) (each_front IsKnownArray (named a) (named b) k)) ∙
+          ap (λ e. tested q (operand_lines place' t first) (code_of Q a) e) (same_code b c.1 (each_back ReadsKnown (trees a) (trees b) h.1) (each_back IsKnownArray (named a) (named b) k))
 
       abbrev layer_code : Plan → Stm-F Stm → Emitted
       layer_code plan x = code_layer plan (map-Stm Stm Emitted (statement_code plan) x)

@@ -72,7 +72,7 @@ module _ (P : ℕ → Type 0) where
     pub tree_names : (t : Tree) → Fs t → (r : ℕ) → AllName (tree_lines place t r)
     tree_names = lines_made AllName (All-nil (Names P)) word after Fs (functions_inside P) entry_names place
 
-    operand_names : (t : Tree) → Fs t → (r : ℕ) → AllName (operand_lines place t r)
+    pub operand_names : (t : Tree) → Fs t → (r : ℕ) → AllName (operand_lines place t r)
     operand_names = operand_made AllName (All-nil (Names P)) word after Fs (functions_inside P) entry_names place
 
     into_names : (t : Tree) → Fs t → (d r : ℕ) → AllName (tree_into place t d r)

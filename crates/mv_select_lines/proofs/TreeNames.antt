@@ -79,7 +79,7 @@ module _ (L P C Q S : ℕ → Type 0) where
     pub tree_names : (t : Tree) → Fs t → (r : ℕ) → AllName (tree_lines place t r)
     tree_names = lines_made AllName nothing word after Fs (functions_inside Q) entry_names place
 
-    operand_names : (t : Tree) → Fs t → (r : ℕ) → AllName (operand_lines place t r)
+    pub operand_names : (t : Tree) → Fs t → (r : ℕ) → AllName (operand_lines place t r)
     operand_names = operand_made AllName nothing word after Fs (functions_inside Q) entry_names place
 
     into_names : (t : Tree) → Fs t → (d r : ℕ) → AllName (tree_into place t d r)
