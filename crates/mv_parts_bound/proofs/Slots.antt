@@ -18,8 +18,8 @@ use Rattle.mv_ir.specs.declared.stm.Stm.TheOpen as stm
 use Rattle.mv_ir.specs.declared.stm.Stm.TheViews.{roll-Stm}
 use Rattle.mv_ir.specs.declared.stm.Stm.TheFolds.{map-Stm}
 use Rattle.mv_ir.proofs.Induction.{Each, TreeChildren, StmChildren, stm_ind, stms_ind}
-use Rattle.mv_select_trees.specs.TreeCode.{one, two, upper_bits, lower_bits, number_lines, tree_into, tree_lines, temp_register, temp_offset}
-use Rattle.mv_select_trees.proofs.TreesAreMade.{number_made, into_made, lines_made}
+use Rattle.mv_select_trees.specs.TreeCode.{one, two, upper_bits, lower_bits, number_lines, tree_into, tree_lines, operand_lines, operand_register, temp_register, temp_offset}
+use Rattle.mv_select_trees.proofs.TreesAreMade.{number_made, into_made, lines_made, operand_made}
 use Rattle.mv_select_statements.specs.declared.elements.Home.{Home}
 use Rattle.mv_select_statements.specs.declared.elements.Home.TheVariants as place_at
 use Rattle.mv_select_statements.specs.StatementCode.{first, second, third, trap_label, target, keep_lines, division, element_offset, element_lines, test_lines}
@@ -77,6 +77,9 @@ into_none place t d r = into_made HasNone refl (λ i. refl) (λ a b h k. after a
 tree_none : (place : ℕ → ℕ) (t : Tree) (r : ℕ) → HasNone (tree_lines place t r)
 tree_none place t r = lines_made HasNone refl (λ i. refl) (λ a b h k. after a b h k) Anything anything_inside (λ f d h. refl) place t tt r
 
+operand_none : (place : ℕ → ℕ) (t : Tree) (r : ℕ) → HasNone (operand_lines place t r)
+operand_none place t r = operand_made HasNone refl (λ i. refl) (λ a b h k. after a b h k) Anything anything_inside (λ f d h. refl) place t tt r
+
 -- ---- parts of statements
 
 keep_none : (t : ℕ) → HasNone (keep_lines t)
@@ -87,12 +90,12 @@ keep_none t = by_place (ltb t 9)
     by_place true = refl
     by_place false = refl
 
-test_none : (n : ℕ) → HasNone (test_lines n)
-test_none n = after (number_lines n third) (Branch 7 first third (trap_label 2) ∷ []) (number_none n third) refl
+test_none : (n q : ℕ) → HasNone (test_lines n q)
+test_none n q = after (number_lines n third) (Branch 7 q third (trap_label 2) ∷ []) (number_none n third) refl
 
-element_none : (h : Home) → HasNone (element_lines h)
-element_none (place_at.Data a) = refl
-element_none (place_at.Frame a) = refl
+element_none : (h : Home) (q : ℕ) → HasNone (element_lines h q)
+element_none (place_at.Data a) q = refl
+element_none (place_at.Frame a) q = refl
 
 -- ---- calls
 
@@ -197,23 +200,32 @@ module _ (weight : ℕ → ℕ) (place : ℕ → ℕ) (is_attributed : ℕ → B
     trees : (t : Tree) (r : ℕ) → HasNone (tree_lines place t r)
     trees = tree_none place
 
+    operands : (t : Tree) (r : ℕ) → HasNone (operand_lines place t r)
+    operands = operand_none place
+
     layer : (x : Stm-F Stm) → StmChildren StmHas x → CodeHas (layer_weight direct 0 (map-Stm Stm ℕ w x)) (code_layer P (map-Stm Stm Emitted (statement_code P) x))
     layer (stm.Set t v) h around label = behind weight (tree_into place v (target t) first) (keep_lines t) (into_none place v (target t) first) (none_weighs weight (keep_lines t) (keep_none t))
     layer (stm.SetGlobal g v) h around label =
-        behind weight (tree_lines place v first) (two (Lui second (pos (upper_bits (place g)))) (Sw second first (lower_bits (place g)))) (trees v first) refl
+        behind weight (operand_lines place v first) (two (Lui second (pos (upper_bits (place g)))) (Sw second (operand_register v first) (lower_bits (place g)))) (operands v first) refl
     layer (stm.Divide t o a b) h around label =
-        let rest = Branch 0 second 0 (trap_label 1) ∷ (Word (division o (target t)) ∷ keep_lines t) in
-        behind weight (tree_lines place a first) (tree_lines place b second ++ rest) (trees a first) (behind weight (tree_lines place b second) rest (trees b second) (none_weighs weight rest (keep_none t)))
-    layer (stm.Check a i) h around label = behind weight (tree_lines place i first) (test_lines (size P a)) (trees i first) (none_weighs weight (test_lines (size P a)) (test_none (size P a)))
+        let p = operand_register a first in
+        let q = operand_register b second in
+        let rest = Branch 0 q 0 (trap_label 1) ∷ (Word (division o (target t) p q) ∷ keep_lines t) in
+        behind weight (operand_lines place a first) (operand_lines place b second ++ rest) (operands a first) (behind weight (operand_lines place b second) rest (operands b second) (none_weighs weight rest (keep_none t)))
+    layer (stm.Check a i) h around label =
+        let q = operand_register i first in
+        behind weight (operand_lines place i first) (test_lines (size P a) q) (operands i first) (none_weighs weight (test_lines (size P a) q) (test_none (size P a) q))
     layer (stm.Read t a i) h around label =
         let load = Word (Lw (target t) first (element_offset (home P a))) ∷ keep_lines t in
-        behind weight (tree_lines place i first) (test_lines (size P a) ++ (element_lines (home P a) ++ load)) (trees i first)
-        (behind weight (test_lines (size P a)) (element_lines (home P a) ++ load) (test_none (size P a)) (behind weight (element_lines (home P a)) load (element_none (home P a)) (none_weighs weight load (keep_none t))))
+        let q = operand_register i first in
+        behind weight (operand_lines place i first) (test_lines (size P a) q ++ (element_lines (home P a) q ++ load)) (operands i first)
+        (behind weight (test_lines (size P a) q) (element_lines (home P a) q ++ load) (test_none (size P a) q) (behind weight (element_lines (home P a) q) load (element_none (home P a) q) (none_weighs weight load (keep_none t))))
     layer (stm.Write a i v) h around label =
-        let store = one (Sw first second (element_offset (home P a))) in
-        behind weight (tree_lines place i first) (tree_lines place v second ++ (test_lines (size P a) ++ (element_lines (home P a) ++ store))) (trees i first)
-        (behind weight (tree_lines place v second) (test_lines (size P a) ++ (element_lines (home P a) ++ store)) (trees v second)
-        (behind weight (test_lines (size P a)) (element_lines (home P a) ++ store) (test_none (size P a)) (behind weight (element_lines (home P a)) store (element_none (home P a)) refl)))
+        let q = operand_register i first in
+        let store = one (Sw first (operand_register v second) (element_offset (home P a))) in
+        behind weight (operand_lines place i first) (operand_lines place v second ++ (test_lines (size P a) q ++ (element_lines (home P a) q ++ store))) (operands i first)
+        (behind weight (operand_lines place v second) (test_lines (size P a) q ++ (element_lines (home P a) q ++ store)) (operands v second)
+        (behind weight (test_lines (size P a) q) (element_lines (home P a) q ++ store) (test_none (size P a) q) (behind weight (element_lines (home P a) q) store (element_none (home P a) q) refl)))
     layer (stm.Zero a) h around label = refl
     layer (stm.If t a b) h around label =
         let one_code = in_turn (map (statement_code P) a) in
@@ -225,7 +237,7 @@ module _ (weight : ℕ → ℕ) (place : ℕ → ℕ) (is_attributed : ℕ → B
         let both : Weighs weight (code_weight direct 0 a + code_weight direct 0 b) (ls ++ (Jump 0 (label + 1) ∷ Label label ∷ rest)) =
         weight_append weight ls (Jump 0 (label + 1) ∷ Label label ∷ rest) ∙ ap (λ n. n + slot_weight weight rest) (in_order_has a h.0 around (label + 2)) ∙ ap (λ n. code_weight direct 0 a + n) later
         in
-        behind weight (tree_lines place t first) (branch_lines label ls ls') (trees t first) both
+        behind weight (operand_lines place t first) (branch_lines (operand_register t first) label ls ls') (operands t first) both
     layer (stm.Loop b) h around label =
         let inner = in_turn (map (statement_code P) b) in
         ahead weight (inner.lines (loop_at label ∷ around) (label + 2)) (Jump 0 label ∷ Label (label + 1) ∷ []) (in_order_has b h (loop_at label ∷ around) (label + 2)) refl

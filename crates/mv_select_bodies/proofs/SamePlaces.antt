@@ -82,6 +82,9 @@ module _ (is_known : ℕ → Bool) where
     same_tree : (t : Tree) → ReadsKnown t → (r : ℕ) → tree_lines place t r ≡ tree_lines place' t r
     same_tree t h r = lines_are place t r ∙ same_into t h r r ∙ sym (lines_are place' t r)
 
+    same_operands : (t : Tree) → ReadsKnown t → (r : ℕ) → operand_lines place t r ≡ operand_lines place' t r
+    same_operands t = same_operand t (same_into t)
+
     -- ---- calls
 
     same_arguments : (n : ℕ) (ts : List Tree) → Each ReadsKnown ts → argument_lines place n ts ≡ argument_lines place' n ts
@@ -131,16 +134,17 @@ module _ (is_known : ℕ → Bool) where
           ap (λ e. both e (code_of P code)) (c.0 (each_front ReadsKnown (stm_trees s) (trees code) h) (each_front IsKnownArray (stm_named s) (named code) k)) ∙
           ap (λ e. both (statement_code Q s) e) (same_code code c.1 (each_back ReadsKnown (stm_trees s) (trees code) h) (each_back IsKnownArray (stm_named s) (named code) k))
 
-      -- the code of a branch behind its test
-      abbrev tested : List Line → Emitted → Emitted → Emitted
-      tested test a b = record { labels = (branch_code a b).labels; lines = λ around label. test ++ (branch_code a b).lines around label }
+      -- the code of a branch behind its test, which is in a register
+      abbrev tested : ℕ → List Line → Emitted → Emitted → Emitted
+      tested q test a b = record { labels = (branch_code q a b).labels; lines = λ around label. test ++ (branch_code q a b).lines around label }
 
       same_branch : (t : Tree) (a b : List Stm) → Each IsSame a × Each IsSame b → ReadsKnown t × Each ReadsKnown (trees a ++ trees b) → Each IsKnownArray (named a ++ named b) →
           if_code place t (code_of P a) (code_of P b) ≡ if_code place' t (code_of Q a) (code_of Q b)
       same_branch t a b c h k =
-          ap (λ l. tested l (code_of P a) (code_of P b)) (same_tree t h.0 first) ∙
-          ap (λ e. tested (tree_lines place' t first) e (code_of P b)) (same_code a c.0 (each_front ReadsKnown (trees a) (trees b) h.1) (each_front IsKnownArray (named a) (named b) k)) ∙
-          ap (λ e. tested (tree_lines place' t first) (code_of Q a) e) (same_code b c.1 (each_back ReadsKnown (trees a) (trees b) h.1) (each_back IsKnownArray (named a) (named b) k))
+          let q = operand_register t first in
+          ap (λ l. tested q l (code_of P a) (code_of P b)) (same_operands t h.0 first) ∙
+          ap (λ e. tested q (operand_lines place' t first) e (code_of P b)) (same_code a c.0 (each_front ReadsKnown (trees a) (trees b) h.1) (each_front IsKnownArray (named a) (named b) k)) ∙
+          ap (λ e. tested q (operand_lines place' t first) (code_of Q a) e) (same_code b c.1 (each_back ReadsKnown (trees a) (trees b) h.1) (each_back IsKnownArray (named a) (named b) k))
 
       abbrev layer_code : Plan → Stm-F Stm → Emitted
       layer_code plan x = code_layer plan (map-Stm Stm Emitted (statement_code plan) x)
@@ -149,25 +153,32 @@ module _ (is_known : ℕ → Bool) where
           Each IsKnownArray (layer_named (map-Stm Stm (List Array) stm_named x)) → layer_code P x ≡ layer_code Q x
       layer (stm.Set t v) c h k = ap (λ l. plain (l ++ keep_lines t)) (same_into v h.0 (target t) first)
       layer (stm.SetGlobal g v) c h k =
-          ap (λ l. plain (l ++ two (Lui second (pos (upper_bits (place g)))) (Sw second first (lower_bits (place g))))) (same_tree v h.0 first) ∙
-          ap (λ a. plain (tree_lines place' v first ++ two (Lui second (pos (upper_bits a))) (Sw second first (lower_bits a)))) (same_place g k.0)
+          let q = operand_register v first in
+          ap (λ l. plain (l ++ two (Lui second (pos (upper_bits (place g)))) (Sw second q (lower_bits (place g))))) (same_operands v h.0 first) ∙
+          ap (λ a. plain (operand_lines place' v first ++ two (Lui second (pos (upper_bits a))) (Sw second q (lower_bits a)))) (same_place g k.0)
       layer (stm.Divide t o a b) c h k =
-          let rest = λ (l : List Line). l ++ (Branch 0 second 0 (trap_label 1) ∷ (Word (division o (target t)) ∷ keep_lines t)) in
-          ap (λ l. plain (l ++ rest (tree_lines place b second))) (same_tree a h.0 first) ∙
-          ap (λ l. plain (tree_lines place' a first ++ rest l)) (same_tree b h.1.0 second)
+          let p = operand_register a first in
+          let q = operand_register b second in
+          let rest = λ (l : List Line). l ++ (Branch 0 q 0 (trap_label 1) ∷ (Word (division o (target t) p q) ∷ keep_lines t)) in
+          ap (λ l. plain (l ++ rest (operand_lines place b second))) (same_operands a h.0 first) ∙
+          ap (λ l. plain (operand_lines place' a first ++ rest l)) (same_operands b h.1.0 second)
       layer (stm.Check a i) c h k =
-          ap (λ l. plain (l ++ test_lines (flow_code.size P a))) (same_tree i h.0 first) ∙ ap (λ n. plain (tree_lines place' i first ++ test_lines n)) (same_count a k.0)
+          let q = operand_register i first in
+          ap (λ l. plain (l ++ test_lines (flow_code.size P a) q)) (same_operands i h.0 first) ∙ ap (λ n. plain (operand_lines place' i first ++ test_lines n q)) (same_count a k.0)
       layer (stm.Read t a i) c h k =
-          let rest = λ (at : Home) (n : ℕ). test_lines n ++ (element_lines at ++ (Word (Lw (target t) first (element_offset at)) ∷ keep_lines t)) in
-          ap (λ l. plain (l ++ rest (home P a) (flow_code.size P a))) (same_tree i h.0 first) ∙
-          ap (λ at. plain (tree_lines place' i first ++ rest at (flow_code.size P a))) (same_home a k.0) ∙
-          ap (λ n. plain (tree_lines place' i first ++ rest (home Q a) n)) (same_count a k.0)
+          let q = operand_register i first in
+          let rest = λ (at : Home) (n : ℕ). test_lines n q ++ (element_lines at q ++ (Word (Lw (target t) first (element_offset at)) ∷ keep_lines t)) in
+          ap (λ l. plain (l ++ rest (home P a) (flow_code.size P a))) (same_operands i h.0 first) ∙
+          ap (λ at. plain (operand_lines place' i first ++ rest at (flow_code.size P a))) (same_home a k.0) ∙
+          ap (λ n. plain (operand_lines place' i first ++ rest (home Q a) n)) (same_count a k.0)
       layer (stm.Write a i v) c h k =
-          let rest = λ (l : List Line) (at : Home) (n : ℕ). l ++ (test_lines n ++ (element_lines at ++ one (Sw first second (element_offset at)))) in
-          ap (λ l. plain (l ++ rest (tree_lines place v second) (home P a) (flow_code.size P a))) (same_tree i h.0 first) ∙
-          ap (λ l. plain (tree_lines place' i first ++ rest l (home P a) (flow_code.size P a))) (same_tree v h.1.0 second) ∙
-          ap (λ at. plain (tree_lines place' i first ++ rest (tree_lines place' v second) at (flow_code.size P a))) (same_home a k.0) ∙
-          ap (λ n. plain (tree_lines place' i first ++ rest (tree_lines place' v second) (home Q a) n)) (same_count a k.0)
+          let q = operand_register i first in
+          let w = operand_register v second in
+          let rest = λ (l : List Line) (at : Home) (n : ℕ). l ++ (test_lines n q ++ (element_lines at q ++ one (Sw first w (element_offset at)))) in
+          ap (λ l. plain (l ++ rest (operand_lines place v second) (home P a) (flow_code.size P a))) (same_operands i h.0 first) ∙
+          ap (λ l. plain (operand_lines place' i first ++ rest l (home P a) (flow_code.size P a))) (same_operands v h.1.0 second) ∙
+          ap (λ at. plain (operand_lines place' i first ++ rest (operand_lines place' v second) at (flow_code.size P a))) (same_home a k.0) ∙
+          ap (λ n. plain (operand_lines place' i first ++ rest (operand_lines place' v second) (home Q a) n)) (same_count a k.0)
       layer (stm.Zero a) c h k = refl
       layer (stm.If t a b) c h k = same_branch t a b c (h.0, h.1) k
       layer (stm.Loop b) c h k = ap loop_code (same_code b c h k)

@@ -11,13 +11,13 @@ use Rattle.mv_ir.specs.World as ir
 use Rattle.mv_ir.specs.Outcome.{State, Outcome, Run, Bound, Meaning, in_order, loop}
 use Rattle.mv_ir.specs.Trees.{nodes}
 use Rattle.mv_ir.specs.Meaning.{of_tree, statement}
-use Rattle.mv_select_trees.specs.TreeCode.{tree_lines}
+use Rattle.mv_select_trees.specs.TreeCode.{operand_lines, operand_register}
 use Rattle.mv_select_trees.proofs.Registers.{reg_zero}
 use Rattle.mv_select_statements.specs.StatementCode.{first}
 use Rattle.mv_select_statements.specs.Frames.{Site, IsFine, IsFit}
 use Rattle.mv_select_statements.specs.Leads.{limited, Past}
-use Rattle.mv_select_statements.proofs.ScalarStatements.{at_first, after_tree}
-use Rattle.mv_select_statements.proofs.TreesFirst.{HasValue, tree_first}
+use Rattle.mv_select_statements.proofs.ScalarStatements.{at_first, after_operand}
+use Rattle.mv_select_statements.proofs.TreesFirst.{HasOperand, operand_first}
 use Rattle.mv_select_control.specs.declared.enclosing.Enclosing.{Enclosing}
 use Rattle.mv_select_control.specs.FlowCode.{enclosing_at, if_lines, loop_lines, block_lines, loop_at, block_at}
 use Rattle.mv_select_control.specs.Placed.{IsPlaced, Placed}
@@ -97,13 +97,13 @@ module _ {M : Type 0} (access : Access M) (s : Site) (setting : ir.Setting) (fra
   V = of_tree setting frame
 
   -- the tree of a branch has been computed
-  tree_reached : (v : Tree) (x : State) (over spare k pc mid i : ℕ) (z : HasValue access s setting frame fit first v x (machine.run i).regs (machine.run i).memory) → P (tree_lines s.place v first) pc mid
+  tree_reached : (v : Tree) (x : State) (over spare k pc mid i : ℕ) (z : HasOperand access s setting frame fit first v x (machine.run i).regs (machine.run i).memory) → P (operand_lines s.place v first) pc mid
       → H over spare k pc x i → Reaches access s machine ok place end budget far x.world mid z.after (machine.run i).memory i (2 * nodes v)
   tree_reached v x over spare k pc mid i z p h =
-      let ls = tree_lines s.place v first in
+      let ls = operand_lines s.place v first in
       let m = (machine.run i).memory in
       leads_walk access s machine ok place end budget far (ls ++ []) (2 * nodes v) x.world pc mid (machine.run i).regs m Past z.after m i (subst (λ l. P l pc mid) (sym (append-nil ls)) p)
-      (after_tree access s setting frame fit first v [] 0 (2 * nodes v) x (machine.run i).regs m Past z.after m (omega arith) z (refl, (refl, refl)))
+      (after_operand access s setting frame fit first v [] 0 (2 * nodes v) x (machine.run i).regs m Past z.after m (omega arith) z (refl, (refl, refl)))
       (to_stands access s machine ok place end budget far over spare k pc x i h)
 
   pub if_stands : (label : ℕ) (v : Tree) (spare k pc next : ℕ) (around : List Enclosing) (bound : Bound) (a b : List Meaning) (la lb : List Line) → IsFine s setting frame v
@@ -111,14 +111,17 @@ module _ {M : Type 0} (access : Access M) (s : Site) (setting : ir.Setting) (fra
       → ((spare pc next : ℕ) → P lb pc next → D spare k around pc next (in_order b bound)) → D spare k around pc next (statement setting frame (stm.If v a b) bound)
   if_stands label v spare k pc next around bound a b la lb fine p da db x i h = go (eqb (V v x) 0) refl h
     where
+      w : ℕ
+      w = operand_register v first
+
       last : List Line
       last = Label (label + 1) ∷ []
 
       tail : List Line
       tail = la ++ (Jump 0 (label + 1) ∷ Label label ∷ (lb ++ last))
 
-      q : (mid : ℕ) × P (tree_lines s.place v first) pc mid × P (Branch 0 first 0 label ∷ tail) mid next
-      q = split (tree_lines s.place v first) (Branch 0 first 0 label ∷ tail) pc next p
+      q : (mid : ℕ) × P (operand_lines s.place v first) pc mid × P (Branch 0 w 0 label ∷ tail) mid next
+      q = split (operand_lines s.place v first) (Branch 0 w 0 label ∷ tail) pc next p
 
       qa : (mid : ℕ) × P la q.2.0 mid × P (Jump 0 (label + 1) ∷ Label label ∷ (lb ++ last)) mid next
       qa = split la (Jump 0 (label + 1) ∷ Label label ∷ (lb ++ last)) q.2.0 next q.2.2
@@ -135,10 +138,10 @@ module _ {M : Type 0} (access : Access M) (s : Site) (setting : ir.Setting) (fra
       m : M
       m = (machine.run i).memory
 
-      z : HasValue access s setting frame fit first v x (machine.run i).regs m
-      z = tree_first access s setting frame fit first v x (machine.run i).regs m at_first fine h.shows
+      z : HasOperand access s setting frame fit first v x (machine.run i).regs m
+      z = operand_first access s setting frame fit first v x (machine.run i).regs m at_first fine h.shows
 
-      by : (d : Bool) → eqb (V v x) 0 ≡ d → eqb (reg z.after first) (reg z.after 0) ≡ d
+      by : (d : Bool) → eqb (V v x) 0 ≡ d → eqb (reg z.after w) (reg z.after 0) ≡ d
       by d is = ap (λ n. eqb n (reg z.after 0)) z.holds ∙ ap (λ n. eqb (V v x) n) (reg_zero z.after) ∙ is
 
       go : (d : Bool) → eqb (V v x) 0 ≡ d → H 0 (spare + (8 + 3 * nodes v + (cond d (in_order b bound x) (in_order a bound x)).cost)) k pc x i
@@ -147,7 +150,7 @@ module _ {M : Type 0} (access : Access M) (s : Site) (setting : ir.Setting) (fra
           let cost = (in_order b bound x).cost in
           let y = tree_reached v x 0 (spare + (8 + 3 * nodes v + cost)) k pc q.0 i z q.1 h in
           let e = subst (λ d. BranchRuns (limited access s) machine.text.word m d q.0 q.2.0 (place label) z.after) (by true is)
-          (line_does access s machine ok place end budget far x.world q.0 q.2.0 z.after m y.time (Branch 0 first 0 label) q.2.1.stands q.2.1 y.stands) in
+          (line_does access s machine ok place end budget far x.world q.0 q.2.0 z.after m y.time (Branch 0 w 0 label) q.2.1.stands q.2.1 y.stands) in
           let t = taken access s machine ok place end budget far x.world q.0 q.2.0 (place label) z.after m y.time e y.stands in
           let paid = h.paid in let asked = h.asked in let late = y.late in let soon = y.soon in let later = t.late in let sooner = t.soon in
           let here = to_here access s machine ok place end budget far 0 (spare + cost) k (place label) x x.world z.after m t.time refl z.shown (omega (arith, paid, soon, sooner)) (omega (arith, asked, late, later)) t.stands in
@@ -156,7 +159,7 @@ module _ {M : Type 0} (access : Access M) (s : Site) (setting : ir.Setting) (fra
       go false is h =
           let cost = (in_order a bound x).cost in
           let y = tree_reached v x 0 (spare + (8 + 3 * nodes v + cost)) k pc q.0 i z q.1 h in
-          let t = branch_passes access s machine ok place end budget far x.world q.0 q.2.0 0 first 0 label z.after m y.time (by false is) q.2.1 y.stands in
+          let t = branch_passes access s machine ok place end budget far x.world q.0 q.2.0 0 w 0 label z.after m y.time (by false is) q.2.1 y.stands in
           let paid = h.paid in let asked = h.asked in let late = y.late in let soon = y.soon in
           let here = to_here access s machine ok place end budget far 0 (spare + 1 + cost) k q.2.0 x x.world z.after m (y.time + 1) refl z.shown (omega (arith, paid, soon)) (omega (arith, asked, late)) t in
           jump_follows access s machine place end budget far spare k around qa.0 next (in_order a bound x).outcome (jumps_to qa.0 qa.2.0 (label + 1) next (qb.2.1.label ∙ stop) qa.2.1)

@@ -6,7 +6,7 @@ use Rattle.mv_ir.specs.declared.body.Room.{Room}
 use Rattle.mv_ir.specs.declared.tree.Tree.{Tree}
 use Rattle.mv_ir.specs.declared.stm.Stm.{Stm}
 use Rattle.mv_select_trees.specs.Rooms.{place_in}
-use Rattle.mv_select_trees.specs.TreeCode.{tree_lines}
+use Rattle.mv_select_trees.specs.TreeCode.{operand_lines, operand_register}
 use Rattle.mv_select_statements.specs.StatementCode.{first}
 use Rattle.mv_select_control.specs.declared.emitter.Emitter.{Emitter}
 use Rattle.mv_select_control.specs.FlowCode.{Plan, Emitted, both, plain, if_code, statement_code, code_of}
@@ -22,11 +22,12 @@ pub if_emitted : (e : Emitter) (place : ℕ → ℕ) (t : Tree) (a b : Emitted)
     → branch_closed (emitted (branch_turned (emitted (branch_opened e place t) a) e.free) b) e.free ≡ emitted e (if_code place t a b)
 if_emitted e place t a b =
     let free : ((e.free + 2) + a.labels) + b.labels ≡ e.free + (2 + (a.labels + b.labels)) = omega arith in
-    let test = tree_lines place t first in
+    let test = operand_lines place t first in
+    let q = operand_register t first in
     let one = a.lines e.around (e.free + 2) in
     let other = b.lines e.around (e.free + 2 + a.labels) in
-    let lines : (((((e.lines ++ test) ++ (Branch 0 first 0 e.free ∷ [])) ++ one) ++ (Jump 0 (e.free + 1) ∷ Label e.free ∷ [])) ++ other) ++ (Label (e.free + 1) ∷ [])
-    ≡ e.lines ++ (test ++ (Branch 0 first 0 e.free ∷ (one ++ (Jump 0 (e.free + 1) ∷ Label e.free ∷ (other ++ (Label (e.free + 1) ∷ [])))))) = simp append_assoc in
+    let lines : (((((e.lines ++ test) ++ (Branch 0 q 0 e.free ∷ [])) ++ one) ++ (Jump 0 (e.free + 1) ∷ Label e.free ∷ [])) ++ other) ++ (Label (e.free + 1) ∷ [])
+    ≡ e.lines ++ (test ++ (Branch 0 q 0 e.free ∷ (one ++ (Jump 0 (e.free + 1) ∷ Label e.free ∷ (other ++ (Label (e.free + 1) ∷ [])))))) = simp append_assoc in
     λ i. record e { lines = lines i; free = free i }
 
 pub if_written : (e : Emitter) (place : ℕ → ℕ) (t : Tree) (a b : Emitted) (opened one turned both closed : Emitter)

@@ -18,10 +18,11 @@ use Rattle.mv_ir.specs.Trees.{nodes as nodes_of, nodes_of_all}
 use Rattle.mv_ir.specs.Measures.{total, joined, layer_trees, stm_trees}
 use Rattle.mv_ir.proofs.Induction.{Each, StmChildren, stm_ind, stms_ind}
 use Rattle.mv_ir.proofs.Rolls.{trees_roll}
-use Rattle.mv_select_trees.specs.TreeCode.{tree_lines}
+use Rattle.mv_select_trees.specs.TreeCode.{operand_lines, operand_register}
 use Rattle.mv_select_trees.proofs.TreesRun.{and_left, and_right}
-use Rattle.mv_select_trees.proofs.TreesAreShort.{trees_are_short}
-use Rattle.mv_select_trees.proofs.TreesFit.{trees_fit}
+use Rattle.mv_select_trees.proofs.Operands.{operand_below}
+use Rattle.mv_select_trees.proofs.TreesAreShort.{operand_short}
+use Rattle.mv_select_trees.proofs.TreesFit.{operand_fits}
 use Rattle.mv_select_statements.specs.StatementCode.{first, second, bounds_lines, clear_lines, home_below}
 use Rattle.mv_select_statements.specs.Encoded.{IsCode, IsSmall, AreEncoded}
 use Rattle.mv_select_statements.proofs.EncodedCode.{are_encoded}
@@ -58,8 +59,8 @@ label_line l = (All-cons LineFits (Label l) [] tt (All-nil LineFits), omega arit
 jump : (l : ℕ) → IsCode 1 (Jump 0 l ∷ [])
 jump l = (All-cons LineFits (Jump 0 l) [] (omega arith) (All-nil LineFits), omega arith)
 
-branch : (l : ℕ) → IsCode 2 (Branch 0 first 0 l ∷ [])
-branch l = (All-cons LineFits (Branch 0 first 0 l) [] (inl (omega arith), omega arith, omega arith) (All-nil LineFits), omega arith)
+branch : (q l : ℕ) → q < 32 → IsCode 2 (Branch 0 q 0 l ∷ [])
+branch q l p = (All-cons LineFits (Branch 0 q 0 l) [] (inl (omega arith), p, omega arith) (All-nil LineFits), omega arith)
 
 zero_code : (l at n : ℕ) → IsCode 2 (bounds_lines at n) → IsCode 2 clear_lines → IsCode 7 (zero_lines l at n)
 zero_code l at n h g =
@@ -79,11 +80,11 @@ loop_code l n b h =
     join 0 (n + 1) (Label l ∷ []) (b ++ (Jump 0 l ∷ Label (l + 1) ∷ [])) (label_line l)
     (join n 1 b (Jump 0 l ∷ Label (l + 1) ∷ []) h (join 1 0 (Jump 0 l ∷ []) (Label (l + 1) ∷ []) (jump l) (label_line (l + 1))))
 
-branch_code : (l n k : ℕ) (a b : List Line) → IsCode n a → IsCode k b → IsCode (2 + (n + (1 + (k + 0)))) (branch_lines l a b)
-branch_code l n k a b h g =
+branch_code : (q l n k : ℕ) (a b : List Line) → q < 32 → IsCode n a → IsCode k b → IsCode (2 + (n + (1 + (k + 0)))) (branch_lines q l a b)
+branch_code q l n k a b p h g =
     let end = Label (l + 1) ∷ [] in
     let turn = Jump 0 (l + 1) ∷ Label l ∷ [] in
-    join 2 (n + (1 + (k + 0))) (Branch 0 first 0 l ∷ []) (a ++ (turn ++ (b ++ end))) (branch l)
+    join 2 (n + (1 + (k + 0))) (Branch 0 q 0 l ∷ []) (a ++ (turn ++ (b ++ end))) (branch q l p)
     (join n (1 + (k + 0)) a (turn ++ (b ++ end)) h
     (join 1 (k + 0) turn (b ++ end) (join 1 0 (Jump 0 (l + 1) ∷ []) (Label l ∷ []) (jump (l + 1)) (label_line l))
     (join k 0 b end g (label_line (l + 1)))))
@@ -182,8 +183,8 @@ module _ (plan : Plan) (within : (a : ℕ) → plan.array_at a + 4 * plan.array_
       let other = in_turn (map (statement_code plan) b) in
       let nodes = nodes_append (joined (map stm_trees a)) (joined (map stm_trees b)) in
       wider _ _ _
-      (join (2 * nodes_of t) _ (tree_lines plan.place t first) _ (trees_fit plan.place t first (omega (arith, test.0)) test.1, trees_are_short plan.place t first)
-      (branch_code label _ _ (one.lines around (label + 2)) (other.lines around (label + 2 + one.labels))
+      (join (2 * nodes_of t) _ (operand_lines plan.place t first) _ (operand_fits plan.place t first (omega (arith, test.0)) test.1, operand_short plan.place t first)
+      (branch_code (operand_register t first) label _ _ (one.lines around (label + 2)) (other.lines around (label + 2 + one.labels)) (operand_below t first (omega arith))
       (in_order_holds a h.0 (and_left (all_true (smalls a)) (all_true (smalls b)) both) around (label + 2))
       (in_order_holds b h.1 (and_right (all_true (smalls a)) (all_true (smalls b)) both) around (label + 2 + one.labels))))
       (omega (arith, nodes))

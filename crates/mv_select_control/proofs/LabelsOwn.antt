@@ -14,13 +14,13 @@ use Rattle.mv_ir.specs.declared.stm.Stm.TheFolds.{map-Stm}
 use Rattle.mv_ir.specs.Measures.{total, layer_size, stm_size}
 use Rattle.mv_ir.proofs.Rolls.{size_roll}
 use Rattle.mv_ir.proofs.Induction.{Each, StmChildren, stm_ind, stms_ind}
-use Rattle.mv_select_trees.specs.TreeCode.{tree_lines}
+use Rattle.mv_select_trees.specs.TreeCode.{operand_lines, operand_register}
 use Rattle.mv_select_statements.specs.StatementCode.{first, second, bounds_lines, clear_lines}
 use Rattle.mv_select_control.specs.declared.enclosing.Enclosing.{Enclosing}
 use Rattle.mv_select_control.specs.FlowCode.{Plan, Emitted, in_turn, plain, enclosing_at, zero_lines, branch_lines, loop_lines, block_lines, loop_at, block_at, home, size, code_layer, statement_code}
 use Rattle.mv_select_control.specs.Labels.{Names, CallsName, OwnLabels, LabelsAreOwn, LabelsAreFew, tree_functions}
 use Rattle.mv_select_control.proofs.StatementsDo.{code_roll}
-use Rattle.mv_select_control.proofs.TreeNames.{tree_names, set_names, set_global_names, divide_names, check_names, read_names, write_names, bounds_names, clear_names, return_names, jump_names}
+use Rattle.mv_select_control.proofs.TreeNames.{operand_names, set_names, set_global_names, divide_names, check_names, read_names, write_names, bounds_names, clear_names, return_names, jump_names}
 
 pub count_append : (l : ℕ) (xs ys : List Line) → count_by (is_label l) (xs ++ ys) ≡ count_by (is_label l) xs + count_by (is_label l) ys
 count_append l xs ys = sum_by-append (λ x. cond (is_label l x) 1 0) xs ys
@@ -101,8 +101,8 @@ loop_own label n b h = record {
         let jump : count_by (is_label l) back ≡ 0 = refl in
         omega (arith, count_append l (Label label ∷ []) (b ++ (back ++ end)), count_append l b (back ++ end), count_append l back end, jump)
 
-branch_own : (label n k : ℕ) (a b : List Line) → OwnLabels (label + 2) n a → OwnLabels (label + 2 + n) k b → OwnLabels label (2 + (n + k)) (branch_lines label a b)
-branch_own label n k a b h g = record {
+branch_own : (q label n k : ℕ) (a b : List Line) → OwnLabels (label + 2) n a → OwnLabels (label + 2 + n) k b → OwnLabels label (2 + (n + k)) (branch_lines q label a b)
+branch_own q label n k a b h g = record {
   own = λ l p q.
       ⊎_elim
       (λ lt. omega (arith, parts l, marks l label p lt, h.before l lt, g.before l (omega (arith, lt))))
@@ -115,13 +115,13 @@ branch_own label n k a b h g = record {
   after = λ l p. omega (arith, p, parts l, h.after l, g.after l, mark_below l label, mark_below l (label + 1));
 }
   where
-    parts : (l : ℕ) → count_by (is_label l) (branch_lines label a b)
+    parts : (l : ℕ) → count_by (is_label l) (branch_lines q label a b)
         ≡ count_by (is_label l) a + (count_by (is_label l) (Label label ∷ []) + (count_by (is_label l) b + count_by (is_label l) (Label (label + 1) ∷ [])))
     parts l =
         let end = Label (label + 1) ∷ [] in
         let middle = Label label ∷ [] in
         let turn = Jump 0 (label + 1) ∷ [] in
-        let test = Branch 0 first 0 label ∷ [] in
+        let test = Branch 0 q 0 label ∷ [] in
         let jump : count_by (is_label l) turn ≡ 0 = refl in
         let branch : count_by (is_label l) test ≡ 0 = refl in
         omega (
@@ -185,17 +185,17 @@ module _ (plan : Plan) (calls : CallsName Any plan.calls) where
       let rest = in_turn (map (statement_code plan) code) in
       both_own label here.labels rest.labels (here.lines around label) (rest.lines around (label + here.labels)) (h.0 around label) (in_order_own code h.1 around (label + here.labels))
 
-  test_own : (t : Tree) (label n : ℕ) (ls : List Line) → OwnLabels label n ls → OwnLabels label n (tree_lines plan.place t first ++ ls)
+  test_own : (t : Tree) (label n : ℕ) (ls : List Line) → OwnLabels label n ls → OwnLabels label n (operand_lines plan.place t first ++ ls)
   test_own t label n ls h = record {
     own = λ l p q. omega (arith, parts l, h.own l p q);
     before = λ l p. omega (arith, parts l, h.before l p);
     after = λ l p. omega (arith, parts l, h.after l p);
   }
     where
-      parts : (l : ℕ) → count_by (is_label l) (tree_lines plan.place t first ++ ls) ≡ count_by (is_label l) ls
+      parts : (l : ℕ) → count_by (is_label l) (operand_lines plan.place t first ++ ls) ≡ count_by (is_label l) ls
       parts l =
-          let test = tree_lines plan.place t first in
-          omega (arith, count_append l test ls, none Any test (tree_names Any plan.place t (any (tree_functions t)) first) l)
+          let test = operand_lines plan.place t first in
+          omega (arith, count_append l test ls, none Any test (operand_names Any plan.place t (any (tree_functions t)) first) l)
 
   plain_own : (ls : List Line) → All (Names Any) ls → Owns (plain ls)
   plain_own ls h around label = silent_own Any label ls h
@@ -224,8 +224,9 @@ module _ (plan : Plan) (calls : CallsName Any plan.calls) where
       let other = in_turn (map (statement_code plan) b) in
       let ls = one.lines around (label + 2) in
       let ls' = other.lines around (label + 2 + one.labels) in
-      test_own t label (2 + (one.labels + other.labels)) (branch_lines label ls ls')
-      (branch_own label one.labels other.labels ls ls' (in_order_own a h.0 around (label + 2)) (in_order_own b h.1 around (label + 2 + one.labels)))
+      let q = operand_register t first in
+      test_own t label (2 + (one.labels + other.labels)) (branch_lines q label ls ls')
+      (branch_own q label one.labels other.labels ls ls' (in_order_own a h.0 around (label + 2)) (in_order_own b h.1 around (label + 2 + one.labels)))
 
   statement_owns : (s : Stm) → StmOwns s
   statement_owns = stm_ind StmOwns (λ x h. subst Owns (sym (code_roll plan x)) (layer x h))

@@ -12,13 +12,13 @@ use Rattle.mv_ir.specs.declared.stm.Stm.TheViews.{roll-Stm}
 use Rattle.mv_ir.specs.declared.stm.Stm.TheFolds.{fold-roll-Stm, map-Stm}
 use Rattle.mv_ir.specs.Measures.{joined}
 use Rattle.mv_ir.proofs.Induction.{Each, StmChildren, stm_ind, stms_ind}
-use Rattle.mv_select_trees.specs.TreeCode.{tree_lines}
+use Rattle.mv_select_trees.specs.TreeCode.{operand_lines, operand_register}
 use Rattle.mv_select_statements.specs.StatementCode.{first, second, bounds_lines, clear_lines, trap_label}
 use Rattle.mv_select_control.specs.declared.enclosing.Enclosing.{Enclosing}
 use Rattle.mv_select_control.specs.FlowCode.{Plan, Emitted, in_turn, enclosing_at, branch_lines, loop_at, block_at, home, size, code_layer, statement_code}
 use Rattle.mv_select_control.specs.Labels.{Names, CallsName, TargetsStand, named_layer, stm_functions, tree_functions}
 use Rattle.mv_select_control.proofs.StatementsDo.{code_roll}
-use Rattle.mv_select_control.proofs.TreeNames.{all_front, all_back, tree_names, set_names, set_global_names, divide_names, check_names, read_names, write_names, bounds_names, clear_names, return_names}
+use Rattle.mv_select_control.proofs.TreeNames.{all_front, all_back, operand_names, set_names, set_global_names, divide_names, check_names, read_names, write_names, bounds_names, clear_names, return_names}
 
 named_roll : (x : Stm-F Stm) → stm_functions (roll-Stm x) ≡ named_layer (map-Stm Stm (List ℕ) stm_functions x)
 unfolding stm_functions
@@ -147,11 +147,12 @@ module _ (whole : List Line) (plan : Plan) (calls : CallsName (StandsOnce whole)
       let other = in_turn (map (statement_code plan) b) in
       let ls = one.lines around (label + 2) in
       let ls' = other.lines around (label + 2 + one.labels) in
-      let test = tree_lines plan.place t first in
+      let test = operand_lines plan.place t first in
+      let q = operand_register t first in
       let lists = all_back P (tree_functions t) (in_a ++ in_b) names in
       let stop = Label (label + 1) ∷ [] in
-      after test (branch_lines label ls ls') (named test (tree_names P plan.place t (all_front P (tree_functions t) (in_a ++ in_b) names) first))
-      (then_line (Branch 0 first 0 label) (ls ++ (Jump 0 (label + 1) ∷ Label label ∷ (ls' ++ stop))) (own label (omega arith) (omega arith))
+      after test (branch_lines q label ls ls') (named test (operand_names P plan.place t (all_front P (tree_functions t) (in_a ++ in_b) names) first))
+      (then_line (Branch 0 q 0 label) (ls ++ (Jump 0 (label + 1) ∷ Label label ∷ (ls' ++ stop))) (own label (omega arith) (omega arith))
       (after ls (Jump 0 (label + 1) ∷ Label label ∷ (ls' ++ stop))
       (in_order_stand a h.0 (all_front P in_a in_b lists) around starts ends (label + 2) (λ l p q. own l (omega (arith, p)) (omega (arith, q))))
       (then_line (Jump 0 (label + 1)) (Label label ∷ (ls' ++ stop)) (own (label + 1) (omega arith) (omega arith))

@@ -11,8 +11,8 @@ use Rattle.mv_ir.specs.declared.tree.Tree.TheOpen as tree
 use Rattle.mv_ir.specs.declared.tree.Tree.TheViews.{roll-Tree}
 use Rattle.mv_ir.specs.declared.tree.Tree.TheFolds.{fold-roll-Tree, map-Tree}
 use Rattle.mv_ir.proofs.Induction.{TreeChildren}
-use Rattle.mv_select_trees.specs.TreeCode.{one, two, upper_bits, lower_bits, number_lines, temp_offset, tree_into, tree_lines}
-use Rattle.mv_select_trees.proofs.TreesAreMade.{number_made, into_made, lines_made}
+use Rattle.mv_select_trees.specs.TreeCode.{one, two, upper_bits, lower_bits, number_lines, temp_offset, tree_into, tree_lines, operand_lines, operand_register}
+use Rattle.mv_select_trees.proofs.TreesAreMade.{number_made, into_made, lines_made, operand_made}
 use Rattle.mv_select_statements.specs.declared.elements.Home.{Home}
 use Rattle.mv_select_statements.specs.declared.elements.Home.TheVariants as home
 use Rattle.mv_select_statements.specs.StatementCode.{first, second, third, trap_label, target, keep_lines, division, element_offset, element_lines, test_lines, bounds_lines, clear_lines, set_lines, set_global_lines, divide_lines, check_lines, read_lines, write_lines, return_lines}
@@ -72,6 +72,9 @@ module _ (P : ℕ → Type 0) where
     pub tree_names : (t : Tree) → Fs t → (r : ℕ) → AllName (tree_lines place t r)
     tree_names = lines_made AllName (All-nil (Names P)) word after Fs (functions_inside P) entry_names place
 
+    pub operand_names : (t : Tree) → Fs t → (r : ℕ) → AllName (operand_lines place t r)
+    operand_names = operand_made AllName (All-nil (Names P)) word after Fs (functions_inside P) entry_names place
+
     into_names : (t : Tree) → Fs t → (d r : ℕ) → AllName (tree_into place t d r)
     into_names = into_made AllName (All-nil (Names P)) word after Fs (functions_inside P) entry_names place
 
@@ -94,12 +97,12 @@ module _ (P : ℕ → Type 0) where
     branch_names : (funct3 a b l : ℕ) → P l → AllName (Branch funct3 a b l ∷ [])
     branch_names funct3 a b l h = All-cons (Names P) (Branch funct3 a b l) [] h (All-nil (Names P))
 
-    element_names : (h : Home) → AllName (element_lines h)
-    element_names (home.Data at) = after (one (Slli first first (pos 2))) (two (Lui third (pos (upper_bits at))) (Add first first third)) (word (Slli first first (pos 2))) (words (Lui third (pos (upper_bits at))) (Add first first third))
-    element_names (home.Frame at) = words (Slli first first (pos 2)) (Add first first 2)
+    element_names : (h : Home) (q : ℕ) → AllName (element_lines h q)
+    element_names (home.Data at) q = after (one (Slli first q (pos 2))) (two (Lui third (pos (upper_bits at))) (Add first first third)) (word (Slli first q (pos 2))) (words (Lui third (pos (upper_bits at))) (Add first first third))
+    element_names (home.Frame at) q = words (Slli first q (pos 2)) (Add first first 2)
 
-    test_names : (size : ℕ) → P (trap_label 2) → AllName (test_lines size)
-    test_names size h = after (number_lines size third) (Branch 7 first third (trap_label 2) ∷ []) (number_names size third) (branch_names 7 first third (trap_label 2) h)
+    test_names : (size q : ℕ) → P (trap_label 2) → AllName (test_lines size q)
+    test_names size q h = after (number_lines size third) (Branch 7 q third (trap_label 2) ∷ []) (number_names size third) (branch_names 7 q third (trap_label 2) h)
 
     pub bounds_names : (at n : ℕ) → AllName (bounds_lines at n)
     bounds_names at n = words (Addi first 2 (pos at)) (Addi second 2 (pos (at + 4 * n)))
@@ -112,34 +115,39 @@ module _ (P : ℕ → Type 0) where
 
     pub set_global_names : (g : ℕ) (v : Tree) → Fs v → AllName (set_global_lines place g v)
     set_global_names g v h =
-        let store = two (Lui second (pos (upper_bits (place g)))) (Sw second first (lower_bits (place g))) in
-        after (tree_lines place v first) store (tree_names v h first) (words (Lui second (pos (upper_bits (place g)))) (Sw second first (lower_bits (place g))))
+        let high = Lui second (pos (upper_bits (place g))) in
+        let store = Sw second (operand_register v first) (lower_bits (place g)) in
+        after (operand_lines place v first) (two high store) (operand_names v h first) (words high store)
 
     pub divide_names : (t o : ℕ) (a b : Tree) → P (trap_label 1) → Fs a → Fs b → AllName (divide_lines place t o a b)
     divide_names t o a b p h k =
-        let test = Branch 0 second 0 (trap_label 1) ∷ [] in
-        let divide = Word (division o (target t)) ∷ keep_lines t in
-        after (tree_lines place a first) (tree_lines place b second ++ (test ++ divide)) (tree_names a h first)
-        (after (tree_lines place b second) (test ++ divide) (tree_names b k second)
-        (after test divide (branch_names 0 second 0 (trap_label 1) p) (last_names (division o (target t)) t)))
+        let left = operand_register a first in
+        let right = operand_register b second in
+        let test = Branch 0 right 0 (trap_label 1) ∷ [] in
+        let divide = division o (target t) left right in
+        after (operand_lines place a first) (operand_lines place b second ++ (test ++ (Word divide ∷ keep_lines t))) (operand_names a h first)
+        (after (operand_lines place b second) (test ++ (Word divide ∷ keep_lines t)) (operand_names b k second)
+        (after test (Word divide ∷ keep_lines t) (branch_names 0 right 0 (trap_label 1) p) (last_names divide t)))
 
     pub check_names : (size : ℕ) (i : Tree) → P (trap_label 2) → Fs i → AllName (check_lines place size i)
-    check_names size i p h = after (tree_lines place i first) (test_lines size) (tree_names i h first) (test_names size p)
+    check_names size i p h = let q = operand_register i first in after (operand_lines place i first) (test_lines size q) (operand_names i h first) (test_names size q p)
 
     pub read_names : (t size : ℕ) (e : Home) (i : Tree) → P (trap_label 2) → Fs i → AllName (read_lines place t e size i)
     read_names t size e i p h =
+        let q = operand_register i first in
         let load = Word (Lw (target t) first (element_offset e)) ∷ keep_lines t in
-        after (tree_lines place i first) (test_lines size ++ (element_lines e ++ load)) (tree_names i h first)
-        (after (test_lines size) (element_lines e ++ load) (test_names size p)
-        (after (element_lines e) load (element_names e) (last_names (Lw (target t) first (element_offset e)) t)))
+        after (operand_lines place i first) (test_lines size q ++ (element_lines e q ++ load)) (operand_names i h first)
+        (after (test_lines size q) (element_lines e q ++ load) (test_names size q p)
+        (after (element_lines e q) load (element_names e q) (last_names (Lw (target t) first (element_offset e)) t)))
 
     pub write_names : (size : ℕ) (e : Home) (i v : Tree) → P (trap_label 2) → Fs i → Fs v → AllName (write_lines place e size i v)
     write_names size e i v p h k =
-        let store = one (Sw first second (element_offset e)) in
-        after (tree_lines place i first) (tree_lines place v second ++ (test_lines size ++ (element_lines e ++ store))) (tree_names i h first)
-        (after (tree_lines place v second) (test_lines size ++ (element_lines e ++ store)) (tree_names v k second)
-        (after (test_lines size) (element_lines e ++ store) (test_names size p)
-        (after (element_lines e) store (element_names e) (word (Sw first second (element_offset e))))))
+        let q = operand_register i first in
+        let store = Sw first (operand_register v second) (element_offset e) in
+        after (operand_lines place i first) (operand_lines place v second ++ (test_lines size q ++ (element_lines e q ++ one store))) (operand_names i h first)
+        (after (operand_lines place v second) (test_lines size q ++ (element_lines e q ++ one store)) (operand_names v k second)
+        (after (test_lines size q) (element_lines e q ++ one store) (test_names size q p)
+        (after (element_lines e q) (one store) (element_names e q) (word store))))
 
     pub return_names : (end : ℕ) (v : Tree) → P end → Fs v → AllName (return_lines place end v)
     return_names end v p h = after (tree_lines place v first) (Jump 0 end ∷ []) (tree_names v h first) (jump_names end p)

@@ -3,7 +3,7 @@ use Rattle.std.specs.Prelude.{ℕ, ◌+◌, List, [], ◌∷◌, ◌++◌, drop}
 use Rattle.mv_isa.specs.declared.labelled.Line.{Line}
 use Rattle.mv_isa.specs.declared.labelled.Line.TheVariants.{Label, Jump, Branch}
 use Rattle.mv_ir.specs.declared.tree.Tree.{Tree}
-use Rattle.mv_select_trees.specs.TreeCode.{tree_lines}
+use Rattle.mv_select_trees.specs.TreeCode.{operand_lines, operand_register}
 use Rattle.mv_select_statements.specs.StatementCode.{first}
 use Rattle.mv_select_control.specs.declared.emitter.Emitter.{Emitter}
 use Rattle.mv_select_control.specs.FlowCode.{Emitted, loop_at, block_at}
@@ -32,7 +32,8 @@ block_closed e label = record e { lines = e.lines ++ (Label label ∷ []); aroun
 
 -- a branch has its test first
 abbrev pub branch_opened : Emitter → (ℕ → ℕ) → Tree → Emitter
-branch_opened e place t = record e { lines = (e.lines ++ tree_lines place t first) ++ (Branch 0 first 0 e.free ∷ []); free = e.free + 2 }
+branch_opened e place t =
+    record e { lines = (e.lines ++ operand_lines place t first) ++ (Branch 0 (operand_register t first) 0 e.free ∷ []); free = e.free + 2 }
 
 abbrev pub branch_turned : Emitter → ℕ → Emitter
 branch_turned e label = with_lines e (Jump 0 (label + 1) ∷ Label label ∷ [])

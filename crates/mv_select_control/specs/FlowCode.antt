@@ -14,7 +14,7 @@ use Rattle.mv_ir.specs.declared.stm.Stm.TheOpen as stm
 use Rattle.mv_ir.specs.declared.stm.Stm.TheFolds.{fold-Stm}
 use Rattle.mv_ir.specs.Measures.{callee_trees}
 use Rattle.mv_ir.specs.WellFormed.{known_arguments}
-use Rattle.mv_select_trees.specs.TreeCode.{tree_lines}
+use Rattle.mv_select_trees.specs.TreeCode.{operand_lines, operand_register}
 use Rattle.mv_select_statements.specs.declared.elements.Home.{Home}
 use Rattle.mv_select_statements.specs.declared.elements.Home.TheVariants as place_at
 use Rattle.mv_select_statements.specs.StatementCode.{first, second, set_lines, set_global_lines, divide_lines, check_lines, read_lines, write_lines, bounds_lines, clear_lines, return_lines}
@@ -59,12 +59,12 @@ abbrev pub in_turn : List Emitted → Emitted
 in_turn [] = nothing
 in_turn (a ∷ rest) = both a (in_turn rest)
 
--- the second list, at a first label, where the register is 0, and else the first one, with a jump to the end, a second label
-abbrev pub branch_lines : ℕ → List Line → List Line → List Line
-branch_lines label a b = Branch 0 first 0 label ∷ (a ++ (Jump 0 (label + 1) ∷ Label label ∷ (b ++ (Label (label + 1) ∷ []))))
+-- the second list, at a first label, where a register is 0, and else the first one, with a jump to the end, a second label
+abbrev pub branch_lines : (q label : ℕ) → List Line → List Line → List Line
+branch_lines q label a b = Branch 0 q 0 label ∷ (a ++ (Jump 0 (label + 1) ∷ Label label ∷ (b ++ (Label (label + 1) ∷ []))))
 
 abbrev pub if_lines : (ℕ → ℕ) → ℕ → Tree → List Line → List Line → List Line
-if_lines place label t a b = tree_lines place t first ++ branch_lines label a b
+if_lines place label t a b = operand_lines place t first ++ branch_lines (operand_register t first) label a b
 
 abbrev pub loop_lines : ℕ → List Line → List Line
 loop_lines label b = Label label ∷ (b ++ (Jump 0 label ∷ Label (label + 1) ∷ []))
@@ -79,14 +79,15 @@ loop_at label = record { start = label; end = label + 1 }
 abbrev pub block_at : ℕ → Enclosing
 block_at label = record { start = label; end = label }
 
-abbrev pub branch_code : Emitted → Emitted → Emitted
-branch_code a b = record {
+abbrev pub branch_code : ℕ → Emitted → Emitted → Emitted
+branch_code q a b = record {
   labels = 2 + (a.labels + b.labels);
-  lines = λ around label. branch_lines label (a.lines around (label + 2)) (b.lines around (label + 2 + a.labels));
+  lines = λ around label. branch_lines q label (a.lines around (label + 2)) (b.lines around (label + 2 + a.labels));
 }
 
 abbrev pub if_code : (ℕ → ℕ) → Tree → Emitted → Emitted → Emitted
-if_code place t a b = let c = branch_code a b in record { labels = c.labels; lines = λ around label. tree_lines place t first ++ c.lines around label }
+if_code place t a b =
+    let c = branch_code (operand_register t first) a b in record { labels = c.labels; lines = λ around label. operand_lines place t first ++ c.lines around label }
 
 abbrev pub loop_code : Emitted → Emitted
 loop_code b = record { labels = 2 + b.labels; lines = λ around label. loop_lines label (b.lines (loop_at label ∷ around) (label + 2)) }

@@ -14,10 +14,10 @@ use mv_ir::tree::Tree;
 use mv_isa::labelled::Line;
 use mv_num::list::List;
 use mv_select_statements::elements::{push_bounds, push_clear};
-use mv_select_trees::push_tree;
+use mv_select_trees::{operand_register, push_operand};
 use std::alloc::{AllocError, Global};
 
-// a0, which has the test of a branch and the address of a word.
+// a0, which has the test of a branch, if that stands in no register yet, and the address of a word.
 const FIRST: u8 = 10;
 
 // a1, which has the address of an array's end.
@@ -117,9 +117,10 @@ impl Emitter {
         requires label { self.old.free + 2 < 2 ^ 32 }
         ensures { OnOk result (self.new ≡ branch_opened self.old (place_in rooms.now) test.now) }
     {
-        push_tree(&mut self.lines, rooms, test, FIRST)?;
+        push_operand(&mut self.lines, rooms, test, FIRST)?;
         let label = self.free;
-        self.lines.push(Line::Branch(0, FIRST, 0, label))?;
+        let register = operand_register(test, FIRST);
+        self.lines.push(Line::Branch(0, register, 0, label))?;
         self.free = label + 2;
         Ok(())
     }

@@ -11,7 +11,7 @@ use Rattle.mv_ir.specs.declared.stm.Stm.TheViews.{roll-Stm}
 use Rattle.mv_ir.specs.declared.stm.Stm.TheFolds.{fold-roll-Stm, map-Stm}
 use Rattle.mv_ir.specs.Measures.{joined}
 use Rattle.mv_ir.proofs.Induction.{Each, StmChildren, stm_ind, stms_ind}
-use Rattle.mv_select_trees.specs.TreeCode.{tree_lines}
+use Rattle.mv_select_trees.specs.TreeCode.{operand_lines, operand_register}
 use Rattle.mv_select_statements.specs.StatementCode.{first, second, bounds_lines, clear_lines, trap_label}
 use Rattle.mv_select_control.specs.declared.enclosing.Enclosing.{Enclosing}
 use Rattle.mv_select_control.specs.FlowCode.{Plan, Emitted, in_turn, enclosing_at, branch_lines, loop_at, block_at, home, size as plan_size, code_layer, code_of, statement_code}
@@ -21,7 +21,7 @@ use Rattle.mv_select_control.proofs.TreeNames.{all_front, all_back}
 use Rattle.mv_select_calls.specs.CallCode.{commit_label}
 use Rattle.mv_select_functions.specs.FunctionCode.{Shape, end_label, plan}
 use Rattle.mv_select_lines.proofs.CallNames.{call_names, known_names}
-use Rattle.mv_select_lines.proofs.TreeNames.{AllName, IsPlain, after, nothing, then_line, tree_names, set_names, set_global_names, divide_names, check_names, read_names, write_names, bounds_names, clear_names, return_names}
+use Rattle.mv_select_lines.proofs.TreeNames.{AllName, IsPlain, after, nothing, then_line, operand_names, set_names, set_global_names, divide_names, check_names, read_names, write_names, bounds_names, clear_names, return_names}
 
 named_roll : (x : Stm-F Stm) → stm_functions (roll-Stm x) ≡ named_layer (map-Stm Stm (List ℕ) stm_functions x)
 unfolding stm_functions
@@ -142,13 +142,14 @@ module _ (L P C Q S : ℕ → Type 0) (null : P (trap_label 3)) (depth : P (trap
       let other = in_turn (map (statement_code at) b) in
       let ls = one.lines around (label + 2) in
       let ls' = other.lines around (label + 2 + one.labels) in
-      let test = tree_lines place t first in
+      let test = operand_lines place t first in
+      let q = operand_register t first in
       let lists = all_back Q (tree_functions t) (in_a ++ in_b) names in
       let stop = Label (label + 1) ∷ [] in
       let past = own label (omega arith) (omega arith) in
       let over = own (label + 1) (omega arith) (omega arith) in
-      follow test (branch_lines label ls ls') (tree_names L P C Q S place t (all_front Q (tree_functions t) (in_a ++ in_b) names) first)
-      (line (Branch 0 first 0 label) (ls ++ (Jump 0 (label + 1) ∷ Label label ∷ (ls' ++ stop))) past.1
+      follow test (branch_lines q label ls ls') (operand_names L P C Q S place t (all_front Q (tree_functions t) (in_a ++ in_b) names) first)
+      (line (Branch 0 q 0 label) (ls ++ (Jump 0 (label + 1) ∷ Label label ∷ (ls' ++ stop))) past.1
       (follow ls (Jump 0 (label + 1) ∷ Label label ∷ (ls' ++ stop))
       (in_order_named a h.0 (all_front Q in_a in_b lists) around starts ends (label + 2) (λ l p q. own l (omega (arith, p)) (omega (arith, q))))
       (line (Jump 0 (label + 1)) (Label label ∷ (ls' ++ stop)) (inl (refl, over.1))

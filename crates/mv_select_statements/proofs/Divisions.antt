@@ -11,7 +11,7 @@ use Rattle.mv_select_trees.specs.Straight.{Sets}
 use Rattle.mv_select_trees.proofs.Instructions.{on, addi_sets}
 use Rattle.mv_select_trees.proofs.Registers.{reg_zero}
 use Rattle.mv_select_trees.proofs.Words.{word_below, word_of_pos, add_zero}
-use Rattle.mv_select_statements.specs.StatementCode.{first, second, division}
+use Rattle.mv_select_statements.specs.StatementCode.{division}
 
 div_s_below : (a b : ℕ) → div_s a b < 2 ^ 32
 unfolding div_s
@@ -61,10 +61,10 @@ module _ {M : Type 0} (access : Access M) (m : M) where
   abbrev puts : List ℕ → ℕ → ℕ → ℕ → Outcome M
   puts regs rd pc v = Goes (put regs rd v) (add pc 4) m
 
-  pub division_sets : (o d a b : ℕ) (regs : List ℕ) → (b ≡ 0 → ⊥) → reg regs first ≡ a → reg regs second ≡ b → Sets access m (division o d) regs (put regs d (divide o a b))
+  pub division_sets : (o d p q a b : ℕ) (regs : List ℕ) → (b ≡ 0 → ⊥) → reg regs p ≡ a → reg regs q ≡ b → Sets access m (division o d p q) regs (put regs d (divide o a b))
   unfolding division divide execute sets
-  division_sets zero d a b regs ne e f pc = ap (puts regs d pc) (on quotient_s (reg regs first) (reg regs second) a b (div_s a b) e f (quotient_s_is a b ne))
-  division_sets (suc zero) d a b regs ne e f pc = ap (puts regs d pc) (on quotient_u (reg regs first) (reg regs second) a b (div_u a b) e f (quotient_u_is a b ne))
-  division_sets (suc (suc zero)) d a b regs ne e f pc = ap (puts regs d pc) (on remainder_s (reg regs first) (reg regs second) a b (rem_s a b) e f (remainder_s_is a b ne))
-  division_sets (suc (suc (suc zero))) d a b regs ne e f pc = ap (puts regs d pc) (on remainder_u (reg regs first) (reg regs second) a b (rem_u a b) e f (remainder_u_is a b ne))
-  division_sets (suc (suc (suc (suc o)))) d a b regs ne e f pc = addi_sets access m d 0 (pos 0) regs 0 0 0 (reg_zero regs) (word_of_pos 0 (omega arith)) (add_zero 0 (omega arith)) pc
+  division_sets zero d p q a b regs ne e f pc = ap (puts regs d pc) (on quotient_s (reg regs p) (reg regs q) a b (div_s a b) e f (quotient_s_is a b ne))
+  division_sets (suc zero) d p q a b regs ne e f pc = ap (puts regs d pc) (on quotient_u (reg regs p) (reg regs q) a b (div_u a b) e f (quotient_u_is a b ne))
+  division_sets (suc (suc zero)) d p q a b regs ne e f pc = ap (puts regs d pc) (on remainder_s (reg regs p) (reg regs q) a b (rem_s a b) e f (remainder_s_is a b ne))
+  division_sets (suc (suc (suc zero))) d p q a b regs ne e f pc = ap (puts regs d pc) (on remainder_u (reg regs p) (reg regs q) a b (rem_u a b) e f (remainder_u_is a b ne))
+  division_sets (suc (suc (suc (suc o)))) d p q a b regs ne e f pc = addi_sets access m d 0 (pos 0) regs 0 0 0 (reg_zero regs) (word_of_pos 0 (omega arith)) (add_zero 0 (omega arith)) pc

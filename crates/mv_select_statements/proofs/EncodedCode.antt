@@ -11,9 +11,10 @@ use Rattle.mv_isa.specs.Encoding.{Fits, IsSigned}
 use Rattle.mv_isa.specs.Code.{LineFits, IsCondition, greatest_words}
 use Rattle.mv_ir.specs.declared.tree.Tree.{Tree}
 use Rattle.mv_ir.specs.Trees.{nodes}
-use Rattle.mv_select_trees.specs.TreeCode.{upper_bits, lower_bits, one, two, number_lines, temp_register, temp_offset, tree_into, tree_lines}
-use Rattle.mv_select_trees.proofs.TreesAreShort.{number_size, trees_are_short, into_short}
-use Rattle.mv_select_trees.proofs.TreesFit.{one_fits, small_fits, lower_fits, upper_fits, count_fits, number_fits, register_below, trees_fit, into_fits}
+use Rattle.mv_select_trees.specs.TreeCode.{upper_bits, lower_bits, one, two, number_lines, temp_register, temp_offset, tree_into, tree_lines, operand_lines, operand_register}
+use Rattle.mv_select_trees.proofs.Operands.{operand_below}
+use Rattle.mv_select_trees.proofs.TreesAreShort.{number_size, trees_are_short, into_short, operand_short}
+use Rattle.mv_select_trees.proofs.TreesFit.{one_fits, small_fits, lower_fits, upper_fits, count_fits, number_fits, register_below, trees_fit, into_fits, operand_fits}
 use Rattle.mv_select_statements.specs.declared.elements.Home.{Home}
 use Rattle.mv_select_statements.specs.declared.elements.Home.TheVariants as home
 use Rattle.mv_select_statements.specs.StatementCode.{first, second, third, trap_label, write_temp, target, keep_lines, division, element_offset, element_lines, home_below, test_lines, bounds_lines, clear_lines}
@@ -63,31 +64,31 @@ keep_code t lt = by_place (ltb t 9)
     by_place true = (All-nil LineFits, omega arith)
     by_place false = single (Sw 2 first (pos (4 * (t + 1)))) (omega arith, omega arith, small_fits (4 * (t + 1)) (omega arith))
 
-division_fits : (o d : ℕ) → d < 32 → Fits (division o d)
+division_fits : (o d a b : ℕ) → d < 32 → a < 32 → b < 32 → Fits (division o d a b)
 unfolding division
-division_fits zero d h = (h, omega arith, omega arith)
-division_fits (suc zero) d h = (h, omega arith, omega arith)
-division_fits (suc (suc zero)) d h = (h, omega arith, omega arith)
-division_fits (suc (suc (suc zero))) d h = (h, omega arith, omega arith)
-division_fits (suc (suc (suc (suc o)))) d h = (h, omega arith, small_fits 0 (omega arith))
+division_fits zero d a b h p q = (h, p, q)
+division_fits (suc zero) d a b h p q = (h, p, q)
+division_fits (suc (suc zero)) d a b h p q = (h, p, q)
+division_fits (suc (suc (suc zero))) d a b h p q = (h, p, q)
+division_fits (suc (suc (suc (suc o)))) d a b h p q = (h, omega arith, small_fits 0 (omega arith))
 
 offset_fits : (h : Home) → home_below h 2032 → IsSigned 2048 (element_offset h)
 offset_fits (home.Data at) b = lower_fits at
 offset_fits (home.Frame at) b = small_fits at (omega (arith, b))
 
-element_code : (h : Home) → IsCode 3 (element_lines h)
-element_code (home.Data at) =
-    both 1 2 (one (Slli first first (pos 2))) (two (Lui third (pos (upper_bits at))) (Add first first third))
-    (single (Slli first first (pos 2)) (omega arith, omega arith, count_fits 2 (omega arith)))
+element_code : (h : Home) (q : ℕ) → q < 32 → IsCode 3 (element_lines h q)
+element_code (home.Data at) q p =
+    both 1 2 (one (Slli first q (pos 2))) (two (Lui third (pos (upper_bits at))) (Add first first third))
+    (single (Slli first q (pos 2)) (omega arith, p, count_fits 2 (omega arith)))
     (pair (Lui third (pos (upper_bits at))) (Add first first third) (omega arith, upper_fits at) (omega arith, omega arith, omega arith))
-element_code (home.Frame at) =
-    wider 2 3 (element_lines (home.Frame at)) (omega arith)
-    (pair (Slli first first (pos 2)) (Add first first 2) (omega arith, omega arith, count_fits 2 (omega arith)) (omega arith, omega arith, omega arith))
+element_code (home.Frame at) q p =
+    wider 2 3 (element_lines (home.Frame at) q) (omega arith)
+    (pair (Slli first q (pos 2)) (Add first first 2) (omega arith, p, count_fits 2 (omega arith)) (omega arith, omega arith, omega arith))
 
-test_code : (size : ℕ) → IsCode 4 (test_lines size)
-test_code size =
-    both 2 2 (number_lines size third) (Branch 7 first third (trap_label 2) ∷ []) (number_fits size third (omega arith), number_size size third)
-    (branch 7 first third (trap_label 2) (inr (omega arith, omega arith)) (omega arith) (omega arith))
+test_code : (size q : ℕ) → q < 32 → IsCode 4 (test_lines size q)
+test_code size q p =
+    both 2 2 (number_lines size third) (Branch 7 q third (trap_label 2) ∷ []) (number_fits size third (omega arith), number_size size third)
+    (branch 7 q third (trap_label 2) (inr (omega arith, omega arith)) p (omega arith))
 
 bounds_code : (at n : ℕ) → at + 4 * n ≤ 2032 → IsCode 2 (bounds_lines at n)
 bounds_code at n h =
@@ -102,6 +103,9 @@ module _ (place : ℕ → ℕ) where
   pub tree_code : (v : Tree) (r : ℕ) → r ≤ 28 → IsSmall v → IsCode (2 * nodes v) (tree_lines place v r)
   tree_code v r le h = (trees_fit place v r (omega (arith, h.0, le)) h.1, trees_are_short place v r)
 
+  operand_code : (v : Tree) (r : ℕ) → r ≤ 28 → IsSmall v → IsCode (2 * nodes v) (operand_lines place v r)
+  operand_code v r le h = (operand_fits place v r (omega (arith, h.0, le)) h.1, operand_short place v r)
+
   into_code : (v : Tree) (d : ℕ) → d < 32 → IsSmall v → IsCode (2 * nodes v) (tree_into place v d first)
   into_code v d lt h = (into_fits place v d first lt (omega (arith, h.0)) h.1, into_short place v d first)
 
@@ -111,32 +115,41 @@ module _ (place : ℕ → ℕ) where
   pub are_encoded : AreEncoded place
   are_encoded = record {
     set = λ t v lt h. both (2 * nodes v) 1 (tree_into place v (target t) first) (keep_lines t) (into_code v (target t) (target_fits t) h) (keep_code t lt);
-    set_global = λ g v h. both (2 * nodes v) 2 (tree_lines place v first) (two (Lui second (pos (upper_bits (place g)))) (Sw second first (lower_bits (place g)))) (tree_code v first (omega arith) h)
-        (pair (Lui second (pos (upper_bits (place g)))) (Sw second first (lower_bits (place g))) (omega arith, upper_fits (place g)) (omega arith, omega arith, lower_fits (place g)));
-    divide = λ t o a b lt h l. both (2 * nodes a) (2 * nodes b + 4) (tree_lines place a first) (tree_lines place b second ++ (test ++ (Word (division o (target t)) ∷ keep_lines t))) (tree_code a first (omega arith) h)
-        (both (2 * nodes b) 4 (tree_lines place b second) (test ++ (Word (division o (target t)) ∷ keep_lines t)) (tree_code b second (omega arith) l)
-        (both 2 2 test (Word (division o (target t)) ∷ keep_lines t) (branch 0 second 0 (trap_label 1) (inl (omega arith)) (omega arith) (omega arith)) (last_code (division o (target t)) t (division_fits o (target t) (target_fits t)) lt)));
-    check = λ size i h. both (2 * nodes i) 4 (tree_lines place i first) (test_lines size) (tree_code i first (omega arith) h) (test_code size);
-    read = λ t size h i lt b l. both (2 * nodes i) 9 (tree_lines place i first) (test_lines size ++ (element_lines h ++ load t h)) (tree_code i first (omega arith) l)
-        (both 4 5 (test_lines size) (element_lines h ++ load t h) (test_code size)
-        (both 3 2 (element_lines h) (load t h) (element_code h) (last_code (Lw (target t) first (element_offset h)) t (target_fits t, omega arith, offset_fits h b) lt)));
-    write = λ size h i v b l k. both (2 * nodes i) (2 * nodes v + 8) (tree_lines place i first) (tree_lines place v second ++ (test_lines size ++ (element_lines h ++ store h))) (tree_code i first (omega arith) l)
-        (both (2 * nodes v) 8 (tree_lines place v second) (test_lines size ++ (element_lines h ++ store h)) (tree_code v second (omega arith) k)
-        (both 4 4 (test_lines size) (element_lines h ++ store h) (test_code size)
-        (both 3 1 (element_lines h) (store h) (element_code h) (single (Sw first second (element_offset h)) (omega arith, omega arith, offset_fits h b)))));
+    set_global = λ g v h. let high = Lui second (pos (upper_bits (place g))) in
+        let q = operand_register v first in
+        let store = Sw second q (lower_bits (place g)) in
+        both (2 * nodes v) 2 (operand_lines place v first) (two high store) (operand_code v first (omega arith) h)
+        (pair high store (omega arith, upper_fits (place g)) (omega arith, operand_below v first (omega arith), lower_fits (place g)));
+    divide = λ t o a b lt h l. let p = operand_register a first in
+        let q = operand_register b second in
+        let test = Branch 0 q 0 (trap_label 1) ∷ [] in
+        let last = division o (target t) p q in
+        let below = operand_below b second (omega arith) in
+        both (2 * nodes a) (2 * nodes b + 4) (operand_lines place a first) (operand_lines place b second ++ (test ++ (Word last ∷ keep_lines t))) (operand_code a first (omega arith) h)
+        (both (2 * nodes b) 4 (operand_lines place b second) (test ++ (Word last ∷ keep_lines t)) (operand_code b second (omega arith) l)
+        (both 2 2 test (Word last ∷ keep_lines t) (branch 0 q 0 (trap_label 1) (inl (omega arith)) below (omega arith))
+        (last_code last t (division_fits o (target t) p q (target_fits t) (operand_below a first (omega arith)) below) lt)));
+    check = λ size i h. let q = operand_register i first in
+        both (2 * nodes i) 4 (operand_lines place i first) (test_lines size q) (operand_code i first (omega arith) h) (test_code size q (operand_below i first (omega arith)));
+    read = λ t size h i lt b l. let q = operand_register i first in
+        let below = operand_below i first (omega arith) in
+        both (2 * nodes i) 9 (operand_lines place i first) (test_lines size q ++ (element_lines h q ++ load t h)) (operand_code i first (omega arith) l)
+        (both 4 5 (test_lines size q) (element_lines h q ++ load t h) (test_code size q below)
+        (both 3 2 (element_lines h q) (load t h) (element_code h q below) (last_code (Lw (target t) first (element_offset h)) t (target_fits t, omega arith, offset_fits h b) lt)));
+    write = λ size h i v b l k. let q = operand_register i first in
+        let below = operand_below i first (omega arith) in
+        let store = Sw first (operand_register v second) (element_offset h) in
+        both (2 * nodes i) (2 * nodes v + 8) (operand_lines place i first) (operand_lines place v second ++ (test_lines size q ++ (element_lines h q ++ one store))) (operand_code i first (omega arith) l)
+        (both (2 * nodes v) 8 (operand_lines place v second) (test_lines size q ++ (element_lines h q ++ one store)) (operand_code v second (omega arith) k)
+        (both 4 4 (test_lines size q) (element_lines h q ++ one store) (test_code size q below)
+        (both 3 1 (element_lines h q) (one store) (element_code h q below) (single store (omega arith, operand_below v second (omega arith), offset_fits h b)))));
     bounds = bounds_code;
     clear = clear_code;
     returns = λ end v h. both (2 * nodes v) 1 (tree_lines place v first) (Jump 0 end ∷ []) (tree_code v first (omega arith) h) (jump end);
   }
     where
-      test : List Line
-      test = Branch 0 second 0 (trap_label 1) ∷ []
-
       load : ℕ → Home → List Line
       load t h = Word (Lw (target t) first (element_offset h)) ∷ keep_lines t
-
-      store : Home → List Line
-      store h = one (Sw first second (element_offset h))
 
 pub statements_are_encoded : StatementsAreEncoded
 statements_are_encoded = are_encoded

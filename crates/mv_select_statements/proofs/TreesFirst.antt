@@ -1,5 +1,5 @@
 -- Trees of a frame: their values come into registers, and the frame is still shown. What is then put into a temporary or into a cell.
-use Rattle.std.proofs.Common.{inr, refl, ◌≡◌, inl, ⊎_elim, ℕ, ◌+◌, ◌^◌, ◌<◌, ◌≤◌, Bool, true, cond, ltb, List, slice_index, pos, ℤ, Some, None, sym, ap, ◌∙◌, subst, arith}
+use Rattle.std.proofs.Common.{inr, refl, ◌≡◌, ◌≢◌, inl, ⊎_elim, ℕ, ◌+◌, ◌^◌, ◌<◌, ◌≤◌, Bool, true, cond, ltb, List, slice_index, pos, ℤ, Some, None, sym, ap, ◌∙◌, subst, arith}
 use Rattle.std.proofs.lemmas.Bool.{cases_lt, lt-ltb, le-ltb}
 use Rattle.mv_num.specs.Words.{word_of, add}
 use Rattle.mv_isa.specs.declared.instr.Instr.{Instr}
@@ -11,12 +11,13 @@ use Rattle.mv_ir.specs.World as ir
 use Rattle.mv_ir.specs.Outcome.{State}
 use Rattle.mv_ir.specs.Trees.{depth, scalar}
 use Rattle.mv_ir.specs.Meaning.{of_tree, with_temp}
-use Rattle.mv_select_trees.specs.TreeCode.{temp_register, temp_offset, tree_lines}
+use Rattle.mv_select_trees.specs.TreeCode.{temp_register, temp_offset, tree_lines, operand_lines, operand_register}
 use Rattle.mv_select_trees.specs.Straight.{Straight}
 use Rattle.mv_select_trees.specs.View.{AreScratch, Changes, HoldsTemps, HoldsNamed}
 use Rattle.mv_select_trees.proofs.Instructions.{addi_sets}
+use Rattle.mv_select_trees.proofs.Operands.{InFrame, operand_stands}
 use Rattle.mv_select_trees.proofs.Registers.{changes_wider, scratch_part}
-use Rattle.mv_select_trees.proofs.TreesRun.{trees_run}
+use Rattle.mv_select_trees.proofs.TreesRun.{trees_run, operands_stand}
 use Rattle.mv_select_trees.proofs.Words.{word_of_pos, zero_add, add_word}
 use Rattle.mv_select_statements.specs.StatementCode.{write_temp}
 use Rattle.mv_select_statements.specs.Leads.{limited, Moves}
@@ -27,6 +28,13 @@ use Rattle.mv_select_statements.proofs.Walks.{sw_moves}
 pub add_small : (a b : ℕ) → a + b < 2 ^ 32 → add a b ≡ a + b
 unfolding add
 add_small a b h = omega arith
+
+-- an operand doesn't stand in another scratch register than its own
+pub operand_beside : (t : Tree) (r c : ℕ) → r ≢ c → 10 ≤ c → c < 18 → operand_register t r ≢ c
+operand_beside t r c ne low high e =
+    ⊎_elim (λ (h : operand_register t r ≡ r). ne (sym h ∙ e))
+    (λ (h : InFrame (operand_register t r)). ⊎_elim (λ (k : operand_register t r < 10). omega arith) (λ (k : (18 ≤ operand_register t r) × (operand_register t r < 28)). let above = k.0 in omega arith) h)
+    (operand_stands t r)
 
 module _ {M : Type 0} (access : Access M) (s : Site) (setting : ir.Setting) (frame : ir.Frame) (fit : IsFit s access setting frame) where
   abbrev Sh : State → List ℕ → M → Type 0
@@ -83,6 +91,29 @@ module _ {M : Type 0} (access : Access M) (s : Site) (setting : ir.Setting) (fra
         changes = changes_wider r (r + depth t) r (r + 4) regs g.after (omega arith) (omega arith) g.changes;
         holds = g.holds;
         below = subst (λ z. z < 2 ^ 32) g.holds (g.changes.are.words r);
+        shown = frame_scratch s access r (r + depth t) l regs g.after m part g.changes f;
+      }
+
+  -- The same where the tree's value may stay in its own register.
+  pub record HasOperand (r : ℕ) (t : Tree) (l : State) (regs : List ℕ) (m : M) : Type 0 where
+    pub after : List ℕ
+    pub runs : Straight (limited access s) m s.entry (operand_lines s.place t r) regs after
+    pub changes : Changes r (r + 4) regs after
+    pub holds : reg after (operand_register t r) ≡ of_tree setting frame t l
+    pub below : of_tree setting frame t l < 2 ^ 32
+    pub shown : Sh l after m
+
+  pub operand_first : (r : ℕ) (t : Tree) (l : State) (regs : List ℕ) (m : M) → AreScratch r (r + 4) → IsFine s setting frame t → Sh l regs m → HasOperand r t l regs m
+  operand_first r t l regs m scratch fine f =
+      let low = fine.shallow in
+      let part = scratch_part r (r + 4) r (r + depth t) (omega arith) (omega arith) scratch in
+      let g = operands_stand _ (limited access s) m (view_of s setting frame l) (named_held l regs m f) t r regs (fine.named l f.count) f.are (temps_held l regs m f) part in
+      record {
+        after = g.after;
+        runs = g.runs;
+        changes = changes_wider r (r + depth t) r (r + 4) regs g.after (omega arith) (omega arith) g.changes;
+        holds = g.holds;
+        below = subst (λ z. z < 2 ^ 32) g.holds (g.changes.are.words (operand_register t r));
         shown = frame_scratch s access r (r + depth t) l regs g.after m part g.changes f;
       }
 

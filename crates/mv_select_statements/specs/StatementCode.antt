@@ -1,11 +1,12 @@
--- The code of statements without control. Each tree of a statement is computed first, in written order.
+-- The code of statements without control. Each tree of a statement is computed first, in written order; an operand that stands in a register already
+-- stays there.
 use Rattle.std.specs.Prelude.{ℕ, ◌+◌, ◌*◌, ◌≤◌, cond, ltb, List, [], ◌∷◌, ◌++◌, ℤ, pos, slice_index_or}
 use Rattle.mv_isa.specs.declared.instr.Instr.{Instr}
 use Rattle.mv_isa.specs.declared.instr.Instr.TheVariants.{Lui, Lw, Sw, Addi, Slli, Add, Div, Divu, Rem, Remu}
 use Rattle.mv_isa.specs.declared.labelled.Line.{Line}
 use Rattle.mv_isa.specs.declared.labelled.Line.TheVariants.{Word, Jump, Branch}
 use Rattle.mv_ir.specs.declared.tree.Tree.{Tree}
-use Rattle.mv_select_trees.specs.TreeCode.{upper_bits, lower_bits, one, two, number_lines, temp_register, temp_offset, tree_into, tree_lines}
+use Rattle.mv_select_trees.specs.TreeCode.{upper_bits, lower_bits, one, two, number_lines, temp_register, temp_offset, tree_into, tree_lines, operand_lines, operand_register}
 use Rattle.mv_select_statements.specs.declared.elements.Home.{Home}
 use Rattle.mv_select_statements.specs.declared.elements.Home.TheVariants as home
 
@@ -35,9 +36,9 @@ target t = cond (ltb t 9) (temp_register t) first
 unfoldable pub keep_lines : ℕ → List Line
 keep_lines t = cond (ltb t 9) [] (one (Sw 2 first (pos (temp_offset t))))
 
--- a division of the first register by the second into d, by its number; one that names none gives 0
-unfoldable pub division : (o d : ℕ) → Instr
-division o d = slice_index_or (Div d first second ∷ Divu d first second ∷ Rem d first second ∷ Remu d first second ∷ []) o (Addi d 0 (pos 0))
+-- a division of a by b into d, by its number; one that names none gives 0
+unfoldable pub division : (o d a b : ℕ) → Instr
+division o d a b = slice_index_or (Div d a b ∷ Divu d a b ∷ Rem d a b ∷ Remu d a b ∷ []) o (Addi d 0 (pos 0))
 
 -- ---- elements: the place of one is its index times 4, and the place of the first
 
@@ -46,19 +47,19 @@ abbrev pub element_offset : Home → ℤ
 element_offset (home.Data at) = lower_bits at
 element_offset (home.Frame at) = pos at
 
--- the rest of it, out of the index in the first register
-abbrev pub element_lines : Home → List Line
-element_lines (home.Data at) = Word (Slli first first (pos 2)) ∷ two (Lui third (pos (upper_bits at))) (Add first first third)
-element_lines (home.Frame at) = two (Slli first first (pos 2)) (Add first first 2)
+-- the rest of it, out of the index in a register, into the first one
+abbrev pub element_lines : Home → ℕ → List Line
+element_lines (home.Data at) q = Word (Slli first q (pos 2)) ∷ two (Lui third (pos (upper_bits at))) (Add first first third)
+element_lines (home.Frame at) q = two (Slli first q (pos 2)) (Add first first 2)
 
 -- an array of the frame begins within so many bytes
 abbrev pub home_below : Home → ℕ → Type 0
 home_below (home.Data at) bytes = Unit {0}
 home_below (home.Frame at) bytes = at ≤ bytes
 
--- trap 2 where the index in the first register isn't below the number of elements
-abbrev pub test_lines : ℕ → List Line
-test_lines size = number_lines size third ++ (Branch 7 first third (trap_label 2) ∷ [])
+-- trap 2 where the index in a register isn't below the number of elements
+abbrev pub test_lines : ℕ → ℕ → List Line
+test_lines size q = number_lines size third ++ (Branch 7 q third (trap_label 2) ∷ [])
 
 -- the addresses of the first of so many words of the frame, from a place on, and of their end into the first two registers
 abbrev pub bounds_lines : ℕ → ℕ → List Line
@@ -75,23 +76,29 @@ module _ (place : ℕ → ℕ) where
   set_lines t v = tree_into place v (target t) first ++ keep_lines t
 
   abbrev pub set_global_lines : ℕ → Tree → List Line
-  set_global_lines g v = tree_lines place v first ++ two (Lui second (pos (upper_bits (place g)))) (Sw second first (lower_bits (place g)))
+  set_global_lines g v =
+      operand_lines place v first ++ two (Lui second (pos (upper_bits (place g)))) (Sw second (operand_register v first) (lower_bits (place g)))
 
   -- trap 1 where the divisor is 0
   abbrev pub divide_lines : ℕ → ℕ → Tree → Tree → List Line
   divide_lines t o a b =
-      tree_lines place a first ++ (tree_lines place b second ++ (Branch 0 second 0 (trap_label 1) ∷ (Word (division o (target t)) ∷ keep_lines t)))
+      let p = operand_register a first in
+      let q = operand_register b second in
+      operand_lines place a first ++ (operand_lines place b second ++ (Branch 0 q 0 (trap_label 1) ∷ (Word (division o (target t) p q) ∷ keep_lines t)))
 
   abbrev pub check_lines : ℕ → Tree → List Line
-  check_lines size i = tree_lines place i first ++ test_lines size
+  check_lines size i = operand_lines place i first ++ test_lines size (operand_register i first)
 
   abbrev pub read_lines : ℕ → Home → ℕ → Tree → List Line
   read_lines t h size i =
-      tree_lines place i first ++ (test_lines size ++ (element_lines h ++ (Word (Lw (target t) first (element_offset h)) ∷ keep_lines t)))
+      let q = operand_register i first in
+      operand_lines place i first ++ (test_lines size q ++ (element_lines h q ++ (Word (Lw (target t) first (element_offset h)) ∷ keep_lines t)))
 
   abbrev pub write_lines : Home → ℕ → Tree → Tree → List Line
   write_lines h size i v =
-      tree_lines place i first ++ (tree_lines place v second ++ (test_lines size ++ (element_lines h ++ one (Sw first second (element_offset h)))))
+      let q = operand_register i first in
+      let store = one (Sw first (operand_register v second) (element_offset h)) in
+      operand_lines place i first ++ (operand_lines place v second ++ (test_lines size q ++ (element_lines h q ++ store)))
 
   -- to the label of the function's end
   abbrev pub return_lines : ℕ → Tree → List Line

@@ -12,7 +12,9 @@ use mv_ir::tree::Tree;
 use mv_isa::Instr;
 use mv_isa::labelled::Line;
 use mv_num::list::List;
-use mv_select_trees::{lower_bits, push_number, push_one, push_tree, push_two, upper_bits};
+use mv_select_trees::{
+    lower_bits, operand_register, push_number, push_one, push_operand, push_two, upper_bits,
+};
 use std::alloc::AllocError;
 
 /// Where an array's first element stands.
@@ -35,13 +37,18 @@ fn element_offset(home: Home) -> i32
     }
 }
 
-// The other part of that place, out of the index in the first register.
-fn push_element(code: &mut List<Line>, home: Home) -> Result<(), AllocError>
-    ensures { OnOk result (code.new ≡ code.old ++ element_lines home) }
+// The other part of that place, out of the index in a register, into the first one.
+fn push_element(code: &mut List<Line>, home: Home, index: u8) -> Result<(), AllocError>
+    ensures { OnOk result (code.new ≡ code.old ++ element_lines home index) }
 {
     let rd = FIRST;
     let rs1 = FIRST;
-    push_one(code, Instr::Slli { rd, rs1, imm: 2 })?;
+    let scaled = Instr::Slli {
+        rd,
+        rs1: index,
+        imm: 2,
+    };
+    push_one(code, scaled)?;
     match home {
         Home::Data(at) => push_two(
             code,
@@ -59,12 +66,12 @@ fn push_element(code: &mut List<Line>, home: Home) -> Result<(), AllocError>
     }
 }
 
-// A test of the index in the first register: trap 2 where it isn't below the array's length.
-fn push_test(code: &mut List<Line>, size: u32) -> Result<(), AllocError>
-    ensures { OnOk result (code.new ≡ code.old ++ test_lines size) }
+// A test of the index in a register: trap 2 where it isn't below the array's length.
+fn push_test(code: &mut List<Line>, size: u32, index: u8) -> Result<(), AllocError>
+    ensures { OnOk result (code.new ≡ code.old ++ test_lines size index) }
 {
     push_number(code, size, THIRD)?;
-    code.push(Line::Branch(7, FIRST, THIRD, 4_294_967_291))?;
+    code.push(Line::Branch(7, index, THIRD, 4_294_967_291))?;
     Ok(())
 }
 
@@ -79,8 +86,8 @@ pub fn push_check(
     requires temps { temps_of index.now ≤ 507 }
     ensures { OnOk result (code.new ≡ code.old ++ check_lines (place_in rooms.now) size index.now) }
 {
-    push_tree(code, rooms, index, FIRST)?;
-    push_test(code, size)
+    push_operand(code, rooms, index, FIRST)?;
+    push_test(code, size, operand_register(index, FIRST))
 }
 
 /// Puts an element into a temporary, with trap 2 as for `push_check`.
@@ -98,9 +105,10 @@ pub fn push_read(
     requires temps { temps_of index.now ≤ 507 }
     ensures { OnOk result (code.new ≡ code.old ++ read_lines (place_in rooms.now) temp home size index.now) }
 {
-    push_tree(code, rooms, index, FIRST)?;
-    push_test(code, size)?;
-    push_element(code, home)?;
+    push_operand(code, rooms, index, FIRST)?;
+    let place = operand_register(index, FIRST);
+    push_test(code, size, place)?;
+    push_element(code, home, place)?;
     let load = Instr::Lw {
         rd: target(temp),
         rs1: FIRST,
@@ -126,15 +134,16 @@ pub fn push_write(
     requires value_temps { temps_of value.now ≤ 507 }
     ensures { OnOk result (code.new ≡ code.old ++ write_lines (place_in rooms.now) home size index.now value.now) }
 {
-    push_tree(code, rooms, index, FIRST)?;
-    push_tree(code, rooms, value, SECOND)?;
-    push_test(code, size)?;
-    push_element(code, home)?;
+    push_operand(code, rooms, index, FIRST)?;
+    push_operand(code, rooms, value, SECOND)?;
+    let place = operand_register(index, FIRST);
+    push_test(code, size, place)?;
+    push_element(code, home, place)?;
     push_one(
         code,
         Instr::Sw {
             rs1: FIRST,
-            rs2: SECOND,
+            rs2: operand_register(value, SECOND),
             imm: element_offset(home),
         },
     )

@@ -63,13 +63,11 @@ pub(crate) fn push_keep(code: &mut List<Line>, temp: u32) -> Result<(), AllocErr
     )
 }
 
-// A division of the first register by the second.
+// A division of two registers.
 #[tactic(auto, using(crate::proofs::Equations::divisions))]
-pub(crate) fn division(operator: u8, rd: u8) -> Instr
-    ensures { result ≡ division operator rd }
+pub(crate) fn division(operator: u8, rd: u8, rs1: u8, rs2: u8) -> Instr
+    ensures { result ≡ division operator rd rs1 rs2 }
 {
-    let rs1 = FIRST;
-    let rs2 = SECOND;
     match operator {
         0 => Instr::Div { rd, rs1, rs2 },
         1 => Instr::Divu { rd, rs1, rs2 },

@@ -12,7 +12,10 @@ use mv_ir::tree::Tree;
 use mv_isa::Instr;
 use mv_isa::labelled::Line;
 use mv_num::list::List;
-use mv_select_trees::{lower_bits, place_of, push_into, push_one, push_tree, push_two, upper_bits};
+use mv_select_trees::{
+    lower_bits, operand_register, place_of, push_into, push_one, push_operand, push_tree, push_two,
+    upper_bits,
+};
 use std::alloc::AllocError;
 
 /// Puts a value into a temporary.
@@ -42,7 +45,7 @@ pub fn push_set_global(
     requires temps { temps_of value.now ≤ 507 }
     ensures { OnOk result (code.new ≡ code.old ++ set_global_lines (place_in rooms.now) global value.now) }
 {
-    push_tree(code, rooms, value, FIRST)?;
+    push_operand(code, rooms, value, FIRST)?;
     let at = place_of(rooms, global);
     let high = Instr::Lui {
         rd: SECOND,
@@ -50,7 +53,7 @@ pub fn push_set_global(
     };
     let store = Instr::Sw {
         rs1: SECOND,
-        rs2: FIRST,
+        rs2: operand_register(value, FIRST),
         imm: lower_bits(at),
     };
     push_two(code, high, store)
@@ -72,10 +75,12 @@ pub fn push_divide(
     requires divisor_temps { temps_of divisor.now ≤ 507 }
     ensures { OnOk result (code.new ≡ code.old ++ divide_lines (place_in rooms.now) temp operator dividend.now divisor.now) }
 {
-    push_tree(code, rooms, dividend, FIRST)?;
-    push_tree(code, rooms, divisor, SECOND)?;
-    code.push(Line::Branch(0, SECOND, 0, 4_294_967_290))?;
-    push_one(code, division(operator, target(temp)))?;
+    push_operand(code, rooms, dividend, FIRST)?;
+    push_operand(code, rooms, divisor, SECOND)?;
+    let left = operand_register(dividend, FIRST);
+    let right = operand_register(divisor, SECOND);
+    code.push(Line::Branch(0, right, 0, 4_294_967_290))?;
+    push_one(code, division(operator, target(temp), left, right))?;
     push_keep(code, temp)
 }
 
