@@ -32,15 +32,14 @@ fn print_bytes(rt: &HostRuntime, bytes: &[u8]) -> io::Result<()> {
 
 // Prints the words of a line, with ADDRESS in place of each address.
 fn print_line(rt: &HostRuntime, line: &str) -> io::Result<()> {
-    let mut mark = "";
-    for word in line.split(' ') {
+    for (index, word) in line.split(' ').enumerate() {
+        let mark = if index > 0 { " " } else { "" };
         let word = if word.starts_with("0x") {
             "ADDRESS"
         } else {
             word
         };
         print!(rt; "{mark}{word}")?;
-        mark = " ";
     }
     println!(rt)
 }
