@@ -1,6 +1,5 @@
 -- One slot stands in the code of a function for each direct call of an attributed function, and it is the callee's.
 use Rattle.std.proofs.Common.{◌≡◌, ℕ, zero, suc, ◌+◌, ◌*◌, Bool, true, false, cond, ltb, List, [], ◌∷◌, ◌++◌, pos, Option, Some, None, map, refl, sym, subst, ap, ◌∙◌, arith}
-use Rattle.mv_num.specs.declared.kind.Kind.TheVariants as kind
 use Rattle.mv_ast.specs.declared.program.Known.{Known}
 use Rattle.mv_ast.specs.declared.program.Known.TheVariants.{Getchar, Putchar, Poll, Plan}
 use Rattle.mv_isa.specs.declared.instr.Instr.TheVariants.{Lui, Lw, Sw, Addi, Jalr}
@@ -118,8 +117,7 @@ ask_none (Plan code index) = refl
 module _ (place : ℕ → ℕ) where
   argument_none : (n : ℕ) (ts : List Tree) → HasNone (argument_lines place n ts)
   argument_none n [] = refl
-  argument_none n (t ∷ ts) =
-      after (tree_lines place t scratch_register) (Word (Addi n scratch_register (pos 0)) ∷ argument_lines place (suc n) ts) (tree_none place t scratch_register) (argument_none (suc n) ts)
+  argument_none n (t ∷ ts) = after (tree_into place t n scratch_register) (argument_lines place (suc n) ts) (into_none place t n scratch_register) (argument_none (suc n) ts)
 
   known_none : (r : Option ℕ) (k : Known) (args : List Tree) → HasNone (known_lines place r k args)
   known_none r k args =

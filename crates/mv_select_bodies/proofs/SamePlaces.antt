@@ -90,9 +90,8 @@ module _ (is_known : ℕ → Bool) where
     same_arguments : (n : ℕ) (ts : List Tree) → Each ReadsKnown ts → argument_lines place n ts ≡ argument_lines place' n ts
     same_arguments n [] h = refl
     same_arguments n (t ∷ ts) h =
-        let move = Word (Addi n scratch_register (pos 0)) in
-        ap (λ l. l ++ (move ∷ argument_lines place (suc n) ts)) (same_tree t h.0 scratch_register) ∙
-        ap (λ l. tree_lines place' t scratch_register ++ (move ∷ l)) (same_arguments (suc n) ts h.1)
+        ap (λ l. l ++ argument_lines place (suc n) ts) (same_into t h.0 n scratch_register) ∙
+        ap (λ l. tree_into place' t n scratch_register ++ l) (same_arguments (suc n) ts h.1)
 
     same_transfer : (is_attributed : ℕ → Bool) (f : Callee) (r : Option ℕ) → Each ReadsKnown (callee_trees f) → transfer_lines place is_attributed f r ≡ transfer_lines place' is_attributed f r
     same_transfer is_attributed (callee.Direct f) r h = refl

@@ -14,9 +14,9 @@ use Rattle.mv_ir.specs.declared.stm.Callee.{Callee}
 use Rattle.mv_ir.specs.declared.stm.Callee.TheVariants as callee
 use Rattle.mv_ir.specs.Measures.{callee_trees}
 use Rattle.mv_ir.specs.Trees.{nodes, nodes_of_all}
-use Rattle.mv_select_trees.specs.TreeCode.{one, number_lines, minus_one, tree_lines}
-use Rattle.mv_select_trees.proofs.TreesAreShort.{number_size}
-use Rattle.mv_select_trees.proofs.TreesFit.{small_fits, number_fits}
+use Rattle.mv_select_trees.specs.TreeCode.{one, number_lines, minus_one, tree_into, tree_lines}
+use Rattle.mv_select_trees.proofs.TreesAreShort.{number_size, into_short}
+use Rattle.mv_select_trees.proofs.TreesFit.{small_fits, number_fits, into_fits}
 use Rattle.mv_select_trees.proofs.TreesRun.{and_left}
 use Rattle.mv_select_statements.specs.StatementCode.{first, second, trap_label, write_temp}
 use Rattle.mv_select_statements.specs.Encoded.{IsCode, IsSmall}
@@ -67,17 +67,16 @@ direct_code true f r room = wider 7 8 (guarded_lines (slot_lines f) r) (omega ar
 direct_code false f r room = both 2 6 (Entry scratch_register f ∷ []) (guarded_lines jump_lines r) (entry scratch_register f (omega arith)) (jump_code r room)
 
 module _ (place : ℕ → ℕ) where
-  -- one word more for each argument
-  arguments_code : (n : ℕ) (ts : List Tree) → n + length ts ≤ 18 → All IsSmall ts → IsCode (2 * nodes_of_all ts + length ts) (argument_lines place n ts)
+  arguments_code : (n : ℕ) (ts : List Tree) → n + length ts ≤ 18 → All IsSmall ts → IsCode (2 * nodes_of_all ts) (argument_lines place n ts)
   arguments_code n [] le h = nothing
   arguments_code n (t ∷ ts) le h =
-      let tree = tree_lines place t scratch_register in
-      let move = one (Addi n scratch_register (pos 0)) in
+      let small = All-head IsSmall t ts h in
+      let tree = tree_into place t n scratch_register in
       let rest = argument_lines place (suc n) ts in
-      let k = 2 * nodes_of_all ts + length ts in
-      wider (2 * nodes t + (1 + k)) (2 * nodes_of_all (t ∷ ts) + length (t ∷ ts)) (tree ++ (move ++ rest)) (omega arith)
-      (both (2 * nodes t) (1 + k) tree (move ++ rest) (tree_code place t scratch_register (omega arith) (All-head IsSmall t ts h))
-      (both 1 k move rest (add n scratch_register 0 (omega (arith, le)) (omega arith) (omega arith)) (arguments_code (suc n) ts (omega (arith, le)) (All-tail IsSmall t ts h))))
+      let shallow = small.0 in
+      wider (2 * nodes t + 2 * nodes_of_all ts) (2 * nodes_of_all (t ∷ ts)) (tree ++ rest) (omega arith)
+      (both (2 * nodes t) (2 * nodes_of_all ts) tree rest (into_fits place t n scratch_register (omega (arith, le)) (omega (arith, shallow)) small.1, into_short place t n scratch_register)
+      (arguments_code (suc n) ts (omega (arith, le)) (All-tail IsSmall t ts h)))
 
   module _ (is_attributed : ℕ → Bool) where
     transfer_code : (f : Callee) (r : Option ℕ) → HasRoom r → All IsSmall (callee_trees f) → IsCode (2 * nodes_of_all (callee_trees f) + 8) (transfer_lines place is_attributed f r)
@@ -99,7 +98,7 @@ module _ (place : ℕ → ℕ) where
         let few = fine.few in
         let total = callee_nodes f args in
         let k = 2 * nodes_of_all (callee_trees f) + 8 in
-        let n = 2 * nodes_of_all args + length args in
+        let n = 2 * nodes_of_all args in
         let go = transfer_lines place is_attributed f r in
         wider (n + k) (2 * nodes_of_all (callee_trees f ++ args) + 16) (argument_lines place first args ++ go) (omega (arith, few, total))
         (both n k (argument_lines place first args) go (arguments_code first args (omega (arith, few)) fine.trees) (transfer_code f r fine.room h))
@@ -131,7 +130,7 @@ module _ (place : ℕ → ℕ) where
       → IsCode (2 * nodes_of_all args + 7) (known_lines place r k args)
   known_code r k args fine h =
       let few = fine.few in
-      let n = 2 * nodes_of_all args + length args in
+      let n = 2 * nodes_of_all args in
       let request = one (Addi request_register 0 (pos (request_of k))) in
       let rest = request ++ (ask_lines k ++ result_lines r) in
       wider (n + 6) (2 * nodes_of_all args + 7) (argument_lines place first args ++ (order_lines k ++ rest)) (omega (arith, few))

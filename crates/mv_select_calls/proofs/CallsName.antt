@@ -10,10 +10,10 @@ use Rattle.mv_isa.specs.Code.{StandsOnce}
 use Rattle.mv_ir.specs.declared.tree.Tree.{Tree}
 use Rattle.mv_ir.specs.declared.stm.Callee.{Callee}
 use Rattle.mv_ir.specs.declared.stm.Callee.TheVariants as callee
-use Rattle.mv_select_trees.specs.TreeCode.{one, number_lines, minus_one, tree_lines}
+use Rattle.mv_select_trees.specs.TreeCode.{one, number_lines, minus_one, tree_into, tree_lines}
 use Rattle.mv_select_statements.specs.StatementCode.{first, second, trap_label, write_temp}
 use Rattle.mv_select_control.specs.Labels.{tree_functions, callee_functions, functions_of_all, Names, CallsName}
-use Rattle.mv_select_control.proofs.TreeNames.{AllName, all_front, all_back, number_names, tree_names}
+use Rattle.mv_select_control.proofs.TreeNames.{AllName, all_front, all_back, number_names, tree_names, into_names}
 use Rattle.mv_select_calls.specs.CallCode.{link_register, left_register, request_register, scratch_register, request_of, commit_label, result_lines, guard_lines, back_lines, guarded_lines, slot_lines, jump_lines, argument_lines, transfer_lines, order_lines, ask_lines, calls_of}
 use Rattle.mv_select_calls.specs.Lines.{CallsHaveNoLabels, CallTargetsStand}
 
@@ -62,10 +62,9 @@ module _ (P : ℕ → Type 0) (null : P (trap_label 3)) (depth : P (trap_label 4
     argument_names n [] h = nothing
     argument_names n (t ∷ ts) h =
         let rest = argument_lines place (suc n) ts in
-        let move = Word (Addi n scratch_register (pos 0)) in
         let here = all_front P (tree_functions t) (functions_of_all ts) h in
         let others = all_back P (tree_functions t) (functions_of_all ts) h in
-        after (tree_lines place t scratch_register) (move ∷ rest) (tree_names P place t here scratch_register) (then_line move rest tt (argument_names (suc n) ts others))
+        after (tree_into place t n scratch_register) rest (into_names P place t here n scratch_register) (argument_names (suc n) ts others)
 
     transfer_names : (f : Callee) (r : Option ℕ) → All P (callee_functions f) → AllName P (transfer_lines place is_attributed f r)
     transfer_names (callee.Direct f) r h = direct_names (is_attributed f) f r (All-head P f [] h)

@@ -179,7 +179,7 @@ module _ {M : Type 0} (access : Access M) (y : Layout) (s : Site) (setting : ir.
       let ls = argument_lines s.place first args in
       let q = placed_split machine.text place s.entry ls (transfer_lines s.place is_attributed f result) pc next p in
       let cost = (ToGoal (goal setting frame f l) result (values access s setting frame fit is_fine fine_trees args l) bound l).cost in
-      let r = straight_walk access y s setting frame fit caller machine ok budget far place end linked is_fine ls (3 * nodes_of_all args) l.world pc q.0 regs z.after m i (arguments_short s.place first args) q.1 z.runs
+      let r = straight_walk access y s setting frame fit caller machine ok budget far place end linked is_fine ls (2 * nodes_of_all args) l.world pc q.0 regs z.after m i (arguments_short s.place first args) q.1 z.runs
       (to_stands access s machine ok place end budget far 0 (spare + (60 + 3 * (callee_nodes setting frame f + nodes_of_all args) + cost)) (length bound) pc l i h) in
       let late = r.late in let soon = r.soon in let paid = h.paid in let asked = h.asked in
       transfer_does result f (values access s setting frame fit is_fine fine_trees args l) spare q.0 next around bound l z.after m r.time

@@ -293,7 +293,7 @@ module _ {M : Type 0} (access : Access M) (y : Layout) (s : Site) (setting : ir.
       let o = order_held k l z.after m (and_left order (target && trees) parts) z.shown in
       let u = placed_split machine.text place s.entry (order_lines k) (Word request ∷ (ask_lines k ++ result_lines result)) q.0 next q.2 in
       let cost = (Gives k vs l).cost in
-      let r = straight_walk access y s setting frame fit caller machine ok budget far place end linked is_fine (argument_lines s.place first args) (3 * nodes_of_all args) l.world pc q.0 regs z.after m i
+      let r = straight_walk access y s setting frame fit caller machine ok budget far place end linked is_fine (argument_lines s.place first args) (2 * nodes_of_all args) l.world pc q.0 regs z.after m i
       (arguments_short s.place first args) q.1 z.runs
       (to_stands access s machine ok place end budget far 0 (spare + (30 + 3 * nodes_of_all args + cost)) (length bound) pc l i h) in
       let w = straight_walk access y s setting frame fit caller machine ok budget far place end linked is_fine (order_lines k) 3 l.world q.0 u.0 z.after o.after m r.time (order_short k) u.1 o.runs r.stands in

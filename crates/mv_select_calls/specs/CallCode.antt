@@ -9,12 +9,12 @@ use Rattle.mv_isa.specs.declared.labelled.Line.TheVariants.{Word, Jump, Branch, 
 use Rattle.mv_ir.specs.declared.tree.Tree.{Tree}
 use Rattle.mv_ir.specs.declared.stm.Callee.{Callee}
 use Rattle.mv_ir.specs.declared.stm.Callee.TheVariants as callee
-use Rattle.mv_select_trees.specs.TreeCode.{one, number_lines, minus_one, tree_lines}
+use Rattle.mv_select_trees.specs.TreeCode.{one, number_lines, minus_one, tree_into, tree_lines}
 use Rattle.mv_select_statements.specs.StatementCode.{first, second, trap_label, write_temp}
 use Rattle.mv_select_control.specs.FlowCode.{CallLines}
 
--- ra has the return address, s11 how many calls are left, s10 how many attributed frames are live, a7 the number of an environment call; t3 has what a
--- call computes before it stands where it is to be
+-- ra has the return address, s11 how many calls are left, s10 how many attributed frames are live, a7 the number of an environment call; t3 has the
+-- address that a call goes to; an argument is computed by way of it and the registers behind it
 abbrev pub link_register : ℕ
 link_register = 1
 
@@ -72,10 +72,10 @@ abbrev pub jump_lines : List Line
 jump_lines = one (Jalr link_register scratch_register (pos 0))
 
 module _ (place : ℕ → ℕ) where
-  -- arguments into registers from one on, each by way of t3
+  -- arguments into registers from one on
   abbrev pub argument_lines : ℕ → List Tree → List Line
   argument_lines r [] = []
-  argument_lines r (t ∷ ts) = tree_lines place t scratch_register ++ (Word (Addi r scratch_register (pos 0)) ∷ argument_lines (suc r) ts)
+  argument_lines r (t ∷ ts) = tree_into place t r scratch_register ++ argument_lines (suc r) ts
 
   -- A call of a function: of an attributed one by a slot; through a pointer, with trap 3 where it is null.
   abbrev pub transfer_lines : (ℕ → Bool) → Callee → Option ℕ → List Line

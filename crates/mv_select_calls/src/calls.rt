@@ -14,7 +14,7 @@ use mv_isa::Instr;
 use mv_isa::labelled::Line;
 use mv_num::list::List;
 use mv_select_statements::write_temp;
-use mv_select_trees::{push_number, push_one, push_tree};
+use mv_select_trees::{push_into, push_number, push_one, push_tree};
 use std::alloc::AllocError;
 
 /// The return address, ra.
@@ -27,7 +27,7 @@ const SECOND: u8 = 11;
 const REQUEST: u8 = 17;
 /// How many calls are left, s11.
 const LEFT: u8 = 27;
-/// What a call computes before it stands where it is to be, t3.
+/// The address that a call goes to, t3. An argument is computed by way of it and the registers behind it.
 const SCRATCH: u8 = 28;
 /// The label of the stub that carries out orders and polls.
 const COMMIT: u32 = 4_294_967_295;
@@ -54,15 +54,7 @@ fn push_arguments(
     ensures { OnOk result (code.new ≡ code.old ++ argument_lines (place_in rooms.now) 10 arguments.now) }
 {
     for (index, argument) in arguments.iter().enumerate() {
-        push_tree(code, rooms, argument, SCRATCH)?;
-        push_one(
-            code,
-            Instr::Addi {
-                rd: FIRST + index as u8,
-                rs1: SCRATCH,
-                imm: 0,
-            },
-        )?;
+        push_into(code, rooms, argument, FIRST + index as u8, SCRATCH)?;
     }
     Ok(())
 }

@@ -75,7 +75,7 @@ module _ (P : ℕ → Type 0) where
     pub operand_names : (t : Tree) → Fs t → (r : ℕ) → AllName (operand_lines place t r)
     operand_names = operand_made AllName (All-nil (Names P)) word after Fs (functions_inside P) entry_names place
 
-    into_names : (t : Tree) → Fs t → (d r : ℕ) → AllName (tree_into place t d r)
+    pub into_names : (t : Tree) → Fs t → (d r : ℕ) → AllName (tree_into place t d r)
     into_names = into_made AllName (All-nil (Names P)) word after Fs (functions_inside P) entry_names place
 
     -- ---- statements without control

@@ -9,13 +9,13 @@ use Rattle.mv_isa.specs.declared.labelled.Line.TheVariants.{Word, Jump, Branch, 
 use Rattle.mv_ir.specs.declared.tree.Tree.{Tree}
 use Rattle.mv_ir.specs.declared.stm.Callee.{Callee}
 use Rattle.mv_ir.specs.declared.stm.Callee.TheVariants as callee
-use Rattle.mv_select_trees.specs.TreeCode.{one, number_lines, minus_one, tree_lines}
+use Rattle.mv_select_trees.specs.TreeCode.{one, number_lines, minus_one, tree_into, tree_lines}
 use Rattle.mv_select_statements.specs.StatementCode.{first, second, trap_label, write_temp}
 use Rattle.mv_select_control.specs.Labels.{tree_functions, callee_functions, functions_of_all}
 use Rattle.mv_select_control.proofs.TreeNames.{all_front, all_back}
 use Rattle.mv_select_calls.specs.CallCode.{link_register, left_register, request_register, scratch_register, request_of, commit_label, result_lines, guard_lines, back_lines, guarded_lines, slot_lines, jump_lines, argument_lines, transfer_lines, call_lines, order_lines, ask_lines, known_lines}
 use Rattle.mv_select_lines.specs.Lines.{Names, counts_call}
-use Rattle.mv_select_lines.proofs.TreeNames.{AllName, IsPlain, after, nothing, then_line, number_names, tree_names}
+use Rattle.mv_select_lines.proofs.TreeNames.{AllName, IsPlain, after, nothing, then_line, number_names, tree_names, into_names}
 
 module _ (L P C Q S : ℕ → Type 0) (null : P (trap_label 3)) (depth : P (trap_label 4)) (commit : C commit_label) where
   abbrev Named : List Line → Type 0
@@ -75,10 +75,9 @@ module _ (L P C Q S : ℕ → Type 0) (null : P (trap_label 3)) (depth : P (trap
     argument_names n [] h = none
     argument_names n (t ∷ ts) h =
         let rest = argument_lines place (suc n) ts in
-        let move = Word (Addi n scratch_register (pos 0)) in
         let here = all_front Q (tree_functions t) (functions_of_all ts) h in
         let others = all_back Q (tree_functions t) (functions_of_all ts) h in
-        follow (tree_lines place t scratch_register) (move ∷ rest) (tree_names L P C Q S place t here scratch_register) (line move rest tt (argument_names (suc n) ts others))
+        follow (tree_into place t n scratch_register) rest (into_names L P C Q S place t here n scratch_register) (argument_names (suc n) ts others)
 
     transfer_names : (f : Callee) (r : Option ℕ) → All Q (callee_functions f) → Named (transfer_lines place is_attributed f r)
     transfer_names (callee.Direct f) r h = let named = All-head Q f [] h in direct_names (is_attributed f) f r named (slots f named)

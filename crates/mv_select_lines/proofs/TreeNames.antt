@@ -82,7 +82,7 @@ module _ (L P C Q S : ℕ → Type 0) where
     pub operand_names : (t : Tree) → Fs t → (r : ℕ) → AllName (operand_lines place t r)
     operand_names = operand_made AllName nothing word after Fs (functions_inside Q) entry_names place
 
-    into_names : (t : Tree) → Fs t → (d r : ℕ) → AllName (tree_into place t d r)
+    pub into_names : (t : Tree) → Fs t → (d r : ℕ) → AllName (tree_into place t d r)
     into_names = into_made AllName nothing word after Fs (functions_inside Q) entry_names place
 
     -- ---- statements without control

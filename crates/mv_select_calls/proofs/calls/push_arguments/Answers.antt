@@ -8,6 +8,6 @@ pub loop-index-preserved : goal.loop-index-preserved
 loop-index-preserved c =
     let i = c.loop-index.index in
     let ts = c.args.arguments.now in
-    argument_next (place_in c.args.rooms.now) i ts c.index-arguments-index.result c.loop-index.code c.push_tree.new.code c.push_one.new.code _
+    argument_next (place_in c.args.rooms.now) i ts c.index-arguments-index.result c.loop-index.code c.push_into.new.code _
     (drop_more ts i c.index-arguments-index.result (omega (arith, c.loop-index-test.true)) ∙ ap (λ t. t ∷ drop (i + 1) ts) (sym c.index-arguments-index.is))
-    (c.in_ok-push_tree.ensures) (c.in_ok-push_one.ensures) c.loop-index.invariant
+    (c.in_ok-push_into.ensures) c.loop-index.invariant
