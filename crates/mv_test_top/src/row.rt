@@ -83,9 +83,9 @@ fn push_word(bytes: &mut Vec<u8>, word: &str) -> Result<(), AllocError> {
 
 // The file of some words, of which the first is its name.
 fn file_of(alloc: Global, line: &str) -> Result<File, AllocError> {
-    let (name, words) = line.split_once(' ').unwrap_or((line, ""));
-    let mut file = empty_file(alloc, name)?;
-    for word in words.split(' ') {
+    let mut words = line.split(' ');
+    let mut file = empty_file(alloc, words.next().unwrap_or(""))?;
+    for word in words {
         push_word(&mut file.bytes, word)?;
     }
     Ok(file)
