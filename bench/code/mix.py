@@ -135,7 +135,7 @@ def main(words):
     with tempfile.TemporaryDirectory() as room:
         for source, given in pairs:
             image = os.path.join(room, "guest.img")
-            subprocess.run([PROGRAM, "build", source, image], check=True)
+            subprocess.run([PROGRAM, "build", source, image], check=True, stderr=subprocess.DEVNULL)
             with open(image, "rb") as it, open(given, "rb") as read:
                 guest = Guest(it.read(), read.read())
             while guest.step():

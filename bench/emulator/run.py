@@ -1,9 +1,11 @@
 #!/usr/bin/env python3
-"""How many host instructions the proved program takes for one instruction of a guest, beside the tuned loop in C (gcc -O2, which asks the oracle at each
-fetch): proved.py [GUEST..]
+"""How many host instructions the program takes for one instruction of a guest, beside a tuned loop in C (gcc -O2) with the same regions, tests and choices of
+a fetch, which asks the oracle at each fetch as the machine does: run.py [GUEST..]
 
-Each guest is made an image without tables, with all the data that an image may have, and run by `exec` for two step limits under callgrind; the difference
-leaves out what it takes to start. Needs the program that .ci/run leaves (or PROGRAM), gcc and valgrind.
+The loop comes in two forms: one that decodes each word where it is fetched, which is the baseline, and one that decodes text once. Each guest is made an
+image without tables, with all the data that an image may have, and run by `exec` for two step limits under callgrind; the difference leaves out what it
+takes to start. The guests are words of GNU as (-march=rv32im) from the .s files, linked at 0x1000. Needs the program that .ci/run leaves (or PROGRAM), gcc
+and valgrind.
 """
 import os
 import re
@@ -43,15 +45,20 @@ def main(guests):
     if not os.access(PROGRAM, os.X_OK):
         sys.exit(f"no {PROGRAM}: .ci/run makes it")
     with tempfile.TemporaryDirectory() as room:
-        loop, image = os.path.join(room, "loop"), os.path.join(room, "guest.img")
-        subprocess.run(["gcc", "-O2", "-w", "-DASK", "-o", loop, os.path.join(HERE, "loop.c")], check=True)
+        loop, decoded, image = (os.path.join(room, name) for name in ("loop", "decoded", "guest.img"))
+        for made, forms in (loop, ["-DASK"]), (decoded, ["-DASK", "-DPRE"]):
+            subprocess.run(["gcc", "-O2", "-w", *forms, "-o", made, os.path.join(HERE, "loop.c")], check=True)
         for name in guests or GUESTS:
             file = os.path.join(HERE, f"{name}.bin")
             with open(file, "rb") as source, open(image, "wb") as it:
                 it.write(image_of(source.read()))
-            plain = each(lambda steps, file=file: host_instructions(loop, file, str(steps)))
-            proved = each(lambda steps: host_instructions(PROGRAM, "exec", image, "--steps", str(steps)))
-            print(f"{name}: host instructions a guest instruction: C {plain:.1f}, the proved program {proved:.1f}; ratio {proved / plain:.2f}", flush=True)
+            plain, once = (each(lambda steps, made=made, file=file: host_instructions(made, file, str(steps))) for made in (loop, decoded))
+            ours = each(lambda steps: host_instructions(PROGRAM, "exec", image, "--steps", str(steps)))
+            print(
+                f"{name}: host instructions a guest instruction: C {plain:.1f}, C with text decoded once {once:.1f}, ours {ours:.1f}; "
+                f"ratios {ours / plain:.3f}, {ours / once:.2f}",
+                flush=True,
+            )
 
 
 if __name__ == "__main__":
