@@ -6,11 +6,11 @@ ghost use Rattle.mv_check_scope.specs.Conversions.{typed, int};
 ghost use Rattle.mv_check_expressions.specs.Seen.{object_at, no_value, number_or_zero, value_of, type_of, array_of, object_of, is_assignable, switch_of, is_function, is_attributed, is_undefined, is_known, seen_as, seen_name};
 
 use mv_ast::program::{CType, Expr, Form, Known, Target};
-use mv_check_scope::convert::is_void;
+use mv_check_scope::convert::{is_integer, is_void};
 use mv_check_scope::meaning::{Elements, Meaning, Routine, Storage};
 use mv_num::kind::Kind;
 
-/// A scalar object (C11 6.3.2.1), with its number among the switches if its name is that of one.
+/// A scalar object (C11 6.3.2.1), with the number of a switch if its name is that of one that is attributed.
 #[derive(Drop)]
 pub struct Object {
     pub target: Target,
@@ -167,12 +167,18 @@ pub fn is_assignable(seen: &Seen) -> bool
     }
 }
 
-/// The switch that an expression's name is, if it is one.
+/// The switch that an expression's name is, if it is one: an integer without `const`.
 pub fn switch_of(seen: &Seen) -> Option<u32>
     ensures { result ≡ switch_of seen.now }
 {
     match seen {
-        Seen::Object(object) => object.switch,
+        Seen::Object(object) => {
+            if object.fixed || !is_integer(object.ctype) {
+                None
+            } else {
+                object.switch
+            }
+        }
         _ => None,
     }
 }
