@@ -25,7 +25,7 @@ use Rattle.mv_lower_spec.specs.Correct.{Ground, Held, declaring, resting, none, 
 use Rattle.mv_lower_spec.proofs.Running as run
 use Rattle.mv_lower_spec.proofs.Running.{nodes_number}
 use Rattle.mv_lower_spec.proofs.Forms as forms
-use Rattle.mv_lower_spec.proofs.Forms.{words_is, word_is, with_word_is, held_is_none}
+use Rattle.mv_lower_spec.proofs.Forms.{words_is, word_is, with_word_is, with_word_same, with_word_other, other_word, with_word_count, with_word_lengths, stored_alike, held_is_none}
 use Rattle.mv_lower_spec.proofs.Elements as elements_proofs
 use Rattle.mv_lower_spec.proofs.Sequences.{after_zero}
 use Rattle.mv_lower_spec.proofs.Flows as flows
@@ -40,6 +40,26 @@ only_here l both = ap (λ z. cond z (Some both) None) (eq-eqb l l refl)
 
 pub only_there : (l : ℕ) (both : List ℕ × List ℕ) (k : ℕ) → (k ≡ l → ⊥) → only l both k ≡ None
 only_there l both k ne = ap (λ z. cond z (Some both) None) (ne_eqb k l ne)
+
+-- it is only that local, with these words
+only_apart : (l : ℕ) (both : List ℕ × List ℕ) (k : ℕ) → only l both k ≡ None → k ≡ l → ⊥
+only_apart l both k e eq = held_is_none (sym e ∙ ap (only l both) eq ∙ only_here l both)
+
+only_held : (l : ℕ) (both : List ℕ × List ℕ) (xs ys : List (List ℕ)) → slice_index_or xs l [] ≡ both.0 → slice_index_or ys l [] ≡ both.1 →
+    (k : ℕ) (there : List ℕ × List ℕ) → only l both k ≡ Some there → (slice_index_or xs k [] ≡ there.0) × (slice_index_or ys k [] ≡ there.1)
+only_held l both xs ys ex ey k there e = by (cases_eq k l)
+  where
+    words : Option (List ℕ × List ℕ) → List ℕ × List ℕ
+    words None = both
+    words (Some x) = x
+
+    by : (k ≡ l) ⊎ (k ≡ l → ⊥) → (slice_index_or xs k [] ≡ there.0) × (slice_index_or ys k [] ≡ there.1)
+    by (inl eq) =
+        let same : both ≡ there = ap words (sym (ap (only l both) eq ∙ only_here l both) ∙ e) in (
+          ap (λ j. slice_index_or xs j []) eq ∙ ex ∙ ap (λ (q : List ℕ × List ℕ). q.0) same,
+          ap (λ j. slice_index_or ys j []) eq ∙ ey ∙ ap (λ (q : List ℕ × List ℕ). q.1) same,
+        )
+    by (inr ne) = absurd (held_is_none (sym (only_there l both k ne) ∙ e))
 
 -- ---- lists
 
@@ -76,40 +96,19 @@ module _ (ground : Ground) (void : Bool) where
   hidden l ws f w s lt long h = record {
     around = h.around;
     in_arrays = record {
-      elements = λ k lk arr. h.elements k lk (arr.0, refl) ∙ sym (get_or-set_other f.locals l k ws [] (apart k arr.1));
-      untouched = λ k both e. held_here k both e (cases_eq k l);
+      elements = λ k lk arr. h.elements k lk (arr.0, refl) ∙ sym (get_or-set_other f.locals l k ws [] (only_apart l (ws, slice_index_or s.arrays l []) k arr.1));
+      untouched = only_held l (ws, slice_index_or s.arrays l []) (slice_set f.locals l ws) s.arrays (get_or-set_same f.locals l ws [] inside) refl;
       words = λ k lk. long_words k lk (cases_eq k l);
       size = length-set f.locals l ws ∙ h.size;
       arrays = h.arrays;
     };
     in_temps = h.in_temps;
-    each = λ k lk sc. let ne = apart k sc.1 in
-        h.each k lk (sc.0, refl) ∙ word_is f.locals k 0 ∙ ap (λ xs. slice_index xs 0) (sym (get_or-set_other f.locals l k ws [] ne)) ∙ sym (word_is (slice_set f.locals l ws) k 0);
+    each = λ k lk sc.
+        h.each k lk (sc.0, refl) ∙ word_is f.locals k 0 ∙ ap (λ xs. slice_index xs 0) (sym (get_or-set_other f.locals l k ws [] (only_apart l (ws, slice_index_or s.arrays l []) k sc.1))) ∙ sym (word_is (slice_set f.locals l ws) k 0);
   }
     where
-      both0 : List ℕ × List ℕ
-      both0 = (ws, slice_index_or s.arrays l [])
-
       inside : l < length f.locals
       inside = subst (λ k. l < k) (sym h.size) lt
-
-      apart : (k : ℕ) → only l both0 k ≡ None → k ≡ l → ⊥
-      apart k e eq = held_is_none (sym e ∙ ap (only l both0) eq ∙ only_here l both0)
-
-      held_here : (k : ℕ) (both : List ℕ × List ℕ) → only l both0 k ≡ Some both → (k ≡ l) ⊎ (k ≡ l → ⊥) → (slice_index_or (slice_set f.locals l ws) k [] ≡ both.0) × (slice_index_or s.arrays k [] ≡ both.1)
-      held_here k both e (inl eq) =
-          let same : both0 ≡ both = some_same (sym (ap (only l both0) eq ∙ only_here l both0) ∙ e) in (
-            ap (λ j. slice_index_or (slice_set f.locals l ws) j []) eq ∙ get_or-set_same f.locals l ws [] inside ∙ ap (λ (q : List ℕ × List ℕ). q.0) same,
-            ap (λ j. slice_index_or s.arrays j []) eq ∙ ap (λ (q : List ℕ × List ℕ). q.1) same,
-          )
-        where
-          some_same : Some both0 ≡ Some both → both0 ≡ both
-          some_same q = ap (λ (o : Option (List ℕ × List ℕ)). unwrapped o) q
-            where
-              unwrapped : Option (List ℕ × List ℕ) → List ℕ × List ℕ
-              unwrapped None = both0
-              unwrapped (Some x) = x
-      held_here k both e (inr ne) = absurd (held_is_none (sym (only_there l both0 k ne) ∙ e))
 
       long_words : (k : ℕ) → k < ground.locals → (k ≡ l) ⊎ (k ≡ l → ⊥) → length (slice_index_or (slice_set f.locals l ws) k []) ≡ words_of_size (ground.sizes k)
       long_words k lk (inl eq) = subst (λ j. length (slice_index_or (slice_set f.locals l ws) j []) ≡ words_of_size (ground.sizes j)) (sym eq) (ap length (get_or-set_same f.locals l ws [] inside) ∙ long)
@@ -118,59 +117,23 @@ module _ (ground : Ground) (void : Bool) where
   -- a word of the local that is being declared, in the source and in the code
   touched : (l i v : ℕ) (ws gs : List ℕ) (f : Frame) (w : World) (s : State) → l < ground.locals → Shows (declaring ground (only l (ws, gs))) f w s →
       Shows (declaring ground (only l (slice_set ws i v, slice_set gs i v))) (record f { locals = with_word f.locals l i v }) w (with_elements (array.Local l) s (slice_set gs i v))
-  touched l i v ws gs f w s lt h = record {
-    around = h.around;
-    in_arrays = record {
-      elements = λ k lk arr. let ne = apart k arr.1 in
-          get_or-set_other s.arrays l k (slice_set gs i v) [] ne ∙ h.elements k lk (arr.0, only_there l (ws, gs) k ne) ∙
-          sym (ap (λ (xs : List (List ℕ)). slice_index_or xs k []) (with_word_is f.locals l i v) ∙ get_or-set_other f.locals l k (slice_set (slice_index_or f.locals l []) i v) [] ne);
-      untouched = λ k both e. held_here k both e (cases_eq k l);
-      words = λ k lk. ap (λ (xs : List (List ℕ)). length (slice_index_or xs k [])) (with_word_is f.locals l i v) ∙ long_words k lk (cases_eq k l);
-      size = ap (λ (xs : List (List ℕ)). length xs) (with_word_is f.locals l i v) ∙ length-set f.locals l (slice_set (slice_index_or f.locals l []) i v) ∙ h.size;
-      arrays = length-set s.arrays l (slice_set gs i v) ∙ h.arrays;
-    };
-    in_temps = h.in_temps;
-    each = λ k lk sc. let ne = apart k sc.1 in
-        h.each k lk (sc.0, only_there l (ws, gs) k ne) ∙ word_is f.locals k 0 ∙ ap (λ xs. slice_index xs 0) (sym (get_or-set_other f.locals l k (slice_set (slice_index_or f.locals l []) i v) [] ne)) ∙
-        sym (word_is (with_word f.locals l i v) k 0 ∙ ap (λ (xs : List (List ℕ)). slice_index (slice_index_or xs k []) 0) (with_word_is f.locals l i v));
-  }
-    where
-      both1 : List ℕ × List ℕ
-      both1 = (slice_set ws i v, slice_set gs i v)
-
-      was : (slice_index_or f.locals l [] ≡ ws) × (slice_index_or s.arrays l [] ≡ gs)
-      was = h.untouched l (ws, gs) (only_here l (ws, gs))
-
-      inside : l < length f.locals
-      inside = subst (λ k. l < k) (sym h.size) lt
-
-      inside_code : l < length s.arrays
-      inside_code = subst (λ k. l < k) (sym h.arrays) lt
-
-      apart : (k : ℕ) → only l both1 k ≡ None → k ≡ l → ⊥
-      apart k e eq = held_is_none (sym e ∙ ap (only l both1) eq ∙ only_here l both1)
-
-      held_here : (k : ℕ) (both : List ℕ × List ℕ) → only l both1 k ≡ Some both → (k ≡ l) ⊎ (k ≡ l → ⊥) → (slice_index_or (with_word f.locals l i v) k [] ≡ both.0) × (slice_index_or (slice_set s.arrays l (slice_set gs i v)) k [] ≡ both.1)
-      held_here k both e (inl eq) =
-          let same : both1 ≡ both = some_same (sym (ap (only l both1) eq ∙ only_here l both1) ∙ e) in (
-            ap (λ j. slice_index_or (with_word f.locals l i v) j []) eq ∙ ap (λ (xs : List (List ℕ)). slice_index_or xs l []) (with_word_is f.locals l i v) ∙
-                get_or-set_same f.locals l (slice_set (slice_index_or f.locals l []) i v) [] inside ∙ ap (λ xs. slice_set xs i v) was.0 ∙ ap (λ (q : List ℕ × List ℕ). q.0) same,
-            ap (λ j. slice_index_or (slice_set s.arrays l (slice_set gs i v)) j []) eq ∙ get_or-set_same s.arrays l (slice_set gs i v) [] inside_code ∙ ap (λ (q : List ℕ × List ℕ). q.1) same,
-          )
-        where
-          some_same : Some both1 ≡ Some both → both1 ≡ both
-          some_same q = ap (λ (o : Option (List ℕ × List ℕ)). unwrapped o) q
-            where
-              unwrapped : Option (List ℕ × List ℕ) → List ℕ × List ℕ
-              unwrapped None = both1
-              unwrapped (Some x) = x
-      held_here k both e (inr ne) = absurd (held_is_none (sym (only_there l both1 k ne) ∙ e))
-
-      long_words : (k : ℕ) → k < ground.locals → (k ≡ l) ⊎ (k ≡ l → ⊥) → length (slice_index_or (slice_set f.locals l (slice_set (slice_index_or f.locals l []) i v)) k []) ≡ words_of_size (ground.sizes k)
-      long_words k lk (inl eq) =
-          subst (λ j. length (slice_index_or (slice_set f.locals l (slice_set (slice_index_or f.locals l []) i v)) j []) ≡ words_of_size (ground.sizes j)) (sym eq)
-          (ap length (get_or-set_same f.locals l (slice_set (slice_index_or f.locals l []) i v) [] inside) ∙ length-set (slice_index_or f.locals l []) i v ∙ h.words l lt)
-      long_words k lk (inr ne) = ap length (get_or-set_other f.locals l k (slice_set (slice_index_or f.locals l []) i v) [] ne) ∙ h.words k lk
+  touched l i v ws gs f w s lt h =
+      let was = h.untouched l (ws, gs) (only_here l (ws, gs)) in
+      let apart = only_apart l (slice_set ws i v, slice_set gs i v) in
+      record {
+        around = h.around;
+        in_arrays = record {
+          elements = λ k lk arr. let ne = apart k arr.1 in get_or-set_other s.arrays l k (slice_set gs i v) [] ne ∙ h.elements k lk (arr.0, only_there l (ws, gs) k ne) ∙ sym (with_word_other f.locals l i v k ne);
+          untouched =
+              only_held l (slice_set ws i v, slice_set gs i v) (with_word f.locals l i v) (slice_set s.arrays l (slice_set gs i v)) (with_word_same f.locals l i v (subst (λ k. l < k) (sym h.size) lt) ∙ ap (λ xs. slice_set xs i v) was.0)
+              (get_or-set_same s.arrays l (slice_set gs i v) [] (subst (λ k. l < k) (sym h.arrays) lt));
+          words = λ k lk. with_word_lengths f.locals l i v k ∙ h.words k lk;
+          size = with_word_count f.locals l i v ∙ h.size;
+          arrays = length-set s.arrays l (slice_set gs i v) ∙ h.arrays;
+        };
+        in_temps = h.in_temps;
+        each = λ k lk sc. let ne = apart k sc.1 in h.each k lk (sc.0, only_there l (ws, gs) k ne) ∙ sym (other_word f.locals l i v k 0 ne);
+      }
 
   -- an array that was declared: both sides have the same words
   array_declared : (l : ℕ) (ws : List ℕ) (f : Frame) (w : World) (s : State) → (ground.sizes l ≡ None → ⊥) → Shows (declaring ground (only l (ws, ws))) f w s → Shows (resting ground) f w s
@@ -205,8 +168,8 @@ module _ (ground : Ground) (void : Bool) where
     in_arrays = record {
       elements = λ k lk a. by_elements k lk a.0 (cases_eq k l);
       untouched = λ k both e. absurd (held_is_none e);
-      words = λ k lk. ap (λ (xs : List (List ℕ)). length (slice_index_or xs k [])) (with_word_is f.locals l 0 v) ∙ long_words k lk (cases_eq k l);
-      size = ap (λ (xs : List (List ℕ)). length xs) (with_word_is f.locals l 0 v) ∙ length-set f.locals l (slice_set (slice_index_or f.locals l []) 0 v) ∙ h.size;
+      words = λ k lk. with_word_lengths f.locals l 0 v k ∙ h.words k lk;
+      size = with_word_count f.locals l 0 v ∙ h.size;
       arrays = h.arrays;
     };
     in_temps = record {
@@ -214,74 +177,30 @@ module _ (ground : Ground) (void : Bool) where
       below = λ j low high. get_or-set_other s.temps l j x 0 (λ eq. absurd (omega (arith, low, lt, eq))) ∙ h.below j low high;
       temps = length-set s.temps l x ∙ h.temps;
     };
-    each = λ k lk q. sym (word_is (with_word f.locals l 0 v) k 0 ∙ ap (λ (xs : List (List ℕ)). slice_index (slice_index_or xs k []) 0) (with_word_is f.locals l 0 v) ∙ by_each k lk q.0 (cases_eq k l));
+    each = λ k lk q. stored_alike f.locals s.temps l v x k (omega (arith, lt, h.size)) (subst (λ n. 0 < n) (sym (h.words l lt ∙ ap words_of_size sc)) (omega arith)) (omega (arith, lt, le, h.temps)) e (λ ne. h.each k lk (q.0, only_there l both k ne));
   }
     where
-      inside : l < length f.locals
-      inside = subst (λ k. l < k) (sym h.size) lt
-
-      long_one : 0 < length (slice_index_or f.locals l [])
-      long_one = subst (λ k. 0 < k) (sym (h.words l lt ∙ ap words_of_size sc)) (omega arith)
-
-      by_each : (k : ℕ) → k < ground.locals → ground.sizes k ≡ None → (k ≡ l) ⊎ (k ≡ l → ⊥) → slice_index (slice_index_or (slice_set f.locals l (slice_set (slice_index_or f.locals l []) 0 v)) k []) 0 ≡ slice_index (slice_set s.temps l x) k
-      by_each k lk q (inl eq) =
-          subst (λ j. slice_index (slice_index_or (slice_set f.locals l (slice_set (slice_index_or f.locals l []) 0 v)) j []) 0 ≡ slice_index (slice_set s.temps l x) j) (sym eq)
-          (ap (λ xs. slice_index xs 0) (get_or-set_same f.locals l (slice_set (slice_index_or f.locals l []) 0 v) [] inside) ∙
-          get_or-set_same (slice_index_or f.locals l []) 0 v 0 long_one ∙ sym e ∙
-          sym (get_or-set_same s.temps l x 0 (subst (λ j. l < j) (sym h.temps) (omega (arith, lt, le)))))
-      by_each k lk q (inr ne) =
-          ap (λ xs. slice_index xs 0) (get_or-set_other f.locals l k (slice_set (slice_index_or f.locals l []) 0 v) [] ne) ∙
-          sym (word_is f.locals k 0) ∙ sym (h.each k lk (q, only_there l both k ne)) ∙ sym (get_or-set_other s.temps l k x 0 ne)
-
       by_elements : (k : ℕ) → k < ground.locals → (ground.sizes k ≡ None → ⊥) → (k ≡ l) ⊎ (k ≡ l → ⊥) → slice_index_or s.arrays k [] ≡ slice_index_or (with_word f.locals l 0 v) k []
       by_elements k lk a (inl eq) = absurd (a (ap ground.sizes eq ∙ sc))
       by_elements k lk a (inr ne) =
-          h.elements k lk (a, only_there l both k ne) ∙ sym (ap (λ (xs : List (List ℕ)). slice_index_or xs k []) (with_word_is f.locals l 0 v) ∙ get_or-set_other f.locals l k (slice_set (slice_index_or f.locals l []) 0 v) [] ne)
-
-      long_words : (k : ℕ) → k < ground.locals → (k ≡ l) ⊎ (k ≡ l → ⊥) → length (slice_index_or (slice_set f.locals l (slice_set (slice_index_or f.locals l []) 0 v)) k []) ≡ words_of_size (ground.sizes k)
-      long_words k lk (inl eq) =
-          subst (λ j. length (slice_index_or (slice_set f.locals l (slice_set (slice_index_or f.locals l []) 0 v)) j []) ≡ words_of_size (ground.sizes j)) (sym eq)
-          (ap length (get_or-set_same f.locals l (slice_set (slice_index_or f.locals l []) 0 v) [] inside) ∙ length-set (slice_index_or f.locals l []) 0 v ∙ h.words l lt)
-      long_words k lk (inr ne) = ap length (get_or-set_other f.locals l k (slice_set (slice_index_or f.locals l []) 0 v) [] ne) ∙ h.words k lk
+          h.elements k lk (a, only_there l both k ne) ∙ sym (with_word_other f.locals l 0 v k ne)
 
   -- the code's words alone
   recoded : (l : ℕ) (ws gs gs' : List ℕ) (f : Frame) (w : World) (s : State) → l < ground.locals → Shows (declaring ground (only l (ws, gs))) f w s → Shows (declaring ground (only l (ws, gs'))) f w (with_elements (array.Local l) s gs')
-  recoded l ws gs gs' f w s lt h = record {
-    around = h.around;
-    in_arrays = record {
-      elements = λ k lk arr. let ne = apart k arr.1 in get_or-set_other s.arrays l k gs' [] ne ∙ h.elements k lk (arr.0, only_there l (ws, gs) k ne);
-      untouched = λ k both e. held_here k both e (cases_eq k l);
-      words = h.words;
-      size = h.size;
-      arrays = length-set s.arrays l gs' ∙ h.arrays;
-    };
-    in_temps = h.in_temps;
-    each = λ k lk sc. h.each k lk (sc.0, only_there l (ws, gs) k (apart k sc.1));
-  }
-    where
-      both1 : List ℕ × List ℕ
-      both1 = (ws, gs')
-
-      inside_code : l < length s.arrays
-      inside_code = subst (λ k. l < k) (sym h.arrays) lt
-
-      apart : (k : ℕ) → only l both1 k ≡ None → k ≡ l → ⊥
-      apart k e eq = held_is_none (sym e ∙ ap (only l both1) eq ∙ only_here l both1)
-
-      held_here : (k : ℕ) (both : List ℕ × List ℕ) → only l both1 k ≡ Some both → (k ≡ l) ⊎ (k ≡ l → ⊥) → (slice_index_or f.locals k [] ≡ both.0) × (slice_index_or (slice_set s.arrays l gs') k [] ≡ both.1)
-      held_here k both e (inl eq) =
-          let same : both1 ≡ both = some_same (sym (ap (only l both1) eq ∙ only_here l both1) ∙ e) in (
-            ap (λ j. slice_index_or f.locals j []) eq ∙ (h.untouched l (ws, gs) (only_here l (ws, gs))).0 ∙ ap (λ (q : List ℕ × List ℕ). q.0) same,
-            ap (λ j. slice_index_or (slice_set s.arrays l gs') j []) eq ∙ get_or-set_same s.arrays l gs' [] inside_code ∙ ap (λ (q : List ℕ × List ℕ). q.1) same,
-          )
-        where
-          some_same : Some both1 ≡ Some both → both1 ≡ both
-          some_same q = ap (λ (o : Option (List ℕ × List ℕ)). unwrapped o) q
-            where
-              unwrapped : Option (List ℕ × List ℕ) → List ℕ × List ℕ
-              unwrapped None = both1
-              unwrapped (Some x) = x
-      held_here k both e (inr ne) = absurd (held_is_none (sym (only_there l both1 k ne) ∙ e))
+  recoded l ws gs gs' f w s lt h =
+      let apart = only_apart l (ws, gs') in
+      record {
+        around = h.around;
+        in_arrays = record {
+          elements = λ k lk arr. let ne = apart k arr.1 in get_or-set_other s.arrays l k gs' [] ne ∙ h.elements k lk (arr.0, only_there l (ws, gs) k ne);
+          untouched = only_held l (ws, gs') f.locals (slice_set s.arrays l gs') (h.untouched l (ws, gs) (only_here l (ws, gs))).0 (get_or-set_same s.arrays l gs' [] (subst (λ k. l < k) (sym h.arrays) lt));
+          words = h.words;
+          size = h.size;
+          arrays = length-set s.arrays l gs' ∙ h.arrays;
+        };
+        in_temps = h.in_temps;
+        each = λ k lk sc. h.each k lk (sc.0, only_there l (ws, gs) k (apart k sc.1));
+      }
 
   -- ---- values that are stored into words which are 0
 

@@ -36,7 +36,7 @@ use Rattle.mv_lower_spec.proofs.Operators.{converted_nodes}
 use Rattle.mv_lower_spec.proofs.Control as control
 use Rattle.mv_lower_spec.proofs.Sequences as sequences
 use Rattle.mv_lower_spec.proofs.Forms as forms
-use Rattle.mv_lower_spec.proofs.Forms.{words_is, word_is, with_word_is, held_is_none}
+use Rattle.mv_lower_spec.proofs.Forms.{words_is, word_is, with_word_same, with_word_other, other_word, with_word_count, with_word_lengths, held_is_none}
 
 abbrev pub lvalue_in : Array → ℕ → Lvalue
 lvalue_in (array.Global g) i = lvalue.Global g i
@@ -94,46 +94,28 @@ module _ (scene : Scene) where
 
   pub shows_array : (l i v : ℕ) (f : Frame) (w : World) (s : State) → IsArray scene.ground scene.held (array.Local l) → Shows scene f w s →
       Shows scene (record f { locals = with_word f.locals l i v }) w (with_elements (array.Local l) s (slice_set (elements (array.Local l) s) i v))
-  shows_array l i v f w s isa h =
-      let ws = slice_index_or f.locals l [] in
-      record {
-        around = h.around;
-        in_arrays = record {
-          elements = λ k lk arr. by k lk arr (cases_eq k l) ∙ sym (ap (λ (xs : List (List ℕ)). slice_index_or xs k []) (with_word_is f.locals l i v));
-          untouched = λ k both e. let ne : k ≡ l → ⊥ = λ eq. held_is_none (sym isa.1.1 ∙ ap scene.held (sym eq) ∙ e) in (
-            ap (λ (xs : List (List ℕ)). slice_index_or xs k []) (with_word_is f.locals l i v) ∙ get_or-set_other f.locals l k (slice_set ws i v) [] ne ∙ (h.untouched k both e).0,
-            get_or-set_other s.arrays l k (slice_set (slice_index_or s.arrays l []) i v) [] ne ∙ (h.untouched k both e).1,
-          );
-          words = λ k lk. ap (λ (xs : List (List ℕ)). length (slice_index_or xs k [])) (with_word_is f.locals l i v) ∙ long k lk (cases_eq k l);
-          size = ap (λ (xs : List (List ℕ)). length xs) (with_word_is f.locals l i v) ∙ length-set f.locals l (slice_set ws i v) ∙ h.size;
-          arrays = length-set s.arrays l (slice_set (slice_index_or s.arrays l []) i v) ∙ h.arrays;
-        };
-        in_temps = h.in_temps;
-        each = λ k lk skalar. h.each k lk skalar ∙ word_is f.locals k 0 ∙ sym (ap (λ xs. slice_index xs 0) (get_or-set_other f.locals l k (slice_set ws i v) [] (λ eq. isa.1.0 (ap scene.sizes (sym eq) ∙ skalar.0)))) ∙
-            sym (word_is (with_word f.locals l i v) k 0 ∙ ap (λ (xs : List (List ℕ)). slice_index (slice_index_or xs k []) 0) (with_word_is f.locals l i v));
-      }
+  shows_array l i v f w s isa h = record {
+    around = h.around;
+    in_arrays = record {
+      elements = λ k lk arr. by k lk arr (cases_eq k l);
+      untouched = λ k both e. let ne : k ≡ l → ⊥ = λ eq. held_is_none (sym isa.1.1 ∙ ap scene.held (sym eq) ∙ e) in
+          (with_word_other f.locals l i v k ne ∙ (h.untouched k both e).0, get_or-set_other s.arrays l k new [] ne ∙ (h.untouched k both e).1);
+      words = λ k lk. with_word_lengths f.locals l i v k ∙ h.words k lk;
+      size = with_word_count f.locals l i v ∙ h.size;
+      arrays = length-set s.arrays l new ∙ h.arrays;
+    };
+    in_temps = h.in_temps;
+    each = λ k lk skalar. h.each k lk skalar ∙ sym (other_word f.locals l i v k 0 (λ eq. isa.1.0 (ap scene.sizes (sym eq) ∙ skalar.0)));
+  }
     where
-      inside : l < length f.locals
-      inside = subst (λ k. l < k) (sym h.size) isa.0
+      new : List ℕ
+      new = slice_set (slice_index_or s.arrays l []) i v
 
-      inside_code : l < length s.arrays
-      inside_code = subst (λ k. l < k) (sym h.arrays) isa.0
-
-      by : (k : ℕ) → k < scene.locals → IsArrayLocal scene.sizes scene.held k → (k ≡ l) ⊎ (k ≡ l → ⊥) →
-          slice_index_or (slice_set s.arrays l (slice_set (slice_index_or s.arrays l []) i v)) k [] ≡ slice_index_or (slice_set f.locals l (slice_set (slice_index_or f.locals l []) i v)) k []
+      by : (k : ℕ) → k < scene.locals → IsArrayLocal scene.sizes scene.held k → (k ≡ l) ⊎ (k ≡ l → ⊥) → slice_index_or (slice_set s.arrays l new) k [] ≡ slice_index_or (with_word f.locals l i v) k []
       by k lk arr (inl eq) =
-          subst (λ j. slice_index_or (slice_set s.arrays l (slice_set (slice_index_or s.arrays l []) i v)) j [] ≡ slice_index_or (slice_set f.locals l (slice_set (slice_index_or f.locals l []) i v)) j []) (sym eq)
-          (get_or-set_same s.arrays l (slice_set (slice_index_or s.arrays l []) i v) [] inside_code ∙ ap (λ xs. slice_set xs i v) (h.elements l isa.0 isa.1) ∙
-          sym (get_or-set_same f.locals l (slice_set (slice_index_or f.locals l []) i v) [] inside))
-      by k lk arr (inr ne) =
-          get_or-set_other s.arrays l k (slice_set (slice_index_or s.arrays l []) i v) [] ne ∙ h.elements k lk arr ∙
-          sym (get_or-set_other f.locals l k (slice_set (slice_index_or f.locals l []) i v) [] ne)
-
-      long : (k : ℕ) → k < scene.locals → (k ≡ l) ⊎ (k ≡ l → ⊥) → length (slice_index_or (slice_set f.locals l (slice_set (slice_index_or f.locals l []) i v)) k []) ≡ words_of_size (scene.sizes k)
-      long k lk (inl eq) =
-          subst (λ j. length (slice_index_or (slice_set f.locals l (slice_set (slice_index_or f.locals l []) i v)) j []) ≡ words_of_size (scene.sizes j)) (sym eq)
-          (ap length (get_or-set_same f.locals l (slice_set (slice_index_or f.locals l []) i v) [] inside) ∙ length-set (slice_index_or f.locals l []) i v ∙ h.words l isa.0)
-      long k lk (inr ne) = ap length (get_or-set_other f.locals l k (slice_set (slice_index_or f.locals l []) i v) [] ne) ∙ h.words k lk
+          subst (λ j. slice_index_or (slice_set s.arrays l new) j [] ≡ slice_index_or (with_word f.locals l i v) j []) (sym eq)
+          (get_or-set_same s.arrays l new [] (subst (λ k. l < k) (sym h.arrays) isa.0) ∙ ap (λ xs. slice_set xs i v) (h.elements l isa.0 isa.1) ∙ sym (with_word_same f.locals l i v (subst (λ k. l < k) (sym h.size) isa.0)))
+      by k lk arr (inr ne) = get_or-set_other s.arrays l k new [] ne ∙ h.elements k lk arr ∙ sym (with_word_other f.locals l i v k ne)
 
   raise_floor : (n : ℕ) (f : Frame) (w : World) (s : State) → scene.floor ≤ n → Shows scene f w s → Shows (scene_of scene.ground scene.held n (λ k. slice_index s.temps k)) f w s
   raise_floor n f w s le h = record {

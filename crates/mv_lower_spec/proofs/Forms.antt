@@ -1,9 +1,9 @@
 -- Each form of expression: if its parts are lowered correctly, so is the whole.
-use Rattle.std.proofs.Common.{◌≡◌, ℕ, ◌+◌, ◌*◌, ◌<◌, ◌≤◌, Bool, true, false, cond, eqb, List, [], ◌∷◌, ◌++◌, length, Option, Some, None, refl, sym, ◌∙◌, subst, ap, arith, append-nil, ◌⊎◌, inl, inr}
+use Rattle.std.proofs.Common.{◌≡◌, ℕ, zero, suc, ◌+◌, ◌*◌, ◌<◌, ◌≤◌, Bool, true, false, cond, eqb, List, [], ◌∷◌, ◌++◌, length, Option, Some, None, refl, sym, ◌∙◌, subst, ap, arith, append-nil, ◌⊎◌, inl, inr}
 use Rattle.std.specs.Prelude.{slice_index, slice_set, slice_index_or, slice_get, unwrap_or}
-use Rattle.std.proofs.lemmas.List.{get_or-set_same, get_or-set_other, length-set, set_past}
+use Rattle.std.proofs.lemmas.List.{get_or-set_same, get_or-set_other, length-set}
 use Rattle.std.proofs.lemmas.Option.{unwrap_or-slice_get}
-use Rattle.std.proofs.lemmas.Bool.{cases_eq, cases_lt}
+use Rattle.std.proofs.lemmas.Bool.{cases_eq}
 use Rattle.mv_ir.specs.declared.tree.Tree.{Tree}
 use Rattle.mv_ast.specs.Counts.{words_of_size}
 use Rattle.mv_ast.specs.Plans.{word_at, with_word, words_or_none, global_read, bound_value}
@@ -40,6 +40,42 @@ word_is xs g i = unwrap_or-slice_get (words_or_none (slice_get xs g)) i 0 ∙ ap
 pub with_word_is : (xs : List (List ℕ)) (g i v : ℕ) → with_word xs g i v ≡ slice_set xs g (slice_set (slice_index_or xs g []) i v)
 with_word_is xs g i v = ap (λ l. slice_set xs g (slice_set l i v)) (words_is xs g)
 
+-- ---- a word that is stored
+
+pub with_word_same : (xs : List (List ℕ)) (g i v : ℕ) → g < length xs → slice_index_or (with_word xs g i v) g [] ≡ slice_set (slice_index_or xs g []) i v
+with_word_same xs g i v lt = ap (λ (ys : List (List ℕ)). slice_index_or ys g []) (with_word_is xs g i v) ∙ get_or-set_same xs g (slice_set (slice_index_or xs g []) i v) [] lt
+
+pub with_word_other : (xs : List (List ℕ)) (g i v k : ℕ) → (k ≡ g → ⊥) → slice_index_or (with_word xs g i v) k [] ≡ slice_index_or xs k []
+with_word_other xs g i v k ne = ap (λ (ys : List (List ℕ)). slice_index_or ys k []) (with_word_is xs g i v) ∙ get_or-set_other xs g k (slice_set (slice_index_or xs g []) i v) [] ne
+
+pub other_word : (xs : List (List ℕ)) (g i v k j : ℕ) → (k ≡ g → ⊥) → word_at (with_word xs g i v) k j ≡ word_at xs k j
+other_word xs g i v k j ne = word_is (with_word xs g i v) k j ∙ ap (λ l. slice_index l j) (with_word_other xs g i v k ne) ∙ sym (word_is xs k j)
+
+pub with_word_count : (xs : List (List ℕ)) (g i v : ℕ) → length (with_word xs g i v) ≡ length xs
+with_word_count xs g i v = length-set xs g (slice_set (words_or_none (slice_get xs g)) i v)
+
+stored_lengths : (xs : List (List ℕ)) (l k i v : ℕ) → length (slice_index_or (slice_set xs l (slice_set (slice_index_or xs l []) i v)) k []) ≡ length (slice_index_or xs k [])
+stored_lengths [] l k i v = refl
+stored_lengths (x ∷ xs) zero zero i v = length-set x i v
+stored_lengths (x ∷ xs) zero (suc k) i v = refl
+stored_lengths (x ∷ xs) (suc l) zero i v = refl
+stored_lengths (x ∷ xs) (suc l) (suc k) i v = stored_lengths xs l k i v
+
+pub with_word_lengths : (xs : List (List ℕ)) (g i v k : ℕ) → length (slice_index_or (with_word xs g i v) k []) ≡ length (slice_index_or xs k [])
+with_word_lengths xs g i v k = ap (λ (ys : List (List ℕ)). length (slice_index_or ys k [])) (with_word_is xs g i v) ∙ stored_lengths xs g k i v
+
+-- a scalar that is stored on both sides
+pub stored_alike : (xs : List (List ℕ)) (ts : List ℕ) (l v x k : ℕ) → l < length xs → 0 < length (slice_index_or xs l []) → l < length ts → x ≡ v → ((k ≡ l → ⊥) → slice_index ts k ≡ word_at xs k 0) →
+    slice_index (slice_set ts l x) k ≡ word_at (with_word xs l 0 v) k 0
+stored_alike xs ts l v x k here long there e h = by (cases_eq k l)
+  where
+    by : (k ≡ l) ⊎ (k ≡ l → ⊥) → slice_index (slice_set ts l x) k ≡ word_at (with_word xs l 0 v) k 0
+    by (inl eq) =
+        subst (λ j. slice_index (slice_set ts l x) j ≡ word_at (with_word xs l 0 v) j 0) (sym eq)
+        (get_or-set_same ts l x 0 there ∙ e ∙
+        sym (word_is (with_word xs l 0 v) l 0 ∙ ap (λ ys. slice_index ys 0) (with_word_same xs l 0 v here) ∙ get_or-set_same (slice_index_or xs l []) 0 v 0 long))
+    by (inr ne) = get_or-set_other ts l k x 0 ne ∙ h ne ∙ sym (other_word xs l 0 v k 0 ne)
+
 pub held_is_none : {x : List ℕ × List ℕ} → None ≡ Some x → ⊥
 held_is_none e = subst Is e tt
   where
@@ -63,47 +99,22 @@ module _ (scene : Scene) where
       ap (λ k. global_read scene.p w k g 0) (sym h.function)
 
   pub shows_local : (l v x : ℕ) (f : Frame) (w : World) (s : State) → l < scene.locals → scene.locals ≤ scene.room → IsScalar scene.sizes scene.held l → x ≡ v → Shows scene f w s → Shows scene (record f { locals = with_word f.locals l 0 v }) w (with_temp s l x)
-  shows_local l v x f w s lt le sc e h =
-      let ws = slice_index_or f.locals l [] in
-      record {
-        around = h.around;
-        in_arrays = record {
-          elements = λ k lk array. h.elements k lk array ∙ sym (ap (λ (xs : List (List ℕ)). slice_index_or xs k []) (with_word_is f.locals l 0 v) ∙ get_or-set_other f.locals l k (slice_set ws 0 v) [] (λ eq. array.0 (ap scene.sizes eq ∙ sc.0)));
-          untouched = λ k both e. let ne : k ≡ l → ⊥ = λ eq. held_is_none (sym sc.1 ∙ ap scene.held (sym eq) ∙ e) in
-              (ap (λ (xs : List (List ℕ)). slice_index_or xs k []) (with_word_is f.locals l 0 v) ∙ get_or-set_other f.locals l k (slice_set ws 0 v) [] ne ∙ (h.untouched k both e).0, (h.untouched k both e).1);
-          words = λ k lk. ap (λ (xs : List (List ℕ)). length (slice_index_or xs k [])) (with_word_is f.locals l 0 v) ∙ long k lk (cases_eq k l);
-          size = ap (λ (xs : List (List ℕ)). length xs) (with_word_is f.locals l 0 v) ∙ length-set f.locals l (slice_set ws 0 v) ∙ h.size;
-          arrays = h.arrays;
-        };
-        in_temps = record {
-          above = h.above;
-          below = λ j low high. get_or-set_other s.temps l j x 0 (λ eq. absurd (omega (arith, low, lt, eq))) ∙ h.below j low high;
-          temps = length-set s.temps l x ∙ h.temps;
-        };
-        each = λ k lk skalar. sym (word_is (with_word f.locals l 0 v) k 0 ∙ ap (λ (xs : List (List ℕ)). slice_index (slice_index_or xs k []) 0) (with_word_is f.locals l 0 v) ∙ by k lk skalar (cases_eq k l));
-      }
-    where
-      inside : l < length f.locals
-      inside = subst (λ k. l < k) (sym h.size) lt
-
-      long_one : 0 < length (slice_index_or f.locals l [])
-      long_one = subst (λ k. 0 < k) (sym (h.words l lt ∙ ap words_of_size sc.0)) (omega arith)
-
-      by : (k : ℕ) → k < scene.locals → IsScalar scene.sizes scene.held k → (k ≡ l) ⊎ (k ≡ l → ⊥) → slice_index (slice_index_or (slice_set f.locals l (slice_set (slice_index_or f.locals l []) 0 v)) k []) 0 ≡ slice_index (slice_set s.temps l x) k
-      by k lk skalar (inl eq) =
-          subst (λ j. slice_index (slice_index_or (slice_set f.locals l (slice_set (slice_index_or f.locals l []) 0 v)) j []) 0 ≡ slice_index (slice_set s.temps l x) j) (sym eq)
-          (ap (λ xs. slice_index xs 0) (get_or-set_same f.locals l (slice_set (slice_index_or f.locals l []) 0 v) [] inside) ∙
-          get_or-set_same (slice_index_or f.locals l []) 0 v 0 long_one ∙ sym e ∙
-          sym (get_or-set_same s.temps l x 0 (subst (λ j. l < j) (sym h.temps) (omega (arith, lt, le)))))
-      by k lk skalar (inr ne) =
-          ap (λ xs. slice_index xs 0) (get_or-set_other f.locals l k (slice_set (slice_index_or f.locals l []) 0 v) [] ne) ∙
-          sym (word_is f.locals k 0) ∙ sym (h.each k lk skalar) ∙ sym (get_or-set_other s.temps l k x 0 ne)
-
-      long : (k : ℕ) → k < scene.locals → (k ≡ l) ⊎ (k ≡ l → ⊥) → length (slice_index_or (slice_set f.locals l (slice_set (slice_index_or f.locals l []) 0 v)) k []) ≡ words_of_size (scene.sizes k)
-      long k lk (inl eq) =
-          subst (λ j. length (slice_index_or (slice_set f.locals l (slice_set (slice_index_or f.locals l []) 0 v)) j []) ≡ words_of_size (scene.sizes j)) (sym eq)
-          (ap length (get_or-set_same f.locals l (slice_set (slice_index_or f.locals l []) 0 v) [] inside) ∙ length-set (slice_index_or f.locals l []) 0 v ∙ h.words l lt)
-      long k lk (inr ne) = ap length (get_or-set_other f.locals l k (slice_set (slice_index_or f.locals l []) 0 v) [] ne) ∙ h.words k lk
+  shows_local l v x f w s lt le sc e h = record {
+    around = h.around;
+    in_arrays = record {
+      elements = λ k lk array. h.elements k lk array ∙ sym (with_word_other f.locals l 0 v k (λ eq. array.0 (ap scene.sizes eq ∙ sc.0)));
+      untouched = λ k both e. (with_word_other f.locals l 0 v k (λ eq. held_is_none (sym sc.1 ∙ ap scene.held (sym eq) ∙ e)) ∙ (h.untouched k both e).0, (h.untouched k both e).1);
+      words = λ k lk. with_word_lengths f.locals l 0 v k ∙ h.words k lk;
+      size = with_word_count f.locals l 0 v ∙ h.size;
+      arrays = h.arrays;
+    };
+    in_temps = record {
+      above = h.above;
+      below = λ j low high. get_or-set_other s.temps l j x 0 (λ eq. absurd (omega (arith, low, lt, eq))) ∙ h.below j low high;
+      temps = length-set s.temps l x ∙ h.temps;
+    };
+    each = λ k lk skalar. stored_alike f.locals s.temps l v x k (omega (arith, lt, h.size)) (subst (λ n. 0 < n) (sym (h.words l lt ∙ ap words_of_size sc.0)) (omega arith)) (omega (arith, lt, le, h.temps)) e (λ ne. h.each k lk skalar);
+  }
 
   -- an object of the world with one word changed
   pub shows_global : (g i v x : ℕ) (f : Frame) (w : World) (s : State) → x ≡ v → Shows scene f w s →
@@ -119,7 +130,7 @@ module _ (scene : Scene) where
       pinned = h.pinned;
       function = h.function;
       switches = h.switches;
-      globals = λ k. ap (λ (xs : List (List ℕ)). length (slice_index_or xs k [])) (with_word_is w.globals g i v) ∙ long k (cases_eq k g) (cases_lt g (length w.globals)) ∙ h.globals k;
+      globals = λ k. with_word_lengths w.globals g i v k ∙ h.globals k;
     };
     in_arrays = h.in_arrays;
     in_temps = h.in_temps;
@@ -128,14 +139,6 @@ module _ (scene : Scene) where
     where
       with_globals : List (List ℕ) → code_world.World
       with_globals l = let o : code_world.World = c.seen w in record o { globals = l }
-
-      long : (k : ℕ) → (k ≡ g) ⊎ (k ≡ g → ⊥) → (g < length w.globals) ⊎ (length w.globals ≤ g) →
-          length (slice_index_or (slice_set w.globals g (slice_set (slice_index_or w.globals g []) i v)) k []) ≡ length (slice_index_or w.globals k [])
-      long k (inl eq) (inl lt) =
-          subst (λ j. length (slice_index_or (slice_set w.globals g (slice_set (slice_index_or w.globals g []) i v)) j []) ≡ length (slice_index_or w.globals j [])) (sym eq)
-          (ap length (get_or-set_same w.globals g (slice_set (slice_index_or w.globals g []) i v) [] lt) ∙ length-set (slice_index_or w.globals g []) i v)
-      long k (inl eq) (inr ge) = ap (λ xs. length (slice_index_or xs k [])) (set_past w.globals g (slice_set (slice_index_or w.globals g []) i v) ge)
-      long k (inr ne) either = ap length (get_or-set_other w.globals g k (slice_set (slice_index_or w.globals g []) i v) [] ne)
 
 module _ (scene : Scene) (bound : Bound) where
   -- ---- without parts
