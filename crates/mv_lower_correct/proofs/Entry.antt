@@ -19,9 +19,8 @@ use Rattle.mv_ir.specs.Trees.{found}
 use Rattle.mv_ir.specs.Meaning.{Contents, first_items, first_arrays, entry_state}
 use Rattle.mv_ir.specs.Levels.{Code, read_under, switches_read, one_if, frame_of_call}
 use Rattle.mv_ir.specs.Programs.{setting_of, place_if, next_place, code_from, code_of}
-use Rattle.mv_lower_spec.specs.Correct.{seen}
+use Rattle.mv_lower_spec.specs.Correct.{Ground, resting, ShowsAround, Shows, seen}
 use Rattle.mv_source_forms.specs.Names.{global_words, size_in}
-use Rattle.mv_lower_spec.specs.Statements as statements
 use Rattle.mv_lower_spec.specs.Functions.{elements_of, array_sizes, lower_function, lower_program}
 use Rattle.mv_lower_spec.proofs.Forms.{word_is}
 use Rattle.mv_source_forms.specs.WellFormed.{parameters, IsWellFormedFunction}
@@ -167,6 +166,19 @@ module _ (p : Program) where
   abbrev pub frame_for : ℕ → Function → ℕ → World → code_world.Frame
   frame_for f g depth w = frame_of_call (place_if g.attributed (attributed_before p.functions f)) (map (switch_global p) g.switches) depth w.live (seen w)
 
+  -- what doesn't change while a frame is there that began in a world
+  abbrev pub ground_of : List ℕ → code_world.Frame → World → ℕ → Function → Ground
+  ground_of numbers frame began f g = record {
+    p = p;
+    setting = setting_of numbers p;
+    frame = frame;
+    began = began.bindings;
+    own = f;
+    locals = length g.locals;
+    sizes = size_in g.locals;
+    room = (lower_function p g).temps;
+  }
+
   body_room : (g : Function) → length g.locals ≤ (lower_function p g).temps
   body_room g = omega arith
 
@@ -182,29 +194,39 @@ module _ (p : Program) where
         by None e = refl
         by (Some n) e = array_count contents.arrays g.locals l n e
 
-    -- a frame of the source that holds what the code's state does
-    pub shows_entry : (numbers : List ℕ) (void : Bool) → statements.Shows p (setting_of numbers p) (frame_for f g w.depth w) w.bindings f (length g.locals) (size_in g.locals) (lower_function p g).temps void [] (entry_frame f g s) (deeper g w) s
-    shows_entry numbers void = record {
+    -- a frame of the source that holds what the code's state does, where around it all is as in the source
+    pub entry_shown : (numbers : List ℕ) (frame : code_world.Frame) (w2 : World) → ShowsAround (ground_of numbers frame w f g) f w2 (seen w) → Shows (resting (ground_of numbers frame w f g)) (entry_frame f g s) w2 s
+    entry_shown numbers frame w2 around = record {
+      around = around;
+      in_arrays = record {
+        elements = λ l lt arr. array_shown l (size_in g.locals l) refl arr.0 ∙ sym (shown_at 0 g.locals s l l (omega arith) lt);
+        untouched = λ l both e. absurd (cc);
+        words = words_count;
+        size = shown_count 0 g.locals s;
+        arrays = arrays_count contents.arrays g.locals;
+      };
+      in_temps = record {
+        above = omega arith;
+        below = λ k le lt. absurd (omega (arith, le, lt));
+        temps = length-append vs (first_items ((lower_function p g).temps - length vs) contents.temps) ∙ omega (arith, items_count ((lower_function p g).temps - length vs) contents.temps, count, formed.parameters_there, body_room g);
+      };
+      each = λ l lt sc. sym (word_is (shown_locals 0 g.locals s) l 0 ∙ ap (λ ws. slice_index ws 0) (shown_at 0 g.locals s l l (omega arith) lt ∙ ap (λ o. shown_words o l s) sc.0));
+    }
+      where
+        array_shown : (l : ℕ) (o : Option ℕ) → size_in g.locals l ≡ o → (size_in g.locals l ≡ None → ⊥) → slice_index_or s.arrays l [] ≡ shown_words (size_in g.locals l) l s
+        array_shown l None e h = absurd (h e)
+        array_shown l (Some n) e h = sym (ap (λ o. shown_words o l s) e)
+
+    pub shows_entry : (numbers : List ℕ) → Shows (resting (ground_of numbers (frame_for f g w.depth w) w f g)) (entry_frame f g s) (deeper g w) s
+    shows_entry numbers = entry_shown numbers (frame_for f g w.depth w) (deeper g w) (record {
       world = refl;
       depth = refl;
       live = live_is g.attributed (attributed_before p.functions f) w.live;
       pinned = λ lt. refl;
       function = refl;
       switches = λ x. switches_are g (attributed_before p.functions f) w x g.attributed ∙ sym (ap (λ o. bound_value p w.bindings f o x) here);
-      each = λ l lt sc. sym (word_is (shown_locals 0 g.locals s) l 0 ∙ ap (λ ws. slice_index ws 0) (shown_at 0 g.locals s l l (omega arith) lt ∙ ap (λ o. shown_words o l s) sc.0));
-      elements = λ l lt arr. array_shown l (size_in g.locals l) refl arr.0 ∙ sym (shown_at 0 g.locals s l l (omega arith) lt);
-      untouched = λ l both e. absurd (cc);
-      words = words_count;
-      size = shown_count 0 g.locals s;
-      above = omega arith;
-      below = λ k le lt. absurd (omega (arith, le, lt));
-      temps = length-append vs (first_items ((lower_function p g).temps - length vs) contents.temps) ∙ omega (arith, items_count ((lower_function p g).temps - length vs) contents.temps, count, formed.parameters_there, body_room g);
-      arrays = arrays_count contents.arrays g.locals;
       globals = globals;
-    } where
-      array_shown : (l : ℕ) (o : Option ℕ) → size_in g.locals l ≡ o → (size_in g.locals l ≡ None → ⊥) → slice_index_or s.arrays l [] ≡ shown_words (size_in g.locals l) l s
-      array_shown l None e h = absurd (h e)
-      array_shown l (Some n) e h = sym (ap (λ o. shown_words o l s) e)
+    })
 
     -- it holds the arguments, as the one does in which the source begins
     pub agrees : Agree (parameters g) (entry_frame f g s) (frame_of f g vs)

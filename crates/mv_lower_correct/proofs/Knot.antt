@@ -1,10 +1,9 @@
 -- All functions at once, by induction on the bound.
-use Rattle.std.proofs.Common.{inl, inr, ◌≡◌, ℕ, zero, suc, ◌+◌, ◌*◌, ◌<◌, ◌≤◌, Bool, true, false, List, [], ◌∷◌, ◌++◌, map, length, Option, Some, None, refl, sym, ◌∙◌, subst, ap, arith}
+use Rattle.std.proofs.Common.{inl, inr, ◌≡◌, ℕ, zero, suc, ◌+◌, ◌*◌, ◌<◌, ◌≤◌, Bool, true, false, List, [], ◌∷◌, ◌++◌, length, Option, Some, None, refl, sym, ◌∙◌, subst, ap, arith}
 use Rattle.std.specs.Prelude.{slice_get, nat_eq}
 use Rattle.std.proofs.lemmas.Bool.{eqb-true}
 use Rattle.mv_ast.specs.declared.program.Program.{Program}
 use Rattle.mv_ast.specs.declared.program.Function.{Function}
-use Rattle.mv_ast.specs.declared.world.Binding.{Binding}
 use Rattle.mv_ast.specs.declared.world.Stop.{Stop}
 use Rattle.mv_ast.specs.declared.world.Stop.TheVariants as stops
 use Rattle.mv_ast.specs.Plans.{same_truth, attributed_before}
@@ -17,22 +16,21 @@ use Rattle.mv_ir.specs.declared.stm.Stm.{Stm}
 use Rattle.mv_ir.specs.declared.stm.Stm.TheOpen as stm
 use Rattle.mv_ir.specs.World as code_world
 use Rattle.mv_ir.specs.Outcome.{State, Returned, Ends, Run, Bound, Calls, Call, spend, then_do}
-use Rattle.mv_ir.specs.Outcome as ir
-use Rattle.mv_ir.specs.Meaning.{code_meaning, meaning, Contents, entry_state, body_end, body_from, cleared}
+use Rattle.mv_ir.specs.Meaning.{Contents, entry_state, body_end, body_from, cleared}
 use Rattle.mv_ir.specs.Levels.{Code, one_if, called, levels}
 use Rattle.mv_ir.specs.Programs.{setting_of, place_if, code_of}
-use Rattle.mv_ir.proofs.Keeping.{map_append, in_order_append, one_meaning}
+use Rattle.mv_ir.proofs.Keeping.{one_meaning}
 use Rattle.mv_lower_spec.specs.Lowered.{number}
-use Rattle.mv_source_forms.specs.Names.{is_void, takes, size_in}
+use Rattle.mv_source_forms.specs.Names.{is_void, takes}
 use Rattle.mv_lower_spec.specs.Statements as statements
-use Rattle.mv_lower_spec.specs.Statements.{return_with, out_of}
+use Rattle.mv_lower_spec.specs.Statements.{FlowShown, return_with, out_of}
 use Rattle.mv_lower_spec.specs.Functions.{lower_body, lower_function, lower_program, outermost, ending}
-use Rattle.mv_lower_spec.specs.Correct as c
-use Rattle.mv_lower_spec.specs.Correct.{seen, ran, end_of, is_astray, astray, result_of, IsStrict}
+use Rattle.mv_lower_spec.specs.Correct.{Ground, resting, val, Shows, CallShown, CallsAgree, seen, ran, end_of, is_astray, astray, result_of, IsStrict}
 use Rattle.mv_lower_spec.specs.Law.{fits_call, strict_context}
 use Rattle.mv_lower_spec.proofs.Running as run
 use Rattle.mv_lower_spec.proofs.Running.{nodes_number}
 use Rattle.mv_lower_spec.proofs.Expressions.{no, split}
+use Rattle.mv_lower_spec.proofs.Flows.{code}
 use Rattle.mv_lower_spec.proofs.AllStatements.{body_correct}
 use Rattle.mv_source_forms.specs.Scopes.{Scope}
 use Rattle.mv_source_forms.specs.WellFormed.{parameters, IsWellFormedFunction}
@@ -43,7 +41,7 @@ use Rattle.mv_lower_correct.proofs.AgreedStatements.{Leads}
 use Rattle.mv_lower_correct.proofs.Contexts.{function_flows}
 use Rattle.mv_lower_correct.proofs.Pairs.{Nothing, steady_same}
 use Rattle.mv_lower_correct.proofs.KnownAgree.{OwnIsLive, same_reads, known_agrees}
-use Rattle.mv_lower_correct.proofs.Entry.{entry_frame, frame_for, code_for, code_is, shows_entry, agrees}
+use Rattle.mv_lower_correct.proofs.Entry.{entry_frame, ground_of, frame_for, code_for, code_is, shows_entry, agrees}
 
 abbrev pub call_from : Run → Call
 call_from r = record { cost = r.cost; end = body_end r.outcome }
@@ -102,28 +100,21 @@ stays scope inner (Came (Returns v) f w n) (Came b f' w' n') h = tt
 stays scope inner (Came a f w n) (Stopped why' w' n') h = absurd h
 stays scope inner (Stopped why w n) q h = tt
 
-module _ (p : Program) (numbers : List ℕ) (inner : code_world.Frame) (began : World) (own locals : ℕ) (sizes : ℕ → Option ℕ) (room : ℕ) where
-  abbrev code : List Stm → Bound → State → Run
-  code xs b s = code_meaning (setting_of numbers p) inner xs b s
-
-  joined : (xs ys : List Stm) (b : Bound) (s : State) → code (xs ++ ys) b s ≡ then_do (code xs b s) (code ys b)
-  joined xs ys b s =
-      ap (λ l. ir.in_order l b s) (map_append (meaning (setting_of numbers p) inner) xs ys) ∙ in_order_append (map (meaning (setting_of numbers p) inner) xs) (map (meaning (setting_of numbers p) inner) ys) b s
-
-  abbrev Shown : Bool → Run → Outcome Frame Flow → Type 0
-  Shown void = statements.FlowShown p (setting_of numbers p) inner began.bindings own locals sizes room void (out_of void outermost) 0
+module _ (p : Program) (numbers : List ℕ) (inner : code_world.Frame) (began : World) (f : ℕ) (g : Function) where
+  abbrev ground : Ground
+  ground = ground_of p numbers inner began f g
 
   -- the end that gives 0
-  last : (b : Bound) (s : State) → code (return_with (number 0) ∷ []) b s ≡ ran 11 (Ends (Returned (Some 0) s.world))
+  last : (b : Bound) (s : State) → code ground (return_with (number 0) ∷ []) b s ≡ ran 11 (Ends (Returned (Some 0) s.world))
   last b s =
       one_meaning (setting_of numbers p) inner (stm.Return (number 0)) b s ∙
-      ap (λ k. ran (8 + 3 * k) (Ends (Returned (Some (c.val p (setting_of numbers p) inner began.bindings own locals sizes (λ l. None) locals (λ k. 0) room b (number 0) s)) s.world))) (nodes_number 0) ∙
-      ap (λ k. ran 11 (Ends (Returned (Some k) s.world))) (run.val_number p (setting_of numbers p) inner began.bindings own locals sizes (λ l. None) locals (λ k. 0) room b 0 s)
+      ap (λ k. ran (8 + 3 * k) (Ends (Returned (Some (val (resting ground) (number 0) s)) s.world))) (nodes_number 0) ∙
+      ap (λ k. ran 11 (Ends (Returned (Some k) s.world))) (run.val_number (resting ground) 0 s)
 
-  pub ended : (void : Bool) (b : Bound) (xs : List Stm) (s : State) (o : Outcome Frame Flow) → Stays o → Shown void (code xs b s) o → BodyDoes p void inner.live began (call_from (code (xs ++ ending void) b s)) o
+  pub ended : (void : Bool) (b : Bound) (xs : List Stm) (s : State) (o : Outcome Frame Flow) → Stays o → FlowShown ground void (out_of void outermost) 0 (code ground xs b s) o → BodyDoes p void inner.live began (call_from (code ground (xs ++ ending void) b s)) o
   ended true b xs s (Came Goes f w work) k h = record {
     cost = h.cost + 0;
-    ends = ap call_from (joined xs [] b s ∙ ap (λ r. then_do r (code [] b)) h.runs) ∙ ap (λ (y : code_world.World). record { cost = h.cost + 0; end = Returned None y }) h.shows.world;
+    ends = ap call_from (run.joined (setting_of numbers p) inner xs [] b s ∙ ap (λ r. then_do r (code ground [] b)) h.runs) ∙ ap (λ (y : code_world.World). record { cost = h.cost + 0; end = Returned None y }) h.shows.world;
     nothing = h.nothing;
     pinned = h.shows.pinned;
     globals = h.shows.globals;
@@ -132,7 +123,7 @@ module _ (p : Program) (numbers : List ℕ) (inner : code_world.Frame) (began : 
   ended false b xs s (Came Goes f w work) k h = record {
     cost = h.cost + 11;
     ends =
-        ap call_from (joined xs (return_with (number 0) ∷ []) b s ∙ ap (λ r. then_do r (code (return_with (number 0) ∷ []) b)) h.runs ∙ ap (spend h.cost) (last b h.state)) ∙
+        ap call_from (run.joined (setting_of numbers p) inner xs (return_with (number 0) ∷ []) b s ∙ ap (λ r. then_do r (code ground (return_with (number 0) ∷ []) b)) h.runs ∙ ap (spend h.cost) (last b h.state)) ∙
         ap (λ (y : code_world.World). record { cost = h.cost + 11; end = Returned (Some 0) y }) h.shows.world;
     nothing = h.nothing;
     pinned = h.shows.pinned;
@@ -143,7 +134,7 @@ module _ (p : Program) (numbers : List ℕ) (inner : code_world.Frame) (began : 
   ended void b xs s (Came Continues f w work) k h = absurd k
   ended true b xs s (Came (Returns v) f w work) k h = record {
     cost = h.cost + 0;
-    ends = ap call_from (joined xs [] b s ∙ ap (λ r. then_do r (code [] b)) h.runs) ∙ ap (λ (y : code_world.World). record { cost = h.cost + 0; end = Returned None y }) h.shows.world;
+    ends = ap call_from (run.joined (setting_of numbers p) inner xs [] b s ∙ ap (λ r. then_do r (code ground [] b)) h.runs) ∙ ap (λ (y : code_world.World). record { cost = h.cost + 0; end = Returned None y }) h.shows.world;
     nothing = h.nothing;
     pinned = h.shows.pinned;
     globals = h.shows.globals;
@@ -151,7 +142,7 @@ module _ (p : Program) (numbers : List ℕ) (inner : code_world.Frame) (began : 
   }
   ended false b xs s (Came (Returns v) f w work) k h = record {
     cost = h.cost + 0;
-    ends = ap call_from (joined xs (return_with (number 0) ∷ []) b s ∙ ap (λ r. then_do r (code (return_with (number 0) ∷ []) b)) h.runs) ∙ ap (λ (y : code_world.World). record { cost = h.cost + 0; end = Returned (Some v) y }) h.shows.world;
+    ends = ap call_from (run.joined (setting_of numbers p) inner xs (return_with (number 0) ∷ []) b s ∙ ap (λ r. then_do r (code ground (return_with (number 0) ∷ []) b)) h.runs) ∙ ap (λ (y : code_world.World). record { cost = h.cost + 0; end = Returned (Some v) y }) h.shows.world;
     nothing = h.nothing;
     pinned = h.shows.pinned;
     globals = h.shows.globals;
@@ -159,7 +150,7 @@ module _ (p : Program) (numbers : List ℕ) (inner : code_world.Frame) (began : 
   }
   ended void b xs s (Stopped why w work) k h = record {
     cost = h.cost + 0;
-    ends = λ ne. ap call_from (joined xs (ending void) b s ∙ ap (λ r. then_do r (code (ending void) b)) (h.runs ne));
+    ends = λ ne. ap call_from (run.joined (setting_of numbers p) inner xs (ending void) b s ∙ ap (λ r. then_do r (code ground (ending void) b)) (h.runs ne));
     paid = omega (arith, h.paid);
   }
 
@@ -172,8 +163,7 @@ module _ (p : Program) (numbers : List ℕ) (formed : (f : ℕ) (g : Function) �
   -- What calls that code makes from any frame do at a bound is what they do in the source.
   abbrev pub Agreed : (ℕ → Calls) → ℕ → Type 0
   Agreed calls k =
-      (frame : code_world.Frame) (began : List Binding) (own locals : ℕ) (sizes : ℕ → Option ℕ) (held : ℕ → Option (List ℕ × List ℕ)) (floor : ℕ) (scratch : ℕ → ℕ) (room : ℕ) → OwnIsLive p frame own →
-      c.CallsAgree p (setting_of numbers p) frame began own locals sizes held floor scratch room (statements.levels calls k) (strict_context p numbers k)
+      (frame : code_world.Frame) (own : ℕ) → OwnIsLive p frame own → CallsAgree p frame own (statements.levels calls k) (strict_context p numbers k)
 
   strict : (k : ℕ) → IsStrict p numbers (strict_context p numbers k)
   strict zero = record { numbers_are = refl; lets_are = refl; stray_is = refl }
@@ -184,14 +174,11 @@ module _ (p : Program) (numbers : List ℕ) (formed : (f : ℕ) (g : Function) �
 
   -- a function's body, whatever its frame holds when it begins, in some frame that goes with it
   pub body_does : (calls : ℕ → Calls) (j : ℕ) → ((i : ℕ) → i ≤ j → Agreed calls i) → (f : ℕ) (g : Function) → slice_get p.functions f ≡ Some g → (inner : code_world.Frame) → OwnIsLive p inner f → (contents : Contents) (vs : List ℕ) → length vs ≡ g.params → (began w : World) →
-      statements.Shows p (setting_of numbers p) inner began.bindings f (length g.locals) (size_in g.locals) (lower_function p g).temps (is_void g.result) [] (entry_frame p f g (entry_state contents (lower_function p g) vs (seen w))) w (entry_state contents (lower_function p g) vs (seen w)) →
+      Shows (resting (ground_of p numbers inner began f g)) (entry_frame p f g (entry_state contents (lower_function p g) vs (seen w))) w (entry_state contents (lower_function p g) vs (seen w)) →
       Agree (parameters g) (entry_frame p f g (entry_state contents (lower_function p g) vs (seen w))) (frame_of f g vs) →
       BodyDoes p (is_void g.result) inner.live began (body_from (setting_of numbers p) inner contents (lower_function p g) vs (statements.levels calls j) (seen w)) (flow_of_all p (strict_context p numbers j) g.body (frame_of f g vs) w)
   body_does calls j ih f g here inner lively contents vs count began w shows same =
-      let n = length g.locals in
-      let sizes = size_in g.locals in
       let void = is_void g.result in
-      let room = (lower_function p g).temps in
       let start = entry_state contents (lower_function p g) vs (seen w) in
       let from : Frame = entry_frame p f g start in
       let body = flow_of_all p (strict_context p numbers j) g.body in
@@ -199,12 +186,10 @@ module _ (p : Program) (numbers : List ℕ) (formed : (f : ℕ) (g : Function) �
       let alike =
       function_flows p formed Nothing Any any_trap tt (λ z. strict_context p numbers j) (steady_same p formed Any any_trap tt numbers (fits_call p) (stop astray) strays_keep j) f g h from (frame_of f g vs) w same in
       let shown =
-      body_correct p (setting_of numbers p) inner began.bindings f n sizes room void j calls (strict_context p numbers) (omega arith) strict (λ s. refl) (λ k s. refl)
-      (λ i up held floor scratch. ih i up inner began.bindings f n sizes held floor scratch room lively)
-      (λ i held floor scratch known. known_agrees p numbers inner began.bindings f n sizes held floor scratch room (statements.levels calls i) lively known)
+      body_correct (ground_of p numbers inner began f g) void j calls (strict_context p numbers) (omega arith) strict (λ s. refl) (λ k s. refl) (λ i up. ih i up inner f lively) (known_agrees p numbers inner f lively)
       g.body h.named h.labels outermost (omega arith) j (omega arith) from w start shows in
       same_body p void inner.live began _ (parameters g) (parameters g) false false (body from w) (body (frame_of f g vs) w) alike
-      (ended p numbers inner began f n sizes room void (statements.levels calls j) (lower_body g).code start (body from w) (stays (parameters g) (parameters g) (body from w) (body (frame_of f g vs) w) alike) shown)
+      (ended p numbers inner began f g void (statements.levels calls j) (lower_body g).code start (body from w) (stays (parameters g) (parameters g) (body from w) (body (frame_of f g vs) w) alike) shown)
 
   -- ---- calls of lowered functions
 
@@ -231,7 +216,7 @@ module _ (p : Program) (numbers : List ℕ) (formed : (f : ℕ) (g : Function) �
       BodyDoes p (is_void g.result) (frame_for p f g w.depth w).live w (body_from (setting_of numbers p) (frame_for p f g w.depth w) contents (lower_function p g) vs (statements.levels calls j) (seen w)) (flow_of_all p (strict_context p numbers j) g.body (frame_of f g vs) (deeper g w))
   called_does calls j ih f g here contents vs count w globals =
       body_does calls j ih f g here (frame_for p f g w.depth w) (entry_is_live f g w.depth w here) contents vs count w (deeper g w)
-      (shows_entry p f g here (formed f g here) vs count contents w globals numbers (is_void g.result))
+      (shows_entry p f g here (formed f g here) vs count contents w globals numbers)
       (agrees p f g here (formed f g here) vs count contents w globals)
 
   -- and where it calls lowered functions
@@ -242,11 +227,8 @@ module _ (p : Program) (numbers : List ℕ) (formed : (f : ℕ) (g : Function) �
       (λ (l : Bound). BodyDoes p (is_void g.result) (frame_for p f g w.depth w).live w (body_from (setting_of numbers p) (frame_for p f g w.depth w) contents (lower_function p g) vs l (seen w)) (flow_of_all p (strict_context p numbers j) g.body (frame_of f g vs) (deeper g w)))
       (same_levels j) (called_does lowered_calls j ih f g here contents vs count w globals)
 
-  module _ (frame : code_world.Frame) (began : List Binding) (own locals : ℕ) (sizes : ℕ → Option ℕ) (held : ℕ → Option (List ℕ × List ℕ)) (floor : ℕ) (scratch : ℕ → ℕ) (room : ℕ) (bound : Bound) (lively : OwnIsLive p frame own) where
-    abbrev CallShown : Bool → Call → Frame → World → Outcome Frame ℕ → Type 0
-    CallShown = c.CallShown p (setting_of numbers p) frame began own locals sizes held floor scratch room bound
-
-    back : (void : Bool) (live : ℕ) (x : Call) (f : Frame) (w : World) (o : Outcome Frame Flow) → HasGlobals p w → frame.live ≤ live → BodyDoes p void live w x o → CallShown void x f w (back_in f w o)
+  module _ (frame : code_world.Frame) (own : ℕ) (lively : OwnIsLive p frame own) where
+    back : (void : Bool) (live : ℕ) (x : Call) (f : Frame) (w : World) (o : Outcome Frame Flow) → HasGlobals p w → frame.live ≤ live → BodyDoes p void live w x o → CallShown p frame own void x f w (back_in f w o)
     back void live x f w (Came flow a left work) globals up h =
         let pinned : 0 < frame.live → left.bindings ≡ w.bindings = λ lt. h.pinned (omega (arith, lt, up)) in
         record {
@@ -267,16 +249,16 @@ module _ (p : Program) (numbers : List ℕ) (formed : (f : ℕ) (g : Function) �
     -- the code's call of what the source calls
     entered : (j : ℕ) → ((i : ℕ) → i ≤ j → Agreed lowered_calls i) → (idx : ℕ) (void : Bool) (vs : List ℕ) (f : Frame) (w : World) → w.depth ≡ frame.depth → w.live ≡ frame.live → HasGlobals p w →
         (o : Option Function) → slice_get p.functions idx ≡ o → takes o (length vs) void ≡ true →
-        CallShown void (called (setting_of numbers p) (slice_get codes idx) (below j) vs frame.depth frame.live (seen w)) f w (call_of p (strict_context p numbers j) idx o vs f w)
+        CallShown p frame own void (called (setting_of numbers p) (slice_get codes idx) (below j) vs frame.depth frame.live (seen w)) f w (call_of p (strict_context p numbers j) idx o vs f w)
     entered j ih idx void vs f w hd hl globals None e t = no t
     entered j ih idx void vs f w hd hl globals (Some g) e t =
         let ts = split (nat_eq g.params (length vs)) (same_truth (is_void g.result) void) t in
         let count : length vs ≡ g.params = sym (eqb-true g.params (length vs) ts.0) in
         let result : is_void g.result ≡ void = same (is_void g.result) void ts.1 in
-        subst (λ v. CallShown v (called (setting_of numbers p) (slice_get codes idx) (below j) vs frame.depth frame.live (seen w)) f w (call_of p (strict_context p numbers j) idx (Some g) vs f w)) result
-        (subst (λ (q : Option Code). CallShown (is_void g.result) (called (setting_of numbers p) q (below j) vs frame.depth frame.live (seen w)) f w (call_of p (strict_context p numbers j) idx (Some g) vs f w)) (sym (code_is p idx g e))
-        (subst (λ d. CallShown (is_void g.result) (called (setting_of numbers p) (Some (code_for p g (attributed_before p.functions idx))) (below j) vs d frame.live (seen w)) f w (call_of p (strict_context p numbers j) idx (Some g) vs f w)) hd
-        (subst (λ l. CallShown (is_void g.result) (called (setting_of numbers p) (Some (code_for p g (attributed_before p.functions idx))) (below j) vs w.depth l (seen w)) f w (call_of p (strict_context p numbers j) idx (Some g) vs f w)) hl
+        subst (λ v. CallShown p frame own v (called (setting_of numbers p) (slice_get codes idx) (below j) vs frame.depth frame.live (seen w)) f w (call_of p (strict_context p numbers j) idx (Some g) vs f w)) result
+        (subst (λ (q : Option Code). CallShown p frame own (is_void g.result) (called (setting_of numbers p) q (below j) vs frame.depth frame.live (seen w)) f w (call_of p (strict_context p numbers j) idx (Some g) vs f w)) (sym (code_is p idx g e))
+        (subst (λ d. CallShown p frame own (is_void g.result) (called (setting_of numbers p) (Some (code_for p g (attributed_before p.functions idx))) (below j) vs d frame.live (seen w)) f w (call_of p (strict_context p numbers j) idx (Some g) vs f w)) hd
+        (subst (λ l. CallShown p frame own (is_void g.result) (called (setting_of numbers p) (Some (code_for p g (attributed_before p.functions idx))) (below j) vs w.depth l (seen w)) f w (call_of p (strict_context p numbers j) idx (Some g) vs f w)) hl
         (back (is_void g.result) (frame_for p idx g w.depth w).live _ f w (flow_of_all p (strict_context p numbers j) g.body (frame_of idx g vs) (deeper g w)) globals (omega (arith, hl)) (function_does j ih idx g e cleared vs count w globals)))))
       where
         same : (a b : Bool) → same_truth a b ≡ true → a ≡ b
@@ -285,11 +267,11 @@ module _ (p : Program) (numbers : List ℕ) (formed : (f : ℕ) (g : Function) �
         same false false q = refl
 
   at_zero : Agreed lowered_calls zero
-  at_zero frame began own locals sizes held floor scratch room lively g void vs f w can hf hd hl globals = record { cost = 0; ends = λ ne. refl; paid = omega arith }
+  at_zero frame own lively g void vs f w can hf hd hl globals = record { cost = 0; ends = λ ne. refl; paid = omega arith }
 
   step : (j : ℕ) → ((i : ℕ) → i ≤ j → Agreed lowered_calls i) → Agreed lowered_calls (suc j)
-  step j ih frame began own locals sizes held floor scratch room lively g void vs f w can hf hd hl globals =
-      entered frame began own locals sizes held floor scratch room (statements.levels lowered_calls (suc j)) lively j ih g void vs f w hd hl globals (slice_get p.functions g) refl can
+  step j ih frame own lively g void vs f w can hf hd hl globals =
+      entered frame own lively j ih g void vs f w hd hl globals (slice_get p.functions g) refl can
 
   upto : (limit k : ℕ) → k ≤ limit → Agreed lowered_calls k
   upto limit zero up = at_zero

@@ -16,11 +16,9 @@ use Rattle.mv_ast.specs.Worlds.{World, Outcome}
 use Rattle.mv_meaning.specs.declared.state.Frame.{Frame}
 use Rattle.mv_meaning.specs.Meaning.{byte_of, put_byte, answered}
 use Rattle.mv_ir.specs.World as code_world
-use Rattle.mv_ir.specs.Outcome.{Bound}
 use Rattle.mv_ir.specs.Programs.{setting_of}
 use Rattle.mv_ir.specs.KnownFunctions.{next_byte, written, patch_cost, at_cost, poll_answer, seen_from}
-use Rattle.mv_lower_spec.specs.Correct as c
-use Rattle.mv_lower_spec.specs.Correct.{seen}
+use Rattle.mv_lower_spec.specs.Correct.{seen, Unmoved, KnownShown, KnownAgrees}
 use Rattle.mv_lower_spec.proofs.Forms.{with_word_is}
 
 -- a frame of an attributed function is among the live ones
@@ -51,23 +49,16 @@ stored_lengths (x ∷ xs) zero (suc k) i v = refl
 stored_lengths (x ∷ xs) (suc l) zero i v = refl
 stored_lengths (x ∷ xs) (suc l) (suc k) i v = stored_lengths xs l k i v
 
-module _ (p : Program) (numbers : List ℕ) (frame : code_world.Frame) (began : List Binding) (own locals : ℕ) (sizes : ℕ → Option ℕ) (held : ℕ → Option (List ℕ × List ℕ)) (floor : ℕ) (scratch : ℕ → ℕ) (room : ℕ) (bound : Bound)
-    (lively : OwnIsLive p frame own) where
-  abbrev Shown : code_world.Answer → Frame → World → Outcome Frame ℕ → Type 0
-  Shown = c.KnownShown p (setting_of numbers p) frame began own locals sizes held floor scratch room bound
-
-  abbrev Unmoved : Frame → Frame → World → World → Type 0
-  Unmoved = c.Unmoved p (setting_of numbers p) frame began own locals sizes held floor scratch room bound
-
+module _ (p : Program) (numbers : List ℕ) (frame : code_world.Frame) (own : ℕ) (lively : OwnIsLive p frame own) where
   -- nothing is changed
-  unmoved : (f : Frame) (w : World) → Unmoved f f w w
+  unmoved : (f : Frame) (w : World) → Unmoved p frame own f f w w
   unmoved f w = record { globals = λ g. refl; frame_same = refl; depth = refl; live = refl; pinned = λ lt. refl; switches = λ g. refl }
 
-  taken : (xs : List ℕ) (f : Frame) (w : World) → Shown (next_byte xs (seen w)) f w (byte_of xs f w)
+  taken : (xs : List ℕ) (f : Frame) (w : World) → KnownShown p frame own (next_byte xs (seen w)) f w (byte_of xs f w)
   taken [] f w = record { value = refl; world = refl; unmoved = record { globals = λ g. refl; frame_same = refl; depth = refl; live = refl; pinned = λ lt. refl; switches = λ g. refl }; paid = omega arith }
   taken (x ∷ xs) f w = record { value = refl; world = refl; unmoved = record { globals = λ g. refl; frame_same = refl; depth = refl; live = refl; pinned = λ lt. refl; switches = λ g. refl }; paid = omega arith }
 
-  put : (v : ℕ) (f : Frame) (w : World) → Shown (written v (seen w)) f w (put_byte v f w)
+  put : (v : ℕ) (f : Frame) (w : World) → KnownShown p frame own (written v (seen w)) f w (put_byte v f w)
   put v f w = record { value = refl; world = refl; unmoved = record { globals = λ g. refl; frame_same = refl; depth = refl; live = refl; pinned = λ lt. refl; switches = λ g. refl }; paid = omega arith }
 
   -- ---- commits and reverts
@@ -83,7 +74,7 @@ module _ (p : Program) (numbers : List ℕ) (frame : code_world.Frame) (began : 
   not_live live e q lt = let z : live ≡ 0 = eqb-true live 0 e in omega (arith, z, q, lt)
 
   ordered_shown : (code index : ℕ) (z : Bool) (f : Frame) (w : World) → nat_eq w.live 0 ≡ z → w.live ≡ frame.live →
-      Shown (at_cost (patch_cost p) (carried code index z (seen_from 0 frame.live (seen w)))) f w (answered (1 + patchable p) (carried code index z w) f w)
+      KnownShown p frame own (at_cost (patch_cost p) (carried code index z (seen_from 0 frame.live (seen w)))) f w (answered (1 + patchable p) (carried code index z w) f w)
   ordered_shown code index true f w e q =
       let free : 0 < frame.live → ⊥ = not_live w.live e q in
       record {
@@ -126,7 +117,7 @@ module _ (p : Program) (numbers : List ℕ) (frame : code_world.Frame) (began : 
   source_poll a f w = answered (if nat_eq a.answer 1 then 1 + patchable p else 0) a f w
 
   acted_shown : (actions : List Action) (f : Frame) (w : World) → nat_eq w.live 0 ≡ true → w.live ≡ frame.live →
-      Shown (poll_answer p (acted_as actions true (seen_from 0 frame.live (seen w)))) f w (source_poll (acted_as actions true w) f w)
+      KnownShown p frame own (poll_answer p (acted_as actions true (seen_from 0 frame.live (seen w)))) f w (source_poll (acted_as actions true w) f w)
   acted_shown [] f w e q = record { value = refl; world = refl; unmoved = unmoved f w; paid = omega arith }
   acted_shown (Skip ∷ rest) f w e q = record {
     value = refl;
@@ -152,7 +143,7 @@ module _ (p : Program) (numbers : List ℕ) (frame : code_world.Frame) (began : 
       }
 
   polled_shown : (z : Bool) (f : Frame) (w : World) → nat_eq w.live 0 ≡ z → w.live ≡ frame.live →
-      Shown (poll_answer p (polled_as z (seen_from 0 frame.live (seen w)))) f w (source_poll (polled_as z w) f w)
+      KnownShown p frame own (poll_answer p (polled_as z (seen_from 0 frame.live (seen w)))) f w (source_poll (polled_as z w) f w)
   polled_shown true f w e q = acted_shown w.actions f w e q
   polled_shown false f w e q = record { value = refl; world = refl; unmoved = unmoved f w; paid = omega arith }
 
@@ -160,14 +151,14 @@ module _ (p : Program) (numbers : List ℕ) (frame : code_world.Frame) (began : 
   both_tests : (w : World) (R : Bool → Bool → Type 0) → w.live ≡ frame.live → R (nat_eq w.live 0) (nat_eq w.live 0) → R (nat_eq frame.live 0) (nat_eq w.live 0)
   both_tests w R q h = subst (λ n. R (nat_eq n 0) (nat_eq w.live 0)) q h
 
-  pub known_agrees : (k : Known) → c.KnownAgrees p (setting_of numbers p) frame began own locals sizes held floor scratch room bound k
+  pub known_agrees : (k : Known) → KnownAgrees p frame own (setting_of numbers p) k
   known_agrees Getchar = λ vs f w hf hl. taken w.input f w
   known_agrees Putchar = λ vs f w hf hl. put (unwrap_or (slice_get vs 0) 0) f w
   known_agrees Poll = λ vs f w hf hl.
       let there = seen_from 0 frame.live (seen w) in
-      subst (λ a. Shown (poll_answer p a) f w (source_poll (polled p w) f w)) (sym (polled_is there))
-      (subst (λ a. Shown (poll_answer p (polled_as (nat_eq frame.live 0) there)) f w (source_poll a f w)) (sym (polled_is w))
-      (both_tests w (λ x y. Shown (poll_answer p (polled_as x there)) f w (source_poll (polled_as y w) f w)) hl (polled_shown (nat_eq w.live 0) f w refl hl)))
+      subst (λ a. KnownShown p frame own (poll_answer p a) f w (source_poll (polled p w) f w)) (sym (polled_is there))
+      (subst (λ a. KnownShown p frame own (poll_answer p (polled_as (nat_eq frame.live 0) there)) f w (source_poll a f w)) (sym (polled_is w))
+      (both_tests w (λ x y. KnownShown p frame own (poll_answer p (polled_as x there)) f w (source_poll (polled_as y w) f w)) hl (polled_shown (nat_eq w.live 0) f w refl hl)))
   known_agrees (Plan code index) = λ vs f w hf hl.
-      both_tests w (λ x y. Shown (at_cost (patch_cost p) (carried code index x (seen_from 0 frame.live (seen w)))) f w (answered (1 + patchable p) (carried code index y w) f w)) hl
+      both_tests w (λ x y. KnownShown p frame own (at_cost (patch_cost p) (carried code index x (seen_from 0 frame.live (seen w)))) f w (answered (1 + patchable p) (carried code index y w) f w)) hl
       (ordered_shown code index (nat_eq w.live 0) f w refl hl)

@@ -31,8 +31,8 @@ use Rattle.mv_ir.specs.Outcome.{State, Returned, Call, Calls, Bound}
 use Rattle.mv_ir.specs.Meaning.{Contents, cleared, entry_state, body_from}
 use Rattle.mv_ir.specs.Levels.{Code}
 use Rattle.mv_ir.specs.Programs.{setting_of, code_of, call_of_main, execution_of, ir_meaning}
-use Rattle.mv_source_forms.specs.Names.{is_void, takes, words_of_global, size_in}
-use Rattle.mv_lower_spec.specs.Correct.{seen, is_astray, astray, result_of}
+use Rattle.mv_source_forms.specs.Names.{is_void, takes, words_of_global}
+use Rattle.mv_lower_spec.specs.Correct.{resting, Shows, seen, is_astray, astray, result_of}
 use Rattle.mv_lower_spec.specs.Law.{fits_call, strict_context}
 use Rattle.mv_lower_spec.specs.Statements as statements
 use Rattle.mv_lower_spec.specs.Functions.{lower_function, lower_program}
@@ -46,7 +46,7 @@ use Rattle.mv_lower_correct.proofs.AgreedStatements.{Leads}
 use Rattle.mv_lower_correct.proofs.Contexts.{function_flows}
 use Rattle.mv_lower_correct.proofs.Pairs.{Nothing, steady_same}
 use Rattle.mv_lower_correct.proofs.KnownAgree.{OwnIsLive}
-use Rattle.mv_lower_correct.proofs.Entry.{all_head, all_tail, entry_frame, code_is, shows_entry, agrees}
+use Rattle.mv_lower_correct.proofs.Entry.{all_head, all_tail, entry_frame, code_is, ground_of, entry_shown, agrees}
 use Rattle.mv_lower_correct.proofs.Knot.{BodyDoes, Agreed, body_does, lowered_calls, same_levels, all_agreed}
 
 -- ---- the first world
@@ -170,27 +170,16 @@ module _ (p : Program) (numbers : List ℕ) (formed : IsWellFormed p) (numbering
   lively : OwnIsLive p frame p.main
   lively g e q = absurd (no (sym (formed.entry g e) ∙ q))
 
-  shows_main : (contents : Contents) → statements.Shows p (setting_of numbers p) frame first.bindings p.main (length main.locals) (size_in main.locals) (lower_function p main).temps (is_void main.result) [] (entry_frame p p.main main (start contents)) first (start contents)
-  shows_main contents =
-      let h = shows_entry p p.main main here (formed.functions p.main main here) [] no_arguments contents first globals numbers (is_void main.result) in
-      record {
-        world = refl;
-        depth = refl;
-        live = refl;
-        pinned = λ lt. refl;
-        function = refl;
-        switches = unbound;
-        each = h.each;
-        elements = h.elements;
-        untouched = h.untouched;
-        words = h.words;
-        size = h.size;
-        above = h.above;
-        below = h.below;
-        temps = h.temps;
-        arrays = h.arrays;
-        globals = globals;
-      }
+  shows_main : (contents : Contents) → Shows (resting (ground_of p numbers frame first p.main main)) (entry_frame p p.main main (start contents)) first (start contents)
+  shows_main contents = entry_shown p p.main main here (formed.functions p.main main here) [] no_arguments contents first globals numbers frame first (record {
+    world = refl;
+    depth = refl;
+    live = refl;
+    pinned = λ lt. refl;
+    function = refl;
+    switches = unbound;
+    globals = globals;
+  })
 
   abbrev came : Context → Outcome Frame Flow
   came context = flow_of_all p context main.body (frame_of p.main main []) first

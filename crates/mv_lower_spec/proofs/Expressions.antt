@@ -5,8 +5,6 @@ use Rattle.std.proofs.lemmas.Bool.{ltb-true, or_parts}
 use Rattle.std.proofs.lemmas.List.{length-map}
 use Rattle.mv_num.specs.Words as word
 use Rattle.mv_ir.specs.declared.tree.Tree.{Tree}
-use Rattle.mv_ir.specs.World.{Setting}
-use Rattle.mv_ir.specs.World as code_world
 use Rattle.mv_ir.specs.Outcome.{State, Bound}
 use Rattle.mv_ir.specs.Trees as ir_tree
 use Rattle.mv_ir.specs.Trees.{nodes}
@@ -15,8 +13,6 @@ use Rattle.mv_ast.specs.declared.program.Program.{Program}
 use Rattle.mv_ast.specs.declared.program.Function.{Function}
 use Rattle.mv_ast.specs.declared.world.Binding.{Binding}
 use Rattle.mv_ast.specs.Plans.{is_among, switch_global, value_among, binding_value, bound_value, attributed_before}
-use Rattle.mv_ir.specs.declared.stm.Array.{Array}
-use Rattle.mv_ir.specs.declared.stm.Array.TheVariants as array
 use Rattle.mv_ast.specs.declared.program.CType.{CType}
 use Rattle.mv_ast.specs.declared.program.Known.{Known}
 use Rattle.mv_ast.specs.declared.program.Expr.{Expr, Expr-F, roll-Expr, fold-roll-Expr}
@@ -34,7 +30,7 @@ use Rattle.mv_lower_spec.specs.Lower.{Part, Place, InLocal, InGlobal, Element, p
 use Rattle.mv_source_forms.specs.Names.{is_void, is_callable, is_scalar, is_own_switch, names_form, names_target, names_layer, form_is_well_named, target_is_well_named, is_well_named}
 use Rattle.mv_source_forms.specs.Lists.{all_of}
 use Rattle.mv_lower_spec.specs.Correct as c
-use Rattle.mv_lower_spec.specs.Correct.{IsScalar}
+use Rattle.mv_lower_spec.specs.Correct.{Ground, Scene, Held, scene_of, val, CorrectFor, Correct, AllCorrect, IsScalar}
 use Rattle.mv_lower_spec.proofs.Running.{nodes_binary}
 use Rattle.mv_lower_spec.proofs.Forms as forms
 use Rattle.mv_lower_spec.proofs.Control as control
@@ -106,23 +102,20 @@ no_switch p function g (Some f) bs e = by f.attributed
 
 -- ---- operators on two operands
 
-module _ (p : Program) (setting : Setting) (frame : code_world.Frame) (began : List Binding) (function locals : ℕ) (sizes : ℕ → Option ℕ) (held : ℕ → Option (List ℕ × List ℕ)) (floor : ℕ) (scratch : ℕ → ℕ) (temps : ℕ) (bound : Bound)
-    (total ka kb : ℕ) (turned : Bool) (ma mb : Evaluation ℕ) (la lb : Lowering) (enough : ka + (kb + 22) ≤ total) (ca : c.CorrectFor p setting frame began function locals sizes held floor scratch temps bound ka ma la) (cb : c.CorrectFor p setting frame began function locals sizes held floor scratch temps bound kb mb lb) where
+module _ (scene : Scene) (bound : Bound)
+    (total ka kb : ℕ) (turned : Bool) (ma mb : Evaluation ℕ) (la lb : Lowering) (enough : ka + (kb + 22) ≤ total) (ca : CorrectFor scene bound ka ma la) (cb : CorrectFor scene bound kb mb lb) where
   abbrev Two : (ℕ → ℕ → Option ℕ) → Lowering → Type 0
-  Two op l = c.CorrectFor p setting frame began function locals sizes held floor scratch temps bound total (bind ma (λ x. bind mb (λ y. value_or_trap (cond turned (op y x) (op x y))))) l
+  Two op l = CorrectFor scene bound total (bind ma (λ x. bind mb (λ y. value_or_trap (cond turned (op y x) (op x y))))) l
 
   by_test : (z : Bool) (f g : ℕ → ℕ → Option ℕ) (l k : Lowering) → Two f l → Two g k → Two (λ x y. cond z (f x y) (g x y)) (cond z l k)
   by_test true f g l k h i = h
   by_test false f g l k h i = i
 
-  abbrev V : Tree → State → ℕ
-  V = c.val p setting frame began function locals sizes held floor scratch temps bound
-
   either_some : (z : Bool) (u v : ℕ) → cond z (Some u) (Some v) ≡ Some (cond z u v)
   either_some true u v = refl
   either_some false u v = refl
 
-  either_value : (z : Bool) (t u : Tree) (x y : ℕ) (s : State) → V t s ≡ x → V u s ≡ y → V (cond z t u) s ≡ cond z x y
+  either_value : (z : Bool) (t u : Tree) (x y : ℕ) (s : State) → val scene t s ≡ x → val scene u s ≡ y → val scene (cond z t u) s ≡ cond z x y
   either_value true t u x y s h k = h
   either_value false t u x y s h k = k
 
@@ -130,91 +123,93 @@ module _ (p : Program) (setting : Setting) (frame : code_world.Frame) (began : L
   either_size true t u m h k = h
   either_size false t u m h k = k
 
-  operator : (f : Tree → Tree → Tree) (value : ℕ → ℕ → ℕ) → ((a b : Tree) (s : State) → V (f a b) s ≡ value (V a s) (V b s)) → ((a b : Tree) → nodes (f a b) ≤ nodes a + nodes b + 2) →
+  operator : (f : Tree → Tree → Tree) (value : ℕ → ℕ → ℕ) → ((a b : Tree) (s : State) → val scene (f a b) s ≡ value (val scene a s) (val scene b s)) → ((a b : Tree) → nodes (f a b) ≤ nodes a + nodes b + 2) →
       Two (λ x y. Some (value x y)) (lower_operator turned f la lb)
   operator f value same size =
-      forms.correct_two p setting frame began function locals sizes held floor scratch temps bound total ka kb 2 (λ x y. cond turned (f y x) (f x y)) (λ x y. cond turned (Some (value y x)) (Some (value x y))) (λ x y. cond turned (value y x) (value x y)) ma mb la lb (omega (arith, enough))
+      forms.correct_two scene bound total ka kb 2 (λ x y. cond turned (f y x) (f x y)) (λ x y. cond turned (Some (value y x)) (Some (value x y))) (λ x y. cond turned (value y x) (value x y)) ma mb la lb (omega (arith, enough))
       (λ x y. either_some turned (value y x) (value x y))
-      (λ a b s. either_value turned (f b a) (f a b) (value (V b s) (V a s)) (value (V a s) (V b s)) s (same b a s) (same a b s))
+      (λ a b s. either_value turned (f b a) (f a b) (value (val scene b s) (val scene a s)) (value (val scene a s) (val scene b s)) s (same b a s) (same a b s))
       (λ a b. either_size turned (f b a) (f a b) (nodes a + nodes b + 2) (omega (arith, size b a)) (omega (arith, size a b))) ca cb
 
-  plain : (o : ℕ) (value : ℕ → ℕ → ℕ) → ((a b : Tree) (s : State) → V (binary o a b) s ≡ value (V a s) (V b s)) → Two (λ x y. Some (value x y)) (lower_operator turned (binary o) la lb)
+  plain : (o : ℕ) (value : ℕ → ℕ → ℕ) → ((a b : Tree) (s : State) → val scene (binary o a b) s ≡ value (val scene a s) (val scene b s)) → Two (λ x y. Some (value x y)) (lower_operator turned (binary o) la lb)
   plain o value same = operator (binary o) value same (λ a b. omega (arith, nodes_binary o a b))
 
   divisions : (t : CType) (z : Bool) → Two (λ x y. cond (eqb y 0) None (cond z (Some (cond (is_unsigned t) (word.div_u x y) (word.div_s x y))) (Some (cond (is_unsigned t) (word.rem_u x y) (word.rem_s x y)))))
       (cond z (lower_division turned (quotient_number t) la lb) (lower_division turned (remainder_number t) la lb))
-  divisions t true = forms.correct_division p setting frame began function locals sizes held floor scratch temps bound total ka kb turned (quotient_number t) _ ma mb la lb enough (λ x y. ap (λ k. cond (eqb y 0) None (Some k)) (quotient_is (is_unsigned t) x y)) ca cb
-  divisions t false = forms.correct_division p setting frame began function locals sizes held floor scratch temps bound total ka kb turned (remainder_number t) _ ma mb la lb enough (λ x y. ap (λ k. cond (eqb y 0) None (Some k)) (remainder_is (is_unsigned t) x y)) ca cb
+  divisions t true = forms.correct_division scene bound total ka kb turned (quotient_number t) _ ma mb la lb enough (λ x y. ap (λ k. cond (eqb y 0) None (Some k)) (quotient_is (is_unsigned t) x y)) ca cb
+  divisions t false = forms.correct_division scene bound total ka kb turned (remainder_number t) _ ma mb la lb enough (λ x y. ap (λ k. cond (eqb y 0) None (Some k)) (remainder_is (is_unsigned t) x y)) ca cb
 
   pub binary_correct : (op : ℕ) (t : CType) → Two (binary_value op t) (lower_binary turned op t la lb)
   unfolding binary_value product_value
   binary_correct op t =
       by_test (nat_lt op 17) (product_value op t) (λ x y. Some (bit_value op t x y)) (lower_product turned op t la lb) (lower_operator turned (bit_tree op t) la lb)
-      (by_test (nat_eq op 12) (λ x y. Some (word.add x y)) _ (lower_operator turned (binary 0) la lb) _ (plain 0 word.add (operators.add_same p setting frame began function locals sizes held floor scratch temps bound))
-      (by_test (nat_eq op 13) (λ x y. Some (word.sub x y)) _ (lower_operator turned (binary 1) la lb) _ (plain 1 word.sub (operators.sub_same p setting frame began function locals sizes held floor scratch temps bound))
-      (by_test (nat_eq op 14) (λ x y. Some (word.mul x y)) _ (lower_operator turned (binary 2) la lb) _ (plain 2 word.mul (operators.mul_same p setting frame began function locals sizes held floor scratch temps bound))
+      (by_test (nat_eq op 12) (λ x y. Some (word.add x y)) _ (lower_operator turned (binary 0) la lb) _ (plain 0 word.add (operators.add_same scene))
+      (by_test (nat_eq op 13) (λ x y. Some (word.sub x y)) _ (lower_operator turned (binary 1) la lb) _ (plain 1 word.sub (operators.sub_same scene))
+      (by_test (nat_eq op 14) (λ x y. Some (word.mul x y)) _ (lower_operator turned (binary 2) la lb) _ (plain 2 word.mul (operators.mul_same scene))
       (divisions t (nat_eq op 15)))))
-      (operator (bit_tree op t) (bit_value op t) (operators.bit_same p setting frame began function locals sizes held floor scratch temps bound op t) (operators.bit_nodes op t))
+      (operator (bit_tree op t) (bit_value op t) (operators.bit_same scene op t) (operators.bit_nodes op t))
 
 -- ---- all expressions
 
-module _ (p : Program) (setting : Setting) (frame : code_world.Frame) (began : List Binding) (function locals : ℕ) (sizes : ℕ → Option ℕ) (held : ℕ → Option (List ℕ × List ℕ)) (temps : ℕ) (bound : Bound)
-    (free : ℕ → Bool) (frees : (l : ℕ) → free l ≡ true → held l ≡ None) (context : Context) (room : locals ≤ temps) (strict : c.IsStrict p setting.numbers context)
-    (calls : (floor : ℕ) (scratch : ℕ → ℕ) → c.CallsAgree p setting frame began function locals sizes held floor scratch temps bound context)
-    (knows : (floor : ℕ) (scratch : ℕ → ℕ) (k : Known) → c.KnownAgrees p setting frame began function locals sizes held floor scratch temps bound k) where
+module _ (ground : Ground) (held : Held) (bound : Bound)
+    (free : ℕ → Bool) (frees : (l : ℕ) → free l ≡ true → held l ≡ None) (context : Context) (room : ground.locals ≤ ground.room) (strict : c.IsStrict ground.p ground.setting.numbers context)
+    (calls : c.CallsAgree ground.p ground.frame ground.own bound context) (knows : (k : Known) → c.KnownAgrees ground.p ground.frame ground.own ground.setting k) where
+  abbrev scene : ℕ → (ℕ → ℕ) → Scene
+  scene = scene_of ground held
+
   -- correct whatever temporaries are in use
   abbrev pub Everywhere : ℕ → Evaluation ℕ → Lowering → Type 0
-  Everywhere k m l = (floor : ℕ) (scratch : ℕ → ℕ) → c.CorrectFor p setting frame began function locals sizes held floor scratch temps bound k m l
+  Everywhere k m l = (floor : ℕ) (scratch : ℕ → ℕ) → CorrectFor (scene floor scratch) bound k m l
 
   -- a place, with what finds it
   abbrev PlaceShown : Evaluation Lvalue → Place → Type 0
-  PlaceShown m (InLocal l) = (m ≡ give (lvalue.Local l 0)) × (l < locals) × IsScalar sizes held l
+  PlaceShown m (InLocal l) = (m ≡ give (lvalue.Local l 0)) × (l < ground.locals) × IsScalar ground.sizes held l
   PlaceShown m (InGlobal g) = m ≡ give (lvalue.Global g 0)
-  PlaceShown m (Element a i) = (mi : Evaluation ℕ) × (m ≡ bind mi (element_of a)) × ((floor : ℕ) (scratch : ℕ → ℕ) → elements.IsArray p setting frame began function locals sizes held floor scratch temps bound a) × Everywhere 0 mi i
+  PlaceShown m (Element a i) = (mi : Evaluation ℕ) × (m ≡ bind mi (element_of a)) × elements.IsArray ground held a × Everywhere 0 mi i
 
   abbrev P : Form → Type 0
-  P f = (t : CType) → form_is_well_named p function locals sizes free f t ≡ true → Everywhere 100 (form_of p context f t) (form_lowering f t)
+  P f = (t : CType) → form_is_well_named ground.p ground.own ground.locals ground.sizes free f t ≡ true → Everywhere 100 (form_of ground.p context f t) (form_lowering f t)
 
   abbrev Q : Target → Type 0
-  Q x = target_is_well_named p function locals sizes free x ≡ true → PlaceShown (lvalue_of p context x) (place_of x)
+  Q x = target_is_well_named ground.p ground.own ground.locals ground.sizes free x ≡ true → PlaceShown (lvalue_of ground.p context x) (place_of x)
 
   abbrev S : Expr → Type 0
-  S e = is_well_named p function locals sizes free e ≡ true → Everywhere 0 (value_of p context e) (lower_expr e) × ((part_of e).ctype ≡ (denotation_of p context e).ctype)
+  S e = is_well_named ground.p ground.own ground.locals ground.sizes free e ≡ true → Everywhere 0 (value_of ground.p context e) (lower_expr e) × ((part_of e).ctype ≡ (denotation_of ground.p context e).ctype)
 
-  read_correct : (m : Evaluation Lvalue) (x : Place) → PlaceShown m x → Everywhere 100 (bind m (read_lvalue p)) (lower_read x)
+  read_correct : (m : Evaluation Lvalue) (x : Place) → PlaceShown m x → Everywhere 100 (bind m (read_lvalue ground.p)) (lower_read x)
   read_correct m (InLocal l) h floor scratch =
-      subst (λ (k : Evaluation Lvalue). c.CorrectFor p setting frame began function locals sizes held floor scratch temps bound 100 (bind k (read_lvalue p)) (lower_local l)) (sym h.0)
-      (show.comes_to p setting frame began function locals sizes held floor scratch temps bound 100 (read_lvalue p (lvalue.Local l 0)) _ (lower_local l) (λ f w. sym (sequences.given (lvalue.Local l 0) (read_lvalue p) f w))
-      (show.with_more p setting frame began function locals sizes held floor scratch temps bound 14 100 (read_lvalue p (lvalue.Local l 0)) (lower_local l) (omega arith) (forms.correct_local p setting frame began function locals sizes held floor scratch temps bound l h.1 h.2)))
+      subst (λ (k : Evaluation Lvalue). CorrectFor (scene floor scratch) bound 100 (bind k (read_lvalue ground.p)) (lower_local l)) (sym h.0)
+      (show.comes_to (scene floor scratch) bound 100 (read_lvalue ground.p (lvalue.Local l 0)) _ (lower_local l) (λ f w. sym (sequences.given (lvalue.Local l 0) (read_lvalue ground.p) f w))
+      (show.with_more (scene floor scratch) bound 14 100 (read_lvalue ground.p (lvalue.Local l 0)) (lower_local l) (omega arith) (forms.correct_local (scene floor scratch) bound l h.1 h.2)))
   read_correct m (InGlobal g) h floor scratch =
-      subst (λ (k : Evaluation Lvalue). c.CorrectFor p setting frame began function locals sizes held floor scratch temps bound 100 (bind k (read_lvalue p)) (lower_global g)) (sym h)
-      (show.comes_to p setting frame began function locals sizes held floor scratch temps bound 100 (read_lvalue p (lvalue.Global g 0)) _ (lower_global g) (λ f w. sym (sequences.given (lvalue.Global g 0) (read_lvalue p) f w))
-      (show.with_more p setting frame began function locals sizes held floor scratch temps bound 14 100 (read_lvalue p (lvalue.Global g 0)) (lower_global g) (omega arith) (forms.correct_global p setting frame began function locals sizes held floor scratch temps bound g)))
+      subst (λ (k : Evaluation Lvalue). CorrectFor (scene floor scratch) bound 100 (bind k (read_lvalue ground.p)) (lower_global g)) (sym h)
+      (show.comes_to (scene floor scratch) bound 100 (read_lvalue ground.p (lvalue.Global g 0)) _ (lower_global g) (λ f w. sym (sequences.given (lvalue.Global g 0) (read_lvalue ground.p) f w))
+      (show.with_more (scene floor scratch) bound 14 100 (read_lvalue ground.p (lvalue.Global g 0)) (lower_global g) (omega arith) (forms.correct_global (scene floor scratch) bound g)))
   read_correct m (Element a i) h floor scratch =
       let mi = h.0 in
-      subst (λ (k : Evaluation Lvalue). c.CorrectFor p setting frame began function locals sizes held floor scratch temps bound 100 (bind k (read_lvalue p)) (lower_read_element a i)) (sym h.1)
-      (show.comes_to p setting frame began function locals sizes held floor scratch temps bound 100 (bind mi (λ v. bind (element_of a v) (read_lvalue p))) _ (lower_read_element a i) (λ f w. sym (sequences.assoc mi (element_of a) (read_lvalue p) f w))
-      (show.with_more p setting frame began function locals sizes held floor scratch temps bound (0 + 11) 100 (bind mi (λ v. bind (element_of a v) (read_lvalue p))) (lower_read_element a i) (omega arith)
-      (elements.correct_read_element p setting frame began function locals sizes held floor scratch temps bound 0 a mi i (h.2 floor scratch) (h.3 floor scratch))))
+      subst (λ (k : Evaluation Lvalue). CorrectFor (scene floor scratch) bound 100 (bind k (read_lvalue ground.p)) (lower_read_element a i)) (sym h.1)
+      (show.comes_to (scene floor scratch) bound 100 (bind mi (λ v. bind (element_of a v) (read_lvalue ground.p))) _ (lower_read_element a i) (λ f w. sym (sequences.assoc mi (element_of a) (read_lvalue ground.p) f w))
+      (show.with_more (scene floor scratch) bound (0 + 11) 100 (bind mi (λ v. bind (element_of a v) (read_lvalue ground.p))) (lower_read_element a i) (omega arith)
+      (elements.correct_read_element (scene floor scratch) bound 0 a mi i h.2 (h.3 floor scratch))))
 
   -- ---- stores
 
   set_correct : (m : Evaluation Lvalue) (x : Place) (ma : Evaluation ℕ) (la : Lowering) → PlaceShown m x → Everywhere 0 ma la → Everywhere 100 (bind m (λ at. bind ma (store_lvalue at))) (lower_set x la)
   set_correct m (InLocal l) ma la h ca floor scratch =
-      subst (λ (k : Evaluation Lvalue). c.CorrectFor p setting frame began function locals sizes held floor scratch temps bound 100 (bind k (λ at. bind ma (store_lvalue at))) (lower_set_local l la)) (sym h.0)
-      (show.comes_to p setting frame began function locals sizes held floor scratch temps bound 100 (bind ma (store_lvalue (lvalue.Local l 0))) _ (lower_set_local l la) (λ f w. sym (sequences.given (lvalue.Local l 0) (λ at. bind ma (store_lvalue at)) f w))
-      (show.with_more p setting frame began function locals sizes held floor scratch temps bound (0 + 11) 100 (bind ma (store_lvalue (lvalue.Local l 0))) (lower_set_local l la) (omega arith) (forms.correct_set_local p setting frame began function locals sizes held floor scratch temps bound 0 l ma la h.1 room h.2 (ca floor scratch))))
+      subst (λ (k : Evaluation Lvalue). CorrectFor (scene floor scratch) bound 100 (bind k (λ at. bind ma (store_lvalue at))) (lower_set_local l la)) (sym h.0)
+      (show.comes_to (scene floor scratch) bound 100 (bind ma (store_lvalue (lvalue.Local l 0))) _ (lower_set_local l la) (λ f w. sym (sequences.given (lvalue.Local l 0) (λ at. bind ma (store_lvalue at)) f w))
+      (show.with_more (scene floor scratch) bound (0 + 11) 100 (bind ma (store_lvalue (lvalue.Local l 0))) (lower_set_local l la) (omega arith) (forms.correct_set_local (scene floor scratch) bound 0 l ma la h.1 room h.2 (ca floor scratch))))
   set_correct m (InGlobal g) ma la h ca floor scratch =
-      subst (λ (k : Evaluation Lvalue). c.CorrectFor p setting frame began function locals sizes held floor scratch temps bound 100 (bind k (λ at. bind ma (store_lvalue at))) (lower_set_global g la)) (sym h)
-      (show.comes_to p setting frame began function locals sizes held floor scratch temps bound 100 (bind ma (store_lvalue (lvalue.Global g 0))) _ (lower_set_global g la) (λ f w. sym (sequences.given (lvalue.Global g 0) (λ at. bind ma (store_lvalue at)) f w))
-      (show.with_more p setting frame began function locals sizes held floor scratch temps bound (0 + 22) 100 (bind ma (store_lvalue (lvalue.Global g 0))) (lower_set_global g la) (omega arith) (forms.correct_set_global p setting frame began function locals sizes held floor scratch temps bound 0 g ma la (ca floor scratch))))
+      subst (λ (k : Evaluation Lvalue). CorrectFor (scene floor scratch) bound 100 (bind k (λ at. bind ma (store_lvalue at))) (lower_set_global g la)) (sym h)
+      (show.comes_to (scene floor scratch) bound 100 (bind ma (store_lvalue (lvalue.Global g 0))) _ (lower_set_global g la) (λ f w. sym (sequences.given (lvalue.Global g 0) (λ at. bind ma (store_lvalue at)) f w))
+      (show.with_more (scene floor scratch) bound (0 + 22) 100 (bind ma (store_lvalue (lvalue.Global g 0))) (lower_set_global g la) (omega arith) (forms.correct_set_global (scene floor scratch) bound 0 g ma la (ca floor scratch))))
   set_correct m (Element a i) ma la h ca floor scratch =
       let mi = h.0 in
       let next : Lvalue → Evaluation ℕ = λ at. bind ma (store_lvalue at) in
-      subst (λ (k : Evaluation Lvalue). c.CorrectFor p setting frame began function locals sizes held floor scratch temps bound 100 (bind k next) (lower_set_element a i la)) (sym h.1)
-      (show.comes_to p setting frame began function locals sizes held floor scratch temps bound 100 (bind mi (λ v. bind (element_of a v) next)) _ (lower_set_element a i la) (λ f w. sym (sequences.assoc mi (element_of a) next f w))
-      (show.with_more p setting frame began function locals sizes held floor scratch temps bound (0 + (0 + 39)) 100 (bind mi (λ v. bind (element_of a v) next)) (lower_set_element a i la) (omega arith)
-      (elements.correct_set_element p setting frame began function locals sizes held floor scratch temps bound 0 0 a mi (λ at. ma) i (λ n. la) (h.2 floor scratch) (h.3 floor scratch) (λ n k kept le low ek lt. ca (n + 2) kept))))
+      subst (λ (k : Evaluation Lvalue). CorrectFor (scene floor scratch) bound 100 (bind k next) (lower_set_element a i la)) (sym h.1)
+      (show.comes_to (scene floor scratch) bound 100 (bind mi (λ v. bind (element_of a v) next)) _ (lower_set_element a i la) (λ f w. sym (sequences.assoc mi (element_of a) next f w))
+      (show.with_more (scene floor scratch) bound (0 + (0 + 39)) 100 (bind mi (λ v. bind (element_of a v) next)) (lower_set_element a i la) (omega arith)
+      (elements.correct_set_element (scene floor scratch) bound 0 0 a mi (λ at. ma) i (λ n. la) h.2 (h.3 floor scratch) (λ n k kept le low ek lt. ca (n + 2) kept))))
 
   -- ---- compound assignments
 
@@ -222,192 +217,187 @@ module _ (p : Program) (setting : Setting) (frame : code_world.Frame) (began : L
   abbrev Changed : ℕ → CType → CType → Evaluation ℕ → Evaluation ℕ → Evaluation ℕ
   Changed op kind t ma old = bind (bind ma (λ v. bind old (λ o. value_or_trap (binary_value op kind o v)))) (λ n. give (converted t n))
 
-  changed : (op : ℕ) (kind t : CType) (ko : ℕ) (ma mo : Evaluation ℕ) (la lo : Lowering) (floor : ℕ) (scratch : ℕ → ℕ) → c.CorrectFor p setting frame began function locals sizes held floor scratch temps bound 0 ma la → c.CorrectFor p setting frame began function locals sizes held floor scratch temps bound ko mo lo →
-      c.CorrectFor p setting frame began function locals sizes held floor scratch temps bound (ko + 36) (Changed op kind t ma mo) (lower_changed op kind t lo la)
+  changed : (op : ℕ) (kind t : CType) (ko : ℕ) (ma mo : Evaluation ℕ) (la lo : Lowering) (floor : ℕ) (scratch : ℕ → ℕ) → CorrectFor (scene floor scratch) bound 0 ma la → CorrectFor (scene floor scratch) bound ko mo lo →
+      CorrectFor (scene floor scratch) bound (ko + 36) (Changed op kind t ma mo) (lower_changed op kind t lo la)
   changed op kind t ko ma mo la lo floor scratch ca co =
-      forms.correct_one p setting frame began function locals sizes held floor scratch temps bound (ko + 36) (ko + 22) 1 (converted_tree t) (converted t) (bind ma (λ v. bind mo (λ o. value_or_trap (binary_value op kind o v)))) (lower_binary true op kind la lo) (omega arith)
-      (operators.converted_same p setting frame began function locals sizes held floor scratch temps bound t) (operators.converted_nodes t) (binary_correct p setting frame began function locals sizes held floor scratch temps bound (ko + 22) 0 ko true ma mo la lo (omega arith) ca co op kind)
+      forms.correct_one (scene floor scratch) bound (ko + 36) (ko + 22) 1 (converted_tree t) (converted t) (bind ma (λ v. bind mo (λ o. value_or_trap (binary_value op kind o v)))) (lower_binary true op kind la lo) (omega arith)
+      (operators.converted_same (scene floor scratch) t) (operators.converted_nodes t) (binary_correct (scene floor scratch) bound (ko + 22) 0 ko true ma mo la lo (omega arith) ca co op kind)
 
   -- what is done with the place that is found
   abbrev Change : ℕ → CType → CType → Evaluation ℕ → Lvalue → Evaluation ℕ
-  Change op kind t ma at = bind ma (λ v. bind (read_lvalue p at) (λ old. bind (value_or_trap (binary_value op kind old v)) (λ new. store_lvalue at (converted t new))))
+  Change op kind t ma at = bind ma (λ v. bind (read_lvalue ground.p at) (λ old. bind (value_or_trap (binary_value op kind old v)) (λ new. store_lvalue at (converted t new))))
 
-  change_is : (op : ℕ) (kind t : CType) (ma : Evaluation ℕ) (at : Lvalue) (f : Frame) (w : World) → bind (Changed op kind t ma (read_lvalue p at)) (store_lvalue at) f w ≡ Change op kind t ma at f w
-  change_is op kind t ma at f w = sequences.changed_and_stored ma (read_lvalue p at) (λ o v. value_or_trap (binary_value op kind o v)) (converted t) (store_lvalue at) f w
+  change_is : (op : ℕ) (kind t : CType) (ma : Evaluation ℕ) (at : Lvalue) (f : Frame) (w : World) → bind (Changed op kind t ma (read_lvalue ground.p at)) (store_lvalue at) f w ≡ Change op kind t ma at f w
+  change_is op kind t ma at f w = sequences.changed_and_stored ma (read_lvalue ground.p at) (λ o v. value_or_trap (binary_value op kind o v)) (converted t) (store_lvalue at) f w
 
   change_correct : (op : ℕ) (kind t : CType) (m : Evaluation Lvalue) (x : Place) (ma : Evaluation ℕ) (la : Lowering) → PlaceShown m x → Everywhere 0 ma la →
       Everywhere 100 (bind m (Change op kind t ma)) (lower_change op kind t x la)
   change_correct op kind t m (InLocal l) ma la h ca floor scratch =
       let at = lvalue.Local l 0 in
       let new = lower_changed op kind t (lower_local l) la in
-      subst (λ (k : Evaluation Lvalue). c.CorrectFor p setting frame began function locals sizes held floor scratch temps bound 100 (bind k (Change op kind t ma)) (lower_change op kind t (InLocal l) la)) (sym h.0)
-      (show.comes_to p setting frame began function locals sizes held floor scratch temps bound 100 (bind (Changed op kind t ma (read_lvalue p at)) (store_lvalue at)) _ (lower_change op kind t (InLocal l) la) (λ f w. change_is op kind t ma at f w ∙ sym (sequences.given at (Change op kind t ma) f w))
-      (show.with_more p setting frame began function locals sizes held floor scratch temps bound (14 + 36 + 11) 100 (bind (Changed op kind t ma (read_lvalue p at)) (store_lvalue at)) (lower_set_local l new) (omega arith)
-      (forms.correct_set_local p setting frame began function locals sizes held floor scratch temps bound (14 + 36) l (Changed op kind t ma (read_lvalue p at)) new h.1 room h.2
-      (changed op kind t 14 ma (read_lvalue p at) la (lower_local l) floor scratch (ca floor scratch) (forms.correct_local p setting frame began function locals sizes held floor scratch temps bound l h.1 h.2)))))
+      subst (λ (k : Evaluation Lvalue). CorrectFor (scene floor scratch) bound 100 (bind k (Change op kind t ma)) (lower_change op kind t (InLocal l) la)) (sym h.0)
+      (show.comes_to (scene floor scratch) bound 100 (bind (Changed op kind t ma (read_lvalue ground.p at)) (store_lvalue at)) _ (lower_change op kind t (InLocal l) la) (λ f w. change_is op kind t ma at f w ∙ sym (sequences.given at (Change op kind t ma) f w))
+      (show.with_more (scene floor scratch) bound (14 + 36 + 11) 100 (bind (Changed op kind t ma (read_lvalue ground.p at)) (store_lvalue at)) (lower_set_local l new) (omega arith)
+      (forms.correct_set_local (scene floor scratch) bound (14 + 36) l (Changed op kind t ma (read_lvalue ground.p at)) new h.1 room h.2
+      (changed op kind t 14 ma (read_lvalue ground.p at) la (lower_local l) floor scratch (ca floor scratch) (forms.correct_local (scene floor scratch) bound l h.1 h.2)))))
   change_correct op kind t m (InGlobal g) ma la h ca floor scratch =
       let at = lvalue.Global g 0 in
       let new = lower_changed op kind t (lower_global g) la in
-      subst (λ (k : Evaluation Lvalue). c.CorrectFor p setting frame began function locals sizes held floor scratch temps bound 100 (bind k (Change op kind t ma)) (lower_change op kind t (InGlobal g) la)) (sym h)
-      (show.comes_to p setting frame began function locals sizes held floor scratch temps bound 100 (bind (Changed op kind t ma (read_lvalue p at)) (store_lvalue at)) _ (lower_change op kind t (InGlobal g) la) (λ f w. change_is op kind t ma at f w ∙ sym (sequences.given at (Change op kind t ma) f w))
-      (show.with_more p setting frame began function locals sizes held floor scratch temps bound (14 + 36 + 22) 100 (bind (Changed op kind t ma (read_lvalue p at)) (store_lvalue at)) (lower_set_global g new) (omega arith)
-      (forms.correct_set_global p setting frame began function locals sizes held floor scratch temps bound (14 + 36) g (Changed op kind t ma (read_lvalue p at)) new
-      (changed op kind t 14 ma (read_lvalue p at) la (lower_global g) floor scratch (ca floor scratch) (forms.correct_global p setting frame began function locals sizes held floor scratch temps bound g)))))
+      subst (λ (k : Evaluation Lvalue). CorrectFor (scene floor scratch) bound 100 (bind k (Change op kind t ma)) (lower_change op kind t (InGlobal g) la)) (sym h)
+      (show.comes_to (scene floor scratch) bound 100 (bind (Changed op kind t ma (read_lvalue ground.p at)) (store_lvalue at)) _ (lower_change op kind t (InGlobal g) la) (λ f w. change_is op kind t ma at f w ∙ sym (sequences.given at (Change op kind t ma) f w))
+      (show.with_more (scene floor scratch) bound (14 + 36 + 22) 100 (bind (Changed op kind t ma (read_lvalue ground.p at)) (store_lvalue at)) (lower_set_global g new) (omega arith)
+      (forms.correct_set_global (scene floor scratch) bound (14 + 36) g (Changed op kind t ma (read_lvalue ground.p at)) new
+      (changed op kind t 14 ma (read_lvalue ground.p at) la (lower_global g) floor scratch (ca floor scratch) (forms.correct_global (scene floor scratch) bound g)))))
   change_correct op kind t m (Element a i) ma la h ca floor scratch =
       let mi = h.0 in
-      let mv : Lvalue → Evaluation ℕ = λ at. Changed op kind t ma (read_lvalue p at) in
+      let mv : Lvalue → Evaluation ℕ = λ at. Changed op kind t ma (read_lvalue ground.p at) in
       let lv : ℕ → Lowering = λ n. lower_changed op kind t (lower_element a (n + 1)) la in
-      subst (λ (k : Evaluation Lvalue). c.CorrectFor p setting frame began function locals sizes held floor scratch temps bound 100 (bind k (Change op kind t ma)) (lower_change op kind t (Element a i) la)) (sym h.1)
-      (show.comes_to p setting frame began function locals sizes held floor scratch temps bound 100 (bind mi (λ v. bind (element_of a v) (λ at. bind (mv at) (store_lvalue at)))) _ (lower_change op kind t (Element a i) la)
+      subst (λ (k : Evaluation Lvalue). CorrectFor (scene floor scratch) bound 100 (bind k (Change op kind t ma)) (lower_change op kind t (Element a i) la)) (sym h.1)
+      (show.comes_to (scene floor scratch) bound 100 (bind mi (λ v. bind (element_of a v) (λ at. bind (mv at) (store_lvalue at)))) _ (lower_change op kind t (Element a i) la)
       (λ f w. sequences.under (mi f w) (λ v. bind (element_of a v) (λ at. bind (mv at) (store_lvalue at))) (λ v. bind (element_of a v) (Change op kind t ma))
       (λ v f1 w1. sequences.under (element_of a v f1 w1) (λ at. bind (mv at) (store_lvalue at)) (Change op kind t ma) (λ at f2 w2. change_is op kind t ma at f2 w2)) ∙
       sym (sequences.assoc mi (element_of a) (Change op kind t ma) f w))
-      (show.with_more p setting frame began function locals sizes held floor scratch temps bound (0 + (25 + 36 + 39)) 100 (bind mi (λ v. bind (element_of a v) (λ at. bind (mv at) (store_lvalue at)))) (lower_change op kind t (Element a i) la) (omega arith)
-      (elements.correct_set_element p setting frame began function locals sizes held floor scratch temps bound 0 (25 + 36) a mi mv i lv (h.2 floor scratch) (h.3 floor scratch)
-      (λ n k kept le low ek lt. changed op kind t 25 ma (read_lvalue p (elements.lvalue_in a k)) la (lower_element a (n + 1)) (n + 2) kept (ca (n + 2) kept)
-      (elements.correct_element p setting frame began function locals sizes held (n + 2) kept temps bound (n + 1) k a (h.2 (n + 2) kept) (omega (arith, low)) (omega arith) ek (size_same a k floor scratch (n + 2) kept lt))))))
-    where
-      -- an array's size doesn't depend on what temporaries are in use
-      size_same : (a : Array) (k floor : ℕ) (scratch : ℕ → ℕ) (floor' : ℕ) (scratch' : ℕ → ℕ) → k < elements.size_in p setting frame began function locals sizes held floor scratch temps bound a → k < elements.size_in p setting frame began function locals sizes held floor' scratch' temps bound a
-      size_same (array.Global g) k floor scratch floor' scratch' lt = lt
-      size_same (array.Local l) k floor scratch floor' scratch' lt = lt
+      (show.with_more (scene floor scratch) bound (0 + (25 + 36 + 39)) 100 (bind mi (λ v. bind (element_of a v) (λ at. bind (mv at) (store_lvalue at)))) (lower_change op kind t (Element a i) la) (omega arith)
+      (elements.correct_set_element (scene floor scratch) bound 0 (25 + 36) a mi mv i lv h.2 (h.3 floor scratch)
+      (λ n k kept le low ek lt. changed op kind t 25 ma (read_lvalue ground.p (elements.lvalue_in a k)) la (lower_element a (n + 1)) (n + 2) kept (ca (n + 2) kept)
+      (elements.correct_element (scene (n + 2) kept) bound (n + 1) k a h.2 (omega (arith, low)) (omega arith) ek lt)))))
 
   -- ---- `++` and `--` behind a place
 
   abbrev After : Bool → CType → Lvalue → Evaluation ℕ
-  After up t at = bind (read_lvalue p at) (λ old. bind (store_lvalue at (converted t (cond up (word.add old 1) (word.sub old 1)))) (λ new. give old))
+  After up t at = bind (read_lvalue ground.p at) (λ old. bind (store_lvalue at (converted t (cond up (word.add old 1) (word.sub old 1)))) (λ new. give old))
 
   after_correct : (up : Bool) (t : CType) (m : Evaluation Lvalue) (x : Place) → PlaceShown m x → Everywhere 100 (bind m (After up t)) (lower_after up t x)
   after_correct up t m (InLocal l) h floor scratch =
-      subst (λ (k : Evaluation Lvalue). c.CorrectFor p setting frame began function locals sizes held floor scratch temps bound 100 (bind k (After up t)) (lower_after up t (InLocal l))) (sym h.0)
-      (show.comes_to p setting frame began function locals sizes held floor scratch temps bound 100 (After up t (lvalue.Local l 0)) _ (lower_after up t (InLocal l)) (λ f w. sym (sequences.given (lvalue.Local l 0) (After up t) f w)) (elements.correct_after_local p setting frame began function locals sizes held floor scratch temps bound up t l h.1 room h.2))
+      subst (λ (k : Evaluation Lvalue). CorrectFor (scene floor scratch) bound 100 (bind k (After up t)) (lower_after up t (InLocal l))) (sym h.0)
+      (show.comes_to (scene floor scratch) bound 100 (After up t (lvalue.Local l 0)) _ (lower_after up t (InLocal l)) (λ f w. sym (sequences.given (lvalue.Local l 0) (After up t) f w)) (elements.correct_after_local (scene floor scratch) bound up t l h.1 room h.2))
   after_correct up t m (InGlobal g) h floor scratch =
-      subst (λ (k : Evaluation Lvalue). c.CorrectFor p setting frame began function locals sizes held floor scratch temps bound 100 (bind k (After up t)) (lower_after up t (InGlobal g))) (sym h)
-      (show.comes_to p setting frame began function locals sizes held floor scratch temps bound 100 (After up t (lvalue.Global g 0)) _ (lower_after up t (InGlobal g)) (λ f w. sym (sequences.given (lvalue.Global g 0) (After up t) f w)) (elements.correct_after_global p setting frame began function locals sizes held floor scratch temps bound up t g))
+      subst (λ (k : Evaluation Lvalue). CorrectFor (scene floor scratch) bound 100 (bind k (After up t)) (lower_after up t (InGlobal g))) (sym h)
+      (show.comes_to (scene floor scratch) bound 100 (After up t (lvalue.Global g 0)) _ (lower_after up t (InGlobal g)) (λ f w. sym (sequences.given (lvalue.Global g 0) (After up t) f w)) (elements.correct_after_global (scene floor scratch) bound up t g))
   after_correct up t m (Element a i) h floor scratch =
       let mi = h.0 in
-      subst (λ (k : Evaluation Lvalue). c.CorrectFor p setting frame began function locals sizes held floor scratch temps bound 100 (bind k (After up t)) (lower_after up t (Element a i))) (sym h.1)
-      (show.comes_to p setting frame began function locals sizes held floor scratch temps bound 100 (bind mi (λ v. bind (element_of a v) (After up t))) _ (lower_after up t (Element a i)) (λ f w. sym (sequences.assoc mi (element_of a) (After up t) f w))
-      (show.with_more p setting frame began function locals sizes held floor scratch temps bound (0 + 60) 100 (bind mi (λ v. bind (element_of a v) (After up t))) (lower_after up t (Element a i)) (omega arith)
-      (elements.correct_after_element p setting frame began function locals sizes held floor scratch temps bound 0 up t a mi i (h.2 floor scratch) (h.3 floor scratch))))
+      subst (λ (k : Evaluation Lvalue). CorrectFor (scene floor scratch) bound 100 (bind k (After up t)) (lower_after up t (Element a i))) (sym h.1)
+      (show.comes_to (scene floor scratch) bound 100 (bind mi (λ v. bind (element_of a v) (After up t))) _ (lower_after up t (Element a i)) (λ f w. sym (sequences.assoc mi (element_of a) (After up t) f w))
+      (show.with_more (scene floor scratch) bound (0 + 60) 100 (bind mi (λ v. bind (element_of a v) (After up t))) (lower_after up t (Element a i)) (omega arith)
+      (elements.correct_after_element (scene floor scratch) bound 0 up t a mi i h.2 (h.3 floor scratch))))
 
   -- ---- the layers
 
-  all_correct : (es : List Expr) → Each S es → all_of (map (is_well_named p function locals sizes free) es) ≡ true → (floor : ℕ) (scratch : ℕ → ℕ) →
-      c.AllCorrect p setting frame began function locals sizes held floor scratch temps bound (map (denotation_of p context) es) (map (λ (a : Part). a.lower) (map part_of es))
+  all_correct : (es : List Expr) → Each S es → all_of (map (is_well_named ground.p ground.own ground.locals ground.sizes free) es) ≡ true → (floor : ℕ) (scratch : ℕ → ℕ) →
+      AllCorrect (scene floor scratch) bound (map (denotation_of ground.p context) es) (map (λ (a : Part). a.lower) (map part_of es))
   all_correct [] h b floor scratch = tt
   all_correct (e ∷ es) h b floor scratch =
-      let bs = split (is_well_named p function locals sizes free e) (all_of (map (is_well_named p function locals sizes free) es)) b in
+      let bs = split (is_well_named ground.p ground.own ground.locals ground.sizes free e) (all_of (map (is_well_named ground.p ground.own ground.locals ground.sizes free) es)) b in
       ((h.0 bs.0).0 floor scratch, all_correct es h.1 bs.1 floor scratch)
 
   abbrev denotations : Form-F Form Target Expr → Form-F (CType → Evaluation ℕ) (Evaluation Lvalue) Denotation
-  denotations = map-Form Form Target Expr (CType → Evaluation ℕ) (Evaluation Lvalue) Denotation (form_of p context) (lvalue_of p context) (denotation_of p context)
+  denotations = map-Form Form Target Expr (CType → Evaluation ℕ) (Evaluation Lvalue) Denotation (form_of ground.p context) (lvalue_of ground.p context) (denotation_of ground.p context)
 
   abbrev parts : Form-F Form Target Expr → Form-F (CType → Lowering) Place Part
   parts = map-Form Form Target Expr (CType → Lowering) Place Part form_lowering place_of part_of
 
   abbrev tests : Form-F Form Target Expr → Form-F (CType → Bool) Bool Bool
-  tests = map-Form Form Target Expr (CType → Bool) Bool Bool (form_is_well_named p function locals sizes free) (target_is_well_named p function locals sizes free) (is_well_named p function locals sizes free)
+  tests = map-Form Form Target Expr (CType → Bool) Bool Bool (form_is_well_named ground.p ground.own ground.locals ground.sizes free) (target_is_well_named ground.p ground.own ground.locals ground.sizes free) (is_well_named ground.p ground.own ground.locals ground.sizes free)
 
   args_long : (args : List Expr) → length (map (λ (a : Part). a.lower) (map part_of args)) ≡ length args
   args_long args = length-map (map part_of args) (λ (a : Part). a.lower) ∙ length-map args part_of
 
-  layer : (x : Form-F Form Target Expr) → FormChildren P Q S x → (t : CType) → names_form p function locals sizes free (tests x) t ≡ true → Everywhere 100 (form_value p context (denotations x) t) (lower_form (parts x) t)
-  layer (form.Number n) h t b floor scratch = show.with_more p setting frame began function locals sizes held floor scratch temps bound 14 100 (give n) (lower_number n) (omega arith) (forms.correct_number p setting frame began function locals sizes held floor scratch temps bound n)
-  layer (form.Read target) h t b floor scratch = read_correct (lvalue_of p context target) (place_of target) (h b) floor scratch
+  layer : (x : Form-F Form Target Expr) → FormChildren P Q S x → (t : CType) → names_form ground.p ground.own ground.locals ground.sizes free (tests x) t ≡ true → Everywhere 100 (form_value ground.p context (denotations x) t) (lower_form (parts x) t)
+  layer (form.Number n) h t b floor scratch = show.with_more (scene floor scratch) bound 14 100 (give n) (lower_number n) (omega arith) (forms.correct_number (scene floor scratch) bound n)
+  layer (form.Read target) h t b floor scratch = read_correct (lvalue_of ground.p context target) (place_of target) (h b) floor scratch
   layer (form.Function g) h t b floor scratch =
-      subst (λ (ns : List ℕ). c.CorrectFor p setting frame began function locals sizes held floor scratch temps bound 100 (give (slice_index ns g)) (lower_function g)) (sym strict.numbers_are)
-      (show.with_more p setting frame began function locals sizes held floor scratch temps bound 14 100 (give (slice_index setting.numbers g)) (lower_function g) (omega arith) (forms.correct_function p setting frame began function locals sizes held floor scratch temps bound g))
+      subst (λ (ns : List ℕ). CorrectFor (scene floor scratch) bound 100 (give (slice_index ns g)) (lower_function g)) (sym strict.numbers_are)
+      (show.with_more (scene floor scratch) bound 14 100 (give (slice_index ground.setting.numbers g)) (lower_function g) (omega arith) (forms.correct_function (scene floor scratch) bound g))
   layer (form.Unary op a) h t b floor scratch =
-      forms.correct_one p setting frame began function locals sizes held floor scratch temps bound 100 0 2 (unary_tree op) (unary_value op) (value_of p context a) (lower_expr a) (omega arith)
-      (operators.unary_same p setting frame began function locals sizes held floor scratch temps bound op) (operators.unary_nodes op) ((h b).0 floor scratch)
+      forms.correct_one (scene floor scratch) bound 100 0 2 (unary_tree op) (unary_value op) (value_of ground.p context a) (lower_expr a) (omega arith)
+      (operators.unary_same (scene floor scratch) op) (operators.unary_nodes op) ((h b).0 floor scratch)
   layer (form.Binary op a x) h t b floor scratch =
-      let bs = split (is_well_named p function locals sizes free a) (is_well_named p function locals sizes free x) b in
+      let bs = split (is_well_named ground.p ground.own ground.locals ground.sizes free a) (is_well_named ground.p ground.own ground.locals ground.sizes free x) b in
       let ca = h.0 bs.0 in
       let cx = h.1 bs.1 in
-      subst (λ k. c.CorrectFor p setting frame began function locals sizes held floor scratch temps bound 100 (bind (value_of p context a) (λ u. bind (value_of p context x) (λ v. value_or_trap (binary_value op (denotation_of p context a).ctype u v)))) (lower_binary false op k (lower_expr a) (lower_expr x))) (sym ca.1)
-      (binary_correct p setting frame began function locals sizes held floor scratch temps bound 100 0 0 false (value_of p context a) (value_of p context x) (lower_expr a) (lower_expr x) (omega arith) (ca.0 floor scratch) (cx.0 floor scratch) op (denotation_of p context a).ctype)
+      subst (λ k. CorrectFor (scene floor scratch) bound 100 (bind (value_of ground.p context a) (λ u. bind (value_of ground.p context x) (λ v. value_or_trap (binary_value op (denotation_of ground.p context a).ctype u v)))) (lower_binary false op k (lower_expr a) (lower_expr x))) (sym ca.1)
+      (binary_correct (scene floor scratch) bound 100 0 0 false (value_of ground.p context a) (value_of ground.p context x) (lower_expr a) (lower_expr x) (omega arith) (ca.0 floor scratch) (cx.0 floor scratch) op (denotation_of ground.p context a).ctype)
   layer (form.Both a x) h t b floor scratch =
-      let bs = split (is_well_named p function locals sizes free a) (is_well_named p function locals sizes free x) b in
-      control.correct_both p setting frame began function locals sizes held floor scratch temps bound (value_of p context a) (value_of p context x) (lower_expr a) (lower_expr x) ((h.0 bs.0).0 floor scratch) ((h.1 bs.1).0 floor scratch)
+      let bs = split (is_well_named ground.p ground.own ground.locals ground.sizes free a) (is_well_named ground.p ground.own ground.locals ground.sizes free x) b in
+      control.correct_both (scene floor scratch) bound (value_of ground.p context a) (value_of ground.p context x) (lower_expr a) (lower_expr x) ((h.0 bs.0).0 floor scratch) ((h.1 bs.1).0 floor scratch)
   layer (form.Either a x) h t b floor scratch =
-      let bs = split (is_well_named p function locals sizes free a) (is_well_named p function locals sizes free x) b in
-      control.correct_either p setting frame began function locals sizes held floor scratch temps bound (value_of p context a) (value_of p context x) (lower_expr a) (lower_expr x) ((h.0 bs.0).0 floor scratch) ((h.1 bs.1).0 floor scratch)
+      let bs = split (is_well_named ground.p ground.own ground.locals ground.sizes free a) (is_well_named ground.p ground.own ground.locals ground.sizes free x) b in
+      control.correct_either (scene floor scratch) bound (value_of ground.p context a) (value_of ground.p context x) (lower_expr a) (lower_expr x) ((h.0 bs.0).0 floor scratch) ((h.1 bs.1).0 floor scratch)
   layer (form.Choose x y z) h t b floor scratch =
-      let bs = split (is_well_named p function locals sizes free x) (is_well_named p function locals sizes free y && is_well_named p function locals sizes free z) b in
-      let cs = split (is_well_named p function locals sizes free y) (is_well_named p function locals sizes free z) bs.1 in
-      control.correct_choice p setting frame began function locals sizes held floor scratch temps bound (value_of p context x) (value_of p context y) (value_of p context z) (lower_expr x) (lower_expr y) (lower_expr z) ((h.0 bs.0).0 floor scratch) ((h.1 cs.0).0 floor scratch) ((h.2 cs.1).0 floor scratch)
+      let bs = split (is_well_named ground.p ground.own ground.locals ground.sizes free x) (is_well_named ground.p ground.own ground.locals ground.sizes free y && is_well_named ground.p ground.own ground.locals ground.sizes free z) b in
+      let cs = split (is_well_named ground.p ground.own ground.locals ground.sizes free y) (is_well_named ground.p ground.own ground.locals ground.sizes free z) bs.1 in
+      control.correct_choice (scene floor scratch) bound (value_of ground.p context x) (value_of ground.p context y) (value_of ground.p context z) (lower_expr x) (lower_expr y) (lower_expr z) ((h.0 bs.0).0 floor scratch) ((h.1 cs.0).0 floor scratch) ((h.2 cs.1).0 floor scratch)
   layer (form.Convert a) h t b floor scratch =
-      forms.correct_one p setting frame began function locals sizes held floor scratch temps bound 100 0 1 (converted_tree t) (converted t) (value_of p context a) (lower_expr a) (omega arith)
-      (operators.converted_same p setting frame began function locals sizes held floor scratch temps bound t) (operators.converted_nodes t) ((h b).0 floor scratch)
+      forms.correct_one (scene floor scratch) bound 100 0 1 (converted_tree t) (converted t) (value_of ground.p context a) (lower_expr a) (omega arith)
+      (operators.converted_same (scene floor scratch) t) (operators.converted_nodes t) ((h b).0 floor scratch)
   layer (form.Set target a) h t b floor scratch =
-      let bs = split (target_is_well_named p function locals sizes free target) (is_well_named p function locals sizes free a) b in
-      set_correct (lvalue_of p context target) (place_of target) (value_of p context a) (lower_expr a) (h.0 bs.0) (h.1 bs.1).0 floor scratch
+      let bs = split (target_is_well_named ground.p ground.own ground.locals ground.sizes free target) (is_well_named ground.p ground.own ground.locals ground.sizes free a) b in
+      set_correct (lvalue_of ground.p context target) (place_of target) (value_of ground.p context a) (lower_expr a) (h.0 bs.0) (h.1 bs.1).0 floor scratch
   layer (form.Change op kind target a) h t b floor scratch =
-      let bs = split (target_is_well_named p function locals sizes free target) (is_well_named p function locals sizes free a) b in
-      change_correct op kind t (lvalue_of p context target) (place_of target) (value_of p context a) (lower_expr a) (h.0 bs.0) (h.1 bs.1).0 floor scratch
-  layer (form.After up target) h t b floor scratch = after_correct up t (lvalue_of p context target) (place_of target) (h b) floor scratch
+      let bs = split (target_is_well_named ground.p ground.own ground.locals ground.sizes free target) (is_well_named ground.p ground.own ground.locals ground.sizes free a) b in
+      change_correct op kind t (lvalue_of ground.p context target) (place_of target) (value_of ground.p context a) (lower_expr a) (h.0 bs.0) (h.1 bs.1).0 floor scratch
+  layer (form.After up target) h t b floor scratch = after_correct up t (lvalue_of ground.p context target) (place_of target) (h b) floor scratch
   layer (form.Direct g args) h t b floor scratch =
-      let bs = split (is_callable p g (length args) (is_void t)) (all_of (map (is_well_named p function locals sizes free) args))
-      (sym (ap (λ k. is_callable p g k (is_void t) && all_of (map (is_well_named p function locals sizes free) args)) (length-map args (is_well_named p function locals sizes free))) ∙ b) in
-      arguments.correct_call p setting frame began function locals sizes held floor scratch temps bound context (is_void t) g (map (denotation_of p context) args) (map (λ (a : Part). a.lower) (map part_of args))
-      (subst (λ k. is_callable p g k (is_void t) ≡ true) (sym (args_long args)) bs.0) (calls floor scratch) (all_correct args h bs.1 floor scratch)
+      let bs = split (is_callable ground.p g (length args) (is_void t)) (all_of (map (is_well_named ground.p ground.own ground.locals ground.sizes free) args))
+      (sym (ap (λ k. is_callable ground.p g k (is_void t) && all_of (map (is_well_named ground.p ground.own ground.locals ground.sizes free) args)) (length-map args (is_well_named ground.p ground.own ground.locals ground.sizes free))) ∙ b) in
+      arguments.correct_call (scene floor scratch) bound context (is_void t) g (map (denotation_of ground.p context) args) (map (λ (a : Part). a.lower) (map part_of args))
+      (subst (λ k. is_callable ground.p g k (is_void t) ≡ true) (sym (args_long args)) bs.0) calls (all_correct args h bs.1 floor scratch)
   layer (form.Through args callee) h t b floor scratch =
-      let bs = split (all_of (map (is_well_named p function locals sizes free) args)) (is_well_named p function locals sizes free callee) b in
-      arguments.correct_through p setting frame began function locals sizes held floor scratch temps bound context strict t (map (denotation_of p context) args) (denotation_of p context callee) (map (λ (a : Part). a.lower) (map part_of args)) (lower_expr callee)
-      (calls floor scratch) (all_correct args h.0 bs.0 floor scratch) ((h.1 bs.1).0 floor scratch)
+      let bs = split (all_of (map (is_well_named ground.p ground.own ground.locals ground.sizes free) args)) (is_well_named ground.p ground.own ground.locals ground.sizes free callee) b in
+      arguments.correct_through (scene floor scratch) bound context strict t (map (denotation_of ground.p context) args) (denotation_of ground.p context callee) (map (λ (a : Part). a.lower) (map part_of args)) (lower_expr callee)
+      calls (all_correct args h.0 bs.0 floor scratch) ((h.1 bs.1).0 floor scratch)
   layer (form.Known k args) h t b floor scratch =
-      arguments.correct_known p setting frame began function locals sizes held floor scratch temps bound k (map (denotation_of p context) args) (map (λ (a : Part). a.lower) (map part_of args)) (knows floor scratch k) (all_correct args h b floor scratch)
+      arguments.correct_known (scene floor scratch) bound k (map (denotation_of ground.p context) args) (map (λ (a : Part). a.lower) (map part_of args)) (knows k) (all_correct args h b floor scratch)
 
   form_step : (x : Form-F Form Target Expr) → FormChildren P Q S x → P (roll-Form x)
   form_step x h t b floor scratch =
-      subst (λ (k : CType → Evaluation ℕ). c.CorrectFor p setting frame began function locals sizes held floor scratch temps bound 100 (k t) (form_lowering (roll-Form x) t)) (sym (fold-roll-Form (CType → Evaluation ℕ) (Evaluation Lvalue) Denotation (form_value p context) target_lvalue expr_denotation x))
-      (subst (λ (l : CType → Lowering). c.CorrectFor p setting frame began function locals sizes held floor scratch temps bound 100 (form_value p context (denotations x) t) (l t)) (sym (fold-roll-Form (CType → Lowering) Place Part lower_form place_of_layer lower_layer x))
-      (layer x h t (sym (ap (λ (q : CType → Bool). q t) (fold-roll-Form (CType → Bool) Bool Bool (names_form p function locals sizes free) (names_target p function locals sizes free) (names_layer p function locals sizes free) x)) ∙ b) floor scratch))
+      subst (λ (k : CType → Evaluation ℕ). CorrectFor (scene floor scratch) bound 100 (k t) (form_lowering (roll-Form x) t)) (sym (fold-roll-Form (CType → Evaluation ℕ) (Evaluation Lvalue) Denotation (form_value ground.p context) target_lvalue expr_denotation x))
+      (subst (λ (l : CType → Lowering). CorrectFor (scene floor scratch) bound 100 (form_value ground.p context (denotations x) t) (l t)) (sym (fold-roll-Form (CType → Lowering) Place Part lower_form place_of_layer lower_layer x))
+      (layer x h t (sym (ap (λ (q : CType → Bool). q t) (fold-roll-Form (CType → Bool) Bool Bool (names_form ground.p ground.own ground.locals ground.sizes free) (names_target ground.p ground.own ground.locals ground.sizes free) (names_layer ground.p ground.own ground.locals ground.sizes free) x)) ∙ b) floor scratch))
 
   abbrev found_places : Target-F Form Target Expr → Target-F (CType → Evaluation ℕ) (Evaluation Lvalue) Denotation
-  found_places = map-Target Form Target Expr (CType → Evaluation ℕ) (Evaluation Lvalue) Denotation (form_of p context) (lvalue_of p context) (denotation_of p context)
+  found_places = map-Target Form Target Expr (CType → Evaluation ℕ) (Evaluation Lvalue) Denotation (form_of ground.p context) (lvalue_of ground.p context) (denotation_of ground.p context)
 
   abbrev lowered_places : Target-F Form Target Expr → Target-F (CType → Lowering) Place Part
   lowered_places = map-Target Form Target Expr (CType → Lowering) Place Part form_lowering place_of part_of
 
   abbrev tested_places : Target-F Form Target Expr → Target-F (CType → Bool) Bool Bool
-  tested_places = map-Target Form Target Expr (CType → Bool) Bool Bool (form_is_well_named p function locals sizes free) (target_is_well_named p function locals sizes free) (is_well_named p function locals sizes free)
+  tested_places = map-Target Form Target Expr (CType → Bool) Bool Bool (form_is_well_named ground.p ground.own ground.locals ground.sizes free) (target_is_well_named ground.p ground.own ground.locals ground.sizes free) (is_well_named ground.p ground.own ground.locals ground.sizes free)
 
-  target_layer : (x : Target-F Form Target Expr) → TargetChildren P Q S x → names_target p function locals sizes free (tested_places x) ≡ true →
+  target_layer : (x : Target-F Form Target Expr) → TargetChildren P Q S x → names_target ground.p ground.own ground.locals ground.sizes free (tested_places x) ≡ true →
       PlaceShown (target_lvalue (found_places x)) (place_of_layer (lowered_places x))
   target_layer (form.Global g) h b = refl
   target_layer (form.Local l) h b =
-      let bs = split (nat_lt l locals) (free l && is_scalar (sizes l)) b in
-      let cs = split (free l) (is_scalar (sizes l)) bs.1 in
-      (refl, ltb-true l locals bs.0, (is_none (sizes l) cs.1, frees l cs.0))
+      let bs = split (nat_lt l ground.locals) (free l && is_scalar (ground.sizes l)) b in
+      let cs = split (free l) (is_scalar (ground.sizes l)) bs.1 in
+      (refl, ltb-true l ground.locals bs.0, (is_none (ground.sizes l) cs.1, frees l cs.0))
   target_layer (form.GlobalAt g e) h b =
-      let bs = split (not (is_own_switch p (slice_get p.functions function) g)) (is_well_named p function locals sizes free e) b in
-      (value_of p context e, refl, (λ floor scratch. λ bindings. no_switch p function g (slice_get p.functions function) bindings (denied (is_own_switch p (slice_get p.functions function) g) bs.0)), (h bs.1).0)
+      let bs = split (not (is_own_switch ground.p (slice_get ground.p.functions ground.own) g)) (is_well_named ground.p ground.own ground.locals ground.sizes free e) b in
+      (value_of ground.p context e, refl, (λ bindings. no_switch ground.p ground.own g (slice_get ground.p.functions ground.own) bindings (denied (is_own_switch ground.p (slice_get ground.p.functions ground.own) g) bs.0)), (h bs.1).0)
   target_layer (form.LocalAt l e) h b =
-      let bs = split (nat_lt l locals) (free l && (not (is_scalar (sizes l)) && is_well_named p function locals sizes free e)) b in
-      let ds = split (free l) (not (is_scalar (sizes l)) && is_well_named p function locals sizes free e) bs.1 in
-      let cs = split (not (is_scalar (sizes l))) (is_well_named p function locals sizes free e) ds.1 in
-      (value_of p context e, refl, (λ floor scratch. (ltb-true l locals bs.0, (is_some (sizes l) cs.0, frees l ds.0))), (h cs.1).0)
+      let bs = split (nat_lt l ground.locals) (free l && (not (is_scalar (ground.sizes l)) && is_well_named ground.p ground.own ground.locals ground.sizes free e)) b in
+      let ds = split (free l) (not (is_scalar (ground.sizes l)) && is_well_named ground.p ground.own ground.locals ground.sizes free e) bs.1 in
+      let cs = split (not (is_scalar (ground.sizes l))) (is_well_named ground.p ground.own ground.locals ground.sizes free e) ds.1 in
+      (value_of ground.p context e, refl, (ltb-true l ground.locals bs.0, (is_some (ground.sizes l) cs.0, frees l ds.0)), (h cs.1).0)
 
   target_step : (x : Target-F Form Target Expr) → TargetChildren P Q S x → Q (roll-Target x)
   target_step x h b =
-      subst (λ (k : Evaluation Lvalue). PlaceShown k (place_of (roll-Target x))) (sym (fold-roll-Target (CType → Evaluation ℕ) (Evaluation Lvalue) Denotation (form_value p context) target_lvalue expr_denotation x))
+      subst (λ (k : Evaluation Lvalue). PlaceShown k (place_of (roll-Target x))) (sym (fold-roll-Target (CType → Evaluation ℕ) (Evaluation Lvalue) Denotation (form_value ground.p context) target_lvalue expr_denotation x))
       (subst (λ (l : Place). PlaceShown (target_lvalue (found_places x)) l) (sym (fold-roll-Target (CType → Lowering) Place Part lower_form place_of_layer lower_layer x))
-      (target_layer x h (sym (fold-roll-Target (CType → Bool) Bool Bool (names_form p function locals sizes free) (names_target p function locals sizes free) (names_layer p function locals sizes free) x) ∙ b)))
+      (target_layer x h (sym (fold-roll-Target (CType → Bool) Bool Bool (names_form ground.p ground.own ground.locals ground.sizes free) (names_target ground.p ground.own ground.locals ground.sizes free) (names_layer ground.p ground.own ground.locals ground.sizes free) x) ∙ b)))
 
   expr_step : (x : Expr-F Form Target Expr) → P x.what → S (roll-Expr x)
   expr_step x h b =
-      let meant = fold-roll-Expr (CType → Evaluation ℕ) (Evaluation Lvalue) Denotation (form_value p context) target_lvalue expr_denotation x in
+      let meant = fold-roll-Expr (CType → Evaluation ℕ) (Evaluation Lvalue) Denotation (form_value ground.p context) target_lvalue expr_denotation x in
       let part = fold-roll-Expr (CType → Lowering) Place Part lower_form place_of_layer lower_layer x in
-      let named = fold-roll-Expr (CType → Bool) Bool Bool (names_form p function locals sizes free) (names_target p function locals sizes free) (names_layer p function locals sizes free) x in (
+      let named = fold-roll-Expr (CType → Bool) Bool Bool (names_form ground.p ground.own ground.locals ground.sizes free) (names_target ground.p ground.own ground.locals ground.sizes free) (names_layer ground.p ground.own ground.locals ground.sizes free) x in (
         (λ floor scratch.
-            subst (λ (k : Denotation). c.Correct p setting frame began function locals sizes held floor scratch temps bound k.value (lower_expr (roll-Expr x))) (sym meant)
-            (subst (λ (l : Part). c.Correct p setting frame began function locals sizes held floor scratch temps bound (counted 1 (form_of p context x.what x.ctype)) l.lower) (sym part)
-            (show.counted_once p setting frame began function locals sizes held floor scratch temps bound (form_of p context x.what x.ctype) (form_lowering x.what x.ctype) (h x.ctype (sym named ∙ b) floor scratch)))),
+            subst (λ (k : Denotation). Correct (scene floor scratch) bound k.value (lower_expr (roll-Expr x))) (sym meant)
+            (subst (λ (l : Part). Correct (scene floor scratch) bound (counted 1 (form_of ground.p context x.what x.ctype)) l.lower) (sym part)
+            (show.counted_once (scene floor scratch) bound (form_of ground.p context x.what x.ctype) (form_lowering x.what x.ctype) (h x.ctype (sym named ∙ b) floor scratch)))),
         ap (λ (l : Part). l.ctype) part ∙ sym (ap (λ (k : Denotation). k.ctype) meant),
       )
 
   -- Every expression that names only what there is is lowered correctly.
-  pub expr_correct : (e : Expr) → is_well_named p function locals sizes free e ≡ true → Everywhere 0 (value_of p context e) (lower_expr e)
+  pub expr_correct : (e : Expr) → is_well_named ground.p ground.own ground.locals ground.sizes free e ≡ true → Everywhere 0 (value_of ground.p context e) (lower_expr e)
   expr_correct e b = (expr_ind P Q S form_step target_step expr_step e b).0

@@ -1,23 +1,21 @@
 -- The three kinds of loops, at every bound.
-use Rattle.std.proofs.Common.{◌≡◌, ℕ, ◌+◌, ◌≤◌, Bool, true, false, cond, eqb, List, [], ◌∷◌, ◌++◌, Option, refl, ◌∙◌, arith}
+use Rattle.std.proofs.Common.{◌≡◌, ℕ, ◌+◌, ◌≤◌, Bool, true, false, cond, eqb, List, [], ◌∷◌, ◌++◌, refl, ◌∙◌, arith}
 use Rattle.mv_ir.specs.declared.stm.Stm.{Stm}
 use Rattle.mv_ir.specs.declared.stm.Stm.TheOpen as stm
-use Rattle.mv_ast.specs.declared.program.Program.{Program}
-use Rattle.mv_ast.specs.declared.world.Binding.{Binding}
 use Rattle.mv_ast.specs.Worlds.{World, bind, give}
 use Rattle.mv_meaning.specs.declared.state.Frame.{Frame}
 use Rattle.mv_meaning.specs.declared.state.Flow.{Flow}
 use Rattle.mv_meaning.specs.declared.state.Flow.TheVariants.{Goes, Breaks, Continues, Returns}
 use Rattle.mv_meaning.specs.Meaning.{Evaluation, after_body, unless_zero}
-use Rattle.mv_ir.specs.World.{Setting}
-use Rattle.mv_ir.specs.World as code_world
 use Rattle.mv_ir.specs.Outcome.{State, Bound}
 use Rattle.mv_ir.specs.Outcome as ir
 use Rattle.mv_ir.proofs.Keeping.{one_meaning}
 use Rattle.mv_lower_spec.specs.Lowered.{Lowering}
-use Rattle.mv_lower_spec.specs.Statements.{Jumps, in_body, break, enclosed, test_and_body, out_of, turn_out}
+use Rattle.mv_lower_spec.specs.Statements.{FlowCorrect, Jumps, in_body, break, enclosed, test_and_body, out_of, turn_out}
+use Rattle.mv_lower_spec.specs.Correct.{Ground, resting, CorrectFor}
 use Rattle.mv_lower_spec.proofs.Sequences.{under, assoc, given}
 use Rattle.mv_lower_spec.proofs.Flows as flows
+use Rattle.mv_lower_spec.proofs.Flows.{code}
 use Rattle.mv_lower_spec.proofs.Flows.{through}
 
 -- ---- a turn, as the loop's code does it: a test that fails leaves the loop
@@ -105,40 +103,34 @@ after_same m next next' f w e = under (m f w) (λ flow. after_body flow next) (�
     by Continues f1 w1 = e f1 w1
     by (Returns v) f1 w1 = refl
 
-module _ (p : Program) (setting : Setting) (frame : code_world.Frame) (began : List Binding) (own locals : ℕ) (sizes : ℕ → Option ℕ) (room : ℕ) (void : Bool) where
-  abbrev FlowCorrect : (Flow → State → ir.Outcome) → ℕ → Bound → Evaluation Flow → List Stm → Type 0
-  FlowCorrect = flows.FlowCorrect p setting frame began own locals sizes room void
+module _ (ground : Ground) (void : Bool) where
+  raise : (out : Flow → State → ir.Outcome) (k k' : ℕ) (b : Bound) (m : Evaluation Flow) (xs : List Stm) → k ≤ k' → FlowCorrect ground void out k b m xs → FlowCorrect ground void out k' b m xs
+  raise out k k' b m xs le h f w s sh = flows.more ground void out k k' (code ground xs b s) (m f w) le (h f w s sh)
 
-  abbrev CorrectFor : Bound → ℕ → Evaluation ℕ → Lowering → Type 0
-  CorrectFor = flows.CorrectFor p setting frame began own locals sizes room void
+  leaves_loop : (j : Jumps) (b : Bound) → FlowCorrect ground void (turn_out void j) 8 b (give Breaks) (break 0 ∷ [])
+  leaves_loop j b f w s h = record { state = s; cost = 8; runs = one_meaning ground.setting ground.frame (stm.Break 0) b s; shows = h; nothing = λ q. refl; paid = omega arith }
 
-  raise : (out : Flow → State → ir.Outcome) (k k' : ℕ) (b : Bound) (m : Evaluation Flow) (xs : List Stm) → k ≤ k' → FlowCorrect out k b m xs → FlowCorrect out k' b m xs
-  raise out k k' b m xs le h f w s sh = flows.more p setting frame began own locals sizes room void out k k' (flows.code p setting frame began own locals sizes room void xs b s) (m f w) le (h f w s sh)
-
-  leaves_loop : (j : Jumps) (b : Bound) → FlowCorrect (turn_out void j) 8 b (give Breaks) (break 0 ∷ [])
-  leaves_loop j b f w s h = record { state = s; cost = 8; runs = one_meaning setting frame (stm.Break 0) b s; shows = h; nothing = λ q. refl; paid = omega arith }
-
-  goes_on : (j : Jumps) (b : Bound) → FlowCorrect (turn_out void j) 8 b (give Goes) []
+  goes_on : (j : Jumps) (b : Bound) → FlowCorrect ground void (turn_out void j) 8 b (give Goes) []
   goes_on j b f w s h = record { state = s; cost = 0; runs = refl; shows = h; nothing = λ q. refl; paid = omega arith }
 
   -- a test and a body
-  pub while_correct : (j : Jumps) (b : Bound) (before : ℕ) (me : Evaluation ℕ) (mb : Evaluation Flow) (le : Lowering) (body : List Stm) → (le locals).top ≤ room → CorrectFor b before me le →
-      FlowCorrect (out_of void (in_body j)) 0 b mb body → FlowCorrect (turn_out void j) (8 + before) b (while_turn me mb) (test_and_body locals le (enclosed body ∷ []))
+  pub while_correct : (j : Jumps) (b : Bound) (before : ℕ) (me : Evaluation ℕ) (mb : Evaluation Flow) (le : Lowering) (body : List Stm) → (le ground.locals).top ≤ ground.room → CorrectFor (resting ground) b before me le →
+      FlowCorrect ground void (out_of void (in_body j)) 0 b mb body → FlowCorrect ground void (turn_out void j) (8 + before) b (while_turn me mb) (test_and_body ground.locals le (enclosed body ∷ []))
   while_correct j b before me mb le body fits ce cb =
-      flows.tested p setting frame began own locals sizes room void (turn_out void j) b 8 before me mb (give Breaks) le (enclosed body ∷ []) (break 0 ∷ []) fits ce
-      (raise (turn_out void j) 0 8 b mb (enclosed body ∷ []) (omega arith) (flows.in_block p setting frame began own locals sizes room void j b mb body cb)) (leaves_loop j b)
+      flows.tested ground void (turn_out void j) b 8 before me mb (give Breaks) le (enclosed body ∷ []) (break 0 ∷ []) fits ce
+      (raise (turn_out void j) 0 8 b mb (enclosed body ∷ []) (omega arith) (flows.in_block ground void j b mb body cb)) (leaves_loop j b)
 
-  pub do_correct : (j : Jumps) (b : Bound) (me : Evaluation ℕ) (mb : Evaluation Flow) (le : Lowering) (body : List Stm) → (le locals).top ≤ room → CorrectFor b 0 me le →
-      FlowCorrect (out_of void (in_body j)) 0 b mb body → FlowCorrect (turn_out void j) 64 b (do_turn mb me) (enclosed body ∷ test_and_body locals le [])
+  pub do_correct : (j : Jumps) (b : Bound) (me : Evaluation ℕ) (mb : Evaluation Flow) (le : Lowering) (body : List Stm) → (le ground.locals).top ≤ ground.room → CorrectFor (resting ground) b 0 me le →
+      FlowCorrect ground void (out_of void (in_body j)) 0 b mb body → FlowCorrect ground void (turn_out void j) 64 b (do_turn mb me) (enclosed body ∷ test_and_body ground.locals le [])
   do_correct j b me mb le body fits ce cb =
-      raise (turn_out void j) ((8 + 0) + 0) 64 b (do_turn mb me) ((enclosed body ∷ []) ++ test_and_body locals le []) (omega arith)
-      (flows.in_two_parts p setting frame began own locals sizes room void j b 0 (8 + 0) mb (test_turn me) (enclosed body ∷ []) (test_and_body locals le []) (flows.in_block p setting frame began own locals sizes room void j b mb body cb)
-      (flows.tested p setting frame began own locals sizes room void (turn_out void j) b 8 0 me (give Goes) (give Breaks) le [] (break 0 ∷ []) fits ce (goes_on j b) (leaves_loop j b)))
+      raise (turn_out void j) ((8 + 0) + 0) 64 b (do_turn mb me) ((enclosed body ∷ []) ++ test_and_body ground.locals le []) (omega arith)
+      (flows.in_two_parts ground void j b 0 (8 + 0) mb (test_turn me) (enclosed body ∷ []) (test_and_body ground.locals le []) (flows.in_block ground void j b mb body cb)
+      (flows.tested ground void (turn_out void j) b 8 0 me (give Goes) (give Breaks) le [] (break 0 ∷ []) fits ce (goes_on j b) (leaves_loop j b)))
 
-  pub for_correct : (j : Jumps) (b : Bound) (me ms : Evaluation ℕ) (mb : Evaluation Flow) (le ls : Lowering) (body : List Stm) → (le locals).top ≤ room → (ls locals).top ≤ room → CorrectFor b 14 me le → CorrectFor b 14 ms ls →
-      FlowCorrect (out_of void (in_body j)) 0 b mb body → FlowCorrect (turn_out void j) 64 b (for_turn me mb ms) (test_and_body locals le (enclosed body ∷ []) ++ (ls locals).code)
+  pub for_correct : (j : Jumps) (b : Bound) (me ms : Evaluation ℕ) (mb : Evaluation Flow) (le ls : Lowering) (body : List Stm) → (le ground.locals).top ≤ ground.room → (ls ground.locals).top ≤ ground.room → CorrectFor (resting ground) b 14 me le → CorrectFor (resting ground) b 14 ms ls →
+      FlowCorrect ground void (out_of void (in_body j)) 0 b mb body → FlowCorrect ground void (turn_out void j) 64 b (for_turn me mb ms) (test_and_body ground.locals le (enclosed body ∷ []) ++ (ls ground.locals).code)
   for_correct j b me ms mb le ls body fits fits_step ce cs cb =
-      raise (turn_out void j) (14 + (8 + 14)) 64 b (for_turn me mb ms) (test_and_body locals le (enclosed body ∷ []) ++ (ls locals).code) (omega arith)
-      (flows.in_two_parts p setting frame began own locals sizes room void j b (8 + 14) 14 (while_turn me mb) (bind ms (λ _. give Goes)) (test_and_body locals le (enclosed body ∷ [])) (ls locals).code
+      raise (turn_out void j) (14 + (8 + 14)) 64 b (for_turn me mb ms) (test_and_body ground.locals le (enclosed body ∷ []) ++ (ls ground.locals).code) (omega arith)
+      (flows.in_two_parts ground void j b (8 + 14) 14 (while_turn me mb) (bind ms (λ _. give Goes)) (test_and_body ground.locals le (enclosed body ∷ [])) (ls ground.locals).code
       (while_correct j b 14 me mb le body fits ce cb)
-      (flows.effect p setting frame began own locals sizes room void (turn_out void j) Goes b 14 14 ms ls (λ s. refl) (λ q. refl) (omega arith) fits_step cs))
+      (flows.effect ground void (turn_out void j) Goes b 14 14 ms ls (λ s. refl) (λ q. refl) (omega arith) fits_step cs))

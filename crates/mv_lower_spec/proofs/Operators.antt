@@ -1,23 +1,19 @@
 -- The operators as trees have the source's values.
-use Rattle.std.proofs.Common.{◌≡◌, ℕ, suc, ◌+◌, ◌≤◌, Bool, true, false, cond, Option, refl, ◌∙◌, ap, arith, List}
+use Rattle.std.proofs.Common.{◌≡◌, ℕ, suc, ◌+◌, ◌≤◌, Bool, true, false, cond, refl, ◌∙◌, ap, arith}
 use Rattle.std.specs.Prelude.{not, nat_eq}
 use Rattle.mv_num.specs.Words as word
 use Rattle.mv_ir.specs.declared.tree.Tree.{Tree}
 use Rattle.mv_ir.specs.declared.tree.Tree.TheOpen as tree
-use Rattle.mv_ast.specs.declared.program.Program.{Program}
-use Rattle.mv_ast.specs.declared.world.Binding.{Binding}
 use Rattle.mv_ast.specs.declared.program.CType.{CType}
 use Rattle.mv_ast.specs.declared.program.CType.TheVariants.{Void, Scalar, Pointer}
 use Rattle.mv_ast.specs.Operators.{is_unsigned, is_less, as_word, converted, unary_value, bit_value}
-use Rattle.mv_ir.specs.World.{Setting}
-use Rattle.mv_ir.specs.World as code_world
-use Rattle.mv_ir.specs.Outcome.{State, Bound}
+use Rattle.mv_ir.specs.Outcome.{State}
 use Rattle.mv_ir.specs.Trees as ir_tree
 use Rattle.mv_ir.specs.Trees.{nodes}
 use Rattle.mv_ir.proofs.Rolls.{value_roll, nodes_roll}
 use Rattle.mv_lower_spec.specs.Lowered.{number, unary, binary}
 use Rattle.mv_lower_spec.specs.Lower.{narrowed, unary_tree, converted_tree, less_tree, bit_tree}
-use Rattle.mv_lower_spec.specs.Correct as c
+use Rattle.mv_lower_spec.specs.Correct.{Scene, val}
 use Rattle.mv_lower_spec.proofs.Running as run
 use Rattle.mv_lower_spec.proofs.Running.{nodes_number, nodes_unary, nodes_binary}
 
@@ -55,35 +51,32 @@ converted_nodes (Pointer signature) a = omega arith
 
 -- ---- values
 
-module _ (p : Program) (setting : Setting) (frame : code_world.Frame) (began : List Binding) (function locals : ℕ) (sizes : ℕ → Option ℕ) (held : ℕ → Option (List ℕ × List ℕ)) (floor : ℕ) (scratch : ℕ → ℕ) (temps : ℕ) (bound : Bound) where
-  abbrev V : Tree → State → ℕ
-  V = c.val p setting frame began function locals sizes held floor scratch temps bound
-
-  same_if : (z : Bool) (x y : Tree) (v u : ℕ) (s : State) → V x s ≡ v → V y s ≡ u → V (cond z x y) s ≡ cond z v u
+module _ (scene : Scene) where
+  same_if : (z : Bool) (x y : Tree) (v u : ℕ) (s : State) → val scene x s ≡ v → val scene y s ≡ u → val scene (cond z x y) s ≡ cond z v u
   same_if true x y v u s h k = h
   same_if false x y v u s h k = k
 
-  abbrev B : (o : ℕ) (a b : Tree) (s : State) → V (binary o a b) s ≡ ir_tree.binary o (V a s) (V b s)
-  B o a b s = run.val_binary p setting frame began function locals sizes held floor scratch temps bound o a b s
+  abbrev B : (o : ℕ) (a b : Tree) (s : State) → val scene (binary o a b) s ≡ ir_tree.binary o (val scene a s) (val scene b s)
+  B o a b s = run.val_binary scene o a b s
 
-  less_value : (t : CType) (a b : Tree) (s : State) → V (less_tree t a b) s ≡ as_word (is_less t (V a s) (V b s))
+  less_value : (t : CType) (a b : Tree) (s : State) → val scene (less_tree t a b) s ≡ as_word (is_less t (val scene a s) (val scene b s))
   unfolding ir_tree.binary
   less_value t a b s = same_if (is_unsigned t) (binary 10 a b) (binary 9 a b) _ _ s (B 10 a b s) (B 9 a b s) ∙ by (is_unsigned t)
     where
-      by : (z : Bool) → cond z (ir_tree.binary 10 (V a s) (V b s)) (ir_tree.binary 9 (V a s) (V b s)) ≡ as_word (cond z (word.lt_u (V a s) (V b s)) (word.lt_s (V a s) (V b s)))
+      by : (z : Bool) → cond z (ir_tree.binary 10 (val scene a s) (val scene b s)) (ir_tree.binary 9 (val scene a s) (val scene b s)) ≡ as_word (cond z (word.lt_u (val scene a s) (val scene b s)) (word.lt_s (val scene a s) (val scene b s)))
       by true = refl
       by false = refl
 
-  not_less : (t : CType) (a b : Tree) (s : State) → V (unary 2 (less_tree t a b)) s ≡ as_word (not (is_less t (V a s) (V b s)))
+  not_less : (t : CType) (a b : Tree) (s : State) → val scene (unary 2 (less_tree t a b)) s ≡ as_word (not (is_less t (val scene a s) (val scene b s)))
   unfolding ir_tree.unary
   not_less t a b s =
-      run.val_unary p setting frame began function locals sizes held floor scratch temps bound 2 (less_tree t a b) s ∙ ap (ir_tree.unary 2) (less_value t a b s) ∙ by (is_less t (V a s) (V b s))
+      run.val_unary scene 2 (less_tree t a b) s ∙ ap (ir_tree.unary 2) (less_value t a b s) ∙ by (is_less t (val scene a s) (val scene b s))
     where
       by : (z : Bool) → ir_tree.unary 2 (as_word z) ≡ as_word (not z)
       by true = refl
       by false = refl
 
-  pub bit_same : (op : ℕ) (t : CType) (a b : Tree) (s : State) → V (bit_tree op t a b) s ≡ bit_value op t (V a s) (V b s)
+  pub bit_same : (op : ℕ) (t : CType) (a b : Tree) (s : State) → val scene (bit_tree op t a b) s ≡ bit_value op t (val scene a s) (val scene b s)
   unfolding bit_value ir_tree.binary
   bit_same op t a b s =
       same_if (nat_eq op 17) _ _ _ _ s (B 3 a b s) (same_if (nat_eq op 18) _ _ _ _ s (B 4 a b s) (same_if (nat_eq op 19) _ _ _ _ s (B 5 a b s)
@@ -92,26 +85,26 @@ module _ (p : Program) (setting : Setting) (frame : code_world.Frame) (began : L
       (same_if (nat_eq op 27) _ _ _ _ s (not_less t b a s) (same_if (nat_eq op 28) _ _ _ _ s (not_less t a b s)
       (same_if (nat_eq op 29) _ _ _ _ s (B 11 a b s) (B 12 a b s))))))))))
 
-  pub unary_same : (op : ℕ) (a : Tree) (s : State) → V (unary_tree op a) s ≡ unary_value op (V a s)
+  pub unary_same : (op : ℕ) (a : Tree) (s : State) → val scene (unary_tree op a) s ≡ unary_value op (val scene a s)
   unfolding unary_value ir_tree.unary ir_tree.binary
   unary_same op a s =
-      same_if (nat_eq op 10) _ _ _ _ s (B 5 a (number 4294967295) s ∙ ap (λ k. ir_tree.binary 5 (V a s) k) (run.val_number p setting frame began function locals sizes held floor scratch temps bound 4294967295 s))
-      (same_if (nat_eq op 11) _ _ _ _ s (run.val_unary p setting frame began function locals sizes held floor scratch temps bound 2 a s)
-      (same_if (nat_eq op 13) _ _ _ _ s (run.val_unary p setting frame began function locals sizes held floor scratch temps bound 0 a s) refl))
+      same_if (nat_eq op 10) _ _ _ _ s (B 5 a (number 4294967295) s ∙ ap (λ k. ir_tree.binary 5 (val scene a s) k) (run.val_number scene 4294967295 s))
+      (same_if (nat_eq op 11) _ _ _ _ s (run.val_unary scene 2 a s)
+      (same_if (nat_eq op 13) _ _ _ _ s (run.val_unary scene 0 a s) refl))
 
-  pub converted_same : (t : CType) (a : Tree) (s : State) → V (converted_tree t a) s ≡ converted t (V a s)
-  converted_same Void a s = run.val_number p setting frame began function locals sizes held floor scratch temps bound 0 s
-  converted_same (Scalar kind) a s = ap (λ (v : ir_tree.Value). v s.temps s.world.globals) (value_roll setting.numbers frame.bound (tree.Narrow kind a))
+  pub converted_same : (t : CType) (a : Tree) (s : State) → val scene (converted_tree t a) s ≡ converted t (val scene a s)
+  converted_same Void a s = run.val_number scene 0 s
+  converted_same (Scalar kind) a s = ap (λ (v : ir_tree.Value). v s.temps s.world.globals) (value_roll scene.setting.numbers scene.frame.bound (tree.Narrow kind a))
   converted_same (Pointer signature) a s = refl
 
-  pub add_same : (a b : Tree) (s : State) → V (binary 0 a b) s ≡ word.add (V a s) (V b s)
+  pub add_same : (a b : Tree) (s : State) → val scene (binary 0 a b) s ≡ word.add (val scene a s) (val scene b s)
   unfolding ir_tree.binary
   add_same a b s = B 0 a b s
 
-  pub sub_same : (a b : Tree) (s : State) → V (binary 1 a b) s ≡ word.sub (V a s) (V b s)
+  pub sub_same : (a b : Tree) (s : State) → val scene (binary 1 a b) s ≡ word.sub (val scene a s) (val scene b s)
   unfolding ir_tree.binary
   sub_same a b s = B 1 a b s
 
-  pub mul_same : (a b : Tree) (s : State) → V (binary 2 a b) s ≡ word.mul (V a s) (V b s)
+  pub mul_same : (a b : Tree) (s : State) → val scene (binary 2 a b) s ≡ word.mul (val scene a s) (val scene b s)
   unfolding ir_tree.binary
   mul_same a b s = B 2 a b s

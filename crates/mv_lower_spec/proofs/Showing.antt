@@ -1,85 +1,60 @@
 -- How what code shows is put together: one part and then the next, and values that are put away.
-use Rattle.std.proofs.Common.{◌≡◌, ℕ, ◌+◌, ◌*◌, ◌<◌, ◌≤◌, Bool, true, false, List, [], ◌∷◌, ◌++◌, max, Option, refl, sym, ◌∙◌, subst, ap, arith, append-nil}
+use Rattle.std.proofs.Common.{◌≡◌, ℕ, ◌+◌, ◌*◌, ◌<◌, ◌≤◌, Bool, true, false, List, [], ◌∷◌, ◌++◌, max, refl, sym, ◌∙◌, subst, ap, arith, append-nil}
 use Rattle.std.specs.Prelude.{◌&&◌}
 use Rattle.std.proofs.lemmas.List.{get_or-set_same, get_or-set_other, length-set}
 use Rattle.mv_ir.specs.declared.tree.Tree.{Tree}
 use Rattle.mv_ir.specs.declared.stm.Stm.{Stm}
-use Rattle.mv_ast.specs.declared.program.Program.{Program}
-use Rattle.mv_ast.specs.declared.world.Binding.{Binding}
 use Rattle.mv_ast.specs.Worlds.{World, Outcome, Came, Stopped, after, and_then, bind, give, counted}
 use Rattle.mv_meaning.specs.declared.state.Frame.{Frame}
 use Rattle.mv_meaning.specs.Meaning.{Evaluation}
-use Rattle.mv_ir.specs.World.{Setting}
-use Rattle.mv_ir.specs.World as code_world
 use Rattle.mv_ir.specs.Outcome.{State, Next, Ends, Bound}
-use Rattle.mv_ir.specs.Outcome as ir
 use Rattle.mv_ir.specs.Trees.{nodes}
 use Rattle.mv_ir.specs.Meaning.{with_temp}
 use Rattle.mv_lower_spec.specs.Lowered.{Lowered, Lowering, temp, set, is_empty, is_low, kept_if, first, second}
 use Rattle.mv_lower_spec.specs.Correct as c
+use Rattle.mv_lower_spec.specs.Correct.{Scene, val, Shows, Kept, Reached, Shown, CorrectFor, Correct}
 use Rattle.mv_lower_spec.proofs.Running as run
 use Rattle.mv_lower_spec.proofs.Running.{nodes_temp}
 
-module _ (p : Program) (setting : Setting) (frame : code_world.Frame) (began : List Binding) (function locals : ℕ) (sizes : ℕ → Option ℕ) (held : ℕ → Option (List ℕ × List ℕ)) (floor : ℕ) (scratch : ℕ → ℕ) (temps : ℕ) (bound : Bound) where
-  abbrev V : Tree → State → ℕ
-  V = c.val p setting frame began function locals sizes held floor scratch temps bound
-
-  abbrev R : List Stm → State → ir.Outcome → ℕ → Type 0
-  R = c.Runs p setting frame began function locals sizes held floor scratch temps bound
-
-  abbrev Shows : Frame → World → State → Type 0
-  Shows = c.Shows p setting frame began function locals sizes held floor scratch temps bound
-
-  abbrev Kept : ℕ → State → State → Type 0
-  Kept = c.Kept p setting frame began function locals sizes held floor scratch temps bound
-
-  abbrev Reached : (due credit n : ℕ) → State → List Stm → Tree → ℕ → Frame → World → ℕ → Type 0
-  Reached = c.Reached p setting frame began function locals sizes held floor scratch temps bound
-
-  abbrev Shown : (due credit n : ℕ) → State → List Stm → Tree → Outcome Frame ℕ → Type 0
-  Shown = c.Shown p setting frame began function locals sizes held floor scratch temps bound
-
-  abbrev Correct : Evaluation ℕ → Lowering → Type 0
-  Correct = c.Correct p setting frame began function locals sizes held floor scratch temps bound
-
-  abbrev CorrectFor : ℕ → Evaluation ℕ → Lowering → Type 0
-  CorrectFor = c.CorrectFor p setting frame began function locals sizes held floor scratch temps bound
-
+module _ (scene : Scene) where
   -- ---- a temporary that is no local
 
-  pub shows_temp : (f : Frame) (w : World) (s : State) (n v : ℕ) → floor ≤ n → Shows f w s → Shows f w (with_temp s n v)
+  pub shows_temp : (f : Frame) (w : World) (s : State) (n v : ℕ) → scene.floor ≤ n → Shows scene f w s → Shows scene f w (with_temp s n v)
   shows_temp f w s n v h k = record {
-    world = k.world;
-    depth = k.depth;
-    live = k.live;
-    pinned = k.pinned;
-    function = k.function;
-    switches = k.switches;
+    around = k.around;
+    in_arrays = k.in_arrays;
+    in_temps = record {
+      above = k.above;
+      below = λ j le lt. get_or-set_other s.temps n j v 0 (λ e. absurd (omega (arith, h, lt, e))) ∙ k.below j le lt;
+      temps = length-set s.temps n v ∙ k.temps;
+    };
     each = λ l le sc. get_or-set_other s.temps n l v 0 (λ e. absurd (omega (arith, h, le, e, k.above))) ∙ k.each l le sc;
-    above = k.above;
-    below = λ j le lt. get_or-set_other s.temps n j v 0 (λ e. absurd (omega (arith, h, lt, e))) ∙ k.below j le lt;
-    elements = k.elements;
-    untouched = k.untouched;
-    words = k.words;
-    size = k.size;
-    temps = length-set s.temps n v ∙ k.temps;
-    arrays = k.arrays;
-    globals = k.globals;
   }
 
-  pub kept_refl : (n : ℕ) (s : State) → Kept n s s
+  pub kept_refl : (n : ℕ) (s : State) → Kept scene n s s
   kept_refl n s k le lt = refl
 
-  pub kept_temp : (n : ℕ) (s : State) (v : ℕ) → Kept n s (with_temp s n v)
+  pub kept_temp : (n : ℕ) (s : State) (v : ℕ) → Kept scene n s (with_temp s n v)
   kept_temp n s v k le lt = get_or-set_other s.temps n k v 0 (λ e. absurd (omega (arith, lt, e)))
 
-  pub kept_trans : (n m : ℕ) (s s1 s2 : State) → n ≤ m → Kept n s s1 → Kept m s1 s2 → Kept n s s2
+  pub kept_trans : (n m : ℕ) (s s1 s2 : State) → n ≤ m → Kept scene n s s1 → Kept scene m s1 s2 → Kept scene n s s2
   kept_trans n m s s1 s2 le h k i a b = k i a (omega (arith, le, b)) ∙ h i a b
 
+  pub kept_top : (keep : Bool) (n : ℕ) (l : Lowered) → (kept_if keep n l).top ≤ scene.room → l.top ≤ scene.room
+  kept_top true n l h = h
+  kept_top false n l h = omega (arith, h)
+
+  -- a value that is put away, or behind which no code comes, lasts
+  pub lasts : (keep : Bool) (n : ℕ) (l : Lowered) (s s1 : State) → scene.floor ≤ n → (keep ≡ true → s ≡ s1) → Kept scene (n + 1) s s1 → val scene (kept_if keep n l).tree s1 ≡ val scene (kept_if keep n l).tree s
+  lasts true n l s s1 le e k = ap (val scene l.tree) (sym (e refl))
+  lasts false n l s s1 le e k =
+      run.val_temp scene n s1 ∙ k n le (omega arith) ∙ sym (run.val_temp scene n s)
+
+module _ (scene : Scene) (bound : Bound) where
   -- ---- credit
 
   pub more_credit : (due due' credit credit' n m : ℕ) (s : State) (code : List Stm) (t : Tree) (o : Outcome Frame ℕ) →
-      n ≤ m → due' + credit ≤ due + credit' → credit ≤ credit' → Shown due credit m s code t o → Shown due' credit' n s code t o
+      n ≤ m → due' + credit ≤ due + credit' → credit ≤ credit' → Shown scene bound due credit m s code t o → Shown scene bound due' credit' n s code t o
   more_credit due due' credit credit' n m s code t (Came v f w work) nm le lc h = record {
     state = h.state;
     cost = h.cost;
@@ -92,7 +67,7 @@ module _ (p : Program) (setting : Setting) (frame : code_world.Frame) (began : L
   more_credit due due' credit credit' n m s code t (Stopped why w work) nm le lc h = record { cost = h.cost; runs = h.runs; paid = omega (arith, lc, h.paid) }
 
   -- some work pays
-  pub paid_by : (due credit n k : ℕ) (s : State) (code : List Stm) (t : Tree) (o : Outcome Frame ℕ) → Shown due (credit + 100 * k) n s code t o → Shown due credit n s code t (after k o)
+  pub paid_by : (due credit n k : ℕ) (s : State) (code : List Stm) (t : Tree) (o : Outcome Frame ℕ) → Shown scene bound due (credit + 100 * k) n s code t o → Shown scene bound due credit n s code t (after k o)
   paid_by due credit n k s code t (Came v f w work) h = record {
     state = h.state;
     cost = h.cost;
@@ -106,12 +81,12 @@ module _ (p : Program) (setting : Setting) (frame : code_world.Frame) (began : L
 
   -- ---- one part and then the rest
 
-  then_rest : (due total credit d c1 n n1 : ℕ) (s : State) (code rest : List Stm) (t t1 : Tree) (v : ℕ) (f : Frame) (w : World) (work : ℕ) (r : Reached d c1 n1 s code t1 v f w work) (o : Outcome Frame ℕ) →
-      n ≤ n1 → c1 + credit ≤ total → Shown due (credit + (3 * nodes t1 + d)) n r.state rest t o → Shown due total n s (code ++ rest) t (after work o)
+  then_rest : (due total credit d c1 n n1 : ℕ) (s : State) (code rest : List Stm) (t t1 : Tree) (v : ℕ) (f : Frame) (w : World) (work : ℕ) (r : Reached scene bound d c1 n1 s code t1 v f w work) (o : Outcome Frame ℕ) →
+      n ≤ n1 → c1 + credit ≤ total → Shown scene bound due (credit + (3 * nodes t1 + d)) n r.state rest t o → Shown scene bound due total n s (code ++ rest) t (after work o)
   then_rest due total credit d c1 n n1 s code rest t t1 v f w work r (Came v2 f2 w2 work2) le enough h = record {
     state = h.state;
     cost = r.cost + h.cost;
-    runs = run.runs_append p setting frame began function locals sizes held floor scratch temps bound code rest s r.state (Next h.state) r.cost h.cost r.runs h.runs;
+    runs = run.runs_append scene bound code rest s r.state (Next h.state) r.cost h.cost r.runs h.runs;
     shows = h.shows;
     value = h.value;
     kept = λ i a b. h.kept i a b ∙ r.kept i a (omega (arith, le, b));
@@ -119,76 +94,66 @@ module _ (p : Program) (setting : Setting) (frame : code_world.Frame) (began : L
   }
   then_rest due total credit d c1 n n1 s code rest t t1 v f w work r (Stopped why w2 work2) le enough h = record {
     cost = r.cost + h.cost;
-    runs = λ ne. run.runs_append p setting frame began function locals sizes held floor scratch temps bound code rest s r.state (Ends (c.end_of why (c.seen w2))) r.cost h.cost r.runs (h.runs ne);
+    runs = λ ne. run.runs_append scene bound code rest s r.state (Ends (c.end_of why (c.seen w2))) r.cost h.cost r.runs (h.runs ne);
     paid = omega (arith, enough, h.paid, r.paid);
   }
 
   pub follow : (due total credit d c1 n n1 : ℕ) (s : State) (code rest : List Stm) (t t1 : Tree) (o : Outcome Frame ℕ) (next : ℕ → Evaluation ℕ) → n ≤ n1 → c1 + credit ≤ total →
-      Shown d c1 n1 s code t1 o →
-      ((v : ℕ) (f : Frame) (w : World) (work : ℕ) (r : Reached d c1 n1 s code t1 v f w work) → Shown due (credit + (3 * nodes t1 + d)) n r.state rest t (next v f w)) →
-      Shown due total n s (code ++ rest) t (and_then o next)
+      Shown scene bound d c1 n1 s code t1 o →
+      ((v : ℕ) (f : Frame) (w : World) (work : ℕ) (r : Reached scene bound d c1 n1 s code t1 v f w work) → Shown scene bound due (credit + (3 * nodes t1 + d)) n r.state rest t (next v f w)) →
+      Shown scene bound due total n s (code ++ rest) t (and_then o next)
   follow due total credit d c1 n n1 s code rest t t1 (Came v f w work) next le enough h k =
       then_rest due total credit d c1 n n1 s code rest t t1 v f w work h (next v f w) le enough (k v f w work h)
   follow due total credit d c1 n n1 s code rest t t1 (Stopped why w work) next le enough h k = record {
     cost = h.cost;
-    runs = λ ne. run.runs_stop p setting frame began function locals sizes held floor scratch temps bound code rest s (c.end_of why (c.seen w)) h.cost (h.runs ne);
+    runs = λ ne. run.runs_stop scene bound code rest s (c.end_of why (c.seen w)) h.cost (h.runs ne);
     paid = omega (arith, enough, h.paid);
   }
 
   -- nothing more to do
-  pub done : (due credit n : ℕ) (s : State) (t : Tree) (v : ℕ) (f : Frame) (w : World) → Shows f w s → V t s ≡ v → 3 * nodes t + due ≤ credit → Shown due credit n s [] t (give v f w)
+  pub done : (due credit n : ℕ) (s : State) (t : Tree) (v : ℕ) (f : Frame) (w : World) → Shows scene f w s → val scene t s ≡ v → 3 * nodes t + due ≤ credit → Shown scene bound due credit n s [] t (give v f w)
   done due credit n s t v f w h e le = record {
     state = s;
     cost = 0;
-    runs = run.runs_nil p setting frame began function locals sizes held floor scratch temps bound s;
+    runs = run.runs_nil scene bound s;
     shows = h;
     value = e;
-    kept = kept_refl n s;
+    kept = kept_refl scene n s;
     paid = omega (arith, le);
   }
 
   -- the same code, written with nothing behind it
-  pub without_nil : (due credit n : ℕ) (s : State) (code : List Stm) (t : Tree) (o : Outcome Frame ℕ) → Shown due credit n s (code ++ []) t o → Shown due credit n s code t o
-  without_nil due credit n s code t o h = subst (λ l. Shown due credit n s l t o) (append-nil code) h
+  pub without_nil : (due credit n : ℕ) (s : State) (code : List Stm) (t : Tree) (o : Outcome Frame ℕ) → Shown scene bound due credit n s (code ++ []) t o → Shown scene bound due credit n s code t o
+  without_nil due credit n s code t o h = subst (λ l. Shown scene bound due credit n s l t o) (append-nil code) h
 
   -- ---- a value in a temporary
 
-  put_away : (credit n at : ℕ) (s : State) (l : Lowered) (o : Outcome Frame ℕ) → n ≤ at → floor ≤ at → at < temps → Shown 11 credit n s l.code l.tree o → Shown 0 credit n s (l.code ++ set at l.tree ∷ []) (temp at) o
+  put_away : (credit n at : ℕ) (s : State) (l : Lowered) (o : Outcome Frame ℕ) → n ≤ at → scene.floor ≤ at → at < scene.room → Shown scene bound 11 credit n s l.code l.tree o → Shown scene bound 0 credit n s (l.code ++ set at l.tree ∷ []) (temp at) o
   put_away credit n at s l (Came v f w work) up le lt r =
-      let x = V l.tree r.state in
+      let x = val scene l.tree r.state in
       record {
         state = with_temp r.state at x;
         cost = r.cost + (8 + 3 * nodes l.tree);
-        runs = run.runs_append p setting frame began function locals sizes held floor scratch temps bound l.code (set at l.tree ∷ []) s r.state _ r.cost _ r.runs (run.runs_set p setting frame began function locals sizes held floor scratch temps bound at l.tree r.state);
-        shows = shows_temp f w r.state at x le r.shows;
-        value = run.val_temp p setting frame began function locals sizes held floor scratch temps bound at (with_temp r.state at x) ∙ get_or-set_same r.state.temps at x 0 (subst (λ k. at < k) (sym r.shows.temps) lt) ∙ r.value;
-        kept = kept_trans n at s r.state (with_temp r.state at x) up r.kept (kept_temp at r.state x);
+        runs = run.runs_append scene bound l.code (set at l.tree ∷ []) s r.state _ r.cost _ r.runs (run.runs_set scene bound at l.tree r.state);
+        shows = shows_temp scene f w r.state at x le r.shows;
+        value = run.val_temp scene at (with_temp r.state at x) ∙ get_or-set_same r.state.temps at x 0 (subst (λ k. at < k) (sym r.shows.temps) lt) ∙ r.value;
+        kept = kept_trans scene n at s r.state (with_temp r.state at x) up r.kept (kept_temp scene at r.state x);
         paid = omega (arith, r.paid, nodes_temp at);
       }
   put_away credit n at s l (Stopped why w work) up le lt h = record {
     cost = h.cost;
-    runs = λ ne. run.runs_stop p setting frame began function locals sizes held floor scratch temps bound l.code (set at l.tree ∷ []) s _ h.cost (h.runs ne);
+    runs = λ ne. run.runs_stop scene bound l.code (set at l.tree ∷ []) s _ h.cost (h.runs ne);
     paid = h.paid;
   }
 
   -- in the free temporary itself, or in one above it
-  pub put_at : (credit n at : ℕ) (s : State) (l : Lowered) (o : Outcome Frame ℕ) → n ≤ at → floor ≤ at → at < temps → Shown 11 credit n s l.code l.tree o → Shown 0 credit n s (l.code ++ set at l.tree ∷ []) (temp at) o
+  pub put_at : (credit n at : ℕ) (s : State) (l : Lowered) (o : Outcome Frame ℕ) → n ≤ at → scene.floor ≤ at → at < scene.room → Shown scene bound 11 credit n s l.code l.tree o → Shown scene bound 0 credit n s (l.code ++ set at l.tree ∷ []) (temp at) o
   put_at credit n at s l o up le lt h = put_away credit n at s l o up le lt h
 
-  pub kept_shown : (credit : ℕ) (keep : Bool) (n : ℕ) (s : State) (l : Lowered) (o : Outcome Frame ℕ) → floor ≤ n → (kept_if keep n l).top ≤ temps → Shown 11 credit n s l.code l.tree o →
-      Shown 0 credit n s (kept_if keep n l).code (kept_if keep n l).tree o
+  pub kept_shown : (credit : ℕ) (keep : Bool) (n : ℕ) (s : State) (l : Lowered) (o : Outcome Frame ℕ) → scene.floor ≤ n → (kept_if keep n l).top ≤ scene.room → Shown scene bound 11 credit n s l.code l.tree o →
+      Shown scene bound 0 credit n s (kept_if keep n l).code (kept_if keep n l).tree o
   kept_shown credit true n s l o le lt h = more_credit 11 0 credit credit n n s l.code l.tree o (omega arith) (omega arith) (omega arith) h
   kept_shown credit false n s l o le lt h = put_away credit n n s l o (omega arith) le (omega (arith, lt)) h
-
-  pub kept_top : (keep : Bool) (n : ℕ) (l : Lowered) → (kept_if keep n l).top ≤ temps → l.top ≤ temps
-  kept_top true n l h = h
-  kept_top false n l h = omega (arith, h)
-
-  -- a value that is put away, or behind which no code comes, lasts
-  pub lasts : (keep : Bool) (n : ℕ) (l : Lowered) (s s1 : State) → floor ≤ n → (keep ≡ true → s ≡ s1) → Kept (n + 1) s s1 → V (kept_if keep n l).tree s1 ≡ V (kept_if keep n l).tree s
-  lasts true n l s s1 le e k = ap (V l.tree) (sym (e refl))
-  lasts false n l s s1 le e k =
-      run.val_temp p setting frame began function locals sizes held floor scratch temps bound n s1 ∙ k n le (omega arith) ∙ sym (run.val_temp p setting frame began function locals sizes held floor scratch temps bound n s)
 
   -- ---- two operands
 
@@ -204,15 +169,15 @@ module _ (p : Program) (setting : Setting) (frame : code_world.Frame) (began : L
       false_is h = subst Is h tt
 
   pub two : (due total credit ka kb n : ℕ) (f : Frame) (w : World) (s : State) (ma mb : Evaluation ℕ) (la lb : Lowering) (rest : List Stm) (t : Tree) (next : ℕ → ℕ → Evaluation ℕ) →
-      ka + (kb + credit) ≤ total → floor ≤ n → max (first la lb n).top (second lb n).top ≤ temps → Shows f w s → CorrectFor ka ma la → CorrectFor kb mb lb →
-      ((x y : ℕ) (f2 : Frame) (w2 : World) (s2 : State) → Shows f2 w2 s2 → V (first la lb n).tree s2 ≡ x → V (second lb n).tree s2 ≡ y →
-      Shown due (credit + (3 * nodes (first la lb n).tree + 3 * nodes (second lb n).tree)) n s2 rest t (next x y f2 w2)) →
-      Shown due total n s ((first la lb n).code ++ ((second lb n).code ++ rest)) t (bind ma (λ x. bind mb (λ y. next x y)) f w)
+      ka + (kb + credit) ≤ total → scene.floor ≤ n → max (first la lb n).top (second lb n).top ≤ scene.room → Shows scene f w s → CorrectFor scene bound ka ma la → CorrectFor scene bound kb mb lb →
+      ((x y : ℕ) (f2 : Frame) (w2 : World) (s2 : State) → Shows scene f2 w2 s2 → val scene (first la lb n).tree s2 ≡ x → val scene (second lb n).tree s2 ≡ y →
+      Shown scene bound due (credit + (3 * nodes (first la lb n).tree + 3 * nodes (second lb n).tree)) n s2 rest t (next x y f2 w2)) →
+      Shown scene bound due total n s ((first la lb n).code ++ ((second lb n).code ++ rest)) t (bind ma (λ x. bind mb (λ y. next x y)) f w)
   two due total credit ka kb n f w s ma mb la lb rest t next enough le lt h ca cb k =
       let keep = is_empty (second lb n).code && is_low (la n).tree in
       let low = is_low (lb (n + 1)).tree in
-      let la_fits = kept_top keep n (la n) (omega (arith, lt)) in
-      let lb_fits = kept_top low (n + 1) (lb (n + 1)) (omega (arith, lt)) in
+      let la_fits = kept_top scene keep n (la n) (omega (arith, lt)) in
+      let lb_fits = kept_top scene low (n + 1) (lb (n + 1)) (omega (arith, lt)) in
       follow due total (kb + credit) 0 ka n n s (first la lb n).code ((second lb n).code ++ rest) t (first la lb n).tree (ma f w) (λ x. bind mb (λ y. next x y)) (omega arith) enough
       (kept_shown ka keep n s (la n) (ma f w) le (omega (arith, lt)) (ca n f w s le la_fits h))
       (λ x f1 w1 work1 r1.
@@ -221,19 +186,19 @@ module _ (p : Program) (setting : Setting) (frame : code_world.Frame) (began : L
       (λ y f2 w2 work2 r2.
       more_credit due due (credit + (3 * nodes (first la lb n).tree + 3 * nodes (second lb n).tree)) (credit + 3 * nodes (first la lb n).tree + (3 * nodes (second lb n).tree + 0)) n n r2.state rest t (next x y f2 w2) (omega arith) (omega arith) (omega arith)
       (k x y f2 w2 r2.state r2.shows
-      (lasts keep n (la n) r1.state r2.state le (λ e. run.runs_nowhere p setting frame began function locals sizes held floor scratch temps bound (second lb n).code r1.state r2.state r2.cost (empty (second lb n).code (is_low (la n).tree) e) r2.runs) r2.kept ∙ r1.value)
+      (lasts scene keep n (la n) r1.state r2.state le (λ e. run.runs_nowhere scene bound (second lb n).code r1.state r2.state r2.cost (empty (second lb n).code (is_low (la n).tree) e) r2.runs) r2.kept ∙ r1.value)
       r2.value)))
 
   -- ---- work that pays
 
   -- a node of the source pays 100
-  pub counted_once : (m : Evaluation ℕ) (l : Lowering) → CorrectFor 100 m l → Correct (counted 1 m) l
+  pub counted_once : (m : Evaluation ℕ) (l : Lowering) → CorrectFor scene bound 100 m l → Correct scene bound (counted 1 m) l
   counted_once m l h n f w s le fits sh = paid_by 11 0 n 1 s (l n).code (l n).tree (m f w) (h n f w s le fits sh)
 
   -- what is correct with some credit is so with more
-  pub with_more : (k k' : ℕ) (m : Evaluation ℕ) (l : Lowering) → k ≤ k' → CorrectFor k m l → CorrectFor k' m l
+  pub with_more : (k k' : ℕ) (m : Evaluation ℕ) (l : Lowering) → k ≤ k' → CorrectFor scene bound k m l → CorrectFor scene bound k' m l
   with_more k k' m l up h n f w s le fits sh = more_credit 11 11 k k' n n s (l n).code (l n).tree (m f w) (omega arith) (omega (arith, up)) up (h n f w s le fits sh)
 
   -- a computation that comes to the same
-  pub comes_to : (k : ℕ) (m m' : Evaluation ℕ) (l : Lowering) → ((f : Frame) (w : World) → m f w ≡ m' f w) → CorrectFor k m l → CorrectFor k m' l
-  comes_to k m m' l same h n f w s le fits sh = subst (λ (o : Outcome Frame ℕ). Shown 11 k n s (l n).code (l n).tree o) (same f w) (h n f w s le fits sh)
+  pub comes_to : (k : ℕ) (m m' : Evaluation ℕ) (l : Lowering) → ((f : Frame) (w : World) → m f w ≡ m' f w) → CorrectFor scene bound k m l → CorrectFor scene bound k m' l
+  comes_to k m m' l same h n f w s le fits sh = subst (λ (o : Outcome Frame ℕ). Shown scene bound 11 k n s (l n).code (l n).tree o) (same f w) (h n f w s le fits sh)

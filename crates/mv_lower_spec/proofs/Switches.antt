@@ -1,31 +1,25 @@
 -- `switch`: the tests of its labels, and its arms with their fall through.
-use Rattle.std.proofs.Common.{◌≡◌, ℕ, zero, suc, ◌+◌, ◌*◌, ◌<◌, ◌≤◌, Bool, true, false, cond, eqb, ltb, List, [], ◌∷◌, ◌++◌, length, drop, Option, Some, refl, sym, ◌∙◌, subst, ap, arith, append_assoc, map, None}
+use Rattle.std.proofs.Common.{◌≡◌, ℕ, zero, suc, ◌+◌, ◌*◌, ◌<◌, ◌≤◌, Bool, true, false, cond, eqb, ltb, List, [], ◌∷◌, ◌++◌, length, drop, Some, refl, sym, ◌∙◌, subst, ap, arith, append_assoc}
 use Rattle.std.specs.Prelude.{slice_index, slice_set}
 use Rattle.std.proofs.lemmas.Bool.{lt-ltb, le-ltb}
 use Rattle.std.proofs.lemmas.List.{get_or-set_same}
 use Rattle.mv_num.specs.Words as word
-use Rattle.mv_ir.specs.declared.tree.Tree.{Tree}
 use Rattle.mv_ir.specs.declared.stm.Stm.{Stm}
 use Rattle.mv_ir.specs.declared.stm.Stm.TheOpen as stm
-use Rattle.mv_ast.specs.declared.program.Program.{Program}
-use Rattle.mv_ast.specs.declared.world.Binding.{Binding}
 use Rattle.mv_ast.specs.Worlds.{World, Outcome, Came, Stopped, after, and_then, bind, give}
 use Rattle.mv_meaning.specs.declared.state.Frame.{Frame}
 use Rattle.mv_meaning.specs.declared.state.Flow.{Flow}
 use Rattle.mv_meaning.specs.declared.state.Flow.TheVariants.{Goes, Breaks, Continues, Returns}
 use Rattle.mv_meaning.specs.Meaning.{Evaluation, ArmDenotation, Tried, in_order, then_on, after_switch, tried_labels, labels_of, bodies_of, bodies_from, switch_flow}
-use Rattle.mv_ir.specs.World.{Setting}
-use Rattle.mv_ir.specs.World as code_world
 use Rattle.mv_ir.specs.Outcome.{State, Returned, Next, Leaves, Restarts, Ends, Run, Bound, spend, then_do, goes_on, block_end}
 use Rattle.mv_ir.specs.Outcome as ir
 use Rattle.mv_ir.specs.Trees.{nodes, flag}
 use Rattle.mv_ir.specs.Trees as ir_tree
-use Rattle.mv_ir.specs.Meaning.{meaning, with_temp}
-use Rattle.mv_ir.proofs.Keeping.{run_same, map_append, in_order_append, one_meaning}
+use Rattle.mv_ir.specs.Meaning.{with_temp}
+use Rattle.mv_ir.proofs.Keeping.{run_same, one_meaning}
 use Rattle.mv_lower_spec.specs.Lowered.{Lowering, number, temp, binary, set, choose}
-use Rattle.mv_lower_spec.specs.Statements.{Jumps, LoweredArm, in_arm, break, enclosed, test_labels, test_arms, arm_place, all_tests, arm_code, arms_code, lower_switch, out_of}
-use Rattle.mv_lower_spec.specs.Correct as c
-use Rattle.mv_lower_spec.specs.Correct.{ran}
+use Rattle.mv_lower_spec.specs.Statements.{FlowShown, FlowCorrect, Jumps, LoweredArm, in_arm, break, enclosed, test_labels, test_arms, arm_place, all_tests, arm_code, arms_code, lower_switch, out_of}
+use Rattle.mv_lower_spec.specs.Correct.{Ground, resting, none, val, Shows, CorrectFor, ran}
 use Rattle.mv_lower_spec.proofs.Running as run
 use Rattle.mv_lower_spec.proofs.Running.{nodes_number, nodes_temp, nodes_binary}
 use Rattle.mv_lower_spec.proofs.Showing as show
@@ -33,6 +27,7 @@ use Rattle.mv_lower_spec.proofs.Sequences.{under, assoc, given}
 use Rattle.mv_lower_spec.proofs.Expressions.{no}
 use Rattle.mv_lower_spec.proofs.Bare.{bare_of}
 use Rattle.mv_lower_spec.proofs.Flows as flows
+use Rattle.mv_lower_spec.proofs.Flows.{code}
 
 -- ---- lists of statements
 
@@ -155,55 +150,37 @@ first_place [] n = refl
 first_place (x ∷ xs) zero = refl
 first_place (x ∷ xs) (suc n) = first_place xs n
 
-module _ (p : Program) (setting : Setting) (frame : code_world.Frame) (began : List Binding) (own locals : ℕ) (sizes : ℕ → Option ℕ) (room : ℕ) (void : Bool) where
-  abbrev FlowShown : (Flow → State → ir.Outcome) → ℕ → Run → Outcome Frame Flow → Type 0
-  FlowShown = flows.FlowShown p setting frame began own locals sizes room void
-
-  abbrev FlowCorrect : (Flow → State → ir.Outcome) → ℕ → Bound → Evaluation Flow → List Stm → Type 0
-  FlowCorrect = flows.FlowCorrect p setting frame began own locals sizes room void
-
-  abbrev Shows : Frame → World → State → Type 0
-  Shows = flows.Shows p setting frame began own locals sizes room void
-
-  abbrev code : List Stm → Bound → State → Run
-  code = flows.code p setting frame began own locals sizes room void
-
-  joined : (xs ys : List Stm) (b : Bound) (s : State) → code (xs ++ ys) b s ≡ then_do (code xs b s) (code ys b)
-  joined xs ys b s = ap (λ l. ir.in_order l b s) (map_append (meaning setting frame) xs ys) ∙ in_order_append (map (meaning setting frame) xs) (map (meaning setting frame) ys) b s
-
+module _ (ground : Ground) (void : Bool) where
   -- ---- the tests
 
-  abbrev V : Bound → Tree → State → ℕ
-  V b = c.val p setting frame began own locals sizes (λ l. None) locals (λ k. 0) room b
-
-  test_value : (b : Bound) (n l v : ℕ) (s : State) → slice_index s.temps n ≡ v → V b (binary 11 (temp n) (number l)) s ≡ flag (eqb v l)
+  test_value : (b : Bound) (n l v : ℕ) (s : State) → slice_index s.temps n ≡ v → val (resting ground) (binary 11 (temp n) (number l)) s ≡ flag (eqb v l)
   unfolding ir_tree.binary
   test_value b n l v s e =
-      run.val_binary p setting frame began own locals sizes (λ l. None) locals (λ k. 0) room b 11 (temp n) (number l) s ∙
-      ap (λ x. flag (eqb x (V b (number l) s))) (run.val_temp p setting frame began own locals sizes (λ l. None) locals (λ k. 0) room b n s ∙ e) ∙
-      ap (λ x. flag (eqb v x)) (run.val_number p setting frame began own locals sizes (λ l. None) locals (λ k. 0) room b l s)
+      run.val_binary (resting ground) 11 (temp n) (number l) s ∙
+      ap (λ x. flag (eqb x (val (resting ground) (number l) s))) (run.val_temp (resting ground) n s ∙ e) ∙
+      ap (λ x. flag (eqb v x)) (run.val_number (resting ground) l s)
 
   test_nodes : (n l : ℕ) → nodes (binary 11 (temp n) (number l)) ≡ 3
   test_nodes n l = omega (arith, nodes_binary 11 (temp n) (number l), nodes_temp n, nodes_number l)
 
   -- a constant in a temporary
-  placed : (b : Bound) (n i : ℕ) (s : State) → code (set n (number i) ∷ []) b s ≡ ran 11 (Next (with_temp s n i))
+  placed : (b : Bound) (n i : ℕ) (s : State) → code ground (set n (number i) ∷ []) b s ≡ ran 11 (Next (with_temp s n i))
   placed b n i s =
-      run.runs_set p setting frame began own locals sizes (λ l. None) locals (λ k. 0) room b n (number i) s ∙
-      ap (λ k. ran (8 + 3 * k) (Next (with_temp s n (V b (number i) s)))) (nodes_number i) ∙
-      ap (λ v. ran 11 (Next (with_temp s n v))) (run.val_number p setting frame began own locals sizes (λ l. None) locals (λ k. 0) room b i s)
+      run.runs_set (resting ground) b n (number i) s ∙
+      ap (λ k. ran (8 + 3 * k) (Next (with_temp s n (val (resting ground) (number i) s)))) (nodes_number i) ∙
+      ap (λ v. ran 11 (Next (with_temp s n v))) (run.val_number (resting ground) i s)
 
-  begins_at : (b : Bound) (n i : ℕ) (s : State) → code (set n (number i) ∷ break 0 ∷ []) b s ≡ ran 19 (Leaves 0 (with_temp s n i))
+  begins_at : (b : Bound) (n i : ℕ) (s : State) → code ground (set n (number i) ∷ break 0 ∷ []) b s ≡ ran 19 (Leaves 0 (with_temp s n i))
   begins_at b n i s =
-      joined (set n (number i) ∷ []) (break 0 ∷ []) b s ∙ ap (λ r. then_do r (code (break 0 ∷ []) b)) (placed b n i s) ∙
-      ap (λ r. spend 11 r) (one_meaning setting frame (stm.Break 0) b (with_temp s n i))
+      run.joined ground.setting ground.frame (set n (number i) ∷ []) (break 0 ∷ []) b s ∙ ap (λ r. then_do r (code ground (break 0 ∷ []) b)) (placed b n i s) ∙
+      ap (λ r. spend 11 r) (one_meaning ground.setting ground.frame (stm.Break 0) b (with_temp s n i))
 
   one_test : (b : Bound) (n i l v : ℕ) (s : State) → slice_index s.temps n ≡ v →
-      code (choose (binary 11 (temp n) (number l)) (set n (number i) ∷ break 0 ∷ []) [] ∷ []) b s ≡ cond (eqb v l) (ran 36 (Leaves 0 (with_temp s n i))) (ran 17 (Next s))
+      code ground (choose (binary 11 (temp n) (number l)) (set n (number i) ∷ break 0 ∷ []) [] ∷ []) b s ≡ cond (eqb v l) (ran 36 (Leaves 0 (with_temp s n i))) (ran 17 (Next s))
   one_test b n i l v s e =
-      run.if_runs p setting frame began own locals sizes (λ l. None) locals (λ k. 0) room b (binary 11 (temp n) (number l)) (set n (number i) ∷ break 0 ∷ []) [] s ∙
-      ap (λ k. spend (8 + 3 * k) (cond (eqb (V b (binary 11 (temp n) (number l)) s) 0) (code [] b s) (code (set n (number i) ∷ break 0 ∷ []) b s))) (test_nodes n l) ∙
-      ap (λ x. spend 17 (cond (eqb x 0) (ran 0 (Next s)) (code (set n (number i) ∷ break 0 ∷ []) b s))) (test_value b n l v s e) ∙
+      run.if_runs (resting ground) b (binary 11 (temp n) (number l)) (set n (number i) ∷ break 0 ∷ []) [] s ∙
+      ap (λ k. spend (8 + 3 * k) (cond (eqb (val (resting ground) (binary 11 (temp n) (number l)) s) 0) (code ground [] b s) (code ground (set n (number i) ∷ break 0 ∷ []) b s))) (test_nodes n l) ∙
+      ap (λ x. spend 17 (cond (eqb x 0) (ran 0 (Next s)) (code ground (set n (number i) ∷ break 0 ∷ []) b s))) (test_value b n l v s e) ∙
       ap (λ r. spend 17 (cond (eqb (flag (eqb v l)) 0) (ran 0 (Next s)) r)) (begins_at b n i s) ∙ by (eqb v l)
     where
       by : (z : Bool) → spend 17 (cond (eqb (flag z) 0) (ran 0 (Next s)) (ran 19 (Leaves 0 (with_temp s n i)))) ≡ cond z (ran 36 (Leaves 0 (with_temp s n i))) (ran 17 (Next s))
@@ -212,22 +189,22 @@ module _ (p : Program) (setting : Setting) (frame : code_world.Frame) (began : L
 
   -- what the tests of some labels come to, before the rest
   abbrev after_tests : Bound → ℕ → Tried → ℕ → List Stm → State → Run
-  after_tests b n t i rest s = cond t.found (ran (17 * t.labels + 19) (Leaves 0 (with_temp s n i))) (spend (17 * t.labels) (code rest b s))
+  after_tests b n t i rest s = cond t.found (ran (17 * t.labels + 19) (Leaves 0 (with_temp s n i))) (spend (17 * t.labels) (code ground rest b s))
 
-  label_tests : (b : Bound) (n i v : ℕ) (ls : List ℕ) (rest : List Stm) (s : State) → slice_index s.temps n ≡ v → code (test_labels n i ls ++ rest) b s ≡ after_tests b n (tried_labels v ls) i rest s
-  label_tests b n i v [] rest s e = same (code rest b s)
+  label_tests : (b : Bound) (n i v : ℕ) (ls : List ℕ) (rest : List Stm) (s : State) → slice_index s.temps n ≡ v → code ground (test_labels n i ls ++ rest) b s ≡ after_tests b n (tried_labels v ls) i rest s
+  label_tests b n i v [] rest s e = same (code ground rest b s)
     where
       same : (r : Run) → r ≡ spend (17 * 0) r
       same r = ap (λ k. ran k r.outcome) (omega arith)
   label_tests b n i v (l ∷ ls) rest s e =
-      joined (choose (binary 11 (temp n) (number l)) (set n (number i) ∷ break 0 ∷ []) [] ∷ []) (test_labels n i ls ++ rest) b s ∙
-      ap (λ r. then_do r (code (test_labels n i ls ++ rest) b)) (one_test b n i l v s e) ∙ by (label_tests b n i v ls rest s e) (eqb v l) ∙ sym (split (eqb v l))
+      run.joined ground.setting ground.frame (choose (binary 11 (temp n) (number l)) (set n (number i) ∷ break 0 ∷ []) [] ∷ []) (test_labels n i ls ++ rest) b s ∙
+      ap (λ r. then_do r (code ground (test_labels n i ls ++ rest) b)) (one_test b n i l v s e) ∙ by (label_tests b n i v ls rest s e) (eqb v l) ∙ sym (split (eqb v l))
     where
       t : Tried
       t = tried_labels v ls
 
-      by : code (test_labels n i ls ++ rest) b s ≡ after_tests b n t i rest s → (z : Bool) →
-          then_do (cond z (ran 36 (Leaves 0 (with_temp s n i))) (ran 17 (Next s))) (code (test_labels n i ls ++ rest) b) ≡ cond z (ran 36 (Leaves 0 (with_temp s n i))) (spend 17 (after_tests b n t i rest s))
+      by : code ground (test_labels n i ls ++ rest) b s ≡ after_tests b n t i rest s → (z : Bool) →
+          then_do (cond z (ran 36 (Leaves 0 (with_temp s n i))) (ran 17 (Next s))) (code ground (test_labels n i ls ++ rest) b) ≡ cond z (ran 36 (Leaves 0 (with_temp s n i))) (spend 17 (after_tests b n t i rest s))
       by others true = refl
       by others false = ap (λ r. spend 17 r) others
 
@@ -235,16 +212,16 @@ module _ (p : Program) (setting : Setting) (frame : code_world.Frame) (began : L
       split true = refl
       split false = found t.found
         where
-          found : (q : Bool) → cond q (ran (17 * (1 + t.labels) + 19) (Leaves 0 (with_temp s n i))) (spend (17 * (1 + t.labels)) (code rest b s)) ≡ spend 17 (cond q (ran (17 * t.labels + 19) (Leaves 0 (with_temp s n i))) (spend (17 * t.labels) (code rest b s)))
+          found : (q : Bool) → cond q (ran (17 * (1 + t.labels) + 19) (Leaves 0 (with_temp s n i))) (spend (17 * (1 + t.labels)) (code ground rest b s)) ≡ spend 17 (cond q (ran (17 * t.labels + 19) (Leaves 0 (with_temp s n i))) (spend (17 * t.labels) (code ground rest b s)))
           found true = ap (λ k. ran k (Leaves 0 (with_temp s n i))) (omega arith)
-          found false = ap (λ k. ran k (code rest b s).outcome) (omega arith)
+          found false = ap (λ k. ran k (code ground rest b s).outcome) (omega arith)
 
   -- what the tests of all arms come to
   arm_tests : (b : Bound) (n i v : ℕ) (arms : List LoweredArm) (rest : List Stm) (s : State) → slice_index s.temps n ≡ v →
-      code (test_arms n i arms ++ rest) b s ≡ after_tests b n (tried_labels v (lowered_labels arms)) (arm_place (hits v) i arms) rest s
-  arm_tests b n i v [] rest s e = ap (λ k. ran k (code rest b s).outcome) (omega arith)
+      code ground (test_arms n i arms ++ rest) b s ≡ after_tests b n (tried_labels v (lowered_labels arms)) (arm_place (hits v) i arms) rest s
+  arm_tests b n i v [] rest s e = ap (λ k. ran k (code ground rest b s).outcome) (omega arith)
   arm_tests b n i v (a ∷ arms) rest s e =
-      ap (λ l. code l b s) (append_assoc (test_labels n i a.labels) (test_arms n (suc i) arms) rest) ∙
+      ap (λ l. code ground l b s) (append_assoc (test_labels n i a.labels) (test_arms n (suc i) arms) rest) ∙
       label_tests b n i v a.labels (test_arms n (suc i) arms ++ rest) s e ∙
       ap (λ r. cond x.found (ran (17 * x.labels + 19) (Leaves 0 (with_temp s n i))) (spend (17 * x.labels) r)) (arm_tests b n (suc i) v arms rest s e) ∙
       by x.found refl ∙ sym (ap (λ (q : Tried). after_tests b n q (cond x.found i at) rest s) (tried_append v a.labels (lowered_labels arms)))
@@ -258,13 +235,13 @@ module _ (p : Program) (setting : Setting) (frame : code_world.Frame) (began : L
       at : ℕ
       at = arm_place (hits v) (suc i) arms
 
-      inner : (q : Bool) → spend (17 * x.labels) (cond q (ran (17 * y.labels + 19) (Leaves 0 (with_temp s n at))) (spend (17 * y.labels) (code rest b s))) ≡ cond q (ran (17 * (x.labels + y.labels) + 19) (Leaves 0 (with_temp s n at))) (spend (17 * (x.labels + y.labels)) (code rest b s))
+      inner : (q : Bool) → spend (17 * x.labels) (cond q (ran (17 * y.labels + 19) (Leaves 0 (with_temp s n at))) (spend (17 * y.labels) (code ground rest b s))) ≡ cond q (ran (17 * (x.labels + y.labels) + 19) (Leaves 0 (with_temp s n at))) (spend (17 * (x.labels + y.labels)) (code ground rest b s))
       inner true = ap (λ k. ran k (Leaves 0 (with_temp s n at))) (omega arith)
-      inner false = ap (λ k. ran k (code rest b s).outcome) (omega arith)
+      inner false = ap (λ k. ran k (code ground rest b s).outcome) (omega arith)
 
       by : (z : Bool) → x.found ≡ z → cond z (ran (17 * x.labels + 19) (Leaves 0 (with_temp s n i))) (spend (17 * x.labels) (after_tests b n y at rest s)) ≡
           after_tests b n (cond z x (record { labels = x.labels + y.labels; found = y.found })) (cond z i at) rest s
-      by true q = sym (ap (λ z. cond z (ran (17 * x.labels + 19) (Leaves 0 (with_temp s n i))) (spend (17 * x.labels) (code rest b s))) q)
+      by true q = sym (ap (λ z. cond z (ran (17 * x.labels + 19) (Leaves 0 (with_temp s n i))) (spend (17 * x.labels) (code ground rest b s))) q)
       by false q = inner y.found
 
   -- ---- the arms
@@ -280,7 +257,7 @@ module _ (p : Program) (setting : Setting) (frame : code_world.Frame) (began : L
 
   -- code is correct for an arm's statements, which also pay for entering the arm
   abbrev pub Pays : Bound → Jumps → Evaluation Flow → List Stm → Type 0
-  Pays b j m xs = (f : Frame) (w : World) (s : State) → Shows f w s → FlowShown (out_in j) 0 (spend (entry xs) (code xs b s)) (m f w)
+  Pays b j m xs = (f : Frame) (w : World) (s : State) → Shows (resting ground) f w s → FlowShown ground void (out_in j) 0 (spend (entry xs) (code ground xs b s)) (m f w)
 
   -- lowered arms are correct
   abbrev pub ArmsCorrect : Bound → Jumps → List ArmDenotation → List LoweredArm → Type 0
@@ -290,17 +267,17 @@ module _ (p : Program) (setting : Setting) (frame : code_world.Frame) (began : L
   ArmsCorrect b j (d ∷ ds) (l ∷ ls) = (l.labels ≡ d.labels) × (l.other ≡ d.other) × Pays b j (in_order d.body) (l.body (in_arm j)).code × ArmsCorrect b j ds ls
 
   -- the block of a `switch`
-  closed : (j : Jumps) (credit : ℕ) (b : Bound) (xs : List Stm) (s : State) (o : Outcome Frame Flow) → FlowShown (out_in j) credit (code xs b s) o → FlowShown (out_of void j) credit (code (enclosed xs ∷ []) b s) (and_then o after_switch)
+  closed : (j : Jumps) (credit : ℕ) (b : Bound) (xs : List Stm) (s : State) (o : Outcome Frame Flow) → FlowShown ground void (out_in j) credit (code ground xs b s) o → FlowShown ground void (out_of void j) credit (code ground (enclosed xs ∷ []) b s) (and_then o after_switch)
   closed j credit b xs s o h = by o h
     where
-      ends : {r : Run} → code xs b s ≡ r → code (enclosed xs ∷ []) b s ≡ ran r.cost (block_end r.outcome)
-      ends e = one_meaning setting frame (stm.Block xs) b s ∙ ap (λ (q : Run). ran q.cost (block_end q.outcome)) e
+      ends : {r : Run} → code ground xs b s ≡ r → code ground (enclosed xs ∷ []) b s ≡ ran r.cost (block_end r.outcome)
+      ends e = one_meaning ground.setting ground.frame (stm.Block xs) b s ∙ ap (λ (q : Run). ran q.cost (block_end q.outcome)) e
 
       left : (z : Bool) (v : ℕ) (s1 : State) → block_end (cond z (Leaves (suc j.around) s1) (Ends (Returned (Some v) s1.world))) ≡ cond z (Leaves j.around s1) (Ends (Returned (Some v) s1.world))
       left true v s1 = refl
       left false v s1 = refl
 
-      by : (o : Outcome Frame Flow) → FlowShown (out_in j) credit (code xs b s) o → FlowShown (out_of void j) credit (code (enclosed xs ∷ []) b s) (and_then o after_switch)
+      by : (o : Outcome Frame Flow) → FlowShown ground void (out_in j) credit (code ground xs b s) o → FlowShown ground void (out_of void j) credit (code ground (enclosed xs ∷ []) b s) (and_then o after_switch)
       by (Came Goes f1 w1 work) r = record { state = r.state; cost = r.cost; runs = ends r.runs; shows = r.shows; nothing = r.nothing; paid = omega (arith, r.paid) }
       by (Came Breaks f1 w1 work) r = record { state = r.state; cost = r.cost; runs = ends r.runs; shows = r.shows; nothing = λ q. refl; paid = omega (arith, r.paid) }
       by (Came Continues f1 w1 work) r = record { state = r.state; cost = r.cost; runs = ends r.runs; shows = r.shows; nothing = r.nothing; paid = omega (arith, r.paid) }
@@ -309,76 +286,76 @@ module _ (p : Program) (setting : Setting) (frame : code_world.Frame) (began : L
 
   -- ---- one arm
 
-  module _ (there : locals < room) where
+  module _ (there : ground.locals < ground.room) where
     abbrev code_of_arm : ℕ → List Stm → List Stm
-    code_of_arm = arm_code locals
+    code_of_arm = arm_code ground.locals
 
     arm_test : (b : Bound) (i : ℕ) (x : Stm) (xs : List Stm) (s : State) →
-        code (code_of_arm i (x ∷ xs)) b s ≡ spend 17 (cond (ltb i (slice_index s.temps locals)) (ran 0 (Next s)) (code ((x ∷ xs) ++ set locals (number 0) ∷ []) b s))
+        code ground (code_of_arm i (x ∷ xs)) b s ≡ spend 17 (cond (ltb i (slice_index s.temps ground.locals)) (ran 0 (Next s)) (code ground ((x ∷ xs) ++ set ground.locals (number 0) ∷ []) b s))
     unfolding ir_tree.binary word.lt_u
     arm_test b i x xs s =
-        let body = (x ∷ xs) ++ set locals (number 0) ∷ [] in
-        run.if_runs p setting frame began own locals sizes (λ l. None) locals (λ k. 0) room b (binary 10 (number i) (temp locals)) [] body s ∙
-        ap (λ k. spend (8 + 3 * k) (cond (eqb (V b (binary 10 (number i) (temp locals)) s) 0) (code body b s) (ran 0 (Next s)))) count ∙
-        ap (λ k. spend 17 (cond (eqb k 0) (code body b s) (ran 0 (Next s)))) holds ∙ by (ltb i (slice_index s.temps locals)) (code body b s)
+        let body = (x ∷ xs) ++ set ground.locals (number 0) ∷ [] in
+        run.if_runs (resting ground) b (binary 10 (number i) (temp ground.locals)) [] body s ∙
+        ap (λ k. spend (8 + 3 * k) (cond (eqb (val (resting ground) (binary 10 (number i) (temp ground.locals)) s) 0) (code ground body b s) (ran 0 (Next s)))) count ∙
+        ap (λ k. spend 17 (cond (eqb k 0) (code ground body b s) (ran 0 (Next s)))) holds ∙ by (ltb i (slice_index s.temps ground.locals)) (code ground body b s)
       where
-        count : nodes (binary 10 (number i) (temp locals)) ≡ 3
-        count = omega (arith, nodes_binary 10 (number i) (temp locals), nodes_temp locals, nodes_number i)
+        count : nodes (binary 10 (number i) (temp ground.locals)) ≡ 3
+        count = omega (arith, nodes_binary 10 (number i) (temp ground.locals), nodes_temp ground.locals, nodes_number i)
 
-        holds : V b (binary 10 (number i) (temp locals)) s ≡ flag (ltb i (slice_index s.temps locals))
+        holds : val (resting ground) (binary 10 (number i) (temp ground.locals)) s ≡ flag (ltb i (slice_index s.temps ground.locals))
         holds =
-            run.val_binary p setting frame began own locals sizes (λ l. None) locals (λ k. 0) room b 10 (number i) (temp locals) s ∙
-            ap (λ k. flag (ltb k (V b (temp locals) s))) (run.val_number p setting frame began own locals sizes (λ l. None) locals (λ k. 0) room b i s) ∙
-            ap (λ k. flag (ltb i k)) (run.val_temp p setting frame began own locals sizes (λ l. None) locals (λ k. 0) room b locals s)
+            run.val_binary (resting ground) 10 (number i) (temp ground.locals) s ∙
+            ap (λ k. flag (ltb k (val (resting ground) (temp ground.locals) s))) (run.val_number (resting ground) i s) ∙
+            ap (λ k. flag (ltb i k)) (run.val_temp (resting ground) ground.locals s)
 
         by : (z : Bool) (r : Run) → spend 17 (cond (eqb (flag z) 0) r (ran 0 (Next s))) ≡ spend 17 (cond z (ran 0 (Next s)) r)
         by true r = refl
         by false r = refl
 
     -- behind an arm the temporary holds the first place
-    falls_on : (j : Jumps) (b : Bound) → FlowCorrect (out_in j) 11 b (give Goes) (set locals (number 0) ∷ [])
+    falls_on : (j : Jumps) (b : Bound) → FlowCorrect ground void (out_in j) 11 b (give Goes) (set ground.locals (number 0) ∷ [])
     falls_on j b f w s sh = record {
-      state = with_temp s locals 0;
+      state = with_temp s ground.locals 0;
       cost = 11;
-      runs = placed b locals 0 s;
-      shows = show.shows_temp p setting frame began own locals sizes (λ l. None) locals (λ k. 0) room [] f w s locals 0 (omega arith) sh;
+      runs = placed b ground.locals 0 s;
+      shows = show.shows_temp (resting ground) f w s ground.locals 0 (omega arith) sh;
       nothing = λ q. refl;
       paid = omega arith;
     }
 
     -- an arm that is entered
-    entered : (j : Jumps) (b : Bound) (i : ℕ) (xs : List Stm) (s : State) (o : Outcome Frame Flow) → slice_index s.temps locals ≤ i → FlowShown (out_in j) 0 (spend (entry xs) (code xs b s)) o → FlowShown (out_in j) 0 (code (code_of_arm i xs) b s) o
-    entered j b i [] s o le h = flows.refunded p setting frame began own locals sizes room void (out_in j) 0 0 (code [] b s) o h
+    entered : (j : Jumps) (b : Bound) (i : ℕ) (xs : List Stm) (s : State) (o : Outcome Frame Flow) → slice_index s.temps ground.locals ≤ i → FlowShown ground void (out_in j) 0 (spend (entry xs) (code ground xs b s)) o → FlowShown ground void (out_in j) 0 (code ground (code_of_arm i xs) b s) o
+    entered j b i [] s o le h = flows.refunded ground void (out_in j) 0 0 (code ground [] b s) o h
     entered j b i (x ∷ xs) s o le h =
-        subst (λ (r : Run). FlowShown (out_in j) 0 r o) (sym is)
-        (subst (λ (q : Outcome Frame Flow). FlowShown (out_in j) 0 (spend 17 (code (body ++ set locals (number 0) ∷ []) b s)) q) (sym (ends_same o))
-        (flows.refunded p setting frame began own locals sizes room void (out_in j) 0 11 (spend 17 (code (body ++ set locals (number 0) ∷ []) b s)) (and_then o (λ flow. then_on flow (give Goes)))
-        (subst (λ (r : Run). FlowShown (out_in j) 11 r (and_then o (λ flow. then_on flow (give Goes)))) dearer
-        (flows.then_after p setting frame began own locals sizes room void (in_arm j) 0 11 (spend 28 (code body b s)) (code (set locals (number 0) ∷ []) b) (give Goes) o h (λ f w s1 e sh. falls_on j b f w s1 sh)))))
+        subst (λ (r : Run). FlowShown ground void (out_in j) 0 r o) (sym is)
+        (subst (λ (q : Outcome Frame Flow). FlowShown ground void (out_in j) 0 (spend 17 (code ground (body ++ set ground.locals (number 0) ∷ []) b s)) q) (sym (ends_same o))
+        (flows.refunded ground void (out_in j) 0 11 (spend 17 (code ground (body ++ set ground.locals (number 0) ∷ []) b s)) (and_then o (λ flow. then_on flow (give Goes)))
+        (subst (λ (r : Run). FlowShown ground void (out_in j) 11 r (and_then o (λ flow. then_on flow (give Goes)))) dearer
+        (flows.then_after ground void (in_arm j) 0 11 (spend 28 (code ground body b s)) (code ground (set ground.locals (number 0) ∷ []) b) (give Goes) o h (λ f w s1 e sh. falls_on j b f w s1 sh)))))
       where
         body : List Stm
         body = x ∷ xs
 
-        is : code (code_of_arm i body) b s ≡ spend 17 (code (body ++ set locals (number 0) ∷ []) b s)
-        is = arm_test b i x xs s ∙ ap (λ z. spend 17 (cond z (ran 0 (Next s)) (code (body ++ set locals (number 0) ∷ []) b s))) (le-ltb i (slice_index s.temps locals) le)
+        is : code ground (code_of_arm i body) b s ≡ spend 17 (code ground (body ++ set ground.locals (number 0) ∷ []) b s)
+        is = arm_test b i x xs s ∙ ap (λ z. spend 17 (cond z (ran 0 (Next s)) (code ground (body ++ set ground.locals (number 0) ∷ []) b s))) (le-ltb i (slice_index s.temps ground.locals) le)
 
-        dearer : then_do (spend 28 (code body b s)) (code (set locals (number 0) ∷ []) b) ≡ spend 11 (spend 17 (code (body ++ set locals (number 0) ∷ []) b s))
-        dearer = run_same _ _ refl (omega arith) ∙ ap (λ r. spend 11 (spend 17 r)) (sym (joined body (set locals (number 0) ∷ []) b s))
+        dearer : then_do (spend 28 (code ground body b s)) (code ground (set ground.locals (number 0) ∷ []) b) ≡ spend 11 (spend 17 (code ground (body ++ set ground.locals (number 0) ∷ []) b s))
+        dearer = run_same _ _ refl (omega arith) ∙ ap (λ r. spend 11 (spend 17 r)) (sym (run.joined ground.setting ground.frame body (set ground.locals (number 0) ∷ []) b s))
 
     -- where control goes on behind an arm that was entered, the place isn't behind the next arm
-    goes_to_next : (b : Bound) (i : ℕ) (xs : List Stm) (s s1 : State) → slice_index s.temps locals ≤ i → (code (code_of_arm i xs) b s).outcome ≡ Next s1 → slice_index s1.temps locals ≤ suc i
-    goes_to_next b i [] s s1 le e = subst (λ (q : State). slice_index q.temps locals ≤ suc i) (same_state s s1 e) (omega (arith, le))
+    goes_to_next : (b : Bound) (i : ℕ) (xs : List Stm) (s s1 : State) → slice_index s.temps ground.locals ≤ i → (code ground (code_of_arm i xs) b s).outcome ≡ Next s1 → slice_index s1.temps ground.locals ≤ suc i
+    goes_to_next b i [] s s1 le e = subst (λ (q : State). slice_index q.temps ground.locals ≤ suc i) (same_state s s1 e) (omega (arith, le))
     goes_to_next b i (x ∷ xs) s s1 le e =
-        let z = by (code (x ∷ xs) b s).outcome (sym (ap (λ (r : Run). r.outcome) is) ∙ e) in omega (arith, z)
+        let z = by (code ground (x ∷ xs) b s).outcome (sym (ap (λ (r : Run). r.outcome) is) ∙ e) in omega (arith, z)
       where
-        is : code (code_of_arm i (x ∷ xs)) b s ≡ spend 17 (then_do (code (x ∷ xs) b s) (code (set locals (number 0) ∷ []) b))
+        is : code ground (code_of_arm i (x ∷ xs)) b s ≡ spend 17 (then_do (code ground (x ∷ xs) b s) (code ground (set ground.locals (number 0) ∷ []) b))
         is =
-            arm_test b i x xs s ∙ ap (λ z. spend 17 (cond z (ran 0 (Next s)) (code ((x ∷ xs) ++ set locals (number 0) ∷ []) b s))) (le-ltb i (slice_index s.temps locals) le) ∙
-            ap (λ r. spend 17 r) (joined (x ∷ xs) (set locals (number 0) ∷ []) b s)
+            arm_test b i x xs s ∙ ap (λ z. spend 17 (cond z (ran 0 (Next s)) (code ground ((x ∷ xs) ++ set ground.locals (number 0) ∷ []) b s))) (le-ltb i (slice_index s.temps ground.locals) le) ∙
+            ap (λ r. spend 17 r) (run.joined ground.setting ground.frame (x ∷ xs) (set ground.locals (number 0) ∷ []) b s)
 
-        by : (o : ir.Outcome) → (goes_on o (code (set locals (number 0) ∷ []) b)).outcome ≡ Next s1 → slice_index s1.temps locals ≡ 0
+        by : (o : ir.Outcome) → (goes_on o (code ground (set ground.locals (number 0) ∷ []) b)).outcome ≡ Next s1 → slice_index s1.temps ground.locals ≡ 0
         by (Next s2) q =
-            subst (λ (z : State). slice_index z.temps locals ≡ 0) (same_state (with_temp s2 locals 0) s1 (sym (ap (λ (r : Run). r.outcome) (placed b locals 0 s2)) ∙ q)) (first_place s2.temps locals)
+            subst (λ (z : State). slice_index z.temps ground.locals ≡ 0) (same_state (with_temp s2 ground.locals 0) s1 (sym (ap (λ (r : Run). r.outcome) (placed b ground.locals 0 s2)) ∙ q)) (first_place s2.temps ground.locals)
         by (Leaves n s2) q = absurd (subst IsLeft q tt)
           where
             IsLeft : ir.Outcome → Type 0
@@ -396,42 +373,42 @@ module _ (p : Program) (setting : Setting) (frame : code_world.Frame) (began : L
             IsLeft _ = Unit {0}
 
     -- an arm that is skipped
-    skipped : (b : Bound) (i : ℕ) (xs : List Stm) (s : State) → i < slice_index s.temps locals → (cost : ℕ) × (code (code_of_arm i xs) b s ≡ ran cost (Next s)) × (cost ≤ 17)
+    skipped : (b : Bound) (i : ℕ) (xs : List Stm) (s : State) → i < slice_index s.temps ground.locals → (cost : ℕ) × (code ground (code_of_arm i xs) b s ≡ ran cost (Next s)) × (cost ≤ 17)
     skipped b i [] s lt = (0, refl, omega arith)
     skipped b i (x ∷ xs) s lt =
-        (17, arm_test b i x xs s ∙ ap (λ z. spend 17 (cond z (ran 0 (Next s)) (code ((x ∷ xs) ++ set locals (number 0) ∷ []) b s))) (lt-ltb i (slice_index s.temps locals) lt), omega arith)
+        (17, arm_test b i x xs s ∙ ap (λ z. spend 17 (cond z (ran 0 (Next s)) (code ground ((x ∷ xs) ++ set ground.locals (number 0) ∷ []) b s))) (lt-ltb i (slice_index s.temps ground.locals) lt), omega arith)
 
     -- ---- all arms
 
     abbrev all_code : ℕ → List LoweredArm → Jumps → List Stm
-    all_code = arms_code locals
+    all_code = arms_code ground.locals
 
     -- from an arm on, through that arm and all behind it
-    falls : (j : Jumps) (b : Bound) (ds : List ArmDenotation) (ls : List LoweredArm) (i : ℕ) (f : Frame) (w : World) (s : State) → ArmsCorrect b j ds ls → Shows f w s → slice_index s.temps locals ≤ i →
-        FlowShown (out_in j) 0 (code (all_code i ls j) b s) (in_order (bodies_of ds) f w)
-    falls j b [] [] i f w s h sh le = flows.nothing_to_do p setting frame began own locals sizes room void (in_arm j) b f w s sh
+    falls : (j : Jumps) (b : Bound) (ds : List ArmDenotation) (ls : List LoweredArm) (i : ℕ) (f : Frame) (w : World) (s : State) → ArmsCorrect b j ds ls → Shows (resting ground) f w s → slice_index s.temps ground.locals ≤ i →
+        FlowShown ground void (out_in j) 0 (code ground (all_code i ls j) b s) (in_order (bodies_of ds) f w)
+    falls j b [] [] i f w s h sh le = flows.nothing_to_do ground void (in_arm j) b f w s sh
     falls j b [] (l ∷ ls) i f w s h sh le = absurd h
     falls j b (d ∷ ds) [] i f w s h sh le = absurd h
     falls j b (d ∷ ds) (l ∷ ls) i f w s h sh le =
         let xs = (l.body (in_arm j)).code in
         let o = in_order d.body f w in
-        subst (λ (q : Outcome Frame Flow). FlowShown (out_in j) 0 (code (code_of_arm i xs ++ all_code (suc i) ls j) b s) q) (sym (in_order_both d.body (bodies_of ds) f w))
-        (subst (λ (r : Run). FlowShown (out_in j) 0 r (and_then o (λ flow. then_on flow (in_order (bodies_of ds))))) (sym (joined (code_of_arm i xs) (all_code (suc i) ls j) b s))
-        (flows.then_after p setting frame began own locals sizes room void (in_arm j) 0 0 (code (code_of_arm i xs) b s) (code (all_code (suc i) ls j) b) (in_order (bodies_of ds)) o (entered j b i xs s o le (h.2 f w s sh))
+        subst (λ (q : Outcome Frame Flow). FlowShown ground void (out_in j) 0 (code ground (code_of_arm i xs ++ all_code (suc i) ls j) b s) q) (sym (in_order_both d.body (bodies_of ds) f w))
+        (subst (λ (r : Run). FlowShown ground void (out_in j) 0 r (and_then o (λ flow. then_on flow (in_order (bodies_of ds))))) (sym (run.joined ground.setting ground.frame (code_of_arm i xs) (all_code (suc i) ls j) b s))
+        (flows.then_after ground void (in_arm j) 0 0 (code ground (code_of_arm i xs) b s) (code ground (all_code (suc i) ls j) b) (in_order (bodies_of ds)) o (entered j b i xs s o le (h.2 f w s sh))
         (λ f1 w1 s1 e sh1. falls j b ds ls (suc i) f1 w1 s1 h.3 sh1 (goes_to_next b i xs s s1 le e))))
 
     -- into the arm that stands so many arms behind, or behind all
-    enters : (j : Jumps) (b : Bound) (ds : List ArmDenotation) (ls : List LoweredArm) (i more : ℕ) (f : Frame) (w : World) (s : State) → ArmsCorrect b j ds ls → Shows f w s → slice_index s.temps locals ≡ i + more → more ≤ length ls →
-        FlowShown (out_in j) (17 * more) (code (all_code i ls j) b s) (in_order (bodies_of (drop more ds)) f w)
+    enters : (j : Jumps) (b : Bound) (ds : List ArmDenotation) (ls : List LoweredArm) (i more : ℕ) (f : Frame) (w : World) (s : State) → ArmsCorrect b j ds ls → Shows (resting ground) f w s → slice_index s.temps ground.locals ≡ i + more → more ≤ length ls →
+        FlowShown ground void (out_in j) (17 * more) (code ground (all_code i ls j) b s) (in_order (bodies_of (drop more ds)) f w)
     enters j b ds ls i zero f w s h sh e le = falls j b ds ls i f w s h sh (omega (arith, e))
     enters j b ds [] i (suc more) f w s h sh e le = absurd (omega (arith, le))
     enters j b [] (l ∷ ls) i (suc more) f w s h sh e le = absurd h
     enters j b (d ∷ ds) (l ∷ ls) i (suc more) f w s h sh e le =
         let xs = (l.body (in_arm j)).code in
         let k = skipped b i xs s (omega (arith, e)) in
-        flows.more p setting frame began own locals sizes room void (out_in j) (17 * more + k.0) (17 * suc more) (code (code_of_arm i xs ++ all_code (suc i) ls j) b s) (in_order (bodies_of (drop more ds)) f w) (omega (arith, k.2))
-        (flows.priced p setting frame began own locals sizes room void (out_in j) (17 * more) k.0 (code (all_code (suc i) ls j) b s) (code (code_of_arm i xs ++ all_code (suc i) ls j) b s) (in_order (bodies_of (drop more ds)) f w)
-        (joined (code_of_arm i xs) (all_code (suc i) ls j) b s ∙ ap (λ r. then_do r (code (all_code (suc i) ls j) b)) k.1)
+        flows.more ground void (out_in j) (17 * more + k.0) (17 * suc more) (code ground (code_of_arm i xs ++ all_code (suc i) ls j) b s) (in_order (bodies_of (drop more ds)) f w) (omega (arith, k.2))
+        (flows.priced ground void (out_in j) (17 * more) k.0 (code ground (all_code (suc i) ls j) b s) (code ground (code_of_arm i xs ++ all_code (suc i) ls j) b s) (in_order (bodies_of (drop more ds)) f w)
+        (run.joined ground.setting ground.frame (code_of_arm i xs) (all_code (suc i) ls j) b s ∙ ap (λ r. then_do r (code ground (all_code (suc i) ls j) b)) k.1)
         (enters j b ds ls (suc i) more f w s h.3 sh (omega (arith, e)) (omega (arith, le))))
 
   -- ---- which arm
@@ -472,13 +449,13 @@ module _ (p : Program) (setting : Setting) (frame : code_world.Frame) (began : L
   labels_are b j (d ∷ ds) (l ∷ ls) h = ap (λ xs. xs ++ lowered_labels ls) h.0 ∙ ap (λ xs. d.labels ++ xs) (labels_are b j ds ls h.3)
 
   -- from the tests to the arm
-  arrives : locals < room → (j : Jumps) (b : Bound) (ds : List ArmDenotation) (ls : List LoweredArm) (v : ℕ) (f : Frame) (w : World) (s : State) → ArmsCorrect b j ds ls → bare_arms ls ≤ 2 → Shows f w s → slice_index s.temps locals ≡ v →
-      FlowShown (out_of void j) 53 (code (enclosed (enclosed (all_tests locals ls) ∷ arms_code locals 0 ls j) ∷ []) b s) (switch_flow v ds f w)
+  arrives : ground.locals < ground.room → (j : Jumps) (b : Bound) (ds : List ArmDenotation) (ls : List LoweredArm) (v : ℕ) (f : Frame) (w : World) (s : State) → ArmsCorrect b j ds ls → bare_arms ls ≤ 2 → Shows (resting ground) f w s → slice_index s.temps ground.locals ≡ v →
+      FlowShown ground void (out_of void j) 53 (code ground (enclosed (enclosed (all_tests ground.locals ls) ∷ arms_code ground.locals 0 ls j) ∷ []) b s) (switch_flow v ds f w)
   arrives there j b ds ls v f w s h bare sh e =
-      subst (λ (xs : List ℕ). FlowShown (out_of void j) 53 (code (enclosed whole ∷ []) b s) (arrived (tried_labels v xs))) (labels_are b j ds ls h) (by (tried_labels v (lowered_labels ls)).found refl)
+      subst (λ (xs : List ℕ). FlowShown ground void (out_of void j) 53 (code ground (enclosed whole ∷ []) b s) (arrived (tried_labels v xs))) (labels_are b j ds ls h) (by (tried_labels v (lowered_labels ls)).found refl)
     where
       whole : List Stm
-      whole = enclosed (all_tests locals ls) ∷ arms_code locals 0 ls j
+      whole = enclosed (all_tests ground.locals ls) ∷ arms_code ground.locals 0 ls j
 
       arrived : Tried → Outcome Frame Flow
       arrived t = after t.labels (and_then (in_order (cond t.found (bodies_from (λ a. (tried_labels v a.labels).found) ds) (bodies_from (λ a. a.other) ds)) f w) after_switch)
@@ -489,56 +466,56 @@ module _ (p : Program) (setting : Setting) (frame : code_world.Frame) (began : L
       last : ℕ
       last = arm_place (λ a. a.other) 0 ls
 
-      tests : code (all_tests locals ls) b s ≡ after_tests b locals t (arm_place (hits v) 0 ls) (set locals (number last) ∷ []) s
-      tests = arm_tests b locals 0 v ls (set locals (number last) ∷ []) s e
+      tests : code ground (all_tests ground.locals ls) b s ≡ after_tests b ground.locals t (arm_place (hits v) 0 ls) (set ground.locals (number last) ∷ []) s
+      tests = arm_tests b ground.locals 0 v ls (set ground.locals (number last) ∷ []) s e
 
       way : Passed t (arm_place (hits v) 0 ls) (length ls) (bare_arms ls)
       way = passed v ls
 
-      goes_in : (pick : ArmDenotation → Bool) (lowered : LoweredArm → Bool) (cost : ℕ) → picks pick lowered ds ls → code (enclosed (all_tests locals ls) ∷ []) b s ≡ ran cost (Next (with_temp s locals (arm_place lowered 0 ls))) →
-          17 * arm_place lowered 0 ls + cost ≤ 53 + 100 * t.labels → FlowShown (out_of void j) 53 (code (enclosed whole ∷ []) b s) (after t.labels (and_then (in_order (bodies_from pick ds) f w) after_switch))
+      goes_in : (pick : ArmDenotation → Bool) (lowered : LoweredArm → Bool) (cost : ℕ) → picks pick lowered ds ls → code ground (enclosed (all_tests ground.locals ls) ∷ []) b s ≡ ran cost (Next (with_temp s ground.locals (arm_place lowered 0 ls))) →
+          17 * arm_place lowered 0 ls + cost ≤ 53 + 100 * t.labels → FlowShown ground void (out_of void j) 53 (code ground (enclosed whole ∷ []) b s) (after t.labels (and_then (in_order (bodies_from pick ds) f w) after_switch))
       goes_in pick lowered cost picked r le =
           let place = arm_place lowered 0 ls in
-          let s1 = with_temp s locals place in
-          let at : slice_index s1.temps locals ≡ place = get_or-set_same s.temps locals place 0 (subst (λ k. locals < k) (sym sh.temps) there) in
-          flows.paid_by p setting frame began own locals sizes room void (out_of void j) 53 t.labels (code (enclosed whole ∷ []) b s) (and_then (in_order (bodies_from pick ds) f w) after_switch)
+          let s1 = with_temp s ground.locals place in
+          let at : slice_index s1.temps ground.locals ≡ place = get_or-set_same s.temps ground.locals place 0 (subst (λ k. ground.locals < k) (sym sh.temps) there) in
+          flows.paid_by ground void (out_of void j) 53 t.labels (code ground (enclosed whole ∷ []) b s) (and_then (in_order (bodies_from pick ds) f w) after_switch)
           (closed j (53 + 100 * t.labels) b whole s (in_order (bodies_from pick ds) f w)
-          (subst (λ (bodies : List (Evaluation Flow)). FlowShown (out_in j) (53 + 100 * t.labels) (code whole b s) (in_order bodies f w)) (picked_is pick lowered ds ls picked)
-          (flows.more p setting frame began own locals sizes room void (out_in j) (17 * place + cost) (53 + 100 * t.labels) (code whole b s) (in_order (bodies_of (drop place ds)) f w) le
-          (flows.priced p setting frame began own locals sizes room void (out_in j) (17 * place) cost (code (arms_code locals 0 ls j) b s1) (code whole b s) (in_order (bodies_of (drop place ds)) f w)
-          (joined (enclosed (all_tests locals ls) ∷ []) (arms_code locals 0 ls j) b s ∙ ap (λ q. then_do q (code (arms_code locals 0 ls j) b)) r)
-          (enters there j b ds ls 0 place f w s1 h (show.shows_temp p setting frame began own locals sizes (λ l. None) locals (λ k. 0) room [] f w s locals place (omega arith) sh)
+          (subst (λ (bodies : List (Evaluation Flow)). FlowShown ground void (out_in j) (53 + 100 * t.labels) (code ground whole b s) (in_order bodies f w)) (picked_is pick lowered ds ls picked)
+          (flows.more ground void (out_in j) (17 * place + cost) (53 + 100 * t.labels) (code ground whole b s) (in_order (bodies_of (drop place ds)) f w) le
+          (flows.priced ground void (out_in j) (17 * place) cost (code ground (arms_code ground.locals 0 ls j) b s1) (code ground whole b s) (in_order (bodies_of (drop place ds)) f w)
+          (run.joined ground.setting ground.frame (enclosed (all_tests ground.locals ls) ∷ []) (arms_code ground.locals 0 ls j) b s ∙ ap (λ q. then_do q (code ground (arms_code ground.locals 0 ls j) b)) r)
+          (enters there j b ds ls 0 place f w s1 h (show.shows_temp (resting ground) f w s ground.locals place (omega arith) sh)
           (omega (arith, at)) (place_within lowered ls))))))
 
-      enclosed_tests : {r : Run} → code (all_tests locals ls) b s ≡ r → code (enclosed (all_tests locals ls) ∷ []) b s ≡ ran r.cost (block_end r.outcome)
-      enclosed_tests q = one_meaning setting frame (stm.Block (all_tests locals ls)) b s ∙ ap (λ (r : Run). ran r.cost (block_end r.outcome)) q
+      enclosed_tests : {r : Run} → code ground (all_tests ground.locals ls) b s ≡ r → code ground (enclosed (all_tests ground.locals ls) ∷ []) b s ≡ ran r.cost (block_end r.outcome)
+      enclosed_tests q = one_meaning ground.setting ground.frame (stm.Block (all_tests ground.locals ls)) b s ∙ ap (λ (r : Run). ran r.cost (block_end r.outcome)) q
 
-      by : (z : Bool) → t.found ≡ z → FlowShown (out_of void j) 53 (code (enclosed whole ∷ []) b s) (arrived t)
+      by : (z : Bool) → t.found ≡ z → FlowShown ground void (out_of void j) 53 (code ground (enclosed whole ∷ []) b s) (arrived t)
       by true q =
-          subst (λ z. FlowShown (out_of void j) 53 (code (enclosed whole ∷ []) b s) (after t.labels (and_then (in_order (cond z (bodies_from (λ a. (tried_labels v a.labels).found) ds) (bodies_from (λ a. a.other) ds)) f w) after_switch))) (sym q)
+          subst (λ z. FlowShown ground void (out_of void j) 53 (code ground (enclosed whole ∷ []) b s) (after t.labels (and_then (in_order (cond z (bodies_from (λ a. (tried_labels v a.labels).found) ds) (bodies_from (λ a. a.other) ds)) f w) after_switch))) (sym q)
           (goes_in (λ a. (tried_labels v a.labels).found) (hits v) (17 * t.labels + 19) (hits_picked b j v ds ls h)
-          (enclosed_tests (tests ∙ ap (λ z. cond z (ran (17 * t.labels + 19) (Leaves 0 (with_temp s locals (arm_place (hits v) 0 ls)))) (spend (17 * t.labels) (code (set locals (number last) ∷ []) b s))) q))
+          (enclosed_tests (tests ∙ ap (λ z. cond z (ran (17 * t.labels + 19) (Leaves 0 (with_temp s ground.locals (arm_place (hits v) 0 ls)))) (spend (17 * t.labels) (code ground (set ground.locals (number last) ∷ []) b s))) q))
           (omega (arith, way.to_arm, bare)))
       by false q =
           let all = way.to_end q in
-          subst (λ z. FlowShown (out_of void j) 53 (code (enclosed whole ∷ []) b s) (after t.labels (and_then (in_order (cond z (bodies_from (λ a. (tried_labels v a.labels).found) ds) (bodies_from (λ a. a.other) ds)) f w) after_switch))) (sym q)
+          subst (λ z. FlowShown ground void (out_of void j) 53 (code ground (enclosed whole ∷ []) b s) (after t.labels (and_then (in_order (cond z (bodies_from (λ a. (tried_labels v a.labels).found) ds) (bodies_from (λ a. a.other) ds)) f w) after_switch))) (sym q)
           (goes_in (λ a. a.other) (λ a. a.other) (17 * t.labels + 11) (others_picked b j ds ls h)
-          (enclosed_tests (tests ∙ ap (λ z. cond z (ran (17 * t.labels + 19) (Leaves 0 (with_temp s locals (arm_place (hits v) 0 ls)))) (spend (17 * t.labels) (code (set locals (number last) ∷ []) b s))) q ∙
-          ap (λ r. spend (17 * t.labels) r) (placed b locals last s)))
+          (enclosed_tests (tests ∙ ap (λ z. cond z (ran (17 * t.labels + 19) (Leaves 0 (with_temp s ground.locals (arm_place (hits v) 0 ls)))) (spend (17 * t.labels) (code ground (set ground.locals (number last) ∷ []) b s))) q ∙
+          ap (λ r. spend (17 * t.labels) r) (placed b ground.locals last s)))
           (omega (arith, all, place_within (λ a. a.other) ls, bare)))
 
-  pub switch_correct : (j : Jumps) (b : Bound) (me : Evaluation ℕ) (le : Lowering) (ds : List ArmDenotation) (ls : List LoweredArm) → (le locals).top ≤ room → locals + 1 ≤ room → bare_arms ls ≤ 2 →
-      flows.CorrectFor p setting frame began own locals sizes room void b 0 me le → ArmsCorrect b j ds ls → FlowCorrect (out_of void j) 72 b (bind me (λ v. switch_flow v ds)) (lower_switch locals le ls j).code
+  pub switch_correct : (j : Jumps) (b : Bound) (me : Evaluation ℕ) (le : Lowering) (ds : List ArmDenotation) (ls : List LoweredArm) → (le ground.locals).top ≤ ground.room → ground.locals + 1 ≤ ground.room → bare_arms ls ≤ 2 →
+      CorrectFor (resting ground) b 0 me le → ArmsCorrect b j ds ls → FlowCorrect ground void (out_of void j) 72 b (bind me (λ v. switch_flow v ds)) (lower_switch ground.locals le ls j).code
   switch_correct j b me le ds ls fits room_for bare ce h f w s sh =
-      let e = le locals in
-      let rest = enclosed (enclosed (all_tests locals ls) ∷ arms_code locals 0 ls j) ∷ [] in
-      flows.behind p setting frame began own locals sizes room void (out_of void j) b 72 0 locals s e.code (set locals e.tree ∷ rest) e.tree (me f w) (λ v. switch_flow v ds) (ce locals f w s (omega arith) fits (flows.at_bound p setting frame began own locals sizes room void b f w s sh))
+      let e = le ground.locals in
+      let rest = enclosed (enclosed (all_tests ground.locals ls) ∷ arms_code ground.locals 0 ls j) ∷ [] in
+      flows.behind ground void none (out_of void j) b 72 0 ground.locals s e.code (set ground.locals e.tree ∷ rest) e.tree (me f w) (λ v. switch_flow v ds) (ce ground.locals f w s (omega arith) fits sh)
       (λ v f1 w1 work r.
-      let x = c.val p setting frame began own locals sizes (λ l. None) locals (λ k. 0) room b e.tree r.state in
-      let s1 = with_temp r.state locals x in
-      let shown = flows.at_no_bound p setting frame began own locals sizes room void b f1 w1 r.state r.shows in
-      flows.more p setting frame began own locals sizes room void (out_of void j) (53 + (8 + 3 * nodes e.tree)) (72 + (3 * nodes e.tree + 11)) (code (set locals e.tree ∷ rest) b r.state) (switch_flow v ds f1 w1) (omega arith)
-      (flows.priced p setting frame began own locals sizes room void (out_of void j) 53 (8 + 3 * nodes e.tree) (code rest b s1) (code (set locals e.tree ∷ rest) b r.state) (switch_flow v ds f1 w1)
-      (joined (set locals e.tree ∷ []) rest b r.state ∙ ap (λ q. then_do q (code rest b)) (run.runs_set p setting frame began own locals sizes (λ l. None) locals (λ k. 0) room b locals e.tree r.state))
-      (arrives (omega (arith, room_for)) j b ds ls v f1 w1 s1 h bare (show.shows_temp p setting frame began own locals sizes (λ l. None) locals (λ k. 0) room [] f1 w1 r.state locals x (omega arith) shown)
-      (get_or-set_same r.state.temps locals x 0 (subst (λ k. locals < k) (sym r.shows.temps) (omega (arith, room_for))) ∙ r.value))))
+      let x = val (resting ground) e.tree r.state in
+      let s1 = with_temp r.state ground.locals x in
+      let shown = r.shows in
+      flows.more ground void (out_of void j) (53 + (8 + 3 * nodes e.tree)) (72 + (3 * nodes e.tree + 11)) (code ground (set ground.locals e.tree ∷ rest) b r.state) (switch_flow v ds f1 w1) (omega arith)
+      (flows.priced ground void (out_of void j) 53 (8 + 3 * nodes e.tree) (code ground rest b s1) (code ground (set ground.locals e.tree ∷ rest) b r.state) (switch_flow v ds f1 w1)
+      (run.joined ground.setting ground.frame (set ground.locals e.tree ∷ []) rest b r.state ∙ ap (λ q. then_do q (code ground rest b)) (run.runs_set (resting ground) b ground.locals e.tree r.state))
+      (arrives (omega (arith, room_for)) j b ds ls v f1 w1 s1 h bare (show.shows_temp (resting ground) f1 w1 r.state ground.locals x (omega arith) shown)
+      (get_or-set_same r.state.temps ground.locals x 0 (subst (λ k. ground.locals < k) (sym r.shows.temps) (omega (arith, room_for))) ∙ r.value))))

@@ -64,7 +64,6 @@ abbrev pub level : Bound → ℕ → List ℕ → ℕ → ℕ → code_world.Wor
 level [] f args depth live w = record { cost = 0; end = More w }
 level (calls ∷ below) f args depth live w = calls f args depth live w
 
--- one function's frame, at a bound: the source's numbers of locals, and the temporaries that the code has
 -- A local that the code keeps where the source has it: a scalar, or an array. The others are those that are being declared.
 abbrev pub IsScalar : (ℕ → Option ℕ) → (ℕ → Option (List ℕ × List ℕ)) → ℕ → Type 0
 IsScalar sizes held l = (sizes l ≡ None) × (held l ≡ None)
@@ -72,40 +71,109 @@ IsScalar sizes held l = (sizes l ≡ None) × (held l ≡ None)
 abbrev pub IsArrayLocal : (ℕ → Option ℕ) → (ℕ → Option (List ℕ × List ℕ)) → ℕ → Type 0
 IsArrayLocal sizes held l = (sizes l ≡ None → ⊥) × (held l ≡ None)
 
--- When the frame began the bindings were those given. The source has so many locals; each is a scalar, or an array where it has a size. Of a local that is being declared
--- the source has some words and the code others. The temporaries behind those of the locals and up to the floor are in use, and hold these values.
-module _ (p : Program) (setting : Setting) (frame : code_world.Frame) (began : List Binding) (own locals : ℕ) (sizes : ℕ → Option ℕ) (held : ℕ → Option (List ℕ × List ℕ)) (floor : ℕ) (scratch : ℕ → ℕ) (room : ℕ) (bound : Bound) where
+-- ---- one function's frame
+
+-- the words that the source has of a local that is being declared, and those that the code has
+abbrev pub Held : Type 0
+Held = ℕ → Option (List ℕ × List ℕ)
+
+-- nothing is being declared
+abbrev pub none : Held
+none l = None
+
+-- what doesn't change while a frame is there
+pub record Ground : Type 0 where
+  -- the source's program
+  pub p : Program
+  -- what all code has in common
+  pub setting : Setting
+  -- the frame, as the code has it
+  pub frame : code_world.Frame
+  -- the bindings when it began
+  pub began : List Binding
+  -- the function's number
+  pub own : ℕ
+  -- the number of the source's locals
+  pub locals : ℕ
+  -- how many elements a local has: none where it is a scalar
+  pub sizes : ℕ → Option ℕ
+  -- the number of the code's temporaries
+  pub room : ℕ
+
+-- and what changes within an expression or a declaration
+pub record Scene : Type 0 where
+  pub ground : Ground
+  pub open ground use *
+  -- the locals that are being declared
+  pub held : Held
+  -- the temporaries behind those of the locals and up to this one are in use
+  pub floor : ℕ
+  -- the values of these
+  pub scratch : ℕ → ℕ
+
+abbrev pub scene_of : Ground → Held → ℕ → (ℕ → ℕ) → Scene
+scene_of ground held floor scratch = record { ground = ground; held = held; floor = floor; scratch = scratch }
+
+-- no temporaries are in use but the locals'
+abbrev pub declaring : Ground → Held → Scene
+declaring ground held = scene_of ground held ground.locals (λ k. 0)
+
+-- between statements
+abbrev pub resting : Ground → Scene
+resting ground = declaring ground none
+
+-- ---- what a state shows
+
+module _ (ground : Ground) where
+  -- Around the frame all is as in the source. Where an attributed frame is live, the bindings are those at the frame's start, and each object has the number of words that it is declared with.
+  pub record ShowsAround (in_function : ℕ) (w : World) (x : code_world.World) : Type 0 where
+    pub world : x ≡ seen w
+    pub depth : w.depth ≡ ground.frame.depth
+    pub live : w.live ≡ ground.frame.live
+    pub pinned : 0 < ground.frame.live → w.bindings ≡ ground.began
+    pub function : in_function ≡ ground.own
+    pub switches : (g : ℕ) → found ground.frame.bound g ≡ bound_value ground.p w.bindings ground.own (slice_get ground.p.functions ground.own) g
+    pub globals : (g : ℕ) → length (slice_index_or w.globals g []) ≡ global_words ground.p g
+
+  -- each array stands in the array of its number
+  pub record ShowsArrays (held : Held) (locals : List (List ℕ)) (own_arrays : List (List ℕ)) : Type 0 where
+    pub elements : (l : ℕ) → l < ground.locals → IsArrayLocal ground.sizes held l → slice_index_or own_arrays l [] ≡ slice_index_or locals l []
+    pub untouched : (l : ℕ) (both : List ℕ × List ℕ) → held l ≡ Some both → (slice_index_or locals l [] ≡ both.0) × (slice_index_or own_arrays l [] ≡ both.1)
+    pub words : (l : ℕ) → l < ground.locals → length (slice_index_or locals l []) ≡ words_of_size (ground.sizes l)
+    pub size : length locals ≡ ground.locals
+    pub arrays : length own_arrays ≡ ground.locals
+
+  -- the temporaries that are in use
+  pub record ShowsTemps (floor : ℕ) (scratch : ℕ → ℕ) (own_temps : List ℕ) : Type 0 where
+    pub above : ground.locals ≤ floor
+    pub below : (k : ℕ) → ground.locals ≤ k → k < floor → slice_index own_temps k ≡ scratch k
+    pub temps : length own_temps ≡ ground.room
+
+module _ (scene : Scene) where
   -- a tree's value
   abbrev pub val : Tree → State → ℕ
-  val t s = value setting.numbers frame.bound t s.temps s.world.globals
+  val t s = value scene.setting.numbers scene.frame.bound t s.temps s.world.globals
 
-  -- code from a state comes to an outcome at a cost
-  abbrev pub Runs : List Stm → State → ir.Outcome → ℕ → Type 0
-  Runs code s o c = code_meaning setting frame code bound s ≡ ran c o
-
-  -- The code's state shows the source's frame and world: each scalar stands in the temporary of its number, each array in the array of its
-  -- number, and each object has the number of words that it is declared with. Where an attributed frame is live, the bindings are those at the frame's start.
+  -- The code's state shows the source's frame and world: each scalar stands in the temporary of its number.
   pub record Shows (f : Frame) (w : World) (s : State) : Type 0 where
-    pub world : s.world ≡ seen w
-    pub depth : w.depth ≡ frame.depth
-    pub live : w.live ≡ frame.live
-    pub pinned : 0 < frame.live → w.bindings ≡ began
-    pub function : f.function ≡ own
-    pub switches : (g : ℕ) → found frame.bound g ≡ bound_value p w.bindings own (slice_get p.functions own) g
-    pub each : (l : ℕ) → l < locals → IsScalar sizes held l → slice_index s.temps l ≡ word_at f.locals l 0
-    pub elements : (l : ℕ) → l < locals → IsArrayLocal sizes held l → slice_index_or s.arrays l [] ≡ slice_index_or f.locals l []
-    pub untouched : (l : ℕ) (both : List ℕ × List ℕ) → held l ≡ Some both → (slice_index_or f.locals l [] ≡ both.0) × (slice_index_or s.arrays l [] ≡ both.1)
-    pub words : (l : ℕ) → l < locals → length (slice_index_or f.locals l []) ≡ words_of_size (sizes l)
-    pub size : length f.locals ≡ locals
-    pub above : locals ≤ floor
-    pub below : (k : ℕ) → locals ≤ k → k < floor → slice_index s.temps k ≡ scratch k
-    pub temps : length s.temps ≡ room
-    pub arrays : length s.arrays ≡ locals
-    pub globals : (g : ℕ) → length (slice_index_or w.globals g []) ≡ global_words p g
+    pub around : ShowsAround scene.ground f.function w s.world
+    pub open around use *
+    pub in_arrays : ShowsArrays scene.ground scene.held f.locals s.arrays
+    pub open in_arrays use *
+    pub in_temps : ShowsTemps scene.ground scene.floor scene.scratch s.temps
+    pub open in_temps use *
+    pub each : (l : ℕ) → l < scene.locals → IsScalar scene.sizes scene.held l → slice_index s.temps l ≡ word_at f.locals l 0
 
   -- the values that were put away below a temporary are as before
   abbrev pub Kept : ℕ → State → State → Type 0
-  Kept n s s' = (k : ℕ) → floor ≤ k → k < n → slice_index s'.temps k ≡ slice_index s.temps k
+  Kept n s s' = (k : ℕ) → scene.floor ≤ k → k < n → slice_index s'.temps k ≡ slice_index s.temps k
+
+-- ---- at a bound
+
+module _ (scene : Scene) (bound : Bound) where
+  -- code from a state comes to an outcome at a cost
+  abbrev pub Runs : List Stm → State → ir.Outcome → ℕ → Type 0
+  Runs code s o c = code_meaning scene.setting scene.frame code bound s ≡ ran c o
 
   -- Code that comes to its end, with a tree for the source's value. What it costs, with the tree and what is
   -- due after it, is paid by the work, at 100 for one of work, and by a credit.
@@ -113,9 +181,9 @@ module _ (p : Program) (setting : Setting) (frame : code_world.Frame) (began : L
     pub state : State
     pub cost : ℕ
     pub runs : Runs code s (Next state) cost
-    pub shows : Shows f w state
-    pub value : val tree state ≡ v
-    pub kept : Kept n s state
+    pub shows : Shows scene f w state
+    pub value : val scene tree state ≡ v
+    pub kept : Kept scene n s state
     pub paid : cost + 3 * nodes tree + due ≤ 100 * work + credit
 
   -- code that ends the function as the source stops; where the source goes astray nothing is said of it
@@ -133,7 +201,7 @@ module _ (p : Program) (setting : Setting) (frame : code_world.Frame) (began : L
   abbrev pub CorrectFor : ℕ → Evaluation ℕ → Lowering → Type 0
   CorrectFor credit m l =
       (n : ℕ) (f : Frame) (w : World) (s : State) →
-      floor ≤ n → (l n).top ≤ room → Shows f w s → Shown 11 credit n s (l n).code (l n).tree (m f w)
+      scene.floor ≤ n → (l n).top ≤ scene.room → Shows scene f w s → Shown 11 credit n s (l n).code (l n).tree (m f w)
 
   abbrev pub Correct : Evaluation ℕ → Lowering → Type 0
   Correct = CorrectFor 0
@@ -144,9 +212,9 @@ module _ (p : Program) (setting : Setting) (frame : code_world.Frame) (began : L
     pub state : State
     pub cost : ℕ
     pub runs : Runs code s (Next state) cost
-    pub shows : Shows f w state
-    pub values : map (λ t. val t state) trees ≡ vs
-    pub kept : Kept n s state
+    pub shows : Shows scene f w state
+    pub values : map (λ t. val scene t state) trees ≡ vs
+    pub kept : Kept scene n s state
     pub paid : cost + 3 * nodes_of_all trees ≤ 100 * work
 
   abbrev pub AllShown : ℕ → State → List Stm → List Tree → Outcome Frame (List ℕ) → Type 0
@@ -159,8 +227,15 @@ module _ (p : Program) (setting : Setting) (frame : code_world.Frame) (began : L
   AllCorrect (e ∷ es) [] = ⊥
   AllCorrect (e ∷ es) (l ∷ ls) = Correct e.value l × AllCorrect es ls
 
-  -- ---- what calls do
+-- ---- what calls do
 
+pub record CallHalted (c : Call) (why : Stop) (w2 : World) (work : ℕ) : Type 0 where
+  pub cost : ℕ
+  pub ends : is_astray why ≡ false → c ≡ record { cost = cost; end = end_of why (seen w2) }
+  pub paid : cost ≤ 20 + 100 * work
+
+-- calls that a frame makes, of the function with this number
+module _ (p : Program) (frame : code_world.Frame) (own : ℕ) where
   -- a call leaves the caller's frame as it was, with the values that its switches are read as, all bindings where an attributed frame is live, and no object gets another size
   pub record Unmoved (f f2 : Frame) (w w2 : World) : Type 0 where
     pub globals : (g : ℕ) → length (slice_index_or w2.globals g []) ≡ length (slice_index_or w.globals g [])
@@ -181,8 +256,8 @@ module _ (p : Program) (setting : Setting) (frame : code_world.Frame) (began : L
   KnownShown a f w (Stopped why w2 work) = ⊥
 
   -- a known function does in the code what it does in the source
-  abbrev pub KnownAgrees : Known → Type 0
-  KnownAgrees k =
+  abbrev pub KnownAgrees : Setting → Known → Type 0
+  KnownAgrees setting k =
       (vs : List ℕ) (f : Frame) (w : World) → f.function ≡ own → w.live ≡ frame.live →
       KnownShown (setting.known k vs frame.live (seen w)) f w (known_value p k vs f w)
 
@@ -192,18 +267,13 @@ module _ (p : Program) (setting : Setting) (frame : code_world.Frame) (began : L
     pub unmoved : Unmoved f f2 w w2
     pub paid : c.cost ≤ 20 + 100 * work
 
-  pub record CallHalted (c : Call) (why : Stop) (w2 : World) (work : ℕ) : Type 0 where
-    pub cost : ℕ
-    pub ends : is_astray why ≡ false → c ≡ record { cost = cost; end = end_of why (seen w2) }
-    pub paid : cost ≤ 20 + 100 * work
-
   abbrev pub CallShown : Bool → Call → Frame → World → Outcome Frame ℕ → Type 0
   CallShown void c f w (Came v f2 w2 work) = CallReached void c v f f2 w w2 work
   CallShown void c f w (Stopped why w2 work) = CallHalted c why w2 work
 
   -- The calls at the bound below do in the code what they do in the source: the hypothesis of the induction on the bound.
-  abbrev pub CallsAgree : Context → Type 0
-  CallsAgree context =
+  abbrev pub CallsAgree : Bound → Context → Type 0
+  CallsAgree bound context =
       (g : ℕ) (void : Bool) (vs : List ℕ) (f : Frame) (w : World) → is_callable p g (length vs) void ≡ true → f.function ≡ own → w.depth ≡ frame.depth → w.live ≡ frame.live →
       ((x : ℕ) → length (slice_index_or w.globals x []) ≡ global_words p x) →
       CallShown void (level bound g vs frame.depth frame.live (seen w)) f w (context.call g vs f w)

@@ -1,14 +1,11 @@
 -- What is proved of the lowering of expressions and statements.
-use Rattle.std.specs.Prelude.{◌≡◌, Bool, None, ℕ, ◌≤◌, true, Option, List, map}
+use Rattle.std.specs.Prelude.{◌≡◌, Bool, None, ℕ, ◌≤◌, true, List, map}
 use Rattle.mv_ast.specs.declared.program.CType.{CType}
 use Rattle.mv_ast.specs.declared.program.Expr.{Expr}
 use Rattle.mv_ast.specs.declared.program.Stmt.{Stmt}
 use Rattle.mv_ast.specs.Worlds.{stop}
 use Rattle.mv_ast.specs.declared.program.Known.{Known}
 use Rattle.mv_ast.specs.declared.program.Program.{Program}
-use Rattle.mv_ast.specs.declared.world.Binding.{Binding}
-use Rattle.mv_ir.specs.World.{Setting}
-use Rattle.mv_ir.specs.World as code_world
 use Rattle.mv_ir.specs.Outcome.{Bound, Calls}
 use Rattle.mv_ir.specs.Trees.{depth}
 use Rattle.mv_ir.specs.Measures.{deepest}
@@ -16,7 +13,7 @@ use Rattle.mv_meaning.specs.Meaning.{Context, context_with, value_of, flow_of_al
 use Rattle.mv_lower_spec.specs.Lower.{lower_expr}
 use Rattle.mv_source_forms.specs.Names.{is_well_named, is_callable, is_void, stmt_is_well_formed}
 use Rattle.mv_source_forms.specs.Lists.{all_of}
-use Rattle.mv_lower_spec.specs.Correct.{astray, IsStrict, CallsAgree, KnownAgrees, Correct}
+use Rattle.mv_lower_spec.specs.Correct.{Ground, Scene, Correct, CallsAgree, KnownAgrees, astray, IsStrict}
 use Rattle.mv_lower_spec.specs.Statements.{Jumps, in_sequence, out_of, levels, FlowCorrect}
 use Rattle.mv_lower_spec.specs.LowerStatements.{lower_stmt}
 use Rattle.mv_source_forms.specs.Labels.{stmt_labelled}
@@ -25,12 +22,12 @@ use Rattle.mv_source_forms.specs.Labels.{stmt_labelled}
 -- the functions that it calls and the known functions do so, and a call through a pointer reaches only functions that fit.
 abbrev pub ExpressionsAreRight : Type 0
 ExpressionsAreRight =
-    (p : Program) (setting : Setting) (frame : code_world.Frame) (began : List Binding) (function locals : ℕ) (sizes : ℕ → Option ℕ) (held : ℕ → Option (List ℕ × List ℕ)) (temps : ℕ) (bound : Bound) (free : ℕ → Bool) (context : Context) →
-    ((l : ℕ) → free l ≡ true → held l ≡ None) → locals ≤ temps → IsStrict p setting.numbers context →
-    ((floor : ℕ) (scratch : ℕ → ℕ) → CallsAgree p setting frame began function locals sizes held floor scratch temps bound context) →
-    ((floor : ℕ) (scratch : ℕ → ℕ) (known : Known) → KnownAgrees p setting frame began function locals sizes held floor scratch temps bound known) →
-    (e : Expr) → is_well_named p function locals sizes free e ≡ true →
-    (floor : ℕ) (scratch : ℕ → ℕ) → Correct p setting frame began function locals sizes held floor scratch temps bound (value_of p context e) (lower_expr e)
+    (scene : Scene) (bound : Bound) (free : ℕ → Bool) (context : Context) →
+    ((l : ℕ) → free l ≡ true → scene.held l ≡ None) → scene.locals ≤ scene.room → IsStrict scene.p scene.setting.numbers context →
+    CallsAgree scene.p scene.frame scene.own bound context →
+    ((known : Known) → KnownAgrees scene.p scene.frame scene.own scene.setting known) →
+    (e : Expr) → is_well_named scene.p scene.own scene.locals scene.sizes free e ≡ true →
+    Correct scene bound (value_of scene.p context e) (lower_expr e)
 
 -- No tree of a lowered expression is deeper than 4.
 abbrev pub ExpressionsAreShallow : Type 0
@@ -48,12 +45,11 @@ strict_context p numbers = context_with p numbers (fits_call p) (stop astray)
 -- mean: where up to that limit the functions that they call and the known functions do so.
 abbrev pub StatementsAreRight : Type 0
 StatementsAreRight =
-    (p : Program) (setting : Setting) (frame : code_world.Frame) (began : List Binding) (function locals : ℕ) (sizes : ℕ → Option ℕ) (temps : ℕ) (void : Bool) (limit : ℕ) (calls : ℕ → Calls) →
-    locals ≤ temps →
-    ((k : ℕ) → k ≤ limit → (held : ℕ → Option (List ℕ × List ℕ)) (floor : ℕ) (scratch : ℕ → ℕ) →
-    CallsAgree p setting frame began function locals sizes held floor scratch temps (levels calls k) (strict_context p setting.numbers k)) →
-    ((k : ℕ) (held : ℕ → Option (List ℕ × List ℕ)) (floor : ℕ) (scratch : ℕ → ℕ) (known : Known) → KnownAgrees p setting frame began function locals sizes held floor scratch temps (levels calls k) known) →
-    (body : List Stmt) → all_of (map (stmt_is_well_formed p function locals sizes void) body) ≡ true → all_of (map stmt_labelled body) ≡ true → (jumps : Jumps) →
-    (in_sequence locals (map (lower_stmt locals sizes void) body) jumps).top ≤ temps → (k : ℕ) → k ≤ limit →
-    FlowCorrect p setting frame began function locals sizes temps void (out_of void jumps) 0 (levels calls k) (flow_of_all p (strict_context p setting.numbers k) body)
-    (in_sequence locals (map (lower_stmt locals sizes void) body) jumps).code
+    (ground : Ground) (void : Bool) (limit : ℕ) (calls : ℕ → Calls) →
+    ground.locals ≤ ground.room →
+    ((k : ℕ) → k ≤ limit → CallsAgree ground.p ground.frame ground.own (levels calls k) (strict_context ground.p ground.setting.numbers k)) →
+    ((known : Known) → KnownAgrees ground.p ground.frame ground.own ground.setting known) →
+    (body : List Stmt) → all_of (map (stmt_is_well_formed ground.p ground.own ground.locals ground.sizes void) body) ≡ true → all_of (map stmt_labelled body) ≡ true → (jumps : Jumps) →
+    (in_sequence ground.locals (map (lower_stmt ground.locals ground.sizes void) body) jumps).top ≤ ground.room → (k : ℕ) → k ≤ limit →
+    FlowCorrect ground void (out_of void jumps) 0 (levels calls k) (flow_of_all ground.p (strict_context ground.p ground.setting.numbers k) body)
+    (in_sequence ground.locals (map (lower_stmt ground.locals ground.sizes void) body) jumps).code

@@ -5,13 +5,9 @@ use Rattle.mv_ir.specs.declared.stm.Array.TheVariants as array
 use Rattle.mv_ir.specs.declared.stm.Stm.{Stm}
 use Rattle.mv_ir.specs.declared.stm.Stm.TheOpen as stm
 use Rattle.mv_ir.specs.declared.stm.Stm.TheViews.{roll-Stm}
-use Rattle.mv_ir.specs.World.{Setting}
-use Rattle.mv_ir.specs.World as code_world
 use Rattle.mv_ir.specs.Outcome.{State, Returned, Next, Leaves, Ends, Run, Bound, Calls}
 use Rattle.mv_ir.specs.Outcome as ir
 use Rattle.mv_ir.specs.Meaning.{code_meaning}
-use Rattle.mv_ast.specs.declared.program.Program.{Program}
-use Rattle.mv_ast.specs.declared.world.Binding.{Binding}
 use Rattle.mv_ast.specs.declared.world.Stop.{Stop}
 use Rattle.mv_ast.specs.Counts.{words_of_size}
 use Rattle.mv_ast.specs.Worlds.{World, Outcome, Came, Stopped}
@@ -20,8 +16,7 @@ use Rattle.mv_meaning.specs.declared.state.Flow.{Flow}
 use Rattle.mv_meaning.specs.declared.state.Flow.TheVariants.{Goes, Breaks, Continues, Returns}
 use Rattle.mv_meaning.specs.Meaning.{Evaluation, returned_value}
 use Rattle.mv_lower_spec.specs.Lowered.{Lowering, number, temp, binary, set, write, choose}
-use Rattle.mv_lower_spec.specs.Correct as c
-use Rattle.mv_lower_spec.specs.Correct.{ran, end_of, seen, is_astray}
+use Rattle.mv_lower_spec.specs.Correct.{Ground, resting, Shows, ran, end_of, seen, is_astray}
 use Rattle.mv_ir.specs.Operators as operators
 
 -- ---- statements
@@ -215,15 +210,12 @@ abbrev pub levels : (ℕ → Calls) → ℕ → Bound
 levels calls zero = []
 levels calls (suc k) = calls k ∷ levels calls k
 
-module _ (p : Program) (setting : Setting) (frame : code_world.Frame) (began : List Binding) (own locals : ℕ) (sizes : ℕ → Option ℕ) (room : ℕ) (void : Bool) where
-  abbrev pub Shows : Bound → Frame → World → State → Type 0
-  Shows bound = c.Shows p setting frame began own locals sizes (λ l. None) locals (λ k. 0) room bound
-
+module _ (ground : Ground) (void : Bool) where
   pub record FlowReached (out : Flow → State → ir.Outcome) (credit : ℕ) (r : Run) (flow : Flow) (f : Frame) (w : World) (work : ℕ) : Type 0 where
     pub state : State
     pub cost : ℕ
     pub runs : r ≡ ran cost (out flow state)
-    pub shows : Shows [] f w state
+    pub shows : Shows (resting ground) f w state
     pub nothing : void ≡ true → returned_value flow ≡ 0
     pub paid : cost ≤ 100 * work + credit
 
@@ -239,4 +231,4 @@ module _ (p : Program) (setting : Setting) (frame : code_world.Frame) (began : L
   -- some code is correct for a statement, at a bound and with a credit
   abbrev pub FlowCorrect : (out : Flow → State → ir.Outcome) → ℕ → Bound → Evaluation Flow → List Stm → Type 0
   FlowCorrect out credit bound m code =
-      (f : Frame) (w : World) (s : State) → Shows [] f w s → FlowShown out credit (code_meaning setting frame code bound s) (m f w)
+      (f : Frame) (w : World) (s : State) → Shows (resting ground) f w s → FlowShown out credit (code_meaning ground.setting ground.frame code bound s) (m f w)
