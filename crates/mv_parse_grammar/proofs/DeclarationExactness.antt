@@ -10,7 +10,6 @@ use Rattle.mv_ast.specs.declared.unit.Shape.TheVariants as shape
 use Rattle.mv_parse_grammar.specs.Terminals.{Terminal, is_mark, is_keyword, is_name, is_string, is_type_word, is_specifier}
 use Rattle.mv_parse_grammar.specs.Language as L
 use Rattle.mv_parse_grammar.specs.Reader as R
-use Rattle.mv_parse_grammar.specs.Reader.{Read, next}
 use Rattle.mv_parse_grammar.specs.Expressions.{Nonterminal, Expressions, Assign, Cond, no_specs, specs_at, with_tag, tag_of, phrase}
 use Rattle.mv_parse_grammar.specs.ExpressionReader.{Readers, read}
 use Rattle.mv_parse_grammar.specs.Declarations as G

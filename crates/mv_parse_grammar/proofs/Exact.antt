@@ -4,7 +4,7 @@ use Rattle.std.proofs.lemmas.List.{append_cancel_right}
 use Rattle.mv_ast.specs.declared.place.Place.{Place}
 use Rattle.mv_parse_grammar.specs.Terminals.{Terminal}
 use Rattle.mv_parse_grammar.specs.Language as L
-use Rattle.mv_parse_grammar.specs.Language.{IsGiven, IsToken, IsThen, IsMarked, IsChain, place_of, turns}
+use Rattle.mv_parse_grammar.specs.Language.{IsGiven, place_of, turns}
 use Rattle.mv_parse_grammar.specs.Reader as R
 use Rattle.mv_parse_grammar.specs.Reader.{Read, Ends, Deep, next, go_on}
 
@@ -343,11 +343,30 @@ exact_eased {X} K never wider before A A' p more less less_of more_of a = record
     go ts (Some x) r j = record { front = j.front; whole = j.whole; phrase = j.phrase; stop = free_within (more x) (less x) (less_of x) r j.stop }
     go ts None r j = record { front = j.front; rest = j.rest; value = j.value; whole = j.whole; phrase = j.phrase }
 
--- choice
+-- another language with the same phrases
 
-module _ {X : Type 0} (K : ℕ → Type 0) (never before test wider : Terminal → Bool) (A A' B B' : X → List Terminal → Type 0) (p q : List Terminal → Read X) (more : X → Terminal → Bool)
+pub judged_as : {X : Type 0} (A B : X → List Terminal → Type 0) (more : X → Terminal → Bool) → ((x : X) (b : List Terminal) → A x b → B x b)
+    → (ts : List Terminal) (o : Option X) (r : List Terminal) → Judged A more ts o r → Judged B more ts o r
+judged_as A B more to ts (Some x) r j = record { front = j.front; whole = j.whole; phrase = to x j.front j.phrase; stop = j.stop }
+judged_as A B more to ts None r j = record { front = j.front; rest = j.rest; value = j.value; whole = j.whole; phrase = to j.value (j.front ++ j.rest) j.phrase }
+
+pub exact_same : {X : Type 0} (K : ℕ → Type 0) (never before : Terminal → Bool) (A A' B B' : X → List Terminal → Type 0) (p : List Terminal → Read X) (more : X → Terminal → Bool)
+    → ((x : X) (b : List Terminal) → A x b → B x b) → ((x : X) (b : List Terminal) → B' x b → A' x b) → ExactIn K never before A A' p more → ExactIn K never before B B' p more
+exact_same K never before A A' B B' p more to from a = record {
+  judged = λ ts o r h e. judged_as A B more to ts o r (a.judged ts o r h e);
+  local = a.local;
+  clean = λ x b r c h k. a.clean x b r (from x b c) h k;
+  complete = λ x b r c h k. a.complete x b r (from x b c) h k;
+  some = let u : Any A = a.some in record { value = u.value; tokens = u.tokens; phrase = to u.value u.tokens u.phrase };
+  total = a.total;
+}
+
+-- a choice, where the first is a phrase under a condition that the token before and the next one tell
+
+module _ {X : Type 0} (K : ℕ → Type 0) (Q : Type 0) (never before test wider : Terminal → Bool) (A A' B B' : X → List Terminal → Type 0) (p q : List Terminal → Read X) (more : X → Terminal → Bool)
     (wide : (t : Terminal) → (before t ≡ false) → (test t ≡ false) → wider t ≡ false) (narrow : (t : Terminal) → wider t ≡ false → (before t ≡ false) × (test t ≡ false))
-    (leads : Leads test A') (a : ExactIn K never before A A' p more) (b : ExactIn K never wider B B' q more) where
+    (known : (t : Terminal) → (before t ≡ false) → test t ≡ true → Q)
+    (leads : Leads test A') (a : Q → ExactIn K never before A A' p more) (b : ExactIn K never wider B B' q more) where
   neither : (ts : List Terminal) → Free before ts → Free test ts → Free wider ts
   neither [] h k = refl
   neither (t ∷ ts) h k = wide t h k
@@ -356,17 +375,13 @@ module _ {X : Type 0} (K : ℕ → Type 0) (never before test wider : Terminal �
   both [] h = (refl, refl)
   both (t ∷ ts) h = narrow t h
 
-  left : (ts : List Terminal) (o : Option X) (r : List Terminal) → Judged A more ts o r → Judged (L.◌or◌ A B) more ts o r
-  left ts (Some x) r j = record { front = j.front; whole = j.whole; phrase = inl j.phrase; stop = j.stop }
-  left ts None r j = record { front = j.front; rest = j.rest; value = j.value; whole = j.whole; phrase = inl j.phrase }
+  known_here : (ts : List Terminal) → Free before ts → next test ts ≡ true → Q
+  known_here [] h k = absurd (cc)
+  known_here (t ∷ ts) h k = known t h k
 
-  right : (ts : List Terminal) (o : Option X) (r : List Terminal) → Judged B more ts o r → Judged (L.◌or◌ A B) more ts o r
-  right ts (Some x) r j = record { front = j.front; whole = j.whole; phrase = inr j.phrase; stop = j.stop }
-  right ts None r j = record { front = j.front; rest = j.rest; value = j.value; whole = j.whole; phrase = inr j.phrase }
-
-  choice_judged : (ts : List Terminal) (o : Option X) (r : List Terminal) (v : Bool) → Free before ts → next test ts ≡ v → cond v (p ts) (q ts) ≡ Ends o r → Judged (L.◌or◌ A B) more ts o r
-  choice_judged ts o r true h k e = left ts o r (a.judged ts o r h e)
-  choice_judged ts o r false h k e = right ts o r (b.judged ts o r (neither ts h k) e)
+  choice_judged : (ts : List Terminal) (o : Option X) (r : List Terminal) (v : Bool) → Free before ts → next test ts ≡ v → cond v (p ts) (q ts) ≡ Ends o r → Judged (L.◌or◌ (L.when Q A) B) more ts o r
+  choice_judged ts o r true h k e = let c : Q = known_here ts h k in judged_as A (L.◌or◌ (L.when Q A) B) more (λ x t z. inl (record { condition = c; phrase = z })) ts o r ((a c).judged ts o r h e)
+  choice_judged ts o r false h k e = judged_as B (L.◌or◌ (L.when Q A) B) more (λ x t z. inr z) ts o r (b.judged ts o r (neither ts h k) e)
 
   same_next : (m : List Terminal) (t : Terminal) (s s' : List Terminal) → next test (m ++ (t ∷ s)) ≡ next test (m ++ (t ∷ s'))
   same_next [] t s s' = refl
@@ -374,25 +389,25 @@ module _ {X : Type 0} (K : ℕ → Type 0) (never before test wider : Terminal �
 
   choice_local : (m : List Terminal) (t : Terminal) (s s' : List Terminal) (o : Option X) (r : List Terminal) (v : Bool) → Free before (m ++ (t ∷ s)) → next test (m ++ (t ∷ s)) ≡ v
       → cond v (p (m ++ (t ∷ s))) (q (m ++ (t ∷ s))) ≡ Ends o (r ++ (t ∷ s)) → cond v (p (m ++ (t ∷ s'))) (q (m ++ (t ∷ s'))) ≡ Ends o (r ++ (t ∷ s'))
-  choice_local m t s s' o r true h k e = a.local m t s s' o r h e
+  choice_local m t s s' o r true h k e = (a (known_here (m ++ (t ∷ s)) h k)).local m t s s' o r h e
   choice_local m t s s' o r false h k e = b.local m t s s' o r (neither (m ++ (t ∷ s)) h k) e
 
-  choice_clean : (x : X) (m r : List Terminal) → (L.◌or◌ A' B') x m → Free (more x) r → Free never r → Free before (m ++ r)
-  choice_clean x m r (inl c) h k = a.clean x m r c h k
+  choice_clean : (x : X) (m r : List Terminal) → (L.◌or◌ (L.when Q A') B') x m → Free (more x) r → Free never r → Free before (m ++ r)
+  choice_clean x m r (inl c) h k = (a c.condition).clean x m r c.phrase h k
   choice_clean x m r (inr c) h k = (both (m ++ r) (b.clean x m r c h k)).0
 
-  choice_complete : (x : X) (m r : List Terminal) → (L.◌or◌ A' B') x m → Free (more x) r → Free never r → Found (R.choice test p q (m ++ r)) x r
+  choice_complete : (x : X) (m r : List Terminal) → (L.◌or◌ (L.when Q A') B') x m → Free (more x) r → Free never r → Found (R.choice test p q (m ++ r)) x r
   choice_complete x m r (inl c) h k =
-      subst (λ v. Found (cond v (p (m ++ r)) (q (m ++ r))) x r) (sym (begins_next test m r (leads x m c))) (a.complete x m r c h k)
+      subst (λ v. Found (cond v (p (m ++ r)) (q (m ++ r))) x r) (sym (begins_next test m r (leads x m c.phrase))) ((a c.condition).complete x m r c.phrase h k)
   choice_complete x m r (inr c) h k =
       subst (λ v. Found (cond v (p (m ++ r)) (q (m ++ r))) x r) (sym (both (m ++ r) (b.clean x m r c h k)).1) (b.complete x m r c h k)
 
   choice_total : (ts : List Terminal) (v : Bool) → Free before ts → K (length ts) → next test ts ≡ v → cond v (p ts) (q ts) ≡ Deep → ⊥
-  choice_total ts true h l k e = a.total ts h l e
+  choice_total ts true h l k e = (a (known_here ts h k)).total ts h l e
   choice_total ts false h l k e = b.total ts (neither ts h k) l e
 
-  pub exact_choice : ExactIn K never before (L.◌or◌ A B) (L.◌or◌ A' B') (R.choice test p q) more
-  exact_choice = record {
+  pub exact_guarded : ExactIn K never before (L.◌or◌ (L.when Q A) B) (L.◌or◌ (L.when Q A') B') (R.choice test p q) more
+  exact_guarded = record {
     judged = λ ts o r h e. choice_judged ts o r (next test ts) h refl e;
     local = λ m t s s' o r h e. ap (λ v. cond v (p (m ++ (t ∷ s'))) (q (m ++ (t ∷ s')))) (same_next m t s' s) ∙ choice_local m t s s' o r (next test (m ++ (t ∷ s))) h refl e;
     clean = choice_clean;
@@ -401,85 +416,22 @@ module _ {X : Type 0} (K : ℕ → Type 0) (never before test wider : Terminal �
     total = λ ts h l e. choice_total ts (next test ts) h l refl e;
   }
 
--- the same, where the first is a phrase under a condition that the token before and the next one tell
+-- a choice without a condition
 
-module _ {X : Type 0} (K : ℕ → Type 0) (Q : Type 0) (never before test wider : Terminal → Bool) (A A' B B' : X → List Terminal → Type 0) (p q : List Terminal → Read X) (more : X → Terminal → Bool)
-    (wide : (t : Terminal) → (before t ≡ false) → (test t ≡ false) → wider t ≡ false) (narrow : (t : Terminal) → wider t ≡ false → (before t ≡ false) × (test t ≡ false))
-    (known : (t : Terminal) → (before t ≡ false) → test t ≡ true → Q)
-    (leads : Leads test A') (a : Q → ExactIn K never before A A' p more) (b : ExactIn K never wider B B' q more) where
-  g_neither : (ts : List Terminal) → Free before ts → Free test ts → Free wider ts
-  g_neither [] h k = refl
-  g_neither (t ∷ ts) h k = wide t h k
-
-  g_both : (ts : List Terminal) → Free wider ts → (Free before ts) × (Free test ts)
-  g_both [] h = (refl, refl)
-  g_both (t ∷ ts) h = narrow t h
-
-  g_known : (ts : List Terminal) → Free before ts → next test ts ≡ true → Q
-  g_known [] h k = absurd (cc)
-  g_known (t ∷ ts) h k = known t h k
-
-  g_left : (ts : List Terminal) (o : Option X) (r : List Terminal) → Q → Judged A more ts o r → Judged (L.◌or◌ (L.when Q A) B) more ts o r
-  g_left ts (Some x) r k j = record { front = j.front; whole = j.whole; phrase = inl (record { condition = k; phrase = j.phrase }); stop = j.stop }
-  g_left ts None r k j = record { front = j.front; rest = j.rest; value = j.value; whole = j.whole; phrase = inl (record { condition = k; phrase = j.phrase }) }
-
-  g_right : (ts : List Terminal) (o : Option X) (r : List Terminal) → Judged B more ts o r → Judged (L.◌or◌ (L.when Q A) B) more ts o r
-  g_right ts (Some x) r j = record { front = j.front; whole = j.whole; phrase = inr j.phrase; stop = j.stop }
-  g_right ts None r j = record { front = j.front; rest = j.rest; value = j.value; whole = j.whole; phrase = inr j.phrase }
-
-  g_judged : (ts : List Terminal) (o : Option X) (r : List Terminal) (v : Bool) → Free before ts → next test ts ≡ v → cond v (p ts) (q ts) ≡ Ends o r → Judged (L.◌or◌ (L.when Q A) B) more ts o r
-  g_judged ts o r true h k e = let c : Q = g_known ts h k in g_left ts o r c ((a c).judged ts o r h e)
-  g_judged ts o r false h k e = g_right ts o r (b.judged ts o r (g_neither ts h k) e)
-
-  g_same_next : (m : List Terminal) (t : Terminal) (s s' : List Terminal) → next test (m ++ (t ∷ s)) ≡ next test (m ++ (t ∷ s'))
-  g_same_next [] t s s' = refl
-  g_same_next (u ∷ m) t s s' = refl
-
-  g_local : (m : List Terminal) (t : Terminal) (s s' : List Terminal) (o : Option X) (r : List Terminal) (v : Bool) → Free before (m ++ (t ∷ s)) → next test (m ++ (t ∷ s)) ≡ v
-      → cond v (p (m ++ (t ∷ s))) (q (m ++ (t ∷ s))) ≡ Ends o (r ++ (t ∷ s)) → cond v (p (m ++ (t ∷ s'))) (q (m ++ (t ∷ s'))) ≡ Ends o (r ++ (t ∷ s'))
-  g_local m t s s' o r true h k e = (a (g_known (m ++ (t ∷ s)) h k)).local m t s s' o r h e
-  g_local m t s s' o r false h k e = b.local m t s s' o r (g_neither (m ++ (t ∷ s)) h k) e
-
-  g_clean : (x : X) (m r : List Terminal) → (L.◌or◌ (L.when Q A') B') x m → Free (more x) r → Free never r → Free before (m ++ r)
-  g_clean x m r (inl c) h k = (a c.condition).clean x m r c.phrase h k
-  g_clean x m r (inr c) h k = (g_both (m ++ r) (b.clean x m r c h k)).0
-
-  g_complete : (x : X) (m r : List Terminal) → (L.◌or◌ (L.when Q A') B') x m → Free (more x) r → Free never r → Found (R.choice test p q (m ++ r)) x r
-  g_complete x m r (inl c) h k =
-      subst (λ v. Found (cond v (p (m ++ r)) (q (m ++ r))) x r) (sym (begins_next test m r (leads x m c.phrase))) ((a c.condition).complete x m r c.phrase h k)
-  g_complete x m r (inr c) h k =
-      subst (λ v. Found (cond v (p (m ++ r)) (q (m ++ r))) x r) (sym (g_both (m ++ r) (b.clean x m r c h k)).1) (b.complete x m r c h k)
-
-  g_total : (ts : List Terminal) (v : Bool) → Free before ts → K (length ts) → next test ts ≡ v → cond v (p ts) (q ts) ≡ Deep → ⊥
-  g_total ts true h l k e = (a (g_known ts h k)).total ts h l e
-  g_total ts false h l k e = b.total ts (g_neither ts h k) l e
-
-  pub exact_guarded : ExactIn K never before (L.◌or◌ (L.when Q A) B) (L.◌or◌ (L.when Q A') B') (R.choice test p q) more
-  exact_guarded = record {
-    judged = λ ts o r h e. g_judged ts o r (next test ts) h refl e;
-    local = λ m t s s' o r h e. ap (λ v. cond v (p (m ++ (t ∷ s'))) (q (m ++ (t ∷ s')))) (g_same_next m t s' s) ∙ g_local m t s s' o r (next test (m ++ (t ∷ s))) h refl e;
-    clean = g_clean;
-    complete = g_complete;
-    some = let u : Any B = b.some in record { value = u.value; tokens = u.tokens; phrase = inr u.phrase };
-    total = λ ts h l e. g_total ts (next test ts) h l refl e;
-  }
-
--- another language with the same phrases
-
-pub exact_same : {X : Type 0} (K : ℕ → Type 0) (never before : Terminal → Bool) (A A' B B' : X → List Terminal → Type 0) (p : List Terminal → Read X) (more : X → Terminal → Bool)
-    → ((x : X) (b : List Terminal) → A x b → B x b) → ((x : X) (b : List Terminal) → B' x b → A' x b) → ExactIn K never before A A' p more → ExactIn K never before B B' p more
-exact_same {X} K never before A A' B B' p more to from a = record {
-  judged = λ ts o r h e. go ts o r (a.judged ts o r h e);
-  local = a.local;
-  clean = λ x b r c h k. a.clean x b r (from x b c) h k;
-  complete = λ x b r c h k. a.complete x b r (from x b c) h k;
-  some = let u : Any A = a.some in record { value = u.value; tokens = u.tokens; phrase = to u.value u.tokens u.phrase };
-  total = a.total;
-}
+pub exact_choice : {X : Type 0} (K : ℕ → Type 0) (never before test wider : Terminal → Bool) (A A' B B' : X → List Terminal → Type 0) (p q : List Terminal → Read X) (more : X → Terminal → Bool)
+    → ((t : Terminal) → before t ≡ false → test t ≡ false → wider t ≡ false) → ((t : Terminal) → wider t ≡ false → (before t ≡ false) × (test t ≡ false))
+    → Leads test A' → ExactIn K never before A A' p more → ExactIn K never wider B B' q more → ExactIn K never before (L.◌or◌ A B) (L.◌or◌ A' B') (R.choice test p q) more
+exact_choice {X} K never before test wider A A' B B' p q more wide narrow leads a b =
+    exact_same K never before (L.◌or◌ (L.when (Unit {0}) A) B) (L.◌or◌ (L.when (Unit {0}) A') B') (L.◌or◌ A B) (L.◌or◌ A' B') (R.choice test p q) more to from
+    (exact_guarded K (Unit {0}) never before test wider A A' B B' p q more wide narrow (λ t h k. tt) leads (λ u. a) b)
   where
-    go : (ts : List Terminal) (o : Option X) (r : List Terminal) → Judged A more ts o r → Judged B more ts o r
-    go ts (Some x) r j = record { front = j.front; whole = j.whole; phrase = to x j.front j.phrase; stop = j.stop }
-    go ts None r j = record { front = j.front; rest = j.rest; value = j.value; whole = j.whole; phrase = to j.value (j.front ++ j.rest) j.phrase }
+    to : (x : X) (ts : List Terminal) → (L.◌or◌ (L.when (Unit {0}) A) B) x ts → (L.◌or◌ A B) x ts
+    to x ts (inl c) = inl c.phrase
+    to x ts (inr c) = inr c
+
+    from : (x : X) (ts : List Terminal) → (L.◌or◌ A' B') x ts → (L.◌or◌ (L.when (Unit {0}) A') B') x ts
+    from x ts (inl c) = inl (record { condition = tt; phrase = c })
+    from x ts (inr c) = inr c
 
 -- a reader whose bound is used up
 pub exact_deep : {X : Type 0} (K : ℕ → Type 0) (never before : Terminal → Bool) (A A' : X → List Terminal → Type 0) (more : X → Terminal → Bool)

@@ -12,9 +12,9 @@ use Rattle.mv_parse_grammar.specs.Terminals.{Terminal, is_mark, is_keyword, is_n
 use Rattle.mv_parse_grammar.specs.Language as L
 use Rattle.mv_parse_grammar.specs.Language.{place_of}
 use Rattle.mv_parse_grammar.specs.Reader as R
-use Rattle.mv_parse_grammar.specs.Reader.{Read, Ends, next, next_two}
+use Rattle.mv_parse_grammar.specs.Reader.{Ends, next_two}
 use Rattle.mv_parse_grammar.specs.Expressions as G
-use Rattle.mv_parse_grammar.specs.Expressions.{Nonterminal, Expressions, Assign, Cond, Cast, Unary, joined, no_specs, specs_at}
+use Rattle.mv_parse_grammar.specs.Expressions.{Nonterminal, Expressions, Assign, Cond, Cast, Unary, no_specs, specs_at}
 use Rattle.mv_parse_grammar.specs.ExpressionReader as M
 use Rattle.mv_parse_grammar.specs.ExpressionReader.{Readers}
 use Rattle.mv_parse_grammar.proofs.Classes.{sample, either, but_two, or_none, and_false, at_mark, at_keyword, at_name, at_number, at_class, at_in, is_in, signs, steps, type_words, expression_starts, in_signs, in_steps, in_type_words, rank_apart, rank_wide, rank_narrow, rank_zero, zero_rank}

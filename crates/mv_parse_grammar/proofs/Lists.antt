@@ -4,9 +4,9 @@ use Rattle.std.proofs.lemmas.List.{append-nil}
 use Rattle.mv_ast.specs.declared.token.Piece.TheVariants.{Mark}
 use Rattle.mv_parse_grammar.specs.Terminals.{Terminal, is_mark}
 use Rattle.mv_parse_grammar.specs.Language as L
-use Rattle.mv_parse_grammar.specs.Language.{IsGiven, IsThen}
+use Rattle.mv_parse_grammar.specs.Language.{IsThen}
 use Rattle.mv_parse_grammar.specs.Reader as R
-use Rattle.mv_parse_grammar.specs.Reader.{Read, next}
+use Rattle.mv_parse_grammar.specs.Reader.{Read}
 use Rattle.mv_parse_grammar.proofs.Exact.{Exact, ExactIn, Any, Leads, none, leads_token, leads_then, leads_or, shorter, not_longer, exact_before, exact_same, exact_room, exact_deep, exact_then, exact_choice, exact_token, chain_once, chain_opened}
 use Rattle.mv_parse_grammar.proofs.Classes.{sample, either, all_but, or_none, none_or, at_mark}
 use Rattle.mv_parse_grammar.proofs.Shapes.{Room, room_down, Apart, apart_none, apart_give, apart_leads, leads_first, leads_wider, given, taken, first, after_in, beyond_in, picked, later, repeated}

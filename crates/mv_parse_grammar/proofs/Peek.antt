@@ -5,8 +5,8 @@ use Rattle.std.proofs.lemmas.List.{append-nil}
 use Rattle.mv_parse_grammar.specs.Terminals.{Terminal}
 use Rattle.mv_parse_grammar.specs.Language as L
 use Rattle.mv_parse_grammar.specs.Reader as R
-use Rattle.mv_parse_grammar.specs.Reader.{Read, Ends, Deep, next, next_two, choice_two, go_on}
-use Rattle.mv_parse_grammar.proofs.Exact.{Exact, ExactIn, Any, Free, Judged, Found, Got, Lost, Leads, none, none_next, shorter}
+use Rattle.mv_parse_grammar.specs.Reader.{Read, Ends, Deep, next_two, choice_two, go_on}
+use Rattle.mv_parse_grammar.proofs.Exact.{Exact, ExactIn, Any, Free, Judged, Found, Got, Lost, Leads, none, none_next, shorter, judged_as}
 
 -- a reader that takes a first terminal of this class
 abbrev pub Moves : {X : Type 0} → (Terminal → Bool) → (List Terminal → Read X) → Type 0
@@ -17,17 +17,9 @@ module _ {X : Type 0} (K : ℕ → Type 0) (never before f g : Terminal → Bool
     (other : (x : X) (b r : List Terminal) → B' x b → Free (more x) r → Free never r → next_two f g (b ++ r) ≡ false)
     (moves_p : Moves f p) (moves_q : Moves f q)
     (a : ExactIn K never before A A' p more) (b : ExactIn K never before B B' q more) where
-  left : (ts : List Terminal) (o : Option X) (r : List Terminal) → Judged A more ts o r → Judged (L.◌or◌ A B) more ts o r
-  left ts (Some x) r j = record { front = j.front; whole = j.whole; phrase = inl j.phrase; stop = j.stop }
-  left ts None r j = record { front = j.front; rest = j.rest; value = j.value; whole = j.whole; phrase = inl j.phrase }
-
-  right : (ts : List Terminal) (o : Option X) (r : List Terminal) → Judged B more ts o r → Judged (L.◌or◌ A B) more ts o r
-  right ts (Some x) r j = record { front = j.front; whole = j.whole; phrase = inr j.phrase; stop = j.stop }
-  right ts None r j = record { front = j.front; rest = j.rest; value = j.value; whole = j.whole; phrase = inr j.phrase }
-
   two_judged : (ts : List Terminal) (o : Option X) (r : List Terminal) (v : Bool) → Free before ts → cond v (p ts) (q ts) ≡ Ends o r → Judged (L.◌or◌ A B) more ts o r
-  two_judged ts o r true h e = left ts o r (a.judged ts o r h e)
-  two_judged ts o r false h e = right ts o r (b.judged ts o r h e)
+  two_judged ts o r true h e = judged_as A (L.◌or◌ A B) more (λ x t z. inl z) ts o r (a.judged ts o r h e)
+  two_judged ts o r false h e = judged_as B (L.◌or◌ A B) more (λ x t z. inr z) ts o r (b.judged ts o r h e)
 
   -- one side, where both inputs lead to it
   sided : (m : List Terminal) (t : Terminal) (s s' : List Terminal) (o : Option X) (r : List Terminal) (v w : Bool) → v ≡ w → Free before (m ++ (t ∷ s))

@@ -2,7 +2,6 @@
 use Rattle.std.proofs.Common.{◌≡◌, ℕ, suc, ◌+◌, ◌*◌, ◌<◌, ◌≤◌, Bool, true, false, Option, None, List, [], ◌∷◌, ◌++◌, inl, inr, length, refl, sym, ap, ◌∙◌, arith}
 use Rattle.mv_parse_grammar.specs.Terminals.{Terminal}
 use Rattle.mv_parse_grammar.specs.Language as L
-use Rattle.mv_parse_grammar.specs.Language.{IsGiven, IsThen}
 use Rattle.mv_parse_grammar.specs.Reader as R
 use Rattle.mv_parse_grammar.specs.Reader.{Read, next}
 use Rattle.mv_parse_grammar.proofs.Exact.{Exact, ExactIn, Free, Begins, Leads, none, none_next, leads_token, leads_then, leads_any, shorter, not_longer, exact_give, exact_token, exact_then, exact_room, exact_eased, exact_choice, exact_guarded, exact_chain, chain_opened}

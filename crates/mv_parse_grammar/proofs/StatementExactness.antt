@@ -9,14 +9,13 @@ use Rattle.mv_parse_grammar.specs.Terminals.{Terminal, is_mark, is_keyword, is_s
 use Rattle.mv_parse_grammar.specs.Language as L
 use Rattle.mv_parse_grammar.specs.Language.{place_of}
 use Rattle.mv_parse_grammar.specs.Reader as R
-use Rattle.mv_parse_grammar.specs.Reader.{Read, next}
 use Rattle.mv_parse_grammar.specs.Expressions.{Nonterminal, Expressions, Assign, Cond, phrase}
 use Rattle.mv_parse_grammar.specs.ExpressionReader.{Readers, read}
 use Rattle.mv_parse_grammar.specs.Declarations.{Parameters, declared, params, place_of_specs}
 use Rattle.mv_parse_grammar.specs.DeclarationReader as D
 use Rattle.mv_parse_grammar.specs.DeclarationReader.{ParameterReader}
 use Rattle.mv_parse_grammar.specs.Statements as G
-use Rattle.mv_parse_grammar.specs.Statements.{Lines, is_open, line_at, express}
+use Rattle.mv_parse_grammar.specs.Statements.{Lines, is_open, line_at}
 use Rattle.mv_parse_grammar.specs.StatementReader as M
 use Rattle.mv_parse_grammar.specs.StatementReader.{LineReader}
 use Rattle.mv_parse_grammar.proofs.Classes.{Class, sample, either, of_all_but, and_false, at_mark, at_keyword, at_class, at_in, is_in, wider, specifiers, expression_starts, in_specifiers}
