@@ -4,7 +4,6 @@ use Rattle.std.specs.Prelude.{slice_get}
 use Rattle.std.proofs.lemmas.Bool.{eq-eqb}
 use Rattle.mv_ast.specs.declared.program.Program.{Program}
 use Rattle.mv_ast.specs.declared.program.Function.{Function}
-use Rattle.mv_ast.specs.declared.world.Binding.{Binding}
 use Rattle.mv_ast.specs.declared.world.Stop.{Stop}
 use Rattle.mv_ast.specs.Plans.{same_truth}
 use Rattle.mv_ast.specs.Worlds.{World, Outcome, Came, Stopped}
@@ -12,12 +11,9 @@ use Rattle.mv_meaning.specs.declared.state.Frame.{Frame}
 use Rattle.mv_meaning.specs.declared.state.Flow.{Flow}
 use Rattle.mv_meaning.specs.Meaning.{flow_of_all, frame_of, deeper, back_in, call_of}
 use Rattle.mv_ir.specs.World as code_world
-use Rattle.mv_ir.specs.Outcome.{End, Stuck, Bound, Call}
-use Rattle.mv_ir.specs.Programs.{setting_of}
+use Rattle.mv_ir.specs.Outcome.{End, Stuck, Call}
 use Rattle.mv_source_forms.specs.Names.{is_void, takes}
-use Rattle.mv_lower_spec.specs.Statements.{levels}
-use Rattle.mv_lower_spec.specs.Correct as c
-use Rattle.mv_lower_spec.specs.Correct.{seen, end_of, is_astray}
+use Rattle.mv_lower_spec.specs.Correct.{CallShown, seen, end_of, is_astray}
 use Rattle.mv_lower_spec.specs.Law.{strict_context}
 use Rattle.mv_lower_spec.proofs.Expressions.{no, split}
 use Rattle.mv_source_forms.specs.WellFormed.{IsWellFormedFunction}
@@ -55,36 +51,20 @@ module _ (p : Program) (numbers : List ℕ) where
       ap (λ v. as_call v (call_of p (strict_context p numbers k) f (Some g) vs any_frame w)) (same_void (is_void g.result) void both.1) ∙
       any_caller void a w (flow_of_all p (strict_context p numbers k) g.body (frame_of f g vs) (deeper g w))
 
-  module _ (frame : code_world.Frame) (began : List Binding) (own locals : ℕ) (sizes : ℕ → Option ℕ) (held : ℕ → Option (List ℕ × List ℕ)) (floor : ℕ) (scratch : ℕ → ℕ) (room : ℕ) (bound others : Bound) where
-    -- Where a call in the code does what one in the source does, so does the source's own.
-    source_shown : (void : Bool) (x : Call) (f : Frame) (w : World) (o : Outcome Frame ℕ) → c.CallShown p (setting_of numbers p) frame began own locals sizes held floor scratch room bound void x f w o →
-        c.CallShown p (setting_of numbers p) frame began own locals sizes held floor scratch room others void (as_call void o) f w o
-    source_shown void x f w (Came v f2 w2 work) h = record {
-      ends = refl;
-      nothing = h.nothing;
-      unmoved = record {
-        globals = h.unmoved.globals;
-        frame_same = h.unmoved.frame_same;
-        depth = h.unmoved.depth;
-        live = h.unmoved.live;
-        pinned = h.unmoved.pinned;
-        switches = h.unmoved.switches;
-      };
-      paid = omega arith;
-    }
-    source_shown void x f w (Stopped why w2 work) h = record {
-      cost = 20 + 100 * work;
-      ends = λ ne. ap (λ (e : End). record { cost = 20 + 100 * work; end = e }) (stopped_end why w2 false ne);
-      paid = omega arith;
-    }
+  -- Where a call in the code does what one in the source does, so does the source's own.
+  source_shown : (frame : code_world.Frame) (own : ℕ) (void : Bool) (x : Call) (f : Frame) (w : World) (o : Outcome Frame ℕ) → CallShown p frame own void x f w o → CallShown p frame own void (as_call void o) f w o
+  source_shown frame own void x f w (Came v f2 w2 work) h = record { ends = refl; nothing = h.nothing; unmoved = h.unmoved; paid = omega arith }
+  source_shown frame own void x f w (Stopped why w2 work) h = record {
+    cost = 20 + 100 * work;
+    ends = λ ne. ap (λ (e : End). record { cost = 20 + 100 * work; end = e }) (stopped_end why w2 false ne);
+    paid = omega arith;
+  }
 
   -- At each bound the source's own calls do what they do in the source.
   pub source_agreed : (formed : (f : ℕ) (g : Function) → slice_get p.functions f ≡ Some g → IsWellFormedFunction p f g) → (k : ℕ) → Agreed p numbers formed (source_call p numbers) k
-  source_agreed formed zero = λ frame began own locals sizes held floor scratch room lively. all_agreed p numbers formed zero frame began own locals sizes held floor scratch room lively
-  source_agreed formed (suc k) = λ frame began own locals sizes held floor scratch room lively g void vs f w can hf hd hl globals.
+  source_agreed formed zero = all_agreed p numbers formed zero
+  source_agreed formed (suc k) = λ frame own lively g void vs f w can hf hd hl globals.
       let o : Outcome Frame ℕ = call_of p (strict_context p numbers k) g (slice_get p.functions g) vs f w in
-      let lowered = lowered_calls p numbers formed in
-      subst (λ (x : Call). c.CallShown p (setting_of numbers p) frame began own locals sizes held floor scratch room (levels (source_call p numbers) (suc k)) void x f w o)
+      subst (λ (x : Call). CallShown p frame own void x f w o)
       (sym (ap (λ d. source_call p numbers k g vs d frame.live (seen w)) (sym hd) ∙ ap (λ l. source_call p numbers k g vs w.depth l (seen w)) (sym hl) ∙ fitting_call_is k g void vs f w (slice_get p.functions g) can))
-      (source_shown frame began own locals sizes held floor scratch room (levels lowered (suc k)) (levels (source_call p numbers) (suc k)) void (lowered k g vs frame.depth frame.live (seen w)) f w o
-      (all_agreed p numbers formed (suc k) frame began own locals sizes held floor scratch room lively g void vs f w can hf hd hl globals))
+      (source_shown frame own void (lowered_calls p numbers formed k g vs frame.depth frame.live (seen w)) f w o (all_agreed p numbers formed (suc k) frame own lively g void vs f w can hf hd hl globals))

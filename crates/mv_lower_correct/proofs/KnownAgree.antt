@@ -1,8 +1,7 @@
 -- The known functions do in the code what they do in the source.
-use Rattle.std.proofs.Common.{◌≡◌, ℕ, zero, suc, ◌+◌, ◌-◌, ◌^◌, ◌<◌, Bool, true, false, cond, List, [], ◌∷◌, length, Option, Some, None, refl, sym, ◌∙◌, subst, ap, arith, if◌then◌else◌, nat_eq}
-use Rattle.std.specs.Prelude.{unwrap_or, slice_get, slice_set, slice_index_or}
+use Rattle.std.proofs.Common.{◌≡◌, ℕ, ◌+◌, ◌-◌, ◌^◌, ◌<◌, Bool, true, false, cond, List, [], ◌∷◌, Option, Some, None, refl, sym, subst, ap, arith, if◌then◌else◌, nat_eq}
+use Rattle.std.specs.Prelude.{unwrap_or, slice_get}
 use Rattle.std.proofs.lemmas.Bool.{eqb-true}
-use Rattle.std.proofs.lemmas.List.{length-set}
 use Rattle.mv_ast.specs.declared.program.Program.{Program}
 use Rattle.mv_ast.specs.declared.program.Function.{Function}
 use Rattle.mv_ast.specs.declared.program.Known.{Known}
@@ -19,7 +18,7 @@ use Rattle.mv_ir.specs.World as code_world
 use Rattle.mv_ir.specs.Programs.{setting_of}
 use Rattle.mv_ir.specs.KnownFunctions.{next_byte, written, patch_cost, at_cost, poll_answer, seen_from}
 use Rattle.mv_lower_spec.specs.Correct.{seen, Unmoved, KnownShown, KnownAgrees}
-use Rattle.mv_lower_spec.proofs.Forms.{with_word_is}
+use Rattle.mv_lower_spec.proofs.Forms.{with_word_lengths}
 
 -- a frame of an attributed function is among the live ones
 abbrev pub OwnIsLive : Program → code_world.Frame → ℕ → Type 0
@@ -40,14 +39,6 @@ same_reads p frame own before after lively pinned g = by (slice_get p.functions 
     by : (o : Option Function) → slice_get p.functions own ≡ o → bound_value p after own o g ≡ bound_value p before own o g
     by None e = refl
     by (Some x) e = flagged x x.attributed refl e
-
--- a word stored in an object leaves each object its size
-stored_lengths : (xs : List (List ℕ)) (l k i v : ℕ) → length (slice_index_or (slice_set xs l (slice_set (slice_index_or xs l []) i v)) k []) ≡ length (slice_index_or xs k [])
-stored_lengths [] l k i v = refl
-stored_lengths (x ∷ xs) zero zero i v = length-set x i v
-stored_lengths (x ∷ xs) zero (suc k) i v = refl
-stored_lengths (x ∷ xs) (suc l) zero i v = refl
-stored_lengths (x ∷ xs) (suc l) (suc k) i v = stored_lengths xs l k i v
 
 module _ (p : Program) (numbers : List ℕ) (frame : code_world.Frame) (own : ℕ) (lively : OwnIsLive p frame own) where
   -- nothing is changed
@@ -132,7 +123,7 @@ module _ (p : Program) (numbers : List ℕ) (frame : code_world.Frame) (own : �
         value = refl;
         world = refl;
         unmoved = record {
-          globals = λ g. ap (λ xs. length (slice_index_or xs g [])) (with_word_is w.globals at 0 v) ∙ stored_lengths w.globals at g 0 v;
+          globals = λ g. with_word_lengths w.globals at 0 v g;
           frame_same = refl;
           depth = refl;
           live = refl;
