@@ -1,14 +1,14 @@
 -- Expressions leave the bindings as they are under a live attributed frame, where the functions that they call do.
-use Rattle.std.proofs.Common.{ℕ, List, [], ◌∷◌, map, length, if◌then◌else◌, nat_eq, nat_lt, sym, subst, Option, Some, None}
+use Rattle.std.proofs.Common.{ℕ, List, [], ◌∷◌, map, length, if◌then◌else◌, nat_eq, nat_lt, Option, Some, None}
 use Rattle.std.specs.Prelude.{slice_index}
 use Rattle.mv_num.specs.Words as word
 use Rattle.mv_ir.proofs.Induction.{Each}
 use Rattle.mv_ast.specs.declared.program.CType.{CType}
 use Rattle.mv_ast.specs.declared.program.Program.{Program}
-use Rattle.mv_ast.specs.declared.program.Expr.{Expr, Expr-F, roll-Expr, fold-roll-Expr}
-use Rattle.mv_ast.specs.declared.program.Form.{Form, Form-F, roll-Form, fold-roll-Form, map-Form}
+use Rattle.mv_ast.specs.declared.program.Expr.{Expr}
+use Rattle.mv_ast.specs.declared.program.Form.{Form, Form-F}
 use Rattle.mv_ast.specs.declared.program.Form.TheOpen as form
-use Rattle.mv_ast.specs.declared.program.Target.{Target, Target-F, roll-Target, fold-roll-Target, map-Target}
+use Rattle.mv_ast.specs.declared.program.Target.{Target, Target-F}
 use Rattle.mv_ast.specs.declared.program.Stmt.{Stmt}
 use Rattle.mv_ast.specs.declared.world.Stop.TheVariants.{Trapped}
 use Rattle.mv_ast.specs.Numbering.{function_of_number}
@@ -17,7 +17,8 @@ use Rattle.mv_ast.specs.Worlds.{stop}
 use Rattle.mv_meaning.specs.declared.state.Lvalue.{Lvalue}
 use Rattle.mv_meaning.specs.declared.state.Lvalue.TheVariants as lvalue
 use Rattle.mv_meaning.specs.Meaning.{Evaluation, Context, Denotation, truth_of, values_of, call_at, call_numbered, call_through, target_lvalue, form_value, expr_denotation, form_of, lvalue_of, denotation_of, value_of}
-use Rattle.mv_source_forms.proofs.ExpressionInduction.{FormChildren, TargetChildren, expr_ind}
+use Rattle.mv_source_forms.proofs.ExpressionFolds.{ExprFolds, expr_fold, along_exprs}
+use Rattle.mv_source_forms.proofs.ExpressionInduction.{FormChildren, TargetChildren}
 use Rattle.mv_lower_calls.proofs.Keeping.{Keeps, keeps_give, keeps_stop, keeps_counted, keeps_either, keeps_unless, keeps_bind, keeps_read, keeps_store, keeps_trap, keeps_global, keeps_local, keeps_known}
 
 -- ---- expressions
@@ -53,10 +54,10 @@ module _ (p : Program) (context : Context) (keeps : ContextKeeps context) where
   keeps_values [] h = keeps_give []
   keeps_values (e ∷ es) h = keeps_bind _ _ h.0 (λ v. keeps_bind _ _ (keeps_values es h.1) (λ vs. keeps_give (v ∷ vs)))
 
-  abbrev denotations : Form-F Form Target Expr → Form-F (CType → Evaluation ℕ) (Evaluation Lvalue) Denotation
-  denotations = map-Form Form Target Expr (CType → Evaluation ℕ) (Evaluation Lvalue) Denotation (form_of p context) (lvalue_of p context) (denotation_of p context)
+  abbrev meant : ExprFolds (CType → Evaluation ℕ) (Evaluation Lvalue) Denotation
+  meant = expr_fold (form_value p context) target_lvalue expr_denotation
 
-  layer : (x : Form-F Form Target Expr) → FormChildren P Q S x → (t : CType) → Keeps (form_value p context (denotations x) t)
+  layer : (x : Form-F Form Target Expr) → FormChildren P Q S x → (t : CType) → Keeps (meant.form_layer x t)
   layer (form.Number n) h t = keeps_give n
   layer (form.Read target) h t = keeps_bind _ _ h (keeps_read p)
   layer (form.Function f) h t = keeps_give (slice_index context.numbers f)
@@ -77,27 +78,13 @@ module _ (p : Program) (context : Context) (keeps : ContextKeeps context) where
   layer (form.Through args callee) h t = keeps_bind _ _ (keeps_values args h.0) (λ vs. keeps_bind _ _ h.1 (λ v. keeps_through t v vs))
   layer (form.Known k args) h t = keeps_bind _ _ (keeps_values args h) (keeps_known p k)
 
-  form_step : (x : Form-F Form Target Expr) → FormChildren P Q S x → P (roll-Form x)
-  form_step x h t =
-      subst (λ (d : CType → Evaluation ℕ). Keeps (d t)) (sym (fold-roll-Form (CType → Evaluation ℕ) (Evaluation Lvalue) Denotation (form_value p context) target_lvalue expr_denotation x)) (layer x h t)
-
-  abbrev places : Target-F Form Target Expr → Target-F (CType → Evaluation ℕ) (Evaluation Lvalue) Denotation
-  places = map-Target Form Target Expr (CType → Evaluation ℕ) (Evaluation Lvalue) Denotation (form_of p context) (lvalue_of p context) (denotation_of p context)
-
-  target_layer : (x : Target-F Form Target Expr) → TargetChildren P Q S x → Keeps (target_lvalue (places x))
+  target_layer : (x : Target-F Form Target Expr) → TargetChildren P Q S x → Keeps (meant.target_layer x)
   target_layer (form.Global g) h = keeps_give (lvalue.Global g 0)
   target_layer (form.Local l) h = keeps_give (lvalue.Local l 0)
   target_layer (form.GlobalAt g e) h = keeps_bind _ _ h (keeps_global g)
   target_layer (form.LocalAt l e) h = keeps_bind _ _ h (keeps_local l)
 
-  target_step : (x : Target-F Form Target Expr) → TargetChildren P Q S x → Q (roll-Target x)
-  target_step x h =
-      subst (λ (d : Evaluation Lvalue). Keeps d) (sym (fold-roll-Target (CType → Evaluation ℕ) (Evaluation Lvalue) Denotation (form_value p context) target_lvalue expr_denotation x)) (target_layer x h)
-
-  expr_step : (x : Expr-F Form Target Expr) → P x.what → S (roll-Expr x)
-  expr_step x h =
-      subst (λ (d : Denotation). Keeps d.value) (sym (fold-roll-Expr (CType → Evaluation ℕ) (Evaluation Lvalue) Denotation (form_value p context) target_lvalue expr_denotation x))
-      (keeps_counted 1 (form_of p context x.what x.ctype) (h x.ctype))
-
   pub keeps_value : (e : Expr) → Keeps (value_of p context e)
-  keeps_value e = expr_ind P Q S form_step target_step expr_step e
+  keeps_value =
+      along_exprs meant (λ f d. (t : CType) → Keeps (d t)) (λ x d. Keeps d) (λ e d. Keeps d.value) layer target_layer
+      (λ x h. keeps_counted 1 (form_of p context x.what x.ctype) (h x.ctype))

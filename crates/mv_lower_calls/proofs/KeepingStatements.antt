@@ -17,7 +17,7 @@ use Rattle.mv_meaning.specs.Loops.{arms_from}
 use Rattle.mv_meaning.specs.Meaning.{Evaluation, Context, ArmDenotation, then_on, after_body, after_switch, in_order, bodies_of, tried_labels, switch_flow, put_values, size_of, clear_local, optional_value, value_of, flow_of, flow_of_all, arm_of}
 use Rattle.mv_meaning.proofs.Equations.{flow_of-Block, flow_of-Clear, flow_of-Express, flow_of-If, flow_of-While, flow_of-Do, flow_of-For, flow_of-Switch, flow_of-Break, flow_of-Continue, flow_of-Return, arm_of_lem}
 use Rattle.mv_meaning.proofs.SwitchArms.{leads_to}
-use Rattle.mv_source_forms.proofs.StatementInduction.{StmtChildren, stmt_ind}
+use Rattle.mv_source_forms.proofs.StatementInduction.{StmtChildren, stmt_ind, stmts_ind}
 use Rattle.mv_lower_calls.proofs.Keeping.{Keeps, keeps_give, keeps_counted, keeps_unless, keeps_pointwise, keeps_bind, keeps_store}
 use Rattle.mv_lower_calls.proofs.KeepingExpressions.{ContextKeeps, keeps_value}
 
@@ -155,8 +155,4 @@ module _ (p : Program) (context : Context) (keeps : ContextKeeps context) where
   keeps_flow s = stmt_ind P Q stmt_step arm_step s
 
   pub keeps_body : (body : List Stmt) → Keeps (flow_of_all p context body)
-  keeps_body body = within body (each body)
-    where
-      each : (xs : List Stmt) → Each P xs
-      each [] = tt
-      each (x ∷ xs) = (keeps_flow x, each xs)
+  keeps_body body = within body (stmts_ind P Q stmt_step arm_step body)

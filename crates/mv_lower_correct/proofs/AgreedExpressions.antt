@@ -1,25 +1,27 @@
 -- Expressions that name declared locals alone come to the same in two contexts and two frames that hold the same in those.
-use Rattle.std.proofs.Common.{◌≡◌, ℕ, ◌<◌, Bool, true, false, List, [], ◌∷◌, ◌++◌, map, if◌then◌else◌, refl, sym, ◌∙◌, ap}
-use Rattle.std.specs.Prelude.{◌&&◌, slice_index}
+use Rattle.std.proofs.Common.{◌≡◌, ℕ, ◌<◌, Bool, true, false, List, [], ◌∷◌, map, if◌then◌else◌, refl, ap}
+use Rattle.std.specs.Prelude.{slice_index}
 use Rattle.mv_num.specs.Words as word
 use Rattle.mv_ir.proofs.Induction.{Each}
 use Rattle.mv_ast.specs.declared.program.CType.{CType}
 use Rattle.mv_ast.specs.declared.program.Program.{Program}
-use Rattle.mv_ast.specs.declared.program.Expr.{Expr, Expr-F, roll-Expr, fold-roll-Expr}
-use Rattle.mv_ast.specs.declared.program.Form.{Form, Form-F, roll-Form, fold-roll-Form, map-Form}
+use Rattle.mv_ast.specs.declared.program.Expr.{Expr}
+use Rattle.mv_ast.specs.declared.program.Form.{Form, Form-F}
 use Rattle.mv_ast.specs.declared.program.Form.TheOpen as form
-use Rattle.mv_ast.specs.declared.program.Target.{Target, Target-F, roll-Target, fold-roll-Target, map-Target}
+use Rattle.mv_ast.specs.declared.program.Target.{Target, Target-F}
 use Rattle.mv_ast.specs.declared.world.Stop.{Stop}
 use Rattle.mv_ast.specs.declared.world.Stop.TheVariants.{Trapped}
 use Rattle.mv_ast.specs.Operators.{converted, unary_value, binary_value}
-use Rattle.mv_ast.specs.Worlds.{bind, give, counted}
+use Rattle.mv_ast.specs.Worlds.{bind, give}
 use Rattle.mv_meaning.specs.declared.state.Lvalue.{Lvalue}
 use Rattle.mv_meaning.specs.declared.state.Lvalue.TheVariants as lvalue
 use Rattle.mv_meaning.specs.Meaning.{Evaluation, Context, Denotation, read_lvalue, store_lvalue, global_element, local_element, value_or_trap, unless_zero, truth_of, values_of, known_value, call_at, call_through, target_lvalue, form_value, expr_denotation, form_of, lvalue_of, denotation_of, value_of}
 use Rattle.mv_meaning.proofs.Equations.{ctype_of_lem}
 use Rattle.mv_source_forms.specs.Lists.{all_of}
 use Rattle.mv_lower_spec.proofs.Expressions.{split}
-use Rattle.mv_source_forms.proofs.ExpressionInduction.{FormChildren, TargetChildren, expr_ind}
+use Rattle.mv_source_forms.proofs.ExpressionFolds.{ExprFolds, expr_fold, expr_folds, expr_family, along_exprs}
+use Rattle.mv_source_forms.proofs.ExpressionInduction.{FormChildren, TargetChildren}
+use Rattle.mv_source_forms.proofs.Tests.{one_holds, two_hold, three_hold, last_apart}
 use Rattle.mv_source_forms.specs.Scopes.{Scope, form_in, target_in, layer_in, names_declared, form_names_declared, target_names_declared}
 use Rattle.mv_lower_correct.proofs.Agreement.{Agree, Post, Alike, alike_give, alike_counted, alike_unless, alike_bind, alike_by}
 use Rattle.mv_lower_correct.proofs.Leaves as leaves
@@ -74,31 +76,8 @@ module _ (p : Program) (lost fine : Stop → Type 0) (traps : (n : ℕ) → n < 
       let bs = split (names_declared scope e) (all_of (map (names_declared scope) es)) b in
       both (val e) (λ v z. bind (vals es z) (λ vs. give (v ∷ vs))) (h.0 bs.0) (λ v. both (vals es) (λ vs z. give (v ∷ vs)) (values_keep es h.1 bs.1) (λ vs. gives (v ∷ vs)))
 
-  -- arguments, and then the callee
-  split_last : (bs : List Bool) (b : Bool) → all_of (bs ++ b ∷ []) ≡ true → (all_of bs ≡ true) × (b ≡ true)
-  split_last [] b q = (refl, (split b true q).0)
-  split_last (x ∷ bs) b q =
-      let s = split x (all_of (bs ++ b ∷ [])) q in
-      let rest = split_last bs b s.1 in
-      (ap (λ z. z && all_of bs) s.0 ∙ rest.0, rest.1)
-
-  abbrev denotations : Bool → Form-F Form Target Expr → Form-F (CType → Evaluation ℕ) (Evaluation Lvalue) Denotation
-  denotations z = map-Form Form Target Expr (CType → Evaluation ℕ) (Evaluation Lvalue) Denotation (form_of p (context z)) (lvalue_of p (context z)) (denotation_of p (context z))
-
-  abbrev tests : Form-F Form Target Expr → Form-F Bool Bool Bool
-  tests = map-Form Form Target Expr Bool Bool Bool (form_names_declared scope) (target_names_declared scope) (names_declared scope)
-
-  one : (b : Bool) → (b && true) ≡ true → b ≡ true
-  one b q = (split b true q).0
-
-  two : (a b : Bool) → (a && (b && true)) ≡ true → (a ≡ true) × (b ≡ true)
-  two a b q = let s = split a (b && true) q in (s.0, one b s.1)
-
-  three : (a b c : Bool) → (a && (b && (c && true))) ≡ true → (a ≡ true) × (b ≡ true) × (c ≡ true)
-  three a b c q =
-      let s = split a (b && (c && true)) q in
-      let r = two b c s.1 in
-      (s.0, r.0, r.1)
+  abbrev agreed : ExprFolds ((Bool → CType → Evaluation ℕ) × Bool) ((Bool → Evaluation Lvalue) × Bool) ((Bool → Denotation) × Bool)
+  agreed = expr_folds (expr_family (λ (z : Bool). expr_fold (form_value p (context z)) target_lvalue expr_denotation)) (expr_fold form_in (target_in scope) layer_in)
 
   -- an operator on two operands, of the type of the first
   operator : (op : ℕ) (a : Expr) (x y : ℕ) → Keeps (λ z. value_or_trap (binary_value op (denotation_of p (context z) a).ctype x y))
@@ -113,65 +92,51 @@ module _ (p : Program) (lost fine : Stop → Type 0) (traps : (n : ℕ) → n < 
   abbrev stepped : Bool → CType → ℕ → ℕ
   stepped up t old = converted t (if up then word.add old 1 else word.sub old 1)
 
-  layer : (x : Form-F Form Target Expr) → FormChildren P Q S x → (t : CType) → form_in (tests x) ≡ true → Keeps (λ z. form_value p (context z) (denotations z x) t)
+  layer : (x : Form-F Form Target Expr) → FormChildren P Q S x → (t : CType) → (agreed.form_layer x).1 ≡ true → Keeps (λ z. (agreed.form_layer x).0 z t)
   layer (form.Number n) h t b = gives n
-  layer (form.Read target) h t b = at_found (place target) (λ s z. read_lvalue p s) (h (one (target_names_declared scope target) b)) (leaves.keeps_read p lost fine traps scope)
+  layer (form.Read target) h t b = at_found (place target) (λ s z. read_lvalue p s) (h (one_holds (target_names_declared scope target) b)) (leaves.keeps_read p lost fine traps scope)
   layer (form.Function g) h t b =
       alike_by lost fine (Agree scope) (Kept {A = ℕ}) (λ z. give (slice_index (context z).numbers g)) (λ z. give (slice_index (context true).numbers g)) refl (ap (λ ns. give (slice_index ns g)) steady.numbers)
       (gives (slice_index (context true).numbers g))
-  layer (form.Unary op a) h t b = both (val a) (λ v z. give (unary_value op v)) (h (one (names_declared scope a) b)) (λ v. gives (unary_value op v))
+  layer (form.Unary op a) h t b = both (val a) (λ v z. give (unary_value op v)) (h (one_holds (names_declared scope a) b)) (λ v. gives (unary_value op v))
   layer (form.Binary op a c) h t b =
-      let bs = two (names_declared scope a) (names_declared scope c) b in
+      let bs = two_hold (names_declared scope a) (names_declared scope c) b in
       both (val a) (λ x z. bind (val c z) (λ y. value_or_trap (binary_value op (denotation_of p (context z) a).ctype x y))) (h.0 bs.0)
       (λ x. both (val c) (λ y z. value_or_trap (binary_value op (denotation_of p (context z) a).ctype x y)) (h.1 bs.1) (λ y. operator op a x y))
   layer (form.Both a c) h t b =
-      let bs = two (names_declared scope a) (names_declared scope c) b in
+      let bs = two_hold (names_declared scope a) (names_declared scope c) b in
       let rest = both (val c) (λ y z. give (truth_of y)) (h.1 bs.1) (λ y. gives (truth_of y)) in
       both (val a) (λ x z. unless_zero x (give 0) (bind (val c z) (λ y. give (truth_of y)))) (h.0 bs.0) (λ x. either x (λ z. give 0) (λ z. bind (val c z) (λ y. give (truth_of y))) (gives 0) rest)
   layer (form.Either a c) h t b =
-      let bs = two (names_declared scope a) (names_declared scope c) b in
+      let bs = two_hold (names_declared scope a) (names_declared scope c) b in
       let rest = both (val c) (λ y z. give (truth_of y)) (h.1 bs.1) (λ y. gives (truth_of y)) in
       both (val a) (λ x z. unless_zero x (bind (val c z) (λ y. give (truth_of y))) (give 1)) (h.0 bs.0) (λ x. either x (λ z. bind (val c z) (λ y. give (truth_of y))) (λ z. give 1) rest (gives 1))
   layer (form.Choose x a c) h t b =
-      let bs = three (names_declared scope x) (names_declared scope a) (names_declared scope c) b in
+      let bs = three_hold (names_declared scope x) (names_declared scope a) (names_declared scope c) b in
       both (val x) (λ v z. unless_zero v (val c z) (val a z)) (h.0 bs.0) (λ v. either v (val c) (val a) (h.2 bs.2) (h.1 bs.1))
-  layer (form.Convert a) h t b = both (val a) (λ v z. give (converted t v)) (h (one (names_declared scope a) b)) (λ v. gives (converted t v))
+  layer (form.Convert a) h t b = both (val a) (λ v z. give (converted t v)) (h (one_holds (names_declared scope a) b)) (λ v. gives (converted t v))
   layer (form.Set target a) h t b =
-      let bs = two (target_names_declared scope target) (names_declared scope a) b in
+      let bs = two_hold (target_names_declared scope target) (names_declared scope a) b in
       at_found (place target) (λ s z. bind (val a z) (store_lvalue s)) (h.0 bs.0) (λ s k. both (val a) (λ v z. store_lvalue s v) (h.1 bs.1) (λ v. leaves.keeps_store p lost fine traps scope s v k))
   layer (form.Change op kind target a) h t b =
-      let bs = two (target_names_declared scope target) (names_declared scope a) b in
+      let bs = two_hold (target_names_declared scope target) (names_declared scope a) b in
       at_found (place target) (λ s z. bind (val a z) (λ v. bind (read_lvalue p s) (changed op kind t s v))) (h.0 bs.0)
       (λ s k. both (val a) (λ v z. bind (read_lvalue p s) (changed op kind t s v)) (h.1 bs.1)
       (λ v. both (λ z. read_lvalue p s) (λ old z. changed op kind t s v old) (leaves.keeps_read p lost fine traps scope s k)
       (λ old. both (λ z. value_or_trap (binary_value op kind old v)) (λ new z. store_lvalue s (converted t new)) (leaves.keeps_trap p lost fine traps scope (binary_value op kind old v))
       (λ new. leaves.keeps_store p lost fine traps scope s (converted t new) k))))
   layer (form.After up target) h t b =
-      at_found (place target) (λ s z. bind (read_lvalue p s) (λ old. bind (store_lvalue s (stepped up t old)) (λ new. give old))) (h (one (target_names_declared scope target) b))
+      at_found (place target) (λ s z. bind (read_lvalue p s) (λ old. bind (store_lvalue s (stepped up t old)) (λ new. give old))) (h (one_holds (target_names_declared scope target) b))
       (λ s k. both (λ z. read_lvalue p s) (λ old z. bind (store_lvalue s (stepped up t old)) (λ new. give old)) (leaves.keeps_read p lost fine traps scope s k)
       (λ old. both (λ z. store_lvalue s (stepped up t old)) (λ new z. give old) (leaves.keeps_store p lost fine traps scope s (stepped up t old) k) (λ new. gives old)))
   layer (form.Direct g args) h t b = both (vals args) (λ vs z. call_at (context z) g vs) (values_keep args h b) (λ vs. leaves.keeps_call p lost fine traps scope context steady.calls g vs)
   layer (form.Through args callee) h t b =
-      let bs = split_last (map (names_declared scope) args) (names_declared scope callee) b in
+      let bs = last_apart (map (names_declared scope) args) (names_declared scope callee) b in
       both (vals args) (λ vs z. bind (val callee z) (λ f. call_through (context z) t f vs)) (values_keep args h.0 bs.0)
       (λ vs. both (val callee) (λ f z. call_through (context z) t f vs) (h.1 bs.1) (λ f. leaves.keeps_through p lost fine traps scope context steady t f vs))
   layer (form.Known k args) h t b = both (vals args) (λ vs z. known_value p k vs) (values_keep args h b) (λ vs. leaves.keeps_known p lost fine traps scope k vs)
 
-  form_is : (z : Bool) (x : Form-F Form Target Expr) (t : CType) → form_of p (context z) (roll-Form x) t ≡ form_value p (context z) (denotations z x) t
-  form_is z x t = ap (λ (k : CType → Evaluation ℕ). k t) (fold-roll-Form (CType → Evaluation ℕ) (Evaluation Lvalue) Denotation (form_value p (context z)) target_lvalue expr_denotation x)
-
-  form_step : (x : Form-F Form Target Expr) → FormChildren P Q S x → P (roll-Form x)
-  form_step x h t b =
-      alike_by lost fine (Agree scope) (Kept {A = ℕ}) (λ z. form_of p (context z) (roll-Form x) t) (λ z. form_value p (context z) (denotations z x) t) (form_is true x t) (form_is false x t)
-      (layer x h t (sym (fold-roll-Form Bool Bool Bool form_in (target_in scope) layer_in x) ∙ b))
-
-  abbrev found_places : Bool → Target-F Form Target Expr → Target-F (CType → Evaluation ℕ) (Evaluation Lvalue) Denotation
-  found_places z = map-Target Form Target Expr (CType → Evaluation ℕ) (Evaluation Lvalue) Denotation (form_of p (context z)) (lvalue_of p (context z)) (denotation_of p (context z))
-
-  abbrev tested_places : Target-F Form Target Expr → Target-F Bool Bool Bool
-  tested_places = map-Target Form Target Expr Bool Bool Bool (form_names_declared scope) (target_names_declared scope) (names_declared scope)
-
-  target_layer : (x : Target-F Form Target Expr) → TargetChildren P Q S x → target_in scope (tested_places x) ≡ true → Finds (λ z. target_lvalue (found_places z x))
+  target_layer : (x : Target-F Form Target Expr) → TargetChildren P Q S x → (agreed.target_layer x).1 ≡ true → Finds (agreed.target_layer x).0
   target_layer (form.Global g) h b = alike_give lost fine (Agree scope) (Found p lost fine traps scope) (lvalue.Global g 0) (λ f g k. (tt, k))
   target_layer (form.Local l) h b = alike_give lost fine (Agree scope) (Found p lost fine traps scope) (lvalue.Local l 0) (λ f g k. (b, k))
   target_layer (form.GlobalAt g e) h b =
@@ -180,22 +145,8 @@ module _ (p : Program) (lost fine : Stop → Type 0) (traps : (n : ℕ) → n < 
       let bs = split (scope l) (names_declared scope e) b in
       alike_bind lost fine (Kept {A = ℕ}) (Found p lost fine traps scope) (Agree scope) (val e) (λ i z. local_element l i) (h bs.1) (λ i. leaves.found_local p lost fine traps scope l i bs.0)
 
-  place_is : (z : Bool) (x : Target-F Form Target Expr) → lvalue_of p (context z) (roll-Target x) ≡ target_lvalue (found_places z x)
-  place_is z x = fold-roll-Target (CType → Evaluation ℕ) (Evaluation Lvalue) Denotation (form_value p (context z)) target_lvalue expr_denotation x
-
-  target_step : (x : Target-F Form Target Expr) → TargetChildren P Q S x → Q (roll-Target x)
-  target_step x h b =
-      alike_by lost fine (Agree scope) (Found p lost fine traps scope) (λ z. lvalue_of p (context z) (roll-Target x)) (λ z. target_lvalue (found_places z x)) (place_is true x) (place_is false x)
-      (target_layer x h (sym (fold-roll-Target Bool Bool Bool form_in (target_in scope) layer_in x) ∙ b))
-
-  value_is : (z : Bool) (x : Expr-F Form Target Expr) → value_of p (context z) (roll-Expr x) ≡ counted 1 (form_of p (context z) x.what x.ctype)
-  value_is z x = ap (λ (k : Denotation). k.value) (fold-roll-Expr (CType → Evaluation ℕ) (Evaluation Lvalue) Denotation (form_value p (context z)) target_lvalue expr_denotation x)
-
-  expr_step : (x : Expr-F Form Target Expr) → P x.what → S (roll-Expr x)
-  expr_step x h b =
-      alike_by lost fine (Agree scope) (Kept {A = ℕ}) (val (roll-Expr x)) (λ z. counted 1 (form_of p (context z) x.what x.ctype)) (value_is true x) (value_is false x)
-      (alike_counted lost fine (Agree scope) (Kept {A = ℕ}) 1 (λ z. form_of p (context z) x.what x.ctype) (h x.ctype (sym (fold-roll-Expr Bool Bool Bool form_in (target_in scope) layer_in x) ∙ b)))
-
   -- An expression that names declared locals alone.
   pub expr_keeps : (e : Expr) → names_declared scope e ≡ true → Keeps (val e)
-  expr_keeps e b = expr_ind P Q S form_step target_step expr_step e b
+  expr_keeps =
+      along_exprs agreed (λ f v. (t : CType) → v.1 ≡ true → Keeps (λ z. v.0 z t)) (λ x v. v.1 ≡ true → Finds v.0) (λ e v. v.1 ≡ true → Keeps (λ z. (v.0 z).value)) layer target_layer
+      (λ x h b. alike_counted lost fine (Agree scope) (Kept {A = ℕ}) 1 (λ z. form_of p (context z) x.what x.ctype) (h x.ctype b))

@@ -8,7 +8,7 @@ use Rattle.mv_ast.specs.declared.program.Program.{Program}
 use Rattle.mv_ast.specs.declared.program.Expr.{Expr}
 use Rattle.mv_ast.specs.declared.program.Stmt.{Stmt, Stmt-F, roll-Stmt, out-roll-Stmt, map-Stmt, fold-roll-Stmt}
 use Rattle.mv_ast.specs.declared.program.Stmt.TheOpen as stmt
-use Rattle.mv_ast.specs.declared.program.Arm.{Arm, Arm-F, roll-Arm, fold-roll-Arm}
+use Rattle.mv_ast.specs.declared.program.Arm.{Arm, Arm-F, roll-Arm}
 use Rattle.mv_ast.specs.declared.world.Stop.{Stop}
 use Rattle.mv_ast.specs.declared.world.Stop.TheVariants.{Trapped}
 use Rattle.mv_ast.specs.Names.{any_of, names_local}
@@ -28,7 +28,8 @@ use Rattle.mv_lower_spec.proofs.Forms.{words_is}
 use Rattle.mv_lower_spec.proofs.Switches.{in_order_both}
 use Rattle.mv_source_forms.specs.Jumps.{Jumping, all_jump, jumps_layer, arm_jumps_layer, stmt_jumps, arm_jumps}
 use Rattle.mv_source_forms.specs.Scopes.{Scope, Scoped, with_local, with_declared, scope_behind, names_declared, option_declared, all_scoped, scoped_layer, arm_scoped_layer, stmt_scoped, arm_scoped}
-use Rattle.mv_source_forms.proofs.StatementInduction.{StmtChildren, stmt_ind}
+use Rattle.mv_source_forms.proofs.StatementFolds.{stmt_fold, stmt_folds, along_stmts}
+use Rattle.mv_source_forms.proofs.StatementInduction.{StmtChildren}
 use Rattle.mv_lower_correct.proofs.Agreement.{Agree, Post, Alike, AlikeOutcome, alike_give, alike_counted, alike_unless, alike_weaken, alike_bind, alike_by, alike_pointwise}
 use Rattle.mv_lower_correct.proofs.Leaves as leaves
 use Rattle.mv_lower_correct.proofs.Leaves.{agree_changed}
@@ -324,27 +325,19 @@ module _ (p : Program) (lost fine : Stop → Type 0) (traps : (n : ℕ) → n < 
         counts scope scope b c (roll-Stmt x) (λ z. bind (optional_val 0 e z) (λ v. give (Returns v))) (λ z. flow_of-Return p (context z) (roll-Stmt x) e (out-roll-Stmt x))
         (valued scope scope b c (optional_val 0 e) (λ v z. give (Returns v)) (optional scope 0 e q) (λ v. alike_give lost fine (Agree scope) (Leads scope scope b c) (Returns v) (λ f g k. tt)))
 
-    stmt_step : (x : Stmt-F Stmt Arm) → StmtChildren P Q x → P (roll-Stmt x)
-    stmt_step x h scope b c q j =
-        subst (λ (y : Scoped). y.holds scope ≡ true → Flows scope (with_declared y.declares scope) b c (λ z. flow_of p (context z) (roll-Stmt x))) (sym (scoped_is x))
-        (λ q. layer x h scope b c q (sym (jumps_is x b c) ∙ j)) q
-
     body_is : (z : Bool) (x : Arm-F Stmt Arm) → in_order (arm_of p (context z) (roll-Arm x)).body ≡ all x.body z
     body_is z x = ap (λ (d : ArmDenotation). in_order d.body) (arm_of_lem p (context z) (roll-Arm x))
 
-    arm_step : (x : Arm-F Stmt Arm) → Each P x.body → Q (roll-Arm x)
-    arm_step x h scope b c q j =
-        alike_by lost fine (Agree scope) (Leads scope scope b c) (first_body (roll-Arm x)) (all x.body) (body_is true x) (body_is false x)
-        (within x.body h scope b c (sym (ap (λ (k : Scope → Bool). k scope) (fold-roll-Arm Scoped (Scope → Bool) scoped_layer arm_scoped_layer x)) ∙ q)
-        (sym (ap (λ (k : Jumping). k b c) (fold-roll-Arm Jumping Jumping jumps_layer arm_jumps_layer x)) ∙ j))
+    each_flows : (body : List Stmt) → Each P body
+    each_flows =
+        along_stmts (stmt_folds (stmt_fold scoped_layer arm_scoped_layer) (stmt_fold jumps_layer arm_jumps_layer))
+        (λ s v. (scope : Scope) (b c : Bool) → v.0.holds scope ≡ true → v.1 b c ≡ true → Flows scope (with_declared v.0.declares scope) b c (λ z. flow_of p (context z) s))
+        (λ a v. (scope : Scope) (b c : Bool) → v.0 scope ≡ true → v.1 b c ≡ true → Flows scope scope b c (first_body a)) layer
+        (λ x h scope b c q j. alike_by lost fine (Agree scope) (Leads scope scope b c) (first_body (roll-Arm x)) (all x.body) (body_is true x) (body_is false x) (within x.body h scope b c q j))
 
     pub stmt_flows : (s : Stmt) → P s
-    stmt_flows s = stmt_ind P Q stmt_step arm_step s
+    stmt_flows s = (each_flows (s ∷ [])).0
 
     -- Statements that name declared locals alone, and whose jumps have targets.
     pub body_flows : (body : List Stmt) (scope : Scope) (b c : Bool) → all_scoped (map stmt_scoped body) scope ≡ true → all_jump (map stmt_jumps body) b c ≡ true → Flows scope scope b c (all body)
-    body_flows body scope b c q j = within body (each body) scope b c q j
-      where
-        each : (xs : List Stmt) → Each P xs
-        each [] = tt
-        each (x ∷ xs) = (stmt_flows x, each xs)
+    body_flows body = within body (each_flows body)

@@ -19,6 +19,7 @@ use Rattle.mv_ir.specs.Trees.{found}
 use Rattle.mv_ir.specs.Meaning.{Contents, first_items, first_arrays, entry_state}
 use Rattle.mv_ir.specs.Levels.{Code, read_under, switches_read, one_if, frame_of_call}
 use Rattle.mv_ir.specs.Programs.{setting_of, place_if, next_place, code_from, code_of}
+use Rattle.mv_ir.proofs.Joining.{items_count}
 use Rattle.mv_lower_spec.specs.Correct.{Ground, resting, ShowsAround, Shows, seen}
 use Rattle.mv_source_forms.specs.Names.{global_words, size_in}
 use Rattle.mv_lower_spec.specs.Functions.{elements_of, array_sizes, lower_function, lower_program}
@@ -51,10 +52,6 @@ beyond (x ∷ xs) zero le = absurd (omega (arith, le))
 beyond (x ∷ xs) (suc l) le = beyond xs l (omega (arith, le))
 
 -- ---- what it begins with
-
-items_count : (n : ℕ) (f : ℕ → ℕ) → length (first_items n f) ≡ n
-items_count zero f = refl
-items_count (suc n) f = ap suc (items_count n (λ i. f (suc i)))
 
 arrays_count : (f : ℕ → ℕ → ℕ) (ls : List Local) → length (first_arrays f (array_sizes ls)) ≡ length ls
 arrays_count f [] = refl

@@ -4,7 +4,7 @@ use Rattle.std.specs.Prelude.{ℕ, ◌<◌, ◌≤◌, ◌≡◌, Bool, true, fa
 use Rattle.mv_ast.specs.declared.program.Function.{Function}
 use Rattle.mv_ast.specs.declared.program.Program.{Program}
 use Rattle.mv_ast.specs.declared.program.Expr.{Expr, Expr-F, fold-Expr}
-use Rattle.mv_ast.specs.declared.program.Form.{Form, Form-F, fold-Form}
+use Rattle.mv_ast.specs.declared.program.Form.{Form-F}
 use Rattle.mv_ast.specs.declared.program.Form.TheOpen as form
 use Rattle.mv_ast.specs.declared.program.Target.{Target, Target-F, fold-Target}
 use Rattle.mv_ast.specs.declared.program.Stmt.{Stmt, Stmt-F, fold-Stmt}
@@ -62,9 +62,6 @@ module _ (globals : Globals) (locals : ℕ) (sizes : ℕ → Option ℕ) (declar
 
   abbrev pub inner_names_only : Expr-F Bool Access Bool → Bool
   inner_names_only e = e.what
-
-  abbrev pub form_is_within : Form → Bool
-  form_is_within = fold-Form Bool Access Bool form_names_only target_access inner_names_only
 
   abbrev pub target_is_within : Target → Access
   target_is_within = fold-Target Bool Access Bool form_names_only target_access inner_names_only

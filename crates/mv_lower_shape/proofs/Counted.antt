@@ -1,5 +1,5 @@
 -- Counts of statements, tree nodes and calls obey the rules.
-use Rattle.std.proofs.Common.{◌*◌, ◌≡◌, ℕ, suc, ◌+◌, ◌≤◌, List, [], ◌∷◌, ◌++◌, map, Option, Some, None, refl, sym, ◌∙◌, ap, subst, arith, add-zero, zero-add, append-nil}
+use Rattle.std.proofs.Common.{◌*◌, ◌≡◌, ℕ, suc, ◌+◌, ◌≤◌, List, [], ◌∷◌, map, Option, Some, None, refl, sym, ◌∙◌, ap, subst, arith, add-zero, zero-add, append-nil}
 use Rattle.mv_ir.specs.declared.tree.Tree.{Tree}
 use Rattle.mv_ir.specs.declared.tree.Tree.TheOpen as tree
 use Rattle.mv_ir.specs.declared.stm.Stm.{Stm}
@@ -8,21 +8,13 @@ use Rattle.mv_ir.specs.declared.stm.Stm.TheOpen as stm
 use Rattle.mv_ir.specs.declared.stm.Stm.TheViews.{roll-Stm}
 use Rattle.mv_ir.specs.declared.stm.Stm.TheFolds.{map-Stm, fold-roll-Stm}
 use Rattle.mv_ir.specs.Trees.{nodes_of_all}
-use Rattle.mv_ir.specs.Measures.{total, joined, layer_trees, stm_trees, trees, stm_size, statements, stm_calls, calls}
+use Rattle.mv_ir.specs.Measures.{total, layer_trees, stm_trees, trees, stm_size, statements, stm_calls, calls}
 use Rattle.mv_ir.proofs.Keeping.{map_append}
-use Rattle.mv_ir.proofs.Lists.{joined_append}
 use Rattle.mv_ir.proofs.Rolls.{nodes_roll, trees_roll, size_roll, calls_roll}
+use Rattle.mv_ir.proofs.Joining.{total_append, nodes_append, trees_append}
 use Rattle.mv_lower_shape.specs.Allowances.{layer_allowance, stm_allowance, allowance}
 use Rattle.mv_lower_shape.specs.Calls.{layer_weight, stm_weight, code_weight}
 use Rattle.mv_lower_shape.proofs.Rules.{Allowed, Rules, BlockRules, IsPlain, result, one_for}
-use Rattle.mv_lower_shape.proofs.Plain.{nodes_append}
-
-total_append : (ms ns : List ℕ) → total (ms ++ ns) ≡ total ms + total ns
-total_append [] ns = omega arith
-total_append (m ∷ ms) ns = let e = total_append ms ns in omega (arith, e)
-
-pub trees_append : (xs ys : List Stm) → trees (xs ++ ys) ≡ trees xs ++ trees ys
-trees_append xs ys = ap joined (map_append stm_trees xs ys) ∙ joined_append (map stm_trees xs) (map stm_trees ys)
 
 -- the trees of one statement
 pub trees_one : (x : Stm-F Stm) → trees (roll-Stm x ∷ []) ≡ layer_trees (map-Stm Stm (List Tree) stm_trees x)

@@ -1,5 +1,5 @@
 -- From the first free temporary on, an expression's code takes at most eight for each level of its depth.
-use Rattle.std.proofs.Common.{◌≡◌, ℕ, ◌+◌, ◌*◌, ◌≤◌, Bool, true, false, cond, List, [], ◌∷◌, ◌++◌, map, length, max, Option, sym, ◌∙◌, ap, subst, arith}
+use Rattle.std.proofs.Common.{◌≡◌, ℕ, ◌+◌, ◌*◌, ◌≤◌, Bool, true, false, cond, List, [], ◌∷◌, ◌++◌, map, length, max, Option, sym, ◌∙◌, arith}
 use Rattle.std.specs.Prelude.{◌&&◌, nat_lt, nat_eq}
 use Rattle.std.proofs.lemmas.Bool.{ltb-true, eqb-true}
 use Rattle.std.proofs.lemmas.List.{length-map, length-append}
@@ -9,16 +9,18 @@ use Rattle.mv_ir.proofs.Induction.{Each, each_append}
 use Rattle.mv_ast.specs.declared.program.CType.{CType}
 use Rattle.mv_ast.specs.declared.program.Known.{Known}
 use Rattle.mv_ast.specs.declared.program.Known.TheVariants.{Getchar, Putchar, Poll, Plan}
-use Rattle.mv_ast.specs.declared.program.Expr.{Expr, Expr-F, fold-roll-Expr, roll-Expr}
-use Rattle.mv_ast.specs.declared.program.Form.{Form, Form-F, fold-Form, fold-roll-Form, map-Form, roll-Form}
+use Rattle.mv_ast.specs.declared.program.Expr.{Expr}
+use Rattle.mv_ast.specs.declared.program.Form.{Form, Form-F}
 use Rattle.mv_ast.specs.declared.program.Form.TheOpen as form
-use Rattle.mv_ast.specs.declared.program.Target.{Target, Target-F, fold-Target, fold-roll-Target, map-Target, roll-Target}
+use Rattle.mv_ast.specs.declared.program.Target.{Target, Target-F, fold-Target}
 use Rattle.mv_ast.specs.Counts.{greatest, form_greatest, target_greatest, one_more_than, expr_depth}
 use Rattle.mv_lower_spec.specs.Lowered.{Lowered, Lowering, is_low, is_empty, kept_if, binary, first, second, lower_local, lower_global, lower_one, lower_two, lower_division, lower_all, lower_element}
-use Rattle.mv_lower_spec.specs.Lower.{Part, Place, InLocal, InGlobal, Element, quotient_number, remainder_number, bit_tree, lower_operator, lower_product, lower_binary, lower_changed, lower_change, lower_after, lower_read, lower_set, unary_tree, converted_tree, place_of_layer, lower_form, lower_layer, form_lowering, place_of, part_of, lower_expr}
-use Rattle.mv_source_forms.proofs.ExpressionInduction.{FormChildren, TargetChildren, expr_ind}
+use Rattle.mv_lower_spec.specs.Lower.{Part, Place, InLocal, InGlobal, Element, quotient_number, remainder_number, bit_tree, lower_operator, lower_product, lower_binary, lower_changed, lower_change, lower_after, lower_read, lower_set, unary_tree, converted_tree, place_of, part_of, lower_expr}
+use Rattle.mv_source_forms.proofs.ExpressionFolds.{ExprFolds, expr_fold, expr_folds, along_exprs}
+use Rattle.mv_source_forms.proofs.ExpressionInduction.{FormChildren, TargetChildren}
 use Rattle.mv_lower_spec.proofs.Expressions.{split}
-use Rattle.mv_lower_shape.proofs.Asked.{Globals, Access, target_access, form_names_only, inner_names_only, form_is_within, target_is_within, is_within}
+use Rattle.mv_lower_shape.proofs.Folds.{limited_exprs, lowers}
+use Rattle.mv_lower_shape.proofs.Asked.{Globals, Access, target_is_within, is_within}
 use Rattle.mv_source_forms.specs.Lists.{all_of}
 
 -- ---- tops at one place
@@ -112,9 +114,6 @@ known_few (Plan code index) = omega arith
 
 -- ---- the fold
 
-abbrev form_depth : Form → ℕ
-form_depth = fold-Form ℕ ℕ ℕ form_greatest target_greatest one_more_than
-
 abbrev target_depth : Target → ℕ
 target_depth = fold-Target ℕ ℕ ℕ form_greatest target_greatest one_more_than
 
@@ -126,27 +125,34 @@ module _ (globals : Globals) (locals : ℕ) (sizes : ℕ → Option ℕ) (declar
   abbrev within : Expr → Bool
   within = is_within globals locals sizes declared
 
-  abbrev P : Form → Type 0
-  P f = form_is_within globals locals sizes declared f ≡ true → (c : CType) → Top (1 + form_depth f) (form_lowering f c)
+  abbrev measured : ExprFolds (((CType → Lowering) × Bool) × ℕ) ((Place × Access) × ℕ) ((Part × Bool) × ℕ)
+  measured = expr_folds (limited_exprs globals locals sizes declared) (expr_fold form_greatest target_greatest one_more_than)
+
+  abbrev FormTop : ((CType → Lowering) × Bool) × ℕ → Type 0
+  FormTop v = v.0.1 ≡ true → (c : CType) → Top (1 + v.1) (v.0.0 c)
 
   -- the index of a place, where this may be read or stored to
+  abbrev TargetTop : (Place × Access) × ℕ → Type 0
+  TargetTop v = (v.0.1.read ≡ true → PlaceTop v.0.0 v.1) × (v.0.1.stored ≡ true → PlaceTop v.0.0 v.1)
+
+  pub record ExprTop (v : (Part × Bool) × ℕ) : Type 0 where
+    pub deep : 1 ≤ v.1
+    pub top : v.0.1 ≡ true → Top v.1 v.0.0.lower
+
+  abbrev P : Form → Type 0
+  P f = FormTop (measured.form f)
+
   abbrev Q : Target → Type 0
-  Q x =
-      ((target_is_within globals locals sizes declared x).read ≡ true → PlaceTop (place_of x) (target_depth x)) ×
-      ((target_is_within globals locals sizes declared x).stored ≡ true → PlaceTop (place_of x) (target_depth x))
+  Q x = TargetTop (measured.target x)
 
-  pub record ExprTop (e : Expr) : Type 0 where
-    pub deep : 1 ≤ expr_depth e
-    pub top : within e ≡ true → Top (expr_depth e) (lower_expr e)
-
-  abbrev lowers : List Expr → List Lowering
-  lowers es = map (λ (x : Part). x.lower) (map part_of es)
+  abbrev S : Expr → Type 0
+  S e = ExprTop (measured.expr e)
 
   higher : (d e : ℕ) (l : Lowering) → d ≤ e → Top d l → Top e l
   higher d e l le h n = let k = h n in omega (arith, le, k)
 
   -- several, each of which takes no more than the deepest
-  each_top : (es : List Expr) → Each ExprTop es → all_of (map within es) ≡ true → (d : ℕ) → greatest (map expr_depth es) ≤ d → Each (Top d) (lowers es)
+  each_top : (es : List Expr) → Each S es → all_of (map within es) ≡ true → (d : ℕ) → greatest (map expr_depth es) ≤ d → Each (Top d) (lowers es)
   each_top [] h b d le = tt
   each_top (e ∷ es) h b d le =
       let bs = split (within e) (all_of (map within es)) b in
@@ -156,23 +162,14 @@ module _ (globals : Globals) (locals : ℕ) (sizes : ℕ → Option ℕ) (declar
   lowers_length es = length-map (map part_of es) (λ (x : Part). x.lower) ∙ length-map es part_of ∙ sym (length-map es within)
 
   -- the arguments of a call
-  some_top : (es : List Expr) → Each ExprTop es → all_of (map within es) ≡ true → length (map within es) ≤ 8 → (n : ℕ) → max (n + 1) (lower_all (lowers es) n).top ≤ n + 8 * (1 + greatest (map expr_depth es))
+  some_top : (es : List Expr) → Each S es → all_of (map within es) ≡ true → length (map within es) ≤ 8 → (n : ℕ) → max (n + 1) (lower_all (lowers es) n).top ≤ n + 8 * (1 + greatest (map expr_depth es))
   some_top [] h b few n = omega arith
   some_top (e ∷ es) h b few n =
       let d = greatest (map expr_depth (e ∷ es)) in
       let k = all_top d (lowers (e ∷ es)) (omega (arith, h.0.deep)) (each_top (e ∷ es) h b d (omega arith)) n in
       omega (arith, k, few, lowers_length (e ∷ es))
 
-  abbrev depths : Form-F Form Target Expr → Form-F ℕ ℕ ℕ
-  depths = map-Form Form Target Expr ℕ ℕ ℕ form_depth target_depth expr_depth
-
-  abbrev tests : Form-F Form Target Expr → Form-F Bool Access Bool
-  tests = map-Form Form Target Expr Bool Access Bool (form_is_within globals locals sizes declared) (target_is_within globals locals sizes declared) within
-
-  abbrev parts : Form-F Form Target Expr → Form-F (CType → Lowering) Place Part
-  parts = map-Form Form Target Expr (CType → Lowering) Place Part form_lowering place_of part_of
-
-  layer : (x : Form-F Form Target Expr) → FormChildren P Q ExprTop x → form_names_only globals locals sizes declared (tests x) ≡ true → (c : CType) → Top (1 + form_greatest (depths x)) (lower_form (parts x) c)
+  layer : (x : Form-F Form Target Expr) → FormChildren P Q S x → FormTop (measured.form_layer x)
   layer (form.Number m) h b c n = omega arith
   layer (form.Read target) h b c n = let k = read_top (place_of target) (target_depth target) (h.0 b) n in omega (arith, k)
   layer (form.Function f) h b c n = omega arith
@@ -238,51 +235,15 @@ module _ (globals : Globals) (locals : ℕ) (sizes : ℕ → Option ℕ) (declar
       let k = some_top args h bs.1 (omega (arith, few, known_few f)) n in
       omega (arith, k)
 
-  index_top : (e : Expr) → ExprTop e → within e ≡ true → Top (greatest (expr_depth e ∷ [])) (lower_expr e)
+  index_top : (e : Expr) → S e → within e ≡ true → Top (greatest (expr_depth e ∷ [])) (lower_expr e)
   index_top e h b = higher (expr_depth e) (greatest (expr_depth e ∷ [])) (lower_expr e) (omega arith) (h.top b)
 
-  abbrev accessed : Target-F Form Target Expr → Access
-  accessed y = target_access globals locals sizes declared (map-Target Form Target Expr Bool Access Bool (form_is_within globals locals sizes declared) (target_is_within globals locals sizes declared) within y)
-
-  abbrev placed : Target-F Form Target Expr → Place
-  placed y = place_of_layer (map-Target Form Target Expr (CType → Lowering) Place Part form_lowering place_of part_of y)
-
-  abbrev measured : Target-F Form Target Expr → ℕ
-  measured y = target_greatest (map-Target Form Target Expr ℕ ℕ ℕ form_depth target_depth expr_depth y)
-
-  target_layer : (x : Target-F Form Target Expr) → TargetChildren P Q ExprTop x → ((accessed x).read ≡ true → PlaceTop (placed x) (measured x)) × ((accessed x).stored ≡ true → PlaceTop (placed x) (measured x))
+  target_layer : (x : Target-F Form Target Expr) → TargetChildren P Q S x → TargetTop (measured.target_layer x)
   target_layer (form.Global g) h = (λ e. tt, λ e. tt)
   target_layer (form.Local l) h = (λ e. tt, λ e. tt)
   target_layer (form.GlobalAt g e) h =
       (λ b. index_top e h (split (globals.arrays g) (within e) (split (globals.there g) (globals.arrays g && within e) b).1).1, λ b. index_top e h (split (globals.there g) (within e) b).1)
   target_layer (form.LocalAt l e) h = (λ b. index_top e h (split _ (within e) b).1, λ b. index_top e h (split _ (within e) b).1)
 
-  form_step : (x : Form-F Form Target Expr) → FormChildren P Q ExprTop x → P (roll-Form x)
-  form_step x h b c n =
-      let lowered = fold-roll-Form (CType → Lowering) Place Part lower_form place_of_layer lower_layer x in
-      let tested = fold-roll-Form Bool Access Bool (form_names_only globals locals sizes declared) (target_access globals locals sizes declared) (inner_names_only globals locals sizes declared) x in
-      let deep = fold-roll-Form ℕ ℕ ℕ form_greatest target_greatest one_more_than x in
-      subst (λ (l : CType → Lowering). (l c n).top ≤ n + 8 * (1 + form_depth (roll-Form x))) (sym lowered) (let k = layer x h (sym tested ∙ b) c n in omega (arith, k, deep))
-
-  target_step : (x : Target-F Form Target Expr) → TargetChildren P Q ExprTop x → Q (roll-Target x)
-  target_step x h =
-      let place = fold-roll-Target (CType → Lowering) Place Part lower_form place_of_layer lower_layer x in
-      let tested = fold-roll-Target Bool Access Bool (form_names_only globals locals sizes declared) (target_access globals locals sizes declared) (inner_names_only globals locals sizes declared) x in
-      let deep = fold-roll-Target ℕ ℕ ℕ form_greatest target_greatest one_more_than x in
-      let k = target_layer x h in (
-        λ b. subst (λ z. PlaceTop z (target_depth (roll-Target x))) (sym place) (subst (PlaceTop (placed x)) (sym deep) (k.0 (sym (ap (λ (z : Access). z.read) tested) ∙ b))),
-        λ b. subst (λ z. PlaceTop z (target_depth (roll-Target x))) (sym place) (subst (PlaceTop (placed x)) (sym deep) (k.1 (sym (ap (λ (z : Access). z.stored) tested) ∙ b))),
-      )
-
-  expr_step : (x : Expr-F Form Target Expr) → P x.what → ExprTop (roll-Expr x)
-  expr_step x h =
-      let lowered = fold-roll-Expr (CType → Lowering) Place Part lower_form place_of_layer lower_layer x in
-      let tested = fold-roll-Expr Bool Access Bool (form_names_only globals locals sizes declared) (target_access globals locals sizes declared) (inner_names_only globals locals sizes declared) x in
-      let deep = fold-roll-Expr ℕ ℕ ℕ form_greatest target_greatest one_more_than x in
-      record {
-        deep = omega (arith, deep);
-        top = λ b n. subst (λ (l : Part). (l.lower n).top ≤ n + 8 * expr_depth (roll-Expr x)) (sym lowered) (let k = h (sym tested ∙ b) x.ctype n in omega (arith, k, deep));
-      }
-
-  pub expr_top : (e : Expr) → ExprTop e
-  expr_top = expr_ind P Q ExprTop form_step target_step expr_step
+  pub expr_top : (e : Expr) → S e
+  expr_top = along_exprs measured (λ f. FormTop) (λ x. TargetTop) (λ e. ExprTop) layer target_layer (λ x h. record { deep = omega arith; top = λ b. h b x.ctype })

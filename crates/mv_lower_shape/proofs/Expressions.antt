@@ -13,19 +13,21 @@ use Rattle.mv_ir.specs.WellFormed.{known_arguments}
 use Rattle.mv_ir.proofs.Induction.{Each, each_append}
 use Rattle.mv_ir.proofs.Keeping.{map_append}
 use Rattle.mv_ast.specs.declared.program.CType.{CType}
-use Rattle.mv_ast.specs.declared.program.Expr.{Expr, Expr-F, fold-roll-Expr, roll-Expr}
-use Rattle.mv_ast.specs.declared.program.Form.{Form, Form-F, fold-Form, fold-roll-Form, map-Form, roll-Form}
+use Rattle.mv_ast.specs.declared.program.Expr.{Expr}
+use Rattle.mv_ast.specs.declared.program.Form.{Form, Form-F}
 use Rattle.mv_ast.specs.declared.program.Form.TheOpen as form
-use Rattle.mv_ast.specs.declared.program.Target.{Target, Target-F, fold-Target, fold-roll-Target, map-Target, roll-Target}
+use Rattle.mv_ast.specs.declared.program.Target.{Target, Target-F}
 use Rattle.mv_ast.specs.Counts.{form_sum, target_sum, one_more_than, inner_calls, expr_nodes}
 use Rattle.mv_lower_spec.specs.Lowered.{Lowering, lower_number, lower_function, lower_one, lower_through, lower_both, lower_either, lower_choice, lower_local, lower_global, lower_element, temp}
-use Rattle.mv_lower_spec.specs.Lower.{Part, Place, InLocal, InGlobal, Element, place_of_layer, lower_read, lower_set, lower_binary, lower_changed, lower_change, next_tree, lower_after, lower_form, lower_layer, form_lowering, place_of, part_of, lower_expr, unary_tree, converted_tree}
+use Rattle.mv_lower_spec.specs.Lower.{Part, Place, InLocal, InGlobal, Element, lower_read, lower_set, lower_binary, lower_changed, lower_change, next_tree, lower_after, place_of, part_of, lower_expr, unary_tree, converted_tree}
 use Rattle.mv_source_forms.specs.Lists.{all_of}
 use Rattle.mv_source_forms.specs.Names.{is_scalar, is_void}
-use Rattle.mv_source_forms.proofs.ExpressionInduction.{FormChildren, TargetChildren, expr_ind}
+use Rattle.mv_source_forms.proofs.ExpressionFolds.{ExprFolds, expr_fold, expr_folds, along_exprs}
+use Rattle.mv_source_forms.proofs.ExpressionInduction.{FormChildren, TargetChildren}
 use Rattle.mv_lower_spec.proofs.Expressions.{split}
-use Rattle.mv_lower_shape.proofs.Asked.{Globals, Access, local_access, target_access, form_names_only, inner_names_only, form_is_within, target_is_within, is_within}
-use Rattle.mv_lower_shape.specs.Calls.{form_weights, form_weight, target_weight, expr_weight}
+use Rattle.mv_lower_shape.proofs.Folds.{limited_exprs, lowers}
+use Rattle.mv_lower_shape.proofs.Asked.{Globals, Access, local_access, target_is_within, is_within}
+use Rattle.mv_lower_shape.specs.Calls.{form_weights, expr_weight}
 use Rattle.mv_lower_shape.proofs.Rules.{Allowed, Rules, AllMay}
 use Rattle.mv_lower_shape.proofs.Plain.{covers_none}
 use Rattle.mv_lower_shape.proofs.Given as given
@@ -63,14 +65,6 @@ scratch_used locals sizes room t le lt =
 
 pub local_used : (locals : ℕ) (sizes : ℕ → Option ℕ) (room l : ℕ) → nat_lt l locals ≡ true → is_scalar (sizes l) ≡ true → is_used locals sizes room l ≡ true
 local_used locals sizes room l h k = or_left (nat_lt l locals && is_scalar (sizes l)) (not (nat_lt l locals) && nat_lt l room) (and_from (nat_lt l locals) (is_scalar (sizes l)) h k)
-
--- ---- counts of forms
-
-abbrev pub form_nodes : Form → ℕ
-form_nodes = fold-Form ℕ ℕ ℕ form_sum target_sum one_more_than
-
-abbrev pub target_nodes : Target → ℕ
-target_nodes = fold-Target ℕ ℕ ℕ form_sum target_sum one_more_than
 
 pub sum_cons : (n : ℕ) (ns : List ℕ) → sum (n ∷ ns) ≡ n + sum ns
 sum_cons n ns = sum_by-cons (λ x. x) n ns
@@ -286,14 +280,27 @@ module _ (globals : Globals) (locals : ℕ) (sizes : ℕ → Option ℕ) (room :
   abbrev weight : Expr → ℕ
   weight = expr_weight direct through
 
+  -- what each is lowered to, whether it is within the limits, and how many nodes and calls it has
+  abbrev counted : ExprFolds (((CType → Lowering) × Bool) × (ℕ × ℕ)) ((Place × Access) × (ℕ × ℕ)) ((Part × Bool) × (ℕ × ℕ))
+  counted = expr_folds (limited_exprs globals locals sizes declared) (expr_folds (expr_fold form_sum target_sum one_more_than) (expr_fold (form_weights direct through) target_sum inner_calls))
+
+  abbrev FormPays : ((CType → Lowering) × Bool) × (ℕ × ℕ) → Type 0
+  FormPays v = v.0.1 ≡ true → (c : CType) → Paid (1 + v.1.0) v.1.1 (v.0.0 c)
+
+  abbrev PlacePays : (Place × Access) × (ℕ × ℕ) → Type 0
+  PlacePays v = PlacePaid v.0.0 v.0.1 v.1.0 v.1.1
+
+  abbrev Pays : (Part × Bool) × (ℕ × ℕ) → Type 0
+  Pays v = v.0.1 ≡ true → Paid v.1.0 v.1.1 v.0.0.lower
+
   abbrev P : Form → Type 0
-  P f = form_is_within globals locals sizes declared f ≡ true → (c : CType) → Paid (1 + form_nodes f) (form_weight direct through f) (form_lowering f c)
+  P f = FormPays (counted.form f)
 
   abbrev Q : Target → Type 0
-  Q x = PlacePaid (place_of x) (target_is_within globals locals sizes declared x) (target_nodes x) (target_weight direct through x)
+  Q x = PlacePays (counted.target x)
 
   abbrev pub S : Expr → Type 0
-  S e = within e ≡ true → Paid (expr_nodes e) (weight e) (lower_expr e)
+  S e = Pays (counted.expr e)
 
   all_paid : (es : List Expr) → Each S es → all_of (map within es) ≡ true → AllPaid (sum (map expr_nodes es)) (sum (map weight es)) (map (λ (x : Part). x.lower) (map part_of es))
   all_paid [] h b = record { units = 0; words = 0; nodes = 0; give = given.none_give a B rules locals room scratch; few_units = omega arith; few_nodes = omega arith; few_words = omega arith }
@@ -387,21 +394,6 @@ module _ (globals : Globals) (locals : ℕ) (sizes : ℕ → Option ℕ) (room :
     few_words = omega (arith, p.few_words);
   }
 
-  abbrev counts : Form-F Form Target Expr → Form-F ℕ ℕ ℕ
-  counts = map-Form Form Target Expr ℕ ℕ ℕ form_nodes target_nodes expr_nodes
-
-  abbrev weights : Form-F Form Target Expr → Form-F ℕ ℕ ℕ
-  weights = map-Form Form Target Expr ℕ ℕ ℕ (form_weight direct through) (target_weight direct through) weight
-
-  abbrev tests : Form-F Form Target Expr → Form-F Bool Access Bool
-  tests = map-Form Form Target Expr Bool Access Bool (form_is_within globals locals sizes declared) (target_is_within globals locals sizes declared) within
-
-  abbrev parts : Form-F Form Target Expr → Form-F (CType → Lowering) Place Part
-  parts = map-Form Form Target Expr (CType → Lowering) Place Part form_lowering place_of part_of
-
-  abbrev lowers : List Expr → List Lowering
-  lowers es = map (λ (x : Part). x.lower) (map part_of es)
-
   lowers_length : (es : List Expr) (f : ℕ → Bool) → f (length (map within es)) ≡ true → f (length (lowers es)) ≡ true
   lowers_length es f h = subst (λ n. f n ≡ true) (length-map es within ∙ sym (length-map (map part_of es) (λ (x : Part). x.lower) ∙ length-map es part_of)) h
 
@@ -415,8 +407,7 @@ module _ (globals : Globals) (locals : ℕ) (sizes : ℕ → Option ℕ) (room :
       let bs = split (within x) (all_of (map within xs)) b in
       and_from (within x) (all_of (map within (xs ++ e ∷ []))) bs.0 (all_within xs e bs.1 k)
 
-  layer : (x : Form-F Form Target Expr) → FormChildren P Q S x → form_names_only globals locals sizes declared (tests x) ≡ true → (c : CType) →
-      Paid (1 + form_sum (counts x)) (form_weights direct through (weights x)) (lower_form (parts x) c)
+  layer : (x : Form-F Form Target Expr) → FormChildren P Q S x → FormPays (counted.form_layer x)
   layer (form.Number n) h b c = paid_as _ (omega arith) (omega arith) (leaf_paid (lower_number n) (given.gives_number a B rules locals room scratch n))
   layer (form.Read target) h b c = paid_as _ (omega arith) (omega arith) (read_paid (place_of target) (target_is_within globals locals sizes declared target) _ _ h b)
   layer (form.Function f) h b c = paid_as _ (omega arith) (omega arith) (leaf_paid (lower_function f) (given.gives_function a B rules locals room scratch f))
@@ -465,11 +456,7 @@ module _ (globals : Globals) (locals : ℕ) (sizes : ℕ → Option ℕ) (room :
       let all = all_paid args h bs.1 in
       call_paid 0 _ (lowers args) all (same_weight _ (omega arith) (given.gives_known a B rules locals room scratch k (lowers args) (lowers_length args (λ m. nat_eq m (known_arguments k)) bs.0) all.give))
 
-  target_layer : (x : Target-F Form Target Expr) → TargetChildren P Q S x →
-      PlacePaid (place_of_layer (map-Target Form Target Expr (CType → Lowering) Place Part form_lowering place_of part_of x))
-      (target_access globals locals sizes declared (map-Target Form Target Expr Bool Access Bool (form_is_within globals locals sizes declared) (target_is_within globals locals sizes declared) within x))
-      (target_sum (map-Target Form Target Expr ℕ ℕ ℕ form_nodes target_nodes expr_nodes x))
-      (target_sum (map-Target Form Target Expr ℕ ℕ ℕ (form_weight direct through) (target_weight direct through) weight x))
+  target_layer : (x : Target-F Form Target Expr) → TargetChildren P Q S x → PlacePays (counted.target_layer x)
   target_layer (form.Global g) h = record { free = refl; read = λ e. e; stored = λ e. e }
   target_layer (form.Local l) h = record {
     free = refl;
@@ -501,39 +488,6 @@ module _ (globals : Globals) (locals : ℕ) (sizes : ℕ → Option ℕ) (room :
           let bs = split (local_access globals locals sizes declared (not (is_scalar (sizes l))) l) (within e) b in
           ((split (nat_lt l locals) (declared l && not (is_scalar (sizes l))) bs.0).0, paid_as (lower_expr e) (omega arith) (omega arith) (h bs.1))
 
-  form_step : (x : Form-F Form Target Expr) → FormChildren P Q S x → P (roll-Form x)
-  form_step x h b c =
-      let lowered = fold-roll-Form (CType → Lowering) Place Part lower_form place_of_layer lower_layer x in
-      let tested = fold-roll-Form Bool Access Bool (form_names_only globals locals sizes declared) (target_access globals locals sizes declared) (inner_names_only globals locals sizes declared) x in
-      let counted = fold-roll-Form ℕ ℕ ℕ form_sum target_sum one_more_than x in
-      let weighed = fold-roll-Form ℕ ℕ ℕ (form_weights direct through) target_sum inner_calls x in
-      subst (λ (l : CType → Lowering). Paid (1 + form_nodes (roll-Form x)) (form_weight direct through (roll-Form x)) (l c)) (sym lowered)
-      (paid_as (lower_form (parts x) c) (omega (arith, counted)) (sym weighed) (layer x h (sym tested ∙ b) c))
-
-  target_step : (x : Target-F Form Target Expr) → TargetChildren P Q S x → Q (roll-Target x)
-  target_step x h =
-      let placed = fold-roll-Target (CType → Lowering) Place Part lower_form place_of_layer lower_layer x in
-      let tested = fold-roll-Target Bool Access Bool (form_names_only globals locals sizes declared) (target_access globals locals sizes declared) (inner_names_only globals locals sizes declared) x in
-      let counted = fold-roll-Target ℕ ℕ ℕ form_sum target_sum one_more_than x in
-      let weighed = fold-roll-Target ℕ ℕ ℕ (form_weights direct through) target_sum inner_calls x in
-      let X : Target = roll-Target x in
-      subst (λ (z : Place). PlacePaid z (target_is_within globals locals sizes declared X) (target_nodes X) (target_weight direct through X)) (sym placed)
-      (subst (λ (z : Access). PlacePaid (place_of_layer (map-Target Form Target Expr (CType → Lowering) Place Part form_lowering place_of part_of x)) z (target_nodes X) (target_weight direct through X)) (sym tested)
-      (subst (λ n. PlacePaid (place_of_layer (map-Target Form Target Expr (CType → Lowering) Place Part form_lowering place_of part_of x)) (accessed x) n (target_weight direct through X)) (sym counted)
-      (subst (λ k. PlacePaid (place_of_layer (map-Target Form Target Expr (CType → Lowering) Place Part form_lowering place_of part_of x)) (accessed x) (target_sum (map-Target Form Target Expr ℕ ℕ ℕ form_nodes target_nodes expr_nodes x)) k) (sym weighed) (target_layer x h))))
-    where
-      accessed : Target-F Form Target Expr → Access
-      accessed y = target_access globals locals sizes declared (map-Target Form Target Expr Bool Access Bool (form_is_within globals locals sizes declared) (target_is_within globals locals sizes declared) within y)
-
-  expr_step : (x : Expr-F Form Target Expr) → P x.what → S (roll-Expr x)
-  expr_step x h b =
-      let lowered = fold-roll-Expr (CType → Lowering) Place Part lower_form place_of_layer lower_layer x in
-      let tested = fold-roll-Expr Bool Access Bool (form_names_only globals locals sizes declared) (target_access globals locals sizes declared) (inner_names_only globals locals sizes declared) x in
-      let counted = fold-roll-Expr ℕ ℕ ℕ form_sum target_sum one_more_than x in
-      let weighed = fold-roll-Expr ℕ ℕ ℕ (form_weights direct through) target_sum inner_calls x in
-      subst (λ (l : Part). Paid (expr_nodes (roll-Expr x)) (weight (roll-Expr x)) l.lower) (sym lowered)
-      (paid_as (form_lowering x.what x.ctype) (omega (arith, counted)) (sym weighed) (h (sym tested ∙ b) x.ctype))
-
   -- what an expression that is within the limits is lowered to
   pub expr_paid : (e : Expr) → S e
-  expr_paid = expr_ind P Q S form_step target_step expr_step
+  expr_paid = along_exprs counted (λ f. FormPays) (λ x. PlacePays) (λ e. Pays) layer target_layer (λ x h b. h b x.ctype)

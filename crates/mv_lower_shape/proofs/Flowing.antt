@@ -1,6 +1,7 @@
 -- Where a temporary is live and marked in code that is made of code.
 use mathlib.Core.Bool.{or-false}
-use Rattle.std.proofs.Common.{◌≡◌, ℕ, Bool, true, false, eqb, ◌||◌, List, [], ◌∷◌, ◌++◌, map, refl, sym, ◌∙◌, ap, append_assoc}
+use Rattle.std.proofs.Math.Bool.{or_assoc}
+use Rattle.std.proofs.Common.{◌≡◌, ℕ, Bool, true, false, eqb, ◌||◌, List, [], ◌∷◌, ◌++◌, map, refl, sym, ◌∙◌, ap}
 use Rattle.std.proofs.lemmas.Bool.{eqb-true}
 use Rattle.mv_ir.specs.declared.tree.Tree.{Tree}
 use Rattle.mv_ir.specs.declared.tree.Tree.TheOpen as tree
@@ -10,23 +11,9 @@ use Rattle.mv_ir.specs.declared.stm.Stm.TheViews.{roll-Stm}
 use Rattle.mv_ir.specs.Live.{reads_temp, any_reads, Around, Flow, with_after, live_in_order, marks_in_order, flow, any}
 use Rattle.mv_ir.proofs.Keeping.{map_append}
 use Rattle.mv_ir.proofs.Rolls.{reads_temp_roll}
+use Rattle.mv_ir.proofs.Joining.{marks_append, live_append as flows_append}
 use Rattle.mv_lower_spec.proofs.Expressions.{no}
 use Rattle.mv_lower_spec.specs.Lowered.{temp, global}
-
-flows_append : (xs ys : List Flow) (r : Around) → live_in_order (xs ++ ys) r ≡ live_in_order xs (with_after r (live_in_order ys r))
-flows_append [] ys r = refl
-flows_append (x ∷ xs) ys r = ap (λ b. x.live (with_after r b)) (flows_append xs ys r)
-
-marks_append : (xs ys : List Flow) (r : Around) → marks_in_order (xs ++ ys) r ≡ marks_in_order xs (with_after r (live_in_order ys r)) ++ marks_in_order ys r
-marks_append [] ys r = refl
-marks_append (x ∷ xs) ys r =
-    ap (λ b. x.marks (with_after r b) ++ marks_in_order (xs ++ ys) r) (flows_append xs ys r) ∙
-    ap (λ l. x.marks (with_after r (live_in_order xs (with_after r (live_in_order ys r)))) ++ l) (marks_append xs ys r) ∙
-    sym (append_assoc (x.marks (with_after r (live_in_order xs (with_after r (live_in_order ys r))))) (marks_in_order xs (with_after r (live_in_order ys r))) (marks_in_order ys r))
-
-or_assoc : (a b c : Bool) → ((a || b) || c) ≡ (a || (b || c))
-or_assoc true b c = refl
-or_assoc false b c = refl
 
 pub any_append : (xs ys : List Bool) → any (xs ++ ys) ≡ (any xs || any ys)
 any_append [] ys = refl

@@ -1,5 +1,5 @@
 -- Sets of globals that hold what is read.
-use Rattle.std.proofs.Common.{◌≡◌, ℕ, ◌<◌, Bool, true, false, not, List, [], ◌∷◌, ◌++◌, ◌∙◌, refl}
+use Rattle.std.proofs.Common.{◌≡◌, ℕ, ◌<◌, Bool, true, false, not, List, [], ◌∷◌, ◌++◌, refl}
 use Rattle.std.specs.Prelude.{◌||◌, nat_eq}
 use Rattle.std.proofs.lemmas.Bool.{or_left, or_right}
 use Rattle.mv_ast.specs.Names.{any_of}
@@ -32,9 +32,6 @@ module _ (globals : Globals) (count : ℕ) (is_own : ℕ → Bool) where
     scalars = λ k lt e. h.scalars k lt (le (nat_eq k) none e);
     arrays = λ k lt n e. h.arrays k lt n (le none (nat_eq k) e);
   }
-
-  pub holds_same : (x y : Reading) → ((s a : ℕ → Bool) → y s a ≡ x s a) → Holds y → Holds x
-  holds_same x y q h = holds_within x y (λ s a e. q s a ∙ e) h
 
   pub holds_left : (x y : Reading) → Holds (λ s a. x s a || y s a) → Holds x
   holds_left x y h = holds_within x (λ s a. x s a || y s a) (λ s a e. or_left (x s a) (y s a) e) h

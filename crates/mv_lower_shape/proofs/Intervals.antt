@@ -4,8 +4,9 @@ use Rattle.std.specs.Prelude.{◌||◌, ◌&&◌, not, nat_lt, sum}
 use Rattle.std.proofs.lemmas.Bool.{or_parts, and_right, lt-ltb, cases_lt}
 use Rattle.mv_ir.specs.declared.body.Body.{Body}
 use Rattle.mv_ir.specs.Measures.{total}
-use Rattle.mv_ir.specs.Live.{any, filled, mark_at, all_marks, interval, count_at, below, greatest_up_to, marks_length, most_intervals}
+use Rattle.mv_ir.specs.Live.{any, filled, mark_at, all_marks, interval, count_at, below, marks_length, most_intervals}
 use Rattle.mv_ir.proofs.Keeping.{map_append}
+use Rattle.mv_ir.proofs.Joining.{greatest_within}
 use Rattle.mv_ast.specs.declared.program.Local.{Local}
 use Rattle.mv_ast.specs.Counts.{words_of_size}
 use Rattle.mv_source_forms.specs.Names.{is_scalar, size_in}
@@ -88,10 +89,6 @@ words_of_locals (l ∷ ls) =
 
 -- ---- bodies
 
-greatest_within : (n m : ℕ) (f : ℕ → ℕ) → ((i : ℕ) → f i ≤ m) → greatest_up_to n f ≤ m
-greatest_within zero m f h = omega arith
-greatest_within (suc n) m f h = let k = greatest_within n m f h in let l = h n in omega (arith, k, l)
-
 module _ (ls : List Local) (room : ℕ) where
   abbrev used_word : ℕ → ℕ
   used_word t = cond (is_used (length ls) (size_in ls) room t) 1 0
@@ -113,8 +110,8 @@ module _ (ls : List Local) (room : ℕ) where
   pub few_intervals : (b : Body) → b.temps ≡ room → length ls ≤ room → ((t : ℕ) → is_used (length ls) (size_in ls) room t ≡ false → any (all_marks b t) ≡ false) →
       most_intervals b + sum (array_sizes ls) + length ls ≤ sum (map (λ l. words_of_size l.size) ls) + room
   few_intervals b temps le unused =
-      let each = greatest_within (marks_length (all_marks b 0)) (sum_below room used_word) (λ i. count_at i (map (interval b) (below b.temps)))
-      (λ i. subst (λ n. count_at i (map (interval b) (below n)) ≤ sum_below room used_word) (sym temps) (counted_below (interval b) used_word i room (λ t. marked i t))) in
+      let each = greatest_within (marks_length (all_marks b 0)) (λ i. count_at i (map (interval b) (below b.temps))) (sum_below room used_word)
+      (λ i lt. subst (λ n. count_at i (map (interval b) (below n)) ≤ sum_below room used_word) (sym temps) (counted_below (interval b) used_word i room (λ t. marked i t))) in
       let behind = sum_behind used_word (length ls) room at_most_one le in
       let locals = sum_less (length ls) used_word (λ t. scalar_word (size_in ls t)) used_local in
       omega (arith, each, behind, locals, words_of_locals ls)

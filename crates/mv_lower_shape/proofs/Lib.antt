@@ -1,4 +1,5 @@
 pub mod Asked
+pub mod Folds
 pub mod Rules
 pub mod Plain
 pub mod Given

@@ -16,10 +16,11 @@ use Rattle.mv_ir.proofs.Induction.{Each, each_append}
 use Rattle.mv_ir.proofs.Keeping.{map_append}
 use Rattle.mv_ir.proofs.Lists.{joined_append}
 use Rattle.mv_ir.proofs.Rolls.{reads_roll, arrays_roll, named_roll, arguments_roll}
+use Rattle.mv_ir.proofs.Joining.{trees_append}
 use Rattle.mv_lower_spec.specs.Lowered.{temp, choose}
 use Rattle.mv_lower_shape.proofs.Rules.{Allowed, Rules, BlockRules, AllMay, all_read, result}
 use Rattle.mv_lower_shape.proofs.Plain.{read_append, each_first, each_last}
-use Rattle.mv_lower_shape.proofs.Counted.{trees_append, trees_one}
+use Rattle.mv_lower_shape.proofs.Counted.{trees_one}
 
 arrays_one : (x : Stm-F Stm) → arrays_read (roll-Stm x ∷ []) ≡ layer_arrays (map-Stm Stm (List ℕ) stm_arrays x)
 arrays_one x = append-nil (stm_arrays (roll-Stm x)) ∙ arrays_roll x

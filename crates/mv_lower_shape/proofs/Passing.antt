@@ -11,7 +11,7 @@ use Rattle.mv_ir.proofs.Rolls.{flow_roll}
 use Rattle.mv_lower_spec.specs.Lowered.{choose}
 use Rattle.mv_lower_spec.proofs.Expressions.{no}
 use Rattle.mv_lower_shape.proofs.Rules.{Allowed, Rules, result}
-use Rattle.mv_lower_shape.proofs.Plain.{any_append as reads_append}
+use Rattle.mv_ir.proofs.Joining.{any_reads_append}
 use Rattle.mv_lower_shape.proofs.Flowing.{live_at, live_append, live_one, temp_reads, global_reads, another}
 
 module _ (a : Allowed) (u : ℕ) where
@@ -63,10 +63,10 @@ module _ (a : Allowed) (u : ℕ) where
     choose = λ {s} {w} {t} {k} {s'} {w'} {t'} {k'} {ys} {zs} {us} x h h'. chosen x h h';
     chain = λ {s} {w} {t} {k} {s'} {w'} {t'} {k'} {xs} {ys} {ts} {us} {vs} h h'. chained h h';
     beside = λ {s} {w} {t} {k} {xs} {ts} {us} rest h. record {
-      passes = λ e. h.passes (or_parts (any_reads u ts) (any_reads u rest) (sym (reads_append u ts rest) ∙ e)).0;
+      passes = λ e. h.passes (or_parts (any_reads u ts) (any_reads u rest) (sym (any_reads_append u ts rest) ∙ e)).0;
       writes = λ e v.
-          let es = or_parts (any_reads u ts) (any_reads u rest) (sym (reads_append u ts rest) ∙ e) in
-          h.writes es.0 (left_true (any_reads u us) (any_reads u rest) es.1 (sym (reads_append u us rest) ∙ v));
+          let es = or_parts (any_reads u ts) (any_reads u rest) (sym (any_reads_append u ts rest) ∙ e) in
+          h.writes es.0 (left_true (any_reads u us) (any_reads u rest) es.1 (sym (any_reads_append u us rest) ∙ v));
     };
     weaken = λ {s} {w} {t} {k} {s'} {w'} {t'} {k'} {xs} {ts} {us} ls lw lt e h. record { passes = h.passes; writes = h.writes };
   }

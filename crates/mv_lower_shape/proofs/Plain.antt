@@ -11,12 +11,13 @@ use Rattle.mv_ir.specs.declared.stm.Array.{Array}
 use Rattle.mv_ir.specs.declared.stm.Array.TheVariants as array
 use Rattle.mv_ir.specs.declared.stm.Callee.TheVariants as callee
 use Rattle.mv_ir.specs.declared.stm.Stm.TheOpen as stm
-use Rattle.mv_ir.specs.Trees.{nodes, nodes_of_all}
+use Rattle.mv_ir.specs.Trees.{nodes}
 use Rattle.mv_ir.specs.Measures.{tree_reads, array_read}
 use Rattle.mv_ir.specs.Live.{reads_temp, any_reads}
 use Rattle.mv_ir.specs.WellFormed.{known_arguments}
 use Rattle.mv_ir.proofs.Induction.{Each, each_append}
 use Rattle.mv_ir.proofs.Rolls.{nodes_roll, reads_roll, reads_temp_roll}
+use Rattle.mv_ir.proofs.Joining.{any_reads_append, nodes_append}
 use Rattle.mv_lower_spec.specs.Lowered.{number, temp, function, unary, binary}
 use Rattle.mv_lower_spec.specs.Lower.{narrowed}
 use Rattle.mv_lower_shape.proofs.Rules.{Allowed, IsPlain, IsAllowed, Covers, AllMay, all_read}
@@ -113,21 +114,9 @@ covers_then ts us vs m n h k = record { temps = λ t e. h.temps t (k.temps t e);
 
 -- ---- beside others
 
-or_assoc : (a b c : Bool) → ((a || b) || c) ≡ (a || (b || c))
-or_assoc true b c = refl
-or_assoc false b c = refl
-
-pub any_append : (t : ℕ) (xs ys : List Tree) → any_reads t (xs ++ ys) ≡ (any_reads t xs || any_reads t ys)
-any_append t [] ys = refl
-any_append t (x ∷ xs) ys = ap (λ b. reads_temp t x || b) (any_append t xs ys) ∙ sym (or_assoc (reads_temp t x) (any_reads t xs) (any_reads t ys))
-
 pub read_append : (xs ys : List Tree) → all_read (xs ++ ys) ≡ all_read xs ++ all_read ys
 read_append [] ys = refl
 read_append (x ∷ xs) ys = ap (λ l. tree_reads x ++ l) (read_append xs ys) ∙ sym (append_assoc (tree_reads x) (all_read xs) (all_read ys))
-
-pub nodes_append : (xs ys : List Tree) → nodes_of_all (xs ++ ys) ≡ nodes_of_all xs + nodes_of_all ys
-nodes_append [] ys = omega arith
-nodes_append (x ∷ xs) ys = let e = nodes_append xs ys in omega (arith, e)
 
 pub each_first : {A : Type 0} (P : A → Type 0) (xs ys : List A) → Each P (xs ++ ys) → Each P xs
 each_first P [] ys h = tt
@@ -144,7 +133,7 @@ or_either false y e f g = g e
 -- what stands behind stays
 pub covers_before : (ts us rest : List Tree) (m : ℕ) → Covers ts us m → Covers (ts ++ rest) (us ++ rest) m
 covers_before ts us rest m h = record {
-  temps = λ t e. any_append t ts rest ∙ or_either (any_reads t us) (any_reads t rest) (sym (any_append t us rest) ∙ e)
+  temps = λ t e. any_reads_append t ts rest ∙ or_either (any_reads t us) (any_reads t rest) (sym (any_reads_append t us rest) ∙ e)
       (λ x. or_left (any_reads t ts) (any_reads t rest) (h.temps t x)) (λ x. or_right (any_reads t ts) (any_reads t rest) x);
   scalars = λ may x.
       let y = subst (AllMay may) (read_append ts rest) x in
@@ -156,7 +145,7 @@ covers_before ts us rest m h = record {
 -- two lists in the other order
 pub covers_swap : (ts us : List Tree) → Covers (ts ++ us) (us ++ ts) 0
 covers_swap ts us = record {
-  temps = λ t e. any_append t ts us ∙ or_either (any_reads t us) (any_reads t ts) (sym (any_append t us ts) ∙ e)
+  temps = λ t e. any_reads_append t ts us ∙ or_either (any_reads t us) (any_reads t ts) (sym (any_reads_append t us ts) ∙ e)
       (λ x. or_right (any_reads t ts) (any_reads t us) x) (λ x. or_left (any_reads t ts) (any_reads t us) x);
   scalars = λ may x.
       let y = subst (AllMay may) (read_append ts us) x in

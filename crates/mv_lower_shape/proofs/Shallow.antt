@@ -13,19 +13,21 @@ use Rattle.mv_ir.specs.Measures.{layer_trees, stm_trees, deepest_of}
 use Rattle.mv_ir.proofs.Induction.{Each}
 use Rattle.mv_ir.proofs.Rolls.{depth_roll}
 use Rattle.mv_ast.specs.declared.program.Expr.{Expr}
-use Rattle.mv_ast.specs.declared.program.Stmt.{Stmt, Stmt-F, roll-Stmt, map-Stmt, fold-roll-Stmt}
+use Rattle.mv_ast.specs.declared.program.Stmt.{Stmt, Stmt-F}
 use Rattle.mv_ast.specs.declared.program.Stmt.TheOpen as stmt
-use Rattle.mv_ast.specs.declared.program.Arm.{Arm, Arm-F, roll-Arm, fold-roll-Arm}
+use Rattle.mv_ast.specs.declared.program.Arm.{Arm}
 use Rattle.mv_ast.specs.Counts.{words_of_size}
 use Rattle.mv_ast.specs.Names.{any_of, names_local}
 use Rattle.mv_lower_spec.specs.Lowered.{Lowering, number, temp, binary, set, choose}
 use Rattle.mv_lower_spec.specs.Lower.{lower_expr}
 use Rattle.mv_lower_spec.specs.Statements.{Jumps, Placed, LoweredArm, in_body, in_arm, in_sequence, store_word, clear_words, store_zeros, store_values, lower_clear, test_labels, test_arms, arm_place, all_tests, arm_code, arms_code, break, enclosed, repeat, return_with, test_and_body}
-use Rattle.mv_lower_spec.specs.LowerStatements.{lower_optional, lower_stmt_layer, lower_arm_layer, lower_stmt, lower_arm}
+use Rattle.mv_lower_spec.specs.LowerStatements.{lower_optional, lower_stmt, lower_arm}
 use Rattle.mv_lower_spec.proofs.Depths.{Shallow, ShallowCode, ShallowLowered, both_parts, shallow_set, shallow_choose}
 use Rattle.mv_lower_spec.proofs.ExpressionDepths.{expr_shallow}
 use Rattle.mv_lower_shape.proofs.Counted.{trees_one}
-use Rattle.mv_source_forms.proofs.StatementInduction as source
+use Rattle.mv_lower_shape.proofs.Folds.{lowered_stmts}
+use Rattle.mv_source_forms.proofs.StatementFolds.{along_stmts}
+use Rattle.mv_source_forms.proofs.StatementInduction.{StmtChildren}
 
 one : (x : Stm-F Stm) → Each Shallow (layer_trees (map-Stm Stm (List Tree) stm_trees x)) → ShallowCode (roll-Stm x ∷ [])
 one x h = subst (Each Shallow) (sym (trees_one x)) h
@@ -149,7 +151,7 @@ module _ (locals : ℕ) where
     test_and l body h k =
         both_parts (l locals).code (choose (l locals).tree body (break 0 ∷ []) ∷ []) h.code (shallow_choose (l locals).tree body (break 0 ∷ []) h.tree k (shallow_break 0))
 
-    layer : (x : Stmt-F Stmt Arm) → source.StmtChildren S A x → (j : Jumps) → ShallowCode (lower_stmt_layer locals sizes void (map-Stmt Stmt Arm Placed LoweredArm (lower_stmt locals sizes void) (lower_arm locals sizes void) x) j).code
+    layer : (x : Stmt-F Stmt Arm) → StmtChildren S A x → (j : Jumps) → ShallowCode ((lowered_stmts locals sizes void).stmt_layer x j).code
     layer (stmt.Block body) h j = all_shallow body h j
     layer (stmt.Clear l values) h j = shallow_clear (sizes l) l (any_of (map (names_local l) values)) values j
     layer (stmt.Express e) h j = (expr_shallow e locals).code
@@ -186,11 +188,6 @@ module _ (locals : ℕ) where
         let x = expr_shallow e locals in
         both_parts (lower_expr e locals).code (return_with (lower_expr e locals).tree ∷ []) x.code (shallow_return (lower_expr e locals).tree x.tree)
 
-    stmt_step : (x : Stmt-F Stmt Arm) → source.StmtChildren S A x → S (roll-Stmt x)
-    stmt_step x h j = subst (λ (l : Placed). ShallowCode (l j).code) (sym (fold-roll-Stmt Placed LoweredArm (lower_stmt_layer locals sizes void) (lower_arm_layer locals sizes void) x)) (layer x h j)
-
-    arm_step : (x : Arm-F Stmt Arm) → Each S x.body → A (roll-Arm x)
-    arm_step x h j = subst (λ (l : LoweredArm). ShallowCode (l.body j).code) (sym (fold-roll-Arm Placed LoweredArm (lower_stmt_layer locals sizes void) (lower_arm_layer locals sizes void) x)) (all_shallow x.body h j)
-
     pub body_shallow : (body : List Stmt) (j : Jumps) → ShallowCode (lowered body j).code
-    body_shallow body = all_shallow body (source.stmts_ind S A stmt_step arm_step body)
+    body_shallow body =
+        all_shallow body (along_stmts (lowered_stmts locals sizes void) (λ s l. (j : Jumps) → ShallowCode (l j).code) (λ a l. (j : Jumps) → ShallowCode (l.body j).code) layer (λ x h. all_shallow x.body h) body)

@@ -1,23 +1,25 @@
 -- Statements take at most eight free temporaries for each level of depth of their expressions.
-use Rattle.std.proofs.Common.{◌≡◌, ℕ, ◌+◌, ◌*◌, ◌≤◌, Bool, true, cond, List, [], ◌∷◌, map, max, Option, Some, None, sym, ◌∙◌, ap, subst, arith}
+use Rattle.std.proofs.Common.{◌≡◌, ℕ, ◌+◌, ◌*◌, ◌≤◌, Bool, true, cond, List, [], ◌∷◌, map, max, Option, Some, None, ◌∙◌, ap, arith}
 use Rattle.std.specs.Prelude.{◌&&◌, nat_lt, option_to_list}
 use Rattle.mv_ir.proofs.Induction.{Each}
 use Rattle.mv_ir.proofs.Keeping.{map_append}
 use Rattle.mv_ast.specs.declared.program.Expr.{Expr}
-use Rattle.mv_ast.specs.declared.program.Stmt.{Stmt, Stmt-F, roll-Stmt, map-Stmt, fold-roll-Stmt}
+use Rattle.mv_ast.specs.declared.program.Stmt.{Stmt, Stmt-F}
 use Rattle.mv_ast.specs.declared.program.Stmt.TheOpen as stmt
-use Rattle.mv_ast.specs.declared.program.Arm.{Arm, Arm-F, roll-Arm, fold-Arm, fold-roll-Arm}
+use Rattle.mv_ast.specs.declared.program.Arm.{Arm, Arm-F, fold-Arm}
 use Rattle.mv_ast.specs.Counts.{greatest, expr_depth, stmt_depth}
 use Rattle.mv_ast.specs.Layers.{stmt_parts, stmt_expressions}
 use Rattle.mv_ast.specs.Names.{any_of, names_local}
 use Rattle.mv_lower_spec.specs.Lower.{lower_expr}
 use Rattle.mv_lower_spec.specs.Statements.{Jumps, Placed, LoweredArm, in_body, in_arm, in_sequence, values_top, arms_top}
-use Rattle.mv_lower_spec.specs.LowerStatements.{lower_optional, lower_stmt_layer, lower_arm_layer, lower_stmt, lower_arm}
+use Rattle.mv_lower_spec.specs.LowerStatements.{lower_optional, lower_stmt, lower_arm}
 use Rattle.mv_lower_spec.proofs.Expressions.{split}
 use Rattle.mv_source_forms.specs.Scopes.{with_local}
-use Rattle.mv_lower_shape.proofs.Asked.{Globals, Scope, ArmScope, all_within, all_behind, arms_within, is_within, all_exprs_within, optional_within, stmt_scope_layer, arm_scope_layer, stmt_scope, arm_scope}
+use Rattle.mv_lower_shape.proofs.Asked.{Globals, Scope, ArmScope, all_within, all_behind, arms_within, is_within, all_exprs_within, optional_within, stmt_scope, arm_scope}
 use Rattle.mv_lower_shape.proofs.ExpressionTops.{expr_top, greatest_append}
-use Rattle.mv_source_forms.proofs.StatementInduction as source
+use Rattle.mv_lower_shape.proofs.Folds.{limited_stmts}
+use Rattle.mv_source_forms.proofs.StatementFolds.{StmtFolds, stmt_fold, stmt_folds, along_stmts}
+use Rattle.mv_source_forms.proofs.StatementInduction.{StmtChildren}
 
 abbrev depth_layer : Stmt-F ℕ ℕ → ℕ
 depth_layer s = max (greatest (map expr_depth (stmt_expressions s))) (greatest (stmt_parts s))
@@ -44,11 +46,20 @@ module _ (globals : Globals) (locals : ℕ) (sizes : ℕ → Option ℕ) (void :
   abbrev scopes : List Stmt → List Scope
   scopes body = map (stmt_scope globals locals sizes) body
 
+  abbrev Top : (Placed × Scope) × ℕ → Type 0
+  Top v = (declared : ℕ → Bool) → v.0.1.within declared ≡ true → (j : Jumps) → (v.0.0 j).top ≤ locals + 8 * v.1
+
+  abbrev ArmTop : (LoweredArm × ArmScope) × ℕ → Type 0
+  ArmTop v = (declared : ℕ → Bool) → v.0.1 declared ≡ true → (j : Jumps) → (v.0.0.body j).top ≤ locals + 8 * v.1
+
+  abbrev measured : StmtFolds ((Placed × Scope) × ℕ) ((LoweredArm × ArmScope) × ℕ)
+  measured = stmt_folds (limited_stmts globals locals sizes void) (stmt_fold depth_layer arm_depth_layer)
+
   abbrev S : Stmt → Type 0
-  S s = (declared : ℕ → Bool) → (stmt_scope globals locals sizes s).within declared ≡ true → (j : Jumps) → (lower_stmt locals sizes void s j).top ≤ locals + 8 * stmt_depth s
+  S s = Top (measured.stmt s)
 
   abbrev A : Arm → Type 0
-  A arm = (declared : ℕ → Bool) → arm_scope globals locals sizes arm declared ≡ true → (j : Jumps) → ((lower_arm locals sizes void arm).body j).top ≤ locals + 8 * arm_depth arm
+  A arm = ArmTop (measured.arm arm)
 
   all_top : (body : List Stmt) → Each S body → (declared : ℕ → Bool) → all_within (scopes body) declared ≡ true → (j : Jumps) → (lowered body j).top ≤ locals + 8 * greatest (map stmt_depth body)
   all_top [] h declared b j = omega arith
@@ -80,17 +91,7 @@ module _ (globals : Globals) (locals : ℕ) (sizes : ℕ → Option ℕ) (void :
   optional_top v None declared b = omega arith
   optional_top v (Some e) declared b = let k = value_top declared e b in omega (arith, k)
 
-  abbrev lowers : Stmt-F Stmt Arm → Stmt-F Placed LoweredArm
-  lowers = map-Stmt Stmt Arm Placed LoweredArm (lower_stmt locals sizes void) (lower_arm locals sizes void)
-
-  abbrev tests : Stmt-F Stmt Arm → Stmt-F Scope ArmScope
-  tests = map-Stmt Stmt Arm Scope ArmScope (stmt_scope globals locals sizes) (arm_scope globals locals sizes)
-
-  abbrev depths : Stmt-F Stmt Arm → Stmt-F ℕ ℕ
-  depths = map-Stmt Stmt Arm ℕ ℕ stmt_depth arm_depth
-
-  layer : (x : Stmt-F Stmt Arm) → source.StmtChildren S A x → (declared : ℕ → Bool) → (stmt_scope_layer globals locals sizes (tests x)).within declared ≡ true → (j : Jumps) →
-      (lower_stmt_layer locals sizes void (lowers x) j).top ≤ locals + 8 * depth_layer (depths x)
+  layer : (x : Stmt-F Stmt Arm) → StmtChildren S A x → Top (measured.stmt_layer x)
   layer (stmt.Block body) h declared b j = let k = all_top body h declared b j in omega (arith, k)
   layer (stmt.Clear l values) h declared b j =
       let known = cond (any_of (map (names_local l) values)) (with_local l declared) declared in
@@ -139,21 +140,5 @@ module _ (globals : Globals) (locals : ℕ) (sizes : ℕ → Option ℕ) (void :
   layer (stmt.Return None) h declared b j = omega arith
   layer (stmt.Return (Some e)) h declared b j = let k = value_top declared e b in omega (arith, k)
 
-  stmt_step : (x : Stmt-F Stmt Arm) → source.StmtChildren S A x → S (roll-Stmt x)
-  stmt_step x h declared b j =
-      let lowered_as = fold-roll-Stmt Placed LoweredArm (lower_stmt_layer locals sizes void) (lower_arm_layer locals sizes void) x in
-      let scoped = fold-roll-Stmt Scope ArmScope (stmt_scope_layer globals locals sizes) (arm_scope_layer globals locals sizes) x in
-      let deep_as = fold-roll-Stmt ℕ ℕ depth_layer arm_depth_layer x in
-      subst (λ (l : Placed). (l j).top ≤ locals + 8 * stmt_depth (roll-Stmt x)) (sym lowered_as)
-      (let k = layer x h declared (sym (ap (λ (z : Scope). z.within declared) scoped) ∙ b) j in omega (arith, k, deep_as))
-
-  arm_step : (x : Arm-F Stmt Arm) → Each S x.body → A (roll-Arm x)
-  arm_step x h declared b j =
-      let lowered_as = fold-roll-Arm Placed LoweredArm (lower_stmt_layer locals sizes void) (lower_arm_layer locals sizes void) x in
-      let scoped = fold-roll-Arm Scope ArmScope (stmt_scope_layer globals locals sizes) (arm_scope_layer globals locals sizes) x in
-      let deep_as = fold-roll-Arm ℕ ℕ depth_layer arm_depth_layer x in
-      subst (λ (l : LoweredArm). (l.body j).top ≤ locals + 8 * arm_depth (roll-Arm x)) (sym lowered_as)
-      (let k = all_top x.body h declared (sym (ap (λ (z : ArmScope). z declared) scoped) ∙ b) j in omega (arith, k, deep_as))
-
   pub body_top : (body : List Stmt) (declared : ℕ → Bool) → all_within (scopes body) declared ≡ true → (j : Jumps) → (lowered body j).top ≤ locals + 8 * greatest (map stmt_depth body)
-  body_top body = all_top body (source.stmts_ind S A stmt_step arm_step body)
+  body_top body = all_top body (along_stmts measured (λ s. Top) (λ a. ArmTop) layer (λ x h. all_top x.body h) body)

@@ -1,30 +1,32 @@
 -- Lowered statements are made of code that obeys the rules, with bounds on units and tree nodes for each node of the source.
-use Rattle.std.proofs.Common.{◌≡◌, ℕ, suc, ◌+◌, ◌*◌, ◌<◌, ◌≤◌, Bool, true, cond, List, [], ◌∷◌, ◌++◌, map, length, Option, Some, None, refl, sym, ◌∙◌, ap, subst, arith}
+use Rattle.std.proofs.Common.{◌≡◌, ℕ, suc, ◌+◌, ◌*◌, ◌<◌, ◌≤◌, Bool, true, cond, List, [], ◌∷◌, ◌++◌, map, length, Option, Some, None, refl, sym, ◌∙◌, ap, arith}
 use Rattle.std.specs.Prelude.{◌&&◌, nat_lt, sum, option_to_list}
 use Rattle.mv_ir.specs.declared.tree.Tree.{Tree}
 use Rattle.mv_ir.specs.declared.stm.Stm.{Stm}
 use Rattle.mv_ir.proofs.Induction.{Each}
 use Rattle.mv_ir.proofs.Keeping.{map_append}
 use Rattle.mv_ast.specs.declared.program.Expr.{Expr}
-use Rattle.mv_ast.specs.declared.program.Stmt.{Stmt, Stmt-F, roll-Stmt, map-Stmt, fold-roll-Stmt}
+use Rattle.mv_ast.specs.declared.program.Stmt.{Stmt, Stmt-F}
 use Rattle.mv_ast.specs.declared.program.Stmt.TheOpen as stmt
-use Rattle.mv_ast.specs.declared.program.Arm.{Arm, Arm-F, roll-Arm, fold-roll-Arm}
+use Rattle.mv_ast.specs.declared.program.Arm.{Arm}
 use Rattle.mv_ast.specs.Counts.{expr_nodes, stmt_sum, arm_sum, arm_total, own_nodes, stmt_nodes}
 use Rattle.mv_ast.specs.Names.{any_of, names_local}
 use Rattle.mv_lower_spec.specs.Lowered.{Lowering, number, temp, binary, set}
 use Rattle.mv_lower_spec.specs.Lower.{lower_expr}
 use Rattle.mv_lower_spec.specs.Statements.{Jumps, Placed, LoweredArm, in_body, in_arm, in_sequence, test_labels, test_arms, arm_place, all_tests, arm_code, arms_code, arms_top, lower_switch, test_and_body}
-use Rattle.mv_lower_spec.specs.LowerStatements.{lower_optional, lower_stmt_layer, lower_arm_layer, lower_stmt, lower_arm}
+use Rattle.mv_lower_spec.specs.LowerStatements.{lower_optional, lower_stmt, lower_arm}
 use Rattle.mv_lower_spec.proofs.Expressions.{split}
 use Rattle.mv_source_forms.specs.Scopes.{with_local}
-use Rattle.mv_lower_shape.proofs.Asked.{Globals, Scope, ArmScope, all_within, all_behind, arms_within, is_within, all_exprs_within, optional_within, stmt_scope_layer, arm_scope_layer, stmt_scope, arm_scope}
+use Rattle.mv_lower_shape.proofs.Asked.{Globals, Scope, ArmScope, all_within, all_behind, arms_within, is_within, all_exprs_within, optional_within, stmt_scope, arm_scope}
 use Rattle.mv_lower_shape.specs.Calls.{expr_weight, stmt_weight, arm_weight}
 use Rattle.mv_lower_shape.proofs.Rules.{Allowed, Rules, BlockRules}
 use Rattle.mv_lower_shape.proofs.Plain.{plain_set, covers_number, covers_none, covers_before, covers_binary, covers_swap}
 use Rattle.mv_lower_shape.proofs.Paid as paying
 use Rattle.mv_lower_shape.proofs.Clears as clears
 use Rattle.mv_lower_shape.proofs.Expressions.{allowed, scratch_used, sum_cons, sum_append}
-use Rattle.mv_source_forms.proofs.StatementInduction as source
+use Rattle.mv_lower_shape.proofs.Folds.{limited_stmts}
+use Rattle.mv_source_forms.proofs.StatementFolds.{StmtFolds, stmt_fold, stmt_folds, along_stmts}
+use Rattle.mv_source_forms.proofs.StatementInduction.{StmtChildren}
 
 module _ (globals : Globals) (locals : ℕ) (sizes : ℕ → Option ℕ) (void : Bool) (room : ℕ) (direct : ℕ → ℕ) (through : ℕ)
     (B : ℕ → ℕ → ℕ → ℕ → List Tree → List Stm → List Tree → Type 0)
@@ -109,9 +111,17 @@ module _ (globals : Globals) (locals : ℕ) (sizes : ℕ → Option ℕ) (void :
   abbrev scopes : List Stmt → List Scope
   scopes body = map (stmt_scope globals locals sizes) body
 
+  -- what each is lowered to, whether it is within the limits, and how many nodes and calls it has
+  abbrev counted : StmtFolds ((Placed × Scope) × (ℕ × ℕ)) ((LoweredArm × ArmScope) × (ℕ × ℕ))
+  counted =
+      stmt_folds (limited_stmts globals locals sizes void)
+      (stmt_folds (stmt_fold (stmt_sum expr_nodes own_nodes (λ a. length a.labels)) (arm_sum expr_nodes own_nodes (λ a. length a.labels))) (stmt_fold (stmt_sum weight (λ s. 0) (λ a. 0)) (arm_sum weight (λ s. 0) (λ a. 0))))
+
+  abbrev Pays : (Placed × Scope) × (ℕ × ℕ) → Type 0
+  Pays v = (declared : ℕ → Bool) → v.0.1.within declared ≡ true → (j : Jumps) → (v.0.0 j).top ≤ room → StmtPaid v.1.0 v.1.1 (v.0.0 j).code
+
   abbrev S : Stmt → Type 0
-  S s = (declared : ℕ → Bool) → (stmt_scope globals locals sizes s).within declared ≡ true → (j : Jumps) → (lower_stmt locals sizes void s j).top ≤ room →
-      StmtPaid (stmt_nodes s) (stmt_weight direct through s) (lower_stmt locals sizes void s j).code
+  S s = Pays (counted.stmt s)
 
   all_paid : (body : List Stmt) → Each S body → (declared : ℕ → Bool) → all_within (scopes body) declared ≡ true → (j : Jumps) → (lowered body j).top ≤ room →
       CodePaid (sum (map stmt_nodes body)) (sum (map (stmt_weight direct through) body)) (lowered body j).code
@@ -178,16 +188,13 @@ module _ (globals : Globals) (locals : ℕ) (sizes : ℕ → Option ℕ) (void :
         paying.paid locals B (first.units + others.units + 2) (first.words + others.words + 4) (first.nodes + others.nodes + 4) (r.weaken (omega arith) (omega arith) (omega arith) (omega (arith, k)) (entered i (lowered (s ∷ body) j).code (r.chain first.made others.made)))
         (omega (arith, first.few_units, others.few_units, n)) (omega (arith, first.few_nodes, others.few_nodes, n)) (omega (arith, first.few_words, others.few_words, n))
 
-  -- an arm, with what it was lowered to
-  pub record ArmPaid (arm : Arm) (l : LoweredArm) : Type 0 where
+  pub record ArmPaid (v : (LoweredArm × ArmScope) × (ℕ × ℕ)) : Type 0 where
     pub inner : ℕ
-    pub weight : ℕ
-    pub nodes : arm_total expr_nodes own_nodes (λ a. length a.labels) arm ≡ length l.labels + inner
-    pub weighs : arm_weight direct through arm ≡ weight
-    pub body : locals < room → (i : ℕ) (declared : ℕ → Bool) → arm_scope globals locals sizes arm declared ≡ true → (j : Jumps) → (l.body j).top ≤ room → CodePaid inner weight (arm_code locals i (l.body j).code)
+    pub nodes : v.1.0 ≡ length v.0.0.labels + inner
+    pub body : locals < room → (i : ℕ) (declared : ℕ → Bool) → v.0.1 declared ≡ true → (j : Jumps) → (v.0.0.body j).top ≤ room → CodePaid inner v.1.1 (arm_code locals i (v.0.0.body j).code)
 
   abbrev A : Arm → Type 0
-  A arm = ArmPaid arm (lower_arm locals sizes void arm)
+  A arm = ArmPaid (counted.arm arm)
 
   abbrev arms_lowered : List Arm → List LoweredArm
   arms_lowered arms = map (lower_arm locals sizes void) arms
@@ -218,7 +225,7 @@ module _ (globals : Globals) (locals : ℕ) (sizes : ℕ → Option ℕ) (void :
         units = p.units + rest.units;
         words = p.words + rest.words;
         nodes = p.nodes + rest.nodes;
-        made = r.weaken (omega arith) (omega arith) (omega arith) (omega (arith, w, h.0.weighs)) (r.chain p.made rest.made);
+        made = r.weaken (omega arith) (omega arith) (omega arith) (omega (arith, w)) (r.chain p.made rest.made);
         few_units = omega (arith, p.few_units, rest.few_units, n, h.0.nodes);
         few_nodes = omega (arith, p.few_nodes, rest.few_nodes, n, h.0.nodes);
         few_words = omega (arith, p.few_words, rest.few_words, n, h.0.nodes);
@@ -238,24 +245,6 @@ module _ (globals : Globals) (locals : ℕ) (sizes : ℕ → Option ℕ) (void :
       (omega (arith, p.few_units, q.few_units)) (omega (arith, p.few_nodes, q.few_nodes)) (omega (arith, p.few_words, q.few_words))
 
   -- ---- each form
-
-  abbrev lowers : Stmt-F Stmt Arm → Stmt-F Placed LoweredArm
-  lowers = map-Stmt Stmt Arm Placed LoweredArm (lower_stmt locals sizes void) (lower_arm locals sizes void)
-
-  abbrev tests : Stmt-F Stmt Arm → Stmt-F Scope ArmScope
-  tests = map-Stmt Stmt Arm Scope ArmScope (stmt_scope globals locals sizes) (arm_scope globals locals sizes)
-
-  abbrev counts : Stmt-F Stmt Arm → Stmt-F ℕ ℕ
-  counts = map-Stmt Stmt Arm ℕ ℕ stmt_nodes arm_nodes
-
-  abbrev weights : Stmt-F Stmt Arm → Stmt-F ℕ ℕ
-  weights = map-Stmt Stmt Arm ℕ ℕ (stmt_weight direct through) (arm_weight direct through)
-
-  abbrev node_sum : Stmt-F ℕ ℕ → ℕ
-  node_sum = stmt_sum expr_nodes own_nodes (λ a. length a.labels)
-
-  abbrev weight_sum : Stmt-F ℕ ℕ → ℕ
-  weight_sum = stmt_sum weight (λ s. 0) (λ a. 0)
 
   -- an expression that may be left out
   record OptionalPaid (e : Option Expr) (l : Lowering) : Type 0 where
@@ -285,8 +274,7 @@ module _ (globals : Globals) (locals : ℕ) (sizes : ℕ → Option ℕ) (void :
   test_paid : {s w t k s' w' t' k' : ℕ} {body : List Stm} (l : Lowering) → B s' w' t' k' [] (l locals).code ((l locals).tree ∷ []) → B s w t k [] body [] → B (s' + (s + 1 + 1)) (w' + (w + 1 + 3)) (t' + t) (k' + k) [] (test_and_body locals l body) []
   test_paid l p h = r.weaken (omega arith) (omega arith) (omega arith) (omega arith) (r.chain p (r.choose (l locals).tree h (blocks.leaves 0)))
 
-  layer : (x : Stmt-F Stmt Arm) → source.StmtChildren S A x → (declared : ℕ → Bool) → (stmt_scope_layer globals locals sizes (tests x)).within declared ≡ true → (j : Jumps) →
-      (lower_stmt_layer locals sizes void (lowers x) j).top ≤ room → StmtPaid (node_sum (counts x)) (weight_sum (weights x)) (lower_stmt_layer locals sizes void (lowers x) j).code
+  layer : (x : Stmt-F Stmt Arm) → StmtChildren S A x → Pays (counted.stmt_layer x)
   layer (stmt.Block body) h declared b j top =
       let p = all_paid body h declared b j top in
       one_more p.units p.words p.nodes (r.weaken (omega arith) (omega arith) (omega arith) (omega arith) p.made) (omega (arith, p.few_units)) (omega (arith, p.few_nodes)) (omega (arith, p.few_words))
@@ -354,31 +342,9 @@ module _ (globals : Globals) (locals : ℕ) (sizes : ℕ → Option ℕ) (void :
       one_more (p.units + 1) (p.words + 1) (p.nodes + 0) (r.weaken (omega arith) (omega arith) (omega arith) (omega arith) (r.chain p.made (blocks.returns (lower_expr e locals).tree)))
       (omega (arith, p.few_units)) (omega (arith, p.few_nodes)) (omega (arith, p.few_words))
 
-  stmt_step : (x : Stmt-F Stmt Arm) → source.StmtChildren S A x → S (roll-Stmt x)
-  stmt_step x h declared b j =
-      let lowered_as = fold-roll-Stmt Placed LoweredArm (lower_stmt_layer locals sizes void) (lower_arm_layer locals sizes void) x in
-      let scoped = fold-roll-Stmt Scope ArmScope (stmt_scope_layer globals locals sizes) (arm_scope_layer globals locals sizes) x in
-      let counted = fold-roll-Stmt ℕ ℕ node_sum (arm_sum expr_nodes own_nodes (λ a. length a.labels)) x in
-      let weighed = fold-roll-Stmt ℕ ℕ weight_sum (arm_sum weight (λ s. 0) (λ a. 0)) x in
-      subst (λ (l : Placed). (l j).top ≤ room → StmtPaid (stmt_nodes (roll-Stmt x)) (stmt_weight direct through (roll-Stmt x)) (l j).code) (sym lowered_as)
-      (λ top. stmt_as (omega (arith, counted)) (sym weighed) (layer x h declared (sym (ap (λ (z : Scope). z.within declared) scoped) ∙ b) j top))
-
-  arm_step : (x : Arm-F Stmt Arm) → Each S x.body → A (roll-Arm x)
-  arm_step x h =
-      let lowered_as = fold-roll-Arm Placed LoweredArm (lower_stmt_layer locals sizes void) (lower_arm_layer locals sizes void) x in
-      let scoped = fold-roll-Arm Scope ArmScope (stmt_scope_layer globals locals sizes) (arm_scope_layer globals locals sizes) x in
-      let counted = fold-roll-Arm ℕ ℕ node_sum (arm_sum expr_nodes own_nodes (λ a. length a.labels)) x in
-      let weighed = fold-roll-Arm ℕ ℕ weight_sum (arm_sum weight (λ s. 0) (λ a. 0)) x in
-      subst (λ (l : LoweredArm). ArmPaid (roll-Arm x) l) (sym lowered_as)
-      (record {
-        inner = sum (map stmt_nodes x.body);
-        weight = sum (map (stmt_weight direct through) x.body);
-        nodes = counted;
-        weighs = weighed ∙ omega arith;
-        body = λ there i declared b j top. enters_paid there i x.body h declared (sym (ap (λ (z : ArmScope). z declared) scoped) ∙ b) j top;
-      })
-
   -- statements that are within the limits
   pub body_paid : (body : List Stmt) (declared : ℕ → Bool) → all_within (scopes body) declared ≡ true → (j : Jumps) → (lowered body j).top ≤ room →
       CodePaid (sum (map stmt_nodes body)) (sum (map (stmt_weight direct through) body)) (lowered body j).code
-  body_paid body = all_paid body (source.stmts_ind S A stmt_step arm_step body)
+  body_paid body =
+      all_paid body
+      (along_stmts counted (λ s. Pays) (λ a. ArmPaid) layer (λ x h. record { inner = sum (map stmt_nodes x.body); nodes = refl; body = λ there i declared b j top. code_as (omega arith) (omega arith) (enters_paid there i x.body h declared b j top) }) body)

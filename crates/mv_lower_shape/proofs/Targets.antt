@@ -1,6 +1,6 @@
 -- The jumps of lowered code have targets.
 use mathlib.Core.Bool.{and-true}
-use Rattle.std.proofs.Common.{◌≡◌, ℕ, suc, ◌<◌, Bool, true, false, cond, List, [], ◌∷◌, ◌++◌, map, length, Option, Some, None, refl, sym, ◌∙◌, ap, subst, arith}
+use Rattle.std.proofs.Common.{◌≡◌, ℕ, suc, ◌<◌, Bool, true, false, cond, List, [], ◌∷◌, ◌++◌, map, length, Option, Some, None, refl, ◌∙◌, ap, arith}
 use Rattle.std.specs.Prelude.{◌&&◌, nat_lt}
 use Rattle.std.proofs.lemmas.Bool.{lt-ltb, and_from}
 use Rattle.mv_ir.specs.declared.tree.Tree.{Tree}
@@ -14,22 +14,24 @@ use Rattle.mv_ir.proofs.Induction.{Each}
 use Rattle.mv_ir.proofs.Keeping.{map_append}
 use Rattle.mv_ir.proofs.Rolls.{targets_roll}
 use Rattle.mv_ast.specs.declared.program.Expr.{Expr}
-use Rattle.mv_ast.specs.declared.program.Stmt.{Stmt, Stmt-F, roll-Stmt, map-Stmt, fold-roll-Stmt}
+use Rattle.mv_ast.specs.declared.program.Stmt.{Stmt, Stmt-F}
 use Rattle.mv_ast.specs.declared.program.Stmt.TheOpen as stmt
-use Rattle.mv_ast.specs.declared.program.Arm.{Arm, Arm-F, roll-Arm, fold-roll-Arm}
+use Rattle.mv_ast.specs.declared.program.Arm.{Arm}
 use Rattle.mv_ast.specs.Names.{any_of, names_local}
 use Rattle.mv_lower_spec.specs.Lowered.{Lowering, number, temp, binary, set, choose}
 use Rattle.mv_lower_spec.specs.Lower.{lower_expr}
 use Rattle.mv_lower_spec.specs.Statements.{Jumps, Placed, LoweredArm, in_body, in_arm, in_sequence, test_labels, test_arms, arm_place, all_tests, arm_code, arms_code, values_top, break, enclosed, repeat, return_with, test_and_body}
-use Rattle.mv_lower_spec.specs.LowerStatements.{lower_optional, lower_stmt_layer, lower_arm_layer, lower_stmt, lower_arm}
+use Rattle.mv_lower_spec.specs.LowerStatements.{lower_optional, lower_stmt, lower_arm}
 use Rattle.mv_lower_spec.proofs.Expressions.{split}
 use Rattle.mv_source_forms.specs.Jumps.{Jumping, all_jump, jumps_layer, arm_jumps_layer, stmt_jumps, arm_jumps}
 use Rattle.mv_source_forms.specs.Scopes.{with_local}
-use Rattle.mv_lower_shape.proofs.Asked.{Globals, Scope, ArmScope, all_within, all_behind, arms_within, is_within, all_exprs_within, optional_within, stmt_scope_layer, arm_scope_layer, stmt_scope, arm_scope}
+use Rattle.mv_lower_shape.proofs.Asked.{Globals, Scope, ArmScope, all_within, all_behind, arms_within, is_within, all_exprs_within, optional_within, stmt_scope, arm_scope}
 use Rattle.mv_lower_shape.proofs.Rules.{Allowed, Rules}
 use Rattle.mv_lower_shape.proofs.Expressions.{allowed}
 use Rattle.mv_lower_shape.proofs.Clears as clears
-use Rattle.mv_source_forms.proofs.StatementInduction as source
+use Rattle.mv_lower_shape.proofs.Folds.{limited_stmts}
+use Rattle.mv_source_forms.proofs.StatementFolds.{StmtFolds, stmt_fold, stmt_folds, along_stmts}
+use Rattle.mv_source_forms.proofs.StatementInduction.{StmtChildren}
 
 -- the jumps of some code have targets, where these loops and blocks are around it
 abbrev pub HasTargets : List Bool → List Stm → Type 0
@@ -105,11 +107,20 @@ module _ (globals : Globals) (locals : ℕ) (sizes : ℕ → Option ℕ) (void :
   abbrev leading : List Stmt → Jumping
   leading body = all_jump (map stmt_jumps body)
 
+  abbrev Leading : (Placed × Scope) × Jumping → Type 0
+  Leading x = (declared : ℕ → Bool) → x.0.1.within declared ≡ true → (u v : Bool) → x.1 u v ≡ true → (j : Jumps) (r : List Bool) → Leads u v j r → HasTargets r (x.0.0 j).code
+
+  abbrev ArmLeading : (LoweredArm × ArmScope) × Jumping → Type 0
+  ArmLeading x = (declared : ℕ → Bool) → x.0.1 declared ≡ true → (u v : Bool) → x.1 u v ≡ true → (j : Jumps) (r : List Bool) → Leads u v j r → HasTargets r (x.0.0.body j).code
+
+  abbrev leading_on : StmtFolds ((Placed × Scope) × Jumping) ((LoweredArm × ArmScope) × Jumping)
+  leading_on = stmt_folds (limited_stmts globals locals sizes void) (stmt_fold jumps_layer arm_jumps_layer)
+
   abbrev S : Stmt → Type 0
-  S s = (declared : ℕ → Bool) → (stmt_scope globals locals sizes s).within declared ≡ true → (u v : Bool) → stmt_jumps s u v ≡ true → (j : Jumps) (r : List Bool) → Leads u v j r → HasTargets r (lower_stmt locals sizes void s j).code
+  S s = Leading (leading_on.stmt s)
 
   abbrev A : Arm → Type 0
-  A arm = (declared : ℕ → Bool) → arm_scope globals locals sizes arm declared ≡ true → (u v : Bool) → arm_jumps arm u v ≡ true → (j : Jumps) (r : List Bool) → Leads u v j r → HasTargets r ((lower_arm locals sizes void arm).body j).code
+  A arm = ArmLeading (leading_on.arm arm)
 
   all_targets : (body : List Stmt) → Each S body → (declared : ℕ → Bool) → all_within (scopes body) declared ≡ true → (u v : Bool) → leading body u v ≡ true → (j : Jumps) (r : List Bool) → Leads u v j r → HasTargets r (lowered body j).code
   all_targets [] h declared b u v l j r k = refl
@@ -165,9 +176,7 @@ module _ (globals : Globals) (locals : ℕ) (sizes : ℕ → Option ℕ) (void :
   body_targets body h declared b u v l j r k =
       targets_one (true ∷ r) (stm.Block (lowered body (in_body j)).code) (all_targets body h declared b true true l (in_body j) (false ∷ (true ∷ r)) (leads_in_loop u v j r k))
 
-  layer : (x : Stmt-F Stmt Arm) → source.StmtChildren S A x → (declared : ℕ → Bool) → (stmt_scope_layer globals locals sizes (map-Stmt Stmt Arm Scope ArmScope (stmt_scope globals locals sizes) (arm_scope globals locals sizes) x)).within declared ≡ true →
-      (u v : Bool) → jumps_layer (map-Stmt Stmt Arm Jumping Jumping stmt_jumps arm_jumps x) u v ≡ true → (j : Jumps) (r : List Bool) → Leads u v j r →
-      HasTargets r (lower_stmt_layer locals sizes void (map-Stmt Stmt Arm Placed LoweredArm (lower_stmt locals sizes void) (lower_arm locals sizes void) x) j).code
+  layer : (x : Stmt-F Stmt Arm) → StmtChildren S A x → Leading (leading_on.stmt_layer x)
   layer (stmt.Block body) h declared b u v l j r k = all_targets body h declared b u v l j r k
   layer (stmt.Clear m values) h declared b u v l j r k =
       let itself = any_of (map (names_local m) values) in
@@ -229,21 +238,5 @@ module _ (globals : Globals) (locals : ℕ) (sizes : ℕ → Option ℕ) (void :
   layer (stmt.Return (Some e)) h declared b u v l j r k =
       targets_append r (lower_expr e locals).code (return_with (lower_expr e locals).tree ∷ []) (value declared e b r) (targets_one r (stm.Return (lower_expr e locals).tree) refl)
 
-  stmt_step : (x : Stmt-F Stmt Arm) → source.StmtChildren S A x → S (roll-Stmt x)
-  stmt_step x h declared b u v l j r k =
-      let lowered_as = fold-roll-Stmt Placed LoweredArm (lower_stmt_layer locals sizes void) (lower_arm_layer locals sizes void) x in
-      let scoped = fold-roll-Stmt Scope ArmScope (stmt_scope_layer globals locals sizes) (arm_scope_layer globals locals sizes) x in
-      let led = fold-roll-Stmt Jumping Jumping jumps_layer arm_jumps_layer x in
-      subst (λ (m : Placed). HasTargets r (m j).code) (sym lowered_as)
-      (layer x h declared (sym (ap (λ (z : Scope). z.within declared) scoped) ∙ b) u v (sym (ap (λ (f : Jumping). f u v) led) ∙ l) j r k)
-
-  arm_step : (x : Arm-F Stmt Arm) → Each S x.body → A (roll-Arm x)
-  arm_step x h declared b u v l j r k =
-      let lowered_as = fold-roll-Arm Placed LoweredArm (lower_stmt_layer locals sizes void) (lower_arm_layer locals sizes void) x in
-      let scoped = fold-roll-Arm Scope ArmScope (stmt_scope_layer globals locals sizes) (arm_scope_layer globals locals sizes) x in
-      let led = fold-roll-Arm Jumping Jumping jumps_layer arm_jumps_layer x in
-      subst (λ (m : LoweredArm). HasTargets r (m.body j).code) (sym lowered_as)
-      (all_targets x.body h declared (sym (ap (λ (z : ArmScope). z declared) scoped) ∙ b) u v (sym (ap (λ (f : Jumping). f u v) led) ∙ l) j r k)
-
   pub code_targets : (body : List Stmt) (declared : ℕ → Bool) → all_within (scopes body) declared ≡ true → (u v : Bool) → leading body u v ≡ true → (j : Jumps) (r : List Bool) → Leads u v j r → HasTargets r (lowered body j).code
-  code_targets body = all_targets body (source.stmts_ind S A stmt_step arm_step body)
+  code_targets body = all_targets body (along_stmts leading_on (λ s. Leading) (λ a. ArmLeading) layer (λ x h. all_targets x.body h) body)

@@ -11,7 +11,7 @@ use Rattle.mv_ir.proofs.Rolls.{flow_roll}
 use Rattle.mv_lower_spec.specs.Lowered.{choose}
 use Rattle.mv_lower_spec.specs.Statements.{repeat, enclosed}
 use Rattle.mv_lower_shape.proofs.Rules.{Allowed, Rules, BlockRules, IsAllowed, result}
-use Rattle.mv_lower_shape.proofs.Plain.{any_append as reads_append}
+use Rattle.mv_ir.proofs.Joining.{any_reads_append}
 use Rattle.mv_lower_shape.proofs.Flowing.{live_at, marks_at, live_append, marked_append, any_append, live_one, marked_one, temp_reads, global_reads, another, not_true}
 
 -- around code behind which a temporary is nowhere live
@@ -104,9 +104,9 @@ module _ (u : ℕ) where
       choose = λ {s} {w} {t} {k} {s'} {w'} {t'} {k'} {ys} {zs} {us} x h h'. chosen x h h';
       chain = λ {s} {w} {t} {k} {s'} {w'} {t'} {k'} {xs} {ys} {ts} {us} {vs} h h'. chained h h';
       beside = λ {s} {w} {t} {k} {xs} {ts} {us} rest h. record {
-        left = λ e. let es = or_parts (any_reads u ts) (any_reads u rest) (sym (reads_append u ts rest) ∙ e) in reads_append u us rest ∙ or_from (any_reads u us) (any_reads u rest) (h.left es.0) es.1;
-        dead = λ e. h.dead (or_parts (any_reads u ts) (any_reads u rest) (sym (reads_append u ts rest) ∙ e)).0;
-        bare = λ e. h.bare (or_parts (any_reads u ts) (any_reads u rest) (sym (reads_append u ts rest) ∙ e)).0;
+        left = λ e. let es = or_parts (any_reads u ts) (any_reads u rest) (sym (any_reads_append u ts rest) ∙ e) in any_reads_append u us rest ∙ or_from (any_reads u us) (any_reads u rest) (h.left es.0) es.1;
+        dead = λ e. h.dead (or_parts (any_reads u ts) (any_reads u rest) (sym (any_reads_append u ts rest) ∙ e)).0;
+        bare = λ e. h.bare (or_parts (any_reads u ts) (any_reads u rest) (sym (any_reads_append u ts rest) ∙ e)).0;
       };
       weaken = λ {s} {w} {t} {k} {s'} {w'} {t'} {k'} {xs} {ts} {us} ls lw lt e h. record { left = h.left; dead = h.dead; bare = h.bare };
     }

@@ -10,24 +10,26 @@ use Rattle.mv_ir.specs.Live.{reads_temp, any_reads, Around, with_after, around_b
 use Rattle.mv_ir.proofs.Induction.{Each}
 use Rattle.mv_ir.proofs.Rolls.{flow_roll, reads_temp_roll}
 use Rattle.mv_ast.specs.declared.program.Expr.{Expr}
-use Rattle.mv_ast.specs.declared.program.Stmt.{Stmt, Stmt-F, roll-Stmt, map-Stmt, fold-roll-Stmt}
+use Rattle.mv_ast.specs.declared.program.Stmt.{Stmt, Stmt-F}
 use Rattle.mv_ast.specs.declared.program.Stmt.TheOpen as stmt
-use Rattle.mv_ast.specs.declared.program.Arm.{Arm, Arm-F, roll-Arm, fold-roll-Arm}
+use Rattle.mv_ast.specs.declared.program.Arm.{Arm}
 use Rattle.mv_ast.specs.Names.{any_of, names_local}
 use Rattle.mv_lower_spec.specs.Lowered.{Lowering, number, temp, binary, set, choose}
 use Rattle.mv_lower_spec.specs.Lower.{lower_expr}
 use Rattle.mv_source_forms.specs.Names.{is_scalar}
 use Rattle.mv_lower_spec.specs.Statements.{Jumps, Placed, LoweredArm, in_body, in_arm, in_sequence, store_zeros, store_values, values_top, lower_clear, test_labels, test_arms, arm_place, all_tests, arm_code, arms_code, arms_top, lower_switch, break, enclosed, repeat, return_with, test_and_body}
-use Rattle.mv_lower_spec.specs.LowerStatements.{lower_optional, lower_stmt_layer, lower_arm_layer, lower_stmt, lower_arm}
+use Rattle.mv_lower_spec.specs.LowerStatements.{lower_optional, lower_stmt, lower_arm}
 use Rattle.mv_lower_spec.proofs.Expressions.{split, no}
 use Rattle.mv_source_forms.specs.Scopes.{with_local}
-use Rattle.mv_lower_shape.proofs.Asked.{Globals, Scope, ArmScope, all_within, all_behind, arms_within, is_within, all_exprs_within, optional_within, stmt_scope_layer, arm_scope_layer, stmt_scope, arm_scope}
+use Rattle.mv_lower_shape.proofs.Asked.{Globals, Scope, ArmScope, all_within, all_behind, arms_within, is_within, all_exprs_within, optional_within, stmt_scope, arm_scope}
 use Rattle.mv_lower_shape.proofs.Rules.{Allowed}
 use Rattle.mv_lower_shape.proofs.Expressions.{allowed}
 use Rattle.mv_lower_shape.proofs.Clears as clears
 use Rattle.mv_lower_shape.proofs.Flowing.{live_at, live_append, live_one, reads_one}
 use Rattle.mv_lower_shape.proofs.Passing as passing
-use Rattle.mv_source_forms.proofs.StatementInduction as source
+use Rattle.mv_lower_shape.proofs.Folds.{limited_stmts}
+use Rattle.mv_source_forms.proofs.StatementFolds.{StmtFolds, along_stmts}
+use Rattle.mv_source_forms.proofs.StatementInduction.{StmtChildren}
 
 -- a temporary that is live behind none of the places to which control may lead
 pub record IsShut (j : Jumps) (r : Around) : Type 0 where
@@ -105,8 +107,14 @@ module _ (globals : Globals) (locals : ℕ) (sizes : ℕ → Option ℕ) (void :
       (declared : ℕ → Bool) → within declared ≡ true → declared u ≡ false → (j : Jumps) → (l j).top ≤ room → (r : Around) → IsShut j r → (behind declared u ≡ false → r.next ≡ false) →
       live_at u (l j).code r ≡ false
 
+  abbrev limited : StmtFolds (Placed × Scope) (LoweredArm × ArmScope)
+  limited = limited_stmts globals locals sizes void
+
+  abbrev Dead : Placed × Scope → Type 0
+  Dead v = IsDead v.1.within v.1.behind v.0
+
   abbrev S : Stmt → Type 0
-  S s = IsDead (stmt_scope globals locals sizes s).within (stmt_scope globals locals sizes s).behind (lower_stmt locals sizes void s)
+  S s = Dead (limited.stmt s)
 
   all_dead : (body : List Stmt) → Each S body → IsDead (all_within (scopes body)) (all_behind (scopes body)) (lowered body)
   all_dead [] h declared b k j top r q n = n k
@@ -186,10 +194,12 @@ module _ (globals : Globals) (locals : ℕ) (sizes : ℕ → Option ℕ) (void :
   in_switch : (j : Jumps) (r : Around) → IsShut j r → r.next ≡ false → IsShut (in_arm j) (around_block r)
   in_switch j r q n = record { leave = n; again = q.again; around = q.around }
 
+  abbrev ArmDead : LoweredArm × ArmScope → Type 0
+  ArmDead v =
+      (declared : ℕ → Bool) → v.1 declared ≡ true → declared u ≡ false → (j : Jumps) → (v.0.body j).top ≤ room → (r : Around) → IsShut j r → r.next ≡ false → live_at u (v.0.body j).code r ≡ false
+
   abbrev A : Arm → Type 0
-  A arm =
-      (declared : ℕ → Bool) → arm_scope globals locals sizes arm declared ≡ true → declared u ≡ false → (j : Jumps) → ((lower_arm locals sizes void arm).body j).top ≤ room → (r : Around) → IsShut j r → r.next ≡ false →
-      live_at u ((lower_arm locals sizes void arm).body j).code r ≡ false
+  A arm = ArmDead (limited.arm arm)
 
   abbrev arms_lowered : List Arm → List LoweredArm
   arms_lowered arms = map (lower_arm locals sizes void) arms
@@ -286,17 +296,11 @@ module _ (globals : Globals) (locals : ℕ) (sizes : ℕ → Option ℕ) (void :
 
   -- ---- each form
 
-  abbrev lowers : Stmt-F Stmt Arm → Stmt-F Placed LoweredArm
-  lowers = map-Stmt Stmt Arm Placed LoweredArm (lower_stmt locals sizes void) (lower_arm locals sizes void)
-
-  abbrev tests : Stmt-F Stmt Arm → Stmt-F Scope ArmScope
-  tests = map-Stmt Stmt Arm Scope ArmScope (stmt_scope globals locals sizes) (arm_scope globals locals sizes)
-
   -- where nothing more is declared
   within_dead : (body : List Stmt) → Each S body → (declared : ℕ → Bool) → all_within (scopes body) declared ≡ true → declared u ≡ false → (j : Jumps) → (lowered body j).top ≤ room → (r : Around) → IsShut j r → r.next ≡ false → live_at u (lowered body j).code r ≡ false
   within_dead body h declared b k j top r q n = all_dead body h declared b k j top r q (λ e. n)
 
-  layer : (x : Stmt-F Stmt Arm) → source.StmtChildren S A x → IsDead (stmt_scope_layer globals locals sizes (tests x)).within (stmt_scope_layer globals locals sizes (tests x)).behind (lower_stmt_layer locals sizes void (lowers x))
+  layer : (x : Stmt-F Stmt Arm) → StmtChildren S A x → Dead (limited.stmt_layer x)
   layer (stmt.Block body) h declared b k j top r q n = within_dead body h declared b k j top r q (n k)
   layer (stmt.Clear l values) h declared b k j top r q n =
       let itself = any_of (map (names_local l) values) in
@@ -367,19 +371,5 @@ module _ (globals : Globals) (locals : ℕ) (sizes : ℕ → Option ℕ) (void :
       then_dead (lower_expr e locals).code (return_with t ∷ []) t (value declared e b k top) r
       (λ reads. live_one u (stm.Return t) (plain u (t ∷ []) None (λ r. false)) r (flow_roll u (stm.Return t)) ∙ or_from (any_reads u (t ∷ [])) false (reads_one u t ∙ reads) refl)
 
-  stmt_step : (x : Stmt-F Stmt Arm) → source.StmtChildren S A x → S (roll-Stmt x)
-  stmt_step x h declared b k j =
-      let lowered_as = fold-roll-Stmt Placed LoweredArm (lower_stmt_layer locals sizes void) (lower_arm_layer locals sizes void) x in
-      let scoped = fold-roll-Stmt Scope ArmScope (stmt_scope_layer globals locals sizes) (arm_scope_layer globals locals sizes) x in
-      subst (λ (l : Placed). (l j).top ≤ room → (r : Around) → IsShut j r → ((stmt_scope globals locals sizes (roll-Stmt x)).behind declared u ≡ false → r.next ≡ false) → live_at u (l j).code r ≡ false) (sym lowered_as)
-      (λ top r q n. layer x h declared (sym (ap (λ (z : Scope). z.within declared) scoped) ∙ b) k j top r q (λ e. n (ap (λ (z : Scope). z.behind declared u) scoped ∙ e)))
-
-  arm_step : (x : Arm-F Stmt Arm) → Each S x.body → A (roll-Arm x)
-  arm_step x h declared b k j =
-      let lowered_as = fold-roll-Arm Placed LoweredArm (lower_stmt_layer locals sizes void) (lower_arm_layer locals sizes void) x in
-      let scoped = fold-roll-Arm Scope ArmScope (stmt_scope_layer globals locals sizes) (arm_scope_layer globals locals sizes) x in
-      subst (λ (l : LoweredArm). (l.body j).top ≤ room → (r : Around) → IsShut j r → r.next ≡ false → live_at u (l.body j).code r ≡ false) (sym lowered_as)
-      (λ top r q n. within_dead x.body h declared (sym (ap (λ (z : ArmScope). z declared) scoped) ∙ b) k j top r q n)
-
   pub body_dead : (body : List Stmt) (declared : ℕ → Bool) → all_within (scopes body) declared ≡ true → declared u ≡ false → (j : Jumps) → (lowered body j).top ≤ room → (r : Around) → IsShut j r → r.next ≡ false → live_at u (lowered body j).code r ≡ false
-  body_dead body = within_dead body (source.stmts_ind S A stmt_step arm_step body)
+  body_dead body = within_dead body (along_stmts limited (λ s. Dead) (λ a. ArmDead) layer (λ x h. within_dead x.body h) body)

@@ -5,9 +5,9 @@ use Rattle.std.proofs.lemmas.Bool.{and_from}
 use Rattle.mv_ast.specs.declared.program.Program.{Program}
 use Rattle.mv_ast.specs.declared.program.Function.{Function}
 use Rattle.mv_ast.specs.declared.program.Expr.{Expr}
-use Rattle.mv_ast.specs.declared.program.Stmt.{Stmt, Stmt-F, roll-Stmt, map-Stmt, fold-roll-Stmt, out-roll-Stmt}
+use Rattle.mv_ast.specs.declared.program.Stmt.{Stmt, Stmt-F, roll-Stmt, out-roll-Stmt}
 use Rattle.mv_ast.specs.declared.program.Stmt.TheOpen as stmt
-use Rattle.mv_ast.specs.declared.program.Arm.{Arm, Arm-F, fold-Arm, roll-Arm, fold-roll-Arm, out-roll-Arm}
+use Rattle.mv_ast.specs.declared.program.Arm.{Arm, Arm-F, fold-Arm, roll-Arm, out-roll-Arm}
 use Rattle.mv_ast.specs.Counts.{words_of_size}
 use Rattle.mv_ast.specs.Names.{any_of, names_local}
 use Rattle.mv_ir.proofs.Induction.{Each}
@@ -26,14 +26,9 @@ use Rattle.mv_lower_shape.proofs.Asked.{Globals, ArmScope, is_within, all_within
 use Rattle.mv_lower_shape.proofs.Holding as holding
 use Rattle.mv_lower_shape.proofs.Holding.{any_left, any_right}
 use Rattle.mv_lower_shape.proofs.WithinExpressions as exprs
-use Rattle.mv_source_forms.proofs.StatementInduction as source
-
-all_apart : (xs ys : List Bool) → all_of (xs ++ ys) ≡ true → (all_of xs ≡ true) × (all_of ys ≡ true)
-all_apart [] ys e = (refl, e)
-all_apart (x ∷ xs) ys e =
-    let s = split x (all_of (xs ++ ys)) e in
-    let rest = all_apart xs ys s.1 in
-    (and_from x (all_of xs) s.0 rest.0, rest.1)
+use Rattle.mv_source_forms.proofs.Tests.{all_apart}
+use Rattle.mv_source_forms.proofs.StatementFolds.{StmtFolds, stmt_fold, stmt_folds, stmt_family, along_stmts}
+use Rattle.mv_source_forms.proofs.StatementInduction.{StmtChildren}
 
 -- a name of another local is declared without this one
 narrowed : (l : ℕ) (scope : Scope) (k : ℕ) → but_for l k ≡ true → with_local l scope k ≡ true → scope k ≡ true
@@ -127,49 +122,48 @@ module _ (p : Program) (own : ℕ) (fn : Function) (globals : Globals) (locals :
   abbrev scope_of_arm : Arm → ArmScope
   scope_of_arm = arm_scope globals locals sizes
 
-  record GoodStmt (s : Stmt) (scope : Scope) : Type 0 where
-    typed : TypedStmt p fn s
-    formed : F s ≡ true
-    scoped : (stmt_scoped s).holds scope ≡ true
-    known : KS s ≡ true
-    held : Holds (λ r a. stmt_reads r a s)
+  -- what is known of a statement, an arm, a list of these, or of one layer
+  pub record Good (T : Type 0) (is_formed is_scoped is_known : Bool) (reads : holding.Reading) : Type 0 where
+    pub typed : T
+    pub formed : is_formed ≡ true
+    pub scoped : is_scoped ≡ true
+    pub known : is_known ≡ true
+    pub held : Holds reads
 
-  record GoodArm (arm : Arm) (scope : Scope) : Type 0 where
-    typed : TypedArm p fn arm
-    formed : FA arm ≡ true
-    scoped : arm_scoped arm scope ≡ true
-    known : KA arm ≡ true
-    held : Holds (λ r a. arm_reads r a arm)
+  abbrev pub GoodBody : List Stmt → Scope → Type 0
+  GoodBody body scope = Good (AllStmts p fn body) (all_of (map F body)) (all_scoped (map stmt_scoped body) scope) (all_of (map KS body)) (λ r a. any_of (map (stmt_reads r a) body))
 
-  pub record GoodBody (body : List Stmt) (scope : Scope) : Type 0 where
-    pub typed : AllStmts p fn body
-    pub formed : all_of (map F body) ≡ true
-    pub scoped : all_scoped (map stmt_scoped body) scope ≡ true
-    pub known : all_of (map KS body) ≡ true
-    pub held : Holds (λ r a. any_of (map (stmt_reads r a) body))
+  abbrev GoodArms : List Arm → Scope → Type 0
+  GoodArms arms scope = Good (AllArms p fn arms) (all_of (map FA arms)) (all_of (map (λ (a : Scope → Bool). a scope) (map arm_scoped arms))) (all_of (map KA arms)) (λ r a. any_of (map (arm_reads r a) arms))
 
-  record GoodArms (arms : List Arm) (scope : Scope) : Type 0 where
-    typed : AllArms p fn arms
-    formed : all_of (map FA arms) ≡ true
-    scoped : all_of (map (λ (a : Scope → Bool). a scope) (map arm_scoped arms)) ≡ true
-    known : all_of (map KA arms) ≡ true
-    held : Holds (λ r a. any_of (map (arm_reads r a) arms))
+  -- of each, whether it is within the limits, well formed, in scope and calls what is known, and what it reads
+  abbrev judged : StmtFolds (asked.Scope × ((Bool × Scoped) × (Bool × holding.Reading))) (ArmScope × ((Bool × (Scope → Bool)) × (Bool × holding.Reading)))
+  judged =
+      stmt_folds (stmt_fold (stmt_scope_layer globals locals sizes) (arm_scope_layer globals locals sizes))
+      (stmt_folds (stmt_folds (stmt_fold (stmt_named_layer p own locals sizes void) (arm_named_layer p own locals sizes void)) (stmt_fold scoped_layer arm_scoped_layer))
+      (stmt_folds (stmt_fold (all_layer K) all_arm_layer) (stmt_family (λ (r : ℕ → Bool). stmt_family (λ (a : ℕ → Bool). stmt_fold (stmt_reads_layer r a) (arm_reads_layer r a))))))
 
-  record Inside (s : Stmt) : Type 0 where
-    within : (scope : Scope) → GoodStmt s scope → (scope_of s).within scope ≡ true
-    behind : (scope : Scope) → (scope_of s).behind scope ≡ with_declared (stmt_scoped s).declares scope
+  record Inside (s : Stmt) (v : asked.Scope × ((Bool × Scoped) × (Bool × holding.Reading))) : Type 0 where
+    within : (scope : Scope) → Good (TypedStmt p fn s) v.1.0.0 (v.1.0.1.holds scope) v.1.1.0 v.1.1.1 → v.0.within scope ≡ true
+    behind : (scope : Scope) → v.0.behind scope ≡ with_declared v.1.0.1.declares scope
 
-  record ArmInside (arm : Arm) : Type 0 where
-    within : (scope : Scope) → GoodArm arm scope → scope_of_arm arm scope ≡ true
+  abbrev ArmInside : Arm → ArmScope × ((Bool × (Scope → Bool)) × (Bool × holding.Reading)) → Type 0
+  ArmInside arm v = (scope : Scope) → Good (TypedArm p fn arm) v.1.0.0 (v.1.0.1 scope) v.1.1.0 v.1.1.1 → v.0 scope ≡ true
+
+  abbrev S : Stmt → Type 0
+  S s = Inside s (judged.stmt s)
+
+  abbrev A : Arm → Type 0
+  A arm = ArmInside arm (judged.arm arm)
 
   abbrev scopes : List Stmt → List asked.Scope
   scopes body = map scope_of body
 
-  behind_all : (body : List Stmt) → Each Inside body → (scope : Scope) → all_behind (scopes body) scope ≡ scope_behind (map stmt_scoped body) scope
+  behind_all : (body : List Stmt) → Each S body → (scope : Scope) → all_behind (scopes body) scope ≡ scope_behind (map stmt_scoped body) scope
   behind_all [] h scope = refl
   behind_all (s ∷ body) h scope = ap (λ d. all_behind (scopes body) d) (h.0.behind scope) ∙ behind_all body h.1 (with_declared (stmt_scoped s).declares scope)
 
-  all_inside : (body : List Stmt) → Each Inside body → (scope : Scope) → GoodBody body scope → all_within (scopes body) scope ≡ true
+  all_inside : (body : List Stmt) → Each S body → (scope : Scope) → GoodBody body scope → all_within (scopes body) scope ≡ true
   all_inside [] h scope g = refl
   all_inside (s ∷ body) h scope g =
       let next = with_declared (stmt_scoped s).declares scope in
@@ -183,7 +177,7 @@ module _ (p : Program) (own : ℕ) (fn : Function) (globals : Globals) (locals :
       (ap (λ d. all_within (scopes body) d) (h.0.behind scope) ∙
       all_inside body h.1 next (record { typed = g.typed.1; formed = fs.1; scoped = ss.1; known = ks.1; held = right one others g.held }))
 
-  arms_inside : (arms : List Arm) → Each ArmInside arms → (scope : Scope) → GoodArms arms scope → arms_within (map scope_of_arm arms) scope ≡ true
+  arms_inside : (arms : List Arm) → Each A arms → (scope : Scope) → GoodArms arms scope → arms_within (map scope_of_arm arms) scope ≡ true
   arms_inside [] h scope g = refl
   arms_inside (arm ∷ arms) h scope g =
       let fs = split (FA arm) (all_of (map FA arms)) g.formed in
@@ -192,35 +186,12 @@ module _ (p : Program) (own : ℕ) (fn : Function) (globals : Globals) (locals :
       let one : holding.Reading = λ r a. arm_reads r a arm in
       let others : holding.Reading = λ r a. any_of (map (arm_reads r a) arms) in
       and_from (scope_of_arm arm scope) (arms_within (map scope_of_arm arms) scope)
-      (h.0.within scope (record { typed = g.typed.0; formed = fs.0; scoped = ss.0; known = ks.0; held = left one others g.held }))
+      (h.0 scope (record { typed = g.typed.0; formed = fs.0; scoped = ss.0; known = ks.0; held = left one others g.held }))
       (arms_inside arms h.1 scope (record { typed = g.typed.1; formed = fs.1; scoped = ss.1; known = ks.1; held = right one others g.held }))
 
   -- ---- each form
 
-  abbrev formed_parts : Stmt-F Stmt Arm → Stmt-F Bool Bool
-  formed_parts = map-Stmt Stmt Arm Bool Bool F FA
-
-  abbrev scoped_parts : Stmt-F Stmt Arm → Stmt-F Scoped (Scope → Bool)
-  scoped_parts = map-Stmt Stmt Arm Scoped (Scope → Bool) stmt_scoped arm_scoped
-
-  abbrev known_parts : Stmt-F Stmt Arm → Stmt-F Bool Bool
-  known_parts = map-Stmt Stmt Arm Bool Bool KS KA
-
-  abbrev read_parts : (r a : ℕ → Bool) → Stmt-F Stmt Arm → Stmt-F Bool Bool
-  read_parts r a = map-Stmt Stmt Arm Bool Bool (stmt_reads r a) (arm_reads r a)
-
-  abbrev within_parts : Stmt-F Stmt Arm → Stmt-F asked.Scope ArmScope
-  within_parts = map-Stmt Stmt Arm asked.Scope ArmScope scope_of scope_of_arm
-
-  record GoodLayer (x : Stmt-F Stmt Arm) (scope : Scope) : Type 0 where
-    typed : HasTypedParts p fn x
-    parts : StmtParts p fn x
-    formed : stmt_named_layer p own locals sizes void (formed_parts x) ≡ true
-    scoped : (scoped_layer (scoped_parts x)).holds scope ≡ true
-    known : all_layer K (known_parts x) ≡ true
-    held : Holds (λ r a. stmt_reads_layer r a (read_parts r a x))
-
-  behind_layer : (x : Stmt-F Stmt Arm) (scope : Scope) → (stmt_scope_layer globals locals sizes (within_parts x)).behind scope ≡ with_declared (scoped_layer (scoped_parts x)).declares scope
+  behind_layer : (x : Stmt-F Stmt Arm) (scope : Scope) → (let w = judged.stmt_layer x in w.0.behind scope ≡ with_declared w.1.0.1.declares scope)
   behind_layer (stmt.Block body) scope = refl
   behind_layer (stmt.Clear l values) scope = refl
   behind_layer (stmt.Express e) scope = refl
@@ -240,7 +211,7 @@ module _ (p : Program) (own : ℕ) (fn : Function) (globals : Globals) (locals :
   reads_arms arms r a = any_of (map (arm_reads r a) arms)
 
   -- an expression, and statements behind it
-  tested : (e : Expr) (body : List Stmt) → Each Inside body → (scope : Scope) → IsTypedExpr p fn e → AllStmts p fn body → (N e && all_of (map F body)) ≡ true →
+  tested : (e : Expr) (body : List Stmt) → Each S body → (scope : Scope) → IsTypedExpr p fn e → AllStmts p fn body → (N e && all_of (map F body)) ≡ true →
       (names_declared scope e && all_scoped (map stmt_scoped body) scope) ≡ true → ((K e && true) && all_of (map KS body)) ≡ true →
       Holds (λ r a. (R e r a || false) || reads_all body r a) → (I scope e && all_within (scopes body) scope) ≡ true
   tested e body h scope t ts f s k r =
@@ -268,8 +239,9 @@ module _ (p : Program) (own : ℕ) (fn : Function) (globals : Globals) (locals :
         holding.holds_within globals count is_own (reads_exprs ys) (reads_exprs (xs ++ ys)) (λ r a e. q r a ∙ any_right (map (expr_reads r a) xs) (map (expr_reads r a) ys) e) h,
       )
 
-  layer : (x : Stmt-F Stmt Arm) → source.StmtChildren Inside ArmInside x → (scope : Scope) → GoodLayer x scope → (stmt_scope_layer globals locals sizes (within_parts x)).within scope ≡ true
-  layer (stmt.Block body) h scope g = all_inside body h scope (record { typed = g.parts; formed = g.formed; scoped = g.scoped; known = g.known; held = g.held })
+  layer : (x : Stmt-F Stmt Arm) → StmtChildren S A x → (scope : Scope) →
+      (let w = judged.stmt_layer x in Good (HasTypedParts p fn x × StmtParts p fn x) w.1.0.0 (w.1.0.1.holds scope) w.1.1.0 w.1.1.1 → w.0.within scope ≡ true)
+  layer (stmt.Block body) h scope g = all_inside body h scope (record { typed = g.typed.1; formed = g.formed; scoped = g.scoped; known = g.known; held = g.held })
   layer (stmt.Clear l values_of) h scope g =
       let names_itself = any_of (map (names_local l) values_of) in
       let apart = all_of (map (is_well_named p own locals sizes (but_for l)) values_of) in
@@ -278,14 +250,14 @@ module _ (p : Program) (own : ℕ) (fn : Function) (globals : Globals) (locals :
       let f2 = split (all_of (map N values_of)) (names_itself || apart) f1.1 in
       let known = (split (all_of (map K values_of)) true g.known).0 in
       let held = left (reads_exprs values_of) (λ r a. false) g.held in
-      let typed : (e : Expr) → IsTypedAt p fn g.typed.0 e → IsTypedExpr p fn e = λ e t. t.0 in
+      let typed : (e : Expr) → IsTypedAt p fn g.typed.0.0 e → IsTypedExpr p fn e = λ e t. t.0 in
       and_from (nat_lt l locals) (all_exprs_within globals locals sizes values_of (cond names_itself (with_local l scope) scope)) f0.0 (by names_itself f2.1 known held typed f2.0)
     where
-      by : (z : Bool) → (z || all_of (map (is_well_named p own locals sizes (but_for l)) values_of)) ≡ true → all_of (map K values_of) ≡ true → Holds (reads_exprs values_of) → ((e : Expr) → IsTypedAt p fn g.typed.0 e → IsTypedExpr p fn e) →
+      by : (z : Bool) → (z || all_of (map (is_well_named p own locals sizes (but_for l)) values_of)) ≡ true → all_of (map K values_of) ≡ true → Holds (reads_exprs values_of) → ((e : Expr) → IsTypedAt p fn g.typed.0.0 e → IsTypedExpr p fn e) →
           all_of (map N values_of) ≡ true → all_exprs_within globals locals sizes values_of (cond z (with_local l scope) scope) ≡ true
-      by true e known held typed named = values (λ k. true) (with_local l scope) (with_local l scope) (λ k f o. o) (IsTypedAt p fn g.typed.0) typed values_of g.typed.2 named g.scoped known held
-      by false e known held typed named = values (but_for l) (with_local l scope) scope (narrowed l scope) (IsTypedAt p fn g.typed.0) typed values_of g.typed.2 e g.scoped known held
-  layer (stmt.Express e) h scope g = expr scope e g.typed g.formed g.scoped (first_known e true g.known).0 (first_held e (λ r a. false) g.held)
+      by true e known held typed named = values (λ k. true) (with_local l scope) (with_local l scope) (λ k f o. o) (IsTypedAt p fn g.typed.0.0) typed values_of g.typed.0.2 named g.scoped known held
+      by false e known held typed named = values (but_for l) (with_local l scope) scope (narrowed l scope) (IsTypedAt p fn g.typed.0.0) typed values_of g.typed.0.2 e g.scoped known held
+  layer (stmt.Express e) h scope g = expr scope e g.typed.0 g.formed g.scoped (first_known e true g.known).0 (first_held e (λ r a. false) g.held)
   layer (stmt.If e yes_part no_part) h scope g =
       let fs = split (N e) (all_of (map F yes_part) && all_of (map F no_part)) g.formed in
       let f1 = split (all_of (map F yes_part)) (all_of (map F no_part)) fs.1 in
@@ -295,12 +267,12 @@ module _ (p : Program) (own : ℕ) (fn : Function) (globals : Globals) (locals :
       let k1 = all_apart (map KS yes_part) (map KS no_part) ks.1 in
       let inner : holding.Reading = λ r a. any_of (map (stmt_reads r a) yes_part ++ map (stmt_reads r a) no_part) in
       let rs = both_held yes_part no_part (right (λ r a. R e r a || false) inner g.held) in
-      and_from (I scope e) (all_within (scopes yes_part) scope && all_within (scopes no_part) scope) (expr scope e g.typed fs.0 ss.0 ks.0 (first_held e inner g.held))
+      and_from (I scope e) (all_within (scopes yes_part) scope && all_within (scopes no_part) scope) (expr scope e g.typed.0 fs.0 ss.0 ks.0 (first_held e inner g.held))
       (and_from (all_within (scopes yes_part) scope) (all_within (scopes no_part) scope)
-      (all_inside yes_part h.0 scope (record { typed = g.parts.0; formed = f1.0; scoped = s1.0; known = k1.0; held = rs.0 }))
-      (all_inside no_part h.1 scope (record { typed = g.parts.1; formed = f1.1; scoped = s1.1; known = k1.1; held = rs.1 })))
-  layer (stmt.While e body) h scope g = tested e body h scope g.typed g.parts g.formed g.scoped g.known g.held
-  layer (stmt.Do body e) h scope g = tested e body h scope g.typed g.parts g.formed g.scoped g.known g.held
+      (all_inside yes_part h.0 scope (record { typed = g.typed.1.0; formed = f1.0; scoped = s1.0; known = k1.0; held = rs.0 }))
+      (all_inside no_part h.1 scope (record { typed = g.typed.1.1; formed = f1.1; scoped = s1.1; known = k1.1; held = rs.1 })))
+  layer (stmt.While e body) h scope g = tested e body h scope g.typed.0 g.typed.1 g.formed g.scoped g.known g.held
+  layer (stmt.Do body e) h scope g = tested e body h scope g.typed.0 g.typed.1 g.formed g.scoped g.known g.held
   layer (stmt.For first test step body) h scope g =
       let inner = scope_behind (map stmt_scoped first) scope in
       let n0 = split (all_of (map F first)) (named_option p own locals sizes void test && (named_option p own locals sizes void step && all_of (map F body))) g.formed in
@@ -319,62 +291,49 @@ module _ (p : Program) (own : ℕ) (fn : Function) (globals : Globals) (locals :
       let r2 = both_held first body (right (reads_exprs (tests ++ steps)) rest g.held) in
       let after : Scope → Bool = λ d. optional_within globals locals sizes test d && (optional_within globals locals sizes step d && all_within (scopes body) d) in
       let there_after : after inner ≡ true =
-      and_from (optional_within globals locals sizes test inner) (optional_within globals locals sizes step inner && all_within (scopes body) inner) (optional inner test g.typed.0 n1.0 s1.0 k1.0 r1.0)
-      (and_from (optional_within globals locals sizes step inner) (all_within (scopes body) inner) (optional inner step g.typed.1 n2.0 s2.0 k1.1 r1.1)
-      (all_inside body h.1 inner (record { typed = g.parts.1; formed = n2.1; scoped = s2.1; known = k2.1; held = r2.1 }))) in
+      and_from (optional_within globals locals sizes test inner) (optional_within globals locals sizes step inner && all_within (scopes body) inner) (optional inner test g.typed.0.0 n1.0 s1.0 k1.0 r1.0)
+      (and_from (optional_within globals locals sizes step inner) (all_within (scopes body) inner) (optional inner step g.typed.0.1 n2.0 s2.0 k1.1 r1.1)
+      (all_inside body h.1 inner (record { typed = g.typed.1.1; formed = n2.1; scoped = s2.1; known = k2.1; held = r2.1 }))) in
       and_from (all_within (scopes first) scope) (after (all_behind (scopes first) scope))
-      (all_inside first h.0 scope (record { typed = g.parts.0; formed = n0.0; scoped = s0.0; known = k2.0; held = r2.0 }))
+      (all_inside first h.0 scope (record { typed = g.typed.1.0; formed = n0.0; scoped = s0.0; known = k2.0; held = r2.0 }))
       (ap (λ d. after d) (behind_all first h.0 scope) ∙ there_after)
   layer (stmt.Switch e arms) h scope g =
       let fs = split (N e) (all_of (map FA arms)) g.formed in
       let scoped_arms = all_of (map (λ (a : Scope → Bool). a scope) (map arm_scoped arms)) in
       let ss = split (names_declared scope e) scoped_arms g.scoped in
       let ks = first_known e (all_of (map KA arms)) g.known in
-      and_from (I scope e) (arms_within (map scope_of_arm arms) scope) (expr scope e g.typed.0 fs.0 ss.0 ks.0 (first_held e (reads_arms arms) g.held))
-      (arms_inside arms h scope (record { typed = g.parts; formed = fs.1; scoped = ss.1; known = ks.1; held = right (λ r a. R e r a || false) (reads_arms arms) g.held }))
+      and_from (I scope e) (arms_within (map scope_of_arm arms) scope) (expr scope e g.typed.0.0 fs.0 ss.0 ks.0 (first_held e (reads_arms arms) g.held))
+      (arms_inside arms h scope (record { typed = g.typed.1; formed = fs.1; scoped = ss.1; known = ks.1; held = right (λ r a. R e r a || false) (reads_arms arms) g.held }))
   layer stmt.Break h scope g = refl
   layer stmt.Continue h scope g = refl
   layer (stmt.Return None) h scope g = refl
-  layer (stmt.Return (Some e)) h scope g = expr scope e g.typed.0 (split (not void) (N e) g.formed).1 g.scoped (first_known e true g.known).0 (first_held e (λ r a. false) g.held)
+  layer (stmt.Return (Some e)) h scope g = expr scope e g.typed.0.0 (split (not void) (N e) g.formed).1 g.scoped (first_known e true g.known).0 (first_held e (λ r a. false) g.held)
 
   -- ---- by induction
 
-  stmt_step : (x : Stmt-F Stmt Arm) → source.StmtChildren Inside ArmInside x → Inside (roll-Stmt x)
-  stmt_step x h =
-      let within_as = fold-roll-Stmt asked.Scope ArmScope (stmt_scope_layer globals locals sizes) (arm_scope_layer globals locals sizes) x in
-      let scoped_as = fold-roll-Stmt Scoped (Scope → Bool) scoped_layer arm_scoped_layer x in
-      record {
+  each_inside : (body : List Stmt) → Each S body
+  each_inside =
+      along_stmts judged Inside ArmInside
+      (λ x h. record {
         within = λ scope g.
-            ap (λ (z : asked.Scope). z.within scope) within_as ∙
             layer x h scope (record {
-              typed = subst (HasTypedParts p fn) (out-roll-Stmt x) (stmt_node p fn (roll-Stmt x) g.typed);
-              parts = subst (StmtParts p fn) (out-roll-Stmt x) (stmt_parts p fn (roll-Stmt x) g.typed);
-              formed = sym (fold-roll-Stmt Bool Bool (stmt_named_layer p own locals sizes void) (arm_named_layer p own locals sizes void) x) ∙ g.formed;
-              scoped = sym (ap (λ (z : Scoped). z.holds scope) scoped_as) ∙ g.scoped;
-              known = sym (fold-roll-Stmt Bool Bool (all_layer K) all_arm_layer x) ∙ g.known;
-              held =
-                  holding.holds_same globals count is_own (λ r a. stmt_reads_layer r a (read_parts r a x)) (λ r a. stmt_reads r a (roll-Stmt x))
-                  (λ r a. fold-roll-Stmt Bool Bool (stmt_reads_layer r a) (arm_reads_layer r a) x) g.held;
+              typed = (subst (HasTypedParts p fn) (out-roll-Stmt x) (stmt_node p fn (roll-Stmt x) g.typed), subst (StmtParts p fn) (out-roll-Stmt x) (stmt_parts p fn (roll-Stmt x) g.typed));
+              formed = g.formed;
+              scoped = g.scoped;
+              known = g.known;
+              held = g.held;
             });
-        behind = λ scope. ap (λ (z : asked.Scope). z.behind scope) within_as ∙ (behind_layer x scope ∙ sym (ap (λ (z : Scoped). with_declared z.declares scope) scoped_as));
-      }
-
-  arm_step : (x : Arm-F Stmt Arm) → Each Inside x.body → ArmInside (roll-Arm x)
-  arm_step x h =
-      let within_as = fold-roll-Arm asked.Scope ArmScope (stmt_scope_layer globals locals sizes) (arm_scope_layer globals locals sizes) x in
-      record {
-        within = λ scope g.
-            ap (λ (z : ArmScope). z scope) within_as ∙
-            all_inside x.body h scope (record {
-              typed = subst (λ (z : Arm-F Stmt Arm). AllStmts p fn z.body) (out-roll-Arm x) (arm_parts p fn (roll-Arm x) g.typed);
-              formed = sym (fold-roll-Arm Bool Bool (stmt_named_layer p own locals sizes void) (arm_named_layer p own locals sizes void) x) ∙ g.formed;
-              scoped = sym (ap (λ (z : Scope → Bool). z scope) (fold-roll-Arm Scoped (Scope → Bool) scoped_layer arm_scoped_layer x)) ∙ g.scoped;
-              known = sym (fold-roll-Arm Bool Bool (all_layer K) all_arm_layer x) ∙ g.known;
-              held =
-                  holding.holds_same globals count is_own (reads_all x.body) (λ r a. arm_reads r a (roll-Arm x)) (λ r a. fold-roll-Arm Bool Bool (stmt_reads_layer r a) (arm_reads_layer r a) x) g.held;
-            });
-      }
+        behind = behind_layer x;
+      })
+      (λ x h scope g.
+      all_inside x.body h scope (record {
+        typed = subst (λ (z : Arm-F Stmt Arm). AllStmts p fn z.body) (out-roll-Arm x) (arm_parts p fn (roll-Arm x) g.typed);
+        formed = g.formed;
+        scoped = g.scoped;
+        known = g.known;
+        held = g.held;
+      }))
 
   -- The statements of a well-formed function.
   pub body_within : (body : List Stmt) (scope : Scope) → GoodBody body scope → all_within (scopes body) scope ≡ true
-  body_within body scope g = all_inside body (source.stmts_ind Inside ArmInside stmt_step arm_step body) scope g
+  body_within body scope g = all_inside body (each_inside body) scope g

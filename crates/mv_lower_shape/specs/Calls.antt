@@ -10,9 +10,8 @@ use Rattle.mv_ir.specs.Measures.{total}
 use Rattle.mv_ast.specs.declared.program.Program.{Program}
 use Rattle.mv_ast.specs.declared.program.Function.{Function}
 use Rattle.mv_ast.specs.declared.program.Expr.{Expr, fold-Expr}
-use Rattle.mv_ast.specs.declared.program.Form.{Form, Form-F, fold-Form}
+use Rattle.mv_ast.specs.declared.program.Form.{Form-F}
 use Rattle.mv_ast.specs.declared.program.Form.TheOpen as form
-use Rattle.mv_ast.specs.declared.program.Target.{Target, fold-Target}
 use Rattle.mv_ast.specs.declared.program.Stmt.{Stmt}
 use Rattle.mv_ast.specs.declared.program.Arm.{Arm}
 use Rattle.mv_ast.specs.Counts.{is_attributed, form_sum, target_sum, inner_calls, stmt_total, arm_total}
@@ -47,12 +46,6 @@ module _ (direct : ℕ → ℕ) (through : ℕ) where
 
   abbrev pub form_weights : Form-F ℕ ℕ ℕ → ℕ
   form_weights f = own_weight f + form_sum f
-
-  abbrev pub form_weight : Form → ℕ
-  form_weight = fold-Form ℕ ℕ ℕ form_weights target_sum inner_calls
-
-  abbrev pub target_weight : Target → ℕ
-  target_weight = fold-Target ℕ ℕ ℕ form_weights target_sum inner_calls
 
   abbrev pub expr_weight : Expr → ℕ
   expr_weight = fold-Expr ℕ ℕ ℕ form_weights target_sum inner_calls
