@@ -19,7 +19,7 @@ use Rattle.mv_check_expressions.specs.Judged.{Good, and_then}
 use Rattle.mv_check_expressions.specs.NeededConstants.{constant_judgement}
 use Rattle.mv_check_declarations.specs.declared.attributes.Attribute.{Attribute}
 use Rattle.mv_check_declarations.specs.declared.attributes.Holder.{Holder}
-use Rattle.mv_check_declarations.specs.Attributes.{switch_kind, with_value, domain_value, domain, given_domain, holds, held, attribute, attributes}
+use Rattle.mv_check_declarations.specs.Attributes.{with_value, domain_value, domain, given_domain, holds, held, attribute, attributes}
 use Rattle.mv_check_declarations.specs.Constants.{is_value_of}
 use Rattle.mv_check_declarations.specs.ValueSets.{with_member}
 use Rattle.mv_check_declarations.specs.Globals.{values_of_enumeration, default_domain, domain_or, domain_of}

@@ -107,10 +107,10 @@ int_named (e ∷ es) words t h =
     by false true z q = cc
     by false false z q = absurd (cc)
 
-admits : (t : CType) (c : Constant) → Fits (scalar_kind t) c → IsOf t c.value
-admits Void c h = λ u. absurd u
-admits (Scalar k) c h = constant_is k c h
-admits (Pointer s) c h = λ u. absurd u
+pub scalar_admits : (t : CType) (c : Constant) → Fits (scalar_kind t) c → IsOf t c.value
+scalar_admits Void c h = λ u. absurd u
+scalar_admits (Scalar k) c h = constant_is k c h
+scalar_admits (Pointer s) c h = λ u. absurd u
 
 -- the values of an attribute fit the type that is found before the enums are declared, and so that behind them
 type_admits : (s : Scope) (specs : Specs) (t : CType) → IsNamed specs t → (c : Constant) → Fits (kind_of (type_of s specs)) c → IsOf t c.value
@@ -138,10 +138,7 @@ type_admits s specs t n c h = by (any_is flags) refl h (int_named tags words t n
         (tags ≡ []) ⊎ (t ≡ Scalar Int) → IsOf t c.value
     by true q g (inl e) = absurd (let r : true ≡ false = sym q ∙ none e in cc)
     by true q g (inr e) = subst (λ u. IsOf u c.value) (sym e) (int_is c.value)
-    by false q g e = admits t c (subst (λ o. Fits (kind_of (type_or_broken place o)) c) here g)
-
-pub scalar_admits : (t : CType) (c : Constant) → Fits (scalar_kind t) c → IsOf t c.value
-scalar_admits = admits
+    by false q g e = scalar_admits t c (subst (λ o. Fits (kind_of (type_or_broken place o)) c) here g)
 
 -- ---- enums and attributes
 

@@ -1,9 +1,9 @@
 -- The words of the grammar's language: what holds of the value of each phrase among whose terminals each name is one.
-use Rattle.std.proofs.Common.{◌≡◌, ℕ, zero, suc, ◌≤◌, ◌+◌, Bool, true, Option, Some, None, List, [], ◌∷◌, ◌++◌, inl, inr, length, length-append, sym, subst, arith}
+use Rattle.std.proofs.Common.{◌≡◌, ℕ, zero, suc, ◌≤◌, true, Option, Some, None, List, [], ◌∷◌, ◌++◌, inl, inr, length, length-append, sym, subst, arith}
 use Rattle.std.specs.List.{AllByRecursion}
 use Rattle.mv_parse_grammar.specs.Terminals.{Terminal, is_name}
 use Rattle.mv_parse_grammar.specs.Language as L
-use Rattle.mv_parse_grammar.specs.Language.{IsToken, turns}
+use Rattle.mv_parse_grammar.specs.Language.{turns}
 use Rattle.mv_source_facts.specs.Facts.{IsName}
 
 -- ---- lists

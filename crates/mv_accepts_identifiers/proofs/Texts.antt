@@ -1,18 +1,17 @@
 -- Each name among the tokens of a text is an identifier that is no keyword.
-use Rattle.std.proofs.Common.{◌≡◌, ℕ, ◌+◌, ◌-◌, ◌≤◌, Bool, true, refl, sym, ◌∙◌, ap, subst, List, [], ◌∷◌, ◌++◌, length, take, drop, arith}
+use Rattle.std.proofs.Common.{◌≡◌, ℕ, ◌+◌, ◌-◌, Bool, true, refl, sym, ◌∙◌, ap, subst, List, [], ◌∷◌, ◌++◌, length, take, drop, arith}
 use Rattle.std.specs.List.{AllByRecursion}
 use Rattle.std.proofs.lemmas.List.{drop-drop}
 use Rattle.mv_ast.specs.declared.unit.Unit as unit
 use Rattle.mv_ast.specs.declared.token.Token.{Token}
 use Rattle.mv_ast.specs.declared.token.Piece.{Piece}
-use Rattle.mv_ast.specs.declared.token.Piece.TheVariants as piece
 use Rattle.mv_lexer.specs.Include.{IsFrontLexeme, include_line, longest_lexeme}
 use Rattle.mv_lexer.specs.Lexemes.{IsIdentifier}
 use Rattle.mv_lexer.specs.Place.{start, after}
 use Rattle.mv_lexer.specs.Reading as R
 use Rattle.mv_lexer.specs.Reading.{Evaluates, Lexeme, Scans, StandsInFront, token_of, tokens_of}
 use Rattle.mv_lexer.specs.declared.class.TokenClass.{TokenClass}
-use Rattle.mv_lexer.specs.declared.class.TokenClass.TheVariants.{WhiteSpace, Identifier}
+use Rattle.mv_lexer.specs.declared.class.TokenClass.TheVariants.{Identifier}
 use Rattle.mv_lexer.specs.declared.position.Position.{Position}
 use Rattle.mv_parse_grammar.specs.Terminals.{is_name_piece, terminals}
 use Rattle.mv_parse_reading.specs.Texts.{ReadsAs}

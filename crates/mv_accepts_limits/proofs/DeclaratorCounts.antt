@@ -13,7 +13,7 @@ use Rattle.mv_parse_grammar.specs.Declarations.{declarator_of, attributed, initi
 use Rattle.mv_accepts_limits.specs.Nodes.{shape_count, declarator_count, param_count, node_nodes, mark_nodes, specs_nodes, initial_nodes, declarator_nodes}
 use Rattle.mv_accepts_limits.proofs.Phrases.{of_some, of_all, all_then}
 
-abbrev shape_nodes : Shape → ℕ
+abbrev pub shape_nodes : Shape → ℕ
 shape_nodes = fold-Shape ℕ ℕ ℕ shape_count declarator_count param_count
 
 abbrev pub param_nodes : Param → ℕ

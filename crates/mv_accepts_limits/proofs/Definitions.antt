@@ -14,8 +14,8 @@ use Rattle.mv_ast.specs.declared.unit.Initial.{Initial}
 use Rattle.mv_ast.specs.declared.unit.Initial.TheVariants as initial
 use Rattle.mv_ast.specs.declared.unit.Line.{Line}
 use Rattle.mv_ast.specs.declared.unit.Node.{Node}
-use Rattle.mv_ast.specs.declared.unit.Param.{Param, fold-Param, fold_out-Param}
-use Rattle.mv_ast.specs.declared.unit.Shape.{Shape, Shape-F, out-Shape, map-Shape, fold-Shape, fold_out-Shape}
+use Rattle.mv_ast.specs.declared.unit.Param.{Param, fold_out-Param}
+use Rattle.mv_ast.specs.declared.unit.Shape.{Shape, Shape-F, out-Shape, map-Shape, fold_out-Shape}
 use Rattle.mv_ast.specs.declared.unit.Shape.TheOpen as shape
 use Rattle.mv_ast.specs.Counts.{stmt_nodes, nodes}
 use Rattle.mv_ast.specs.Operators.{converted}
@@ -43,6 +43,7 @@ use Rattle.mv_accepts_statements.proofs.Judging.{IfGood, if_any, if_then, if_mor
 use Rattle.mv_accepts_statements.proofs.Unbroken.{if_unbroken}
 use Rattle.mv_accepts_statements.proofs.Parameters.{Adds, parameters_add}
 use Rattle.mv_accepts_limits.specs.Nodes.{initial_nodes, shape_count, declarator_count, param_count, declarator_nodes, line_nodes, body_nodes}
+use Rattle.mv_accepts_limits.proofs.DeclaratorCounts.{shape_nodes, param_nodes}
 use Rattle.mv_accepts_limits.proofs.Totals.{total, total_append, sum_total, stmts_nodes}
 use Rattle.mv_accepts_limits.proofs.Locals.{LinesFew, declarator_has}
 use Rattle.mv_accepts_limits.proofs.Statements.{body_few}
@@ -78,12 +79,6 @@ abbrev pub Adding : Contents → ℕ → Contents → Type 0
 Adding c n d = weight d ≤ weight c + 4 * n
 
 -- ---- a declarator's parameters
-
-abbrev shape_nodes : Shape → ℕ
-shape_nodes = fold-Shape ℕ ℕ ℕ shape_count declarator_count param_count
-
-abbrev param_nodes : Param → ℕ
-param_nodes = fold-Param ℕ ℕ ℕ shape_count declarator_count param_count
 
 one_for : (p : Param) → 1 ≤ param_nodes p
 one_for p = let h = fold_out-Param ℕ ℕ ℕ shape_count declarator_count param_count p in omega (arith, h, declarator_has p.name)

@@ -5,10 +5,10 @@ use Rattle.std.proofs.lemmas.List.Sums.{sum_by-cons}
 use Rattle.mv_ast.specs.declared.program.CType.TheVariants.{Scalar}
 use Rattle.mv_ast.specs.declared.program.Expr.{Expr}
 use Rattle.mv_ast.specs.declared.unit.Node.{Node, out-Node, fold_out-Node}
-use Rattle.mv_ast.specs.declared.unit.What.{What, What-F, out-What, map-What, fold-What, fold_out-What}
-use Rattle.mv_ast.specs.declared.unit.EnumSpec.{EnumSpec, fold-EnumSpec}
+use Rattle.mv_ast.specs.declared.unit.What.{What, What-F, out-What, fold_out-What}
+use Rattle.mv_ast.specs.declared.unit.EnumSpec.{EnumSpec}
 use Rattle.mv_ast.specs.declared.unit.Mark.{Mark}
-use Rattle.mv_ast.specs.declared.unit.Member.{Member, fold-Member}
+use Rattle.mv_ast.specs.declared.unit.Member.{Member}
 use Rattle.mv_ast.specs.declared.unit.Specs.{Specs}
 use Rattle.mv_ast.specs.Counts.{expr_nodes}
 use Rattle.mv_check_scope.specs.declared.scope.Scope.{Scope}
@@ -19,24 +19,13 @@ use Rattle.mv_check_expressions.specs.declared.seen.Use.TheVariants as «use»
 use Rattle.mv_check_expressions.specs.Seen.{value_of, array_of, object_of}
 use Rattle.mv_check_expressions.specs.Judgements.{judgement, value_judgement, effect_judgement}
 use Rattle.mv_accepts_statements.proofs.Judging.{IfGood, if_then, by_good}
-use Rattle.mv_accepts_limits.specs.Nodes.{what_count, enum_count, mark_count, member_count, node_count, specs_count, node_nodes, mark_nodes, specs_nodes}
+use Rattle.mv_accepts_limits.specs.Nodes.{what_count, enum_count, mark_count, member_count, node_count, specs_count, node_nodes}
+use Rattle.mv_accepts_limits.proofs.NodeCounts.{layer_count}
 use Rattle.mv_accepts_limits.proofs.Weights.{nodes_number}
 use Rattle.mv_accepts_limits.proofs.Made.{converted_weight, binary_weight, choose_weight, place_weight, assign_weight, before_weight, after_weight, element_weight, name_weight, one_weight, args_nodes, call_weight}
 use Rattle.mv_accepts_expressions.proofs.Induction.{Steps, every_node}
 
 -- ---- what a node counts
-
-abbrev what_nodes : What → ℕ
-what_nodes = fold-What ℕ ℕ ℕ ℕ ℕ ℕ what_count enum_count mark_count member_count node_count specs_count
-
-abbrev enum_nodes : EnumSpec → ℕ
-enum_nodes = fold-EnumSpec ℕ ℕ ℕ ℕ ℕ ℕ what_count enum_count mark_count member_count node_count specs_count
-
-abbrev member_nodes : Member → ℕ
-member_nodes = fold-Member ℕ ℕ ℕ ℕ ℕ ℕ what_count enum_count mark_count member_count node_count specs_count
-
-abbrev layer_count : What-F What EnumSpec Mark Member Node Specs → ℕ
-layer_count x = what_count (map-What What EnumSpec Mark Member Node Specs ℕ ℕ ℕ ℕ ℕ ℕ what_nodes enum_nodes mark_nodes member_nodes node_nodes specs_nodes x)
 
 pub counted : (n : Node) (x : What-F What EnumSpec Mark Member Node Specs) → out-What (out-Node n).what ≡ x → node_nodes n ≡ 1 + layer_count x
 counted n x o =

@@ -11,7 +11,7 @@ use Rattle.mv_parse_grammar.specs.Statements.{line_at, express}
 use Rattle.mv_accepts_limits.specs.Nodes.{act_count, line_count, node_nodes, optional_nodes, specs_nodes, declarator_nodes, line_nodes}
 use Rattle.mv_accepts_limits.proofs.Phrases.{of_some, of_all}
 
-abbrev act_nodes : Act → ℕ
+abbrev pub act_nodes : Act → ℕ
 act_nodes = fold-Act ℕ ℕ act_count line_count
 
 abbrev layer_count : Act-F Act Line → ℕ

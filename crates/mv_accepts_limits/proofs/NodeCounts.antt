@@ -30,7 +30,7 @@ enum_nodes = fold-EnumSpec ℕ ℕ ℕ ℕ ℕ ℕ what_count enum_count mark_co
 abbrev pub member_nodes : Member → ℕ
 member_nodes = fold-Member ℕ ℕ ℕ ℕ ℕ ℕ what_count enum_count mark_count member_count node_count specs_count
 
-abbrev layer_count : What-F What EnumSpec Mark Member Node Specs → ℕ
+abbrev pub layer_count : What-F What EnumSpec Mark Member Node Specs → ℕ
 layer_count x = what_count (map-What What EnumSpec Mark Member Node Specs ℕ ℕ ℕ ℕ ℕ ℕ what_nodes enum_nodes mark_nodes member_nodes node_nodes specs_nodes x)
 
 by_what : (p : Place) (v : What) (x : What-F What EnumSpec Mark Member Node Specs) → out-What v ≡ x → node_nodes (node_at p v) ≡ 1 + layer_count x

@@ -4,7 +4,7 @@ use Rattle.std.specs.Prelude.{sum}
 use Rattle.std.proofs.lemmas.List.Sums.{sum_by-cons}
 use Rattle.mv_parse_grammar.specs.Terminals.{Terminal}
 use Rattle.mv_parse_grammar.specs.Language as L
-use Rattle.mv_parse_grammar.specs.Language.{IsGiven, IsThen, turns}
+use Rattle.mv_parse_grammar.specs.Language.{turns}
 use Rattle.mv_parse_grammar.specs.Declarations.{characters_of}
 
 -- ---- the count of terminals

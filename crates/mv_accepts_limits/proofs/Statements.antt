@@ -5,9 +5,9 @@ use Rattle.mv_ast.specs.declared.program.CType.{CType}
 use Rattle.mv_ast.specs.declared.program.Expr.{Expr}
 use Rattle.mv_ast.specs.declared.program.Stmt.{Stmt}
 use Rattle.mv_ast.specs.declared.program.Stmt.TheVariants as stmt
-use Rattle.mv_ast.specs.declared.unit.Act.{Act, Act-F, roll-Act, map-Act, fold-Act, fold-roll-Act}
+use Rattle.mv_ast.specs.declared.unit.Act.{Act, roll-Act, map-Act, fold-Act, fold-roll-Act}
 use Rattle.mv_ast.specs.declared.unit.Act.TheOpen as act
-use Rattle.mv_ast.specs.declared.unit.Line.{Line, Line-F, roll-Line, map-Line, ind-Line, fold-roll-Line}
+use Rattle.mv_ast.specs.declared.unit.Line.{Line, roll-Line, map-Line, fold-roll-Line}
 use Rattle.mv_ast.specs.declared.unit.Node.{Node}
 use Rattle.mv_ast.specs.Counts.{expr_nodes, stmt_nodes}
 use Rattle.mv_ast.specs.Operators.{converted}
@@ -27,6 +27,8 @@ use Rattle.mv_check_statements.specs.Statements.{Judges, Layer, act_step, line_s
 use Rattle.mv_check_statements.specs.Surroundings.{in_function, in_loop, in_switch}
 use Rattle.mv_check_statements.specs.SwitchBodies.{no_arm, no_arms, has_statements, at_label, labelled, labelled_other, with_case, with_default, with_statement, arms_of, converts_constant, case_label, default_label}
 use Rattle.mv_accepts_statements.proofs.Judging.{IfGood, if_any, if_then, if_kept, if_so, if_more}
+use Rattle.mv_accepts_limits.proofs.LineCounts.{act_nodes}
+use Rattle.mv_accepts_statements.proofs.LineInduction.{LinesWith, ActOver, LineOver, whole_act, whole_line, every_line}
 use Rattle.mv_accepts_limits.specs.Nodes.{node_nodes, optional_nodes, declarator_nodes, act_count, line_count, line_nodes}
 use Rattle.mv_accepts_limits.proofs.Made.{converted_weight}
 use Rattle.mv_accepts_limits.proofs.Expressions.{ValueFew, value_few, effect_few}
@@ -191,48 +193,36 @@ then_no_body n s j h = if_then (StmtFew s n) (BodyFew s n) j _ h (λ d k. omega 
 
 -- ---- by induction
 
-abbrev act_nodes : Act → ℕ
-act_nodes = fold-Act ℕ ℕ act_count line_count
-
 abbrev ActIs : Act → Type 0
 ActIs x = (place : Place) → Few (fold-Act (Place → Judges) Judges act_step line_step x place) (1 + act_nodes x)
 
 abbrev LineIs : Line → Type 0
 LineIs l = Few (judges_of l) (line_nodes l)
 
-abbrev A : Type 0
-A = (x : Act) × ActIs x
+abbrev judged : ActOver ActIs LineIs → Layer
+judged y = map-Act Act Line (Place → Judges) Judges (fold-Act (Place → Judges) Judges act_step line_step) judges_of (whole_act ActIs LineIs y)
 
-abbrev L : Type 0
-L = (x : Line) × LineIs x
+abbrev count : ActOver ActIs LineIs → ℕ
+count y = 1 + act_count (map-Act Act Line ℕ ℕ act_nodes line_nodes (whole_act ActIs LineIs y))
 
-abbrev below : Act-F A L → Act-F Act Line
-below = map-Act A L Act Line (λ a. a.0) (λ a. a.0)
+abbrev lines_of : List (LinesWith ActIs LineIs) → List Line
+lines_of = map (λ (l : LinesWith ActIs LineIs). l.0)
 
-abbrev judged : Act-F A L → Layer
-judged y = map-Act Act Line (Place → Judges) Judges (fold-Act (Place → Judges) Judges act_step line_step) judges_of (below y)
-
-abbrev count : Act-F A L → ℕ
-count y = 1 + act_count (map-Act Act Line ℕ ℕ act_nodes line_nodes (below y))
-
-abbrev lines_of : List L → List Line
-lines_of = map (λ (l : L). l.0)
-
-lines_through : (ls : List L) (a : Around) (d : Scope × List Stmt) → IfGood (lines_in_turn (map judges_of (lines_of ls)) a d) (LinesFew d (total line_nodes (lines_of ls)))
+lines_through : (ls : List (LinesWith ActIs LineIs)) (a : Around) (d : Scope × List Stmt) → IfGood (lines_in_turn (map judges_of (lines_of ls)) a d) (LinesFew d (total line_nodes (lines_of ls)))
 lines_through [] a d = omega arith
 lines_through (l ∷ ls) a d =
     if_then (LinesFew d (line_nodes l.0)) (LinesFew d (total line_nodes (lines_of (l ∷ ls)))) ((judges_of l.0).line a d) _ (l.1.line a d) (λ e h.
     if_more (LinesFew e (total line_nodes (lines_of ls))) (LinesFew d (total line_nodes (lines_of (l ∷ ls)))) (lines_in_turn (map judges_of (lines_of ls)) a e) (λ z k. omega (arith, h, k))
     (lines_through ls a e))
 
-arms_through : (ls : List L) (t : CType) (a : Around) (d : Scope × Arms) → IfGood (arms_in_turn (map judges_of (lines_of ls)) t a d) (ArmsFew d (total line_nodes (lines_of ls)))
+arms_through : (ls : List (LinesWith ActIs LineIs)) (t : CType) (a : Around) (d : Scope × Arms) → IfGood (arms_in_turn (map judges_of (lines_of ls)) t a d) (ArmsFew d (total line_nodes (lines_of ls)))
 arms_through [] t a d = omega arith
 arms_through (l ∷ ls) t a d =
     if_then (ArmsFew d (line_nodes l.0)) (ArmsFew d (total line_nodes (lines_of (l ∷ ls)))) ((judges_of l.0).arm t a d) _ (l.1.arm t a d) (λ e h.
     if_more (ArmsFew e (total line_nodes (lines_of ls))) (ArmsFew d (total line_nodes (lines_of (l ∷ ls)))) (arms_in_turn (map judges_of (lines_of ls)) t a e) (λ z k. omega (arith, h, k))
     (arms_through ls t a e))
 
-statements : (y : Act-F A L) (place : Place) (a : Around) (s : Scope) → IfGood (statement_of (judged y) place a s) (StmtFew s (count y))
+statements : (y : ActOver ActIs LineIs) (place : Place) (a : Around) (s : Scope) → IfGood (statement_of (judged y) place a s) (StmtFew s (count y))
 statements (act.Block ls) place a s =
     if_then (LinesFew (block_entered s, []) (total line_nodes (lines_of ls))) (StmtFew s (count (act.Block ls))) (lines_in_turn (map judges_of (lines_of ls)) a (block_entered s, [])) _
     (lines_through ls a (block_entered s, [])) (λ d h. omega (arith, h, nodes_block d.1, sum_total line_nodes (lines_of ls)))
@@ -255,32 +245,32 @@ statements act.Break place a s = break_few place a s
 statements act.Continue place a s = continue_few place a s
 statements (act.Return e) place a s = return_few place a.returns e s
 
-lines : (y : Act-F A L) (place : Place) (a : Around) (d : Scope × List Stmt) → IfGood (line_of (judged y) place a d) (LinesFew d (count y))
+lines : (y : ActOver ActIs LineIs) (place : Place) (a : Around) (d : Scope × List Stmt) → IfGood (line_of (judged y) place a d) (LinesFew d (count y))
 lines (act.Declare specs names) place a d =
     if_then (LinesFew (d.0, []) (total declarator_nodes names)) (LinesFew d (count (act.Declare specs names))) (locals_judgement d.0 specs names) _ (locals_few d.0 specs names)
     (λ e h. omega (arith, h, total_append stmt_nodes d.1 e.1, sum_total declarator_nodes names))
 lines y place a d = then_line (count y) d (statement_of (judged y) place a d.0) (statements y place a d.0)
 
-arms : (y : Act-F A L) (place : Place) (t : CType) (a : Around) (d : Scope × Arms) → IfGood (arm_of (judged y) place t a d) (ArmsFew d (count y))
+arms : (y : ActOver ActIs LineIs) (place : Place) (t : CType) (a : Around) (d : Scope × Arms) → IfGood (arm_of (judged y) place t a d) (ArmsFew d (count y))
 arms (act.Case e) place t a d =
     if_then (λ c. Unit {0}) (ArmsFew d (count (act.Case e))) (constant_judgement d.0 e) _ (if_any (constant_judgement d.0 e)) (λ c u.
     if_then (OneLabel d.1) (ArmsFew d (count (act.Case e))) (case_label place t c d.1) _ (case_few place t c d.1) (λ y k. omega (arith, k)))
 arms act.Default place t a d = if_then (OneLabel d.1) (ArmsFew d (count act.Default)) (default_label place d.1) _ (default_few place d.1) (λ y k. omega (arith, k))
 arms y place t a d = then_arm (count y) d (statement_of (judged y) place a d.0) (statements y place a d.0)
 
-switch_bodies : (y : Act-F A L) (place : Place) (t : CType) (a : Around) (s : Scope) → IfGood (switch_body_of (judged y) place t a s) (BodyFew s (count y))
+switch_bodies : (y : ActOver ActIs LineIs) (place : Place) (t : CType) (a : Around) (s : Scope) → IfGood (switch_body_of (judged y) place t a s) (BodyFew s (count y))
 switch_bodies (act.Block ls) place t a s =
     if_then (ArmsFew (block_entered s, no_arms) (total line_nodes (lines_of ls))) (BodyFew s (count (act.Block ls))) (arms_in_turn (map judges_of (lines_of ls)) t a (block_entered s, no_arms)) _
     (arms_through ls t a (block_entered s, no_arms)) (λ d h. omega (arith, h, no_arms_weight, sum_total line_nodes (lines_of ls)))
 switch_bodies y place t a s = then_no_body (count y) s (statement_of (judged y) place a s) (statements y place a s)
 
-function_bodies : (y : Act-F A L) (place : Place) (a : Around) (s : Scope) → IfGood (function_body_of (judged y) place a s) (LinesFew (s, []) (count y))
+function_bodies : (y : ActOver ActIs LineIs) (place : Place) (a : Around) (s : Scope) → IfGood (function_body_of (judged y) place a s) (LinesFew (s, []) (count y))
 function_bodies (act.Block ls) place a s =
     if_more (LinesFew (s, []) (total line_nodes (lines_of ls))) (LinesFew (s, []) (count (act.Block ls))) (lines_in_turn (map judges_of (lines_of ls)) a (s, []))
     (λ d h. omega (arith, h, sum_total line_nodes (lines_of ls))) (lines_through ls a (s, []))
 function_bodies y place a s = lines y place a (s, [])
 
-layer_few : (y : Act-F A L) (place : Place) → Few (act_step (judged y) place) (count y)
+layer_few : (y : ActOver ActIs LineIs) (place : Place) → Few (act_step (judged y) place) (count y)
 layer_few y place = record {
   statement = statements y place;
   line = lines y place;
@@ -289,21 +279,18 @@ layer_few y place = record {
   function_body = function_bodies y place;
 }
 
-act_is : (y : Act-F A L) → ActIs (roll-Act (below y))
+act_is : (y : ActOver ActIs LineIs) → ActIs (roll-Act (whole_act ActIs LineIs y))
 act_is y place =
-    subst (λ (g : Place → Judges). Few (g place) (1 + act_nodes (roll-Act (below y)))) (sym (fold-roll-Act (Place → Judges) Judges act_step line_step (below y)))
-    (subst (λ n. Few (act_step (judged y) place) (1 + n)) (sym (fold-roll-Act ℕ ℕ act_count line_count (below y))) (layer_few y place))
+    subst (λ (g : Place → Judges). Few (g place) (1 + act_nodes (roll-Act (whole_act ActIs LineIs y)))) (sym (fold-roll-Act (Place → Judges) Judges act_step line_step (whole_act ActIs LineIs y)))
+    (subst (λ n. Few (act_step (judged y) place) (1 + n)) (sym (fold-roll-Act ℕ ℕ act_count line_count (whole_act ActIs LineIs y))) (layer_few y place))
 
-abbrev line_below : Line-F A L → Line-F Act Line
-line_below = map-Line A L Act Line (λ a. a.0) (λ a. a.0)
-
-line_is : (y : Line-F A L) → LineIs (roll-Line (line_below y))
+line_is : (y : LineOver ActIs LineIs) → LineIs (roll-Line (whole_line ActIs LineIs y))
 line_is y =
-    subst (λ j. Few j (line_nodes (roll-Line (line_below y)))) (sym (fold-roll-Line (Place → Judges) Judges act_step line_step (line_below y)))
-    (subst (Few (line_step (map-Line Act Line (Place → Judges) Judges (fold-Act (Place → Judges) Judges act_step line_step) judges_of (line_below y)))) (sym (fold-roll-Line ℕ ℕ act_count line_count (line_below y))) (y.what.1 y.place))
+    subst (λ j. Few j (line_nodes (roll-Line (whole_line ActIs LineIs y)))) (sym (fold-roll-Line (Place → Judges) Judges act_step line_step (whole_line ActIs LineIs y)))
+    (subst (Few (line_step (map-Line Act Line (Place → Judges) Judges (fold-Act (Place → Judges) Judges act_step line_step) judges_of (whole_line ActIs LineIs y)))) (sym (fold-roll-Line ℕ ℕ act_count line_count (whole_line ActIs LineIs y))) (y.what.1 y.place))
 
 judges_few : (l : Line) → LineIs l
-judges_few l = ind-Line ActIs LineIs (λ x y q. subst (λ z. ActIs (roll-Act z)) q (act_is y)) (λ x y q. subst (λ z. LineIs (roll-Line z)) q (line_is y)) l
+judges_few = every_line ActIs LineIs act_is line_is
 
 -- a body's locals and statements behind those before it
 pub body_few : (t : CType) (body : Line) (s : Scope) → IfGood (body_judgement t body s) (LinesFew (s, []) (line_nodes body))

@@ -20,14 +20,11 @@ use Rattle.mv_ast.specs.declared.unit.Line.{Line, Line-F, fold-Line}
 use Rattle.mv_ast.specs.declared.unit.Act.{Act-F}
 use Rattle.mv_ast.specs.declared.unit.Act.TheOpen as act
 use Rattle.mv_check_expressions.specs.Judged.{Good}
+use Rattle.mv_check_expressions.specs.Seen.{number_or_zero}
 use Rattle.mv_types.specs.Units.{unit_judgement}
 use Rattle.mv_source_forms.specs.WellFormed.{program_nodes}
 
 -- ---- what may be left out
-
-abbrev pub if_there : Option ℕ → ℕ
-if_there None = 0
-if_there (Some n) = n
 
 abbrev pub all_if_there : Option (List ℕ) → ℕ
 all_if_there None = 0
@@ -60,7 +57,7 @@ abbrev pub mark_count : Mark-F ℕ ℕ ℕ ℕ ℕ ℕ → ℕ
 mark_count m = all_if_there m.values
 
 abbrev pub member_count : Member-F ℕ ℕ ℕ ℕ ℕ ℕ → ℕ
-member_count m = 1 + if_there m.value
+member_count m = 1 + number_or_zero m.value
 
 abbrev pub node_count : Node-F ℕ ℕ ℕ ℕ ℕ ℕ → ℕ
 node_count n = 1 + n.what
@@ -113,10 +110,10 @@ abbrev pub act_count : Act-F ℕ ℕ → ℕ
 act_count (act.Block ls) = sum ls
 act_count (act.Declare specs names) = specs_nodes specs + sum (map declarator_nodes names)
 act_count (act.Express e) = optional_nodes e
-act_count (act.If e first second) = node_nodes e + (first + if_there second)
+act_count (act.If e first second) = node_nodes e + (first + number_or_zero second)
 act_count (act.While e l) = node_nodes e + l
 act_count (act.Do l e) = l + node_nodes e
-act_count (act.For first test step l) = if_there first + (optional_nodes test + (optional_nodes step + l))
+act_count (act.For first test step l) = number_or_zero first + (optional_nodes test + (optional_nodes step + l))
 act_count (act.Switch e l) = node_nodes e + l
 act_count (act.Case e) = node_nodes e
 act_count act.Default = 0

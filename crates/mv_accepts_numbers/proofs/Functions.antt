@@ -20,7 +20,7 @@ use Rattle.mv_check_expressions.specs.Judged.{Judged, Good}
 use Rattle.mv_check_outline.specs.declared.outline.Wanted.TheVariants as wanted
 use Rattle.mv_check_outline.specs.Names.{same_name, is_among, place_of}
 use Rattle.mv_check_outline.specs.Outlined as outlined
-use Rattle.mv_check_outline.specs.Outlined.{is_function, is_function_form, is_there, is_wanted, name_of, all_names, functions}
+use Rattle.mv_check_outline.specs.Outlined.{is_function, is_there, name_of, all_names, functions}
 use Rattle.mv_check_declarations.specs.declared.attributes.Attribute.{Attribute}
 use Rattle.mv_check_declarations.specs.declared.attributes.Position.TheVariants as position
 use Rattle.mv_check_declarations.specs.declared.declarators.Entity.{Entity}

@@ -1,5 +1,5 @@
-mod Lists
-mod NameLists
+pub mod Lists
+pub mod NameLists
 mod Turns
 mod Items
 mod Designated

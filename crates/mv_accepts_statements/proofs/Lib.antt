@@ -7,6 +7,7 @@ pub mod Signatures
 pub mod Growing
 pub mod NamedTypes
 pub mod Specified
+pub mod ShapeInduction
 pub mod Shapes
 pub mod Designated
 pub mod Property
@@ -14,6 +15,7 @@ pub mod Leading
 mod Declared
 mod Made
 pub mod Conversions
+pub mod LineInduction
 mod Induction
 pub mod Values
 mod Forms

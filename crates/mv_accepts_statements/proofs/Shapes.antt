@@ -2,10 +2,11 @@
 use Rattle.std.proofs.Common.{sym, subst, List, [], ◌∷◌, map}
 use Rattle.std.specs.List.{AllByRecursion}
 use Rattle.mv_ast.specs.declared.unit.Declarator.{Declarator, Declarator-F, roll-Declarator, map-Declarator, fold-roll-Declarator}
-use Rattle.mv_ast.specs.declared.unit.Param.{Param, Param-F, roll-Param, map-Param, ind-Param, fold-roll-Param}
-use Rattle.mv_ast.specs.declared.unit.Shape.{Shape, Shape-F, roll-Shape, map-Shape, ind-Shape, fold-roll-Shape}
+use Rattle.mv_ast.specs.declared.unit.Param.{Param, Param-F, roll-Param, map-Param, fold-roll-Param}
+use Rattle.mv_ast.specs.declared.unit.Shape.{Shape, Shape-F, roll-Shape, map-Shape, fold-roll-Shape}
 use Rattle.mv_ast.specs.declared.unit.Shape.TheOpen as shape
 use Rattle.mv_check_declarations.specs.Declarators.{Shapes, Declarators, Params, shape_step, declarator_step, param_step, designated, parameter, parameter_declarator}
+use Rattle.mv_accepts_statements.proofs.ShapeInduction.{ParamsWith, ShapeOver, DeclaratorOver, ParamOver, whole_shape, whole_declarator, whole_param, each_shape, each_param}
 
 -- the parameters of a shape all have it
 abbrev pub ShapeParts : (Params → Type 0) → Shape-F Shapes Declarators Params → Type 0
@@ -28,54 +29,41 @@ module _ (OfShape : Shapes → Type 0) (OfDeclarator : Declarators → Type 0) (
   abbrev ParamIs : Param → Type 0
   ParamIs x = OfParam (parameter x)
 
-  abbrev S : Type 0
-  S = (x : Shape) × ShapeIs x
-
-  abbrev D : Type 0
-  D = (x : Declarator) × DeclaratorIs x
-
-  abbrev P : Type 0
-  P = (x : Param) × ParamIs x
-
-  params_are : (xs : List P) → AllByRecursion OfParam (map parameter (map (λ (x : P). x.0) xs))
+  params_are : (xs : List (ParamsWith ShapeIs DeclaratorIs ParamIs)) → AllByRecursion OfParam (map parameter (map (λ (x : ParamsWith ShapeIs DeclaratorIs ParamIs). x.0) xs))
   params_are [] = tt
   params_are (x ∷ xs) = (x.1, params_are xs)
 
-  parts_are : (z : Shape-F S D P) → ShapeParts OfParam
-      (map-Shape Shape Declarator Param Shapes Declarators Params designated parameter_declarator parameter (map-Shape S D P Shape Declarator Param (λ a. a.0) (λ a. a.0) (λ a. a.0) z))
+  parts_are : (z : ShapeOver ShapeIs DeclaratorIs ParamIs) → ShapeParts OfParam
+      (map-Shape Shape Declarator Param Shapes Declarators Params designated parameter_declarator parameter (whole_shape ShapeIs DeclaratorIs ParamIs z))
   parts_are shape.Plain = tt
   parts_are (shape.Array size) = tt
   parts_are (shape.Function params) = params_are params
   parts_are (shape.Pointer constant params) = params_are params
   parts_are (shape.PointerArray constant size params) = params_are params
 
-  shape_is : (y : Shape-F S D P) → ShapeIs (roll-Shape (map-Shape S D P Shape Declarator Param (λ a. a.0) (λ a. a.0) (λ a. a.0) y))
+  shape_is : (y : ShapeOver ShapeIs DeclaratorIs ParamIs) → ShapeIs (roll-Shape (whole_shape ShapeIs DeclaratorIs ParamIs y))
   shape_is y =
-      let x : Shape-F Shape Declarator Param = map-Shape S D P Shape Declarator Param (λ a. a.0) (λ a. a.0) (λ a. a.0) y in
+      let x : Shape-F Shape Declarator Param = whole_shape ShapeIs DeclaratorIs ParamIs y in
       subst OfShape (sym (fold-roll-Shape Shapes Declarators Params shape_step declarator_step param_step x))
       (shape_has (map-Shape Shape Declarator Param Shapes Declarators Params designated parameter_declarator parameter x) (parts_are y))
 
-  declarator_is : (y : Declarator-F S D P) → DeclaratorIs (roll-Declarator (map-Declarator S D P Shape Declarator Param (λ a. a.0) (λ a. a.0) (λ a. a.0) y))
+  declarator_is : (y : DeclaratorOver ShapeIs DeclaratorIs ParamIs) → DeclaratorIs (roll-Declarator (whole_declarator ShapeIs DeclaratorIs ParamIs y))
   declarator_is y =
-      let x : Declarator-F Shape Declarator Param = map-Declarator S D P Shape Declarator Param (λ a. a.0) (λ a. a.0) (λ a. a.0) y in
+      let x : Declarator-F Shape Declarator Param = whole_declarator ShapeIs DeclaratorIs ParamIs y in
       subst OfDeclarator (sym (fold-roll-Declarator Shapes Declarators Params shape_step declarator_step param_step x))
       (declarator_has (map-Declarator Shape Declarator Param Shapes Declarators Params designated parameter_declarator parameter x) y.shape.1)
 
-  param_is : (y : Param-F S D P) → ParamIs (roll-Param (map-Param S D P Shape Declarator Param (λ a. a.0) (λ a. a.0) (λ a. a.0) y))
+  param_is : (y : ParamOver ShapeIs DeclaratorIs ParamIs) → ParamIs (roll-Param (whole_param ShapeIs DeclaratorIs ParamIs y))
   param_is y =
-      let x : Param-F Shape Declarator Param = map-Param S D P Shape Declarator Param (λ a. a.0) (λ a. a.0) (λ a. a.0) y in
+      let x : Param-F Shape Declarator Param = whole_param ShapeIs DeclaratorIs ParamIs y in
       subst OfParam (sym (fold-roll-Param Shapes Declarators Params shape_step declarator_step param_step x))
       (param_has (map-Param Shape Declarator Param Shapes Declarators Params designated parameter_declarator parameter x) y.name.1)
 
   pub every_shape : (x : Shape) → ShapeIs x
-  every_shape x =
-      ind-Shape ShapeIs DeclaratorIs ParamIs (λ x y q. subst (λ z. ShapeIs (roll-Shape z)) q (shape_is y))
-      (λ x y q. subst (λ z. DeclaratorIs (roll-Declarator z)) q (declarator_is y)) (λ x y q. subst (λ z. ParamIs (roll-Param z)) q (param_is y)) x
+  every_shape = each_shape ShapeIs DeclaratorIs ParamIs shape_is declarator_is param_is
 
   pub every_param : (x : Param) → ParamIs x
-  every_param x =
-      ind-Param ShapeIs DeclaratorIs ParamIs (λ x y q. subst (λ z. ShapeIs (roll-Shape z)) q (shape_is y))
-      (λ x y q. subst (λ z. DeclaratorIs (roll-Declarator z)) q (declarator_is y)) (λ x y q. subst (λ z. ParamIs (roll-Param z)) q (param_is y)) x
+  every_param = each_param ShapeIs DeclaratorIs ParamIs shape_is declarator_is param_is
 
   pub every_params : (ps : List Param) → AllByRecursion OfParam (map parameter ps)
   every_params [] = tt

@@ -24,14 +24,10 @@ use Rattle.mv_accepts_statements.proofs.Lists.{all_at, all_mapped, mapped_back, 
 use Rattle.mv_accepts_texts.specs.Texts.{in_turn, item_objects}
 use Rattle.mv_accepts_texts.specs.Told.{told_parameters, first_told}
 use Rattle.mv_accepts_texts.proofs.Files.{Sound}
-use Rattle.mv_accepts_texts.proofs.Lists.{name_itself}
+use Rattle.mv_accepts_numbers.proofs.NameLists.{name_itself}
 use Rattle.mv_accepts_texts.proofs.Programs.{TellsName, items_known, ended, those_have}
-use Rattle.mv_accepts_texts.proofs.Scopes.{few, few_more}
+use Rattle.mv_accepts_texts.proofs.Scopes.{both_none, few, few_more}
 use Rattle.mv_accepts_texts.proofs.Units.{unit_sound}
-
-both_none : (a b : Option ℕ) → option_or a b ≡ None → (a ≡ None) × (b ≡ None)
-both_none None b h = (refl, h)
-both_none (Some c) b h = absurd (cc)
 
 module _ (n : ℕ) where
   abbrev Within : List ℕ → Type 0

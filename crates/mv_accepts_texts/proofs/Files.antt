@@ -53,13 +53,6 @@ steady_names s t q = record {
   back = λ n g h. sym (ap (λ names. is_global g (named n names.here)) q) ∙ h;
 }
 
-pub steady_joined : (s t u : Scope) → Steady s t → Steady t u → Steady s u
-steady_joined s t u h k = record {
-  around = k.around ∙ h.around;
-  kept = λ n m q. k.kept n m (h.kept n m q);
-  back = λ n g q. h.back n g (k.back n g q);
-}
-
 pub steady_adds : (names : NameList) (s t : Scope) → s.names.around ≡ [] → Adds names s t → Steady s t
 steady_adds names s t q h = record {
   around = h.moves.around;

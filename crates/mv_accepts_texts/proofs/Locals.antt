@@ -25,9 +25,10 @@ use Rattle.mv_check_outline.specs.Outlined.{name_of}
 use Rattle.mv_check_rules.specs.Nodes.{Declared, Scalar, Array, Function, Given, Nothing, Value, Values, Characters}
 use Rattle.mv_check_rules.specs.Nodes as node
 use Rattle.mv_check_rules.specs.Rules.{stands_here, unless_broken, concluded}
-use Rattle.mv_check_rules.specs.Declarations.{Found, in_order, found_next, Base, attributes, specifiers, declared_as, type_or_void, is_constant, local_of, scalar_here, defined_parameter, parameters, given, expressions_of, local_size, local_meaning, named_unless, local_named, local_found, local_node, local, local_declaration}
+use Rattle.mv_check_rules.specs.Declarations.{in_order, found_next, attributes, specifiers, declared_as, type_or_void, is_constant, local_of, scalar_here, defined_parameter, parameters, given, expressions_of, named_unless, local_named, local_found, local_node, local, local_declaration}
 use Rattle.mv_check_rules.specs.Declarations as rules
 use Rattle.mv_accepts_statements.proofs.Judging.{IfGood, by_good, if_any, if_more, if_then}
+use Rattle.mv_accepts_numbers.proofs.NameLists.{or_nothing}
 use Rattle.mv_accepts_texts.specs.Expressions.{NameList, names_in}
 use Rattle.mv_accepts_texts.specs.Meanings.{is_global, names_global}
 use Rattle.mv_accepts_texts.specs.Texts.{Part, enumerators_of, names_in_initial, naming, declaring, next, in_turn, declarator, parameter}
@@ -67,10 +68,6 @@ converted_all g t [] = refl
 converted_all g t (e ∷ es) = among_both g _ _ ∙ (either_same g _ _ _ _ (converted_names g t e) (converted_all g t es) ∙ sym (among_both g _ _))
 
 -- ---- names
-
-abbrev pub or_nothing : Option (List ℕ) → List ℕ
-or_nothing None = []
-or_nothing (Some name) = name
 
 pub broken_anyway : {A : Type 0} (P : A → Type 0) (place : Place) (found : A) (b : Bool) (first second : ℕ) →
     IfGood (unless_broken place (if b then Some first else Some second) found) P
@@ -118,9 +115,6 @@ module _ (place : Place) (s : Scope) where
       (if_new place t (named name s.names.here) (named name s.names.here) _ refl)
 
 -- ---- declarators
-
-keeps_moves : (counts : List ℕ) (s t : Scope) → Keeps counts s t → Moves counts s t
-keeps_moves counts s t h = record { around = ap (λ names. names.around) h.0; few = h.1 }
 
 abbrev pub params_counts : List Param → List ℕ
 params_counts ps = concat (map (λ p. declarator_parameters p.name) ps)

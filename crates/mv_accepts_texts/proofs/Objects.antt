@@ -4,43 +4,30 @@ use Rattle.std.specs.Cmp.Lexicographic.{pointwise}
 use Rattle.std.specs.Prelude.{slice_set}
 use Rattle.std.proofs.lemmas.Bool.{eqb-true, eq-eqb, or_cases, not-false}
 use Rattle.std.proofs.lemmas.List.{map-append, length-map}
-use Rattle.std.proofs.lemmas.Option.{same_Some}
 use Rattle.mv_ast.specs.declared.unit.Declarator.{Declarator}
 use Rattle.mv_ast.specs.declared.unit.Item.{Item}
 use Rattle.mv_check_scope.specs.Scoped.{declared}
 use Rattle.mv_check_scope.specs.Spaces.{named, or_else}
 use Rattle.mv_check_scope.specs.declared.meaning.Meaning.{Meaning}
-use Rattle.mv_check_scope.specs.declared.meaning.Meaning.TheVariants as meaning
-use Rattle.mv_check_scope.specs.declared.meaning.Storage.{Storage}
-use Rattle.mv_check_scope.specs.declared.meaning.Storage.TheVariants as storage
 use Rattle.mv_check_scope.specs.declared.scope.Scope.{Scope}
 use Rattle.mv_check_outline.specs.Names.{is_among, same_name}
 use Rattle.mv_check_rules.specs.Nodes.{Declared, Given, Global}
 use Rattle.mv_check_rules.specs.Nodes as node
 use Rattle.mv_check_rules.specs.Rules.{meaning_here, stands_here, allows_object, concluded}
 use Rattle.mv_check_rules.specs.Declarations.{given, named_unless}
-use Rattle.mv_check_rules.specs.Units.{Declarations, constant_expression, global_in, global_number, global_at, earlier, object_meaning, object_named, declared_again, new_global, with_global, object_found, object}
+use Rattle.mv_check_rules.specs.Units.{Declarations, constant_expression, global_number, global_at, earlier, object_meaning, object_named, declared_again, new_global, with_global, object_found, object}
 use Rattle.mv_accepts_statements.proofs.Judging.{IfGood, if_any, if_more, if_then}
 use Rattle.mv_accepts_statements.proofs.Lists.{all_more}
 use Rattle.mv_accepts_statements.proofs.Names.{named_last, names_kept}
 use Rattle.mv_accepts_statements.proofs.Places.{keeps_more, last_there}
 use Rattle.mv_accepts_texts.specs.Expressions.{NameList}
-use Rattle.mv_accepts_texts.specs.Meanings.{is_stored, is_global}
+use Rattle.mv_accepts_texts.specs.Meanings.{is_global}
 use Rattle.mv_accepts_texts.specs.Texts.{Part, next}
 use Rattle.mv_accepts_texts.proofs.Functions.{rules_kept}
-use Rattle.mv_accepts_texts.proofs.Lists.{name_itself, name_is, among_last, among_more, there_last, set_same}
+use Rattle.mv_accepts_numbers.proofs.Lists.{set_same}
+use Rattle.mv_accepts_numbers.proofs.NameLists.{name_itself, name_is, among_last, among_more}
+use Rattle.mv_accepts_texts.proofs.Lists.{there_last}
 use Rattle.mv_accepts_texts.proofs.Files.{texts_same, global_names, Sound}
-
--- a global that is meant, by its number
-stored_global : (s : Storage) (k : ℕ) → global_in s ≡ Some k → is_stored k s ≡ true
-stored_global (storage.Global g) k h = eq-eqb k g (sym (same_Some g k h))
-stored_global (storage.Local l) k h = absurd (cc)
-
-numbered_global : (m : Option Meaning) (k : ℕ) → global_number m ≡ Some k → is_global k m ≡ true
-numbered_global (Some (meaning.Object v)) k h = stored_global v.storage k h
-numbered_global (Some (meaning.Array a)) k h = stored_global a.storage k h
-numbered_global None k h = absurd (cc)
-numbered_global (Some m) k h = absurd (cc)
 
 -- what an object that may be declared again is
 again_there : (gs : List Global) (number : Option ℕ) (d : Declared) (g : Given) (domain : Option (List ℕ)) → allows_object (global_at gs number) d g domain ≡ true →

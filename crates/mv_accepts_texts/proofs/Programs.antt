@@ -35,7 +35,7 @@ use Rattle.mv_accepts_texts.specs.Texts.{in_turn, item_objects, objects_named}
 use Rattle.mv_accepts_texts.proofs.Forms.{StmtsName}
 use Rattle.mv_accepts_texts.proofs.Scopes.{few, few_both}
 use Rattle.mv_accepts_texts.proofs.Functions.{rules_kept}
-use Rattle.mv_accepts_texts.proofs.Lists.{name_itself, name_is}
+use Rattle.mv_accepts_numbers.proofs.NameLists.{name_itself, name_is}
 use Rattle.mv_accepts_texts.proofs.Files.{bool_same, file_global, global_names, Sound}
 use Rattle.mv_accepts_texts.proofs.Units.{Told, HasNumber, Known, KnownItem, unit_sound}
 

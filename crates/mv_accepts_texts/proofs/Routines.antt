@@ -20,7 +20,6 @@ use Rattle.mv_check_expressions.specs.Judgements.{value_judgement}
 use Rattle.mv_check_limits.specs.Ordered.{line_parameters}
 use Rattle.mv_check_outline.specs.Names.{is_among, same_name}
 use Rattle.mv_check_outline.specs.Outlined as outlined
-use Rattle.mv_check_outline.specs.Outlined.{name_of}
 use Rattle.mv_check_rules.specs.Nodes as node
 use Rattle.mv_check_rules.specs.Rules.{stands_here, is_given, breaches, concluded}
 use Rattle.mv_check_rules.specs.Declarations.{given}
@@ -33,7 +32,9 @@ use Rattle.mv_accepts_texts.specs.Texts.{Part, next, names_in_function}
 use Rattle.mv_accepts_texts.proofs.Forms.{StmtsName}
 use Rattle.mv_accepts_texts.proofs.Scopes.{few, FewIn}
 use Rattle.mv_accepts_texts.proofs.Locals.{params_counts}
-use Rattle.mv_accepts_texts.proofs.Lists.{name_itself, name_is, place_within, all_pass, set_there}
+use Rattle.mv_accepts_numbers.proofs.Lists.{set_there}
+use Rattle.mv_accepts_numbers.proofs.NameLists.{name_itself, name_is}
+use Rattle.mv_accepts_texts.proofs.Lists.{place_within, all_pass}
 use Rattle.mv_accepts_texts.proofs.Functions.{rules_kept, names_same, Defined, definition_tells}
 use Rattle.mv_accepts_texts.proofs.Files.{file_global, Steady, steady_names, steady_declared, Sound, sound_behind, sound_text}
 

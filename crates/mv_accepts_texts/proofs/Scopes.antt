@@ -83,7 +83,7 @@ few counts = first_above 8 counts ≡ None
 abbrev pub FewIn : Scope → Type 0
 FewIn s = few (map (λ f. length f.params) s.signatures)
 
-both_none : (a b : Option ℕ) → option_or a b ≡ None → (a ≡ None) × (b ≡ None)
+pub both_none : (a b : Option ℕ) → option_or a b ≡ None → (a ≡ None) × (b ≡ None)
 both_none None b h = (refl, h)
 both_none (Some c) b h = absurd (cc)
 

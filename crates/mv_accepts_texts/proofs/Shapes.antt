@@ -3,9 +3,9 @@ use Rattle.std.proofs.Common.{◌≡◌, ℕ, ◌+◌, Bool, true, false, refl, 
 use Rattle.std.specs.List.{concat}
 use Rattle.mv_ast.specs.declared.program.CType.{CType}
 use Rattle.mv_ast.specs.declared.program.Signature.{Signature}
-use Rattle.mv_ast.specs.declared.unit.Declarator.{Declarator, Declarator-F, roll-Declarator, map-Declarator, fold-Declarator, fold-roll-Declarator}
-use Rattle.mv_ast.specs.declared.unit.Param.{Param, Param-F, roll-Param, map-Param, fold-Param, fold-roll-Param}
-use Rattle.mv_ast.specs.declared.unit.Shape.{Shape, Shape-F, roll-Shape, map-Shape, ind-Shape, fold-roll-Shape}
+use Rattle.mv_ast.specs.declared.unit.Declarator.{Declarator, roll-Declarator, map-Declarator, fold-roll-Declarator}
+use Rattle.mv_ast.specs.declared.unit.Param.{Param, roll-Param, map-Param, fold-roll-Param}
+use Rattle.mv_ast.specs.declared.unit.Shape.{Shape, roll-Shape, map-Shape, fold-roll-Shape}
 use Rattle.mv_ast.specs.declared.unit.Shape.TheOpen as shape
 use Rattle.mv_check_scope.specs.declared.scope.Scope.{Scope}
 use Rattle.mv_check_scope.specs.Conversions.{same_signature}
@@ -16,6 +16,8 @@ use Rattle.mv_check_rules.specs.Nodes.{Declared}
 use Rattle.mv_check_rules.specs.Nodes as node
 use Rattle.mv_check_rules.specs.Rules.{concluded}
 use Rattle.mv_check_rules.specs.Declarations.{in_order, Base, found_next, attributes, specifiers, function_type, Shapes, Declarators, Params, parameter_types, written_size, shape_step, parameter_declared, type_or_void, declarator_step, param_step, declared_as}
+use Rattle.mv_check_rules.proofs.Shapes.{declarator_found, param_found}
+use Rattle.mv_accepts_statements.proofs.ShapeInduction.{ParamsWith, ShapeOver, DeclaratorOver, ParamOver, whole_shape, whole_declarator, whole_param, each_shape}
 use Rattle.mv_accepts_statements.proofs.Judging.{IfGood, if_any, if_more, if_then}
 use Rattle.mv_accepts_statements.proofs.Names.{left_is}
 use Rattle.mv_accepts_texts.proofs.Scopes.{few, FewIn, few_both, few_more, Moves, moves_same, moves_joined}
@@ -28,12 +30,6 @@ use Rattle.mv_accepts_texts.proofs.Specifiers.{Adds}
 abbrev pub Keeps : List ℕ → Scope → Scope → Type 0
 Keeps counts s t = (t.names ≡ s.names) × (few counts → FewIn s → FewIn t)
 
-abbrev pub declarator_found : Declarator → Declarators
-declarator_found = fold-Declarator Shapes Declarators Params shape_step declarator_step param_step
-
-abbrev pub param_found : Param → Params
-param_found = fold-Param Shapes Declarators Params shape_step declarator_step param_step
-
 abbrev ShapeIs : Shape → Type 0
 ShapeIs x = (t : CType) (fixed : Bool) (s : Scope) → IfGood (declared_as x t fixed s) (λ d. Keeps (shape_parameters x) s d.0)
 
@@ -43,29 +39,11 @@ DeclaratorIs x = (base : Base) (s : Scope) → IfGood (declarator_found x base s
 abbrev ParamIs : Param → Type 0
 ParamIs x = (s : Scope) → IfGood (param_found x s) (λ d. Moves (param_parameters x) s d.0)
 
-abbrev S : Type 0
-S = (x : Shape) × ShapeIs x
+abbrev params_found : List (ParamsWith ShapeIs DeclaratorIs ParamIs) → List Params
+params_found ps = map param_found (map (λ (p : ParamsWith ShapeIs DeclaratorIs ParamIs). p.0) ps)
 
-abbrev D : Type 0
-D = (x : Declarator) × DeclaratorIs x
-
-abbrev P : Type 0
-P = (x : Param) × ParamIs x
-
-abbrev shape_of : Shape-F S D P → Shape-F Shape Declarator Param
-shape_of = map-Shape S D P Shape Declarator Param (λ a. a.0) (λ a. a.0) (λ a. a.0)
-
-abbrev declarator_of : Declarator-F S D P → Declarator-F Shape Declarator Param
-declarator_of = map-Declarator S D P Shape Declarator Param (λ a. a.0) (λ a. a.0) (λ a. a.0)
-
-abbrev param_of : Param-F S D P → Param-F Shape Declarator Param
-param_of = map-Param S D P Shape Declarator Param (λ a. a.0) (λ a. a.0) (λ a. a.0)
-
-abbrev params_found : List P → List Params
-params_found ps = map param_found (map (λ (p : P). p.0) ps)
-
-abbrev counts_of : List P → List (List ℕ)
-counts_of ps = map param_parameters (map (λ (p : P). p.0) ps)
+abbrev counts_of : List (ParamsWith ShapeIs DeclaratorIs ParamIs) → List (List ℕ)
+counts_of ps = map param_parameters (map (λ (p : ParamsWith ShapeIs DeclaratorIs ParamIs). p.0) ps)
 
 -- ---- a function's type
 
@@ -80,10 +58,10 @@ with_few t (u ∷ ts) h k =
     by true i j = k
     by false i j = few_more (length u.params ∷ []) (map (λ f. length f.params) (with_signature t ts)) j i
 
-abbrev Types : List P → Scope × List CType → Scope × List CType → Type 0
+abbrev Types : List (ParamsWith ShapeIs DeclaratorIs ParamIs) → Scope × List CType → Scope × List CType → Type 0
 Types ps d e = Moves (concat (counts_of ps)) d.0 e.0 × (length e.1 ≡ length d.1 + length (counts_of ps))
 
-types_move : (ps : List P) (d : Scope × List CType) → IfGood (in_order (found_next (λ p. p)) (params_found ps) d) (Types ps d)
+types_move : (ps : List (ParamsWith ShapeIs DeclaratorIs ParamIs)) (d : Scope × List CType) → IfGood (in_order (found_next (λ p. p)) (params_found ps) d) (Types ps d)
 types_move [] d = (moves_same d.0, omega arith)
 types_move (p ∷ ps) d =
     if_then (Types (p ∷ []) d) (Types (p ∷ ps) d) (found_next (λ p. p) (param_found p.0) d) (in_order (found_next (λ p. p)) (params_found ps))
@@ -97,7 +75,7 @@ types_move (p ∷ ps) d =
     joined d e z h k = moves_joined (param_parameters p.0) (concat (counts_of ps)) d.0 e.0 z.0
         (record { around = h.around; few = λ f. h.few (few_more (param_parameters p.0) [] f refl) }) k
 
-type_keeps : (t : CType) (ps : List P) (s : Scope) →
+type_keeps : (t : CType) (ps : List (ParamsWith ShapeIs DeclaratorIs ParamIs)) (s : Scope) →
     IfGood (parameter_types (params_found ps) s) (λ d. Keeps (of_type (counts_of ps)) s (function_type t d).0)
 type_keeps t ps s =
     if_more (Types ps (block_entered s, [])) (λ d. Keeps (of_type (counts_of ps)) s (function_type t d).0) (parameter_types (params_found ps) s)
@@ -111,13 +89,13 @@ type_keeps t ps s =
 
 -- ---- steps
 
-abbrev shape_judged : Shape-F S D P → Shapes
-shape_judged z = shape_step (map-Shape Shape Declarator Param Shapes Declarators Params declared_as declarator_found param_found (shape_of z))
+abbrev shape_judged : ShapeOver ShapeIs DeclaratorIs ParamIs → Shapes
+shape_judged z = shape_step (map-Shape Shape Declarator Param Shapes Declarators Params declared_as declarator_found param_found (whole_shape ShapeIs DeclaratorIs ParamIs z))
 
-abbrev shape_counts : Shape-F S D P → List ℕ
-shape_counts z = shape_layer (map-Shape Shape Declarator Param (List ℕ) (List ℕ) (List ℕ) shape_parameters declarator_parameters param_parameters (shape_of z))
+abbrev shape_counts : ShapeOver ShapeIs DeclaratorIs ParamIs → List ℕ
+shape_counts z = shape_layer (map-Shape Shape Declarator Param (List ℕ) (List ℕ) (List ℕ) shape_parameters declarator_parameters param_parameters (whole_shape ShapeIs DeclaratorIs ParamIs z))
 
-shapes_keep : (z : Shape-F S D P) (t : CType) (fixed : Bool) (s : Scope) → IfGood (shape_judged z t fixed s) (λ d. Keeps (shape_counts z) s d.0)
+shapes_keep : (z : ShapeOver ShapeIs DeclaratorIs ParamIs) (t : CType) (fixed : Bool) (s : Scope) → IfGood (shape_judged z t fixed s) (λ d. Keeps (shape_counts z) s d.0)
 shapes_keep shape.Plain t fixed s = (refl, λ f h. h)
 shapes_keep (shape.Array size) t fixed s =
     if_then (λ n. Unit {0}) (λ d. Keeps [] s d.0) (written_size s size) _ (if_any (written_size s size)) (λ n u. (refl, λ f h. h))
@@ -136,8 +114,8 @@ parameter_moves : (counts : List ℕ) (name : Option (List ℕ)) (e : Declared) 
 parameter_moves counts None e s t h = record { around = ap (λ names. names.around) h.0; few = h.1 }
 parameter_moves counts (Some name) e s t h = record { around = ap (λ names. names.around) h.0; few = h.1 }
 
-declarators_move : (z : Declarator-F S D P) (base : Base) (s : Scope) →
-    IfGood (declarator_step (map-Declarator Shape Declarator Param Shapes Declarators Params declared_as declarator_found param_found (declarator_of z)) base s)
+declarators_move : (z : DeclaratorOver ShapeIs DeclaratorIs ParamIs) (base : Base) (s : Scope) →
+    IfGood (declarator_step (map-Declarator Shape Declarator Param Shapes Declarators Params declared_as declarator_found param_found (whole_declarator ShapeIs DeclaratorIs ParamIs z)) base s)
     (λ d. Moves (shape_parameters z.shape.0) s d.0)
 declarators_move z base s =
     let c : List ℕ = shape_parameters z.shape.0 in
@@ -148,8 +126,8 @@ declarators_move z base s =
     if_more (λ d. d ≡ found) (λ d. Moves c s d.0) (concluded z.place e.0 (node.Parameter false z.name e.1) found)
     (λ d q. subst (λ (d : Scope × CType). Moves c s d.0) (sym q) (parameter_moves c z.name e.1 s e.0 h)) (if_found z.place found _)))
 
-params_move : (z : Param-F S D P) (s : Scope) →
-    IfGood (param_step (map-Param Shape Declarator Param Shapes Declarators Params declared_as declarator_found param_found (param_of z)) s)
+params_move : (z : ParamOver ShapeIs DeclaratorIs ParamIs) (s : Scope) →
+    IfGood (param_step (map-Param Shape Declarator Param Shapes Declarators Params declared_as declarator_found param_found (whole_param ShapeIs DeclaratorIs ParamIs z)) s)
     (λ d. Moves (declarator_parameters z.name.0) s d.0)
 params_move z s =
     if_then (λ d. Adds (enumerators_of z.specs) s d.0) (λ d. Moves (declarator_parameters z.name.0) s d.0)
@@ -159,31 +137,29 @@ params_move z s =
 
 -- ---- by induction
 
-shape_is : (y : Shape-F S D P) → ShapeIs (roll-Shape (shape_of y))
+shape_is : (y : ShapeOver ShapeIs DeclaratorIs ParamIs) → ShapeIs (roll-Shape (whole_shape ShapeIs DeclaratorIs ParamIs y))
 unfolding shape_parameters declarator_parameters param_parameters
 shape_is y t fixed s =
-    subst (λ (x : Shapes). IfGood (x t fixed s) (λ d. Keeps (shape_parameters (roll-Shape (shape_of y))) s d.0))
-    (sym (fold-roll-Shape Shapes Declarators Params shape_step declarator_step param_step (shape_of y)))
+    subst (λ (x : Shapes). IfGood (x t fixed s) (λ d. Keeps (shape_parameters (roll-Shape (whole_shape ShapeIs DeclaratorIs ParamIs y))) s d.0))
+    (sym (fold-roll-Shape Shapes Declarators Params shape_step declarator_step param_step (whole_shape ShapeIs DeclaratorIs ParamIs y)))
     (subst (λ c. IfGood (shape_judged y t fixed s) (λ d. Keeps c s d.0))
-    (sym (fold-roll-Shape (List ℕ) (List ℕ) (List ℕ) shape_layer declarator_layer param_layer (shape_of y))) (shapes_keep y t fixed s))
+    (sym (fold-roll-Shape (List ℕ) (List ℕ) (List ℕ) shape_layer declarator_layer param_layer (whole_shape ShapeIs DeclaratorIs ParamIs y))) (shapes_keep y t fixed s))
 
-declarator_is : (y : Declarator-F S D P) → DeclaratorIs (roll-Declarator (declarator_of y))
+declarator_is : (y : DeclaratorOver ShapeIs DeclaratorIs ParamIs) → DeclaratorIs (roll-Declarator (whole_declarator ShapeIs DeclaratorIs ParamIs y))
 unfolding shape_parameters declarator_parameters param_parameters
 declarator_is y base s =
-    subst (λ (x : Declarators). IfGood (x base s) (λ d. Moves (declarator_parameters (roll-Declarator (declarator_of y))) s d.0))
-    (sym (fold-roll-Declarator Shapes Declarators Params shape_step declarator_step param_step (declarator_of y)))
-    (subst (λ c. IfGood (declarator_step (map-Declarator Shape Declarator Param Shapes Declarators Params declared_as declarator_found param_found (declarator_of y)) base s) (λ d. Moves c s d.0))
-    (sym (fold-roll-Declarator (List ℕ) (List ℕ) (List ℕ) shape_layer declarator_layer param_layer (declarator_of y))) (declarators_move y base s))
+    subst (λ (x : Declarators). IfGood (x base s) (λ d. Moves (declarator_parameters (roll-Declarator (whole_declarator ShapeIs DeclaratorIs ParamIs y))) s d.0))
+    (sym (fold-roll-Declarator Shapes Declarators Params shape_step declarator_step param_step (whole_declarator ShapeIs DeclaratorIs ParamIs y)))
+    (subst (λ c. IfGood (declarator_step (map-Declarator Shape Declarator Param Shapes Declarators Params declared_as declarator_found param_found (whole_declarator ShapeIs DeclaratorIs ParamIs y)) base s) (λ d. Moves c s d.0))
+    (sym (fold-roll-Declarator (List ℕ) (List ℕ) (List ℕ) shape_layer declarator_layer param_layer (whole_declarator ShapeIs DeclaratorIs ParamIs y))) (declarators_move y base s))
 
-param_is : (y : Param-F S D P) → ParamIs (roll-Param (param_of y))
+param_is : (y : ParamOver ShapeIs DeclaratorIs ParamIs) → ParamIs (roll-Param (whole_param ShapeIs DeclaratorIs ParamIs y))
 unfolding shape_parameters declarator_parameters param_parameters
 param_is y s =
-    subst (λ (x : Params). IfGood (x s) (λ d. Moves (param_parameters (roll-Param (param_of y))) s d.0))
-    (sym (fold-roll-Param Shapes Declarators Params shape_step declarator_step param_step (param_of y)))
-    (subst (λ c. IfGood (param_step (map-Param Shape Declarator Param Shapes Declarators Params declared_as declarator_found param_found (param_of y)) s) (λ d. Moves c s d.0))
-    (sym (fold-roll-Param (List ℕ) (List ℕ) (List ℕ) shape_layer declarator_layer param_layer (param_of y))) (params_move y s))
+    subst (λ (x : Params). IfGood (x s) (λ d. Moves (param_parameters (roll-Param (whole_param ShapeIs DeclaratorIs ParamIs y))) s d.0))
+    (sym (fold-roll-Param Shapes Declarators Params shape_step declarator_step param_step (whole_param ShapeIs DeclaratorIs ParamIs y)))
+    (subst (λ c. IfGood (param_step (map-Param Shape Declarator Param Shapes Declarators Params declared_as declarator_found param_found (whole_param ShapeIs DeclaratorIs ParamIs y)) s) (λ d. Moves c s d.0))
+    (sym (fold-roll-Param (List ℕ) (List ℕ) (List ℕ) shape_layer declarator_layer param_layer (whole_param ShapeIs DeclaratorIs ParamIs y))) (params_move y s))
 
 pub declared_keeps : (x : Shape) → ShapeIs x
-declared_keeps x =
-    ind-Shape ShapeIs DeclaratorIs ParamIs (λ x y q. subst (λ z. ShapeIs (roll-Shape z)) q (shape_is y))
-    (λ x y q. subst (λ z. DeclaratorIs (roll-Declarator z)) q (declarator_is y)) (λ x y q. subst (λ z. ParamIs (roll-Param z)) q (param_is y)) x
+declared_keeps = each_shape ShapeIs DeclaratorIs ParamIs shape_is declarator_is param_is

@@ -6,9 +6,9 @@ use Rattle.mv_ast.specs.declared.program.CType.{CType}
 use Rattle.mv_ast.specs.declared.program.Expr.{Expr}
 use Rattle.mv_ast.specs.declared.program.Stmt.{Stmt}
 use Rattle.mv_ast.specs.declared.program.Stmt.TheVariants as stmt
-use Rattle.mv_ast.specs.declared.unit.Act.{Act, Act-F, roll-Act, map-Act, fold-Act, fold-roll-Act}
+use Rattle.mv_ast.specs.declared.unit.Act.{Act, roll-Act, map-Act, fold-Act, fold-roll-Act}
 use Rattle.mv_ast.specs.declared.unit.Act.TheOpen as act
-use Rattle.mv_ast.specs.declared.unit.Line.{Line, Line-F, roll-Line, map-Line, ind-Line, fold-roll-Line}
+use Rattle.mv_ast.specs.declared.unit.Line.{Line, roll-Line, fold-roll-Line}
 use Rattle.mv_ast.specs.declared.unit.Node.{Node}
 use Rattle.mv_ast.specs.Operators.{converted}
 use Rattle.mv_check_scope.specs.Conversions.{is_integer, promotion, promoted, converted_to}
@@ -19,8 +19,10 @@ use Rattle.mv_check_expressions.specs.Judgements.{value_judgement, effect_judgem
 use Rattle.mv_check_limits.specs.Ordered.{declarator_parameters, act_layer, line_layer, act_parameters, line_parameters}
 use Rattle.mv_check_rules.specs.Nodes as node
 use Rattle.mv_check_rules.specs.Rules.{least_broken, concluded}
-use Rattle.mv_check_rules.specs.Declarations.{Found, constant, local_declaration}
+use Rattle.mv_check_rules.specs.Declarations.{constant, local_declaration}
 use Rattle.mv_check_rules.specs.Statements.{Surroundings, Piece, Labelled, Otherwise, Statement, labels, has_default, arms, Judges, Layer, loop_around, switch_around, lines, pieces, optional, alone, express, convert_result, is_block, arms_if_any, for_behind, statement_found, statement_of, line_of, piece_of, switch_body_of, function_body_of, act_step, line_step, judges, body, function_around}
+use Rattle.mv_check_rules.proofs.Statements.{act_found, no_pieces}
+use Rattle.mv_accepts_statements.proofs.LineInduction.{LinesWith, ActOver, LineOver, whole_act, whole_line, every_line}
 use Rattle.mv_accepts_statements.proofs.Judging.{IfGood, by_good, if_any, if_more, if_then}
 use Rattle.mv_accepts_texts.specs.Expressions.{NameList, names_in, names_in_any}
 use Rattle.mv_accepts_texts.specs.Meanings.{names_global}
@@ -68,9 +70,6 @@ module _ (start : Scope) where
 
   -- ---- the trees, and what is made of them
 
-  abbrev act_found : Act → Place → Judges
-  act_found = fold-Act (Place → Judges) Judges act_step line_step
-
   abbrev act_text : Act → Part
   act_text = fold-Act Part Part act_part line_part
 
@@ -80,39 +79,30 @@ module _ (start : Scope) where
   abbrev LineIs : Line → Type 0
   LineIs l = Told (judges l) (part_of l) (line_parameters l)
 
-  abbrev A : Type 0
-  A = (x : Act) × ActIs x
+  abbrev found_of : ActOver ActIs LineIs → Layer
+  found_of y = map-Act Act Line (Place → Judges) Judges act_found judges (whole_act ActIs LineIs y)
 
-  abbrev L : Type 0
-  L = (l : Line) × LineIs l
+  abbrev text_of : ActOver ActIs LineIs → Part
+  text_of y = act_part (map-Act Act Line Part Part act_text part_of (whole_act ActIs LineIs y))
 
-  abbrev below : Act-F A L → Act-F Act Line
-  below = map-Act A L Act Line (λ a. a.0) (λ a. a.0)
+  abbrev counts_of : ActOver ActIs LineIs → List ℕ
+  counts_of y = act_layer (map-Act Act Line (List ℕ) (List ℕ) act_parameters line_parameters (whole_act ActIs LineIs y))
 
-  abbrev found_of : Act-F A L → Layer
-  found_of y = map-Act Act Line (Place → Judges) Judges act_found judges (below y)
+  abbrev judges_all : List (LinesWith ActIs LineIs) → List Judges
+  judges_all ls = map judges (map (λ (l : LinesWith ActIs LineIs). l.0) ls)
 
-  abbrev text_of : Act-F A L → Part
-  text_of y = act_part (map-Act Act Line Part Part act_text part_of (below y))
+  abbrev text_all : List (LinesWith ActIs LineIs) → Part
+  text_all ls = in_turn (map part_of (map (λ (l : LinesWith ActIs LineIs). l.0) ls))
 
-  abbrev counts_of : Act-F A L → List ℕ
-  counts_of y = act_layer (map-Act Act Line (List ℕ) (List ℕ) act_parameters line_parameters (below y))
-
-  abbrev judges_all : List L → List Judges
-  judges_all ls = map judges (map (λ (l : L). l.0) ls)
-
-  abbrev text_all : List L → Part
-  text_all ls = in_turn (map part_of (map (λ (l : L). l.0) ls))
-
-  abbrev counts_all : List L → List ℕ
-  counts_all ls = concat (map line_parameters (map (λ (l : L). l.0) ls))
+  abbrev counts_all : List (LinesWith ActIs LineIs) → List ℕ
+  counts_all ls = concat (map line_parameters (map (λ (l : LinesWith ActIs LineIs). l.0) ls))
 
   -- ---- lists of lines
 
   nothing_told : (s : Scope) (made : ℕ → Bool) → ((g : ℕ) → made g ≡ false) → Tells start (naming []) [] s s made
   nothing_told s made h = tells_naming start [] s made h
 
-  lines_tell : (ls : List L) (a : Surroundings) (d : Scope × List Stmt) → IfGood (lines (judges_all ls) a d) (ToLines (text_all ls) (counts_all ls) d)
+  lines_tell : (ls : List (LinesWith ActIs LineIs)) (a : Surroundings) (d : Scope × List Stmt) → IfGood (lines (judges_all ls) a d) (ToLines (text_all ls) (counts_all ls) d)
   lines_tell [] a d = ([], sym (append-nil d.1), nothing_told d.0 (λ g. false) (λ g. refl))
   lines_tell (l ∷ ls) a d =
       if_then (ToLines (part_of l.0) (line_parameters l.0) d) (ToLines (text_all (l ∷ ls)) (counts_all (l ∷ ls)) d) ((judges l.0).line a d) (lines (judges_all ls) a)
@@ -125,7 +115,7 @@ module _ (start : Scope) where
             (tells_next start (part_of l.0) (text_all ls) (line_parameters l.0) (counts_all ls) d.0 e.0 z.0 _ _ h.2 k.2),
       )) (lines_tell ls a e))
 
-  pieces_tell : (ls : List L) (t : CType) (a : Surroundings) (d : Scope × List Piece) → IfGood (pieces (judges_all ls) t a d) (ToPieces (text_all ls) (counts_all ls) d)
+  pieces_tell : (ls : List (LinesWith ActIs LineIs)) (t : CType) (a : Surroundings) (d : Scope × List Piece) → IfGood (pieces (judges_all ls) t a d) (ToPieces (text_all ls) (counts_all ls) d)
   pieces_tell [] t a d = ([], sym (append-nil d.1), nothing_told d.0 (λ g. false) (λ g. refl))
   pieces_tell (l ∷ ls) t a d =
       if_then (ToPieces (part_of l.0) (line_parameters l.0) d) (ToPieces (text_all (l ∷ ls)) (counts_all (l ∷ ls)) d) ((judges l.0).piece t a d) (pieces (judges_all ls) t a)
@@ -159,7 +149,7 @@ module _ (start : Scope) where
 
   -- ---- parts of statements
 
-  alone_told : (l : L) (a : Surroundings) (s : Scope) → IfGood (alone (judges l.0) a s) (ToPart (part_of l.0) (line_parameters l.0) s)
+  alone_told : (l : LinesWith ActIs LineIs) (a : Surroundings) (s : Scope) → IfGood (alone (judges l.0) a s) (ToPart (part_of l.0) (line_parameters l.0) s)
   alone_told l a s =
       if_then (ToStmt (part_of l.0) (line_parameters l.0) s) (ToPart (part_of l.0) (line_parameters l.0) s) ((judges l.0).statement a s) _ (l.1.statement a s) (λ d h.
       tells_made start _ _ s d.0 _ _ (λ g. stmts_one g d.1) h)
@@ -169,10 +159,10 @@ module _ (start : Scope) where
 
   -- ---- statements
 
-  abbrev State : Act-F A L → Scope → Scope × Stmt → Type 0
+  abbrev State : ActOver ActIs LineIs → Scope → Scope × Stmt → Type 0
   State y = ToStmt (text_of y) (counts_of y)
 
-  for_told : (first : Option L) (test step : Option Node) (l : L) (a : Surroundings) (s : Scope) (f : Scope × List Stmt) (c : List ℕ) (p : Part) →
+  for_told : (first : Option (LinesWith ActIs LineIs)) (test step : Option Node) (l : LinesWith ActIs LineIs) (a : Surroundings) (s : Scope) (f : Scope × List Stmt) (c : List ℕ) (p : Part) →
       ToPart p c (block_entered s) f →
       IfGood (for_behind test step (judges l.0) a f)
       (ToStmt (block (next p (next (naming (names_in_any test)) (next (naming (names_in_any step)) (part_of l.0))))) (c ++ line_parameters l.0) s)
@@ -205,7 +195,7 @@ module _ (start : Scope) where
   converted_option g t None = refl
   converted_option g t (Some e) = any_one g (converted_to t e) ∙ (converted_names g t e ∙ sym (any_one g e))
 
-  statements_tell : (y : Act-F A L) (place : Place) (a : Surroundings) (s : Scope) → IfGood (statement_of (found_of y) place a s) (State y s)
+  statements_tell : (y : ActOver ActIs LineIs) (place : Place) (a : Surroundings) (s : Scope) → IfGood (statement_of (found_of y) place a s) (State y s)
   statements_tell (act.Block ls) place a s =
       if_then (ToLines (text_all ls) (counts_all ls) (block_entered s, [])) (State (act.Block ls) s) (lines (judges_all ls) a (block_entered s, [])) _
       (lines_tell ls a (block_entered s, [])) (λ d h.
@@ -283,20 +273,20 @@ module _ (start : Scope) where
 
   -- ---- lines, pieces and bodies
 
-  abbrev Lines : Act-F A L → Scope × List Stmt → Scope × List Stmt → Type 0
+  abbrev Lines : ActOver ActIs LineIs → Scope × List Stmt → Scope × List Stmt → Type 0
   Lines y = ToLines (text_of y) (counts_of y)
 
   then_line : (p : Part) (c : List ℕ) (d : Scope × List Stmt) (j : Judged (Scope × Stmt)) → IfGood j (ToStmt p c d.0) →
       IfGood (and_then j (λ e. Good (e.0, d.1 ++ e.1 ∷ []))) (ToLines p c d)
   then_line p c d j h = if_then (ToStmt p c d.0) (ToLines p c d) j _ h (λ e k. (e.1 ∷ [], refl, tells_made start p c d.0 e.0 _ _ (λ g. stmts_one g e.1) k))
 
-  lines_of_tell : (y : Act-F A L) (place : Place) (a : Surroundings) (d : Scope × List Stmt) → IfGood (line_of (found_of y) place a d) (Lines y d)
+  lines_of_tell : (y : ActOver ActIs LineIs) (place : Place) (a : Surroundings) (d : Scope × List Stmt) → IfGood (line_of (found_of y) place a d) (Lines y d)
   lines_of_tell (act.Declare specs ds) place a d =
       if_then (ToPart (next (declaring (enumerators_of specs)) (in_turn (map declarator ds))) (concat (map declarator_parameters ds)) d.0) (Lines (act.Declare specs ds) d)
       (local_declaration d.0 specs ds) _ (declaration_tells start d.0 specs ds) (λ e h. (e.1, refl, h))
   lines_of_tell y place a d = then_line (text_of y) (counts_of y) d (statement_of (found_of y) place a d.0) (statements_tell y place a d.0)
 
-  abbrev Pieces : Act-F A L → Scope × List Piece → Scope × List Piece → Type 0
+  abbrev Pieces : ActOver ActIs LineIs → Scope × List Piece → Scope × List Piece → Type 0
   Pieces y = ToPieces (text_of y) (counts_of y)
 
   label_told : (d : Scope × List Piece) (x : Piece) → ((g : ℕ) → PiecesName g (x ∷ []) ≡ false) → ToPieces (naming []) [] d (d.0, d.1 ++ x ∷ [])
@@ -317,17 +307,14 @@ module _ (start : Scope) where
       or_nothing true = refl
       or_nothing false = refl
 
-  pieces_of_tell : (y : Act-F A L) (place : Place) (t : CType) (a : Surroundings) (d : Scope × List Piece) → IfGood (piece_of (found_of y) place t a d) (Pieces y d)
+  pieces_of_tell : (y : ActOver ActIs LineIs) (place : Place) (t : CType) (a : Surroundings) (d : Scope × List Piece) → IfGood (piece_of (found_of y) place t a d) (Pieces y d)
   pieces_of_tell (act.Case e) place t a d =
       if_then (λ c. Unit {0}) (Pieces (act.Case e) d) (constant d.0 e) _ (if_any (constant d.0 e)) (λ c u.
       labelled_told place (node.Case t (labels d.1) c) d (Labelled (converted t c.value)) (λ g. refl))
   pieces_of_tell act.Default place t a d = labelled_told place (node.Default (has_default d.1)) d Otherwise (λ g. refl)
   pieces_of_tell y place t a d = then_piece (text_of y) (counts_of y) d (statement_of (found_of y) place a d.0) (statements_tell y place a d.0)
 
-  abbrev no_pieces : Scope × Stmt → Found (Option (List Piece))
-  no_pieces d = Good (d.0, None)
-
-  switch_bodies_tell : (y : Act-F A L) (place : Place) (t : CType) (a : Surroundings) (s : Scope) →
+  switch_bodies_tell : (y : ActOver ActIs LineIs) (place : Place) (t : CType) (a : Surroundings) (s : Scope) →
       IfGood (switch_body_of (found_of y) place t a s) (ToBody (text_of y) (counts_of y) s)
   switch_bodies_tell (act.Block ls) place t a s =
       if_then (ToPieces (text_all ls) (counts_all ls) (block_entered s, [])) (ToBody (block (text_all ls)) (counts_all ls) s) (pieces (judges_all ls) t a (block_entered s, [])) _
@@ -342,7 +329,7 @@ module _ (start : Scope) where
   block_told : (p : Part) (c : List ℕ) (s t : Scope) (ss : List Stmt) → Body p c s t ss → Body (block p) c s t ss
   block_told p c s t ss h = record { moves = h.moves; named = h.named }
 
-  function_bodies_tell : (y : Act-F A L) (place : Place) (a : Surroundings) (s : Scope) →
+  function_bodies_tell : (y : ActOver ActIs LineIs) (place : Place) (a : Surroundings) (s : Scope) →
       IfGood (function_body_of (found_of y) place a s) (λ d. Body (text_of y) (counts_of y) s d.0 d.1)
   function_bodies_tell (act.Block ls) place a s =
       if_more (ToLines (text_all ls) (counts_all ls) (s, [])) (λ d. Body (block (text_all ls)) (counts_all ls) s d.0 d.1) (lines (judges_all ls) a (s, []))
@@ -353,7 +340,7 @@ module _ (start : Scope) where
 
   -- ---- by induction
 
-  steps_tell : (y : Act-F A L) (place : Place) → Told (act_step (found_of y) place) (text_of y) (counts_of y)
+  steps_tell : (y : ActOver ActIs LineIs) (place : Place) → Told (act_step (found_of y) place) (text_of y) (counts_of y)
   steps_tell y place = record {
     statement = statements_tell y place;
     line = lines_of_tell y place;
@@ -362,27 +349,24 @@ module _ (start : Scope) where
     function_body = function_bodies_tell y place;
   }
 
-  act_is : (y : Act-F A L) → ActIs (roll-Act (below y))
+  act_is : (y : ActOver ActIs LineIs) → ActIs (roll-Act (whole_act ActIs LineIs y))
   unfolding part_of act_parameters line_parameters
   act_is y place =
-      subst (λ (x : Place → Judges). Told (x place) (act_text (roll-Act (below y))) (act_parameters (roll-Act (below y))))
-      (sym (fold-roll-Act (Place → Judges) Judges act_step line_step (below y)))
-      (subst (λ (p : Part). Told (act_step (found_of y) place) p (act_parameters (roll-Act (below y)))) (sym (fold-roll-Act Part Part act_part line_part (below y)))
-      (subst (Told (act_step (found_of y) place) (text_of y)) (sym (fold-roll-Act (List ℕ) (List ℕ) act_layer line_layer (below y))) (steps_tell y place)))
+      subst (λ (x : Place → Judges). Told (x place) (act_text (roll-Act (whole_act ActIs LineIs y))) (act_parameters (roll-Act (whole_act ActIs LineIs y))))
+      (sym (fold-roll-Act (Place → Judges) Judges act_step line_step (whole_act ActIs LineIs y)))
+      (subst (λ (p : Part). Told (act_step (found_of y) place) p (act_parameters (roll-Act (whole_act ActIs LineIs y)))) (sym (fold-roll-Act Part Part act_part line_part (whole_act ActIs LineIs y)))
+      (subst (Told (act_step (found_of y) place) (text_of y)) (sym (fold-roll-Act (List ℕ) (List ℕ) act_layer line_layer (whole_act ActIs LineIs y))) (steps_tell y place)))
 
-  abbrev line_below : Line-F A L → Line-F Act Line
-  line_below = map-Line A L Act Line (λ a. a.0) (λ a. a.0)
-
-  line_is : (y : Line-F A L) → LineIs (roll-Line (line_below y))
+  line_is : (y : LineOver ActIs LineIs) → LineIs (roll-Line (whole_line ActIs LineIs y))
   unfolding part_of act_parameters line_parameters
   line_is y =
-      subst (λ (x : Judges). Told x (part_of (roll-Line (line_below y))) (line_parameters (roll-Line (line_below y))))
-      (sym (fold-roll-Line (Place → Judges) Judges act_step line_step (line_below y)))
-      (subst (λ (p : Part). Told (act_found y.what.0 y.place) p (line_parameters (roll-Line (line_below y)))) (sym (fold-roll-Line Part Part act_part line_part (line_below y)))
-      (subst (Told (act_found y.what.0 y.place) (act_text y.what.0)) (sym (fold-roll-Line (List ℕ) (List ℕ) act_layer line_layer (line_below y))) (y.what.1 y.place)))
+      subst (λ (x : Judges). Told x (part_of (roll-Line (whole_line ActIs LineIs y))) (line_parameters (roll-Line (whole_line ActIs LineIs y))))
+      (sym (fold-roll-Line (Place → Judges) Judges act_step line_step (whole_line ActIs LineIs y)))
+      (subst (λ (p : Part). Told (act_found y.what.0 y.place) p (line_parameters (roll-Line (whole_line ActIs LineIs y)))) (sym (fold-roll-Line Part Part act_part line_part (whole_line ActIs LineIs y)))
+      (subst (Told (act_found y.what.0 y.place) (act_text y.what.0)) (sym (fold-roll-Line (List ℕ) (List ℕ) act_layer line_layer (whole_line ActIs LineIs y))) (y.what.1 y.place)))
 
   line_told : (l : Line) → LineIs l
-  line_told l = ind-Line ActIs LineIs (λ x y q. subst (λ z. ActIs (roll-Act z)) q (act_is y)) (λ x y q. subst (λ z. LineIs (roll-Line z)) q (line_is y)) l
+  line_told = every_line ActIs LineIs act_is line_is
 
   pub body_tells : (t : CType) (b : Line) (s : Scope) → IfGood (body t b s) (λ d. Body (part_of b) (line_parameters b) s d.0 d.1)
   body_tells t b s = (line_told b).function_body (function_around t) s

@@ -16,7 +16,7 @@ use Rattle.mv_check_declarations.specs.declared.attributes.Holder.{Holder}
 use Rattle.mv_check_declarations.specs.declared.attributes.Position.{Position}
 use Rattle.mv_check_declarations.specs.declared.specifiers.Specified as code_specified
 use Rattle.mv_check_declarations.specs.Attributes as code
-use Rattle.mv_check_declarations.specs.Specifiers.{type_by_rules, at_file, enum_specifier, nothing_said}
+use Rattle.mv_check_declarations.specs.Specifiers.{type_by_rules}
 use Rattle.mv_check_declarations.specs.Specifiers as code_specifiers
 use Rattle.mv_check_declarations.specs.Turns.{Behind}
 use Rattle.mv_check_rules.specs.Nodes.{Bearer}

@@ -26,7 +26,6 @@ use Rattle.mv_check_declarations.specs.declared.specifiers.Specified.{Specified}
 use Rattle.mv_check_declarations.specs.Attributes as code_attributes
 use Rattle.mv_check_declarations.specs.Declarators.{designated}
 use Rattle.mv_check_declarations.specs.Globals as code_globals
-use Rattle.mv_check_declarations.specs.Globals.{global_words}
 use Rattle.mv_check_declarations.specs.Initials as code_initials
 use Rattle.mv_check_declarations.specs.Objects as code_objects
 use Rattle.mv_check_declarations.specs.Specifiers as code_specifiers

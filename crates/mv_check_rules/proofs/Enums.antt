@@ -18,7 +18,7 @@ use Rattle.mv_check_declarations.specs.Enumerators as code
 use Rattle.mv_check_declarations.specs.Specifiers.{tagged}
 use Rattle.mv_check_declarations.specs.Specifiers as specifiers
 use Rattle.mv_check_declarations.specs.Turns.{Behind, through}
-use Rattle.mv_check_rules.specs.Nodes.{Enumeration, Undeclared, Again, Numbered}
+use Rattle.mv_check_rules.specs.Nodes.{Enumeration, Again, Numbered}
 use Rattle.mv_check_rules.specs.Nodes as node
 use Rattle.mv_check_rules.specs.Rules.{stands_here, is_again, first_broken, unless_broken, concluded}
 use Rattle.mv_check_rules.specs.Rules as rules

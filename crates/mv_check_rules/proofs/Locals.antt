@@ -1,5 +1,5 @@
 -- Declarations in a block agree.
-use Rattle.std.proofs.Common.{◌≡◌, ℕ, suc, ◌+◌, refl, arith, sym, ◌∙◌, ap, Bool, true, false, ◌||◌, ◌&&◌, not, nat_eq, nat_le, unwrap_or, if◌then◌else◌, Option, Some, None, List, [], ◌∷◌, ◌++◌, map, length}
+use Rattle.std.proofs.Common.{◌≡◌, ℕ, refl, arith, sym, ◌∙◌, ap, Bool, true, false, ◌||◌, ◌&&◌, not, nat_eq, nat_le, if◌then◌else◌, Option, Some, None, List, [], ◌∷◌, ◌++◌, map, length}
 use Rattle.std.proofs.lemmas.Bool.Decides.{nat_tests}
 use Rattle.std.proofs.lemmas.List.{length-map}
 use Rattle.mv_ast.specs.declared.place.Place.{Place}
@@ -12,7 +12,6 @@ use Rattle.mv_ast.specs.declared.program.Stmt.TheVariants as stmt
 use Rattle.mv_ast.specs.declared.unit.Declarator.{Declarator}
 use Rattle.mv_ast.specs.declared.unit.Initial.{Initial}
 use Rattle.mv_ast.specs.declared.unit.Initial.TheVariants as initial
-use Rattle.mv_ast.specs.declared.unit.Node.{Node}
 use Rattle.mv_ast.specs.declared.unit.Specs.{out-Specs}
 use Rattle.mv_check_scope.specs.declared.meaning.Meaning.{Meaning}
 use Rattle.mv_check_scope.specs.declared.scope.Scope.{Scope}
@@ -20,18 +19,17 @@ use Rattle.mv_check_scope.specs.Constants.{converts}
 use Rattle.mv_check_scope.specs.Conversions.{is_void, converted_to}
 use Rattle.mv_check_scope.specs.Scoped.{declared, with_local}
 use Rattle.mv_check_expressions.specs.declared.constant.Constant.{Constant}
-use Rattle.mv_check_expressions.specs.Judged.{Judged, Good, Broken, and_then, each}
+use Rattle.mv_check_expressions.specs.Judged.{Judged, Good, Broken, and_then}
 use Rattle.mv_check_expressions.specs.Judgements.{value_judgement}
 use Rattle.mv_check_declarations.specs.declared.attributes.Position.TheVariants as position
 use Rattle.mv_check_declarations.specs.declared.declarators.Entity.{Entity}
 use Rattle.mv_check_declarations.specs.declared.declarators.Entity.TheVariants as entity
 use Rattle.mv_check_declarations.specs.declared.initials.Converted.{Converted}
-use Rattle.mv_check_declarations.specs.Constants.{is_positive}
 use Rattle.mv_check_declarations.specs.Initials.{initial_values}
 use Rattle.mv_check_declarations.specs.Initials as code_initials
 use Rattle.mv_check_declarations.specs.Objects.{scalar, array, sized, least}
 use Rattle.mv_check_declarations.specs.Objects as objects
-use Rattle.mv_check_declarations.specs.Locals.{scalar_meaning, array_meaning, own_scope, local_values, rule_of_function, by_entity}
+use Rattle.mv_check_declarations.specs.Locals.{scalar_meaning, array_meaning, own_scope, rule_of_function, by_entity}
 use Rattle.mv_check_declarations.specs.Locals as code
 use Rattle.mv_check_declarations.specs.Declarators as code_declarators
 use Rattle.mv_check_rules.specs.Nodes.{Declared, Given, Nothing, Value, Values, Characters}
@@ -43,62 +41,8 @@ use Rattle.mv_check_rules.proofs.Parts.{or_true, or_false, IfGood, then_from, th
 use Rattle.mv_check_rules.proofs.Attributes.{attributes_agree}
 use Rattle.mv_check_rules.proofs.Bases.{specifiers_agree, holders_agree}
 use Rattle.mv_check_rules.proofs.Shapes.{declared_agrees}
+use Rattle.mv_check_rules.proofs.Values.{IsOf, given_is, sizes_agree}
 use Rattle.mv_check_rules.proofs.Initials.{given_same, values_of, converted_all, values_agree}
-
--- ---- what is given
-
--- that a value has the form of its tree, and a list as many values
-abbrev HasForm : Option Initial → Given → Type 0
-HasForm None Nothing = Unit {0}
-HasForm (Some (initial.Value n)) (Value e) = Unit {0}
-HasForm (Some (initial.Values ns)) (Values es) = length ns ≡ length es
-HasForm (Some (initial.Chars bytes)) (Characters more) = bytes ≡ more
-HasForm _ _ = ⊥
-
-as_many : (ns : List Node) (f : Node → Judged Expr) → IfGood (λ es. length ns ≡ length es) (each (map f ns))
-as_many [] f = refl
-as_many (n ∷ ns) f = by (f n) (each (map f ns)) (as_many ns f)
-  where
-    by : (j : Judged Expr) (k : Judged (List Expr)) → IfGood (λ es. length ns ≡ length es) k →
-        IfGood (λ es. length (n ∷ ns) ≡ length es) (and_then j (λ e. and_then k (λ rest. Good (e ∷ rest))))
-    by (Good e) (Good es) h = ap suc h
-    by (Good e) (Broken place rule) h = tt
-    by (Broken place rule) k h = tt
-
-formed : (values : Option Initial) (s : Scope) → IfGood (HasForm values) (given value_judgement values s)
-formed None s = tt
-formed (Some (initial.Value n)) s = by (value_judgement s n)
-  where
-    by : (j : Judged Expr) → IfGood (HasForm (Some (initial.Value n))) (and_then j (λ e. Good (Value e)))
-    by (Good e) = tt
-    by (Broken place rule) = tt
-formed (Some (initial.Values ns)) s = by (each (map (value_judgement s) ns)) (as_many ns (value_judgement s))
-  where
-    by : (j : Judged (List Expr)) → IfGood (λ es. length ns ≡ length es) j → IfGood (HasForm (Some (initial.Values ns))) (and_then j (λ es. Good (Values es)))
-    by (Good es) h = h
-    by (Broken place rule) h = tt
-formed (Some (initial.Chars bytes)) s = refl
-
--- ---- sizes
-
-none_if_zero : (n : ℕ) → unwrap_or (code_initials.unless_zero n) 0 ≡ n
-none_if_zero n = by (nat_eq n 0) refl
-  where
-    by : (none : Bool) → nat_eq n 0 ≡ none → unwrap_or (if none then None else Some n) 0 ≡ n
-    by true q = grind (arith, nat_tests)
-    by false q = refl
-
-sizes_agree : (size : Option Constant) (values : Option Initial) (g : Given) → HasForm values g → unwrap_or (code_initials.array_size size values) 0 ≡ array_size size g
-sizes_agree (Some c) values g h = by (is_positive c)
-  where
-    by : (positive : Bool) → unwrap_or (if positive then Some c.value else None) 0 ≡ (if positive then c.value else 0)
-    by true = refl
-    by false = refl
-sizes_agree None None Nothing h = refl
-sizes_agree None (Some (initial.Value n)) (Value e) h = refl
-sizes_agree None (Some (initial.Values ns)) (Values es) h = none_if_zero (length ns) ∙ h
-sizes_agree None (Some (initial.Chars bytes)) (Characters more) h = ap (λ b. length b + 1) h
-sizes_agree None values g h = elim h [ ]
 
 -- ---- objects
 
@@ -119,7 +63,7 @@ abbrev count : CType → Given → ℕ
 count t g = length (map (converted_to t) (expressions_of g))
 
 module _ (t : CType) (fixed : Bool) where
-  scalar_converts : (values : Option Initial) (g : Given) → HasForm values g →
+  scalar_converts : (values : Option Initial) (g : Given) → IsOf values g →
       (not (is_void t) && not (converts_given (node.Scalar t fixed) g)) ≡ objects.is_unconverted (scalar t) values (converted_all t g)
   scalar_converts None Nothing h = refl
   scalar_converts (Some (initial.Value n)) (Value e) h = ap (λ b. not (is_void t) && b) (or_false (not (converts e t)))
@@ -127,7 +71,7 @@ module _ (t : CType) (fixed : Bool) where
   scalar_converts (Some (initial.Chars bytes)) (Characters more) h = refl
   scalar_converts values g h = elim h [ ]
 
-  scalar_extents : (values : Option Initial) (g : Given) → HasForm values g →
+  scalar_extents : (values : Option Initial) (g : Given) → IsOf values g →
       (is_string g || not (fits_extent (node.Scalar t fixed) g)) ≡ objects.breaks_extents false (scalar t) values (count t g)
   scalar_extents None Nothing h = refl
   scalar_extents (Some (initial.Value n)) (Value e) h = refl
@@ -135,7 +79,7 @@ module _ (t : CType) (fixed : Bool) where
   scalar_extents (Some (initial.Chars bytes)) (Characters more) h = refl
   scalar_extents values g h = elim h [ ]
 
-  array_converts : (size : Option Constant) (n : ℕ) (values : Option Initial) (g : Given) → HasForm values g →
+  array_converts : (size : Option Constant) (n : ℕ) (values : Option Initial) (g : Given) → IsOf values g →
       (not (is_void t) && not (converts_given (node.Array t fixed size) g)) ≡ objects.is_unconverted (array t n) values (converted_all t g)
   array_converts size n None Nothing h = refl
   array_converts size n (Some (initial.Value e)) (Value x) h = ap (λ b. not (is_void t) && b) (or_true (not (converts x t)))
@@ -150,7 +94,7 @@ module _ (t : CType) (fixed : Bool) where
   no_room true fits = refl
   no_room false fits = refl
 
-  array_extents : (n : ℕ) (values : Option Initial) (g : Given) → HasForm values g →
+  array_extents : (n : ℕ) (values : Option Initial) (g : Given) → IsOf values g →
       (is_string g || not (not (nat_eq n 0) && nat_le (filled g) n)) ≡ objects.breaks_extents false (array t n) values (count t g)
   array_extents n None Nothing h = no_room (nat_eq n 0) (nat_le 0 n) ∙ ap (λ b. nat_eq n 0 || not b) (none_fit n)
   array_extents n (Some (initial.Value m)) (Value e) h = no_room (nat_eq n 0) (nat_le 0 n) ∙ ap (λ b. nat_eq n 0 || not b) (none_fit n)
@@ -162,13 +106,13 @@ module _ (t : CType) (fixed : Bool) where
 -- ---- what follows values
 
 module _ (t : CType) (values : Option Initial) (own other : Scope) (same : given value_judgement values other ≡ given value_judgement values own) {R : Type 0}
-    (next : Given → Judged R) (rest : Converted → Judged R) (agree : (g : Given) → HasForm values g → next g ≡ rest (values_of t g)) where
+    (next : Given → Judged R) (rest : Converted → Judged R) (agree : (g : Given) → IsOf values g → next g ≡ rest (values_of t g)) where
   values_then : and_then (given value_judgement values other) next ≡ and_then (initial_values t values own) rest
   values_then =
       ap (λ j. and_then j next) same ∙
-      (by (given value_judgement values own) (formed values own) ∙ ap (λ j. and_then j rest) (sym (values_agree t own values)))
+      (by (given value_judgement values own) (given_is value_judgement values own) ∙ ap (λ j. and_then j rest) (sym (values_agree t own values)))
     where
-      by : (j : Judged Given) → IfGood (HasForm values) j → and_then j next ≡ and_then (mapped (values_of t) j) rest
+      by : (j : Judged Given) → IfGood (IsOf values) j → and_then j next ≡ and_then (mapped (values_of t) j) rest
       by (Good g) h = agree g h
       by (Broken place rule) h = refl
 
@@ -202,7 +146,7 @@ module _ (place : Place) (values : Option Initial) (s : Scope) (t : CType) (fixe
   abbrev rules_conclude : Option (List ℕ) → Declared → Given → Judged (Scope × Stmt)
   rules_conclude name d g = concluded place s (local_node name d g) (local_found s (local_named s name d) d g)
 
-  scalar_concluded : (name : Option (List ℕ)) (g : Given) → HasForm values g →
+  scalar_concluded : (name : Option (List ℕ)) (g : Given) → IsOf values g →
       rules_conclude name (node.Scalar t fixed) g ≡ code_concludes name (scalar t) (scalar_meaning (length s.locals) t fixed) (values_of t g)
   unfolding own_scope
   scalar_concluded None g h = refl
@@ -221,7 +165,7 @@ module _ (place : Place) (values : Option Initial) (s : Scope) (t : CType) (fixe
       found : Scope × Stmt
       found = local_found s (local_named s (Some name) (node.Scalar t fixed)) (node.Scalar t fixed) g
 
-  array_concluded : (size : Option Constant) (name : Option (List ℕ)) (g : Given) → HasForm values g →
+  array_concluded : (size : Option Constant) (name : Option (List ℕ)) (g : Given) → IsOf values g →
       rules_conclude name (node.Array t fixed size) g ≡ code_concludes name (array t (array_size size g)) (array_meaning (length s.locals) t fixed) (values_of t g)
   unfolding own_scope
   array_concluded size None g h = refl

@@ -1,5 +1,5 @@
 -- Declarators of objects at file scope agree.
-use Rattle.std.proofs.Common.{◌≡◌, ℕ, zero, suc, refl, sym, ◌∙◌, ap, subst, Bool, true, false, ◌&&◌, ◌||◌, not, nat_eq, nat_le, is_some, is_none, unwrap_or, if◌then◌else◌, Option, Some, None, List, [], ◌∷◌, ◌++◌, map, length, slice_get, eqb-true, le-leb, arith}
+use Rattle.std.proofs.Common.{◌≡◌, ℕ, zero, suc, refl, sym, ◌∙◌, ap, subst, Bool, true, false, ◌&&◌, ◌||◌, not, nat_eq, nat_le, is_some, is_none, unwrap_or, Option, Some, None, List, [], ◌∷◌, ◌++◌, map, length, slice_get, le-leb, arith}
 use Rattle.std.specs.Prelude.{slice_set}
 use Rattle.std.proofs.lemmas.Bool.{true≢false}
 use Rattle.std.proofs.lemmas.List.{length-map, map-set, map-append}
@@ -25,12 +25,10 @@ use Rattle.mv_check_scope.specs.Scoped.{declared}
 use Rattle.mv_check_expressions.specs.declared.constant.Constant.{Constant}
 use Rattle.mv_check_expressions.specs.Judged.{Judged, Good, Broken, and_then}
 use Rattle.mv_check_declarations.specs.declared.globals.Words.{Words}
-use Rattle.mv_check_declarations.specs.Constants.{is_positive}
 use Rattle.mv_check_declarations.specs.Initials as code_initials
-use Rattle.mv_check_declarations.specs.Initials.{unless_zero}
 use Rattle.mv_check_declarations.specs.Globals.{no_words, global_words}
 use Rattle.mv_check_declarations.specs.Objects as code_objects
-use Rattle.mv_check_declarations.specs.Objects.{scalar, array, sized, is_single, is_unconverted, breaks_extents, is_overfull, least}
+use Rattle.mv_check_declarations.specs.Objects.{scalar, array, sized, is_unconverted, breaks_extents, least}
 use Rattle.mv_types.specs.declared.contents.Contents.{Contents}
 use Rattle.mv_types.specs.declared.contents.Object.{Object}
 use Rattle.mv_types.specs.Foreknown.{foreknown}
@@ -42,9 +40,9 @@ use Rattle.mv_check_rules.specs.Rules.{all_convert, converts_given, array_size, 
 use Rattle.mv_check_rules.specs.Declarations.{given, local_size, type_or_void, named_unless}
 use Rattle.mv_check_rules.specs.Units.{Declarations, constant_expression, word_of, first_words, global_in, global_number, global_at, object_meaning, first_of, new_global, declared_again, with_global, object_named, object_found, earlier, object}
 use Rattle.mv_check_rules.proofs.Agreement.{mapped}
-use Rattle.mv_check_rules.proofs.Parts.{then_then}
+use Rattle.mv_check_rules.proofs.Parts.{IfGood, then_then}
 use Rattle.mv_check_rules.proofs.Program.{object_of, contents_of}
-use Rattle.mv_check_rules.proofs.Values.{IsOf, IfIsOf, given_is, added, add_word, words_of, words_agree, all_convert_added, words_added}
+use Rattle.mv_check_rules.proofs.Values.{IsOf, given_is, sizes_agree, added, add_word, words_of, words_agree, all_convert_added, words_added}
 use Rattle.mv_check_rules.proofs.Routines.{given_same}
 
 -- ---- what is written and what is given
@@ -99,24 +97,6 @@ no_string true true w = refl
 no_string true false w = refl
 no_string false true w = refl
 no_string false false w = refl
-
--- ---- sizes
-
-unless_zero_same : (n : ℕ) → unwrap_or (unless_zero n) 0 ≡ n
-unless_zero_same n = by (nat_eq n 0) refl
-  where
-    by : (b : Bool) → nat_eq n 0 ≡ b → unwrap_or (if b then None else Some n) 0 ≡ n
-    by true e = sym (eqb-true n 0 e)
-    by false e = refl
-
-pub size_same : (size : Option Constant) (v : Option Initial) (g : Given) → IsOf v g → unwrap_or (code_initials.array_size size v) 0 ≡ array_size size g
-size_same (Some c) v g h = by (is_positive c)
-  where
-    by : (b : Bool) → unwrap_or (if b then Some c.value else None) 0 ≡ (if b then c.value else 0)
-    by true = refl
-    by false = refl
-size_same None v g h =
-    by_kind (λ v g. unwrap_or (code_initials.array_size None v) 0 ≡ array_size None g) refl (λ n e. refl) (λ ns es h. unless_zero_same (length ns) ∙ h) (λ bytes. refl) v g h
 
 -- ---- the rules of an object
 
@@ -375,7 +355,7 @@ module _ (items : List Item) (d : Declarator) (name : List ℕ) (domain : Option
       ap (λ os. record (contents_of c) { scope = s; objects = os }) (objects_same name domain e d.initial g is rules.goes c.globals before allowed)))))
 
   -- with the values that it is given
-  by_given : (s : Scope) (l : Local) (e : Declared) (j : Judged Given) → IfIsOf d.initial j → ((g : Given) → IsOf d.initial g → AreRules e d.initial g) →
+  by_given : (s : Scope) (l : Local) (e : Declared) (j : Judged Given) → IfGood (IsOf d.initial) j → ((g : Given) → IsOf d.initial g → AreRules e d.initial g) →
       ((g : Given) → IsOf d.initial g → l ≡ object_local e g) →
       and_then (mapped (words_of l) j) (judged s l) ≡ mapped contents_of (and_then j (concluded_object s e))
   by_given s l e (Broken place rule) is rules size = refl
@@ -416,4 +396,4 @@ module _ (items : List Item) (d : Declarator) (name : List ℕ) (domain : Option
   unfolding foreknown
   array_agrees t fixed size =
       whole (sized t (code_initials.array_size size d.initial)) (Array t fixed size) (λ n. refl) (array_rules t fixed size d.initial)
-      (λ g is. ap (array t) (size_same size d.initial g is))
+      (λ g is. ap (array t) (sizes_agree size d.initial g is))

@@ -34,9 +34,9 @@ use Rattle.mv_check_rules.specs.Rules.{is_prototype, allows_function, is_given, 
 use Rattle.mv_check_rules.specs.Declarations.{given}
 use Rattle.mv_check_rules.specs.Units.{Declarations, behind, function_number, is_attributed, is_defined, is_defined_at, routine_named, params_of_form, params_of, function_entered, function_left, definition, defined_if, defined_parameters, routine}
 use Rattle.mv_check_rules.proofs.Agreement.{mapped, ParametersAgree, BodyAgrees}
-use Rattle.mv_check_rules.proofs.Parts.{then_same, then_to}
+use Rattle.mv_check_rules.proofs.Parts.{IfGood, then_same, then_to}
 use Rattle.mv_check_rules.proofs.Program.{contents_of}
-use Rattle.mv_check_rules.proofs.Values.{IsOf, IfIsOf, given_is, converted_of, initial_agrees}
+use Rattle.mv_check_rules.proofs.Values.{IsOf, given_is, converted_of, initial_agrees}
 
 -- ---- what is given
 
@@ -151,7 +151,7 @@ module _ (parameters_agree : ParametersAgree) where
       abbrev ruled : Scope → Bool → Judged Contents
       ruled s given = code.unless_broken d.place (broken_rule allowed twice given) (code.defined (foreknown items) name result (params_of d) b (function_number items name) (in_scope (contents_of c) s))
 
-      by_given : (s : Scope) (j : Judged Given) → IfIsOf d.initial j →
+      by_given : (s : Scope) (j : Judged Given) → IfGood (IsOf d.initial) j →
           and_then (mapped (converted_of Void) j) (λ x. ruled s (is_some d.initial)) ≡
           mapped contents_of (and_then j (λ g.
           and_then

@@ -15,10 +15,9 @@ use Rattle.mv_check_declarations.specs.declared.attributes.Position.TheVariants 
 use Rattle.mv_check_declarations.specs.declared.declarators.Entity.{Entity}
 use Rattle.mv_check_declarations.specs.declared.declarators.Entity.TheVariants as entity
 use Rattle.mv_check_declarations.specs.declared.specifiers.Specified.{Specified}
-use Rattle.mv_check_declarations.specs.Declarators.{is_taken_by, new_parameter, parameter_of, size_of}
+use Rattle.mv_check_declarations.specs.Declarators.{new_parameter, size_of}
 use Rattle.mv_check_declarations.specs.Declarators as code
 use Rattle.mv_check_declarations.specs.Turns.{Behind, next_part, in_turn}
-use Rattle.mv_check_rules.specs.Nodes.{Declared, Bearer}
 use Rattle.mv_check_rules.specs.Nodes as node
 use Rattle.mv_check_rules.specs.Rules.{stands_here, first_broken, unless_broken, concluded}
 use Rattle.mv_check_rules.specs.Declarations.{Found, in_order, found_next, Shapes, Declarators, Params, written_size, parameter_types, function_type, shape_step, type_or_void, parameter_declared, declarator_step, param_step, declared_as}
@@ -38,10 +37,10 @@ DeclaratorsAgree x y = (base : Specified) (s : Scope) → x (base_of_specified b
 abbrev ParamsAgree : Params → code.Params → Type 0
 ParamsAgree x y = (s : Scope) → x s ≡ y s
 
-abbrev declarator_found : Declarator → Declarators
+abbrev pub declarator_found : Declarator → Declarators
 declarator_found = fold-Declarator Shapes Declarators Params shape_step declarator_step param_step
 
-abbrev param_found : Param → Params
+abbrev pub param_found : Param → Params
 param_found = fold-Param Shapes Declarators Params shape_step declarator_step param_step
 
 -- ---- steps

@@ -13,7 +13,7 @@ use Rattle.mv_check_declarations.specs.declared.attributes.Attribute.{Attribute}
 use Rattle.mv_check_declarations.specs.declared.specifiers.Enumeration as said
 use Rattle.mv_check_declarations.specs.declared.specifiers.Said.{Said}
 use Rattle.mv_check_declarations.specs.Attributes as code
-use Rattle.mv_check_declarations.specs.Specifiers.{count_before_list, count_before, enum_specifier}
+use Rattle.mv_check_declarations.specs.Specifiers.{count_before_list, enum_specifier}
 use Rattle.mv_check_declarations.specs.Specifiers as specifiers
 use Rattle.mv_check_declarations.specs.Turns.{through}
 use Rattle.mv_check_rules.specs.Nodes.{Bearer, Enumeration}

@@ -21,7 +21,7 @@ use Rattle.mv_check_expressions.specs.Judgements.{value_judgement, effect_judgem
 use Rattle.mv_check_declarations.specs.Turns.{Behind}
 use Rattle.mv_check_statements.specs.declared.around.Around.{Around}
 use Rattle.mv_check_statements.specs.declared.arms.Arms.{Arms}
-use Rattle.mv_check_statements.specs.Statements.{returned, switched, switch_of}
+use Rattle.mv_check_statements.specs.Statements.{returned, switched}
 use Rattle.mv_check_statements.specs.Statements as code
 use Rattle.mv_check_statements.specs.Surroundings.{in_function, in_loop, in_switch}
 use Rattle.mv_check_statements.specs.SwitchBodies.{arms_of, case_label, default_label, converts_constant, with_case, with_default}
@@ -157,7 +157,7 @@ module _ (judgement : Scope → Node → Judged Expr) where
   optional_agrees s None = refl
   optional_agrees s (Some e) = refl
 
-abbrev act_found : Act → Place → Judges
+abbrev pub act_found : Act → Place → Judges
 act_found = fold-Act (Place → Judges) Judges act_step line_step
 
 abbrev act_judged : Act → Place → code.Judges
@@ -250,7 +250,7 @@ piece_agrees act.Default place t a d = default_concluded place d.0 d.1
 piece_agrees y place t a d =
     then_to (over gathered) _ _ (λ e. ap (λ g. Good (e.0, g)) (sym (gathered_more d.1 (Statement e.1)))) _ _ (sym (statement_agrees y place a d.0))
 
-abbrev no_pieces : Scope × Stmt → Found (Option (List Piece))
+abbrev pub no_pieces : Scope × Stmt → Found (Option (List Piece))
 no_pieces d = Good (d.0, None)
 
 abbrev no_arms : Scope × Stmt → Behind (Option Arms)

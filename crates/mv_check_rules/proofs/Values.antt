@@ -1,5 +1,5 @@
 -- Initial values, which the code judges and gathers in one go, agree with those that are judged first and then put together.
-use Rattle.std.proofs.Common.{◌≡◌, ℕ, refl, sym, ◌∙◌, ap, Bool, true, false, ◌&&◌, ◌||◌, not, unwrap_or, Option, Some, None, List, [], ◌∷◌, ◌++◌, map, length, suc, append_assoc, append-nil}
+use Rattle.std.proofs.Common.{◌≡◌, ℕ, ◌+◌, refl, sym, ◌∙◌, ap, Bool, true, false, ◌&&◌, ◌||◌, not, nat_eq, eqb-true, unwrap_or, if◌then◌else◌, Option, Some, None, List, [], ◌∷◌, ◌++◌, map, length, suc, append_assoc, append-nil}
 use Rattle.std.specs.List.{list_any}
 use Rattle.mv_ast.specs.declared.program.CType.{CType}
 use Rattle.mv_ast.specs.declared.program.Expr.{Expr}
@@ -12,6 +12,7 @@ use Rattle.mv_ast.specs.declared.unit.Initial.TheVariants as initial
 use Rattle.mv_ast.specs.declared.unit.Node.{Node}
 use Rattle.mv_check_scope.specs.declared.scope.Scope.{Scope}
 use Rattle.mv_check_scope.specs.Constants.{constant_value, converts}
+use Rattle.mv_check_expressions.specs.declared.constant.Constant.{Constant}
 use Rattle.mv_check_expressions.specs.Calls.{function_form, named_function}
 use Rattle.mv_check_expressions.specs.Judged.{Judged, Good, Broken, and_then, each}
 use Rattle.mv_check_expressions.specs.Judgements.{value_judgement}
@@ -20,13 +21,16 @@ use Rattle.mv_check_declarations.specs.declared.initials.Converted.{Converted}
 use Rattle.mv_check_declarations.specs.Turns.{through}
 use Rattle.mv_check_declarations.specs.Globals as code_globals
 use Rattle.mv_check_declarations.specs.Globals.{address_form, with_word, word_or_broken, first_word, no_words, string_words, global_words}
-use Rattle.mv_check_declarations.specs.Initials.{with_converted, converted_value, none_converted, initial_values}
+use Rattle.mv_check_declarations.specs.Initials.{with_converted, converted_value, none_converted, initial_values, unless_zero}
+use Rattle.mv_check_declarations.specs.Initials as code_initials
+use Rattle.mv_check_declarations.specs.Constants.{is_positive}
 use Rattle.mv_check_rules.specs.Nodes.{Given, Nothing, Value, Values, Characters}
 use Rattle.mv_check_rules.specs.Nodes as node
-use Rattle.mv_check_rules.specs.Rules.{all_convert, concluded}
+use Rattle.mv_check_rules.specs.Rules.{all_convert, array_size, concluded}
 use Rattle.mv_check_rules.specs.Declarations.{given}
 use Rattle.mv_check_rules.specs.Units.{address_or, constant_word, constant_expression, word_of}
 use Rattle.mv_check_rules.proofs.Agreement.{mapped}
+use Rattle.mv_check_rules.proofs.Parts.{IfGood}
 
 -- ---- values in their order
 
@@ -58,39 +62,48 @@ IsOf (Some (initial.Values ns)) (Values es) = length ns ≡ length es
 IsOf (Some (initial.Chars bytes)) (Characters them) = bytes ≡ them
 IsOf _ _ = ⊥
 
-abbrev pub IfIsOf : Option Initial → Judged Given → Type 0
-IfIsOf values (Good g) = IsOf values g
-IfIsOf values (Broken place rule) = Unit {0}
-
-abbrev Counted : ℕ → Judged (List Expr) → Type 0
-Counted n (Good es) = n ≡ length es
-Counted n (Broken place rule) = Unit {0}
-
-one_more : (n : ℕ) (e : Expr) (js : Judged (List Expr)) → Counted n js → Counted (suc n) (and_then js (λ es. Good (e ∷ es)))
-one_more n e (Good es) h = ap suc h
-one_more n e (Broken place rule) h = tt
-
-first_more : (n : ℕ) (j : Judged Expr) (js : Judged (List Expr)) → Counted n js → Counted (suc n) (and_then j (λ e. and_then js (λ es. Good (e ∷ es))))
-first_more n (Good e) js h = one_more n e js h
-first_more n (Broken place rule) js h = tt
-
-each_counted : (f : Node → Judged Expr) (ns : List Node) → Counted (length ns) (each (map f ns))
+each_counted : (f : Node → Judged Expr) (ns : List Node) → IfGood (λ es. length ns ≡ length es) (each (map f ns))
 each_counted f [] = refl
-each_counted f (n ∷ ns) = first_more (length ns) (f n) (each (map f ns)) (each_counted f ns)
+each_counted f (n ∷ ns) = by (f n) (each (map f ns)) (each_counted f ns)
+  where
+    by : (j : Judged Expr) (k : Judged (List Expr)) → IfGood (λ es. length ns ≡ length es) k →
+        IfGood (λ es. length (n ∷ ns) ≡ length es) (and_then j (λ e. and_then k (λ rest. Good (e ∷ rest))))
+    by (Good e) (Good es) h = ap suc h
+    by (Good e) (Broken place rule) h = tt
+    by (Broken place rule) k h = tt
 
-pub given_is : (f : Scope → Node → Judged Expr) (values : Option Initial) (s : Scope) → IfIsOf values (given f values s)
+pub given_is : (f : Scope → Node → Judged Expr) (values : Option Initial) (s : Scope) → IfGood (IsOf values) (given f values s)
 given_is f None s = tt
 given_is f (Some (initial.Value n)) s = by (f s n)
   where
-    by : (j : Judged Expr) → IfIsOf (Some (initial.Value n)) (and_then j (λ e. Good (Value e)))
+    by : (j : Judged Expr) → IfGood (IsOf (Some (initial.Value n))) (and_then j (λ e. Good (Value e)))
     by (Good e) = tt
     by (Broken place rule) = tt
 given_is f (Some (initial.Values ns)) s = by (each (map (f s) ns)) (each_counted (f s) ns)
   where
-    by : (js : Judged (List Expr)) → Counted (length ns) js → IfIsOf (Some (initial.Values ns)) (and_then js (λ es. Good (Values es)))
+    by : (js : Judged (List Expr)) → IfGood (λ es. length ns ≡ length es) js → IfGood (IsOf (Some (initial.Values ns))) (and_then js (λ es. Good (Values es)))
     by (Good es) h = h
     by (Broken place rule) h = tt
 given_is f (Some (initial.Chars bytes)) s = refl
+
+unless_zero_same : (n : ℕ) → unwrap_or (unless_zero n) 0 ≡ n
+unless_zero_same n = by (nat_eq n 0) refl
+  where
+    by : (b : Bool) → nat_eq n 0 ≡ b → unwrap_or (if b then None else Some n) 0 ≡ n
+    by true e = sym (eqb-true n 0 e)
+    by false e = refl
+
+pub sizes_agree : (size : Option Constant) (values : Option Initial) (g : Given) → IsOf values g → unwrap_or (code_initials.array_size size values) 0 ≡ array_size size g
+sizes_agree (Some c) values g h = by (is_positive c)
+  where
+    by : (positive : Bool) → unwrap_or (if positive then Some c.value else None) 0 ≡ (if positive then c.value else 0)
+    by true = refl
+    by false = refl
+sizes_agree None None Nothing h = refl
+sizes_agree None (Some (initial.Value n)) (Value e) h = refl
+sizes_agree None (Some (initial.Values ns)) (Values es) h = unless_zero_same (length ns) ∙ h
+sizes_agree None (Some (initial.Chars bytes)) (Characters more) h = ap (λ b. length b + 1) h
+sizes_agree None values g h = elim h [ ]
 
 -- ---- the values of locals and of functions
 

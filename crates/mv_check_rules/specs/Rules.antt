@@ -25,7 +25,7 @@ use Rattle.mv_check_expressions.specs.Calls.{known_arity, known_params}
 use Rattle.mv_check_expressions.specs.declared.constant.Constant.{Constant}
 use Rattle.mv_check_expressions.specs.Judged.{Judged, Good, Broken}
 use Rattle.mv_check_declarations.specs.Constants.{is_positive, is_value_of}
-use Rattle.mv_check_rules.specs.Nodes.{Declared, Scalar, Array, Function, Given, Nothing, Value, Values, Characters, Enumeration, Undeclared, Again, Numbered, Bearer, Global, Node}
+use Rattle.mv_check_rules.specs.Nodes.{Declared, Scalar, Array, Function, Given, Nothing, Value, Values, Characters, Enumeration, Undeclared, Again, Bearer, Global, Node}
 use Rattle.mv_check_rules.specs.Nodes as node
 
 -- ---- what the rules ask of objects

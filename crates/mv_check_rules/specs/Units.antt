@@ -37,7 +37,7 @@ use Rattle.mv_check_outline.specs.Outlined.{name_of, is_function, is_marked, is_
 use Rattle.mv_check_declarations.specs.ValueSets.{with_member}
 use Rattle.mv_types.specs.Foreknown as foreknown
 use Rattle.mv_check_uses.specs.Uses.{switches_named}
-use Rattle.mv_check_rules.specs.Nodes.{Declared, Scalar, Array, Function, Given, Nothing, Value, Values, Characters, Bearer, Global}
+use Rattle.mv_check_rules.specs.Nodes.{Declared, Scalar, Array, Function, Given, Nothing, Characters, Bearer, Global}
 use Rattle.mv_check_rules.specs.Nodes as node
 use Rattle.mv_check_rules.specs.Rules.{meaning_here, stands_here, is_empty, is_given, concluded}
 use Rattle.mv_check_rules.specs.Declarations.{Found, in_order, Base, Attribution, attributes, scalar_kind, specifiers, declared_as, parameters, given, expressions_of, type_or_void, local_size, named_unless}
