@@ -6,76 +6,49 @@ use Rattle.std.proofs.Math.Path.{fun_ext}
 use Rattle.mv_ast.specs.declared.program.Program.{Program}
 use Rattle.mv_ast.specs.declared.program.Function.{Function}
 use Rattle.mv_ast.specs.Counts.{is_attributed}
-use Rattle.mv_ast.specs.Plans.{is_among}
 use Rattle.mv_ir.specs.declared.body.Body.{Body}
 use Rattle.mv_select_trees.specs.Rooms.{place_in}
 use Rattle.mv_select_control.specs.Layouts.{size_in}
 use Rattle.mv_select_calls.specs.CallCode.{is_marked}
 use Rattle.mv_select_functions.specs.Functions.{shape_of}
-use Rattle.mv_lower_spec.specs.Functions.{functions_called, lower_function}
+use Rattle.mv_lower_spec.specs.Functions.{functions_called}
 use Rattle.mv_lower_shape.specs.Calls.{code_weight, function_weight}
 use Rattle.mv_lower_shape.specs.Law.{LoweredCallAsOften}
 use Rattle.mv_regalloc.specs.Intervals.{IsRenamed}
 use Rattle.mv_parts_bound.specs.Slots.{slot_weight, weight_where, SlotsWeighAsCalls}
-use Rattle.mv_parts_bound.proofs.FewSlots.{marked_among}
 use Rattle.mv_select.specs.Selected.{selected_lines}
 use Rattle.mv_count_slots.specs.Calls.{once_for, CalleesHaveSlots}
-use Rattle.mv_count_slots.proofs.Calls.{among_marked, each_among, same_renamed}
+use Rattle.mv_count_slots.proofs.Calls.{each_among, lowered, marked_attributed, other, no_other, same_renamed}
 use Rattle.mv_count_slots.proofs.Weights.{AddUp, weights_add}
 
 module _ (p : Program) (g : Function) (weight : ℕ → ℕ) where
-  abbrev lowered : Body
-  lowered = lower_function p g
-
-  abbrev is_called : ℕ → Bool
-  is_called f = is_among f (functions_called lowered.code)
-
   abbrev has_entry : ℕ → Bool
   has_entry f = is_attributed (slice_get p.functions f)
 
   abbrev marked : ℕ → Bool
-  marked = is_marked lowered.marked
+  marked = is_marked (lowered p g).marked
 
-  -- the weight of each attributed function that isn't marked
-  abbrev other : ℕ → ℕ
-  other f = cond (marked f) 0 (cond (has_entry f) (weight f) 0)
-
-  marked_attributed : (f : ℕ) → marked f ≡ true → has_entry f ≡ true
-  marked_attributed f e =
-      let (i, at, is) = marked_among is_called f 0 p.functions e in
-      let same : i ≡ f = omega (arith, at) in subst (λ k. is_attributed (slice_get p.functions k) ≡ true) same is
-
-  adds : (f : ℕ) → AddUp (weight_where has_entry weight) (weight_where marked weight) other f
-  adds f = by (marked f) (has_entry f) (marked_attributed f)
+  adds : (f : ℕ) → AddUp (weight_where has_entry weight) (weight_where marked weight) (other p g weight) f
+  adds f = by (marked f) (has_entry f) (marked_attributed p g f)
     where
       by : (m a : Bool) → (m ≡ true → a ≡ true) → cond a (weight f) 0 ≡ cond m (weight f) 0 + cond m 0 (cond a (weight f) 0)
       by true true h = omega arith
       by true false h = absurd (let bad : false ≡ true = h refl in cc)
       by false a h = omega arith
 
-  none_other : (f : ℕ) → is_called f ≡ true → other f ≡ 0
-  none_other f c = by (marked f) (has_entry f) (λ a. among_marked is_called f 0 p.functions c (f, omega arith, a))
-    where
-      by : (m a : Bool) → (a ≡ true → m ≡ true) → cond m 0 (cond a (weight f) 0) ≡ 0
-      by true a h = refl
-      by false true h = absurd (let bad : false ≡ true = h refl in cc)
-      by false false h = refl
-
   -- the calls of marked functions are those of attributed ones
-  same_weight : code_weight (weight_where has_entry weight) 0 lowered.code ≡ code_weight (weight_where marked weight) 0 lowered.code
+  same_weight : code_weight (weight_where has_entry weight) 0 (lowered p g).code ≡ code_weight (weight_where marked weight) 0 (lowered p g).code
   same_weight =
-      let all = weights_add (weight_where has_entry weight) (weight_where marked weight) other lowered.code
-      (each_among (AddUp (weight_where has_entry weight) (weight_where marked weight) other) (functions_called lowered.code) (λ f c. adds f)) in
-      let twice = weights_add other other other lowered.code
-      (each_among (AddUp other other other) (functions_called lowered.code) (λ f c. let none : other f ≡ 0 = none_other f c in omega (arith, none))) in
-      omega (arith, all, twice)
+      let all = weights_add (weight_where has_entry weight) (weight_where marked weight) (other p g weight) (lowered p g).code
+      (each_among (AddUp (weight_where has_entry weight) (weight_where marked weight) (other p g weight)) (functions_called (lowered p g).code) (λ f c. adds f)) in
+      omega (arith, all, no_other p g weight)
 
-  slots_weigh_calls : SlotsWeighAsCalls → (b : Body) → IsRenamed lowered b → (attributed : Bool)
-      → slot_weight weight (selected_lines attributed b) ≡ code_weight (weight_where has_entry weight) 0 lowered.code
+  slots_weigh_calls : SlotsWeighAsCalls → (b : Body) → IsRenamed (lowered p g) b → (attributed : Bool)
+      → slot_weight weight (selected_lines attributed b) ≡ code_weight (weight_where has_entry weight) 0 (lowered p g).code
   slots_weigh_calls weigh b r attributed =
       weigh (place_in b.rooms) (size_in b.rooms) (is_marked b.marked) (shape_of attributed b) b.code weight
       ∙ ap (λ fs. code_weight (weight_where (is_marked fs) weight) 0 b.code) (ap (λ (x : Body). x.marked) r.changes)
-      ∙ same_renamed lowered b r (weight_where marked weight) ∙ sym same_weight
+      ∙ same_renamed (lowered p g) b r (weight_where marked weight) ∙ sym same_weight
 
 -- the weight of one attributed function
 once_is : (p : Program) (k f : ℕ) → is_attributed (slice_get p.functions k) ≡ true → weight_where (λ j. is_attributed (slice_get p.functions j)) (once_for k) f ≡ once_for k f

@@ -67,54 +67,57 @@ each_among P (f ∷ fs) h =
 
 -- ---- no call of a function that is attributed and isn't marked
 
-abbrev one_left : Bool → Bool → ℕ
-one_left is_marked is_attributed = cond is_marked 0 (cond is_attributed 1 0)
-
 module _ (p : Program) (g : Function) where
-  abbrev lowered : Body
+  abbrev pub lowered : Body
   lowered = lower_function p g
 
   abbrev is_called : ℕ → Bool
   is_called f = is_among f (functions_called lowered.code)
 
+  pub marked_attributed : (f : ℕ) → is_marked lowered.marked f ≡ true → is_attributed (slice_get p.functions f) ≡ true
+  marked_attributed f e =
+      let (i, at, is) = marked_among is_called f 0 p.functions e in
+      let same : i ≡ f = omega (arith, at) in subst (λ k. is_attributed (slice_get p.functions k) ≡ true) same is
+
+  -- the weight of each attributed function that isn't marked
+  abbrev pub other : (weight : ℕ → ℕ) → ℕ → ℕ
+  other weight f = cond (is_marked lowered.marked f) 0 (cond (is_attributed (slice_get p.functions f)) (weight f) 0)
+
+  none_other : (weight : ℕ → ℕ) (f : ℕ) → is_called f ≡ true → other weight f ≡ 0
+  none_other weight f c = by (is_marked lowered.marked f) (is_attributed (slice_get p.functions f)) (λ a. among_marked is_called f 0 p.functions c (f, omega arith, a))
+    where
+      by : (m a : Bool) → (a ≡ true → m ≡ true) → cond m 0 (cond a (weight f) 0) ≡ 0
+      by true a h = refl
+      by false true h = absurd (let bad : false ≡ true = h refl in cc)
+      by false false h = refl
+
+  pub no_other : (weight : ℕ → ℕ) → code_weight (other weight) 0 lowered.code ≡ 0
+  no_other weight =
+      let twice = weights_add (other weight) (other weight) (other weight) lowered.code
+      (each_among (AddUp (other weight) (other weight) (other weight)) (functions_called lowered.code) (λ f c. let none = none_other weight f c in omega (arith, none))) in
+      omega (arith, twice)
+
+  -- ---- calls
+
   abbrev once : ℕ → ℕ
   once = one_each (is_marked lowered.marked)
 
   -- one for each other attributed function
-  abbrev other : ℕ → ℕ
-  other f = one_left (is_marked lowered.marked f) (is_attributed (slice_get p.functions f))
+  abbrev one_other : ℕ → ℕ
+  one_other = other (λ f. 1)
 
-  once_attributed : (f : ℕ) → is_marked lowered.marked f ≡ true → attributed_once p f ≡ 1
-  once_attributed f e =
-      let (i, at, is) = marked_among is_called f 0 p.functions e in
-      let same : i ≡ f = omega (arith, at) in
-      ap (λ b. cond b 1 0) (subst (λ k. is_attributed (slice_get p.functions k) ≡ true) same is)
-
-  all_counted : (f : ℕ) → AddUp (attributed_once p) once other f
-  all_counted f = by (is_marked lowered.marked f) (once_attributed f)
+  all_counted : (f : ℕ) → AddUp (attributed_once p) once one_other f
+  all_counted f = by (is_marked lowered.marked f) (λ e. ap (λ b. cond b 1 0) (marked_attributed f e))
     where
       by : (b : Bool) → (b ≡ true → attributed_once p f ≡ 1) → attributed_once p f ≡ cond b 1 0 + cond b 0 (attributed_once p f)
       by true h = let one = h refl in omega (arith, one)
       by false h = omega arith
 
-  none_other : (f : ℕ) → is_called f ≡ true → other f ≡ 0
-  none_other f c = by (is_marked lowered.marked f) (is_attributed (slice_get p.functions f)) (λ a. among_marked is_called f 0 p.functions c (f, omega arith, a))
-    where
-      by : (m a : Bool) → (a ≡ true → m ≡ true) → one_left m a ≡ 0
-      by true a h = refl
-      by false true h = absurd (let bad : false ≡ true = h refl in cc)
-      by false false h = refl
-
-  no_other : code_weight other 0 lowered.code ≡ 0
-  no_other =
-      let twice = weights_add other other other lowered.code (each_among (AddUp other other other) (functions_called lowered.code) (λ f c. let none : other f ≡ 0 = none_other f c in omega (arith, none))) in
-      omega (arith, twice)
-
   -- so in a body that calls no function more often, the calls of attributed functions are those of marked ones
-  same_calls : (b : Body) → code_weight other 0 b.code ≤ code_weight other 0 lowered.code → marked_calls lowered.marked b.code ≡ attributed_calls p b.code
+  same_calls : (b : Body) → code_weight one_other 0 b.code ≤ code_weight one_other 0 lowered.code → marked_calls lowered.marked b.code ≡ attributed_calls p b.code
   same_calls b fewer =
-      let all = weights_add (attributed_once p) once other b.code (each_among (AddUp (attributed_once p) once other) (functions_called b.code) (λ f c. all_counted f)) in
-      let none = no_other in
+      let all = weights_add (attributed_once p) once one_other b.code (each_among (AddUp (attributed_once p) once one_other) (functions_called b.code) (λ f c. all_counted f)) in
+      let none = no_other (λ f. 1) in
       omega (arith, all, none, fewer)
 
 -- ---- laws
@@ -131,7 +134,7 @@ module _ (are_calls : SlotsAreCalls) where
       ((direct : ℕ → ℕ) → code_weight direct 0 b.code ≤ code_weight direct 0 (lower_function p g).code) →
       (attributed : Bool) → slot_count (selected_lines attributed b) ≡ attributed_calls p b.code
   slots_of p g b marked fewer attributed =
-      marked_slots attributed b ∙ ap (λ fs. marked_calls fs b.code) marked ∙ same_calls p g b (fewer (other p g))
+      marked_slots attributed b ∙ ap (λ fs. marked_calls fs b.code) marked ∙ same_calls p g b (fewer (one_other p g))
 
   pub attributed_slots : AttributedCallsHaveSlots
   attributed_slots p g b (renamed r) = slots_of p g b (ap (λ (x : Body). x.marked) r.changes) (λ direct. let same = same_renamed (lower_function p g) b r direct in omega (arith, same))

@@ -1,5 +1,5 @@
 -- Each function that is bound in a state of a run has a variant.
-use Rattle.std.proofs.Common.{arith, ◌≡◌, ℕ, zero, suc, ◌+◌, ◌-◌, ◌^◌, ◌<◌, ◌≤◌, Bool, true, false, cond, if◌then◌else◌, nat_eq, min, List, [], ◌∷◌, ◌++◌, length, take, drop, replicate, slice_index, is_some, Option, Some, None, refl, sym, ap, ◌∙◌, subst}
+use Rattle.std.proofs.Common.{arith, ◌≡◌, ℕ, zero, suc, ◌+◌, ◌-◌, ◌^◌, ◌<◌, ◌≤◌, Bool, true, false, cond, if◌then◌else◌, nat_eq, min, List, [], ◌∷◌, ◌++◌, length, take, drop, replicate, is_some, Option, Some, None, refl, sym, ap, ◌∙◌, subst}
 use Rattle.std.specs.Prelude.{option_and_then, slice_get}
 use Rattle.std.specs.List.{list_any}
 use Rattle.std.proofs.lemmas.List.{length-map, length-take, length-drop, length-replicate}
@@ -13,14 +13,15 @@ use Rattle.mv_descriptors.specs.declared.rows.GuardRow.{GuardRow}
 use Rattle.mv_descriptors.specs.declared.rows.VariantRow.{VariantRow}
 use Rattle.mv_descriptors.specs.Guards.{fitting, holds}
 use Rattle.mv_isa.specs.declared.instr.Cause.TheVariants as cause
-use Rattle.mv_isa.specs.Execution.{Outcome, Goes, Calls, Faults, reg}
-use Rattle.mv_fetch.specs.Held.{Held, Room}
+use Rattle.mv_isa.specs.Execution.{reg}
+use Rattle.mv_fetch.specs.Held.{Held}
 use Rattle.mv_image.specs.Patched.{variants_before, guards_before, kinds_of, fitting_in, fitting_variant, variant_under}
 use Rattle.mv_image.specs.Spelling.{Fields}
 use Rattle.mv_image.proofs.RowsFit.{functions_fit}
 use Rattle.mv_patch.specs.Orders.{bound_values, bound_now, next_binding, words_now, word_in, ordered_rows, is_ordered, is_known_order, bindings_after, plan_of}
 use Rattle.mv_patch.proofs.Rebinding.{ordered_count}
-use Rattle.mv_machine.specs.Runs.{State, Stop, Going, Exit, Trap, Fault, Request, Exits, Reads, Writes, Traps, Plans, Polls, Unknown, request_of, argument, answered, stopped, live_frames, refused, ordered, planned, act, acted, polled, with_value, environment_call, fetched_step, after, where_going, turn, runs_from, first}
+use Rattle.mv_machine.specs.Runs.{State, Fault, Request, Exits, Reads, Writes, Traps, Plans, Polls, Unknown, argument, answered, stopped, live_frames, refused, ordered, planned, act, acted, polled, with_value, environment_call, runs_from, first}
+use Rattle.mv_refine_machine.proofs.Keeping.{either, runs_keep}
 use Rattle.mv_count_words.specs.Bound.{RunsAreBound}
 
 -- ---- values that a variant fits have a row of it
@@ -156,15 +157,11 @@ module _ (image : Fields) where
     plan_all : (s : State) (held : Held) (code index : ℕ) → Has s → AreAll (plan_of s.image held s.bindings code index).bound
     plan_all s held code index h = subst (λ (i : Fields). AreAll (plan_of i held s.bindings code index).bound) (sym h.0) (order_all held s.bindings code index h.1)
 
-    either : (b : Bool) (x y : State) → Has x → Has y → Has (if b then x else y)
-    either true x y h k = h
-    either false x y h k = k
-
     planned_has : (s : State) (code index : ℕ) → Has s → Has (planned s code index)
     unfolding planned answered
     planned_has s code index h =
-        either (is_known_order s.image code index) (if nat_eq (live_frames s) 0 then ordered s code index else refused s (2 ^ 32 - 1)) (stopped s (Fault cause.Call))
-        (either (nat_eq (live_frames s) 0) (ordered s code index) (refused s (2 ^ 32 - 1)) (h.0, plan_all s s.room.held code index h) h) h
+        either Has (is_known_order s.image code index) (if nat_eq (live_frames s) 0 then ordered s code index else refused s (2 ^ 32 - 1)) (stopped s (Fault cause.Call))
+        (either Has (nat_eq (live_frames s) 0) (ordered s code index) (refused s (2 ^ 32 - 1)) (h.0, plan_all s s.room.held code index h) h) h
 
     act_has : (action : Action) (s : State) → Has s → Has (act action s)
     unfolding answered
@@ -178,7 +175,7 @@ module _ (image : Fields) where
 
     polled_has : (s : State) → Has s → Has (polled s)
     unfolding polled answered
-    polled_has s h = either (nat_eq (live_frames s) 0) (acted s s.actions) (refused s 0) (acted_has s s.actions h) h
+    polled_has s h = either Has (nat_eq (live_frames s) 0) (acted s s.actions) (refused s 0) (acted_has s s.actions h) h
 
     call_has : (request : Request) (s : State) → Has s → Has (environment_call request s)
     unfolding answered
@@ -190,25 +187,8 @@ module _ (image : Fields) where
     call_has Polls s h = polled_has s h
     call_has Unknown s h = h
 
-    after_has : (outcome : Outcome Room) (s : State) → Has s → Has (after outcome s)
-    after_has (Goes regs pc room) s h = h
-    after_has Calls s h = call_has (request_of (reg s.regs 17)) s h
-    after_has (Faults why) s h = h
-
-    going_has : (stop : Stop) (going ended : State) → Has going → Has ended → Has (where_going stop going ended)
-    going_has Going going ended h k = h
-    going_has (Exit status) going ended h k = k
-    going_has (Trap code) going ended h k = k
-    going_has (Fault why) going ended h k = k
-
-    turn_has : (s : State) (pick : ℕ) → Has s → Has (turn s pick)
-    unfolding turn
-    turn_has s pick h = going_has s.stop (after (fetched_step s pick) s) s (after_has (fetched_step s pick) s h) h
-
     runs_have : (s : State) (picks : List ℕ) (n : ℕ) → Has s → Has (runs_from s picks n)
-    unfolding runs_from
-    runs_have s picks zero h = h
-    runs_have s picks (suc n) h = turn_has (runs_from s picks n) (slice_index picks n) (runs_have s picks n h)
+    runs_have = runs_keep Has (record { goes = λ regs pc room s h. h; calls = call_has; faults = λ why s h. h })
 
     first_has : (input : List (Option ℕ)) (actions : List Action) → Has (first image input actions)
     unfolding first

@@ -1,5 +1,5 @@
 -- The words of text that bindings of a program's image change are as many as they owe.
-use Rattle.std.proofs.Common.{arith, ◌≡◌, ℕ, zero, suc, ◌+◌, ◌<◌, ◌≤◌, Bool, true, false, if◌then◌else◌, List, [], ◌∷◌, length, take, is_some, Option, Some, None, refl, sym, ap, ◌∙◌, subst, All}
+use Rattle.std.proofs.Common.{arith, ◌≡◌, ℕ, zero, suc, ◌+◌, ◌<◌, ◌≤◌, Bool, true, false, if◌then◌else◌, List, [], ◌∷◌, length, is_some, Option, Some, refl, sym, ap, ◌∙◌, subst}
 use Rattle.std.specs.Prelude.{option_and_then, slice_get}
 use Rattle.std.proofs.lemmas.List.{length-map}
 use Rattle.std.proofs.lemmas.Option.{slice_get_within}
@@ -28,13 +28,14 @@ use Rattle.mv_link_changes.specs.Linked.{SlotsAreSites}
 use Rattle.mv_variants.specs.declared.variant.Variant.{Variant}
 use Rattle.mv_parts.specs.Numbers.{attributed_numbers}
 use Rattle.mv_parts.specs.Parts.{ArePartsOf}
-use Rattle.mv_parts.proofs.Lists.{all_by_index, one_of_all}
+use Rattle.mv_parts.proofs.Lists.{all_by_index}
 use Rattle.mv_parts.proofs.Numbers as numbered
 use Rattle.mv_count_words.specs.Bound.{AreBound}
 use Rattle.mv_count_words.specs.Laws.{ImagesCountWords}
 use Rattle.mv_count_words.specs.Owed.{direct_calls_of, owed_by, owed_words, CountsWords}
 use Rattle.mv_count_words.proofs.Sites.{slots_are_calls}
 use Rattle.mv_count_words.proofs.Told.{can_be_told}
+use Rattle.mv_refine_machine.proofs.Starts.{free_values}
 
 -- ---- sums
 
@@ -64,13 +65,6 @@ owed_some p (g ∷ fs) (c ∷ bs) zero f b at is bound =
 owed_some p (g ∷ fs) (c ∷ bs) (suc j) f b at is bound = let rest = owed_some p fs bs j f b at is bound in omega (arith, rest)
 
 -- ---- bindings
-
-free_values : (bs : List Binding) → All (λ (b : Binding). b.bound ≡ false) bs → (f : ℕ) → values_of bs f ≡ None
-free_values bs all f = by (slice_get bs f) (λ b e. one_of_all (λ (x : Binding). x.bound ≡ false) bs all f b e)
-  where
-    by : (o : Option Binding) → ((b : Binding) → o ≡ Some b → b.bound ≡ false) → option_and_then bound_values o ≡ None
-    by None h = refl
-    by (Some b) h = ap (λ t. if t then Some (take b.count b.values) else None) (h b refl)
 
 bool_cases : (P : Type 0) (b : Bool) → (b ≡ true → P) → (b ≡ false → P) → P
 bool_cases P true h k = h refl

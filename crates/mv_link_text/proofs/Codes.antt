@@ -7,17 +7,18 @@ use Rattle.mv_isa.specs.declared.instr.Instr.{Instr}
 use Rattle.mv_isa.specs.declared.labelled.Labelled.{Labelled}
 use Rattle.mv_isa.specs.declared.labelled.Line.{Line}
 use Rattle.mv_isa.specs.declared.labelled.Line.TheVariants.{Word, Label, Jump, Branch, Entry, Slot}
-use Rattle.mv_isa.specs.Code.{IsSizing, line_at, least_words, address, label_address, text_start}
+use Rattle.mv_isa.specs.Code.{IsSizing, line_at, least_words, text_start}
 use Rattle.mv_isa.specs.Standing.{LineStands, word_at}
 use Rattle.mv_asm.specs.Outcome.{AreWordsUnder}
 use Rattle.mv_linker.specs.declared.parts.Parts.{Parts}
 use Rattle.mv_linker.specs.declared.parts.PartFunction.{PartFunction}
-use Rattle.mv_linker.specs.Linked.{codes, relabelled, linked_lines, first_label, part_index, AreParts}
+use Rattle.mv_linker.specs.Linked.{codes, relabelled, linked_lines, first_label, AreParts}
 use Rattle.mv_linker.specs.Tables.{attributed_numbers, is_slot, BeginsWithWords, FitsPartFunction, FitTables}
 use Rattle.mv_linker.specs.Laws.{StandFrom, FunctionStands}
 use Rattle.mv_linker.proofs.Entered.{index_behind, relabelled_slot}
 use Rattle.mv_linker.proofs.Places.{function_law}
 use Rattle.mv_linker.proofs.Tabled.{function_code}
+use Rattle.mv_link_text.proofs.LinkedText.{linked_text}
 use Rattle.mv_link_text.proofs.Lines.{IsOf, begins as line_begins, at_later}
 
 -- ---- numbers of attributed functions
@@ -124,20 +125,10 @@ module _ (parts : Parts) (tables : FitTables parts) where
 -- ---- where codes stand
 
 module _ (parts : Parts) (sizing words : List ℕ) (s : IsAssembled parts sizing words) where
-  abbrev lines : List Line
-  lines = linked_lines parts
-
-  abbrev at : ℕ → ℕ
-  at = address text_start sizing
-
-  abbrev entry : ℕ → ℕ
-  entry = label_address text_start lines sizing
+  open linked_text parts sizing words use {lines, at, entry, index}
 
   abbrev all : List Labelled
   all = codes parts
-
-  abbrev index : ℕ → ℕ
-  index f = part_index all f
 
   module _ (f : ℕ) (code : Labelled) (found : slice_get all f ≡ Some code) where
     pub stands : FunctionStands lines all f code

@@ -3,35 +3,21 @@ use Rattle.std.proofs.Common.{◌≡◌, ℕ, ◌+◌, ◌<◌, ◌||◌, true, 
 use Rattle.mv_descriptors.specs.declared.rows.SiteRow.{SiteRow}
 use Rattle.mv_isa.specs.declared.labelled.Line.{Line}
 use Rattle.mv_isa.specs.declared.labelled.Line.TheVariants.{Word, Label, Jump, Branch, Entry, Slot}
-use Rattle.mv_isa.specs.Code.{line_at, address, label_address, text_start}
-use Rattle.mv_image.specs.Spelling.{Fields}
+use Rattle.mv_isa.specs.Code.{line_at, text_start}
 use Rattle.mv_image.specs.Patched.{entry_at, site_at, site_before}
 use Rattle.mv_refine_machine.specs.Assembled.{IsKept}
 use Rattle.mv_refine_machine.specs.MachineRuns.{may_be_patched, called_at}
 use Rattle.mv_linker.specs.declared.parts.Parts.{Parts}
-use Rattle.mv_linker.specs.Linked.{codes, linked_lines, part_index}
-use Rattle.mv_linker.specs.Tables.{attributed_numbers, is_slot}
-use Rattle.mv_linker.specs.Outcome.{image_with}
+use Rattle.mv_linker.specs.Linked.{codes, part_index}
+use Rattle.mv_linker.specs.Tables.{is_slot}
 use Rattle.mv_link_text.proofs.Found.{none_of}
-use Rattle.mv_link_text.proofs.Lines.{IsOf, one_line}
+use Rattle.mv_link_text.proofs.LinkedText.{linked_text}
+use Rattle.mv_link_text.proofs.Lines.{one_line}
 use Rattle.mv_link_text.proofs.Codes.{IsAssembled}
 use Rattle.mv_link_text.proofs.Rows.{entry_told, site_told, before_told, site_found, called_among, IsRowOfSlot}
 
 module _ (parts : Parts) (sizing words : List ℕ) (s : IsAssembled parts sizing words) where
-  abbrev lines : List Line
-  lines = linked_lines parts
-
-  abbrev at : ℕ → ℕ
-  at = address text_start sizing
-
-  abbrev numbers : List ℕ
-  numbers = attributed_numbers parts.attributed
-
-  abbrev image : Fields
-  image = image_with (label_address text_start lines sizing) at words parts
-
-  abbrev Of : ℕ → ℕ → Type 0
-  Of = IsOf text_start lines sizing
+  open linked_text parts sizing words use {lines, at, numbers, image, Of}
 
   -- a line isn't the first of an attributed function's code
   abbrev pub NotFirst : ℕ → Type 0

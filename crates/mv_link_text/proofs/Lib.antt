@@ -1,5 +1,6 @@
 pub mod Found
 pub mod Lines
+pub mod LinkedText
 pub mod Codes
 pub mod Rows
 pub mod Kept

@@ -8,16 +8,14 @@ use Rattle.mv_descriptors.specs.declared.rows.FunctionRow.{FunctionRow}
 use Rattle.mv_descriptors.specs.declared.rows.SiteRow.{SiteRow}
 use Rattle.mv_isa.specs.declared.labelled.Line.{Line}
 use Rattle.mv_isa.specs.declared.labelled.Line.TheVariants.{Word, Label, Jump, Branch, Entry, Slot}
-use Rattle.mv_isa.specs.Code.{line_at, least_words, address, label_address, text_start}
-use Rattle.mv_image.specs.Spelling.{Fields}
+use Rattle.mv_isa.specs.Code.{line_at, least_words, text_start}
 use Rattle.mv_image.specs.Patched.{entry_at, site_at, site_before}
 use Rattle.mv_linker.specs.declared.parts.Parts.{Parts}
-use Rattle.mv_linker.specs.Linked.{codes, linked_lines, part_index}
-use Rattle.mv_linker.specs.Tables.{function_row, sites_from, place_among, attributed_numbers, is_slot, CallsAmong}
-use Rattle.mv_linker.specs.Outcome.{image_with}
+use Rattle.mv_linker.specs.Tables.{function_row, sites_from, place_among, is_slot, CallsAmong}
 use Rattle.mv_linker.proofs.Sited.{row_at, lines_call, among, site_is}
 use Rattle.mv_link_text.proofs.Found.{position_at, found_told}
-use Rattle.mv_link_text.proofs.Lines.{IsOf, one_line, begins, slot_size}
+use Rattle.mv_link_text.proofs.LinkedText.{linked_text}
+use Rattle.mv_link_text.proofs.Lines.{one_line, begins, slot_size}
 use Rattle.mv_link_text.proofs.Codes.{IsAssembled, IsBegun, has_line, no_function, own, number_is, number_within, own_is, attributed_begun, one_number, entry_of, first_in}
 
 -- ---- a test that the site of some slot passes finds a site
@@ -54,26 +52,7 @@ module _ (at : ℕ → ℕ) (ns : List ℕ) (test : SiteRow → Bool) where
 -- ---- the rows of an image
 
 module _ (parts : Parts) (sizing words : List ℕ) (s : IsAssembled parts sizing words) where
-  abbrev lines : List Line
-  lines = linked_lines parts
-
-  abbrev at : ℕ → ℕ
-  at = address text_start sizing
-
-  abbrev entry : ℕ → ℕ
-  entry = label_address text_start lines sizing
-
-  abbrev numbers : List ℕ
-  numbers = attributed_numbers parts.attributed
-
-  abbrev image : Fields
-  image = image_with entry at words parts
-
-  abbrev index : ℕ → ℕ
-  index f = part_index (codes parts) f
-
-  abbrev Of : ℕ → ℕ → Type 0
-  Of = IsOf text_start lines sizing
+  open linked_text parts sizing words use {lines, at, entry, numbers, image, index, Of}
 
   abbrev begun : (n f : ℕ) → slice_get numbers n ≡ Some f → IsBegun parts f
   begun n f is = attributed_begun parts s.tables n f is

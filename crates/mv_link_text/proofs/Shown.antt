@@ -7,45 +7,25 @@ use Rattle.mv_isa.specs.declared.labelled.Labelled.{Labelled}
 use Rattle.mv_isa.specs.declared.labelled.Line.{Line}
 use Rattle.mv_isa.specs.declared.labelled.Line.TheVariants.{Word, Slot}
 use Rattle.mv_isa.specs.Encoding.{encode}
-use Rattle.mv_isa.specs.Code.{IsPlace, line_at, label_index, address, label_address, text_start}
+use Rattle.mv_isa.specs.Code.{IsPlace, line_at, label_index, text_start}
 use Rattle.mv_isa.specs.Standing.{SlotStands, LineStands, word_at}
-use Rattle.mv_image.specs.Spelling.{Fields}
 use Rattle.mv_image.specs.Patched.{ShowsAt, entry_at, site_at}
 use Rattle.mv_refine_machine.specs.MachineRuns.{image_word, called_at}
 use Rattle.mv_linker.specs.declared.parts.Parts.{Parts}
-use Rattle.mv_linker.specs.Linked.{codes, linked_lines, part_index}
-use Rattle.mv_linker.specs.Tables.{place_among, attributed_numbers, is_slot}
-use Rattle.mv_linker.specs.Outcome.{image_with}
+use Rattle.mv_linker.specs.Linked.{codes}
+use Rattle.mv_linker.specs.Tables.{place_among, is_slot}
 use Rattle.mv_linker.proofs.Sited.{row_at}
 use Rattle.mv_link_text.specs.Text.{HasEntry, HasSlot}
 use Rattle.mv_link_text.proofs.Facts.{Laws}
 use Rattle.mv_link_text.proofs.Found.{none_of}
-use Rattle.mv_link_text.proofs.Lines.{IsOf, one_line, slot_size}
+use Rattle.mv_link_text.proofs.LinkedText.{linked_text}
+use Rattle.mv_link_text.proofs.Lines.{one_line, slot_size}
 use Rattle.mv_link_text.proofs.Codes.{IsAssembled, attributed_begun, one_number, behind_label, first_line, first_below, first_no_slot}
 use Rattle.mv_link_text.proofs.Rows.{IsRowOfSlot, entry_told, entry_found, one_function, site_told, before_told, site_found, called_among, slot_of, second_of}
 use Rattle.mv_link_text.proofs.Kept.{NotFirst, no_entry, no_site, no_site_before}
 
 module _ (laws : Laws) (parts : Parts) (sizing words : List ℕ) (s : IsAssembled parts sizing words) where
-  abbrev lines : List Line
-  lines = linked_lines parts
-
-  abbrev at : ℕ → ℕ
-  at = address text_start sizing
-
-  abbrev entry : ℕ → ℕ
-  entry = label_address text_start lines sizing
-
-  abbrev numbers : List ℕ
-  numbers = attributed_numbers parts.attributed
-
-  abbrev image : Fields
-  image = image_with entry at words parts
-
-  abbrev index : ℕ → ℕ
-  index f = part_index (codes parts) f
-
-  abbrev Of : ℕ → ℕ → Type 0
-  Of = IsOf text_start lines sizing
+  open linked_text parts sizing words use {lines, at, entry, numbers, image, index, Of}
 
   -- a word that is assembled stands in the image
   in_text : (a w : ℕ) → IsPlace a → word_at text_start words a ≡ Some w → image_word image a ≡ Some w

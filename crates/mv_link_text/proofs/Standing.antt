@@ -8,20 +8,19 @@ use Rattle.mv_isa.specs.declared.instr.Instr.{Instr}
 use Rattle.mv_isa.specs.declared.labelled.Labelled.{Labelled}
 use Rattle.mv_isa.specs.declared.labelled.Line.{Line}
 use Rattle.mv_isa.specs.declared.labelled.Line.TheVariants.{Word, Label, Jump, Branch, Entry, Slot}
-use Rattle.mv_isa.specs.Code.{CodeFits, StandsOnce, line_at, address, label_address, text_start}
+use Rattle.mv_isa.specs.Code.{CodeFits, StandsOnce, line_at, text_start}
 use Rattle.mv_image.specs.Spelling.{Fields}
 use Rattle.mv_select_control.specs.Labels.{OwnLabels}
 use Rattle.mv_select_control.specs.Placed.{Text, Placed}
 use Rattle.mv_refine_machine.specs.Assembled.{HasWords, IsOnlyLabel}
 use Rattle.mv_refine_machine.specs.MachineRuns.{machine_text}
 use Rattle.mv_linker.specs.declared.parts.Parts.{Parts}
-use Rattle.mv_linker.specs.Linked.{codes, IsFunction, NamesAreThere, relabelled, start_lines, trap_lines, commit_lines, commit_instrs, linked_lines, first_label, trap_label, commit_label, trap_index, commit_index, stub_count, part_index}
-use Rattle.mv_linker.specs.Tables.{attributed_numbers}
+use Rattle.mv_linker.specs.Linked.{codes, IsFunction, NamesAreThere, relabelled, start_lines, trap_lines, commit_lines, commit_instrs, first_label, trap_label, commit_label, trap_index, commit_index, stub_count}
 use Rattle.mv_linker.specs.Laws.{StandFrom}
-use Rattle.mv_linker.specs.Outcome.{image_with}
 use Rattle.mv_linker.proofs.Entered.{index_behind}
 use Rattle.mv_link_text.specs.Text.{StubsArePlaced, IsPlacedCode}
 use Rattle.mv_link_text.proofs.Facts.{Laws}
+use Rattle.mv_link_text.proofs.LinkedText.{linked_text}
 use Rattle.mv_link_text.proofs.Lines.{word_size}
 use Rattle.mv_link_text.proofs.Codes.{IsAssembled, attributed_begun, behind_first, stands, behind_label, lines_stand, first_line, first_below, ends_before, first_in}
 use Rattle.mv_link_text.proofs.Kept.{NotFirst, kept_as}
@@ -42,26 +41,10 @@ has_words image words text_is k word found =
     subst (λ i. slice_get image.text i ≡ Some word) here (ap (λ (ws : List ℕ). slice_get ws k) text_is ∙ found)
 
 module _ (laws : Laws) (parts : Parts) (sizing words : List ℕ) (s : IsAssembled parts sizing words) where
-  abbrev lines : List Line
-  lines = linked_lines parts
-
-  abbrev at : ℕ → ℕ
-  at = address text_start sizing
-
-  abbrev entry : ℕ → ℕ
-  entry = label_address text_start lines sizing
-
-  abbrev numbers : List ℕ
-  numbers = attributed_numbers parts.attributed
-
-  abbrev image : Fields
-  image = image_with entry at words parts
+  open linked_text parts sizing words use {lines, at, entry, numbers, image, index}
 
   abbrev text : Text
   text = machine_text numbers image
-
-  abbrev index : ℕ → ℕ
-  index f = part_index (codes parts) f
 
   abbrev Never : ℕ → Type 0
   Never = NotFirst parts sizing words s

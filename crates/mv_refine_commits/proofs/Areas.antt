@@ -8,6 +8,7 @@ use Rattle.mv_fetch.specs.Stores.{spared}
 use Rattle.mv_rv32.specs.Stepping.{access, with_held}
 use Rattle.mv_machine.specs.Runs.{plan_area, stored_word, stored_words}
 use Rattle.mv_refine_commits.specs.Watched.{plan_words}
+use Rattle.mv_refine_machine.proofs.Memory.{whole_word}
 
 plan_region : (a : ℕ) → 0x0040_0000 ≤ a → a < 0x0048_0000 → region_of a ≡ region_of 0x0040_0000
 unfolding region_of
@@ -32,11 +33,6 @@ load_is r a w aligned there = rw (aligned, there) refl
 store_is : (h : Held) (a v w : ℕ) → a % 4 ≡ 0 → present h a ≡ Some w → store h a 4 v ≡ Ok (with_word h (region_of a) (index_of a) w (joined a 4 w v))
 unfolding store
 store_is h a v w aligned there = rw (aligned, there) refl
-
--- what is loaded of a word into which all bytes were put
-put_part : (a w v : ℕ) → a % 4 ≡ 0 → v < 2 ^ 32 → part a 4 (joined a 4 w v) ≡ v
-unfolding part joined
-put_part a w v aligned lt = rw aligned (omega (arith, lt))
 
 plan_words_of : (h : Held) → words_of h (region_of 0x0040_0000) ≡ h.plan
 unfolding region_of
@@ -115,7 +111,7 @@ puts r k v size lt small =
     subst (λ x. Puts r x k v) (sym (stored_word_is r k v word.0 lt word.1))
     (record {
       keeps = record { text = refl; older = refl; globals = refl; stack = refl; spare = refl; reserve = refl; size = length-set r.held.plan k new };
-      same = load_is r' (at k) new aligned (plan_present r'.held k new lt (get_set_same r.held.plan k new word.0 word.1)) ∙ ap Some (put_part (at k) word.0 v aligned small);
+      same = load_is r' (at k) new aligned (plan_present r'.held k new lt (get_set_same r.held.plan k new word.0 word.1)) ∙ ap Some (whole_word (at k) word.0 v aligned small);
       others = λ j below ne.
           let other = there_at r.held.plan j (omega (arith, size, below)) in
           let even : at j % 4 ≡ 0 = omega arith in

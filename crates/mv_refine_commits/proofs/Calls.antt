@@ -1,15 +1,13 @@
 -- The machine serves `getchar` and `putchar`.
-use Rattle.std.proofs.Common.{◌≡◌, ◌≢◌, inl, inr, ℕ, zero, suc, ◌+◌, ◌*◌, ◌%◌, ◌^◌, ◌<◌, ◌≤◌, Bool, false, cond, List, [], ◌∷◌, ◌++◌, length, slice_index, slice_index_or, Option, Some, None, refl, sym, ap, ◌∙◌, subst, arith}
+use Rattle.std.proofs.Common.{◌≡◌, ℕ, ◌+◌, ◌%◌, ◌^◌, ◌<◌, ◌≤◌, Bool, false, cond, List, [], ◌∷◌, ◌++◌, length, Option, Some, None, refl, sym, ap, ◌∙◌, subst, arith}
 use Rattle.std.specs.List.{All}
-use Rattle.std.proofs.lemmas.List.Elements.{All-head, All-tail}
 use Rattle.mv_num.specs.Words.{add}
 use Rattle.mv_ast.specs.declared.program.Program.{Program}
 use Rattle.mv_ast.specs.declared.program.Known.TheVariants.{Getchar, Putchar, Poll, Plan}
 use Rattle.mv_ast.specs.declared.world.Action.{Action}
-use Rattle.mv_ast.specs.declared.world.Binding.{Binding}
 use Rattle.mv_isa.specs.declared.instr.Instr.TheVariants.{Ecall}
 use Rattle.mv_isa.specs.Encoding.{encode}
-use Rattle.mv_isa.specs.Execution.{Outcome, Goes, Calls, Faults, reg, put}
+use Rattle.mv_isa.specs.Execution.{reg, put}
 use Rattle.mv_fetch.specs.Held.{Room}
 use Rattle.mv_image.specs.Spelling.{Fields}
 use Rattle.mv_image.specs.Faults.{Rules}
@@ -17,77 +15,27 @@ use Rattle.mv_patch.specs.Orders.{plan_between}
 use Rattle.mv_ir.specs.World.{World, Answer}
 use Rattle.mv_ir.specs.KnownFunctions.{next_byte, written}
 use Rattle.mv_ir.specs.Programs.{setting_of}
-use Rattle.mv_machine.specs.Runs.{State, Stop, Going, Exit, Trap, Fault, Request, Exits, Reads, Writes, Traps, Plans, Polls, Unknown, argument, request_of, bytes_to_come, word_read, next_read, later_reads, answered, environment_call, fetched_step, after, where_going, turn, runs_from, first as first_state}
-use Rattle.mv_machine.specs.Commits.{opens, is_some_pair, commit_from}
+use Rattle.mv_machine.specs.Runs.{State, Request, Reads, Writes, request_of, bytes_to_come, word_read, next_read, later_reads, answered, environment_call}
+use Rattle.mv_machine.specs.Commits.{opens, is_some_pair}
 use Rattle.mv_machine.proofs.Calls.{request_reads, request_writes}
-use Rattle.mv_machine.proofs.Leaving.{Leaves as EachLeaves, planned_leaves, polled_leaves}
-use Rattle.mv_select_trees.specs.View.{AreRegisters}
-use Rattle.mv_select_trees.proofs.Registers.{put_same, put_other, put_registers}
-use Rattle.mv_select_control.specs.Runs.{Spot, Machine, outside}
-use Rattle.mv_select_control.proofs.Walk.{before_next}
-use Rattle.mv_select_calls.specs.Convention.{Layout, IsSaved, HoldsGlobals, Stands, SetsBack, Returns}
+use Rattle.mv_select_control.specs.Runs.{outside}
+use Rattle.mv_select_calls.specs.Convention.{Layout, Stands, Returns}
 use Rattle.mv_select_calls.specs.Environment.{Serves, ServesCalls}
 use Rattle.mv_refine_machine.specs.Calm.{IsCalm}
 use Rattle.mv_refine_machine.specs.MachineRuns.{rest_of, unpatched_word}
 use Rattle.mv_refine_machine.specs.Laws.{IsByteOrEnd}
+use Rattle.mv_refine_machine.proofs.Returning.{byte_fits, returned}
+use Rattle.mv_refine_machine.proofs.Inputs.{bytes_left, first_input}
 use Rattle.mv_refine_stores.specs.Between.{IsSettled}
 use Rattle.mv_refine_commits.specs.Watch.{texts_of}
-use Rattle.mv_refine_commits.specs.Watched.{Watched, access, watched, IsQuiet, spot_at, watched_machine}
-use Rattle.mv_refine_commits.specs.Served.{SoundAt}
+use Rattle.mv_refine_commits.specs.Watched.{access, watched, IsQuiet}
 use Rattle.mv_refine_commits.specs.Hosted.{WatchedCallsAreServed}
 use Rattle.mv_refine_commits.proofs.Known.{Known}
-use Rattle.mv_refine_commits.proofs.Instrs.{add_four}
 use Rattle.mv_refine_commits.proofs.Orders.{quiet_inside, quiet_outside}
 use Rattle.mv_refine_commits.proofs.Planned.{no_pairs}
 use Rattle.mv_refine_commits.proofs.Quiet.{quiet_told, quiet_tested}
 use Rattle.mv_refine_commits.proofs.Served.{Calmly, calm_calls, calm_sound, calm_under, unpatched_told}
-
--- ---- what is left of an input of bytes is bytes
-
-abbrev GivesBytes : State → Type 0
-GivesBytes s = All IsByteOrEnd s.input
-
-later_bytes : (input : List (Option ℕ)) → All IsByteOrEnd input → All IsByteOrEnd (later_reads input)
-later_bytes [] h = h
-later_bytes (answer ∷ later) h = All-tail IsByteOrEnd answer later h
-
-plan_bytes : (s : State) → GivesBytes s → EachLeaves GivesBytes s
-unfolding answered
-plan_bytes s h = record { refuses = λ actions answer. h; carries = λ room actions plan answer. h; faults = h }
-
-call_bytes : (request : Request) (s : State) → GivesBytes s → GivesBytes (environment_call request s)
-unfolding answered
-call_bytes Exits s h = h
-call_bytes Reads s h = later_bytes s.input h
-call_bytes Writes s h = h
-call_bytes Traps s h = h
-call_bytes Plans s h = planned_leaves GivesBytes s (argument s) (reg s.regs 11) (plan_bytes s h)
-call_bytes Polls s h = polled_leaves GivesBytes s (plan_bytes s h)
-call_bytes Unknown s h = h
-
-after_bytes : (outcome : Outcome Room) (s : State) → GivesBytes s → GivesBytes (after outcome s)
-after_bytes (Goes regs pc room) s h = h
-after_bytes Calls s h = call_bytes (request_of (reg s.regs 17)) s h
-after_bytes (Faults why) s h = h
-
-going_bytes : (stop : Stop) (going ended : State) → GivesBytes going → GivesBytes ended → GivesBytes (where_going stop going ended)
-going_bytes Going going ended h k = h
-going_bytes (Exit status) going ended h k = k
-going_bytes (Trap code) going ended h k = k
-going_bytes (Fault why) going ended h k = k
-
-turn_bytes : (s : State) (pick : ℕ) → GivesBytes s → GivesBytes (turn s pick)
-unfolding turn
-turn_bytes s pick h = going_bytes s.stop (after (fetched_step s pick) s) s (after_bytes (fetched_step s pick) s h) h
-
-bytes_left : (s : State) (picks : List ℕ) (n : ℕ) → GivesBytes s → GivesBytes (runs_from s picks n)
-unfolding runs_from
-bytes_left s picks zero h = h
-bytes_left s picks (suc n) h = turn_bytes (runs_from s picks n) (slice_index picks n) (bytes_left s picks n h)
-
-first_input : (image : Fields) (input : List (Option ℕ)) (actions : List Action) → (first_state image input actions).input ≡ input
-unfolding first_state
-first_input image input actions = refl
+use Rattle.mv_refine_commits.proofs.WatchedRun.{watched_run}
 
 -- ---- what a call leaves
 
@@ -171,31 +119,9 @@ writes_do image w s calm = record {
   same_actions = refl;
 }
 
-byte_fits : (bytes : List ℕ) (w : World) → All IsByteOrEnd (bytes_to_come bytes) → (next_byte bytes w).value < 2 ^ 32
-byte_fits [] w h = omega arith
-byte_fits (byte ∷ bytes) w h = let small : byte < 2 ^ 8 = All-head IsByteOrEnd (Some byte) (bytes_to_come bytes) h in omega (arith, small)
-
-not_saved : (q : ℕ) → IsSaved q → q ≢ 10
-not_saved q (inl h) e = omega (arith, h, e)
-not_saved q (inr (inl h)) e = omega (arith, h, e)
-not_saved q (inr (inr h)) e = omega (arith, h.0, e)
-
 module _ (known : Known) (attributed : List ℕ) (closed : (pc address : ℕ) → Bool) (image : Fields) (rules : Rules image) (input : List (Option ℕ)) (actions : List Action) (picks : List ℕ)
     (bytes : All IsByteOrEnd input) (y : Layout) (budget far : ℕ) where
-  abbrev machine : Machine Watched
-  machine = watched_machine attributed closed image input actions picks
-
-  abbrev start : State
-  start = first_state image input actions
-
-  abbrev S : ℕ → State
-  S i = runs_from start picks i
-
-  abbrev run : ℕ → Spot Watched
-  run = spot_at start picks
-
-  abbrev U : ℕ → Option (List Binding)
-  U i = commit_from start picks i
+  open watched_run attributed closed image input actions picks use {machine, start, state as S, run, under as U}
 
   abbrev St : ℕ → World → ℕ → Type 0
   St = Stands access y machine budget far
@@ -237,46 +163,26 @@ module _ (known : Known) (attributed : List ℕ) (closed : (pc address : ℕ) �
       unfolding access
       loads a = ap (λ (r : Room). access.load (record (run i).memory { rest = record (run i).memory.rest { room = r } }) a 4) room_is
 
-      regs_are : (run (i + 1)).regs ≡ put (run i).regs 10 answer.value
-      regs_are = ap (λ (s : State). s.regs) next ∙ does.regs
-
-      globals_held : HoldsGlobals access y machine budget far answer.world (run (i + 1)).memory
-      globals_held = record {
-        sizes = λ g. ap (λ (gs : List (List ℕ)). length (slice_index_or gs g [])) does.globals ∙ here.globals.sizes g;
-        words = λ g n lt. subst (λ (gs : List (List ℕ)). slice_index (slice_index_or gs g []) n < 2 ^ 32) (sym does.globals) (here.globals.words g n lt);
-        loads = λ g n lt. loads (y.place g + 4 * n) ∙ here.globals.loads g n lt ∙ ap (λ (gs : List (List ℕ)). Some (slice_index (slice_index_or gs g []) n)) (sym does.globals);
-      }
-
-      stands_next : St (pc + 4) answer.world (i + 1)
-      stands_next =
-          let below = (unpatched_told image pc (encode Ecall) at_word).below in record {
-            at = ap (λ (s : State). s.pc) next ∙ does.pc ∙ ap (λ a. add a 4) here.at ∙ add_four pc (omega (arith, below));
-            calm = quiet_tested known image (outside answer.world) (run (i + 1)).memory (quiet_outside image answer.world (run (i + 1)).memory quiet_next);
-            sound = before_next (SoundAt closed image start picks) i here.sound (calm_sound known closed image rules start picks w Ecall i calmly refl refl);
-            globals = globals_held;
-            are = subst AreRegisters (sym regs_are) (put_registers (run i).regs 10 answer.value here.are (omega arith) (omega arith) small);
-          }
-
-      set_back : SetsBack access y machine budget far i (i + 1)
-      set_back = record {
-        registers = λ q saved. ap (λ rs. reg rs q) regs_are ∙ put_other (run i).regs 10 q answer.value (omega arith) (not_saved q saved);
-        stack = λ b above. loads b;
-      }
-
-      value_there : reg (run (i + 1)).regs 10 ≡ answer.value
-      value_there = ap (λ rs. reg rs 10) regs_are ∙ put_same (run i).regs 10 answer.value (omega arith) (let count = here.are.count in omega (arith, count))
-
-      returned : (spare bound cost : ℕ) → i + (spare + 1 + cost) ≤ budget → far ≤ i + bound
+      comes_back : (spare bound cost : ℕ) → i + (spare + 1 + cost) ≤ budget → far ≤ i + bound
           → (j : ℕ) × Returns access y machine budget far spare bound i (pc + 4) answer.world j × (reg (run j).regs 10 ≡ answer.value)
-      returned spare bound cost paid asked =
-          (i + 1, record { stands = stands_next; kept = set_back; paid = omega (arith, paid); asked = omega (arith, asked) }, value_there)
+      comes_back =
+          let below = (unpatched_told image pc (encode Ecall) at_word).below in
+          returned access y machine budget far answer w pc i here (omega (arith, below)) (record {
+            regs = ap (λ (s : State). s.regs) next ∙ does.regs;
+            next = ap (λ (s : State). s.pc) next ∙ does.pc;
+            loads = loads;
+            calm = quiet_tested known image (outside answer.world) (run (i + 1)).memory (quiet_outside image answer.world (run (i + 1)).memory quiet_next);
+            sound = calm_sound known closed image rules start picks w Ecall i calmly refl refl;
+            globals = does.globals;
+            small = small;
+          })
 
   module _ (numbers : List ℕ) (p : Program) where
     byte_served : (args : List ℕ) (pc i : ℕ) → unpatched_word image pc ≡ Some (encode Ecall) → Serves access y machine budget far (setting_of numbers p) 1 pc (pc + 4) Getchar args i
     byte_served args pc i at_word spare bound w here asks paid asked =
         let q = quiet pc i w here at_word in
         let left = subst (All IsByteOrEnd) q.calm.input (bytes_left start picks i (subst (All IsByteOrEnd) (sym (first_input image input actions)) bytes)) in
-        returned pc i w here at_word Reads (next_byte w.input w) (request_reads (reg (S i).regs 17) asks.number) (reads_do image w (S i) w.input refl q.calm) (byte_fits w.input w left)
+        comes_back pc i w here at_word Reads (next_byte w.input w) (request_reads (reg (S i).regs 17) asks.number) (reads_do image w (S i) w.input refl q.calm) (byte_fits w.input w left)
         spare bound (next_byte w.input w).cost paid asked
 
     written_served : (x : ℕ) (rest : List ℕ) (pc i : ℕ) → unpatched_word image pc ≡ Some (encode Ecall)
@@ -284,7 +190,7 @@ module _ (known : Known) (attributed : List ℕ) (closed : (pc address : ℕ) �
     written_served x rest pc i at_word spare bound w here asks paid asked =
         let q = quiet pc i w here at_word in
         let argument_is : reg (S i).regs 10 ≡ x = asks.arguments 0 (omega arith) in
-        returned pc i w here at_word Writes (written x w) (request_writes (reg (S i).regs 17) asks.number)
+        comes_back pc i w here at_word Writes (written x w) (request_writes (reg (S i).regs 17) asks.number)
         (subst (λ v. Does image w (S i) (environment_call Writes (S i)) (written v w)) argument_is (writes_do image w (S i) q.calm)) (omega arith)
         spare bound (written x w).cost paid asked
 

@@ -1,40 +1,31 @@
 -- A run starts, exits and traps from sound places.
-use Rattle.std.proofs.Common.{◌≡◌, inl, ℕ, ◌+◌, ◌%◌, ◌^◌, ◌<◌, ◌≤◌, Bool, true, List, pos, Option, refl, sym, ap, ◌∙◌, subst, arith}
+use Rattle.std.proofs.Common.{◌≡◌, ℕ, ◌+◌, ◌%◌, ◌^◌, ◌≤◌, Bool, true, List, pos, Option, refl, sym, ap, ◌∙◌, subst, arith}
 use Rattle.std.proofs.lemmas.Bool.{and_parts}
-use Rattle.mv_num.specs.Words.{add, shl}
 use Rattle.mv_ast.specs.declared.world.Action.{Action}
-use Rattle.mv_ast.specs.Traps.{depth_limit}
-use Rattle.mv_isa.specs.declared.instr.Instr.{Instr}
-use Rattle.mv_isa.specs.declared.instr.Instr.TheVariants.{Lui, Addi, Ecall}
-use Rattle.mv_isa.specs.declared.labelled.Line.{Line}
-use Rattle.mv_isa.specs.declared.labelled.Line.TheVariants.{Word, Jump}
-use Rattle.mv_isa.specs.Execution.{Access, Goes, reg, put, upper}
+use Rattle.mv_isa.specs.declared.instr.Instr.TheVariants.{Addi, Ecall}
+use Rattle.mv_isa.specs.declared.labelled.Line.TheVariants.{Word}
+use Rattle.mv_isa.specs.Execution.{reg, put}
 use Rattle.mv_isa.specs.Standing.{InstrStands}
 use Rattle.mv_image.specs.Spelling.{Fields}
 use Rattle.mv_image.specs.Faults.{Rules}
 use Rattle.mv_ir.specs.World.{World}
 use Rattle.mv_machine.specs.Runs.{State, Exit, Trap, bytes_to_come, first as first_state}
 use Rattle.mv_machine.proofs.Turns.{runs_none}
-use Rattle.mv_select_trees.specs.Straight.{Sets}
-use Rattle.mv_select_trees.proofs.Instructions.{addi_sets, lui_sets}
-use Rattle.mv_select_trees.proofs.Registers.{reg_zero}
-use Rattle.mv_select_trees.proofs.Words.{word_of_pos, add_zero}
-use Rattle.mv_select_statements.specs.Leads.{limited}
 use Rattle.mv_select_statements.specs.StatementCode.{first, trap_label}
-use Rattle.mv_select_statements.proofs.TreesFirst.{add_small}
-use Rattle.mv_select_control.specs.Placed.{IsPlaced, Placed}
+use Rattle.mv_select_control.specs.Placed.{Placed}
 use Rattle.mv_select_control.specs.Runs.{Spot, Machine, outside, IsRun}
-use Rattle.mv_select_control.proofs.Walk as walk
-use Rattle.mv_select_control.proofs.Walk.{before_next, line_does, steps_on}
-use Rattle.mv_select_calls.specs.CallCode.{link_register, left_register, request_register}
+use Rattle.mv_select_control.proofs.Walk.{before_next}
+use Rattle.mv_select_calls.specs.CallCode.{request_register}
 use Rattle.mv_select_calls.specs.Convention.{Layout, HoldsGlobals}
 use Rattle.mv_refine_machine.specs.MachineRuns.{spot_of, machine_text, machine_of, unpatched_word}
 use Rattle.mv_refine_machine.specs.MachineRuns as runs
 use Rattle.mv_refine_machine.specs.Laws.{IsFirst}
 use Rattle.mv_refine_stubs.specs.Ends.{ComesTo}
 use Rattle.mv_refine_stubs.specs.Laws.{HoldsData, StartIsRight, ExitIsRight, TrapIsRight}
-use Rattle.mv_refine_stubs.specs.Stubs.{stack_register, stack_end, start_address, return_address, start_lines, trap_lines}
-use Rattle.mv_refine_stubs.proofs.Walked.{no_frame, none_inside}
+use Rattle.mv_refine_stubs.specs.Stubs.{start_address, return_address, start_lines, trap_lines}
+use Rattle.mv_refine_stubs.proofs.Walked.{no_frame, none_inside, At, One, sets, number_sets, regs3}
+use Rattle.mv_refine_stubs.proofs.Walked as walked
+use Rattle.mv_refine_stubs.proofs.Starting.{first_entry}
 use Rattle.mv_refine_commits.specs.Watch.{texts_of, keeps_text, is_sound}
 use Rattle.mv_refine_commits.specs.Watched.{Watched, access, IsQuiet, is_quiet, watched_machine}
 use Rattle.mv_refine_commits.specs.Served.{at, SoundAt}
@@ -45,65 +36,32 @@ use Rattle.mv_refine_commits.proofs.Orders.{quiet_inside, quiet_outside}
 use Rattle.mv_refine_commits.proofs.Quiet.{quiet_told, quiet_tested}
 use Rattle.mv_refine_commits.proofs.Served.{Calmly, calm_sound}
 use Rattle.mv_refine_commits.proofs.Watched.{watched_runs}
+use Rattle.mv_refine_commits.proofs.WatchedRun.{watched_run}
 
 -- ---- lines that a run walks
 
 module _ (known : Known) (attributed : List ℕ) (closed : (pc address : ℕ) → Bool) (image : Fields) (rules : Rules image) (input : List (Option ℕ)) (actions : List Action) (picks : List ℕ)
     (place entry : ℕ → ℕ) where
-  abbrev machine : Machine Watched
-  machine = watched_machine attributed closed image input actions picks
-
-  abbrev start : State
-  start = first_state image input actions
-
-  abbrev run : ℕ → Spot Watched
-  run = machine.run
+  open watched_run attributed closed image input actions picks use {machine, start, run}
 
   ok : IsRun access (no_frame entry) machine
   ok = watched_runs known attributed closed image rules input actions picks (no_frame entry) (none_inside entry) (λ pc a may. absurd cc)
 
-  -- it loads nothing
-  abbrev own : Access Watched
-  own = limited access (no_frame entry)
-
-  -- time t of the run stands at a place with these registers and this memory, in calm
-  abbrev At : World → ℕ → List ℕ → Watched → ℕ → Type 0
-  At = walk.Stands access (no_frame entry) machine ok place 0 0 0
-
-  abbrev One : ℕ → ℕ → Line → Type 0
-  One = IsPlaced (machine_text attributed image) place entry
-
-  comes : (pc i : ℕ) (w : World) → ComesQuietly closed image start picks pc w i → At w pc (run i).regs (run i).memory i
+  comes : (pc i : ℕ) (w : World) → ComesQuietly closed image start picks pc w i → At access machine place entry ok w pc (run i).regs (run i).memory i
   comes pc i w h = record {
     is = ap (λ (a : ℕ). record (run i) { pc = a }) h.here;
     calm = quiet_tested known image (outside w) (run i).memory (quiet_outside image w (run i).memory h.quiet);
     sound = h.sound;
   }
 
-  quiet_there : (w : World) (pc t : ℕ) (regs : List ℕ) (m : Watched) → At w pc regs m t → IsQuiet image w (run t).memory
+  quiet_there : (w : World) (pc t : ℕ) (regs : List ℕ) (m : Watched) → At access machine place entry ok w pc regs m t → IsQuiet image w (run t).memory
   quiet_there w pc t regs m a =
       quiet_inside image w (run t).memory (quiet_told known image (outside w) (run t).memory (subst (λ (x : Spot Watched). is_quiet image (outside w) x.memory ≡ true) (sym a.is) a.calm))
-
-  sets : (i : Instr) (w : World) (pc next t : ℕ) (regs regs' : List ℕ) (m : Watched) → Sets own m i regs regs' → One pc next (Word i) → At w pc regs m t → At w next regs' m (t + 1)
-  sets i w pc next t regs regs' m does p a =
-      let here = p.here in
-      let on : add pc 4 ≡ next = add_small pc 4 (omega (arith, here.1)) ∙ sym p.stands.1 in
-      steps_on access (no_frame entry) machine ok place 0 0 0 w pc next regs regs' m m t
-      (line_does access (no_frame entry) machine ok place 0 0 0 w pc next regs m t (Word i) p.stands p a ∙ does pc ∙ ap (λ z. Goes regs' z m) on) (inl refl) a
-
-  jumps : (rd l : ℕ) (w : World) (pc next t : ℕ) (regs : List ℕ) (m : Watched) → One pc next (Jump rd l) → At w pc regs m t → At w (place l) (put regs rd next) m (t + 1)
-  jumps rd l w pc next t regs m p a =
-      steps_on access (no_frame entry) machine ok place 0 0 0 w pc (place l) regs (put regs rd next) m m t
-      (line_does access (no_frame entry) machine ok place 0 0 0 w pc next regs m t (Jump rd l) p.stands p a) (inl refl) a
-
-  -- a number into a register
-  number_sets : (r n : ℕ) (regs : List ℕ) (m : Watched) → n < 2 ^ 32 → Sets own m (Addi r 0 (pos n)) regs (put regs r n)
-  number_sets r n regs m lt = addi_sets own m r 0 (pos n) regs 0 n n (reg_zero regs) (word_of_pos n lt) (add_zero n lt)
 
   -- ---- ends
 
   -- a time at an environment call is sound
-  call_sound : (w : World) (pc end t : ℕ) (regs : List ℕ) (m : Watched) → One pc end (Word Ecall) → At w pc regs m t → SoundAt closed image start picks t
+  call_sound : (w : World) (pc end t : ℕ) (regs : List ℕ) (m : Watched) → One access machine place entry ok pc end (Word Ecall) → At access machine place entry ok w pc regs m t → SoundAt closed image start picks t
   call_sound w pc end t regs m p a =
       let here : (run t).pc ≡ pc = ap (λ (x : Spot Watched). x.pc) a.is in
       let calmly : Calmly known closed image rules start picks w Ecall t = record {
@@ -133,7 +91,7 @@ module _ (known : Known) (attributed : List ℕ) (closed : (pc address : ℕ) �
       let q = p.2.2.2 in
       let a = comes p.2.2.0 i w (record { here = h.here ∙ back; quiet = h.quiet; sound = h.sound }) in
       let regs = put (run i).regs request_register 0 in
-      let b = sets (Addi request_register 0 (pos 0)) w p.2.2.0 q.0 i (run i).regs regs (run i).memory (number_sets request_register 0 (run i).regs (run i).memory (omega arith)) q.1 a in
+      let b = sets access machine place entry ok (Addi request_register 0 (pos 0)) w p.2.2.0 q.0 i (run i).regs regs (run i).memory (number_sets access entry request_register 0 (run i).regs (run i).memory (omega arith)) q.1 a in
       record {
         quiet = quiet_there w q.0 (i + 1) regs (run i).memory b;
         sound = λ t le. before_next (SoundAt closed image start picks) (i + 1) b.sound (call_sound w q.0 q.2.0 (i + 1) regs (run i).memory q.2.1 b) t (omega (arith, le));
@@ -147,11 +105,11 @@ module _ (known : Known) (attributed : List ℕ) (closed : (pc address : ℕ) �
       let m = (run i).memory in
       let a = comes p.0 i w (record { here = h.here ∙ p.1.label ∙ sym p.1.stands; quiet = h.quiet; sound = h.sound }) in
       let regs1 = put (run i).regs first code in
-      let b = sets (Addi first 0 (pos code)) w p.0 p.2.0 i (run i).regs regs1 m (number_sets first code (run i).regs m (omega (arith, le))) p.2.1 a in
+      let b = sets access machine place entry ok (Addi first 0 (pos code)) w p.0 p.2.0 i (run i).regs regs1 m (number_sets access entry first code (run i).regs m (omega (arith, le))) p.2.1 a in
       let regs2 = put regs1 request_register 3 in
-      let c = sets (Addi request_register 0 (pos 3)) w p.2.0 q.0 (i + 1) regs1 regs2 m (number_sets request_register 3 regs1 m (omega arith)) q.1 b in
+      let c = sets access machine place entry ok (Addi request_register 0 (pos 3)) w p.2.0 q.0 (i + 1) regs1 regs2 m (number_sets access entry request_register 3 regs1 m (omega arith)) q.1 b in
       let two : i + 1 + 1 ≡ i + 2 = omega arith in
-      let d : At w q.0 regs2 m (i + 2) = subst (At w q.0 regs2 m) two c in
+      let d : At access machine place entry ok w q.0 regs2 m (i + 2) = subst (At access machine place entry ok w q.0 regs2 m) two c in
       record {
         quiet = quiet_there w q.0 (i + 2) regs2 m d;
         sound = λ t lt. before_next (SoundAt closed image start picks) (i + 2) d.sound (call_sound w q.0 q.2.0 (i + 2) regs2 m q.2.1 d) t (omega (arith, lt));
@@ -168,22 +126,14 @@ trap_is_right known trap attributed closed image rules input actions picks code 
 
 -- ---- the start
 
-stack_is : upper (pos 0x400) ≡ stack_end
-unfolding upper shl
-stack_is = ap (λ (n : ℕ). shl n 12) (word_of_pos 0x400 (omega arith))
-
-first_entry : (image : Fields) (bytes : List ℕ) (actions : List Action) → (first_state image (bytes_to_come bytes) actions).pc ≡ image.entry
-unfolding first_state
-first_entry image bytes actions = refl
-
 module _ (known : Known) (plain : StartIsRight) (attributed : List ℕ) (closed : (pc address : ℕ) → Bool) (image : Fields) (rules : Rules image) (bytes : List ℕ) (actions : List Action) (picks : List ℕ)
     (y : Layout) (budget far : ℕ) (w : World) (begins : IsFirst image bytes w) (acts : w.actions ≡ actions) (held : HoldsData y image w) (entry_is : image.entry ≡ start_address)
     (place entry : ℕ → ℕ) (main_label end : ℕ) (p : Placed (machine_text attributed image) place entry (start_lines main_label) start_address end) where
   abbrev host : Machine Watched
   host = watched_machine attributed closed image (bytes_to_come bytes) actions picks
 
-  abbrev Walks : ℕ → List ℕ → Watched → ℕ → Type 0
-  Walks = At known attributed closed image rules (bytes_to_come bytes) actions picks place entry w
+  abbrev is_run : IsRun access (no_frame entry) host
+  is_run = ok known attributed closed image rules (bytes_to_come bytes) actions picks place entry
 
   abbrev m : Watched
   m = (host.run 0).memory
@@ -191,34 +141,15 @@ module _ (known : Known) (plain : StartIsRight) (attributed : List ℕ) (closed 
   abbrev regs0 : List ℕ
   regs0 = (host.run 0).regs
 
-  at0 : Walks start_address regs0 m 0
+  at0 : At access host place entry is_run w start_address regs0 m 0
   at0 = record {
     is = ap (λ (a : ℕ). record (host.run 0) { pc = a }) (ap (λ (s : State). s.pc) (runs_none (first_state image (bytes_to_come bytes) actions) picks) ∙ first_entry image bytes actions ∙ entry_is);
     calm = watched_begins known image bytes actions picks w begins acts;
     sound = λ t lt. absurd (omega (arith, lt));
   }
 
-  abbrev regs1 : List ℕ
-  regs1 = put regs0 stack_register stack_end
-
-  at1 : Walks p.0 regs1 m 1
-  at1 =
-      sets known attributed closed image rules (bytes_to_come bytes) actions picks place entry (Lui stack_register (pos 0x400)) w start_address p.0 0 regs0 regs1 m
-      (lui_sets (own known attributed closed image rules (bytes_to_come bytes) actions picks place entry) m stack_register (pos 0x400) regs0 stack_end stack_is) p.1 at0
-
-  abbrev regs2 : List ℕ
-  regs2 = put regs1 left_register depth_limit
-
-  at2 : Walks p.2.0 regs2 m 2
-  at2 =
-      sets known attributed closed image rules (bytes_to_come bytes) actions picks place entry (Addi left_register 0 (pos depth_limit)) w p.0 p.2.0 1 regs1 regs2 m
-      (number_sets known attributed closed image rules (bytes_to_come bytes) actions picks place entry left_register depth_limit regs1 m (omega arith)) p.2.1 at1
-
-  abbrev regs3 : List ℕ
-  regs3 = put regs2 link_register p.2.2.0
-
-  at3 : Walks (place main_label) regs3 m 3
-  at3 = jumps known attributed closed image rules (bytes_to_come bytes) actions picks place entry link_register main_label w p.2.0 p.2.2.0 2 regs2 m p.2.2.1 at2
+  abbrev at3 : At access host place entry is_run w (place main_label) (regs3 access host place entry is_run w main_label end p at0) m 3
+  at3 = walked.at3 access host place entry is_run w main_label end p at0
 
   globals_beside : (n : ℕ) → HoldsGlobals runs.access y (machine_of attributed closed image (bytes_to_come bytes) actions picks) budget far w (host.run n).memory.rest
       → HoldsGlobals access y host budget far w (host.run n).memory

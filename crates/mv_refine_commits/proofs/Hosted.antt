@@ -1,8 +1,7 @@
 -- The machine begins in calm, and its memory has words.
 use Rattle.std.proofs.Common.{◌≡◌, ℕ, false, List, [], length, option_map, Option, Some, None, refl, sym, ap, ◌∙◌, subst}
-use Rattle.std.proofs.lemmas.List.{length-replicate}
 use Rattle.mv_ast.specs.declared.world.Action.{Action}
-use Rattle.mv_fetch.specs.Held.{Room, zeros, fence, first as first_memory}
+use Rattle.mv_fetch.specs.Held.{fence, first as first_memory}
 use Rattle.mv_rv32.specs.Stepping as memory
 use Rattle.mv_image.specs.Spelling.{Fields}
 use Rattle.mv_image.specs.Patched.{text_of}
@@ -18,20 +17,19 @@ use Rattle.mv_select_functions.specs.Functions.{Kept}
 use Rattle.mv_refine_machine.specs.Calm.{Rest, IsCalm}
 use Rattle.mv_refine_machine.specs.Laws.{IsFirst}
 use Rattle.mv_refine_machine.specs.MachineRuns as runs
-use Rattle.mv_refine_machine.specs.MachineRuns.{with_room, rest_of}
+use Rattle.mv_refine_machine.specs.MachineRuns.{rest_of}
 use Rattle.mv_refine_machine.proofs.Whole as whole
+use Rattle.mv_refine_machine.proofs.Starts.{zeros_count}
 use Rattle.mv_refine_stores.specs.Between.{IsWhole}
 use Rattle.mv_refine_commits.specs.Watch.{texts_of}
 use Rattle.mv_refine_commits.specs.Watched.{Watched, access, watched, put_room, plan_words}
 use Rattle.mv_refine_commits.specs.Hosted.{WatchedRunsBegin, WatchedMemory}
 use Rattle.mv_refine_commits.proofs.Known.{Known}
 use Rattle.mv_refine_commits.proofs.Quiet.{quiet_told, quiet_tested}
+use Rattle.mv_refine_commits.proofs.Images.{first_actions}
+use Rattle.mv_refine_commits.proofs.Tabled.{room_stored}
 
 -- ---- the start
-
-zeros_count : (n : ℕ) → length (zeros n) ≡ n
-unfolding zeros
-zeros_count n = length-replicate n 0
 
 plan_there : (image : Fields) (input : List (Option ℕ)) (actions : List Action) → length (first image input actions).room.held.plan ≡ plan_words
 unfolding first first_memory
@@ -40,10 +38,6 @@ plan_there image input actions = zeros_count 131072
 reserved : (image : Fields) (input : List (Option ℕ)) (actions : List Action) → (first image input actions).room.reserve ≡ patchable image
 unfolding first
 reserved image input actions = refl
-
-actions_there : (image : Fields) (input : List (Option ℕ)) (actions : List Action) → (first image input actions).actions ≡ actions
-unfolding first
-actions_there image input actions = refl
 
 -- the first memory is as behind FENCE.I
 fenced_first : (image : Fields) (input : List (Option ℕ)) (actions : List Action) → memory.access.fence (first image input actions).room ≡ (first image input actions).room
@@ -84,14 +78,10 @@ module _ (known : Known) where
         reserve = reserved image (bytes_to_come bytes) actions;
         plan = plan_there image (bytes_to_come bytes) actions;
         under = refl;
-        actions = actions_there image (bytes_to_come bytes) actions ∙ sym acts;
+        actions = first_actions image (bytes_to_come bytes) actions ∙ sym acts;
       })
 
   -- ---- memory
-
-  room_stored : (m after : Rest) (o : Option Room) → option_map (with_room m) o ≡ Some after → (r : Room) × (o ≡ Some r) × (after ≡ with_room m r)
-  room_stored m after None e = absurd (cc)
-  room_stored m after (Some r) e = (r, refl, cc)
 
   kept_beside : (y : Layout) (m : Watched) (b v : ℕ) → Kept runs.access y m.rest b v → Kept access y m b v
   unfolding access runs.access

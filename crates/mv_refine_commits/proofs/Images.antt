@@ -1,16 +1,17 @@
 -- A run keeps its image, and takes from its actions.
-use Rattle.std.proofs.Common.{◌≡◌, ℕ, zero, suc, ◌-◌, ◌^◌, Bool, true, false, if◌then◌else◌, nat_eq, List, [], ◌∷◌, slice_index, Option, refl, sym, subst}
+use Rattle.std.proofs.Common.{◌≡◌, ℕ, ◌-◌, ◌^◌, if◌then◌else◌, nat_eq, List, [], ◌∷◌, Option, refl, sym, subst}
 use Rattle.std.specs.List.{All}
 use Rattle.std.proofs.lemmas.List.Elements.{All-tail}
 use Rattle.mv_ast.specs.declared.world.Action.{Action}
 use Rattle.mv_ast.specs.declared.world.Action.TheVariants.{Skip, Flip}
 use Rattle.mv_isa.specs.declared.instr.Cause.TheVariants as cause
-use Rattle.mv_isa.specs.Execution.{Outcome, Goes, Calls, Faults, reg}
-use Rattle.mv_fetch.specs.Held.{Room}
+use Rattle.mv_isa.specs.Execution.{reg}
 use Rattle.mv_image.specs.Spelling.{Fields}
 use Rattle.mv_patch.specs.Orders.{is_known_order}
-use Rattle.mv_machine.specs.Runs.{State, Stop, Going, Exit, Trap, Fault, Request, Exits, Reads, Writes, Traps, Plans, Polls, Unknown, request_of, argument, answered, stopped, live_frames, refused, ordered, planned, act, acted, polled, environment_call, fetched_step, after, where_going, turn, runs_from, first}
+use Rattle.mv_machine.specs.Runs.{State, Fault, Request, Exits, Reads, Writes, Traps, Plans, Polls, Unknown, argument, answered, stopped, live_frames, refused, ordered, planned, act, acted, polled, environment_call, runs_from, first}
 use Rattle.mv_machine.proofs.Leaving.{Leaves, planned_leaves, polled_leaves}
+use Rattle.mv_refine_machine.proofs.Keeping.{either}
+use Rattle.mv_refine_machine.proofs.Keeping as keeping
 use Rattle.mv_ast.specs.Actions.{IsOfWord}
 
 module _ (image : Fields) where
@@ -31,25 +32,8 @@ module _ (image : Fields) where
   call_keeps Polls s h = polled_leaves Has s (plan_keeps s h)
   call_keeps Unknown s h = h
 
-  after_keeps : (outcome : Outcome Room) (s : State) → Has s → Has (after outcome s)
-  after_keeps (Goes regs pc room) s h = h
-  after_keeps Calls s h = call_keeps (request_of (reg s.regs 17)) s h
-  after_keeps (Faults why) s h = h
-
-  going_keeps : (stop : Stop) (going ended : State) → Has going → Has ended → Has (where_going stop going ended)
-  going_keeps Going going ended h k = h
-  going_keeps (Exit status) going ended h k = k
-  going_keeps (Trap code) going ended h k = k
-  going_keeps (Fault why) going ended h k = k
-
-  turn_keeps : (s : State) (pick : ℕ) → Has s → Has (turn s pick)
-  unfolding turn
-  turn_keeps s pick h = going_keeps s.stop (after (fetched_step s pick) s) s (after_keeps (fetched_step s pick) s h) h
-
   pub runs_keep : (s : State) (picks : List ℕ) (n : ℕ) → Has s → Has (runs_from s picks n)
-  unfolding runs_from
-  runs_keep s picks zero h = h
-  runs_keep s picks (suc n) h = turn_keeps (runs_from s picks n) (slice_index picks n) (runs_keep s picks n h)
+  runs_keep = keeping.runs_keep Has (record { goes = λ regs pc room s h. h; calls = call_keeps; faults = λ why s h. h })
 
   first_has : (input : List (Option ℕ)) (actions : List Action) → Has (first image input actions)
   unfolding first
@@ -62,10 +46,6 @@ module _ (image : Fields) where
 
 abbrev AreOfWords : State → Type 0
 AreOfWords s = All IsOfWord s.actions
-
-either : (b : Bool) (x y : State) → AreOfWords x → AreOfWords y → AreOfWords (if b then x else y)
-either true x y h k = h
-either false x y h k = k
 
 act_words : (action : Action) (s : State) → AreOfWords s → AreOfWords (act action s)
 unfolding answered
@@ -80,12 +60,12 @@ acted_words s (action ∷ later) l h = act_words action (record s { actions = la
 planned_words : (s : State) (code index : ℕ) → AreOfWords s → AreOfWords (planned s code index)
 unfolding planned answered
 planned_words s code index h =
-    either (is_known_order s.image code index) (if nat_eq (live_frames s) 0 then ordered s code index else refused s (2 ^ 32 - 1)) (stopped s (Fault cause.Call))
-    (either (nat_eq (live_frames s) 0) (ordered s code index) (refused s (2 ^ 32 - 1)) h h) h
+    either AreOfWords (is_known_order s.image code index) (if nat_eq (live_frames s) 0 then ordered s code index else refused s (2 ^ 32 - 1)) (stopped s (Fault cause.Call))
+    (either AreOfWords (nat_eq (live_frames s) 0) (ordered s code index) (refused s (2 ^ 32 - 1)) h h) h
 
 polled_words : (s : State) → AreOfWords s → AreOfWords (polled s)
 unfolding polled answered
-polled_words s h = either (nat_eq (live_frames s) 0) (acted s s.actions) (refused s 0) (acted_words s s.actions h h) h
+polled_words s h = either AreOfWords (nat_eq (live_frames s) 0) (acted s s.actions) (refused s 0) (acted_words s s.actions h h) h
 
 call_words : (request : Request) (s : State) → AreOfWords s → AreOfWords (environment_call request s)
 unfolding answered
@@ -97,27 +77,10 @@ call_words Plans s h = planned_words s (argument s) (reg s.regs 11) h
 call_words Polls s h = polled_words s h
 call_words Unknown s h = h
 
-after_words : (outcome : Outcome Room) (s : State) → AreOfWords s → AreOfWords (after outcome s)
-after_words (Goes regs pc room) s h = h
-after_words Calls s h = call_words (request_of (reg s.regs 17)) s h
-after_words (Faults why) s h = h
-
-going_words : (stop : Stop) (going ended : State) → AreOfWords going → AreOfWords ended → AreOfWords (where_going stop going ended)
-going_words Going going ended h k = h
-going_words (Exit status) going ended h k = k
-going_words (Trap code) going ended h k = k
-going_words (Fault why) going ended h k = k
-
-turn_words : (s : State) (pick : ℕ) → AreOfWords s → AreOfWords (turn s pick)
-unfolding turn
-turn_words s pick h = going_words s.stop (after (fetched_step s pick) s) s (after_words (fetched_step s pick) s h) h
-
 runs_words : (s : State) (picks : List ℕ) (n : ℕ) → AreOfWords s → AreOfWords (runs_from s picks n)
-unfolding runs_from
-runs_words s picks zero h = h
-runs_words s picks (suc n) h = turn_words (runs_from s picks n) (slice_index picks n) (runs_words s picks n h)
+runs_words = keeping.runs_keep AreOfWords (record { goes = λ regs pc room s h. h; calls = call_words; faults = λ why s h. h })
 
-first_actions : (image : Fields) (input : List (Option ℕ)) (actions : List Action) → (first image input actions).actions ≡ actions
+pub first_actions : (image : Fields) (input : List (Option ℕ)) (actions : List Action) → (first image input actions).actions ≡ actions
 unfolding first
 first_actions image input actions = refl
 

@@ -5,6 +5,7 @@ use Rattle.mv_num.specs.Words.{word_of, add, shl, narrow}
 use Rattle.mv_num.specs.declared.kind.Kind.TheVariants as kind
 use Rattle.mv_isa.specs.declared.instr.Instr.TheVariants.{Lui, Jal, Jalr, Beq, Lw, Sw, Addi, FenceI}
 use Rattle.mv_isa.specs.Execution.{Access, Goes, reg, put, upper, sets, jumps, branches, loaded, stored, loads, stores, execute}
+use Rattle.mv_select_trees.proofs.Registers.{reg_zero}
 
 pub add_four : (pc : ℕ) → pc < 2 ^ 31 → add pc 4 ≡ pc + 4
 unfolding add
@@ -30,10 +31,6 @@ put_zero regs v = refl
 upper_plan : upper (pos 0x400) ≡ 0x0040_0000
 unfolding upper shl word_of
 upper_plan = refl
-
-reg_zero : (regs : List ℕ) → reg regs 0 ≡ 0
-unfolding reg
-reg_zero regs = refl
 
 module _ {M : Type 0} (access : Access M) (m : M) (regs : List ℕ) (pc : ℕ) (small : pc < 2 ^ 31) where
   pub lui_goes : execute access (Lui 5 (pos 0x400)) regs pc m ≡ Goes (put regs 5 0x0040_0000) (pc + 4) m

@@ -16,6 +16,7 @@ pub mod Flips
 pub mod Planned
 pub mod Planning
 pub mod Tabled
+pub mod WatchedRun
 pub mod Orders
 pub mod Hosted
 pub mod Calls

@@ -11,7 +11,6 @@ use Rattle.mv_ast.specs.declared.world.Action.{Action}
 use Rattle.mv_ast.specs.declared.world.Action.TheVariants.{Flip}
 use Rattle.mv_ast.specs.Actions.{fits, is_switch_value, IsOfWord}
 use Rattle.mv_ast.specs.declared.program.Switch.{Switch}
-use Rattle.mv_ast.specs.declared.world.Binding.{Binding}
 use Rattle.mv_ast.specs.Counts as counts
 use Rattle.mv_ast.specs.Plans as source
 use Rattle.mv_isa.specs.declared.instr.Instr.TheVariants.{Ecall}
@@ -28,19 +27,18 @@ use Rattle.mv_ir.specs.Programs.{setting_of}
 use Rattle.mv_ir.specs.KnownFunctions.{known_answer, seen, seen_from}
 use Rattle.mv_linker.specs.Linked.{commit_lines}
 use Rattle.mv_ir_worlds.specs.Fit.{IsFit, is_fit}
-use Rattle.mv_machine.specs.Runs.{State, first as first_state, runs_from, request_of, environment_call, planned, polled}
-use Rattle.mv_machine.specs.Commits.{commit_from}
+use Rattle.mv_machine.specs.Runs.{State, request_of, environment_call, planned, polled}
 use Rattle.mv_machine.proofs.Calls.{request_plans, request_polls}
 use Rattle.mv_select_statements.specs.StatementCode.{first}
 use Rattle.mv_select_control.specs.Placed.{Placed}
-use Rattle.mv_select_control.specs.Runs.{Spot, Machine, outside}
+use Rattle.mv_select_control.specs.Runs.{Machine, outside}
 use Rattle.mv_select_calls.specs.CallCode.{link_register, live_register}
 use Rattle.mv_select_calls.specs.Convention.{Layout, IsTarget, IsSaved, IsAbove, HoldsGlobals, Stands, SetsBack, Returns}
 use Rattle.mv_select_calls.specs.Environment.{IsDirect, Asks, ServesOrders, stub_cost}
 use Rattle.mv_select_slots.specs.Narrowed.{narrowed}
 use Rattle.mv_refine_machine.specs.Layout.{IsOutsideText, IsSetOut}
 use Rattle.mv_refine_machine.specs.MachineRuns.{machine_text, unpatched_word}
-use Rattle.mv_refine_commits.specs.Watched.{Watched, access, watched, IsQuiet, is_quiet, spot_at, watched_machine}
+use Rattle.mv_refine_commits.specs.Watched.{Watched, access, watched, IsQuiet, is_quiet, watched_machine}
 use Rattle.mv_refine_commits.specs.Served.{IsPlanned, IsPlanOpen, AtStub, IsBack}
 use Rattle.mv_refine_commits.specs.Tabled.{IsTabled, TabledOrdersAreServed}
 use Rattle.mv_refine_commits.proofs.Known.{Known as Laws}
@@ -50,6 +48,7 @@ use Rattle.mv_refine_commits.proofs.Quiet.{quiet_told, quiet_tested}
 use Rattle.mv_refine_commits.proofs.Served.{Calmly, calm_calls, loads_stack, stub_serves}
 use Rattle.mv_refine_commits.proofs.Stands.{stub_stands}
 use Rattle.mv_refine_commits.proofs.Tabled.{agrees, flip_agrees}
+use Rattle.mv_refine_commits.proofs.WatchedRun.{watched_run}
 
 -- calm says nothing of the globals
 pub quiet_inside : (image : Fields) (w : World) (m : Watched) → IsQuiet image (outside w) m → IsQuiet image w m
@@ -114,17 +113,7 @@ module _ (known : Laws) (attributed : List ℕ) (closed : (pc address : ℕ) →
   abbrev setting : ir.Setting
   setting = setting_of numbers p
 
-  abbrev start : State
-  start = first_state image input actions
-
-  abbrev run : ℕ → Spot Watched
-  run = spot_at start picks
-
-  abbrev Now : ℕ → State
-  Now i = runs_from start picks i
-
-  abbrev under : ℕ → Option (List Binding)
-  under i = commit_from start picks i
+  open watched_run attributed closed image input actions picks use {start, run, state as Now, under}
 
   module _ (i : ℕ) (w : World) (here : Stands access y machine budget far y.commit w i) where
     calm : (is_fit p (outside w) ≡ true) × (is_quiet image (outside w) (run i).memory ≡ true)

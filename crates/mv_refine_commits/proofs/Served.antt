@@ -1,5 +1,5 @@
 -- The stub on an image, from its call to its return.
-use Rattle.std.proofs.Common.{◌≡◌, ◌≢◌, inl, inr, ⊎_elim, ℕ, zero, suc, add-one, ◌+◌, ◌-◌, ◌*◌, ◌/◌, ◌%◌, ◌<◌, ◌≤◌, Bool, true, false, ◌&&◌, ◌||◌, not, cond, eqb, ltb, List, [], ◌∷◌, ◌++◌, length, replicate, slice_get, slice_index, is_some, Option, Some, None, pos, refl, sym, ap, ap₂, ◌∙◌, subst, arith}
+use Rattle.std.proofs.Common.{◌≡◌, ◌≢◌, inl, inr, ⊎_elim, ℕ, add-one, ◌+◌, ◌-◌, ◌*◌, ◌/◌, ◌%◌, ◌<◌, ◌≤◌, Bool, true, false, ◌&&◌, ◌||◌, not, cond, eqb, ltb, List, [], ◌∷◌, ◌++◌, length, slice_get, slice_index, is_some, Option, Some, None, pos, refl, sym, ap, ap₂, ◌∙◌, subst, arith}
 use Rattle.std.proofs.lemmas.List.{append-nil}
 use Rattle.std.specs.List.{All}
 use Rattle.std.proofs.lemmas.List.Elements.{All-head, All-tail}
@@ -25,6 +25,7 @@ use Rattle.mv_ir.specs.World.{World}
 use Rattle.mv_machine.specs.Runs.{State, request_of, environment_call}
 use Rattle.mv_machine.specs.Commits.{opens, is_some_pair, after_instr, commit_from, where_it_goes}
 use Rattle.mv_machine.proofs.Turns.{runs_more, turn_by}
+use Rattle.mv_refine_machine.proofs.Starts.{none_older}
 use Rattle.mv_select_trees.specs.View.{AreRegisters}
 use Rattle.mv_select_trees.proofs.Registers.{put_same, put_other, put_registers}
 use Rattle.mv_select_control.proofs.Walk.{before_next}
@@ -93,11 +94,6 @@ loads_stack r r' a ge lt s =
 fence_keeps : (r : Room) → (((access.fence r).held.globals ≡ r.held.globals) × ((access.fence r).held.stack ≡ r.held.stack) × ((access.fence r).held.plan ≡ r.held.plan)) × ((access.fence r).reserve ≡ r.reserve)
 unfolding access fence
 fence_keeps r = ((refl, refl, refl), refl)
-
-pub none_older : (n k : ℕ) → older_at (replicate n []) k ≡ []
-none_older zero k = refl
-none_older (suc n) zero = refl
-none_older (suc n) (suc k) = none_older n k
 
 -- ---- words that are never patched
 

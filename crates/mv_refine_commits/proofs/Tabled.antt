@@ -214,7 +214,7 @@ unfolding memory.access store
 data_store r r' a v ge lt e = store_parts r r' a v (eqb (a % 4) 0) (present r.held a) ge lt e
 
 -- the store of all but registers and pc is one of the room
-room_stored : (m after : Rest) (o : Option Room) → option_map (with_room m) o ≡ Some after → (r : Room) × (o ≡ Some r) × (after ≡ with_room m r)
+pub room_stored : (m after : Rest) (o : Option Room) → option_map (with_room m) o ≡ Some after → (r : Room) × (o ≡ Some r) × (after ≡ with_room m r)
 room_stored m after None e = absurd (cc)
 room_stored m after (Some r) e = (r, refl, cc)
 

@@ -1,56 +1,15 @@
--- A step that may load only what is open loads nothing that is closed.
-use Rattle.std.proofs.Common.{◌≡◌, ℕ, Bool, true, false, cond, not, eqb, List, [], ◌∷◌, length, ℤ, Option, Some, None, option_and_then, refl, ap, ◌∙◌, subst}
-use Rattle.std.proofs.lemmas.Bool.{and_from}
-use Rattle.mv_num.specs.declared.kind.Kind.{Kind}
-use Rattle.mv_num.specs.declared.kind.Kind.TheVariants as kind
-use Rattle.mv_num.specs.Words.{add, word_of}
+-- A place where the word of an instruction stands that loads nothing that is closed.
+use Rattle.std.proofs.Common.{◌≡◌, ℕ, Bool, true, false, [], ◌∷◌, Option, Some, option_and_then, sym, ap, ◌∙◌}
 use Rattle.mv_isa.specs.declared.instr.Instr.{Instr}
-use Rattle.mv_isa.specs.declared.instr.Instr.TheVariants.{Lb, Lh, Lw, Lbu, Lhu}
 use Rattle.mv_isa.specs.Encoding.{decode}
-use Rattle.mv_isa.specs.Execution.{Access, Outcome, Goes, reg, loaded, loads, execute}
 use Rattle.mv_fetch.specs.Held.{choices}
-use Rattle.mv_select_statements.specs.Leads.{reading}
 use Rattle.mv_select_control.specs.Runs.{Spot}
 use Rattle.mv_select_functions.specs.Loads.{loads_from}
 use Rattle.mv_refine_machine.specs.Calm.{Rest}
-use Rattle.mv_refine_machine.specs.MachineRuns.{has_one_choice, opens, are_open, is_sound}
+use Rattle.mv_refine_machine.specs.MachineRuns.{is_sound}
+use Rattle.mv_refine_machine.proofs.Open.{sound_at}
 
-same_some : (a b : ℕ) → Some a ≡ Some b → a ≡ b
-same_some a b e = cc
-
-opened : (closed : ℕ → Bool) (o : Option ℕ) → ((a : ℕ) → o ≡ Some a → closed a ≡ false) → opens closed o ≡ true
-opened closed None h = refl
-opened closed (Some a) h = ap not (h a refl)
-
-module _ {M : Type 0} (access : Access M) (may_load : ℕ → Bool) (regs : List ℕ) (pc : ℕ) (m : M) (regs' : List ℕ) (pc' : ℕ) (m' : M) where
-  abbrev Goes_on : Outcome M → Type 0
-  Goes_on o = o ≡ Goes regs' pc' m'
-
-  allowed : (rd : ℕ) (k : Kind) (b : Bool) (o : Option ℕ) → Goes_on (loaded regs pc m rd k (cond b o None)) → b ≡ true
-  allowed rd k true o h = refl
-  allowed rd k false o h = absurd (let wrong : loaded regs pc m rd k None ≡ Goes regs' pc' m' = h in cc)
-
-  loads_allowed : (rd rs1 : ℕ) (imm : ℤ) (width : ℕ) (k : Kind) (a : ℕ) → Goes_on (loads (reading may_load access) regs pc m rd rs1 imm width k) → Some (add (reg regs rs1) (word_of imm)) ≡ Some a →
-      may_load a ≡ true
-  unfolding loads
-  loads_allowed rd rs1 imm width k a h e =
-      let from = add (reg regs rs1) (word_of imm) in
-      subst (λ z. may_load z ≡ true) (same_some from a e) (allowed rd k (may_load from) (access.load m from width) h)
-
-  pub executes_allowed : (i : Instr) (a : ℕ) → Goes_on (execute (reading may_load access) i regs pc m) → loads_from i regs ≡ Some a → may_load a ≡ true
-  unfolding execute
-  executes_allowed (Lb rd rs1 imm) a h e = loads_allowed rd rs1 imm 1 kind.SChar a h e
-  executes_allowed (Lh rd rs1 imm) a h e = loads_allowed rd rs1 imm 2 kind.Short a h e
-  executes_allowed (Lw rd rs1 imm) a h e = loads_allowed rd rs1 imm 4 kind.UInt a h e
-  executes_allowed (Lbu rd rs1 imm) a h e = loads_allowed rd rs1 imm 1 kind.UChar a h e
-  executes_allowed (Lhu rd rs1 imm) a h e = loads_allowed rd rs1 imm 2 kind.UShort a h e
-  executes_allowed _ a h e = absurd cc
-
--- a place where a fetch gives one word, the word of an instruction that loads nothing that is closed
 pub unbarred : (closed : (pc address : ℕ) → Bool) (spot : Spot Rest) (word : ℕ) (i : Instr) → choices spot.memory.room.held spot.pc ≡ word ∷ [] → decode word ≡ Some i
     → ((a : ℕ) → loads_from i spot.regs ≡ Some a → closed spot.pc a ≡ false) → is_sound closed spot ≡ true
 unbarred closed spot word i one says free =
-    and_from (has_one_choice spot) (are_open (closed spot.pc) spot.regs (choices spot.memory.room.held spot.pc)) (ap (λ (words : List ℕ). eqb (length words) 1) one)
-    (ap (are_open (closed spot.pc) spot.regs) one
-    ∙ and_from (opens (closed spot.pc) (option_and_then (λ j. loads_from j spot.regs) (decode word))) true
-    (ap (λ d. opens (closed spot.pc) (option_and_then (λ j. loads_from j spot.regs) d)) says ∙ opened (closed spot.pc) (loads_from i spot.regs) free) refl)
+    sound_at closed spot word one (λ a e. free a (ap (λ (o : Option Instr). option_and_then (λ j. loads_from j spot.regs) o) (sym says) ∙ e))

@@ -2,7 +2,7 @@
 use Rattle.std.proofs.Common.{◌≡◌, ⊎_elim, ◌⊎◌, inl, inr, ℕ, add-one, ◌+◌, ◌-◌, ◌*◌, ◌/◌, ◌%◌, ◌<◌, ◌≤◌, Bool, true, false, ◌&&◌, not, cond, eqb, leb, ltb, List, [], ◌∷◌, length, slice_get, slice_index, Option, Some, None, option_map, Err, refl, sym, ap, ap₂, ◌∙◌, subst, arith, length-set}
 use Rattle.std.specs.Prelude.{option_and_then}
 use Rattle.std.specs.Result.{result_ok}
-use Rattle.std.proofs.lemmas.Bool.{and_parts, and_from, eqb-true, ltb-true, ltb-false, leb-true, ne_eqb, cases_lt, lt-ltb, le-ltb}
+use Rattle.std.proofs.lemmas.Bool.{and_parts, and_from, ltb-true, ltb-false, leb-true, ne_eqb, cases_lt, lt-ltb, le-ltb}
 use Rattle.std.proofs.lemmas.Option.{slice_get_within, get_or_from_slice_get, slice_get-get_or}
 use Rattle.mv_num.specs.Words.{add, word_of}
 use Rattle.mv_ast.specs.declared.world.Action.{Action}
@@ -33,10 +33,13 @@ use Rattle.mv_select_functions.specs.Functions.{part}
 use Rattle.mv_select_slots.specs.Narrowed.{narrowed, has_bindings, words_alone}
 use Rattle.mv_select_slots.proofs.Bindings.{bindings_are_told}
 use Rattle.mv_refine_machine.specs.Layout.{IsOutsideText, OwnOutsideText}
-use Rattle.mv_refine_machine.specs.MachineRuns.{machine_text, unpatched_word, word_at, image_word, bound_word}
+use Rattle.mv_refine_machine.specs.MachineRuns.{machine_text, unpatched_word, image_word, bound_word}
 use Rattle.mv_refine_machine.specs.MachineRuns as runs
 use Rattle.mv_refine_machine.specs.Under.{words_under}
+use Rattle.mv_refine_machine.proofs.Fetches.{standing}
 use Rattle.mv_refine_machine.proofs.OnRuns.{in_part}
+use Rattle.mv_refine_machine.proofs.Open.{executes_allowed}
+use Rattle.mv_refine_machine.proofs.Under.{same_words}
 use Rattle.mv_refine_stores.specs.Between.{IsBetween, IsSettled, is_between}
 use Rattle.mv_refine_commits.specs.Watch.{texts_of, into_text, keeps_text, is_sound}
 use Rattle.mv_refine_commits.specs.Watched.{Watched, access, watched, put_room, IsQuiet, is_quiet, plain_spot, spot_at, watched_machine}
@@ -45,7 +48,7 @@ use Rattle.mv_refine_commits.proofs.Known.{Known}
 use Rattle.mv_refine_commits.proofs.Beside.{step_beside, goes_beside}
 use Rattle.mv_refine_commits.proofs.Quiet.{quiet_told, quiet_tested}
 use Rattle.mv_refine_commits.proofs.Served.{in_globals, in_stack}
-use Rattle.mv_refine_commits.proofs.Unbarred.{executes_allowed, unbarred}
+use Rattle.mv_refine_commits.proofs.Unbarred.{unbarred}
 
 -- ---- stores
 
@@ -161,30 +164,6 @@ has_instr (Some i) regs pc r regs' pc' r' e = (i, refl, e)
 
 -- ---- the one word that stands under the bindings
 
--- an address of text, and its word
-record Standing (image : Fields) (a word : ℕ) : Type 0 where
-  aligned : a % 4 ≡ 0
-  from : 0x1000 ≤ a
-  to : a < 0x0010_0000
-  there : slice_get image.text ((a - 0x1000) / 4) ≡ Some word
-
-word_told : (text : List ℕ) (a w : ℕ) → word_at text a ≡ Some w → (0x1000 ≤ a) × (a < 0x0010_0000) × (slice_get text ((a - 0x1000) / 4) ≡ Some w)
-word_told text a w e = by_tests (ltb a 0x1000) (ltb a 0x0010_0000) refl refl e
-  where
-    by_tests : (low below : Bool) → ltb a 0x1000 ≡ low → ltb a 0x0010_0000 ≡ below → cond low None (cond below (slice_get text ((a - 0x1000) / 4)) None) ≡ Some w
-        → (0x1000 ≤ a) × (a < 0x0010_0000) × (slice_get text ((a - 0x1000) / 4) ≡ Some w)
-    by_tests true below p q k = absurd (cc)
-    by_tests false true p q k = (ltb-false a 0x1000 p, ltb-true a 0x0010_0000 q, k)
-    by_tests false false p q k = absurd (cc)
-
-standing : (image : Fields) (a word : ℕ) → image_word image a ≡ Some word → Standing image a word
-unfolding image_word
-standing image a word e = by_test (eqb (a % 4) 0) refl e
-  where
-    by_test : (aligned : Bool) → eqb (a % 4) 0 ≡ aligned → cond aligned (word_at image.text a) None ≡ Some word → Standing image a word
-    by_test true p q = let r = word_told image.text a word q in record { aligned = eqb-true (a % 4) 0 p; from = r.0; to = r.1; there = r.2 }
-    by_test false p q = absurd (cc)
-
 module _ (known : Known) (image : Fields) (rules : Rules image) where
   bound_one : (w : World) (room : Room) → IsSettled (texts_of image w.bindings) room → (a word : ℕ) → bound_word image w a ≡ Some word → choices room.held a ≡ word ∷ []
   unfolding bound_word
@@ -197,12 +176,13 @@ module _ (known : Known) (image : Fields) (rules : Rules image) where
       of_word None p q = absurd (cc)
       of_word (Some x) p q =
           let h = standing image a x p in
-          let aligned = h.aligned in let from = h.from in let to = h.to in
+          let aligned = h.aligned in let from = h.text.after in let to = h.below in
           let k = (a - 0x1000) / 4 in
+          let there : slice_get image.text k ≡ Some x = ap (slice_get image.text) (sym h.text.index) ∙ h.there in
           let at : 4096 + 4 * k ≡ a = omega (arith, aligned, from, to) in
-          let within : k < length image.text = slice_get_within image.text k x h.there in
+          let within : k < length image.text = slice_get_within image.text k x there in
           let size = text_size image (values_of w.bindings) in
-          let here : slice_index image.text k ≡ x = get_or_from_slice_get image.text k x 0 h.there in
+          let here : slice_index image.text k ≡ x = get_or_from_slice_get image.text k x 0 there in
           let stands : slice_get (texts_of image w.bindings) k ≡ Some word =
           slice_get-get_or (texts_of image w.bindings) k 0 (omega (arith, within, size))
           ∙ ap Some (text_at image (values_of w.bindings) k within ∙ ap₂ (λ c y. word_under image (values_of w.bindings) c y) at here) ∙ q in
@@ -439,11 +419,6 @@ watched_alone known attributed closed image rules input actions picks from to s 
     runs_in known attributed closed image rules input actions picks s out (λ w. true) (part from to (machine_text attributed image))
     (λ w a word passes e. (known.found image).stands w a word (in_part (leb from a) (ltb a to) (unpatched_word image a) word e).2)
     (λ pc word a there may. let p = in_part (leb from pc) (ltb pc to) (unpatched_word image pc) word there in free pc a (leb-true from pc p.0) (ltb-true pc to p.1) may)
-
--- nothing of a world but its bindings shows in text
-same_words : (image : Fields) (w : World) (a : ℕ) → bound_word image w a ≡ words_under image w.bindings a
-unfolding bound_word
-same_words image w a = refl
 
 pub watched_under : Known → WatchedRunsAreRunsUnder
 watched_under known attributed closed image rules input actions picks bs from to s out free =

@@ -1,6 +1,5 @@
 -- What the code of a function, of a variant and of an inline body may load isn't closed to its words.
-use Rattle.std.proofs.Common.{◌≡◌, ◌⊎◌, inl, inr, ⊎_elim, ℕ, zero, suc, ◌+◌, ◌*◌, ◌%◌, ◌<◌, ◌≤◌, Bool, true, false, not, cond, ◌&&◌, ◌||◌, ◌==◌, eqb, leb, ltb, List, [], ◌∷◌, Option, Some, None, is_some, length, slice_get, refl, sym, ap, ap₂, ◌∙◌, subst, arith, eq-eqb}
-use Rattle.std.specs.List.{find}
+use Rattle.std.proofs.Common.{◌≡◌, ◌⊎◌, inl, inr, ⊎_elim, ℕ, zero, suc, ◌+◌, ◌*◌, ◌%◌, ◌<◌, ◌≤◌, Bool, true, false, not, cond, ◌&&◌, ◌||◌, eqb, leb, ltb, List, [], ◌∷◌, Option, Some, None, is_some, length, slice_get, refl, sym, ap, ap₂, ◌∙◌, subst, arith, eq-eqb}
 use Rattle.std.proofs.lemmas.Bool.{cases_eq, cases_lt, and_parts, eqb-true, leb-true, ltb-true, lt-leb, le-ltb, ne_eqb}
 use Rattle.std.proofs.lemmas.Option.{slice_get_within}
 use Rattle.mv_ast.specs.declared.program.Program.{Program}
@@ -17,6 +16,7 @@ use Rattle.mv_refine_commits.specs.Served.{IsPlanOpen}
 use Rattle.mv_select_functions.specs.Functions.{IsOpen}
 use Rattle.mv_refine_machine.specs.Layout.{IsSetOut}
 use Rattle.mv_refine_machine.specs.MachineRuns.{image_word, unpatched_word, machine_text}
+use Rattle.mv_refine_machine.proofs.Bound.{site_behind}
 use Rattle.mv_linker.specs.declared.parts.Parts.{Parts}
 use Rattle.mv_linker.specs.Linked.{codes}
 use Rattle.mv_refine_programs.specs.Hosts.{IsOpenIn}
@@ -108,19 +108,6 @@ module _ (p : Program) (g : Function) (b : Body) (reads : (x : ℕ) → is_among
   variant_reads free x h = ap₂ (λ (s r : Bool). s || not r) (free x h) (reads x h)
 
 -- ---- sites
-
-same_test : (x a : ℕ) → (x + 4 == a + 4) ≡ (x == a)
-same_test x a =
-    ⊎_elim (λ (e : x ≡ a). eq-eqb (x + 4) (a + 4) (omega (arith, e)) ∙ sym (eq-eqb x a e))
-    (λ (ne : x ≡ a → ⊥). ne_eqb (x + 4) (a + 4) (λ e. ne (omega (arith, e))) ∙ sym (ne_eqb x a ne)) (cases_eq x a)
-
-same_find : (a : ℕ) (sites : List SiteRow) → find (λ (site : SiteRow). site.address + 4 == a + 4) sites ≡ find (λ (site : SiteRow). site.address == a) sites
-same_find a [] = refl
-same_find a (site ∷ sites) = rw (same_test site.address a, same_find a sites) refl
-
-site_behind : (image : Fields) (a : ℕ) → site_before image (a + 4) ≡ site_at image a
-unfolding site_before site_at
-site_behind image a = same_find a image.sites
 
 -- a word that is never patched is one of no site
 record IsBeside (image : Fields) (pc : ℕ) : Type 0 where

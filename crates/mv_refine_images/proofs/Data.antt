@@ -17,9 +17,7 @@ use Rattle.mv_image.specs.Spelling.{Fields}
 use Rattle.mv_source_forms.specs.Names.{words_of_global}
 use Rattle.mv_source_forms.specs.WellFormed.{IsWellFormed, IsWellFormedGlobal}
 use Rattle.mv_select_statements.specs.Frames.{Site}
-use Rattle.mv_select_calls.specs.Convention.{Layout}
 use Rattle.mv_refine_machine.specs.Layout.{IsPacked, IsSetOut}
-use Rattle.mv_linker.specs.declared.parts.Parts.{Parts}
 use Rattle.mv_linker.specs.Linked.{codes, function_variants, variant_codes}
 use Rattle.mv_linker.specs.Tables.{BeginsWithWords, FitsPartFunction, FitsPartVariant, is_slot, kinds_of}
 use Rattle.mv_linker.specs.Outcome.{data_limit}
@@ -29,8 +27,8 @@ use Rattle.mv_link_data.specs.Laws.{AreAddresses}
 use Rattle.mv_parts.proofs.LinkedLists.{all_variants}
 use Rattle.mv_parts.proofs.Lists.{one_of_all, some_at, some_same}
 use Rattle.mv_parts_bodies.specs.ProgramBodies.{AreLaidOut, IsOwnCode}
+use Rattle.mv_refine_images.proofs.LinkedProgram.{linked_program}
 use Rattle.mv_refine_images.specs.Built.{HasWordsOfGlobals, IsBuilt}
-use Rattle.mv_refine_images.specs.Layouts.{address_of, numbers_of, layout_of}
 use Rattle.mv_refine_images.proofs.Facts.{Laws}
 use Rattle.mv_refine_images.proofs.Listed.{in_either}
 
@@ -44,20 +42,7 @@ not_kept : false ≡ true → ⊥
 not_kept e = cc
 
 module _ (laws : Laws) (p : Program) (image : Fields) (formed : IsWellFormed p) (have_words : HasWordsOfGlobals p) (built : IsBuilt p image) where
-  abbrev parts : Parts
-  parts = built.parts
-
-  abbrev sizing : List ℕ
-  sizing = built.linked.sizing
-
-  abbrev y : Layout
-  y = layout_of parts sizing p
-
-  abbrev numbers : List ℕ
-  numbers = numbers_of parts sizing
-
-  abbrev at : ℕ → ℕ
-  at = address_of parts sizing
+  open linked_program p image built use {parts, sizing, y, numbers, at}
 
   pub as_many : length parts.functions ≡ length p.functions
   as_many = built.are.codes.code.one_each

@@ -1,5 +1,5 @@
 -- The machine with a built image is a host for its program, and the program is loaded there.
-use Rattle.std.proofs.Common.{◌≡◌, ℕ, ◌<◌, ◌^◌, true, Bool, List, Option, Some, slice_get, All, refl}
+use Rattle.std.proofs.Common.{◌≡◌, ℕ, ◌<◌, ◌^◌, true, List, Option, Some, slice_get, All, refl}
 use Rattle.std.proofs.lemmas.List.Elements.{All-map}
 use Rattle.mv_ast.specs.declared.world.Action.{Action}
 use Rattle.mv_ast.specs.declared.world.Binding.{Binding}
@@ -10,7 +10,6 @@ use Rattle.mv_image.specs.Spelling.{Fields}
 use Rattle.mv_source_forms.specs.WellFormed.{IsWellFormed}
 use Rattle.mv_machine.specs.Runs.{bytes_to_come}
 use Rattle.mv_select_control.specs.Runs.{Machine}
-use Rattle.mv_select_calls.specs.Convention.{Layout}
 use Rattle.mv_refine_machine.specs.Layout.{IsSetOut}
 use Rattle.mv_refine_machine.specs.Laws.{IsByteOrEnd}
 use Rattle.mv_refine_machine.specs.MachineRuns.{called_at}
@@ -19,13 +18,11 @@ use Rattle.mv_refine_machine.proofs.Whole.{laid, own}
 use Rattle.mv_ast.specs.Actions.{IsOfWord}
 use Rattle.mv_refine_commits.specs.Watched.{Watched, access, watched_machine}
 use Rattle.mv_refine_programs.specs.Hosts.{IsOpenHost, IsOpenlyLoaded}
-use Rattle.mv_linker.specs.declared.parts.Parts.{Parts}
-use Rattle.mv_linker.specs.Tables.{attributed_numbers}
 use Rattle.mv_link_text.specs.Text.{StubsArePlaced}
 use Rattle.mv_parts_tables.specs.Laws.{HaveTables}
+use Rattle.mv_refine_images.proofs.LinkedProgram.{linked_program}
 use Rattle.mv_refine_images.specs.Built.{HasWordsOfGlobals, IsBuilt}
-use Rattle.mv_refine_images.specs.Layouts.{address_of, numbers_of, layout_of}
-use Rattle.mv_refine_images.specs.Closed.{closed}
+use Rattle.mv_refine_images.specs.Layouts.{address_of}
 use Rattle.mv_refine_images.proofs.Closed.{plan_open}
 use Rattle.mv_refine_images.proofs.Data.{entries, set_out}
 use Rattle.mv_refine_images.proofs.Facts.{Laws}
@@ -33,23 +30,7 @@ use Rattle.mv_refine_images.proofs.Standing.{is_one, selected}
 use Rattle.mv_refine_images.proofs.Watching.{runs_openly}
 
 module _ (laws : Laws) (p : Program) (image : Fields) (formed : IsWellFormed p) (have_words : HasWordsOfGlobals p) (built : IsBuilt p image) where
-  abbrev parts : Parts
-  parts = built.parts
-
-  abbrev sizing : List ℕ
-  sizing = built.linked.sizing
-
-  abbrev y : Layout
-  y = layout_of parts sizing p
-
-  abbrev numbers : List ℕ
-  numbers = numbers_of parts sizing
-
-  abbrev attributed : List ℕ
-  attributed = attributed_numbers parts.attributed
-
-  abbrev shut : (pc address : ℕ) → Bool
-  shut = closed image parts sizing p
+  open linked_program p image built use {parts, sizing, y, numbers, attributed, shut}
 
   out : IsSetOut y
   out = set_out laws p image formed have_words built

@@ -2,6 +2,7 @@ pub mod Facts
 pub mod Listed
 pub mod Closed
 pub mod Watching
+pub mod LinkedProgram
 pub mod Data
 pub mod Patched
 pub mod Standing

@@ -23,16 +23,15 @@ use Rattle.mv_machine.specs.Runs.{State, bytes_to_come, runs}
 use Rattle.mv_select_calls.specs.Convention.{Layout}
 use Rattle.mv_refine_commits.specs.Tabled.{IsTabled}
 use Rattle.mv_refine_runs.specs.Behaves.{LoadsWhatIsOpen}
-use Rattle.mv_linker.specs.declared.parts.Parts.{Parts}
 use Rattle.mv_linker.specs.declared.parts.PartFunction.{PartFunction}
 use Rattle.mv_linker.specs.declared.parts.PartVariant.{PartVariant}
 use Rattle.mv_linker.specs.Linked.{codes, function_variants, variant_codes}
 use Rattle.mv_linker.specs.Tables.{variant_rows}
 use Rattle.mv_parts.proofs.Lists.{map_at, some_at, some_same}
 use Rattle.mv_parts.proofs.Numbers as numbered
+use Rattle.mv_refine_images.proofs.LinkedProgram.{linked_program}
 use Rattle.mv_refine_images.specs.Built.{HasWordsOfGlobals, IsBuilt}
 use Rattle.mv_refine_images.specs.Closed.{is_closed_to_variant, is_closed_to_variants_of, closed_to_codes, is_data_of, is_data_among, is_data_where, is_word_of, is_closed_from, is_closed_beside, closed}
-use Rattle.mv_refine_images.specs.Layouts.{address_of, layout_of}
 use Rattle.mv_refine_images.specs.Own.{IsOwnSwitch, IsVariantWord, HasVariantCode, LoadsNoOwnSwitch}
 use Rattle.mv_refine_images.proofs.Data.{as_many}
 use Rattle.mv_refine_images.proofs.Facts.{Laws}
@@ -93,20 +92,7 @@ not_both : false ≡ true → ⊥
 not_both e = cc
 
 module _ (laws : Laws) (p : Program) (image : Fields) (formed : IsWellFormed p) (have_words : HasWordsOfGlobals p) (built : IsBuilt p image) where
-  abbrev parts : Parts
-  parts = built.parts
-
-  abbrev sizing : List ℕ
-  sizing = built.linked.sizing
-
-  abbrev y : Layout
-  y = layout_of parts sizing p
-
-  abbrev at : ℕ → ℕ
-  at = address_of parts sizing
-
-  abbrev shut : (pc address : ℕ) → Bool
-  shut = closed image parts sizing p
+  open linked_program p image built use {parts, sizing, y, at, shut}
 
   tabled : IsTabled p y image
   tabled = (tables laws p image formed have_words built).tabled y (λ x. refl) (λ x. refl)

@@ -1,5 +1,5 @@
 -- An attributed function stands on the machine with an image that has it in its tables.
-use Rattle.std.proofs.Common.{◌≡◌, ℕ, suc, ◌+◌, ◌≤◌, Bool, true, All, List, [], ◌∷◌, map, length, Option, Some, None, refl, sym, ap, subst, ◌∙◌, arith, pos, ◌-ℤ◌}
+use Rattle.std.proofs.Common.{◌≡◌, ℕ, ◌+◌, ◌≤◌, Bool, true, All, List, [], map, length, Option, Some, None, sym, ap, subst, ◌∙◌, arith, pos, ◌-ℤ◌}
 use Rattle.std.specs.Prelude.{slice_get}
 use Rattle.std.proofs.lemmas.List.{length-map}
 use Rattle.std.proofs.lemmas.Option.{slice_get_within, get_or_from_slice_get}
@@ -16,6 +16,7 @@ use Rattle.mv_asm.specs.Outcome.{AreWordsUnder}
 use Rattle.mv_image.specs.Spelling.{Fields}
 use Rattle.mv_ir.specs.Combinations.{IsCombination}
 use Rattle.mv_ir_worlds.proofs.Functions.{attributed_at}
+use Rattle.mv_variants.proofs.Rows.{combination_length}
 use Rattle.mv_ir_worlds.specs.Functions.{IsFreeIn, IsBoundIn}
 use Rattle.mv_source_forms.specs.WellFormed.{IsWellFormed}
 use Rattle.mv_select_calls.specs.Convention.{Layout}
@@ -29,13 +30,6 @@ use Rattle.mv_refine_machine.specs.Under.{words_under}
 use Rattle.mv_refine_programs.specs.Hosts.{IsVariant, IsPatched, SlotShows}
 use Rattle.mv_parts_tables.specs.Rows.{RowShows}
 use Rattle.mv_refine_images.specs.Patched.{HasEntry, HasRow, IsInTables, own_number, PatchedFunctionsStand}
-
--- a combination has a value for each of at most 6 switches
-combination_length : (ds : List (List ℕ)) (vs : List ℕ) → IsCombination ds vs → length vs ≡ length ds
-combination_length [] [] h = refl
-combination_length [] (v ∷ vs) h = absurd h
-combination_length (d ∷ ds) [] h = absurd h
-combination_length (d ∷ ds) (v ∷ vs) h = ap suc (combination_length ds vs h.1)
 
 few_values : (p : Program) (f : ℕ) (g : Function) (vs : List ℕ) → IsWellFormed p → slice_get p.functions f ≡ Some g → g.attributed ≡ true → IsCombination (map (switch_domain p) g.switches) vs → length vs ≤ 6
 few_values p f g vs formed here is combination =

@@ -1,5 +1,5 @@
 -- The code of each function of a built program stands in the text of its image, with the variants of the attributed ones.
-use Rattle.std.proofs.Common.{◌≡◌, ℕ, ◌+◌, Bool, true, false, List, [], Some, map, length, slice_get, refl, sym, ap, ◌∙◌, subst, arith, pos, ◌-ℤ◌}
+use Rattle.std.proofs.Common.{◌≡◌, ℕ, ◌+◌, true, false, List, [], Some, map, length, slice_get, refl, sym, ap, ◌∙◌, subst, arith, pos, ◌-ℤ◌}
 use Rattle.std.specs.List.{zip}
 use Rattle.mv_ast.specs.declared.program.Program.{Program}
 use Rattle.mv_ast.specs.declared.program.Function.{Function}
@@ -17,7 +17,6 @@ use Rattle.mv_ir.specs.Programs.{setting_of}
 use Rattle.mv_lower_spec.specs.Functions.{lower_function}
 use Rattle.mv_source_forms.specs.WellFormed.{IsWellFormed}
 use Rattle.mv_select_calls.specs.CallCode.{is_marked}
-use Rattle.mv_select_calls.specs.Convention.{Layout}
 use Rattle.mv_select_calls.specs.Laws as calls
 use Rattle.mv_select_control.specs.Placed.{Text, Placed}
 use Rattle.mv_select_functions.specs.FunctionCode.{bytes_of, later_lines}
@@ -25,11 +24,9 @@ use Rattle.mv_select_functions.specs.Functions.{IsOpen, shape_of}
 use Rattle.mv_refine_machine.specs.MachineRuns.{machine_text, called_at}
 use Rattle.mv_refine_machine.specs.Under.{words_under}
 use Rattle.mv_select_bodies.specs.SelectedBodies.{IsInProgram, globals_read, reach_of}
-use Rattle.mv_linker.specs.declared.parts.Parts.{Parts}
 use Rattle.mv_linker.specs.declared.parts.PartFunction.{PartFunction}
 use Rattle.mv_linker.specs.declared.parts.PartVariant.{PartVariant}
 use Rattle.mv_linker.specs.Linked.{codes, linked_lines}
-use Rattle.mv_linker.specs.Tables.{attributed_numbers}
 use Rattle.mv_parts_bound.specs.Meant.{IsVariantOf}
 use Rattle.mv_variants.specs.declared.variant.Variant.{Variant}
 use Rattle.mv_parts.specs.Numbers as source
@@ -41,9 +38,9 @@ use Rattle.mv_parts_tables.specs.Leads.{IsLedTo}
 use Rattle.mv_parts_tables.specs.Rows.{IsNth}
 use Rattle.mv_parts_bodies.specs.ProgramBodies.{IsOwnCode, IsVariantAt, IsVariantCode, IsLinkedVariant, IsWritten, variant_number}
 use Rattle.mv_refine_programs.specs.Hosts.{IsPlain, IsVariant, IsPatched, IsSelected}
+use Rattle.mv_refine_images.proofs.LinkedProgram.{linked_program}
 use Rattle.mv_refine_images.specs.Built.{HasWordsOfGlobals, IsBuilt}
-use Rattle.mv_refine_images.specs.Closed.{is_closed_to_function, is_closed_to_variant, closed_to_codes, closed}
-use Rattle.mv_refine_images.specs.Layouts.{address_of, numbers_of, layout_of}
+use Rattle.mv_refine_images.specs.Closed.{is_closed_to_function, is_closed_to_variant, closed_to_codes}
 use Rattle.mv_refine_images.specs.Patched.{HasEntry, HasSlot, HasRow, IsInTables}
 use Rattle.mv_refine_images.proofs.Closed.{function_reads, variant_reads, code_open, site_open}
 use Rattle.mv_refine_images.proofs.Data.{as_many, laid_out, set_out, follow, own, ascend}
@@ -52,29 +49,10 @@ use Rattle.mv_refine_images.proofs.Listed.{one_each, rows_count, test_of_functio
 use Rattle.mv_refine_images.proofs.Patched.{patched_functions_stand}
 
 module _ (laws : Laws) (p : Program) (image : Fields) (formed : IsWellFormed p) (have_words : HasWordsOfGlobals p) (built : IsBuilt p image) where
-  abbrev parts : Parts
-  parts = built.parts
-
-  abbrev sizing : List ℕ
-  sizing = built.linked.sizing
-
-  abbrev y : Layout
-  y = layout_of parts sizing p
-
-  abbrev numbers : List ℕ
-  numbers = numbers_of parts sizing
-
-  abbrev at : ℕ → ℕ
-  at = address_of parts sizing
-
-  abbrev attributed : List ℕ
-  attributed = attributed_numbers parts.attributed
+  open linked_program p image built use {parts, sizing, y, numbers, at, attributed, shut}
 
   abbrev words : Text
   words = machine_text attributed image
-
-  abbrev shut : (pc address : ℕ) → Bool
-  shut = closed image parts sizing p
 
   tests_are : length (closed_to_codes p parts) ≡ length (codes parts)
   tests_are = one_each p parts (as_many laws p image formed have_words built)

@@ -1,5 +1,5 @@
 -- The run of a built image does what its program means.
-use Rattle.std.proofs.Common.{◌≡◌, ⊎_elim, ℕ, ◌+◌, ◌*◌, ◌<◌, ◌^◌, ◌%◌, Bool, List, [], Option, Some, None, map, take, sum, length, get_or, slice_get, All, refl, sym, ap, ◌∙◌, subst, arith}
+use Rattle.std.proofs.Common.{◌≡◌, ⊎_elim, ℕ, ◌+◌, ◌*◌, ◌<◌, ◌^◌, ◌%◌, List, [], Option, Some, None, map, take, sum, length, get_or, slice_get, All, refl, sym, ap, ◌∙◌, subst, arith}
 use Rattle.std.specs.Prelude.{IsTrue}
 use Rattle.std.specs.List.{flat_map}
 use Rattle.std.proofs.Math.ListN as lists
@@ -22,7 +22,7 @@ use Rattle.mv_lower_spec.specs.Functions.{lower_program}
 use Rattle.mv_source_forms.specs.WellFormed.{IsWellFormed}
 use Rattle.mv_machine.specs.Runs.{bytes_to_come}
 use Rattle.mv_select_control.specs.Runs.{Machine}
-use Rattle.mv_select_calls.specs.Convention.{Layout, Stands}
+use Rattle.mv_select_calls.specs.Convention.{Stands}
 use Rattle.mv_select_functions.specs.Functions.{Begins}
 use Rattle.mv_refine_machine.specs.Laws.{IsFirst}
 use Rattle.mv_refine_machine.specs.Under.{words_under}
@@ -33,13 +33,11 @@ use Rattle.mv_refine_commits.specs.Watched.{Watched, access, watched_machine}
 use Rattle.mv_refine_runs.specs.Behaves.{Behaves, LoadsWhatIsOpen}
 use Rattle.mv_refine_runs.specs.Main.{HasStubs, CallsMain}
 use Rattle.mv_refine_programs.specs.Laws.{first_seen}
-use Rattle.mv_linker.specs.declared.parts.Parts.{Parts}
 use Rattle.mv_linker.specs.Outcome as linker
-use Rattle.mv_linker.specs.Tables.{attributed_numbers}
 use Rattle.mv_link_data.specs.Laws.{IsFirstValueAmong, HasFirstValues}
+use Rattle.mv_refine_images.proofs.LinkedProgram.{linked_program}
 use Rattle.mv_refine_images.specs.Built.{HasWordsOfGlobals, IsBuilt}
-use Rattle.mv_refine_images.specs.Closed.{closed}
-use Rattle.mv_refine_images.specs.Layouts.{address_of, numbers_of, layout_of}
+use Rattle.mv_refine_images.specs.Layouts.{address_of}
 use Rattle.mv_refine_images.specs.Laws.{BuiltProgramsBehave}
 use Rattle.mv_refine_images.specs.Own.{LoadsNoOwnSwitch}
 use Rattle.mv_refine_images.proofs.Data.{addresses, numbering, size_is, sizes_counted}
@@ -66,26 +64,10 @@ first_values p = All-weaker (λ (g : Global). All (IsFirstValue p g.ctype) g.fir
 
 module _ (laws : Laws) (p : Program) (image : Fields) (formed : IsWellFormed p) (have_words : HasWordsOfGlobals p) (built : IsBuilt p image) (bytes : List ℕ) (actions : List Action) (picks : List ℕ)
     (are_bytes : All (λ b. b < 2 ^ 8) bytes) (of_words : All IsOfWord actions) (fit : All (λ a. IsTrue (fits p a)) actions) where
-  abbrev parts : Parts
-  parts = built.parts
-
-  abbrev sizing : List ℕ
-  sizing = built.linked.sizing
-
-  abbrev y : Layout
-  y = layout_of parts sizing p
-
-  abbrev numbers : List ℕ
-  numbers = numbers_of parts sizing
-
-  abbrev attributed : List ℕ
-  attributed = attributed_numbers parts.attributed
+  open linked_program p image built use {parts, sizing, y, numbers, attributed, shut}
 
   abbrev first : World
   first = first_seen p numbers bytes actions
-
-  abbrev shut : (pc address : ℕ) → Bool
-  shut = closed image parts sizing p
 
   abbrev the_machine : Machine Watched
   the_machine = watched_machine attributed shut image (bytes_to_come bytes) actions picks

@@ -26,7 +26,7 @@ same_find : (a : ℕ) (sites : List SiteRow) → find (λ (site : SiteRow). site
 same_find a [] = refl
 same_find a (site ∷ sites) = rw (same_test site.address a, same_find a sites) refl
 
-site_behind : (image : Fields) (a : ℕ) → site_before image (a + 4) ≡ site_at image a
+pub site_behind : (image : Fields) (a : ℕ) → site_before image (a + 4) ≡ site_at image a
 unfolding site_before site_at
 site_behind image a = same_find a image.sites
 

@@ -1,18 +1,20 @@
 -- The test of calm.
-use Rattle.std.proofs.Common.{◌≡◌, ℕ, zero, suc, Bool, true, false, ◌&&◌, eqb, List, [], ◌∷◌, length, Option, Some, None, refl, sym, ap, ap₂, ◌∙◌, subst, eq-eqb}
+use Rattle.std.proofs.Common.{◌≡◌, ℕ, zero, suc, Bool, true, ◌&&◌, eqb, List, [], ◌∷◌, length, Option, Some, None, refl, sym, ap, ap₂, ◌∙◌, subst, eq-eqb}
 use Rattle.std.proofs.lemmas.Bool.{and_parts, and_from, eqb-true}
 use Rattle.mv_ast.specs.declared.world.Binding.{Binding}
 use Rattle.mv_ast.specs.declared.world.Event.{Event}
-use Rattle.mv_ast.specs.Plans.{same_words, same_truth, is_same_binding}
+use Rattle.mv_ast.specs.Plans.{same_words, is_same_binding}
 use Rattle.mv_fetch.specs.Held.{older_at}
 use Rattle.mv_image.specs.Spelling.{Fields}
 use Rattle.mv_image.specs.Patched.{text_of}
 use Rattle.mv_ir.specs.World.{World}
 use Rattle.mv_machine.specs.Runs.{Stop, Going, Exit, Trap, Fault, bytes_to_come}
 use Rattle.mv_select_slots.specs.Narrowed.{same_bindings}
+use Rattle.mv_select_slots.proofs.Bindings.{bindings_are_told}
 use Rattle.mv_refine_machine.specs.Calm.{Rest, stack_words, IsCalm, is_going, all_empty, gives_bytes, is_same_event, same_events, is_calm_text, is_world_outside, is_calm}
 use Rattle.mv_patch.specs.Orders.{values_of}
 use Rattle.mv_refine_machine.proofs.Memory.{KeepsText}
+use Rattle.mv_ir_worlds.proofs.Combining.{binding_told, binding_same}
 
 -- ---- what each test tells
 
@@ -55,41 +57,6 @@ bytes_same : (bytes : List ℕ) → gives_bytes (bytes_to_come bytes) bytes ≡ 
 bytes_same [] = refl
 bytes_same (byte ∷ bytes) = and_from (eqb byte byte) (gives_bytes (bytes_to_come bytes) bytes) (eq-eqb byte byte refl) (bytes_same bytes)
 
-truth_told : (a b : Bool) → same_truth a b ≡ true → a ≡ b
-truth_told true true h = refl
-truth_told true false h = absurd (cc)
-truth_told false true h = absurd (cc)
-truth_told false false h = refl
-
-truth_same : (a : Bool) → same_truth a a ≡ true
-truth_same true = refl
-truth_same false = refl
-
-binding_told : (a b : Binding) → is_same_binding a b ≡ true → a ≡ b
-binding_told a b h =
-    let p = and_parts (same_truth a.bound b.bound) (eqb a.count b.count && same_words a.values b.values) h in
-    let q = and_parts (eqb a.count b.count) (same_words a.values b.values) p.1 in
-    let bound = truth_told a.bound b.bound p.0 in
-    let count = eqb-true a.count b.count q.0 in
-    let values = words_told a.values b.values q.1 in
-    ap₂ (λ (x : Bool) (y : ℕ). record a { bound = x; count = y }) bound count ∙ ap (λ (z : List ℕ). record b { values = z }) values
-
-binding_same : (a : Binding) → is_same_binding a a ≡ true
-binding_same a =
-    and_from (same_truth a.bound a.bound) (eqb a.count a.count && same_words a.values a.values) (truth_same a.bound)
-    (and_from (eqb a.count a.count) (same_words a.values a.values) (eq-eqb a.count a.count refl) (words_same a.values))
-
-bindings_told : (xs ys : List Binding) → same_bindings xs ys ≡ true → xs ≡ ys
-bindings_told [] [] h = refl
-bindings_told [] (y ∷ ys) h = absurd (cc)
-bindings_told (x ∷ xs) [] h = absurd (cc)
-bindings_told (x ∷ xs) (y ∷ ys) h =
-    let p = and_parts (is_same_binding x y) (same_bindings xs ys) h in ap₂ (λ a as'. a ∷ as') (binding_told x y p.0) (bindings_told xs ys p.1)
-
-bindings_same : (xs : List Binding) → same_bindings xs xs ≡ true
-bindings_same [] = refl
-bindings_same (x ∷ xs) = and_from (is_same_binding x x) (same_bindings xs xs) (binding_same x) (bindings_same xs)
-
 event_told : (a b : Event) → is_same_event a b ≡ true → a ≡ b
 event_told a b h =
     let p = and_parts (eqb a.function b.function) (is_same_binding a.binding b.binding) h in
@@ -98,7 +65,7 @@ event_told a b h =
     ap₂ (λ (x : ℕ) (y : Binding). record a { function = x; binding = y }) function binding
 
 event_same : (a : Event) → is_same_event a a ≡ true
-event_same a = and_from (eqb a.function a.function) (is_same_binding a.binding a.binding) (eq-eqb a.function a.function refl) (binding_same a.binding)
+event_same a = and_from (eqb a.function a.function) (is_same_binding a.binding a.binding) (eq-eqb a.function a.function refl) (binding_same a.binding a.binding refl)
 
 events_told : (xs ys : List Event) → same_events xs ys ≡ true → xs ≡ ys
 events_told [] [] h = refl
@@ -135,7 +102,7 @@ calm_told image w m h =
       stack = eqb-true (length m.room.held.stack) stack_words v.1;
       input = bytes_told m.input w.input s.0;
       output = words_told m.output w.output t.0;
-      bindings = bindings_told m.bindings w.bindings u.0;
+      bindings = (bindings_are_told m.bindings w.bindings).0 u.0;
       log = events_told m.log w.log u.1;
     }
 
@@ -154,7 +121,7 @@ calm_tested image w m h =
     (and_from (same_words m.output w.output) (same_bindings m.bindings w.bindings && same_events m.log w.log)
     (ap (λ xs. same_words xs w.output) h.output ∙ words_same w.output)
     (and_from (same_bindings m.bindings w.bindings) (same_events m.log w.log)
-    (ap (λ xs. same_bindings xs w.bindings) h.bindings ∙ bindings_same w.bindings)
+    (ap (λ xs. same_bindings xs w.bindings) h.bindings ∙ (bindings_are_told w.bindings w.bindings).1 refl)
     (ap (λ xs. same_events xs w.log) h.log ∙ events_same w.log))))
 
 -- where text was kept, calm stays

@@ -20,10 +20,11 @@ use Rattle.mv_refine_machine.proofs.Memory.{InText, text_at as lies_in_text}
 -- ---- the word of the image
 
 -- an address of text, and its word
-record Standing (image : Fields) (a word : ℕ) : Type 0 where
-  aligned : a % 4 ≡ 0
-  text : InText a
-  there : slice_get image.text (index_of a) ≡ Some word
+pub record Standing (image : Fields) (a word : ℕ) : Type 0 where
+  pub aligned : a % 4 ≡ 0
+  pub text : InText a
+  pub below : a < 0x0010_0000
+  pub there : slice_get image.text (index_of a) ≡ Some word
 
 word_told : (text : List ℕ) (a w : ℕ) → word_at text a ≡ Some w → (0x1000 ≤ a) × (a < 0x0010_0000) × (slice_get text ((a - 0x1000) / 4) ≡ Some w)
 word_told text a w e = by_tests (ltb a 0x1000) (ltb a 0x0010_0000) refl refl e
@@ -34,7 +35,7 @@ word_told text a w e = by_tests (ltb a 0x1000) (ltb a 0x0010_0000) refl refl e
     by_tests false true p q k = (ltb-false a 0x1000 p, ltb-true a 0x0010_0000 q, k)
     by_tests false false p q k = absurd (cc)
 
-standing : (image : Fields) (a word : ℕ) → image_word image a ≡ Some word → Standing image a word
+pub standing : (image : Fields) (a word : ℕ) → image_word image a ≡ Some word → Standing image a word
 unfolding image_word
 standing image a word e = by_test (eqb (a % 4) 0) refl e
   where
@@ -42,7 +43,7 @@ standing image a word e = by_test (eqb (a % 4) 0) refl e
     by_test true p q =
         let r = word_told image.text a word q in
         let text = lies_in_text a r.0 r.1 in
-        record { aligned = eqb-true (a % 4) 0 p; text = text; there = ap (λ k. slice_get image.text k) text.index ∙ r.2 }
+        record { aligned = eqb-true (a % 4) 0 p; text = text; below = r.1; there = ap (λ k. slice_get image.text k) text.index ∙ r.2 }
     by_test false p q = absurd (cc)
 
 word_there : (text : List ℕ) (a k : ℕ) → 0x1000 ≤ a → a < 0x0010_0000 → (a - 0x1000) / 4 ≡ k → word_at text a ≡ slice_get text k

@@ -1,10 +1,10 @@
 mod Steps
 mod Registers
-mod Memory
-mod Calming
-mod Fetches
-mod Open
-mod Starts
+pub mod Memory
+pub mod Calming
+pub mod Fetches
+pub mod Open
+pub mod Starts
 pub mod OnRuns
 pub mod Under
 pub mod Shown
@@ -12,7 +12,9 @@ mod Packing
 mod Answering
 mod Placing
 mod Jumps
-mod Bound
-mod Inputs
+pub mod Bound
+pub mod Keeping
+pub mod Inputs
+pub mod Returning
 pub mod Serving
 pub mod Whole

@@ -244,7 +244,8 @@ store_is : (m : Rest) (a word v : ℕ) → a % 4 ≡ 0 → present m.room.held a
 unfolding access room_access store
 store_is m a word v aligned there = rw (aligned, there) refl
 
-whole_word : (a word v : ℕ) → a % 4 ≡ 0 → v < 2 ^ 32 → part a 4 (joined a 4 word v) ≡ v
+-- what is loaded of a word into which all bytes were put
+pub whole_word : (a word v : ℕ) → a % 4 ≡ 0 → v < 2 ^ 32 → part a 4 (joined a 4 word v) ≡ v
 unfolding part joined
 whole_word a word v aligned lt = rw aligned (omega (arith, lt))
 

@@ -39,7 +39,7 @@ module _ {M : Type 0} (access : Access M) (may_load : ℕ → Bool) (regs : List
       let from = add (reg regs rs1) (word_of imm) in
       subst (λ z. may_load z ≡ true) (same_some from a e) (allowed rd k (may_load from) (access.load m from width) h)
 
-  executes_allowed : (i : Instr) (a : ℕ) → Goes_on (execute (reading may_load access) i regs pc m) → loads_from i regs ≡ Some a → may_load a ≡ true
+  pub executes_allowed : (i : Instr) (a : ℕ) → Goes_on (execute (reading may_load access) i regs pc m) → loads_from i regs ≡ Some a → may_load a ≡ true
   unfolding execute
   executes_allowed (Lb rd rs1 imm) a h e = loads_allowed rd rs1 imm 1 kind.SChar a h e
   executes_allowed (Lh rd rs1 imm) a h e = loads_allowed rd rs1 imm 2 kind.Short a h e

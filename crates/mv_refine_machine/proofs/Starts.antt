@@ -1,8 +1,11 @@
 -- A run begins in calm.
-use Rattle.std.proofs.Common.{◌≡◌, ℕ, zero, suc, ◌+◌, true, List, [], ◌∷◌, length, replicate, None, refl, sym, ap, ap₂, ◌∙◌}
+use Rattle.std.proofs.Common.{◌≡◌, ℕ, zero, suc, ◌+◌, true, List, [], ◌∷◌, length, replicate, None, refl, sym, ap, ap₂, ◌∙◌, false, Some, take, if◌then◌else◌}
 use Rattle.std.proofs.lemmas.List.{length-replicate}
+use Rattle.std.specs.Prelude.{All}
+use Rattle.std.proofs.lemmas.List.Elements.{All-head, All-tail}
 use Rattle.mv_ast.specs.declared.world.Action.{Action}
 use Rattle.mv_ast.specs.Plans.{free}
+use Rattle.mv_ast.specs.declared.world.Binding.{Binding}
 use Rattle.mv_fetch.specs.Held.{older_at, zeros, first as first_memory}
 use Rattle.mv_image.specs.Spelling.{Fields}
 use Rattle.mv_image.specs.Patched.{Bindings, words_under, text_of}
@@ -31,17 +34,26 @@ free_text : (image : Fields) (bound : Bindings) → AreFree bound → text_of im
 unfolding text_of
 free_text image bound are = free_words image bound 4096 image.text are
 
+-- free bindings bind no function
+free_value : (b : Binding) → b.bound ≡ false → (if b.bound then Some (take b.count b.values) else None) ≡ None
+free_value b e = ap (λ x. if x then Some (take b.count b.values) else None) e
+
+pub free_values : (bs : List Binding) → All (λ (b : Binding). b.bound ≡ false) bs → (f : ℕ) → values_of bs f ≡ None
+free_values [] all f = refl
+free_values (b ∷ bs) all zero = free_value b (All-head (λ (x : Binding). x.bound ≡ false) b bs all)
+free_values (b ∷ bs) all (suc f) = free_values bs (All-tail (λ (x : Binding). x.bound ≡ false) b bs all) f
+
 none_bound : (n : ℕ) → AreFree (values_of (replicate n free))
 none_bound zero function = refl
 none_bound (suc n) zero = refl
 none_bound (suc n) (suc function) = none_bound n function
 
-none_older : (n k : ℕ) → older_at (replicate n []) k ≡ []
+pub none_older : (n k : ℕ) → older_at (replicate n []) k ≡ []
 none_older zero k = refl
 none_older (suc n) zero = refl
 none_older (suc n) (suc k) = none_older n k
 
-zeros_count : (n : ℕ) → length (zeros n) ≡ n
+pub zeros_count : (n : ℕ) → length (zeros n) ≡ n
 unfolding zeros
 zeros_count n = length-replicate n 0
 

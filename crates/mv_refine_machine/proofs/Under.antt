@@ -27,7 +27,7 @@ use Rattle.mv_refine_machine.proofs.Registers.{run_registers}
 use Rattle.mv_select_control.proofs.Reading.{step_over}
 
 -- nothing of a world but its bindings shows in text
-same_words : (image : Fields) (w : World) (a : ℕ) → bound_word image w a ≡ words_under image w.bindings a
+pub same_words : (image : Fields) (w : World) (a : ℕ) → bound_word image w a ≡ words_under image w.bindings a
 unfolding bound_word
 same_words image w a = refl
 

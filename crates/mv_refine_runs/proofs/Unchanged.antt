@@ -1,9 +1,7 @@
 -- With a live frame calls for plans and polls change nothing; and with all functions free settled text is the image's.
-use Rattle.std.proofs.Common.{◌≡◌, ◌≢◌, ℕ, zero, suc, ◌^◌, ◌-◌, Bool, true, false, cond, nat_eq, if◌then◌else◌, take, List, [], ◌∷◌, option_map, unwrap_or, Option, Some, None, refl, sym, ap, ◌∙◌, subst}
+use Rattle.std.proofs.Common.{◌≡◌, ◌≢◌, ℕ, ◌^◌, ◌-◌, Bool, false, cond, nat_eq, if◌then◌else◌, List, [], option_map, unwrap_or, Option, Some, None, refl, sym, ap, ◌∙◌, subst}
 use Rattle.std.proofs.lemmas.Bool.{ne_eqb}
-use Rattle.std.proofs.lemmas.List.Elements.{All-head, All-tail}
 use Rattle.std.proofs.Math.Path.{fun_ext}
-use Rattle.std.specs.List.{All}
 use Rattle.std.specs.Result.{result_ok}
 use Rattle.mv_ast.specs.declared.world.Binding.{Binding}
 use Rattle.mv_isa.specs.declared.instr.Cause.TheVariants as cause
@@ -15,9 +13,11 @@ use Rattle.mv_image.proofs.PatchLaws.{free_text}
 use Rattle.mv_patch.specs.Orders.{is_known_order, plan_between, values_of}
 use Rattle.mv_machine.specs.Runs.{State, Stop, Going, Exit, Trap, Fault, Request, Exits, Reads, Writes, Traps, Plans, Polls, Unknown, request_of, argument, answered, stopped, live_frames, plan_area, stored_words, spelled_pairs, with_plan, refused, ordered, planned, acted, polled, environment_call, after, fetched_step, where_going, turn}
 use Rattle.mv_machine.specs.Commits.{opens, is_some_pair, fetched_instr, after_instr, where_it_goes}
+use Rattle.mv_refine_machine.proofs.Keeping.{either}
 use Rattle.mv_refine_commits.proofs.Planned.{no_pairs}
 use Rattle.mv_refine_runs.specs.Unchanged.{IsForPlan, IsUnchanged, LiveFramesRefuse, FreeTextIsItsOwn}
 use Rattle.mv_refine_runs.proofs.Stopping.{calls_where}
+use Rattle.mv_refine_machine.proofs.Starts.{free_values}
 
 -- ---- live frames
 
@@ -47,10 +47,6 @@ refused_leaves s answer =
       actions = refl;
       log = refl;
     }
-
-either : (P : State → Type 0) (b : Bool) (x y : State) → P x → P y → P (if b then x else y)
-either P true x y h k = h
-either P false x y h k = k
 
 module _ (s : State) (live : live_frames s ≢ 0) where
   not_none : nat_eq (live_frames s) 0 ≡ false
@@ -107,14 +103,6 @@ live_refuse s pick under ecall for_plan live =
     )
 
 -- ---- free functions
-
-free_value : (b : Binding) → b.bound ≡ false → (if b.bound then Some (take b.count b.values) else None) ≡ None
-free_value b e = ap (λ x. if x then Some (take b.count b.values) else None) e
-
-free_values : (bs : List Binding) → All (λ (b : Binding). b.bound ≡ false) bs → (f : ℕ) → values_of bs f ≡ None
-free_values [] all f = refl
-free_values (b ∷ bs) all zero = free_value b (All-head (λ (x : Binding). x.bound ≡ false) b bs all)
-free_values (b ∷ bs) all (suc f) = free_values bs (All-tail (λ (x : Binding). x.bound ≡ false) b bs all) f
 
 pub free_is_own : FreeTextIsItsOwn
 free_is_own image s settled all =

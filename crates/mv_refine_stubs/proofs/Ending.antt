@@ -13,11 +13,11 @@ use Rattle.mv_select_control.specs.Runs.{Spot}
 use Rattle.mv_select_control.proofs.Walk.{before_next}
 use Rattle.mv_refine_machine.specs.Calm.{Rest, IsCalm}
 use Rattle.mv_refine_machine.specs.Calls.{stopped_at, CallsAreAnswered}
-use Rattle.mv_refine_machine.specs.MachineRuns.{machine_text, is_sound}
+use Rattle.mv_refine_machine.specs.MachineRuns.{access, machine_text, is_sound}
 use Rattle.mv_refine_machine.specs.Laws.{CalmIsTested, RunsAreRuns, EnvironmentCalls}
 use Rattle.mv_refine_stubs.specs.Stubs.{start_address, return_address, start_lines, trap_lines}
 use Rattle.mv_refine_stubs.specs.Ends.{HasStopped, ComesTo, EndsAfter}
-use Rattle.mv_refine_stubs.proofs.Walked.{run, comes, count, sets, number_sets, Requests, requests}
+use Rattle.mv_refine_stubs.proofs.Walked.{machine, ok, run, comes, count, sets, number_sets, Requests, requests}
 
 -- a calm time that is left as it is
 settled : (image : Fields) (w : World) (now next : Spot Rest) (stop : Stop) → IsCalm image w now.memory → next ≡ stopped_at now stop → HasStopped w stop next.memory
@@ -63,8 +63,8 @@ module _ (tested : CalmIsTested) (are_runs : RunsAreRuns) (environment : Environ
       let regs = (time i).regs in
       let a = comes tested are_runs attributed closed image input actions picks place entry p.0 i w (record { at = h.at ∙ p.1.label ∙ sym p.1.stands; calm = h.calm; sound = h.sound }) in
       let small : code < 2 ^ 32 = omega (arith, le) in
-      let b = sets tested are_runs attributed closed image input actions picks place entry (Addi first 0 (pos code)) w p.0 p.2.0 i regs (put regs first code) (time i).memory
-      (number_sets tested are_runs attributed closed image input actions picks place entry first code regs (time i).memory small) p.2.1 a in
+      let b = sets access (machine tested are_runs attributed closed image input actions picks place entry) place entry (ok tested are_runs attributed closed image input actions picks place entry)
+      (Addi first 0 (pos code)) w p.0 p.2.0 i regs (put regs first code) (time i).memory (number_sets access entry first code regs (time i).memory small) p.2.1 a in
       let r = requests tested are_runs attributed closed image input actions picks place entry 3 w p.2.0 end (i + 1) (put regs first code) (time i).memory (omega arith) p.2.2 b in
       let many = count tested are_runs attributed closed image input actions picks place entry w p.0 i regs (time i).memory a in
       let argument : reg (time (i + 1 + 1)).regs 10 ≡ code = r.argument ∙ put_same regs first code (omega arith) (omega (arith, many)) in

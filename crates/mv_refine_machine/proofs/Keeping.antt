@@ -1,0 +1,36 @@
+-- What each step keeps of a state, a run keeps.
+use Rattle.std.proofs.Common.{ℕ, zero, suc, Bool, true, false, if◌then◌else◌, List, slice_index}
+use Rattle.mv_isa.specs.declared.instr.Cause.{Cause}
+use Rattle.mv_isa.specs.Execution.{Outcome, Goes, Calls, Faults, reg}
+use Rattle.mv_fetch.specs.Held.{Room}
+use Rattle.mv_machine.specs.Runs.{State, Stop, Going, Exit, Trap, Fault, Request, request_of, environment_call, fetched_step, after, where_going, turn, runs_from}
+
+pub either : (P : State → Type 0) (b : Bool) (x y : State) → P x → P y → P (if b then x else y)
+either P true x y h k = h
+either P false x y h k = k
+
+pub record StepsKeep (P : State → Type 0) : Type 0 where
+  pub goes : (regs : List ℕ) (pc : ℕ) (room : Room) (s : State) → P s → P (after (Goes regs pc room) s)
+  pub calls : (request : Request) (s : State) → P s → P (environment_call request s)
+  pub faults : (why : Cause) (s : State) → P s → P (after (Faults why) s)
+
+module _ (P : State → Type 0) (keep : StepsKeep P) where
+  after_keeps : (outcome : Outcome Room) (s : State) → P s → P (after outcome s)
+  after_keeps (Goes regs pc room) s h = keep.goes regs pc room s h
+  after_keeps Calls s h = keep.calls (request_of (reg s.regs 17)) s h
+  after_keeps (Faults why) s h = keep.faults why s h
+
+  going_keeps : (stop : Stop) (going ended : State) → P going → P ended → P (where_going stop going ended)
+  going_keeps Going going ended h k = h
+  going_keeps (Exit status) going ended h k = k
+  going_keeps (Trap code) going ended h k = k
+  going_keeps (Fault why) going ended h k = k
+
+  turn_keeps : (s : State) (pick : ℕ) → P s → P (turn s pick)
+  unfolding turn
+  turn_keeps s pick h = going_keeps s.stop (after (fetched_step s pick) s) s (after_keeps (fetched_step s pick) s h) h
+
+  pub runs_keep : (s : State) (picks : List ℕ) (n : ℕ) → P s → P (runs_from s picks n)
+  unfolding runs_from
+  runs_keep s picks zero h = h
+  runs_keep s picks (suc n) h = turn_keeps (runs_from s picks n) (slice_index picks n) (runs_keep s picks n h)
