@@ -3,13 +3,14 @@ use Rattle.std.proofs.Common.{◌≡◌, ℕ, Bool, true, false, ◌&&◌, refl,
 use Rattle.std.proofs.lemmas.List.{map-append}
 use Rattle.mv_ast.specs.declared.program.Program.{Program}
 use Rattle.mv_ast.specs.declared.program.Function.{Function}
-use Rattle.mv_ast.specs.declared.program.Expr.{Expr, Expr-F, roll-Expr, fold-roll-Expr}
-use Rattle.mv_ast.specs.declared.program.Form.{Form, Form-F, roll-Form, map-Form, fold-Form, fold-roll-Form}
+use Rattle.mv_ast.specs.declared.program.Expr.{Expr}
+use Rattle.mv_ast.specs.declared.program.Form.{Form, Form-F, map-Form, fold-Form}
 use Rattle.mv_ast.specs.declared.program.Form.TheOpen as form
-use Rattle.mv_ast.specs.declared.program.Target.{Target, Target-F, roll-Target, map-Target, fold-Target, fold-roll-Target}
+use Rattle.mv_ast.specs.declared.program.Target.{Target, Target-F, map-Target, fold-Target}
 use Rattle.mv_ast.specs.Layers.{form_parts}
 use Rattle.mv_source_forms.specs.Lists.{all_of}
-use Rattle.mv_source_forms.proofs.ExpressionInduction.{FormChildren, TargetChildren, expr_ind}
+use Rattle.mv_source_forms.proofs.ExpressionFolds.{expr_fold, expr_folds, along_exprs}
+use Rattle.mv_source_forms.proofs.ExpressionInduction.{FormChildren, TargetChildren}
 use Rattle.mv_source_forms.specs.Scopes.{form_in, layer_in}
 use Rattle.mv_source_forms.specs.Uses.{is_own, target_is_own, names_own}
 use Rattle.mv_check_uses.specs.Uses.{form_layer, target_layer, expr_layer, expr_globals}
@@ -64,14 +65,6 @@ module _ (p : Program) (f : Function) where
   parts (form.Known k args) h = same_tests (is_own p f) (names_own p f) expr_globals args h
   parts x h = two _ _ _ _ h.0 h.1
 
-  form_step : (x : Form-F Form Target Expr) → FormChildren P Q S x → P (roll-Form x)
-  unfolding form_globals target_globals expr_globals
-  form_step x h =
-      fold-roll-Form Bool Bool Bool form_in (target_is_own p f) layer_in x ∙
-      (ap all_of (parts x h) ∙
-      (sym (own_concat (is_own p f) (form_parts (names x))) ∙
-      ap own (sym (fold-roll-Form (List ℕ) (List ℕ) (List ℕ) form_layer target_layer expr_layer x))))
-
   -- ---- lvalues
 
   target_tests : (x : Target-F Form Target Expr) → TargetChildren P Q S x →
@@ -86,19 +79,8 @@ module _ (p : Program) (f : Function) where
   target_tests (form.GlobalAt g e) h = ap (λ b. is_own p f g && b) h
   target_tests (form.LocalAt l e) h = h
 
-  target_step : (x : Target-F Form Target Expr) → TargetChildren P Q S x → Q (roll-Target x)
-  unfolding form_globals target_globals expr_globals
-  target_step x h =
-      fold-roll-Target Bool Bool Bool form_in (target_is_own p f) layer_in x ∙
-      (target_tests x h ∙ ap own (sym (fold-roll-Target (List ℕ) (List ℕ) (List ℕ) form_layer target_layer expr_layer x)))
-
-  -- ---- expressions
-
-  expr_step : (x : Expr-F Form Target Expr) → P x.what → S (roll-Expr x)
-  unfolding form_globals target_globals expr_globals
-  expr_step x h =
-      fold-roll-Expr Bool Bool Bool form_in (target_is_own p f) layer_in x ∙
-      (h ∙ ap own (sym (fold-roll-Expr (List ℕ) (List ℕ) (List ℕ) form_layer target_layer expr_layer x)))
-
   pub expr_owns : (e : Expr) → S e
-  expr_owns e = expr_ind P Q S form_step target_step expr_step e
+  unfolding form_globals target_globals expr_globals
+  expr_owns =
+      along_exprs (expr_folds (expr_fold form_in (target_is_own p f) layer_in) (expr_fold form_layer target_layer expr_layer)) (λ x v. v.0 ≡ own v.1) (λ x v. v.0 ≡ own v.1) (λ e v. v.0 ≡ own v.1)
+      (λ x h. ap all_of (parts x h) ∙ sym (own_concat (is_own p f) (form_parts (names x)))) target_tests (λ x h. h)

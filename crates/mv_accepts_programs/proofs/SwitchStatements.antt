@@ -5,15 +5,16 @@ use Rattle.std.proofs.lemmas.List.{map-append}
 use Rattle.mv_ast.specs.declared.program.Program.{Program}
 use Rattle.mv_ast.specs.declared.program.Function.{Function}
 use Rattle.mv_ast.specs.declared.program.Expr.{Expr}
-use Rattle.mv_ast.specs.declared.program.Stmt.{Stmt, Stmt-F, roll-Stmt, map-Stmt, fold-roll-Stmt}
+use Rattle.mv_ast.specs.declared.program.Stmt.{Stmt, Stmt-F, map-Stmt}
 use Rattle.mv_ast.specs.declared.program.Stmt.TheOpen as stmt
-use Rattle.mv_ast.specs.declared.program.Arm.{Arm, Arm-F, roll-Arm, fold-Arm, fold-roll-Arm}
+use Rattle.mv_ast.specs.declared.program.Arm.{Arm, fold-Arm}
 use Rattle.mv_ast.specs.Layers.{stmt_parts, stmt_expressions}
 use Rattle.mv_ast.specs.Plans.{is_among, switch_global}
 use Rattle.std.specs.List.{AllByRecursion}
 use Rattle.mv_source_forms.specs.Lists.{all_of}
 use Rattle.mv_source_forms.specs.Uses.{all_layer, all_arm_layer, all_expressions, is_switch, is_own, names_own}
-use Rattle.mv_source_forms.proofs.StatementInduction.{StmtChildren, stmt_ind}
+use Rattle.mv_source_forms.proofs.StatementFolds.{stmt_fold, stmt_folds, along_stmts}
+use Rattle.mv_source_forms.proofs.StatementInduction.{StmtChildren}
 use Rattle.mv_check_uses.specs.Uses.{expr_globals, stmt_layer, arm_layer, stmt_globals, switches_named}
 use Rattle.mv_check_uses.specs.Flags.{arm_globals}
 use Rattle.mv_check_uses.proofs.Owning.{own_switch}
@@ -87,22 +88,11 @@ module _ (p : Program) (f : Function) where
       (ap all_of (parts x h) ∙ sym (own_concat (is_own p f) (stmt_parts (names x)))) ∙
       sym (own_both (is_own p f) (concat (map expr_globals (stmt_expressions (names x)))) (concat (stmt_parts (names x))))))
 
-  stmt_step : (x : Stmt-F Stmt Arm) → StmtChildren P Q x → P (roll-Stmt x)
+  each_owns : (body : List Stmt) → AllByRecursion P body
   unfolding arm_globals stmt_globals
-  stmt_step x h =
-      fold-roll-Stmt Bool Bool (all_layer (names_own p f)) all_arm_layer x ∙
-      (layer x h ∙ ap own (sym (fold-roll-Stmt (List ℕ) (List ℕ) stmt_layer arm_layer x)))
-
-  arm_step : (x : Arm-F Stmt Arm) → AllByRecursion P x.body → Q (roll-Arm x)
-  unfolding arm_globals stmt_globals
-  arm_step x h =
-      fold-roll-Arm Bool Bool (all_layer (names_own p f)) all_arm_layer x ∙
-      (ap all_of (stmts x.body h) ∙
-      (sym (own_concat (is_own p f) (map stmt_globals x.body)) ∙
-      ap own (sym (fold-roll-Arm (List ℕ) (List ℕ) stmt_layer arm_layer x))))
-
-  stmt_owns : (s : Stmt) → P s
-  stmt_owns s = stmt_ind P Q stmt_step arm_step s
+  each_owns =
+      along_stmts (stmt_folds (stmt_fold (all_layer (names_own p f)) all_arm_layer) (stmt_fold stmt_layer arm_layer)) (λ s v. v.0 ≡ own v.1) (λ a v. v.0 ≡ own v.1) layer
+      (λ x h. ap all_of (stmts x.body h) ∙ sym (own_concat (is_own p f) (map stmt_globals x.body)))
 
   -- ---- the switches of the function
 
@@ -117,6 +107,6 @@ module _ (p : Program) (f : Function) where
 
   pub body_owns : f.switches ≡ switches_named p.switches f.body → all_of (map (all_expressions (names_own p f)) f.body) ≡ true
   body_owns q =
-      ap all_of (stmts f.body (each_all P stmt_owns f.body)) ∙
+      ap all_of (stmts f.body (each_owns f.body)) ∙
       (sym (own_concat (is_own p f) (map stmt_globals f.body)) ∙
       all_among (is_own p f) (concat (map stmt_globals f.body)) (named_is_own q))

@@ -1,22 +1,24 @@
 -- The code and the tree of a lowered expression name what the expression names, and the constants that lowering needs.
-use Rattle.std.proofs.Common.{ℕ, ◌+◌, Bool, true, false, cond, List, [], ◌∷◌, ◌++◌, map, sym, subst}
+use Rattle.std.proofs.Common.{ℕ, ◌+◌, Bool, true, false, cond, List, [], ◌∷◌, ◌++◌}
 use Rattle.std.specs.Prelude.{◌&&◌, nat_lt, nat_eq}
 use Rattle.mv_ast.specs.declared.program.CType.{CType}
 use Rattle.mv_ast.specs.declared.program.CType.TheVariants.{Void, Scalar, Pointer}
 use Rattle.mv_ast.specs.declared.program.Known.{Known}
-use Rattle.mv_ast.specs.declared.program.Expr.{Expr, Expr-F, fold-roll-Expr, roll-Expr}
-use Rattle.mv_ast.specs.declared.program.Form.{Form, Form-F, fold-roll-Form, map-Form, roll-Form}
+use Rattle.mv_ast.specs.declared.program.Expr.{Expr}
+use Rattle.mv_ast.specs.declared.program.Form.{Form, Form-F}
 use Rattle.mv_ast.specs.declared.program.Form.TheOpen as form
-use Rattle.mv_ast.specs.declared.program.Target.{Target, Target-F, fold-roll-Target, map-Target, roll-Target}
+use Rattle.mv_ast.specs.declared.program.Target.{Target, Target-F}
 use Rattle.mv_ast.specs.Operators.{is_unsigned}
 use Rattle.mv_ir.specs.declared.tree.Tree.{Tree}
 use Rattle.mv_ir.specs.declared.stm.Array.{Array}
 use Rattle.mv_ir.specs.declared.stm.Stm.{Stm}
 use Rattle.mv_ir.proofs.Induction.{Each, each_append}
 use Rattle.mv_lower_spec.specs.Lowered.{Lowered, Lowering, is_low, is_empty, kept_if, number, temp, global, unary, binary, set, set_global, truth, truth_in, first, second, lower_local, lower_global, lower_one, lower_two, lower_division, lower_both, lower_either, lower_choice, lower_set_local, lower_set_global, lower_all, lower_call, lower_through, lower_known, place_of_result, result_tree, last_of, but_last, index_in, lower_element, lower_read_element, lower_set_element}
-use Rattle.mv_lower_spec.specs.Lower.{Part, Place, InLocal, InGlobal, Element, quotient_number, remainder_number, unary_tree, converted_tree, less_tree, bit_tree, lower_operator, lower_product, lower_binary, lower_changed, lower_change, lower_after, next_tree, lower_read, lower_set, place_of_layer, lower_form, lower_layer, form_lowering, place_of, part_of, lower_expr}
+use Rattle.mv_lower_spec.specs.Lower.{Place, InLocal, InGlobal, Element, quotient_number, remainder_number, unary_tree, converted_tree, less_tree, bit_tree, lower_operator, lower_product, lower_binary, lower_changed, lower_change, lower_after, next_tree, lower_read, lower_set, form_lowering, place_of, part_of, lower_expr}
 use Rattle.mv_source_forms.specs.Names.{is_void}
-use Rattle.mv_source_forms.proofs.ExpressionInduction.{FormChildren, TargetChildren, expr_ind}
+use Rattle.mv_source_forms.proofs.ExpressionFolds.{along_exprs}
+use Rattle.mv_source_forms.proofs.ExpressionInduction.{FormChildren, TargetChildren}
+use Rattle.mv_lower_shape.proofs.Folds.{lowered_exprs, lowers}
 use Rattle.mv_lower_names.proofs.Naming.{TreeNames, CodeNames, both, then, number_names, temp_names, global_names, function_names, unary_names, binary_names, narrowed_names, set_names, set_global_names, divide_names, check_names, read_names, write_names, choose_names, known_names, direct_names, through_names}
 use Rattle.mv_lower_names.proofs.Premises.{OwnNames, KnownOf}
 
@@ -275,20 +277,11 @@ module _ (F : ℕ → Type 0) (K : Known → Type 0) (C : ℕ → Type 0) (zero_
     abbrev S : Expr → Type 0
     S e = PE e → FineLowering (lower_expr e)
 
-    abbrev lowers : List Expr → List Lowering
-    lowers es = map (λ (x : Part). x.lower) (map part_of es)
-
     each_fine : (es : List Expr) → Each S es → Each PE es → Each FineLowering (lowers es)
     each_fine [] h k = tt
     each_fine (e ∷ es) h k = (h.0 k.0, each_fine es h.1 k.1)
 
-    abbrev parts : Form-F Form Target Expr → Form-F (CType → Lowering) Place Part
-    parts = map-Form Form Target Expr (CType → Lowering) Place Part form_lowering place_of part_of
-
-    abbrev placed : Target-F Form Target Expr → Place
-    placed y = place_of_layer (map-Target Form Target Expr (CType → Lowering) Place Part form_lowering place_of part_of y)
-
-    layer : (x : Form-F Form Target Expr) → FormChildren P Q S x → OwnNames F K C x → FormChildren PF PT PE x → (c : CType) → FineLowering (lower_form (parts x) c)
+    layer : (x : Form-F Form Target Expr) → FormChildren P Q S x → OwnNames F K C x → FormChildren PF PT PE x → (c : CType) → FineLowering (lowered_exprs.form_layer x c)
     layer (form.Number m) h o k c n = (tt, number_names F K C m o)
     layer (form.Read target) h o k c n = read_fine (place_of target) (h k) n
     layer (form.Function f) h o k c n = (tt, function_names F K C f o)
@@ -305,23 +298,13 @@ module _ (F : ℕ → Type 0) (K : Known → Type 0) (C : ℕ → Type 0) (zero_
     layer (form.Through args e) h o k c n = through_fine (is_void c) (lowers args) (lower_expr e) (each_fine args h.0 k.0) (h.1 k.1) n
     layer (form.Known f args) h o k c n = known_fine f (lowers args) o (each_fine args h k) n
 
-    target_layer : (x : Target-F Form Target Expr) → TargetChildren P Q S x → TargetChildren PF PT PE x → FinePlace (placed x)
+    target_layer : (x : Target-F Form Target Expr) → TargetChildren P Q S x → TargetChildren PF PT PE x → FinePlace (lowered_exprs.target_layer x)
     target_layer (form.Global g) h k = tt
     target_layer (form.Local l) h k = tt
     target_layer (form.GlobalAt g e) h k = h k
     target_layer (form.LocalAt l e) h k = h k
 
-    form_step : (x : Form-F Form Target Expr) → FormChildren P Q S x → P (roll-Form x)
-    form_step x h b c =
-        let lowered = fold-roll-Form (CType → Lowering) Place Part lower_form place_of_layer lower_layer x in
-        subst (λ (l : CType → Lowering). FineLowering (l c)) (sym lowered) (layer x h (source.own x b) (source.form_parts x b) c)
-
-    target_step : (x : Target-F Form Target Expr) → TargetChildren P Q S x → Q (roll-Target x)
-    target_step x h b = subst FinePlace (sym (fold-roll-Target (CType → Lowering) Place Part lower_form place_of_layer lower_layer x)) (target_layer x h (source.target_parts x b))
-
-    expr_step : (x : Expr-F Form Target Expr) → P x.what → S (roll-Expr x)
-    expr_step x h b =
-        subst (λ (l : Part). FineLowering l.lower) (sym (fold-roll-Expr (CType → Lowering) Place Part lower_form place_of_layer lower_layer x)) (h (source.what x b) x.ctype)
-
     pub expr_fine : (e : Expr) → PE e → FineLowering (lower_expr e)
-    expr_fine = expr_ind P Q S form_step target_step expr_step
+    expr_fine =
+        along_exprs lowered_exprs (λ f l. PF f → (c : CType) → FineLowering (l c)) (λ x l. PT x → FinePlace l) (λ e l. PE e → FineLowering l.lower)
+        (λ x h b. layer x h (source.own x b) (source.form_parts x b)) (λ x h b. target_layer x h (source.target_parts x b)) (λ x h b. h (source.what x b) x.ctype)

@@ -1,7 +1,6 @@
 -- What tests of the source tell, which hold of all expressions of its statements, of the names in the code.
-use Rattle.std.proofs.Common.{◌≡◌, ℕ, suc, ◌<◌, Bool, true, List, [], ◌∷◌, ◌++◌, map, max, length, Option, Some, None, refl, sym, ◌∙◌}
-use Rattle.std.specs.Prelude.{◌&&◌, option_to_list}
-use Rattle.std.proofs.lemmas.Bool.{and_from}
+use Rattle.std.proofs.Common.{◌≡◌, ℕ, suc, ◌<◌, Bool, true, List, [], ◌∷◌, ◌++◌, map, max, length, Option, Some, None, sym, ◌∙◌}
+use Rattle.std.specs.Prelude.{option_to_list}
 use Rattle.mv_ast.specs.declared.program.Known.{Known}
 use Rattle.mv_ast.specs.declared.program.Expr.{Expr, fold-Expr, fold-roll-Expr}
 use Rattle.mv_ast.specs.declared.program.Form.{Form, Form-F, fold-Form, fold-roll-Form, map-Form, roll-Form}
@@ -18,28 +17,8 @@ use Rattle.mv_lower_spec.proofs.Expressions.{split}
 use Rattle.mv_source_forms.proofs.ExpressionInduction.{FormChildren, TargetChildren}
 use Rattle.mv_source_forms.specs.Scopes.{form_in, layer_in}
 use Rattle.mv_source_forms.specs.Uses.{target_in_parts, all_layer}
+use Rattle.mv_source_forms.proofs.Tests.{one_holds, two_hold, three_hold, all_apart, last_apart}
 use Rattle.mv_lower_names.proofs.Premises.{OwnNames, KnownOf, Optional, StmtKnown, StmtsKnown}
-
--- ---- tests in order
-
-one : (b : Bool) → (b && true) ≡ true → b ≡ true
-one b q = (split b true q).0
-
-two : (a b : Bool) → (a && (b && true)) ≡ true → (a ≡ true) × (b ≡ true)
-two a b q = let s = split a (b && true) q in (s.0, one b s.1)
-
-three : (a b c : Bool) → (a && (b && (c && true))) ≡ true → (a ≡ true) × (b ≡ true) × (c ≡ true)
-three a b c q =
-    let s = split a (b && (c && true)) q in
-    let r = two b c s.1 in
-    (s.0, r.0, r.1)
-
-apart : (xs ys : List Bool) → all_of (xs ++ ys) ≡ true → (all_of xs ≡ true) × (all_of ys ≡ true)
-apart [] ys e = (refl, e)
-apart (x ∷ xs) ys e =
-    let s = split x (all_of (xs ++ ys)) e in
-    let rest = apart xs ys s.1 in
-    (and_from x (all_of xs) s.0 rest.0, rest.1)
 
 pub each_true : {A : Type 0} (test : A → Bool) (xs : List A) → all_of (map test xs) ≡ true → Each (λ x. test x ≡ true) xs
 each_true test [] q = tt
@@ -75,19 +54,19 @@ module _ (F : ℕ → Type 0) (K : Known → Type 0) (C : ℕ → Type 0) (test 
 
   form_children : (x : Form-F Form Target Expr) → form_in (tested x) ≡ true → FormChildren PF PT PE x
   form_children (form.Number n) q = tt
-  form_children (form.Read t) q = one (target_holds t) q
+  form_children (form.Read t) q = one_holds (target_holds t) q
   form_children (form.Function f) q = tt
-  form_children (form.Unary op a) q = one (holds a) q
-  form_children (form.Binary op a b) q = two (holds a) (holds b) q
-  form_children (form.Both a b) q = two (holds a) (holds b) q
-  form_children (form.Either a b) q = two (holds a) (holds b) q
-  form_children (form.Choose c a b) q = three (holds c) (holds a) (holds b) q
-  form_children (form.Convert a) q = one (holds a) q
-  form_children (form.Set t a) q = two (target_holds t) (holds a) q
-  form_children (form.Change op kind t a) q = two (target_holds t) (holds a) q
-  form_children (form.After up t) q = one (target_holds t) q
+  form_children (form.Unary op a) q = one_holds (holds a) q
+  form_children (form.Binary op a b) q = two_hold (holds a) (holds b) q
+  form_children (form.Both a b) q = two_hold (holds a) (holds b) q
+  form_children (form.Either a b) q = two_hold (holds a) (holds b) q
+  form_children (form.Choose c a b) q = three_hold (holds c) (holds a) (holds b) q
+  form_children (form.Convert a) q = one_holds (holds a) q
+  form_children (form.Set t a) q = two_hold (target_holds t) (holds a) q
+  form_children (form.Change op kind t a) q = two_hold (target_holds t) (holds a) q
+  form_children (form.After up t) q = one_holds (target_holds t) q
   form_children (form.Direct f args) q = each_true holds args q
-  form_children (form.Through args e) q = let s = apart (map holds args) (holds e ∷ []) q in (each_true holds args s.0, one (holds e) s.1)
+  form_children (form.Through args e) q = let s = last_apart (map holds args) (holds e) q in (each_true holds args s.0, s.1)
   form_children (form.Known k args) q = each_true holds args q
 
   abbrev tested_target : Target-F Form Target Expr → Target-F Bool Bool Bool
@@ -96,8 +75,8 @@ module _ (F : ℕ → Type 0) (K : Known → Type 0) (C : ℕ → Type 0) (test 
   target_children : (x : Target-F Form Target Expr) → target_in_parts (tested_target x) ≡ true → TargetChildren PF PT PE x
   target_children (form.Global g) q = tt
   target_children (form.Local l) q = tt
-  target_children (form.GlobalAt g e) q = one (holds e) q
-  target_children (form.LocalAt l e) q = one (holds e) q
+  target_children (form.GlobalAt g e) q = one_holds (holds e) q
+  target_children (form.LocalAt l e) q = one_holds (holds e) q
 
   module _ (tells : (x : Form-F Form Target Expr) → test (tested x) ≡ true → Tells x) where
     at_form : (x : Form-F Form Target Expr) → PF (roll-Form x) → Tells x
@@ -155,7 +134,7 @@ module _ (F : ℕ → Type 0) (K : Known → Type 0) (C : ℕ → Type 0) (test 
 
     optional : (o : Option Expr) → all_of (map holds (option_to_list o)) ≡ true → MayHold o
     optional None q = tt
-    optional (Some e) q = one (holds e) q
+    optional (Some e) q = one_holds (holds e) q
 
     optionals : (o u : Option Expr) → all_of (map holds (option_to_list o ++ option_to_list u)) ≡ true → MayHold o × MayHold u
     optionals None u q = (tt, optional u q)
@@ -164,15 +143,15 @@ module _ (F : ℕ → Type 0) (K : Known → Type 0) (C : ℕ → Type 0) (test 
     stmt_children : (x : Stmt-F Stmt Arm) → Counts x → all_of (map holds (stmt_expressions (tested_stmt x))) ≡ true → all_of (stmt_parts (tested_stmt x)) ≡ true → Parts x
     stmt_children (stmt.Block body) c q r = each_true stmt_holds body r
     stmt_children (stmt.Clear l values) c q r = (c, each_true holds values q)
-    stmt_children (stmt.Express e) c q r = one (holds e) q
-    stmt_children (stmt.If e a b) c q r = let s = apart (map stmt_holds a) (map stmt_holds b) r in (one (holds e) q, each_true stmt_holds a s.0, each_true stmt_holds b s.1)
-    stmt_children (stmt.While e body) c q r = (one (holds e) q, each_true stmt_holds body r)
-    stmt_children (stmt.Do body e) c q r = (one (holds e) q, each_true stmt_holds body r)
+    stmt_children (stmt.Express e) c q r = one_holds (holds e) q
+    stmt_children (stmt.If e a b) c q r = let s = all_apart (map stmt_holds a) (map stmt_holds b) r in (one_holds (holds e) q, each_true stmt_holds a s.0, each_true stmt_holds b s.1)
+    stmt_children (stmt.While e body) c q r = (one_holds (holds e) q, each_true stmt_holds body r)
+    stmt_children (stmt.Do body e) c q r = (one_holds (holds e) q, each_true stmt_holds body r)
     stmt_children (stmt.For first when step body) c q r =
-        let s = apart (map stmt_holds first) (map stmt_holds body) r in
+        let s = all_apart (map stmt_holds first) (map stmt_holds body) r in
         let o = optionals when step q in
         ((each_true stmt_holds first s.0, each_true stmt_holds body s.1), o.0, o.1)
-    stmt_children (stmt.Switch e arms) c q r = (one (holds e) q, c, each_true arm_holds arms r)
+    stmt_children (stmt.Switch e arms) c q r = (one_holds (holds e) q, c, each_true arm_holds arms r)
     stmt_children stmt.Break c q r = tt
     stmt_children stmt.Continue c q r = tt
     stmt_children (stmt.Return e) c q r = optional e q

@@ -32,7 +32,7 @@ use Rattle.mv_select_bodies.specs.SelectedBodies.{HasWords, IsOrder, constants, 
 use Rattle.mv_lower_calls.specs.Bindings.{NeverRebinds, keeps_bindings, form_never_rebinds, never_rebinds}
 use Rattle.mv_lower_names.specs.Sources.{NumbersAreWords, is_word, fits_order, form_has_words, has_words, layer_has_words, arm_has_words}
 use Rattle.mv_lower_names.proofs.Naming.{CodeNames, both, number_names, return_names, code_functions, code_knowns, code_constants}
-use Rattle.mv_lower_names.proofs.Premises.{KnownOf, StmtsKnown}
+use Rattle.mv_lower_names.proofs.Premises.{AnyNumber, any_number, KnownOf, StmtsKnown}
 use Rattle.mv_lower_names.proofs.Statements.{body_names}
 use Rattle.mv_lower_names.proofs.FromTypes as types
 use Rattle.mv_lower_names.proofs.FromFolds as tests
@@ -55,16 +55,6 @@ module _ (F : ℕ → Type 0) (K : Known → Type 0) (C : ℕ → Type 0) (zero_
       (body_names F K C zero_is one_is greatest_is (length g.locals) (size_in g.locals) (is_void g.result) PF PT PE PS PA source known g.body h outermost)
       (ending_names (is_void g.result))
 
-abbrev AnyFunction : ℕ → Type 0
-AnyFunction k = Unit {0}
-
-abbrev AnyNumber : ℕ → Type 0
-AnyNumber n = Unit {0}
-
-any_number : (ls : List ℕ) → Each AnyNumber ls
-any_number [] = tt
-any_number (l ∷ ls) = (tt, any_number ls)
-
 -- ---- functions
 
 pub functions_there : (p : Program) (f : ℕ) (g : Function) → IsFunctionOf p f g → All (λ k. k < length p.functions) (functions (lower_function p g).code)
@@ -72,8 +62,8 @@ functions_there p f g h =
     let sizes = size_in g.locals in
     let typed = (at_index (IsTypedFunction p) p.functions f g h.formed.typed.functions h.there).body in
     all_from (λ k. k < length p.functions) (functions (lower_function p g).code)
-    (code_functions (types.IsThere p g sizes) (types.AnyKnown p g sizes) (types.AnyNumber p g sizes) (lower_function_code g).code
-    (function_names (types.IsThere p g sizes) (types.AnyKnown p g sizes) (types.AnyNumber p g sizes) tt tt tt g (types.PF p g sizes) (types.PT p g sizes) (types.PE p g sizes) (types.PS p g sizes) (types.PA p g sizes)
+    (code_functions (types.IsThere p g sizes) (types.AnyKnown p g sizes) AnyNumber (lower_function_code g).code
+    (function_names (types.IsThere p g sizes) (types.AnyKnown p g sizes) AnyNumber tt tt tt g (types.PF p g sizes) (types.PT p g sizes) (types.PE p g sizes) (types.PS p g sizes) (types.PA p g sizes)
     (types.typed_known p g sizes) (types.typed_stmts_known p g sizes) (types.body_known p g sizes g.body typed)))
 
 -- ---- known functions
@@ -81,13 +71,13 @@ functions_there p f g h =
 -- a test that tells of known functions, and asks for one of all parts of a form
 module _ (K : Known → Type 0) (test : Form-F Bool Bool Bool → Bool) (g : Function) where
   abbrev Tells : Form-F Form Target Expr → Type 0
-  Tells = tests.Tells AnyFunction K AnyNumber test
+  Tells = tests.Tells AnyNumber K AnyNumber test
 
   abbrev holds : Expr → Bool
-  holds = tests.holds AnyFunction K AnyNumber test
+  holds = tests.holds AnyNumber K AnyNumber test
 
-  stmt_tells : (x : Stmt-F Stmt Arm) → all_layer holds (tests.tested_stmt AnyFunction K AnyNumber test (size_in g.locals) (all_layer holds) all_arm_layer x) ≡ true →
-      tests.StmtTells AnyFunction K AnyNumber test (size_in g.locals) (all_layer holds) all_arm_layer x
+  stmt_tells : (x : Stmt-F Stmt Arm) → all_layer holds (tests.tested_stmt AnyNumber K AnyNumber test (size_in g.locals) (all_layer holds) all_arm_layer x) ≡ true →
+      tests.StmtTells AnyNumber K AnyNumber test (size_in g.locals) (all_layer holds) all_arm_layer x
   stmt_tells (stmt.Block body) q = record { counts = tt; parts = q }
   stmt_tells (stmt.Clear l values) q = record { counts = λ i lt. tt; parts = q }
   stmt_tells (stmt.Express e) q = record { counts = tt; parts = q }
@@ -100,22 +90,22 @@ module _ (K : Known → Type 0) (test : Form-F Bool Bool Bool → Bool) (g : Fun
   stmt_tells stmt.Continue q = record { counts = tt; parts = q }
   stmt_tells (stmt.Return e) q = record { counts = tt; parts = q }
 
-  knowns_there : ((x : Form-F Form Target Expr) → test (tests.tested AnyFunction K AnyNumber test x) ≡ true → Tells x) →
-      all_of (map (tests.stmt_holds AnyFunction K AnyNumber test (size_in g.locals) (all_layer holds) all_arm_layer) g.body) ≡ true → All K (knowns (lower_function_code g).code)
+  knowns_there : ((x : Form-F Form Target Expr) → test (tests.tested AnyNumber K AnyNumber test x) ≡ true → Tells x) →
+      all_of (map (tests.stmt_holds AnyNumber K AnyNumber test (size_in g.locals) (all_layer holds) all_arm_layer) g.body) ≡ true → All K (knowns (lower_function_code g).code)
   knowns_there tells q =
       let sizes = size_in g.locals in
       let layers = all_layer holds in
       all_from K (knowns (lower_function_code g).code)
-      (code_knowns AnyFunction K AnyNumber (lower_function_code g).code
-      (function_names AnyFunction K AnyNumber tt tt tt g (tests.PF AnyFunction K AnyNumber test) (tests.PT AnyFunction K AnyNumber test) (tests.PE AnyFunction K AnyNumber test)
-      (tests.PS AnyFunction K AnyNumber test sizes layers all_arm_layer) (tests.PA AnyFunction K AnyNumber test sizes layers all_arm_layer) (tests.test_known AnyFunction K AnyNumber test tells)
-      (tests.test_stmts_known AnyFunction K AnyNumber test sizes layers all_arm_layer stmt_tells (λ x r. record { labels = any_number x.labels; body = r }))
-      (tests.each_true (tests.stmt_holds AnyFunction K AnyNumber test sizes layers all_arm_layer) g.body q)))
+      (code_knowns AnyNumber K AnyNumber (lower_function_code g).code
+      (function_names AnyNumber K AnyNumber tt tt tt g (tests.PF AnyNumber K AnyNumber test) (tests.PT AnyNumber K AnyNumber test) (tests.PE AnyNumber K AnyNumber test)
+      (tests.PS AnyNumber K AnyNumber test sizes layers all_arm_layer) (tests.PA AnyNumber K AnyNumber test sizes layers all_arm_layer) (tests.test_known AnyNumber K AnyNumber test tells)
+      (tests.test_stmts_known AnyNumber K AnyNumber test sizes layers all_arm_layer stmt_tells (λ x r. record { labels = any_number x.labels; body = r }))
+      (tests.each_true (tests.stmt_holds AnyNumber K AnyNumber test sizes layers all_arm_layer) g.body q)))
 
 abbrev IsKnownThere : Program → Known → Type 0
 IsKnownThere p k = known_is_there p k ≡ true
 
-calls_tell : (p : Program) (g : Function) (x : Form-F Form Target Expr) → form_calls_known p (tests.tested AnyFunction (IsKnownThere p) AnyNumber (form_calls_known p) x) ≡ true → Tells (IsKnownThere p) (form_calls_known p) g x
+calls_tell : (p : Program) (g : Function) (x : Form-F Form Target Expr) → form_calls_known p (tests.tested AnyNumber (IsKnownThere p) AnyNumber (form_calls_known p) x) ≡ true → Tells (IsKnownThere p) (form_calls_known p) g x
 calls_tell p g (form.Number n) q = record { own = tt; parts = q }
 calls_tell p g (form.Read t) q = record { own = tt; parts = q }
 calls_tell p g (form.Function f) q = record { own = tt; parts = q }
@@ -145,7 +135,7 @@ direct Putchar q = tt
 direct Poll q = no q
 direct (Plan code index) q = no q
 
-bindings_tell : (g : Function) (x : Form-F Form Target Expr) → form_never_rebinds (tests.tested AnyFunction IsDirect AnyNumber form_never_rebinds x) ≡ true → Tells IsDirect form_never_rebinds g x
+bindings_tell : (g : Function) (x : Form-F Form Target Expr) → form_never_rebinds (tests.tested AnyNumber IsDirect AnyNumber form_never_rebinds x) ≡ true → Tells IsDirect form_never_rebinds g x
 bindings_tell g (form.Number n) q = record { own = tt; parts = q }
 bindings_tell g (form.Read t) q = record { own = tt; parts = q }
 bindings_tell g (form.Function f) q = record { own = tt; parts = q }
@@ -193,7 +183,7 @@ order Putchar q = tt
 order Poll q = tt
 order (Plan code index) q = let s = split (nat_lt code 256) (is_word index) q in (ltb-true code 256 s.0, word index s.1)
 
-words_tell : (x : Form-F Form Target Expr) → form_has_words (tests.tested AnyFunction IsOrder IsWord form_has_words x) ≡ true → tests.Tells AnyFunction IsOrder IsWord form_has_words x
+words_tell : (x : Form-F Form Target Expr) → form_has_words (tests.tested AnyNumber IsOrder IsWord form_has_words x) ≡ true → tests.Tells AnyNumber IsOrder IsWord form_has_words x
 words_tell (form.Number n) q = record { own = word n q; parts = refl }
 words_tell (form.Read t) q = record { own = tt; parts = q }
 words_tell (form.Function f) q = record { own = tt; parts = q }
@@ -217,10 +207,10 @@ small_sizes (x ∷ xs) h (suc l) = small_sizes xs (λ i y lt. h (suc i) y (omega
 
 module _ (sizes : ℕ → Option ℕ) (small : (l : ℕ) → words_of_size (sizes l) ≤ 262144) where
   abbrev tested : Stmt-F Stmt Arm → Stmt-F Bool Bool
-  tested = tests.tested_stmt AnyFunction IsOrder IsWord form_has_words sizes layer_has_words arm_has_words
+  tested = tests.tested_stmt AnyNumber IsOrder IsWord form_has_words sizes layer_has_words arm_has_words
 
   abbrev StmtTold : Stmt-F Stmt Arm → Type 0
-  StmtTold = tests.StmtTells AnyFunction IsOrder IsWord form_has_words sizes layer_has_words arm_has_words
+  StmtTold = tests.StmtTells AnyNumber IsOrder IsWord form_has_words sizes layer_has_words arm_has_words
 
   plain : (n : ℕ) (b : Bool) → (is_word n && b) ≡ true → b ≡ true
   plain n b q = (split (is_word n) b q).1
@@ -238,7 +228,7 @@ module _ (sizes : ℕ → Option ℕ) (small : (l : ℕ) → words_of_size (size
   stmt_words (stmt.Do body e) q = record { counts = tt; parts = plain 1 _ q }
   stmt_words (stmt.For first when step body) q = record { counts = tt; parts = plain 1 _ q }
   stmt_words (stmt.Switch e arms) q =
-      let arm_test = tests.arm_holds AnyFunction IsOrder IsWord form_has_words sizes layer_has_words arm_has_words in
+      let arm_test = tests.arm_holds AnyNumber IsOrder IsWord form_has_words sizes layer_has_words arm_has_words in
       let s = split (is_word (length (map arm_test arms) + 1)) (all_layer has_words (tested (stmt.Switch e arms))) q in
       let few = word (length (map arm_test arms) + 1) s.0 in
       let same = length-map arms arm_test in
@@ -247,10 +237,10 @@ module _ (sizes : ℕ → Option ℕ) (small : (l : ℕ) → words_of_size (size
   stmt_words stmt.Continue q = record { counts = tt; parts = plain 1 _ q }
   stmt_words (stmt.Return e) q = record { counts = tt; parts = plain 1 _ q }
 
-  arm_words : (x : Arm-F Stmt Arm) → arm_has_words (tests.tested_arm AnyFunction IsOrder IsWord form_has_words sizes layer_has_words arm_has_words x) ≡ true →
-      tests.ArmTells AnyFunction IsOrder IsWord form_has_words sizes layer_has_words arm_has_words x
+  arm_words : (x : Arm-F Stmt Arm) → arm_has_words (tests.tested_arm AnyNumber IsOrder IsWord form_has_words sizes layer_has_words arm_has_words x) ≡ true →
+      tests.ArmTells AnyNumber IsOrder IsWord form_has_words sizes layer_has_words arm_has_words x
   arm_words x q =
-      let stmt_test = tests.stmt_holds AnyFunction IsOrder IsWord form_has_words sizes layer_has_words arm_has_words in
+      let stmt_test = tests.stmt_holds AnyNumber IsOrder IsWord form_has_words sizes layer_has_words arm_has_words in
       let s = split (all_of (map is_word x.labels)) (all_of (map stmt_test x.body)) q in
       record { labels = all_words x.labels s.0; body = s.1 }
 
@@ -258,13 +248,13 @@ pub words_there : (p : Program) (f : ℕ) (g : Function) → IsFunctionOf p f g 
 words_there p f g h numbers =
     let sizes = size_in g.locals in
     let small = small_sizes g.locals (at_index (λ (x : Function). All (λ (l : Local). words_of_size l.size ≤ 262144) x.locals) p.functions f g h.formed.limits.local_elements h.there) in
-    let code : CodeNames AnyFunction IsOrder IsWord (lower_function_code g).code =
-    function_names AnyFunction IsOrder IsWord (omega arith) (omega arith) (omega arith) g (tests.PF AnyFunction IsOrder IsWord form_has_words) (tests.PT AnyFunction IsOrder IsWord form_has_words)
-    (tests.PE AnyFunction IsOrder IsWord form_has_words) (tests.PS AnyFunction IsOrder IsWord form_has_words sizes layer_has_words arm_has_words)
-    (tests.PA AnyFunction IsOrder IsWord form_has_words sizes layer_has_words arm_has_words) (tests.test_known AnyFunction IsOrder IsWord form_has_words words_tell)
-    (tests.test_stmts_known AnyFunction IsOrder IsWord form_has_words sizes layer_has_words arm_has_words (stmt_words sizes small) (arm_words sizes small))
-    (tests.each_true (tests.stmt_holds AnyFunction IsOrder IsWord form_has_words sizes layer_has_words arm_has_words) g.body (numbers f g h.there)) in
+    let code : CodeNames AnyNumber IsOrder IsWord (lower_function_code g).code =
+    function_names AnyNumber IsOrder IsWord (omega arith) (omega arith) (omega arith) g (tests.PF AnyNumber IsOrder IsWord form_has_words) (tests.PT AnyNumber IsOrder IsWord form_has_words)
+    (tests.PE AnyNumber IsOrder IsWord form_has_words) (tests.PS AnyNumber IsOrder IsWord form_has_words sizes layer_has_words arm_has_words)
+    (tests.PA AnyNumber IsOrder IsWord form_has_words sizes layer_has_words arm_has_words) (tests.test_known AnyNumber IsOrder IsWord form_has_words words_tell)
+    (tests.test_stmts_known AnyNumber IsOrder IsWord form_has_words sizes layer_has_words arm_has_words (stmt_words sizes small) (arm_words sizes small))
+    (tests.each_true (tests.stmt_holds AnyNumber IsOrder IsWord form_has_words sizes layer_has_words arm_has_words) g.body (numbers f g h.there)) in
     record {
-      constants = all_from IsWord (constants (lower_function_code g).code) (code_constants AnyFunction IsOrder IsWord (lower_function_code g).code code);
-      orders = all_from IsOrder (knowns (lower_function_code g).code) (code_knowns AnyFunction IsOrder IsWord (lower_function_code g).code code);
+      constants = all_from IsWord (constants (lower_function_code g).code) (code_constants AnyNumber IsOrder IsWord (lower_function_code g).code code);
+      orders = all_from IsOrder (knowns (lower_function_code g).code) (code_knowns AnyNumber IsOrder IsWord (lower_function_code g).code code);
     }

@@ -1,14 +1,14 @@
 -- The code of lowered statements names what the statements name, and the constants that lowering needs.
-use Rattle.std.proofs.Common.{ℕ, zero, suc, ◌+◌, ◌*◌, ◌-◌, ◌<◌, ◌≤◌, Bool, true, false, cond, List, [], ◌∷◌, ◌++◌, map, length, max, Option, Some, None, sym, subst, arith}
+use Rattle.std.proofs.Common.{ℕ, zero, suc, ◌+◌, ◌*◌, ◌-◌, ◌<◌, ◌≤◌, Bool, true, false, cond, List, [], ◌∷◌, ◌++◌, map, length, max, Option, Some, None, arith}
 use Rattle.std.specs.Prelude.{◌||◌, nat_le}
 use Rattle.std.proofs.lemmas.List.{length-map}
 use Rattle.mv_ast.specs.declared.program.Known.{Known}
 use Rattle.mv_ast.specs.declared.program.Expr.{Expr}
 use Rattle.mv_ast.specs.declared.program.Form.{Form}
 use Rattle.mv_ast.specs.declared.program.Target.{Target}
-use Rattle.mv_ast.specs.declared.program.Stmt.{Stmt, Stmt-F, roll-Stmt, map-Stmt, fold-roll-Stmt}
+use Rattle.mv_ast.specs.declared.program.Stmt.{Stmt, Stmt-F}
 use Rattle.mv_ast.specs.declared.program.Stmt.TheOpen as stmt
-use Rattle.mv_ast.specs.declared.program.Arm.{Arm, Arm-F, roll-Arm, fold-roll-Arm}
+use Rattle.mv_ast.specs.declared.program.Arm.{Arm}
 use Rattle.mv_ast.specs.Counts.{words_of_size}
 use Rattle.mv_ast.specs.Names.{any_of, names_local}
 use Rattle.mv_ir.specs.declared.tree.Tree.{Tree}
@@ -18,8 +18,10 @@ use Rattle.mv_ir.proofs.Induction.{Each}
 use Rattle.mv_lower_spec.specs.Lowered.{Lowering, number, temp, binary, set}
 use Rattle.mv_lower_spec.specs.Lower.{lower_expr}
 use Rattle.mv_lower_spec.specs.Statements.{Jumps, Placed, LoweredArm, break, enclosed, in_body, in_arm, store_word, clear_words, store_zeros, store_values, lower_clear, test_labels, test_arms, arm_place, all_tests, arm_code, arms_code, lower_switch, in_sequence, lower_if, test_and_body, lower_while, lower_do, lower_for}
-use Rattle.mv_lower_spec.specs.LowerStatements.{lower_optional, lower_stmt_layer, lower_arm_layer, lower_stmt, lower_arm}
-use Rattle.mv_source_forms.proofs.StatementInduction as induction
+use Rattle.mv_lower_spec.specs.LowerStatements.{lower_optional, lower_stmt, lower_arm}
+use Rattle.mv_source_forms.proofs.StatementFolds.{along_stmts}
+use Rattle.mv_source_forms.proofs.StatementInduction.{StmtChildren}
+use Rattle.mv_lower_shape.proofs.Folds.{lowered_stmts}
 use Rattle.mv_lower_names.proofs.Naming.{TreeNames, StmNames, CodeNames, both, then, number_names, temp_names, binary_names, set_names, write_names, zero_names, choose_names, return_names, break_names, repeat_names, enclosed_names}
 use Rattle.mv_lower_names.proofs.Premises.{KnownOf, Optional, StmtKnown, StmtsKnown}
 use Rattle.mv_lower_names.proofs.Expressions.{FineLowering, expr_fine}
@@ -183,10 +185,7 @@ module _ (F : ℕ → Type 0) (K : Known → Type 0) (C : ℕ → Type 0) (zero_
       optional_fine v None c k n = (tt, number_names F K C v c)
       optional_fine v (Some e) c k n = value_fine e k n
 
-      abbrev lowers : Stmt-F Stmt Arm → Stmt-F Placed LoweredArm
-      lowers = map-Stmt Stmt Arm Placed LoweredArm (lower_stmt locals sizes void) (lower_arm locals sizes void)
-
-      layer : (x : Stmt-F Stmt Arm) → induction.StmtChildren S A x → StmtKnown F K C sizes PE PS PA x → FinePlaced (lower_stmt_layer locals sizes void (lowers x))
+      layer : (x : Stmt-F Stmt Arm) → StmtChildren S A x → StmtKnown F K C sizes PE PS PA x → FinePlaced ((lowered_stmts locals sizes void).stmt_layer x)
       layer (stmt.Block body) h k j = sequence_fine body h k j
       layer (stmt.Clear l values) h k j =
           declared_fine (sizes l) l (any_of (map (names_local l) values)) (map lower_expr values) (λ i lt. k.0 i (omega (arith, lt, length-map values lower_expr))) (all_values_fine values k.1) j
@@ -203,14 +202,8 @@ module _ (F : ℕ → Type 0) (K : Known → Type 0) (C : ℕ → Type 0) (zero_
       layer (stmt.Return None) h k j = (break_names F K C j.around, tt)
       layer (stmt.Return (Some e)) h k j = then F K C (lower_expr e locals).code _ (value_fine e k locals).0 (return_names F K C (lower_expr e locals).tree (value_fine e k locals).1)
 
-      stmt_step : (x : Stmt-F Stmt Arm) → induction.StmtChildren S A x → S (roll-Stmt x)
-      stmt_step x h b =
-          subst FinePlaced (sym (fold-roll-Stmt Placed LoweredArm (lower_stmt_layer locals sizes void) (lower_arm_layer locals sizes void) x)) (layer x h (known.parts x b))
-
-      arm_step : (x : Arm-F Stmt Arm) → Each S x.body → A (roll-Arm x)
-      arm_step x h b =
-          subst FineArm (sym (fold-roll-Arm Placed LoweredArm (lower_stmt_layer locals sizes void) (lower_arm_layer locals sizes void) x))
-          (record { labels = known.labels x b; body = sequence_fine x.body h (known.body x b) })
-
       pub body_names : (body : List Stmt) → Each PS body → FinePlaced (lowered body)
-      body_names body = sequence_fine body (induction.stmts_ind S A stmt_step arm_step body)
+      body_names body =
+          sequence_fine body
+          (along_stmts (lowered_stmts locals sizes void) (λ s l. PS s → FinePlaced l) (λ a l. PA a → FineArm l) (λ x h b. layer x h (known.parts x b))
+          (λ x h b. record { labels = known.labels x b; body = sequence_fine x.body h (known.body x b) }) body)
