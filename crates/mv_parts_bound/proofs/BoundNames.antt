@@ -18,22 +18,16 @@ use Rattle.mv_clone.proofs.Bound.{bound_tree_roll, bound_stm_roll}
 use Rattle.mv_parts_bound.proofs.Naming.{TreeNames, StmNames, CodeNames, TreeParts, tree_in, tree_out, CalleeNames, StmParts, stm_in, stm_out}
 
 module _ (F : ℕ → Type 0) (K : Known → Type 0) (C : ℕ → Type 0) (ps : List (ℕ × ℕ)) (values : (g v : ℕ) → found ps g ≡ Some v → C v) where
-  abbrev Tn : Tree → Type 0
-  Tn = TreeNames F K C
-
-  abbrev Sn : Stm → Type 0
-  Sn = StmNames F K C
-
   -- ---- trees
 
   abbrev TreeKept : Tree → Type 0
-  TreeKept t = Tn t → Tn (bound_tree ps t)
+  TreeKept t = TreeNames F K C t → TreeNames F K C (bound_tree ps t)
 
-  read_names : (g : ℕ) (o : Option ℕ) → found ps g ≡ o → Tn (known_or_read g o)
+  read_names : (g : ℕ) (o : Option ℕ) → found ps g ≡ o → TreeNames F K C (known_or_read g o)
   read_names g None e = tree_in F K C (tree.Global g) tt
   read_names g (Some v) e = tree_in F K C (tree.Number v) (values g v e)
 
-  node : (x : Tree-F Tree) → TreeChildren TreeKept x → TreeParts F K C x → Tn (bound_node ps (map-Tree Tree Tree (bound_tree ps) x))
+  node : (x : Tree-F Tree) → TreeChildren TreeKept x → TreeParts F K C x → TreeNames F K C (bound_node ps (map-Tree Tree Tree (bound_tree ps) x))
   node (tree.Number n) h p = tree_in F K C (tree.Number n) p
   node (tree.Temp t) h p = tree_in F K C (tree.Temp t) tt
   node (tree.Global g) h p = read_names g (found ps g) refl
@@ -43,16 +37,16 @@ module _ (F : ℕ → Type 0) (K : Known → Type 0) (C : ℕ → Type 0) (ps : 
   node (tree.Narrow k a) h p = tree_in F K C (tree.Narrow k (bound_tree ps a)) (h p)
 
   tree_kept : (t : Tree) → TreeKept t
-  tree_kept = tree_ind TreeKept (λ x h n. subst Tn (sym (bound_tree_roll ps x)) (node x h (tree_out F K C x n)))
+  tree_kept = tree_ind TreeKept (λ x h n. subst (TreeNames F K C) (sym (bound_tree_roll ps x)) (node x h (tree_out F K C x n)))
 
-  trees_kept : (ts : List Tree) → Each Tn ts → Each Tn (map (bound_tree ps) ts)
+  trees_kept : (ts : List Tree) → Each (TreeNames F K C) ts → Each (TreeNames F K C) (map (bound_tree ps) ts)
   trees_kept [] h = tt
   trees_kept (t ∷ ts) h = (tree_kept t h.0, trees_kept ts h.1)
 
   -- ---- statements
 
   abbrev StmKept : Stm → Type 0
-  StmKept s = Sn s → Sn (bound_stm ps s)
+  StmKept s = StmNames F K C s → StmNames F K C (bound_stm ps s)
 
   inner : (code : List Stm) → Each StmKept code → CodeNames F K C code → CodeNames F K C (bound_code ps code)
   inner [] h n = tt
@@ -80,7 +74,7 @@ module _ (F : ℕ → Type 0) (K : Known → Type 0) (C : ℕ → Type 0) (ps : 
   layer (stm.Return v) h p = tree_kept v p
 
   stm_kept : (s : Stm) → StmKept s
-  stm_kept = stm_ind StmKept (λ x h n. subst Sn (sym (bound_stm_roll ps x)) (stm_in F K C (bound_layer ps (map-Stm Stm Stm (bound_stm ps) x)) (layer x h (stm_out F K C x n))))
+  stm_kept = stm_ind StmKept (λ x h n. subst (StmNames F K C) (sym (bound_stm_roll ps x)) (stm_in F K C (bound_layer ps (map-Stm Stm Stm (bound_stm ps) x)) (layer x h (stm_out F K C x n))))
 
   pub bound_names : (code : List Stm) → CodeNames F K C code → CodeNames F K C (bound_code ps code)
   bound_names code n = inner code (stms_ind StmKept stm_kept code) n

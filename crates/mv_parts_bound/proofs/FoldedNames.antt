@@ -35,20 +35,11 @@ pub record IsClosed (C : ℕ → Type 0) : Type 0 where
   pub divided : (o n d : ℕ) → C n → C (suc d) → C (divide o n (suc d))
 
 module _ (F : ℕ → Type 0) (K : Known → Type 0) (C : ℕ → Type 0) (closed : IsClosed C) where
-  abbrev Tn : Tree → Type 0
-  Tn = TreeNames F K C
-
-  abbrev Sn : Stm → Type 0
-  Sn = StmNames F K C
-
-  abbrev Cn : List Stm → Type 0
-  Cn = CodeNames F K C
-
   -- ---- trees
 
   -- the value of a tree that is a constant is of the kind
-  constant_names : (t : Tree) → Tn t → (n : ℕ) → constant t ≡ Some n → C n
-  constant_names = tree_ind (λ t. Tn t → (n : ℕ) → constant t ≡ Some n → C n) (λ x h names n e. by x (tree_out F K C x names) n (sym (constant_roll x) ∙ e))
+  constant_names : (t : Tree) → TreeNames F K C t → (n : ℕ) → constant t ≡ Some n → C n
+  constant_names = tree_ind (λ t. TreeNames F K C t → (n : ℕ) → constant t ≡ Some n → C n) (λ x h names n e. by x (tree_out F K C x names) n (sym (constant_roll x) ∙ e))
     where
       by : (x : Tree-F Tree) → TreeParts F K C x → (n : ℕ) → layer_constant x ≡ Some n → C n
       by (tree.Number m) p n e = let same : m ≡ n = cc in subst C same p
@@ -60,22 +51,22 @@ module _ (F : ℕ → Type 0) (K : Known → Type 0) (C : ℕ → Type 0) (close
       by (tree.Narrow k a) p n e = absurd cc
 
   abbrev TreeKept : Tree → Type 0
-  TreeKept t = Tn t → Tn (simple_tree t)
+  TreeKept t = TreeNames F K C t → TreeNames F K C (simple_tree t)
 
-  number_names : (n : ℕ) → C n → Tn (number n)
+  number_names : (n : ℕ) → C n → TreeNames F K C (number n)
   number_names n h = tree_in F K C (tree.Number n) h
 
-  one_names : (o : Option ℕ) (f : ℕ → ℕ) (t : Tree) → ((n : ℕ) → o ≡ Some n → C (f n)) → Tn t → Tn (one_or o f t)
+  one_names : (o : Option ℕ) (f : ℕ → ℕ) (t : Tree) → ((n : ℕ) → o ≡ Some n → C (f n)) → TreeNames F K C t → TreeNames F K C (one_or o f t)
   one_names None f t h n = n
   one_names (Some m) f t h n = number_names (f m) (h m refl)
 
-  two_names : (o p : Option ℕ) (f : ℕ → ℕ → ℕ) (t : Tree) → ((n m : ℕ) → o ≡ Some n → p ≡ Some m → C (f n m)) → Tn t → Tn (two_or o p f t)
+  two_names : (o p : Option ℕ) (f : ℕ → ℕ → ℕ) (t : Tree) → ((n m : ℕ) → o ≡ Some n → p ≡ Some m → C (f n m)) → TreeNames F K C t → TreeNames F K C (two_or o p f t)
   two_names (Some n) (Some m) f t h k = number_names (f n m) (h n m refl refl)
   two_names (Some n) None f t h k = k
   two_names None (Some m) f t h k = k
   two_names None None f t h k = k
 
-  node : (x : Tree-F Tree) → TreeChildren TreeKept x → TreeParts F K C x → Tn (simple_node (map-Tree Tree Tree simple_tree x))
+  node : (x : Tree-F Tree) → TreeChildren TreeKept x → TreeParts F K C x → TreeNames F K C (simple_node (map-Tree Tree Tree simple_tree x))
   node (tree.Number n) h p = tree_in F K C (tree.Number n) p
   node (tree.Temp t) h p = tree_in F K C (tree.Temp t) tt
   node (tree.Global g) h p = tree_in F K C (tree.Global g) tt
@@ -90,52 +81,52 @@ module _ (F : ℕ → Type 0) (K : Known → Type 0) (C : ℕ → Type 0) (close
       one_names (constant (simple_tree a)) (word.narrow k) (roll-Tree (tree.Narrow k (simple_tree a))) (λ n e. closed.narrowed k n (constant_names (simple_tree a) (h p) n e)) (tree_in F K C (tree.Narrow k (simple_tree a)) (h p))
 
   tree_kept : (t : Tree) → TreeKept t
-  tree_kept = tree_ind TreeKept (λ x h n. subst Tn (sym (simple_tree_roll x)) (node x h (tree_out F K C x n)))
+  tree_kept = tree_ind TreeKept (λ x h n. subst (TreeNames F K C) (sym (simple_tree_roll x)) (node x h (tree_out F K C x n)))
 
-  trees_kept : (ts : List Tree) → Each Tn ts → Each Tn (map simple_tree ts)
+  trees_kept : (ts : List Tree) → Each (TreeNames F K C) ts → Each (TreeNames F K C) (map simple_tree ts)
   trees_kept [] h = tt
   trees_kept (t ∷ ts) h = (tree_kept t h.0, trees_kept ts h.1)
 
   -- ---- constants computed
 
   abbrev StmKept : Stm → Type 0
-  StmKept s = Sn s → Cn (simple_stm s)
+  StmKept s = StmNames F K C s → CodeNames F K C (simple_stm s)
 
-  inner : (code : List Stm) → Each StmKept code → Cn code → Cn (joined (map simple_stm code))
+  inner : (code : List Stm) → Each StmKept code → CodeNames F K C code → CodeNames F K C (joined (map simple_stm code))
   inner [] h n = tt
-  inner (s ∷ code) h n = each_append Sn (simple_stm s) (joined (map simple_stm code)) (h.0 n.0) (inner code h.1 n.1)
+  inner (s ∷ code) h n = each_append (StmNames F K C) (simple_stm s) (joined (map simple_stm code)) (h.0 n.0) (inner code h.1 n.1)
 
-  ended_names : (code : List Stm) → Cn code → Cn (ended code)
+  ended_names : (code : List Stm) → CodeNames F K C code → CodeNames F K C (ended code)
   ended_names [] n = tt
   ended_names (s ∷ code) n = (n.0, by (jumps s) (ended_names code n.1))
     where
-      by : (b : Bool) → Cn (ended code) → Cn (cond b [] (ended code))
+      by : (b : Bool) → CodeNames F K C (ended code) → CodeNames F K C (cond b [] (ended code))
       by true h = tt
       by false h = h
 
-  simple : (code : List Stm) → Each StmKept code → Cn code → Cn (simple_code code)
+  simple : (code : List Stm) → Each StmKept code → CodeNames F K C code → CodeNames F K C (simple_code code)
   simple code h n = ended_names (joined (map simple_stm code)) (inner code h n)
 
   callee_kept : (f : Callee) → CalleeNames F K C f → CalleeNames F K C (simple_callee f)
   callee_kept (callee.Direct f) n = n
   callee_kept (callee.Through t) n = tree_kept t n
 
-  one : (x : Stm-F Stm) → StmParts F K C x → Cn (alone x)
+  one : (x : Stm-F Stm) → StmParts F K C x → CodeNames F K C (alone x)
   one x p = (stm_in F K C x p, tt)
 
-  division_names : (o p : Option ℕ) (t k : ℕ) (a b : Tree) → ((n : ℕ) → o ≡ Some n → C n) → ((n : ℕ) → p ≡ Some n → C n) → Tn a → Tn b → Cn (division o p t k a b)
+  division_names : (o p : Option ℕ) (t k : ℕ) (a b : Tree) → ((n : ℕ) → o ≡ Some n → C n) → ((n : ℕ) → p ≡ Some n → C n) → TreeNames F K C a → TreeNames F K C b → CodeNames F K C (division o p t k a b)
   division_names (Some n) (Some (suc d)) t k a b h g x y = one (stm.Set t (number (divide k n (suc d)))) (number_names (divide k n (suc d)) (closed.divided k n d (h n refl) (g (suc d) refl)))
   division_names (Some n) (Some zero) t k a b h g x y = one (stm.Divide t k a b) (x, y)
   division_names (Some n) None t k a b h g x y = one (stm.Divide t k a b) (x, y)
   division_names None (Some d) t k a b h g x y = one (stm.Divide t k a b) (x, y)
   division_names None None t k a b h g x y = one (stm.Divide t k a b) (x, y)
 
-  choice_names : (o : Option ℕ) (t : Tree) (a b : List Stm) → Tn t → Cn a → Cn b → Cn (choice o t a b)
+  choice_names : (o : Option ℕ) (t : Tree) (a b : List Stm) → TreeNames F K C t → CodeNames F K C a → CodeNames F K C b → CodeNames F K C (choice o t a b)
   choice_names None t a b h x y = one (stm.If t a b) (h, x, y)
   choice_names (Some zero) t a b h x y = y
   choice_names (Some (suc n)) t a b h x y = x
 
-  layer : (x : Stm-F Stm) → StmChildren StmKept x → StmParts F K C x → Cn (simple_layer (map-Stm Stm (List Stm) simple_stm x))
+  layer : (x : Stm-F Stm) → StmChildren StmKept x → StmParts F K C x → CodeNames F K C (simple_layer (map-Stm Stm (List Stm) simple_stm x))
   layer (stm.Set t v) h p = one (stm.Set t (simple_tree v)) (tree_kept v p)
   layer (stm.SetGlobal g v) h p = one (stm.SetGlobal g (simple_tree v)) (tree_kept v p)
   layer (stm.Divide t o a b) h p =
@@ -154,21 +145,21 @@ module _ (F : ℕ → Type 0) (K : Known → Type 0) (C : ℕ → Type 0) (close
   layer (stm.Return v) h p = one (stm.Return (simple_tree v)) (tree_kept v p)
 
   stm_kept : (s : Stm) → StmKept s
-  stm_kept = stm_ind StmKept (λ x h n. subst Cn (sym (simple_stm_roll x)) (layer x h (stm_out F K C x n)))
+  stm_kept = stm_ind StmKept (λ x h n. subst (CodeNames F K C) (sym (simple_stm_roll x)) (layer x h (stm_out F K C x n)))
 
-  simple_names : (code : List Stm) → Cn code → Cn (simple_code code)
+  simple_names : (code : List Stm) → CodeNames F K C code → CodeNames F K C (simple_code code)
   simple_names code n = simple code (stms_ind StmKept stm_kept code) n
 
   -- ---- its end shortened
 
   abbrev KeepsNames : List Stm → List Stm → Type 0
-  KeepsNames xs ys = Cn xs → Cn ys
+  KeepsNames xs ys = CodeNames F K C xs → CodeNames F K C ys
 
   -- a value in place of a temporary
   in_place : (x y z : Stm-F Stm) → (StmParts F K C x → StmParts F K C z) → KeepsNames (roll-Stm x ∷ roll-Stm y ∷ []) (roll-Stm z ∷ [])
   in_place x y z f n = one z (f (stm_out F K C x n.0))
 
-  short_names : (temps : ℕ) (code : List Stm) → Cn code → Cn (shortened temps code)
+  short_names : (temps : ℕ) (code : List Stm) → CodeNames F K C code → CodeNames F K C (shortened temps code)
   short_names temps = shortened_is temps KeepsNames (record {
     same = λ xs n. n;
     both = λ xs ys zs h k n. k (h n);
@@ -182,17 +173,17 @@ module _ (F : ℕ → Type 0) (K : Known → Type 0) (C : ℕ → Type 0) (close
 
   module _ (needed : ℕ → Bool) where
     abbrev StmLeft : Stm → Type 0
-    StmLeft s = Sn s → Cn (needed_stm needed s)
+    StmLeft s = StmNames F K C s → CodeNames F K C (needed_stm needed s)
 
-    inner_left : (code : List Stm) → Each StmLeft code → Cn code → Cn (needed_code needed code)
+    inner_left : (code : List Stm) → Each StmLeft code → CodeNames F K C code → CodeNames F K C (needed_code needed code)
     inner_left [] h n = tt
-    inner_left (s ∷ code) h n = each_append Sn (needed_stm needed s) (needed_code needed code) (h.0 n.0) (inner_left code h.1 n.1)
+    inner_left (s ∷ code) h n = each_append (StmNames F K C) (needed_stm needed s) (needed_code needed code) (h.0 n.0) (inner_left code h.1 n.1)
 
-    set_left : (b : Bool) (t : ℕ) (v : Tree) → Tn v → Cn (cond b (alone (stm.Set t v)) [])
+    set_left : (b : Bool) (t : ℕ) (v : Tree) → TreeNames F K C v → CodeNames F K C (cond b (alone (stm.Set t v)) [])
     set_left true t v h = one (stm.Set t v) h
     set_left false t v h = tt
 
-    layer_left : (x : Stm-F Stm) → StmChildren StmLeft x → StmParts F K C x → Cn (needed_layer needed (map-Stm Stm (List Stm) (needed_stm needed) x))
+    layer_left : (x : Stm-F Stm) → StmChildren StmLeft x → StmParts F K C x → CodeNames F K C (needed_layer needed (map-Stm Stm (List Stm) (needed_stm needed) x))
     layer_left (stm.Set t v) h p = set_left (needed t) t v p
     layer_left (stm.SetGlobal g v) h p = one (stm.SetGlobal g v) p
     layer_left (stm.Divide t o a b) h p = one (stm.Divide t o a b) p
@@ -210,8 +201,8 @@ module _ (F : ℕ → Type 0) (K : Known → Type 0) (C : ℕ → Type 0) (close
     layer_left (stm.Return v) h p = one (stm.Return v) p
 
     stm_left : (s : Stm) → StmLeft s
-    stm_left = stm_ind StmLeft (λ x h n. subst Cn (sym (needed_stm_roll needed x)) (layer_left x h (stm_out F K C x n)))
+    stm_left = stm_ind StmLeft (λ x h n. subst (CodeNames F K C) (sym (needed_stm_roll needed x)) (layer_left x h (stm_out F K C x n)))
 
-    pub folded_names : (temps : ℕ) (code : List Stm) → Cn code → Cn (needed_code needed (simple_body temps code))
+    pub folded_names : (temps : ℕ) (code : List Stm) → CodeNames F K C code → CodeNames F K C (needed_code needed (simple_body temps code))
     folded_names temps code n =
         inner_left (simple_body temps code) (stms_ind StmLeft stm_left (simple_body temps code)) (short_names temps (simple_code code) (simple_names code n))

@@ -30,7 +30,8 @@ each_word domains vs words c = record { each = long domains vs c; words = λ i. 
     word (d ∷ domains) (v ∷ vs) w c zero = subst (λ n. n < 2 ^ 32) (c.0.2 0) (All-get_or (λ v. v < 2 ^ 32) d.values c.0.0 0 c.0.1 w.0)
     word (d ∷ domains) (v ∷ vs) w c (suc i) = word domains vs w.1 c.1 i
 
-under_is : (image : Fields) (n k : ℕ) (vs : List ℕ) → fitting_variant image n vs ≡ Some k → variant_under image n (Some vs) ≡ slice_get image.variants k
+-- values that lead to a number are bound to the row with that number
+pub under_is : (image : Fields) (n k : ℕ) (vs : List ℕ) → fitting_variant image n vs ≡ Some k → variant_under image n (Some vs) ≡ slice_get image.variants k
 unfolding variant_under
 under_is image n k vs e = rw e refl
 

@@ -5,6 +5,7 @@ use Rattle.mv_ir.specs.declared.stm.Stm.{Stm}
 use Rattle.mv_ir.proofs.Induction.{Each}
 use Rattle.mv_select_control.specs.Labels.{functions}
 use Rattle.mv_select_bodies.specs.SelectedBodies.{HasWords, IsOrder, constants, knowns}
+use Rattle.mv_select_bodies.proofs.NamedTrees.{IsWord}
 use Rattle.mv_clone.specs.Bind.{bound_code}
 use Rattle.mv_regalloc.specs.Rename.{renamed_code}
 use Rattle.mv_fold.specs.Needed.{needed_code}
@@ -22,9 +23,6 @@ Anything n = Unit {0}
 anything : (ns : List ℕ) → Each Anything ns
 anything [] = tt
 anything (n ∷ ns) = (tt, anything ns)
-
-abbrev IsWord : ℕ → Type 0
-IsWord n = n < 2 ^ 32
 
 anything_closed : IsClosed Anything
 anything_closed = record { one = λ o n h. tt; two = λ o n m h k. tt; narrowed = λ k n h. tt; divided = λ o n d h k. tt }

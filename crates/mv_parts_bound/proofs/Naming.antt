@@ -7,21 +7,25 @@ use Rattle.mv_ir.specs.declared.tree.Tree.{Tree}
 use Rattle.mv_ir.specs.declared.tree.Tree.TheOpen.{Tree-F}
 use Rattle.mv_ir.specs.declared.tree.Tree.TheOpen as tree
 use Rattle.mv_ir.specs.declared.tree.Tree.TheViews.{roll-Tree}
-use Rattle.mv_ir.specs.declared.tree.Tree.TheFolds.{map-Tree, fold-roll-Tree}
+use Rattle.mv_ir.specs.declared.tree.Tree.TheFolds.{map-Tree}
 use Rattle.mv_ir.specs.declared.stm.Callee.{Callee}
 use Rattle.mv_ir.specs.declared.stm.Callee.TheVariants as callee
 use Rattle.mv_ir.specs.declared.stm.Stm.{Stm}
 use Rattle.mv_ir.specs.declared.stm.Stm.TheOpen.{Stm-F}
 use Rattle.mv_ir.specs.declared.stm.Stm.TheOpen as stm
 use Rattle.mv_ir.specs.declared.stm.Stm.TheViews.{roll-Stm}
-use Rattle.mv_ir.specs.declared.stm.Stm.TheFolds.{map-Stm, fold-roll-Stm}
+use Rattle.mv_ir.specs.declared.stm.Stm.TheFolds.{map-Stm}
 use Rattle.mv_ir.specs.Measures.{joined, layer_trees, stm_trees, trees}
 use Rattle.mv_ir.proofs.Induction.{Each, each_append}
 use Rattle.mv_ir.proofs.Keeping.{map_append}
 use Rattle.mv_ir.proofs.Lists.{joined_append}
 use Rattle.mv_ir.proofs.Rolls.{trees_roll}
 use Rattle.mv_select_control.specs.Labels.{functions_layer, tree_functions, functions_of_all, named_layer, stm_functions, functions}
+use Rattle.mv_select_control.proofs.TreeNames.{functions_roll}
+use Rattle.mv_select_control.proofs.TargetsStand.{named_roll}
 use Rattle.mv_select_bodies.specs.SelectedBodies.{constants_layer, tree_constants, constants_of_all, constants, knowns_layer, stm_knowns, knowns}
+use Rattle.mv_select_bodies.proofs.NamedTrees.{constants_roll}
+use Rattle.mv_select_bodies.proofs.FineCode.{knowns_roll}
 
 -- ---- lists
 
@@ -42,22 +46,6 @@ all_each P [] h = tt
 all_each P (x ∷ xs) h = (All-head P x xs h, all_each P xs (All-tail P x xs h))
 
 -- ---- one level at a time
-
-tree_functions_roll : (x : Tree-F Tree) → tree_functions (roll-Tree x) ≡ functions_layer (map-Tree Tree (List ℕ) tree_functions x)
-unfolding tree_functions
-tree_functions_roll x = fold-roll-Tree (List ℕ) functions_layer x
-
-tree_constants_roll : (x : Tree-F Tree) → tree_constants (roll-Tree x) ≡ constants_layer (map-Tree Tree (List ℕ) tree_constants x)
-unfolding tree_constants
-tree_constants_roll x = fold-roll-Tree (List ℕ) constants_layer x
-
-stm_functions_roll : (x : Stm-F Stm) → stm_functions (roll-Stm x) ≡ named_layer (map-Stm Stm (List ℕ) stm_functions x)
-unfolding stm_functions
-stm_functions_roll x = fold-roll-Stm (List ℕ) named_layer x
-
-stm_knowns_roll : (x : Stm-F Stm) → stm_knowns (roll-Stm x) ≡ knowns_layer (map-Stm Stm (List Known) stm_knowns x)
-unfolding stm_knowns
-stm_knowns_roll x = fold-roll-Stm (List Known) knowns_layer x
 
 constants_append : (xs ys : List Tree) → constants_of_all (xs ++ ys) ≡ constants_of_all xs ++ constants_of_all ys
 constants_append xs ys = ap joined (map_append tree_constants xs ys) ∙ joined_append (map tree_constants xs) (map tree_constants ys)
@@ -89,7 +77,7 @@ module _ (F : ℕ → Type 0) (K : Known → Type 0) (C : ℕ → Type 0) where
   TreeParts (tree.Narrow k a) = TreeNames a
 
   tree_of : (x : Tree-F Tree) → Each F (functions_layer (map-Tree Tree (List ℕ) tree_functions x)) → Each C (constants_layer (map-Tree Tree (List ℕ) tree_constants x)) → TreeNames (roll-Tree x)
-  tree_of x h k = record { functions = subst (Each F) (sym (tree_functions_roll x)) h; constants = subst (Each C) (sym (tree_constants_roll x)) k }
+  tree_of x h k = record { functions = subst (Each F) (sym (functions_roll x)) h; constants = subst (Each C) (sym (constants_roll x)) k }
 
   pub tree_in : (x : Tree-F Tree) → TreeParts x → TreeNames (roll-Tree x)
   tree_in (tree.Number n) h = tree_of (tree.Number n) tt (h, tt)
@@ -102,7 +90,7 @@ module _ (F : ℕ → Type 0) (K : Known → Type 0) (C : ℕ → Type 0) where
   tree_in (tree.Narrow k a) h = tree_of (tree.Narrow k a) h.functions h.constants
 
   pub tree_out : (x : Tree-F Tree) → TreeNames (roll-Tree x) → TreeParts x
-  tree_out x n = by x (subst (Each F) (tree_functions_roll x) n.functions) (subst (Each C) (tree_constants_roll x) n.constants)
+  tree_out x n = by x (subst (Each F) (functions_roll x) n.functions) (subst (Each C) (constants_roll x) n.constants)
     where
       by : (x : Tree-F Tree) → Each F (functions_layer (map-Tree Tree (List ℕ) tree_functions x)) → Each C (constants_layer (map-Tree Tree (List ℕ) tree_constants x)) → TreeParts x
       by (tree.Number n) h k = k.0
@@ -187,8 +175,8 @@ module _ (F : ℕ → Type 0) (K : Known → Type 0) (C : ℕ → Type 0) where
   stm_of : (x : Stm-F Stm) → Each F (named_layer (map-Stm Stm (List ℕ) stm_functions x)) → Each K (knowns_layer (map-Stm Stm (List Known) stm_knowns x)) →
       Each C (constants_of_all (layer_trees (map-Stm Stm (List Tree) stm_trees x))) → StmNames (roll-Stm x)
   stm_of x h k l = record {
-    functions = subst (Each F) (sym (stm_functions_roll x)) h;
-    knowns = subst (Each K) (sym (stm_knowns_roll x)) k;
+    functions = subst (Each F) (sym (named_roll x)) h;
+    knowns = subst (Each K) (sym (knowns_roll x)) k;
     constants = subst (λ ts. Each C (constants_of_all ts)) (sym (trees_roll x)) l;
   }
 
@@ -219,7 +207,7 @@ module _ (F : ℕ → Type 0) (K : Known → Type 0) (C : ℕ → Type 0) where
   stm_in (stm.Return v) h = stm_of (stm.Return v) h.functions tt (all_constants (v ∷ []) (h, tt))
 
   pub stm_out : (x : Stm-F Stm) → StmNames (roll-Stm x) → StmParts x
-  stm_out x n = by x (subst (Each F) (stm_functions_roll x) n.functions) (subst (Each K) (stm_knowns_roll x) n.knowns) (subst (λ ts. Each C (constants_of_all ts)) (trees_roll x) n.constants)
+  stm_out x n = by x (subst (Each F) (named_roll x) n.functions) (subst (Each K) (knowns_roll x) n.knowns) (subst (λ ts. Each C (constants_of_all ts)) (trees_roll x) n.constants)
     where
       one : (v : Tree) → Each F (tree_functions v) → Each C (constants_of_all (v ∷ [])) → TreeNames v
       one v f c = record { functions = f; constants = each_left C (tree_constants v) [] c }

@@ -21,9 +21,10 @@ use Rattle.mv_fold.specs.Simple.{constant}
 use Rattle.mv_fold.specs.Form.{layer_foldable, foldable, all_foldable, is_division, is_constant, layer_decided, decided, behind, layer_unreached, unreached, layer_unread, unread}
 use Rattle.mv_fold.proofs.SimpleKept.{constant_roll}
 use Rattle.mv_fold.proofs.FormKept.{decided_roll, unreached_roll}
-use Rattle.mv_regalloc.specs.Rename.{renamed_node, renamed_tree, renamed_layer, renamed_stm, renamed_code}
+use Rattle.mv_regalloc.specs.Rename.{renamed_node, renamed_tree, renamed_stm, renamed_code}
 use Rattle.mv_regalloc.proofs.RenamedTrees.{renamed_tree_roll, renamed_stm_roll}
 use Rattle.mv_parts_bound.specs.Meant.{RenamingKeepsForm}
+use Rattle.mv_parts_bound.proofs.Weights.{renamed_parts}
 
 foldable_roll : (x : Tree-F Tree) → foldable (roll-Tree x) ≡ layer_foldable (map-Tree Tree (Bool × ℕ) foldable x)
 unfolding foldable
@@ -41,9 +42,6 @@ or_both false b false b' f g h = g h
 module _ (c : ℕ → ℕ) where
   abbrev new_tree : Tree-F Tree → Tree
   new_tree x = renamed_node c (map-Tree Tree Tree (renamed_tree c) x)
-
-  abbrev new_layer : Stm-F Stm → Stm-F Stm
-  new_layer x = renamed_layer c (map-Stm Stm Stm (renamed_stm c) x)
 
   -- ---- trees
 
@@ -118,7 +116,7 @@ module _ (c : ℕ → ℕ) where
   all_trees (s ∷ code) h =
       ap (λ l. l ++ trees (renamed_code c code)) h.0 ∙ ap (λ l. map (renamed_tree c) (stm_trees s) ++ l) (all_trees code h.1) ∙ sym (map_append (renamed_tree c) (stm_trees s) (trees code))
 
-  trees_layer : (x : Stm-F Stm) → StmChildren HasTrees x → layer_trees (map-Stm Stm (List Tree) stm_trees (new_layer x)) ≡ map (renamed_tree c) (layer_trees (map-Stm Stm (List Tree) stm_trees x))
+  trees_layer : (x : Stm-F Stm) → StmChildren HasTrees x → layer_trees (map-Stm Stm (List Tree) stm_trees (renamed_parts c x)) ≡ map (renamed_tree c) (layer_trees (map-Stm Stm (List Tree) stm_trees x))
   trees_layer (stm.If t a b) h =
       ap (λ l. renamed_tree c t ∷ (l ++ trees (renamed_code c b))) (all_trees a h.0) ∙ ap (λ l. renamed_tree c t ∷ (map (renamed_tree c) (trees a) ++ l)) (all_trees b h.1) ∙
       ap (λ l. renamed_tree c t ∷ l) (sym (map_append (renamed_tree c) (trees a) (trees b)))
@@ -130,7 +128,7 @@ module _ (c : ℕ → ℕ) where
 
   trees_renamed : (code : List Stm) → trees (renamed_code c code) ≡ map (renamed_tree c) (trees code)
   trees_renamed code =
-      all_trees code (stms_ind HasTrees (stm_ind HasTrees (λ x h. ap stm_trees (renamed_stm_roll c x) ∙ trees_roll (new_layer x) ∙ trees_layer x h ∙ ap (map (renamed_tree c)) (sym (trees_roll x)))) code)
+      all_trees code (stms_ind HasTrees (stm_ind HasTrees (λ x h. ap stm_trees (renamed_stm_roll c x) ∙ trees_roll (renamed_parts c x) ∙ trees_layer x h ∙ ap (map (renamed_tree c)) (sym (trees_roll x)))) code)
 
   -- ---- statements
 
@@ -156,7 +154,7 @@ module _ (c : ℕ → ℕ) where
           sets = omega (arith, h.0.sets, rest.sets);
         }
 
-    choices_layer : (x : Stm-F Stm) → StmChildren SameForm x → layer_decided (map-Stm Stm ℕ decided (new_layer x)) ≡ layer_decided (map-Stm Stm ℕ decided x)
+    choices_layer : (x : Stm-F Stm) → StmChildren SameForm x → layer_decided (map-Stm Stm ℕ decided (renamed_parts c x)) ≡ layer_decided (map-Stm Stm ℕ decided x)
     choices_layer (stm.Divide t o a b) h =
         ap (λ m. cond (is_division m (constant (renamed_tree c b))) 1 0) (same_constant a) ∙ ap (λ m. cond (is_division (constant a) m) 1 0) (same_constant b)
     choices_layer (stm.If t a b) h =
@@ -167,7 +165,7 @@ module _ (c : ℕ → ℕ) where
     choices_layer (stm.Block b) h = (inner b h).choices
     choices_layer _ h = refl
 
-    reached_layer : (x : Stm-F Stm) → StmChildren SameForm x → layer_unreached (map-Stm Stm (Bool × ℕ) unreached (new_layer x)) ≡ layer_unreached (map-Stm Stm (Bool × ℕ) unreached x)
+    reached_layer : (x : Stm-F Stm) → StmChildren SameForm x → layer_unreached (map-Stm Stm (Bool × ℕ) unreached (renamed_parts c x)) ≡ layer_unreached (map-Stm Stm (Bool × ℕ) unreached x)
     reached_layer (stm.If t a b) h =
         ap (λ (l : List (Bool × ℕ)). layer_unreached (stm.If t l (map unreached (renamed_code c b)))) (inner a h.0).reached ∙
         ap (λ (l : List (Bool × ℕ)). layer_unreached (stm.If t (map unreached a) l)) (inner b h.1).reached
@@ -180,7 +178,7 @@ module _ (c : ℕ → ℕ) where
     still_read false true f = omega arith
     still_read false false f = omega arith
 
-    sets_layer : (x : Stm-F Stm) → StmChildren SameForm x → layer_unread all' (map-Stm Stm ℕ (unread all') (new_layer x)) ≤ layer_unread all (map-Stm Stm ℕ (unread all) x)
+    sets_layer : (x : Stm-F Stm) → StmChildren SameForm x → layer_unread all' (map-Stm Stm ℕ (unread all') (renamed_parts c x)) ≤ layer_unread all (map-Stm Stm ℕ (unread all) x)
     sets_layer (stm.Set t v) h = still_read (any_reads t all) (any_reads (c t) all') (reads t)
     sets_layer (stm.If t a b) h = omega (arith, (inner a h.0).sets, (inner b h.1).sets)
     sets_layer (stm.Loop b) h = (inner b h).sets
@@ -189,9 +187,9 @@ module _ (c : ℕ → ℕ) where
 
     layer : (x : Stm-F Stm) → StmChildren SameForm x → SameForm (roll-Stm x)
     layer x h = record {
-      choices = ap decided (renamed_stm_roll c x) ∙ decided_roll (new_layer x) ∙ choices_layer x h ∙ sym (decided_roll x);
-      reached = ap unreached (renamed_stm_roll c x) ∙ unreached_roll (new_layer x) ∙ reached_layer x h ∙ sym (unreached_roll x);
-      sets = omega (arith, ap (unread all') (renamed_stm_roll c x), unread_roll all' (new_layer x), sets_layer x h, unread_roll all x);
+      choices = ap decided (renamed_stm_roll c x) ∙ decided_roll (renamed_parts c x) ∙ choices_layer x h ∙ sym (decided_roll x);
+      reached = ap unreached (renamed_stm_roll c x) ∙ unreached_roll (renamed_parts c x) ∙ reached_layer x h ∙ sym (unreached_roll x);
+      sets = omega (arith, ap (unread all') (renamed_stm_roll c x), unread_roll all' (renamed_parts c x), sets_layer x h, unread_roll all x);
     }
 
     same_forms : (code : List Stm) → SameForms code

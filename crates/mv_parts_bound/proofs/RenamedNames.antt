@@ -17,16 +17,10 @@ use Rattle.mv_regalloc.proofs.RenamedTrees.{renamed_tree_roll, renamed_stm_roll}
 use Rattle.mv_parts_bound.proofs.Naming.{TreeNames, StmNames, CodeNames, TreeParts, tree_in, tree_out, CalleeNames, StmParts, stm_in, stm_out}
 
 module _ (F : ℕ → Type 0) (K : Known → Type 0) (C : ℕ → Type 0) (c : ℕ → ℕ) where
-  abbrev Tn : Tree → Type 0
-  Tn = TreeNames F K C
-
-  abbrev Sn : Stm → Type 0
-  Sn = StmNames F K C
-
   abbrev TreeKept : Tree → Type 0
-  TreeKept t = Tn t → Tn (renamed_tree c t)
+  TreeKept t = TreeNames F K C t → TreeNames F K C (renamed_tree c t)
 
-  node : (x : Tree-F Tree) → TreeChildren TreeKept x → TreeParts F K C x → Tn (renamed_node c (map-Tree Tree Tree (renamed_tree c) x))
+  node : (x : Tree-F Tree) → TreeChildren TreeKept x → TreeParts F K C x → TreeNames F K C (renamed_node c (map-Tree Tree Tree (renamed_tree c) x))
   node (tree.Number n) h p = tree_in F K C (tree.Number n) p
   node (tree.Temp t) h p = tree_in F K C (tree.Temp (c t)) tt
   node (tree.Global g) h p = tree_in F K C (tree.Global g) tt
@@ -36,14 +30,14 @@ module _ (F : ℕ → Type 0) (K : Known → Type 0) (C : ℕ → Type 0) (c : �
   node (tree.Narrow k a) h p = tree_in F K C (tree.Narrow k (renamed_tree c a)) (h p)
 
   tree_kept : (t : Tree) → TreeKept t
-  tree_kept = tree_ind TreeKept (λ x h n. subst Tn (sym (renamed_tree_roll c x)) (node x h (tree_out F K C x n)))
+  tree_kept = tree_ind TreeKept (λ x h n. subst (TreeNames F K C) (sym (renamed_tree_roll c x)) (node x h (tree_out F K C x n)))
 
-  trees_kept : (ts : List Tree) → Each Tn ts → Each Tn (map (renamed_tree c) ts)
+  trees_kept : (ts : List Tree) → Each (TreeNames F K C) ts → Each (TreeNames F K C) (map (renamed_tree c) ts)
   trees_kept [] h = tt
   trees_kept (t ∷ ts) h = (tree_kept t h.0, trees_kept ts h.1)
 
   abbrev StmKept : Stm → Type 0
-  StmKept s = Sn s → Sn (renamed_stm c s)
+  StmKept s = StmNames F K C s → StmNames F K C (renamed_stm c s)
 
   inner : (code : List Stm) → Each StmKept code → CodeNames F K C code → CodeNames F K C (renamed_code c code)
   inner [] h n = tt
@@ -71,7 +65,7 @@ module _ (F : ℕ → Type 0) (K : Known → Type 0) (C : ℕ → Type 0) (c : �
   layer (stm.Return v) h p = tree_kept v p
 
   stm_kept : (s : Stm) → StmKept s
-  stm_kept = stm_ind StmKept (λ x h n. subst Sn (sym (renamed_stm_roll c x)) (stm_in F K C (renamed_layer c (map-Stm Stm Stm (renamed_stm c) x)) (layer x h (stm_out F K C x n))))
+  stm_kept = stm_ind StmKept (λ x h n. subst (StmNames F K C) (sym (renamed_stm_roll c x)) (stm_in F K C (renamed_layer c (map-Stm Stm Stm (renamed_stm c) x)) (layer x h (stm_out F K C x n))))
 
   pub renamed_names : (code : List Stm) → CodeNames F K C code → CodeNames F K C (renamed_code c code)
   renamed_names code n = inner code (stms_ind StmKept stm_kept code) n

@@ -57,7 +57,7 @@ made_calls direct through ps body result m =
 
 -- ---- frames
 
-frame_less : (n m size : ℕ) → n ≤ m → 16 * ((arrays_start n + size + 3) / 4) ≤ 16 * ((arrays_start m + size + 3) / 4)
+pub frame_less : (n m size : ℕ) → n ≤ m → 16 * ((arrays_start n + size + 3) / 4) ≤ 16 * ((arrays_start m + size + 3) / 4)
 frame_less n m size le = omega arith
 
 pub made_frames : MadeFramesAreNoLarger

@@ -28,6 +28,13 @@ total_append : (ns ms : List ℕ) → total (ns ++ ms) ≡ total ns + total ms
 total_append [] ms = omega arith
 total_append (n ∷ ns) ms = omega (arith, total_append ns ms)
 
+-- a statement whose parts are bound, and one whose parts are renamed
+abbrev pub bound_parts : List (ℕ × ℕ) → Stm-F Stm → Stm-F Stm
+bound_parts ps x = bound_layer ps (map-Stm Stm Stm (bound_stm ps) x)
+
+abbrev pub renamed_parts : (ℕ → ℕ) → Stm-F Stm → Stm-F Stm
+renamed_parts c x = renamed_layer c (map-Stm Stm Stm (renamed_stm c) x)
+
 module _ (direct : ℕ → ℕ) (through : ℕ) where
   abbrev w : Stm → ℕ
   w = stm_weight direct through
@@ -60,10 +67,7 @@ module _ (direct : ℕ → ℕ) (through : ℕ) where
   to_one f x y e h = omega (arith, ap w e, w_roll y, w_roll x, h)
 
   module _ (ps : List (ℕ × ℕ)) where
-    abbrev bound : Stm-F Stm → Stm-F Stm
-    bound x = bound_layer ps (map-Stm Stm Stm (bound_stm ps) x)
-
-    layer_bound : (x : Stm-F Stm) → StmChildren (One (bound_stm ps)) x → layer_weight direct through (map-Stm Stm ℕ w (bound x)) ≤ layer_weight direct through (map-Stm Stm ℕ w x)
+    layer_bound : (x : Stm-F Stm) → StmChildren (One (bound_stm ps)) x → layer_weight direct through (map-Stm Stm ℕ w (bound_parts ps x)) ≤ layer_weight direct through (map-Stm Stm ℕ w x)
     layer_bound (stm.Set t v) h = omega arith
     layer_bound (stm.SetGlobal g v) h = omega arith
     layer_bound (stm.Divide t o a b) h = omega arith
@@ -81,17 +85,14 @@ module _ (direct : ℕ → ℕ) (through : ℕ) where
     layer_bound (stm.Return v) h = omega arith
 
     pub bound_weight : (code : List Stm) → ww (bound_code ps code) ≤ ww code
-    bound_weight code = ones (bound_stm ps) code (stms_ind (One (bound_stm ps)) (stm_ind (One (bound_stm ps)) (λ x h. to_one (bound_stm ps) x (bound x) (bound_stm_roll ps x) (layer_bound x h))) code)
+    bound_weight code = ones (bound_stm ps) code (stms_ind (One (bound_stm ps)) (stm_ind (One (bound_stm ps)) (λ x h. to_one (bound_stm ps) x (bound_parts ps x) (bound_stm_roll ps x) (layer_bound x h))) code)
 
   renamed_callee_same : (c : ℕ → ℕ) (f : Callee) → callee_weight direct through (renamed_callee c f) ≡ callee_weight direct through f
   renamed_callee_same c (callee.Direct f) = refl
   renamed_callee_same c (callee.Through t) = refl
 
   module _ (c : ℕ → ℕ) where
-    abbrev renamed : Stm-F Stm → Stm-F Stm
-    renamed x = renamed_layer c (map-Stm Stm Stm (renamed_stm c) x)
-
-    layer_renamed : (x : Stm-F Stm) → StmChildren (One (renamed_stm c)) x → layer_weight direct through (map-Stm Stm ℕ w (renamed x)) ≤ layer_weight direct through (map-Stm Stm ℕ w x)
+    layer_renamed : (x : Stm-F Stm) → StmChildren (One (renamed_stm c)) x → layer_weight direct through (map-Stm Stm ℕ w (renamed_parts c x)) ≤ layer_weight direct through (map-Stm Stm ℕ w x)
     layer_renamed (stm.Set t v) h = omega arith
     layer_renamed (stm.SetGlobal g v) h = omega arith
     layer_renamed (stm.Divide t o a b) h = omega arith
@@ -109,7 +110,7 @@ module _ (direct : ℕ → ℕ) (through : ℕ) where
     layer_renamed (stm.Return v) h = omega arith
 
     pub renamed_weight : (code : List Stm) → ww (renamed_code c code) ≤ ww code
-    renamed_weight code = ones (renamed_stm c) code (stms_ind (One (renamed_stm c)) (stm_ind (One (renamed_stm c)) (λ x h. to_one (renamed_stm c) x (renamed x) (renamed_stm_roll c x) (layer_renamed x h))) code)
+    renamed_weight code = ones (renamed_stm c) code (stms_ind (One (renamed_stm c)) (stm_ind (One (renamed_stm c)) (λ x h. to_one (renamed_stm c) x (renamed_parts c x) (renamed_stm_roll c x) (layer_renamed x h))) code)
 
   -- ---- statements for one
 

@@ -12,13 +12,15 @@ use Rattle.mv_ir.specs.declared.stm.Stm.{Stm}
 use Rattle.mv_ir.specs.declared.stm.Stm.TheOpen.{Stm-F}
 use Rattle.mv_ir.specs.declared.stm.Stm.TheOpen as stm
 use Rattle.mv_ir.specs.declared.stm.Stm.TheViews.{roll-Stm}
-use Rattle.mv_ir.specs.declared.stm.Stm.TheFolds.{fold-roll-Stm, map-Stm}
+use Rattle.mv_ir.specs.declared.stm.Stm.TheFolds.{map-Stm}
 use Rattle.mv_ir.specs.Measures.{callee_trees, layer_trees, stm_trees, trees, layer_reads, tree_reads}
 use Rattle.mv_ir.specs.Live.{reads_temp, layer_reads_temp}
 use Rattle.mv_ir.proofs.Induction.{Each, each_append, TreeChildren, tree_ind, StmChildren, stm_ind, stms_ind}
 use Rattle.mv_ir.proofs.Rolls.{reads_roll, reads_temp_roll, trees_roll}
 use Rattle.mv_select_trees.specs.View.{View, is_in_view}
 use Rattle.mv_select_control.specs.Labels.{functions_layer, tree_functions, callee_functions, functions_of_all, named_layer, stm_functions, functions}
+use Rattle.mv_select_control.proofs.TreeNames.{functions_roll}
+use Rattle.mv_select_control.proofs.TargetsStand.{named_roll}
 use Rattle.mv_select_bodies.specs.SelectedBodies.{constants_layer, tree_constants}
 use Rattle.mv_select_bodies.proofs.Lists.{each_front, each_back, each_joined, and_both}
 use Rattle.mv_select_bodies.proofs.FineCode.{ReadsBelow, or_first, or_last}
@@ -26,14 +28,6 @@ use Rattle.mv_select_bodies.proofs.FineCode.{ReadsBelow, or_first, or_last}
 pub constants_roll : (x : Tree-F Tree) → tree_constants (roll-Tree x) ≡ constants_layer (map-Tree Tree (List ℕ) tree_constants x)
 unfolding tree_constants
 constants_roll x = fold-roll-Tree (List ℕ) constants_layer x
-
-functions_roll : (x : Tree-F Tree) → tree_functions (roll-Tree x) ≡ functions_layer (map-Tree Tree (List ℕ) tree_functions x)
-unfolding tree_functions
-functions_roll x = fold-roll-Tree (List ℕ) functions_layer x
-
-named_roll : (x : Stm-F Stm) → stm_functions (roll-Stm x) ≡ named_layer (map-Stm Stm (List ℕ) stm_functions x)
-unfolding stm_functions
-named_roll x = fold-roll-Stm (List ℕ) named_layer x
 
 -- ---- trees
 

@@ -12,8 +12,7 @@ use Rattle.mv_ir.specs.declared.stm.Callee.{Callee}
 use Rattle.mv_ir.specs.declared.stm.Callee.TheVariants as callee
 use Rattle.mv_ir.specs.declared.stm.Stm.TheOpen as stm
 use Rattle.mv_ir.specs.World as ir
-use Rattle.mv_ir.specs.World.{World}
-use Rattle.mv_ir.specs.Outcome.{State, Outcome, Run, Bound}
+use Rattle.mv_ir.specs.Outcome.{State, Run, Bound}
 use Rattle.mv_ir.specs.Measures.{callee_trees}
 use Rattle.mv_ir.specs.Trees.{nodes, nodes_of_all}
 use Rattle.mv_ir.specs.Meaning as meaning
@@ -32,7 +31,6 @@ use Rattle.mv_select_control.specs.Placed.{Placed}
 use Rattle.mv_select_control.specs.Runs.{Machine, IsRun}
 use Rattle.mv_select_control.specs.Laws.{uses_of, LinesDo}
 use Rattle.mv_select_control.specs.Flow.{IsWithin, Follows}
-use Rattle.mv_select_control.proofs.Walk as walk
 use Rattle.mv_select_control.proofs.Walk.{placed_split, to_stands}
 use Rattle.mv_select_calls.specs.CallCode.{scratch_register, argument_lines, guarded_lines, jump_lines, transfer_lines, call_lines}
 use Rattle.mv_select_calls.specs.Convention.{Layout, Conventions}
@@ -40,6 +38,7 @@ use Rattle.mv_select_calls.specs.Laws.{IsCaller, IsLinked}
 use Rattle.mv_select_calls.proofs.Arguments.{at_scratch, arguments_short, values, arguments_first}
 use Rattle.mv_select_calls.proofs.Transfers.{Transfers, slot_transfers, jump_transfers}
 use Rattle.mv_select_calls.proofs.Guarded.{straight_walk, zero_traps, other_passes, guarded_does}
+use Rattle.mv_select_calls.proofs.CallCourse.{call_course}
 
 -- where a number is found, a function has it
 abbrev Found : List ℕ → (v at f : ℕ) → Type 0
@@ -57,14 +56,7 @@ place_found (n ∷ numbers) v at f e = by_first n numbers v at f (eqb n v) refl 
 module _ {M : Type 0} (access : Access M) (y : Layout) (s : Site) (setting : ir.Setting) (frame : ir.Frame) (fit : IsFit s access setting frame) (caller : IsCaller y s setting frame)
     (machine : Machine M) (ok : IsRun access s machine) (budget far : ℕ) (place : ℕ → ℕ) (end : ℕ) (linked : IsLinked y place)
     (is_fine : Tree → Bool) (fine_trees : (t : Tree) → is_fine t ≡ true → IsFine s setting frame t) (is_attributed : ℕ → Bool) where
-  abbrev P : List Line → ℕ → ℕ → Type 0
-  P = Placed machine.text place s.entry
-
-  abbrev F : (spare k : ℕ) → List Enclosing → ℕ → Outcome → Type 0
-  F = Follows access s machine place end budget far
-
-  abbrev W : World → ℕ → List ℕ → M → ℕ → Type 0
-  W = walk.Stands access s machine ok place end budget far
+  open call_course access s machine ok place end budget far use {of.{Placed as P, Follows as F}, Stands as W}
 
   abbrev Goes : List Line → ℕ → List ℕ → State → List ℕ → M → Type 0
   Goes = Transfers access y s setting frame fit caller machine ok budget far place end linked is_fine

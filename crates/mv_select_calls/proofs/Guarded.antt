@@ -12,7 +12,7 @@ use Rattle.mv_isa.specs.LineSteps.{BranchRuns}
 use Rattle.mv_ir.specs.declared.tree.Tree.{Tree}
 use Rattle.mv_ir.specs.World as ir
 use Rattle.mv_ir.specs.World.{World}
-use Rattle.mv_ir.specs.Outcome.{State, Outcome, Bound, now}
+use Rattle.mv_ir.specs.Outcome.{State, Bound, now}
 use Rattle.mv_ir.specs.Meaning.{made_call, within, call_to, At, traps}
 use Rattle.mv_select_trees.specs.TreeCode.{minus_one}
 use Rattle.mv_select_trees.specs.Straight.{Straight}
@@ -30,32 +30,22 @@ use Rattle.mv_select_control.specs.Runs.{Spot, Machine, outside, IsRun}
 use Rattle.mv_select_control.specs.Laws.{uses_of}
 use Rattle.mv_select_control.specs.Flow.{AtTrap, Follows}
 use Rattle.mv_select_control.proofs.Composition.{fewer}
-use Rattle.mv_select_control.proofs.Walk as walk
 use Rattle.mv_select_control.proofs.Walk.{Reaches, placed_split, reaches_more, line_does, branch_passes, taken, leads_walk}
 use Rattle.mv_select_calls.specs.CallCode.{left_register, back_lines, guarded_lines}
 use Rattle.mv_select_calls.specs.Convention.{Layout, Conventions}
 use Rattle.mv_select_calls.specs.Laws.{IsCaller, IsLinked}
 use Rattle.mv_select_calls.proofs.Transfers.{Transfers, sets_on, call_follows}
+use Rattle.mv_select_calls.proofs.CallCourse.{call_course}
 
 -- one less of a number that isn't 0
-one_less : (n : ℕ) → n + 1 < 2 ^ 32 → add (n + 1) (2 ^ 32 - 1) ≡ n
+pub one_less : (n : ℕ) → n + 1 < 2 ^ 32 → add (n + 1) (2 ^ 32 - 1) ≡ n
 unfolding add
 one_less n h = omega arith
 
 module _ {M : Type 0} (access : Access M) (y : Layout) (s : Site) (setting : ir.Setting) (frame : ir.Frame) (fit : IsFit s access setting frame) (caller : IsCaller y s setting frame)
     (machine : Machine M) (ok : IsRun access s machine) (budget far : ℕ) (place : ℕ → ℕ) (end : ℕ) (linked : IsLinked y place)
     (is_fine : Tree → Bool) where
-  abbrev P : List Line → ℕ → ℕ → Type 0
-  P = Placed machine.text place s.entry
-
-  abbrev F : (spare k : ℕ) → List Enclosing → ℕ → Outcome → Type 0
-  F = Follows access s machine place end budget far
-
-  abbrev W : World → ℕ → List ℕ → M → ℕ → Type 0
-  W = walk.Stands access s machine ok place end budget far
-
-  abbrev R : World → ℕ → List ℕ → M → ℕ → ℕ → Type 0
-  R = Reaches access s machine ok place end budget far
+  open call_course access s machine ok place end budget far use {of.{Placed as P, Follows as F}, Stands as W, Reaches as R}
 
   abbrev Goes : List Line → ℕ → List ℕ → State → List ℕ → M → Type 0
   Goes = Transfers access y s setting frame fit caller machine ok budget far place end linked is_fine

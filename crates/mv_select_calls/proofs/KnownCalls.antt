@@ -6,14 +6,13 @@ use Rattle.std.proofs.lemmas.Bool.{ltb-true, eqb-true}
 use Rattle.mv_ast.specs.declared.program.Known.{Known}
 use Rattle.mv_ast.specs.declared.program.Known.TheVariants.{Getchar, Putchar, Poll, Plan}
 use Rattle.mv_isa.specs.declared.instr.Instr.TheVariants.{Addi, Ecall}
-use Rattle.mv_isa.specs.declared.labelled.Line.{Line}
 use Rattle.mv_isa.specs.declared.labelled.Line.TheVariants.{Word, Jump}
 use Rattle.mv_isa.specs.Code.{greatest_words}
 use Rattle.mv_isa.specs.Execution.{Access, reg, put}
 use Rattle.mv_ir.specs.declared.tree.Tree.{Tree}
 use Rattle.mv_ir.specs.declared.stm.Stm.TheOpen as stm
 use Rattle.mv_ir.specs.World as ir
-use Rattle.mv_ir.specs.World.{World, Answer}
+use Rattle.mv_ir.specs.World.{Answer}
 use Rattle.mv_ir.specs.Outcome.{State, Bound}
 use Rattle.mv_ir.specs.Trees.{nodes_of_all}
 use Rattle.mv_ir.specs.WellFormed.{known_arguments}
@@ -37,7 +36,6 @@ use Rattle.mv_select_control.specs.Placed.{Placed}
 use Rattle.mv_select_control.specs.Runs.{Spot, Machine, outside, IsRun}
 use Rattle.mv_select_control.specs.Laws.{uses_of, LinesDo}
 use Rattle.mv_select_control.specs.Flow.{Here}
-use Rattle.mv_select_control.proofs.Walk as walk
 use Rattle.mv_select_control.proofs.Walk.{placed_split, stands_at, line_does, steps_on, to_stands}
 use Rattle.mv_select_calls.specs.CallCode.{link_register, live_register, request_register, request_of, commit_label, result_lines, argument_lines, order_lines, ask_lines, known_lines}
 use Rattle.mv_select_calls.specs.Convention as convention
@@ -49,18 +47,12 @@ use Rattle.mv_select_calls.proofs.CallerShown.{globals_held, shows_after}
 use Rattle.mv_select_calls.proofs.Transfers.{sets_on, result_stands}
 use Rattle.mv_select_calls.proofs.Guarded.{straight_walk}
 use Rattle.mv_select_calls.proofs.Small.{few_arguments}
+use Rattle.mv_select_calls.proofs.CallCourse.{call_course}
 
 module _ {M : Type 0} (access : Access M) (y : Layout) (s : Site) (setting : ir.Setting) (frame : ir.Frame) (fit : IsFit s access setting frame) (caller : IsCaller y s setting frame)
     (machine : Machine M) (ok : IsRun access s machine) (budget far : ℕ) (place : ℕ → ℕ) (end : ℕ) (linked : IsLinked y place)
     (is_fine : Tree → Bool) (fine_trees : (t : Tree) → is_fine t ≡ true → IsFine s setting frame t) (serves : ServesKnown access y machine budget far setting) where
-  abbrev P : List Line → ℕ → ℕ → Type 0
-  P = Placed machine.text place s.entry
-
-  abbrev H : (over spare k pc : ℕ) → State → ℕ → Type 0
-  H = Here access s machine place end budget far
-
-  abbrev W : World → ℕ → List ℕ → M → ℕ → Type 0
-  W = walk.Stands access s machine ok place end budget far
+  open call_course access s machine ok place end budget far use {of.{Placed as P, Here as H}, Stands as W}
 
   abbrev Gives : Known → List ℕ → State → Answer
   Gives k args l = setting.known k args frame.live l.world

@@ -1,4 +1,5 @@
 pub mod Arguments
+pub mod CallCourse
 pub mod CallerShown
 pub mod Transfers
 pub mod Guarded

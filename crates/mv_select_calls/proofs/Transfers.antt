@@ -12,9 +12,9 @@ use Rattle.mv_isa.specs.Execution.{Access, Goes, Faults, reg, put, execute, jump
 use Rattle.mv_ir.specs.declared.tree.Tree.{Tree}
 use Rattle.mv_ir.specs.World as ir
 use Rattle.mv_ir.specs.World.{World}
-use Rattle.mv_ir.specs.Outcome.{State, End, Returned, Trapped, More, Stuck, Outcome, Calls}
+use Rattle.mv_ir.specs.Outcome.{State, End, Returned, Trapped, More, Stuck, Calls}
 use Rattle.mv_ir.specs.Meaning as meaning
-use Rattle.mv_ir.specs.Meaning.{with_world, with_temp, call_end, made_call, within, call_to, At, traps}
+use Rattle.mv_ir.specs.Meaning.{with_world, with_temp, call_end, within}
 use Rattle.mv_select_trees.specs.TreeCode.{one}
 use Rattle.mv_select_trees.specs.View.{AreRegisters}
 use Rattle.mv_select_trees.proofs.Instructions.{addi_sets}
@@ -31,31 +31,18 @@ use Rattle.mv_select_control.specs.Placed.{IsPlaced, Placed}
 use Rattle.mv_select_control.specs.Runs.{Spot, Machine, outside, IsRun}
 use Rattle.mv_select_control.specs.Laws.{uses_of}
 use Rattle.mv_select_control.specs.Flow.{Here, AtTrap, IsCut, Follows}
-use Rattle.mv_select_control.proofs.Walk as walk
-use Rattle.mv_select_control.proofs.Walk.{Reaches, placed_split, stands_at, line_does, steps_on, branch_passes, taken, leads_walk, to_stands, to_here}
+use Rattle.mv_select_control.proofs.Walk.{Reaches, stands_at, line_does, steps_on, leads_walk, to_here}
 use Rattle.mv_select_calls.specs.CallCode.{link_register, left_register, live_register, scratch_register, result_lines, back_lines, jump_lines}
 use Rattle.mv_select_calls.specs.Convention as convention
-use Rattle.mv_select_calls.specs.Convention.{Layout, frame_limit, IsSaved, IsAbove, HoldsGlobals, Enters, Returns, FollowsCall, Answers, IsTarget, Convention, Conventions}
+use Rattle.mv_select_calls.specs.Convention.{Layout, frame_limit, IsSaved, IsAbove, HoldsGlobals, Enters, Returns, FollowsCall, IsTarget, Convention}
 use Rattle.mv_select_calls.specs.Laws.{IsCaller, IsLinked}
 use Rattle.mv_select_calls.proofs.CallerShown.{globals_held, shows_after}
+use Rattle.mv_select_calls.proofs.CallCourse.{call_course}
 
 module _ {M : Type 0} (access : Access M) (y : Layout) (s : Site) (setting : ir.Setting) (frame : ir.Frame) (fit : IsFit s access setting frame) (caller : IsCaller y s setting frame)
     (machine : Machine M) (ok : IsRun access s machine) (budget far : ℕ) (place : ℕ → ℕ) (end : ℕ) (linked : IsLinked y place)
     (is_fine : Tree → Bool) where
-  abbrev P : List Line → ℕ → ℕ → Type 0
-  P = Placed machine.text place s.entry
-
-  abbrev H : (over spare k pc : ℕ) → State → ℕ → Type 0
-  H = Here access s machine place end budget far
-
-  abbrev F : (spare k : ℕ) → List Enclosing → ℕ → Outcome → Type 0
-  F = Follows access s machine place end budget far
-
-  abbrev W : World → ℕ → List ℕ → M → ℕ → Type 0
-  W = walk.Stands access s machine ok place end budget far
-
-  abbrev R : World → ℕ → List ℕ → M → ℕ → ℕ → Type 0
-  R = Reaches access s machine ok place end budget far
+  open call_course access s machine ok place end budget far use {of.{Placed as P, Here as H, Follows as F}, Stands as W, Reaches as R}
 
   -- one instruction that changes registers
   pub sets_on : (i : Instr) (w : World) (pc next : ℕ) (regs regs' : List ℕ) (m : M) (t : ℕ) → ((pc : ℕ) → execute (limited access s) i regs pc m ≡ Goes regs' (add pc 4) m)

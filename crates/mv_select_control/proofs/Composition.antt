@@ -6,6 +6,7 @@ use Rattle.mv_select_statements.specs.Frames.{Site}
 use Rattle.mv_select_control.specs.declared.enclosing.Enclosing.{Enclosing}
 use Rattle.mv_select_control.specs.Runs.{Machine}
 use Rattle.mv_select_control.specs.Flow.{IsWithin, Here, IsCut, FollowsEnd, Follows, Does}
+use Rattle.mv_select_control.proofs.Course.{course}
 
 -- a bound within one that is within another
 pub within_within : (a b c : Bound) → IsWithin a b → IsWithin b c → IsWithin a c
@@ -14,17 +15,7 @@ within_within a b (calls ∷ below) h k =
     ⊎_elim (λ (e : b ≡ calls ∷ below). subst (IsWithin a) e h) (λ (w : IsWithin b below). inr (within_within a b below h w)) k
 
 module _ {M : Type 0} (access : Access M) (s : Site) (machine : Machine M) (place : ℕ → ℕ) (end budget far : ℕ) where
-  abbrev H : (over spare k pc : ℕ) → State → ℕ → Type 0
-  H = Here access s machine place end budget far
-
-  abbrev FE : (spare k : ℕ) → End → Type 0
-  FE = FollowsEnd access s machine place end budget far
-
-  abbrev F : (spare k : ℕ) → List Enclosing → ℕ → Outcome → Type 0
-  F = Follows access s machine place end budget far
-
-  abbrev D : (spare k : ℕ) → List Enclosing → (pc next : ℕ) → (State → Run) → Type 0
-  D = Does access s machine place end budget far
+  open course access s machine place end budget far use {Here as H, FollowsEnd as FE, Follows as F, Does as D}
 
   -- a jump leads from one place to another
   abbrev pub Jumps : (from to : ℕ) → Type 0

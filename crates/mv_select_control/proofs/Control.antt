@@ -8,7 +8,7 @@ use Rattle.mv_isa.specs.Execution.{Access, reg}
 use Rattle.mv_ir.specs.declared.tree.Tree.{Tree}
 use Rattle.mv_ir.specs.declared.stm.Stm.TheOpen as stm
 use Rattle.mv_ir.specs.World as ir
-use Rattle.mv_ir.specs.Outcome.{State, Outcome, Run, Bound, Meaning, in_order, loop}
+use Rattle.mv_ir.specs.Outcome.{State, Bound, Meaning, in_order, loop}
 use Rattle.mv_ir.specs.Trees.{nodes}
 use Rattle.mv_ir.specs.Meaning.{of_tree, statement}
 use Rattle.mv_select_trees.specs.TreeCode.{operand_lines, operand_register}
@@ -25,23 +25,14 @@ use Rattle.mv_select_control.specs.Runs.{Machine, IsRun}
 use Rattle.mv_select_control.specs.Flow.{IsWithin, Here, Follows, Does}
 use Rattle.mv_select_control.proofs.Composition.{Jumps, rest, at_place, block_does, jump_follows, loop_does}
 use Rattle.mv_select_control.proofs.Walk.{placed_split, Reaches, jump_stands, branch_passes, taken, line_does, leads_walk, to_stands, to_here}
+use Rattle.mv_select_control.proofs.Course.{course}
 
 module _ {M : Type 0} (access : Access M) (s : Site) (setting : ir.Setting) (frame : ir.Frame) (fit : IsFit s access setting frame) (machine : Machine M) (ok : IsRun access s machine)
     (place : ℕ → ℕ) (end budget far : ℕ) where
-  abbrev P : List Line → ℕ → ℕ → Type 0
-  P = Placed machine.text place s.entry
+  open course access s machine place end budget far use {Placed as P, Here as H, Follows as F, Does as D}
 
   abbrev split : (a b : List Line) (at stop : ℕ) → P (a ++ b) at stop → (mid : ℕ) × P a at mid × P b mid stop
   split = placed_split machine.text place s.entry
-
-  abbrev H : (over spare k pc : ℕ) → State → ℕ → Type 0
-  H = Here access s machine place end budget far
-
-  abbrev F : (spare k : ℕ) → List Enclosing → ℕ → Outcome → Type 0
-  F = Follows access s machine place end budget far
-
-  abbrev D : (spare k : ℕ) → List Enclosing → (pc next : ℕ) → (State → Run) → Type 0
-  D = Does access s machine place end budget far
 
   abbrev J : (from to : ℕ) → Type 0
   J = Jumps access s machine place end budget far

@@ -1,11 +1,10 @@
 -- The code of statements has encodings and few words, by induction over the statements.
 use Rattle.std.proofs.Common.{◌≡◌, ℕ, ◌+◌, ◌*◌, ◌<◌, ◌≤◌, Bool, true, ltb, ◌&&◌, List, [], ◌∷◌, ◌++◌, inl, map, sym, ap, ◌∙◌, subst, arith}
 use Rattle.std.proofs.lemmas.Bool.{ltb-true}
-use Rattle.std.proofs.lemmas.List.Elements.{All-append, All-cons, All-nil}
-use Rattle.std.proofs.lemmas.List.Sums.{sum_by-append}
+use Rattle.std.proofs.lemmas.List.Elements.{All-cons, All-nil}
 use Rattle.mv_isa.specs.declared.labelled.Line.{Line}
 use Rattle.mv_isa.specs.declared.labelled.Line.TheVariants.{Label, Jump, Branch}
-use Rattle.mv_isa.specs.Code.{LineFits, greatest_words}
+use Rattle.mv_isa.specs.Code.{LineFits}
 use Rattle.mv_ir.specs.declared.tree.Tree.{Tree}
 use Rattle.mv_ir.specs.declared.stm.Stm.{Stm}
 use Rattle.mv_ir.specs.declared.stm.Stm.TheOpen.{Stm-F}
@@ -25,7 +24,7 @@ use Rattle.mv_select_trees.proofs.TreesAreShort.{operand_short}
 use Rattle.mv_select_trees.proofs.TreesFit.{operand_fits}
 use Rattle.mv_select_statements.specs.StatementCode.{first, second, bounds_lines, clear_lines, home_below}
 use Rattle.mv_select_statements.specs.Encoded.{IsCode, IsSmall, AreEncoded}
-use Rattle.mv_select_statements.proofs.EncodedCode.{are_encoded}
+use Rattle.mv_select_statements.proofs.EncodedCode.{are_encoded, both as join, jump}
 use Rattle.mv_select_control.specs.declared.enclosing.Enclosing.{Enclosing}
 use Rattle.mv_select_control.specs.FlowCode.{Plan, Emitted, in_turn, enclosing_at, zero_lines, branch_lines, loop_lines, block_lines, loop_at, block_at, home, size, code_layer, statement_code, all_true, may_read, may_write, fine_layer}
 use Rattle.mv_select_control.specs.Layouts.{plan_in, any_global, any_known, is_small, is_small_statement}
@@ -44,9 +43,6 @@ words_roll x = fold-roll-Stm ℕ words_layer x
 
 -- ---- parts put together
 
-join : (n k : ℕ) (a b : List Line) → IsCode n a → IsCode k b → IsCode (n + k) (a ++ b)
-join n k a b h l = (All-append LineFits a b h.0 l.0, omega (arith, h.1, l.1, sum_by-append greatest_words a b))
-
 wider : (n k : ℕ) (ls : List Line) → IsCode n ls → n ≤ k → IsCode k ls
 wider n k ls h le = (h.0, omega (arith, le, h.1))
 
@@ -55,9 +51,6 @@ none = (All-nil LineFits, omega arith)
 
 label_line : (l : ℕ) → IsCode 0 (Label l ∷ [])
 label_line l = (All-cons LineFits (Label l) [] tt (All-nil LineFits), omega arith)
-
-jump : (l : ℕ) → IsCode 1 (Jump 0 l ∷ [])
-jump l = (All-cons LineFits (Jump 0 l) [] (omega arith) (All-nil LineFits), omega arith)
 
 branch : (q l : ℕ) → q < 32 → IsCode 2 (Branch 0 q 0 l ∷ [])
 branch q l p = (All-cons LineFits (Branch 0 q 0 l) [] (inl (omega arith), p, omega arith) (All-nil LineFits), omega arith)

@@ -20,6 +20,7 @@ use Rattle.mv_select_control.specs.Runs.{Spot, Machine, outside, Calm, IsRun}
 use Rattle.mv_select_control.specs.Flow.{Here, Follows}
 use Rattle.mv_select_control.specs.Laws.{LinesDo}
 use Rattle.mv_select_control.proofs.Walk.{leads_walk, to_stands, to_here}
+use Rattle.mv_select_control.proofs.Course.{course}
 
 -- the world of an outcome is as another one, apart from the globals
 abbrev pub SameOutside : World → Outcome → Type 0
@@ -38,8 +39,7 @@ same_elements (array.Local a) l xs = refl
 
 module _ {M : Type 0} (access : Access M) (s : Site) (setting : ir.Setting) (frame : ir.Frame) (machine : Machine M) (ok : IsRun access s machine)
     (place : ℕ → ℕ) (end budget far : ℕ) (is_fine : Tree → Bool) (top : Bound) where
-  abbrev H : (over spare k pc : ℕ) → State → ℕ → Type 0
-  H = Here access s machine place end budget far
+  open course access s machine place end budget far use {Here as H}
 
   leaf_follows : (lines : List Line) (cost spare k pc next : ℕ) (around : List Enclosing) (l : State) (i : ℕ) (r : Outcome) → Placed machine.text place s.entry lines pc next → SameOutside l.world r
       → statements.Follows access s setting frame end lines cost (machine.run i).regs (machine.run i).memory r → H 0 (spare + cost) k pc l i

@@ -1,5 +1,6 @@
 pub mod Around
 pub mod ArraysWithin
+pub mod Course
 pub mod Composition
 pub mod Control
 pub mod Emitting

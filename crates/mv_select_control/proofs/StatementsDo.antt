@@ -13,7 +13,7 @@ use Rattle.mv_ir.specs.declared.stm.Stm.TheOpen as stm
 use Rattle.mv_ir.specs.declared.stm.Stm.TheViews.{roll-Stm}
 use Rattle.mv_ir.specs.declared.stm.Stm.TheFolds.{fold-roll-Stm, map-Stm}
 use Rattle.mv_ir.specs.World as ir
-use Rattle.mv_ir.specs.Outcome.{State, Run, Next, Bound, Meaning, in_order}
+use Rattle.mv_ir.specs.Outcome.{State, Next, Bound, Meaning, in_order}
 use Rattle.mv_ir.specs.Meaning.{of_tree, elements, with_temp, with_elements, traps, statement, meaning}
 use Rattle.mv_ir.specs.Trees.{divide}
 use Rattle.mv_ir.proofs.Induction.{Each, StmChildren, stm_ind, stms_ind}
@@ -33,6 +33,7 @@ use Rattle.mv_select_control.proofs.Control.{break_does, back_does, block_stands
 use Rattle.mv_select_control.proofs.Leaves.{same_either, same_elements, leaf_does}
 use Rattle.mv_select_control.proofs.Walk.{placed_split}
 use Rattle.mv_select_control.proofs.Zeroing.{zero_stands}
+use Rattle.mv_select_control.proofs.Course.{course}
 
 pub code_roll : (plan : Plan) (x : Stm-F Stm) → statement_code plan (roll-Stm x) ≡ code_layer plan (map-Stm Stm Emitted (statement_code plan) x)
 unfolding statement_code
@@ -46,11 +47,7 @@ fine_roll is_fine may_ask temps uses x = fold-roll-Stm Bool (fine_layer is_fine 
 module _ {M : Type 0} (access : Access M) (s : Site) (setting : ir.Setting) (frame : ir.Frame) (fit : IsFit s access setting frame) (machine : Machine M) (ok : IsRun access s machine)
     (is_fine : Tree → Bool) (fine_trees : (t : Tree) → is_fine t ≡ true → IsFine s setting frame t) (place : ℕ → ℕ) (end budget far : ℕ) (top : Bound) (calls : CallLines)
     (calls_do : CallsDo access s setting frame machine place end budget far is_fine top calls) where
-  abbrev P : List Line → ℕ → ℕ → Type 0
-  P = Placed machine.text place s.entry
-
-  abbrev D : (spare k : ℕ) → List Enclosing → (pc next : ℕ) → (State → Run) → Type 0
-  D = Does access s machine place end budget far
+  open course access s machine place end budget far use {Placed as P, Does as D}
 
   abbrev Code : Stm → Emitted
   Code = statement_code (plan_of s end calls)

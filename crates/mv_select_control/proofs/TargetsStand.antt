@@ -20,7 +20,7 @@ use Rattle.mv_select_control.specs.Labels.{Names, CallsName, TargetsStand, named
 use Rattle.mv_select_control.proofs.StatementsDo.{code_roll}
 use Rattle.mv_select_control.proofs.TreeNames.{all_front, all_back, operand_names, set_names, set_global_names, divide_names, check_names, read_names, write_names, bounds_names, clear_names, return_names}
 
-named_roll : (x : Stm-F Stm) → stm_functions (roll-Stm x) ≡ named_layer (map-Stm Stm (List ℕ) stm_functions x)
+pub named_roll : (x : Stm-F Stm) → stm_functions (roll-Stm x) ≡ named_layer (map-Stm Stm (List ℕ) stm_functions x)
 unfolding stm_functions
 named_roll x = fold-roll-Stm (List ℕ) named_layer x
 

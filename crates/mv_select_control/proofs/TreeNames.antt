@@ -26,7 +26,7 @@ pub all_back : {X : Type 0} (P : X → Type 0) (xs ys : List X) → All P (xs ++
 all_back P [] ys h = h
 all_back P (x ∷ xs) ys h = all_back P xs ys (All-tail P x (xs ++ ys) h)
 
-functions_roll : (x : Tree-F Tree) → tree_functions (roll-Tree x) ≡ functions_layer (map-Tree Tree (List ℕ) tree_functions x)
+pub functions_roll : (x : Tree-F Tree) → tree_functions (roll-Tree x) ≡ functions_layer (map-Tree Tree (List ℕ) tree_functions x)
 unfolding tree_functions
 functions_roll x = fold-roll-Tree (List ℕ) functions_layer x
 

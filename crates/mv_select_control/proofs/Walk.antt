@@ -16,6 +16,7 @@ use Rattle.mv_select_statements.proofs.TreesFirst.{add_small}
 use Rattle.mv_select_control.specs.Placed.{Text, IsPlaced, Placed}
 use Rattle.mv_select_control.specs.Runs.{Spot, Machine, outside, Calm, LeadsOn, IsRun}
 use Rattle.mv_select_control.specs.Flow.{SoundBefore, Here}
+use Rattle.mv_select_control.proofs.Course.{course}
 
 -- what holds below a number and at it holds below the next one
 pub before_next : (P : ℕ → Type 0) (i : ℕ) → ((t : ℕ) → t < i → P t) → P i → (t : ℕ) → t < i + 1 → P t
@@ -24,7 +25,7 @@ before_next P i before here t lt = ⊎_elim (λ (e : t ≡ i). subst P (sym e) h
     less : (t ≡ i → ⊥) → t < i
     less ne = grind (arith, ne)
 
-put_zero : (regs : List ℕ) (v : ℕ) → put regs 0 v ≡ regs
+pub put_zero : (regs : List ℕ) (v : ℕ) → put regs 0 v ≡ regs
 unfolding put
 put_zero regs v = refl
 
@@ -35,8 +36,7 @@ placed_split text place entry [] b at end h = (at, refl, h)
 placed_split text place entry (x ∷ a) b at end h = let r = placed_split text place entry a b h.0 end h.2 in (r.0, (h.0, h.1, r.1), r.2)
 
 module _ {M : Type 0} (access : Access M) (s : Site) (machine : Machine M) (ok : IsRun access s machine) (place : ℕ → ℕ) (end budget far : ℕ) where
-  abbrev P : List Line → ℕ → ℕ → Type 0
-  P = Placed machine.text place s.entry
+  open course access s machine place end budget far use {Placed as P}
 
   abbrev spot : ℕ → List ℕ → M → Spot M
   spot pc regs m = record { regs = regs; pc = pc; memory = m }

@@ -24,6 +24,7 @@ use Rattle.mv_select_control.specs.Placed.{IsPlaced, Placed}
 use Rattle.mv_select_control.specs.Runs.{Machine, IsRun}
 use Rattle.mv_select_control.specs.Flow.{Does}
 use Rattle.mv_select_control.proofs.Walk.{placed_split, Stands, Reaches, reaches_more, stands_at, jump_stands, branch_passes, taken, line_does, leads_walk, to_stands, to_here}
+use Rattle.mv_select_control.proofs.Course.{course}
 
 -- in an array within a frame no word has the address of the array's end
 apart : (r at n size : ℕ) → n < size → at + 4 * size < 2048 → r + (at + 4 * n) < 2 ^ 32 → add r (at + 4 * n) ≡ add r (at + 4 * size) → ⊥
@@ -32,8 +33,7 @@ apart r at n size lt below small e = omega (arith, e)
 
 module _ {M : Type 0} (access : Access M) (s : Site) (setting : ir.Setting) (frame : ir.Frame) (fit : IsFit s access setting frame) (machine : Machine M) (ok : IsRun access s machine)
     (place : ℕ → ℕ) (end budget far : ℕ) where
-  abbrev P : List Line → ℕ → ℕ → Type 0
-  P = Placed machine.text place s.entry
+  open course access s machine place end budget far use {Placed as P}
 
   abbrev IsAt : ℕ → ℕ → Line → Type 0
   IsAt = IsPlaced machine.text place s.entry

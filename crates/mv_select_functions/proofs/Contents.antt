@@ -10,11 +10,11 @@ use Rattle.mv_ir.specs.Meaning.{Contents}
 use Rattle.mv_select_trees.specs.TreeCode.{temp_register, temp_offset}
 use Rattle.mv_select_statements.specs.Frames.{Site, Cell, TempCell, Element, IsThere, address, Reach}
 use Rattle.mv_select_statements.proofs.FrameChanges.{register_low, register_high, one_register}
-use Rattle.mv_select_control.specs.Runs.{Machine, outside, IsRun}
+use Rattle.mv_select_control.specs.Runs.{Machine, outside}
 use Rattle.mv_select_calls.specs.Convention.{Layout, IsAbove}
 use Rattle.mv_select_calls.specs.Laws.{IsOfFrame}
 use Rattle.mv_select_functions.specs.FunctionCode.{array_offset, bytes_of}
-use Rattle.mv_select_functions.specs.Functions.{IsLaid, IsMemory, StandsInWords, shape_of, IsAmple, RunsWithin}
+use Rattle.mv_select_functions.specs.Functions.{IsLaid, IsMemory, shape_of, IsAmple, RunsWithin}
 use Rattle.mv_select_functions.proofs.EntryShown.{Here, word_of_stack, Holds}
 use Rattle.mv_select_functions.proofs.Frame.{IsFrame, temp_is, frame_word}
 use Rattle.mv_select_functions.proofs.Prologue.{Prepared}

@@ -48,7 +48,7 @@ leave_code false = (All-nil LineFits, omega arith)
 minus_fits : (n : ℕ) → n ≤ 2032 → IsSigned 2048 (pos 0 -ℤ pos n)
 minus_fits n h = (omega (arith, ints, h), omega (arith, ints, h))
 
-saved_few : (temps : ℕ) → saved_count temps ≤ 10
+pub saved_few : (temps : ℕ) → saved_count temps ≤ 10
 saved_few temps = omega (arith, min-le_right temps 9)
 
 pub frames_encoded : FramesAreEncoded

@@ -13,15 +13,15 @@ use Rattle.mv_select_trees.proofs.Registers.{put_same, put_other, put_registers}
 use Rattle.mv_select_trees.proofs.TreesFit.{register_below}
 use Rattle.mv_select_trees.proofs.Words.{word_of_pos, zero_add, add_word}
 use Rattle.mv_select_statements.specs.StatementCode.{first}
-use Rattle.mv_select_statements.specs.Frames.{Site, Reach}
+use Rattle.mv_select_statements.specs.Frames.{Reach}
 use Rattle.mv_select_statements.proofs.FrameChanges.{register_is, register_zero, one_register, register_low}
 use Rattle.mv_select_statements.proofs.TreesFirst.{add_small}
-use Rattle.mv_select_control.specs.Runs.{Machine, outside, IsRun}
+use Rattle.mv_select_control.specs.Runs.{Machine, outside}
 use Rattle.mv_select_control.proofs.Walk.{placed_split, stands_at}
 use Rattle.mv_select_calls.specs.Convention.{Layout}
 use Rattle.mv_select_functions.specs.FunctionCode.{saved_register, save_lines, restore_lines, parameter_lines}
-use Rattle.mv_select_functions.specs.Functions.{IsStack, IsWord, IsLaid, IsMemory, StandsInWords, IsAmple, RunsWithin}
-use Rattle.mv_select_functions.proofs.FrameWords.{words_site, ok, W, P, sets, Put, stores_on, loads_on}
+use Rattle.mv_select_functions.specs.Functions.{IsStack, IsWord, IsLaid, IsMemory, IsAmple, RunsWithin}
+use Rattle.mv_select_functions.proofs.FrameWords.{words_site, ok, sets, Put, stores_on, loads_on, frame_course}
 use Rattle.mv_select_statements.specs.Leads.{limited}
 
 -- ---- the registers that are saved
@@ -46,11 +46,7 @@ sp_apart (suc t) e = omega (arith, e, register_low t)
 
 module _ {M : Type 0} (access : Access M) (y : Layout) (laid : IsLaid y) (machine : Machine M) (memory : IsMemory access y machine)
     (reach : Reach) (ample : IsAmple y reach) (runs : RunsWithin access y machine reach) (budget far : ℕ) (place : ℕ → ℕ) where
-  abbrev Ws : World → ℕ → List ℕ → M → ℕ → Type 0
-  Ws = W access y laid machine memory reach ample runs budget far place
-
-  abbrev Ps : List Line → ℕ → ℕ → Type 0
-  Ps = P access y laid machine memory reach ample runs budget far place
+  open frame_course access y laid machine memory reach ample runs budget far place use {of.{Placed as Ps}, Stands as Ws}
 
   split : (a b : List Line) (at stop : ℕ) → Ps (a ++ b) at stop → (mid : ℕ) × Ps a at mid × Ps b mid stop
   split = placed_split machine.text place y.entry

@@ -19,7 +19,7 @@ use Rattle.mv_select_functions.proofs.Frame.{IsFrame, S, frame_word}
 
 -- ---- what a frame holds when it begins
 
-items_count : (n : ℕ) (f : ℕ → ℕ) → length (first_items n f) ≡ n
+pub items_count : (n : ℕ) (f : ℕ → ℕ) → length (first_items n f) ≡ n
 items_count zero f = refl
 items_count (suc n) f = ap suc (items_count n (λ i. f (suc i)))
 

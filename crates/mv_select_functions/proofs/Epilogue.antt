@@ -3,7 +3,6 @@ use Rattle.std.proofs.Common.{◌≡◌, ◌≢◌, inl, inr, ⊎_elim, ℕ, zer
 use Rattle.std.proofs.Math.Nat.{min-le_left, min-le_right, le-min}
 use Rattle.std.proofs.lemmas.Bool.{cases_lt}
 use Rattle.mv_isa.specs.declared.instr.Instr.TheVariants.{Addi, Jalr}
-use Rattle.mv_isa.specs.declared.labelled.Line.{Line}
 use Rattle.mv_isa.specs.Execution.{Access, reg, put}
 use Rattle.mv_ir.specs.declared.body.Body.{Body}
 use Rattle.mv_ir.specs.World.{World}
@@ -14,16 +13,16 @@ use Rattle.mv_select_trees.proofs.Registers.{put_same, put_other, put_registers}
 use Rattle.mv_select_statements.specs.StatementCode.{first}
 use Rattle.mv_select_statements.specs.Frames.{Site, Kept, Shows, Reach}
 use Rattle.mv_select_statements.proofs.FrameChanges.{register_is, register_zero, register_low, register_high, one_register}
-use Rattle.mv_select_control.specs.Runs.{Machine, outside, IsRun}
+use Rattle.mv_select_control.specs.Runs.{Machine, outside}
 use Rattle.mv_select_control.proofs.Walk.{placed_split}
 use Rattle.mv_select_calls.specs.CallCode.{link_register, live_register, left_register}
 use Rattle.mv_select_calls.specs.Convention.{Layout, IsTarget, IsSaved, IsAbove}
 use Rattle.mv_select_functions.specs.FunctionCode.{Shape, bytes_of, saved_count, saved_register, restore_lines, leave_lines, epilogue_lines}
-use Rattle.mv_select_functions.specs.Functions.{IsStack, IsLaid, IsMemory, StandsInWords, shape_of, IsAmple, RunsWithin}
+use Rattle.mv_select_functions.specs.Functions.{IsStack, IsLaid, IsMemory, shape_of, IsAmple, RunsWithin}
 use Rattle.mv_select_functions.proofs.Entry.{sp_apart, Restores, restore_walk}
 use Rattle.mv_select_functions.proofs.EntryShown.{Here, word_of_stack, loaded}
 use Rattle.mv_select_functions.proofs.Frame.{IsFrame, kept_low, kept_high}
-use Rattle.mv_select_functions.proofs.FrameWords.{W, P}
+use Rattle.mv_select_functions.proofs.FrameWords.{frame_course}
 use Rattle.mv_select_functions.proofs.Prologue.{Prepared, room_for_saved, saved_words}
 use Rattle.mv_select_functions.proofs.Steps.{Counted, up, leave_walk, back}
 
@@ -51,11 +50,7 @@ high_apart q (suc t) le lt e = omega (arith, le, e, register_high t (omega (arit
 
 module _ {M : Type 0} (access : Access M) (y : Layout) (laid : IsLaid y) (machine : Machine M) (memory : IsMemory access y machine)
     (reach : Reach) (ample : IsAmple y reach) (runs : RunsWithin access y machine reach) (budget far : ℕ) (place : ℕ → ℕ) (attributed : Bool) (body : Body) where
-  abbrev Ws : World → ℕ → List ℕ → M → ℕ → Type 0
-  Ws = W access y laid machine memory reach ample runs budget far place
-
-  abbrev Ps : List Line → ℕ → ℕ → Type 0
-  Ps = P access y laid machine memory reach ample runs budget far place
+  open frame_course access y laid machine memory reach ample runs budget far place use {of.{Placed as Ps}, Stands as Ws}
 
   abbrev shape : Shape
   shape = shape_of attributed body

@@ -3,7 +3,6 @@ use Rattle.std.proofs.Common.{◌≡◌, ◌≢◌, inl, inr, ℕ, ◌+◌, ◌-
 use Rattle.mv_num.specs.Words.{word_of, add}
 use Rattle.mv_isa.specs.declared.instr.Instr.{Instr}
 use Rattle.mv_isa.specs.declared.instr.Instr.TheVariants.{Lw, Sw}
-use Rattle.mv_isa.specs.declared.labelled.Line.{Line}
 use Rattle.mv_isa.specs.declared.labelled.Line.TheVariants.{Word}
 use Rattle.mv_isa.specs.Execution.{Access, Goes, reg, put, execute}
 use Rattle.mv_ir.specs.declared.stm.Array.TheVariants as array
@@ -18,6 +17,7 @@ use Rattle.mv_select_control.specs.Runs.{Machine, outside, IsRun}
 use Rattle.mv_select_control.proofs.Walk as walk
 use Rattle.mv_select_control.proofs.Walk.{line_does, steps_on}
 use Rattle.mv_select_calls.specs.Convention.{Layout}
+use Rattle.mv_select_calls.proofs.CallCourse.{CallCourse, call_course}
 use Rattle.mv_select_functions.specs.Functions as functions
 use Rattle.mv_select_functions.specs.Functions.{IsStack, IsWord, IsLaid, IsMemory, StandsInWords, IsAmple, RunsWithin}
 use Rattle.mv_select_statements.specs.Leads.{limited}
@@ -49,11 +49,10 @@ module _ {M : Type 0} (access : Access M) (y : Layout) (laid : IsLaid y) (machin
   abbrev pub ok : IsRun access (words_site y reach) machine
   ok = runs (words_site y reach) (words_stand y reach laid) (λ a h. h)
 
-  abbrev pub W : World → ℕ → List ℕ → M → ℕ → Type 0
-  W = walk.Stands access (words_site y reach) machine ok place 0 budget far
+  abbrev pub frame_course : CallCourse M
+  frame_course = call_course access (words_site y reach) machine ok place 0 budget far
 
-  abbrev pub P : List Line → ℕ → ℕ → Type 0
-  P = Placed machine.text place y.entry
+  open frame_course use {of.{Placed as P}, Stands as W}
 
   abbrev pub One : ℕ → ℕ → Instr → Type 0
   One pc next i = IsPlaced machine.text place y.entry pc next (Word i)

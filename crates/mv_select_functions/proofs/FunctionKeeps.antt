@@ -1,6 +1,5 @@
 -- The code of a function does what its body means, and keeps the calling convention.
 use Rattle.std.proofs.Common.{◌≡◌, inl, inr, ℕ, ◌+◌, ◌-◌, ◌*◌, ◌^◌, ◌<◌, ◌≤◌, Bool, true, List, [], ◌∷◌, ◌++◌, length, slice_index, Some, None, refl, sym, ap, ◌∙◌, subst, arith}
-use Rattle.std.proofs.Math.Nat.{min-le_right}
 use Rattle.mv_isa.specs.declared.labelled.Line.{Line}
 use Rattle.mv_isa.specs.declared.labelled.Line.TheVariants.{Label}
 use Rattle.mv_isa.specs.Code.{IsPlace}
@@ -31,23 +30,21 @@ use Rattle.mv_select_calls.specs.Laws.{IsCaller, IsLinked}
 use Rattle.mv_select_calls.proofs.CallerShown.{globals_held}
 use Rattle.mv_select_calls.proofs.FunctionCalls.{call_done}
 use Rattle.mv_select_calls.proofs.KnownCalls.{known_done}
-use Rattle.mv_select_functions.specs.FunctionCode.{Shape, bytes_of, saved_count, lowered_lines, epilogue_lines, body_lines, later_lines, end_label}
-use Rattle.mv_select_functions.specs.Functions.{IsLaid, IsMemory, StandsInWords, IsStack, IsFunction, LowersStack, shape_of, IsAmple, RunsWithin}
+use Rattle.mv_select_functions.specs.FunctionCode.{Shape, bytes_of, lowered_lines, epilogue_lines, body_lines, later_lines, end_label}
+use Rattle.mv_select_functions.specs.Functions.{IsLaid, IsMemory, IsStack, IsFunction, LowersStack, shape_of, IsAmple, RunsWithin}
 use Rattle.mv_select_functions.proofs.Begun.{Begun, frame_at}
 use Rattle.mv_select_functions.proofs.Contents.{contents_at, holds_still}
 use Rattle.mv_select_functions.proofs.EntryShown as shown
 use Rattle.mv_select_functions.proofs.Epilogue.{Unwound, epilogue_walk}
 use Rattle.mv_select_functions.proofs.Frame.{IsFrame, own_words, frame_fits, frame_calls}
-use Rattle.mv_select_functions.proofs.FrameWords.{words_site, ok, W, P, other_frame}
+use Rattle.mv_select_functions.proofs.FrameWords.{words_site, ok, other_frame, frame_course}
 use Rattle.mv_select_functions.proofs.Prologue.{Prepared, saved_words, prologue_walk}
+use Rattle.mv_select_functions.proofs.EncodedFrames.{saved_few}
 
 -- a bound is within itself
 within_self : (levels : Bound) → IsWithin levels levels
 within_self [] = refl
 within_self (calls ∷ below) = inl refl
-
-saved_few : (temps : ℕ) → saved_count temps ≤ 10
-saved_few temps = omega (arith, min-le_right temps 9)
 
 module _ {M : Type 0} (access : Access M) (y : Layout) (laid : IsLaid y) (machine : Machine M) (memory : IsMemory access y machine)
     (reach : Reach) (ample : IsAmple y reach) (runs : RunsWithin access y machine reach) (setting : ir.Setting)
@@ -74,8 +71,7 @@ module _ {M : Type 0} (access : Access M) (y : Layout) (laid : IsLaid y) (machin
   abbrev sp : ℕ
   sp = reg (machine.run i).regs 2 - bytes_of (shape_of attributed body)
 
-  abbrev Ps : List Line → ℕ → ℕ → Type 0
-  Ps = P access y laid machine memory reach ample runs budget far place
+  open frame_course access y laid machine memory reach ample runs budget far place use {of.{Placed as Ps}, Stands as Ws}
 
   -- ---- the parts of the code
 
@@ -200,7 +196,7 @@ module _ {M : Type 0} (access : Access M) (y : Layout) (laid : IsLaid y) (machin
       ended : place end_label ≡ q.2.0
       ended = q.2.1.label ∙ sym q.2.1.stands
 
-      a : W access y laid machine memory reach ample runs budget far place l.world q.2.0 (machine.run j).regs (machine.run j).memory j
+      a : Ws l.world q.2.0 (machine.run j).regs (machine.run j).memory j
       a = stands_at access (words_site y reach) machine (ok access y laid machine memory reach ample runs budget far place) place 0 budget far l.world (place end_label) q.2.0 (machine.run j).regs (machine.run j).memory j ended
           (other_frame access y laid machine memory reach ample runs budget far place S (words_site y reach) okS (ok access y laid machine memory reach ample runs budget far place) end_label 0 place l.world (place end_label)
           (machine.run j).regs (machine.run j).memory j (to_stands access S machine okS place end_label budget far 0 (spare + 13) k (place end_label) l j h))

@@ -1,24 +1,23 @@
 -- The prologue as a whole.
 use Rattle.std.proofs.Common.{◌≡◌, ◌≢◌, ℕ, ◌+◌, ◌*◌, ◌^◌, ◌<◌, ◌≤◌, cond, List, ◌++◌, slice_index, Some, sym, ap, ◌∙◌, arith}
 use Rattle.std.proofs.Math.Nat.{le-max_right, min-le_right}
-use Rattle.mv_isa.specs.declared.labelled.Line.{Line}
 use Rattle.mv_isa.specs.Execution.{Access, reg, put}
 use Rattle.mv_ir.specs.World.{World}
 use Rattle.mv_select_trees.specs.TreeCode.{temp_register}
 use Rattle.mv_select_trees.specs.View.{AreRegisters}
 use Rattle.mv_select_trees.proofs.Registers.{put_same, put_other, put_registers}
 use Rattle.mv_select_statements.specs.StatementCode.{first}
-use Rattle.mv_select_statements.specs.Frames.{Site, Reach}
+use Rattle.mv_select_statements.specs.Frames.{Reach}
 use Rattle.mv_select_statements.proofs.FrameChanges.{register_low, register_high}
-use Rattle.mv_select_control.specs.Runs.{Machine, IsRun}
+use Rattle.mv_select_control.specs.Runs.{Machine}
 use Rattle.mv_select_control.proofs.Walk.{placed_split}
 use Rattle.mv_select_calls.specs.CallCode.{live_register}
 use Rattle.mv_select_calls.specs.Convention.{Layout}
 use Rattle.mv_select_functions.specs.FunctionCode.{Shape, bytes_of, saved_count, saved_register, save_lines, parameter_lines, enter_lines, lowered_lines}
-use Rattle.mv_select_functions.specs.Functions.{IsStack, IsWord, IsLaid, IsMemory, StandsInWords, IsAmple, RunsWithin}
+use Rattle.mv_select_functions.specs.Functions.{IsStack, IsWord, IsLaid, IsMemory, IsAmple, RunsWithin}
 use Rattle.mv_select_functions.proofs.Entry.{Saves, Moves, sp_apart, save_walk, parameter_walk}
 use Rattle.mv_select_functions.proofs.Frame.{IsFrame}
-use Rattle.mv_select_functions.proofs.FrameWords.{W, P}
+use Rattle.mv_select_functions.proofs.FrameWords.{frame_course}
 use Rattle.mv_select_functions.proofs.Steps.{Counted, enter_walk}
 
 -- a frame has room for its saved registers
@@ -33,11 +32,7 @@ saved_words y shape sp caller is j lt =
 
 module _ {M : Type 0} (access : Access M) (y : Layout) (laid : IsLaid y) (machine : Machine M) (memory : IsMemory access y machine)
     (reach : Reach) (ample : IsAmple y reach) (runs : RunsWithin access y machine reach) (budget far : ℕ) (place : ℕ → ℕ) where
-  abbrev Ws : World → ℕ → List ℕ → M → ℕ → Type 0
-  Ws = W access y laid machine memory reach ample runs budget far place
-
-  abbrev Ps : List Line → ℕ → ℕ → Type 0
-  Ps = P access y laid machine memory reach ample runs budget far place
+  open frame_course access y laid machine memory reach ample runs budget far place use {of.{Placed as Ps}, Stands as Ws}
 
   -- what stands there at the end of a prologue that began with other registers and another memory
   pub record Prepared (shape : Shape) (args : List ℕ) (live sp : ℕ) (before : List ℕ) (m0 : M) (w : World) (next i : ℕ) : Type 0 where

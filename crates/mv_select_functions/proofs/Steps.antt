@@ -5,7 +5,6 @@ use Rattle.std.proofs.lemmas.Bool.{eq-eqb}
 use Rattle.mv_num.specs.Words.{word_of, add}
 use Rattle.mv_isa.specs.declared.instr.Cause.TheVariants as cause
 use Rattle.mv_isa.specs.declared.instr.Instr.TheVariants.{Addi, Jalr}
-use Rattle.mv_isa.specs.declared.labelled.Line.{Line}
 use Rattle.mv_isa.specs.declared.labelled.Line.TheVariants.{Word}
 use Rattle.mv_isa.specs.Execution.{Access, Goes, Faults, reg, put, execute, jumps}
 use Rattle.mv_ir.specs.World.{World}
@@ -15,15 +14,16 @@ use Rattle.mv_select_trees.specs.View.{AreRegisters}
 use Rattle.mv_select_trees.proofs.Instructions.{addi_sets}
 use Rattle.mv_select_trees.proofs.Registers.{put_same, put_other, put_registers}
 use Rattle.mv_select_trees.proofs.Words.{word_of_pos, zero_add, minus_one_is}
-use Rattle.mv_select_statements.specs.Frames.{Site, Reach}
+use Rattle.mv_select_statements.specs.Frames.{Reach}
 use Rattle.mv_select_statements.proofs.TreesFirst.{add_small}
-use Rattle.mv_select_control.specs.Runs.{Machine, IsRun}
-use Rattle.mv_select_control.proofs.Walk.{line_does, steps_on, stands_at}
+use Rattle.mv_select_control.specs.Runs.{Machine}
+use Rattle.mv_select_control.proofs.Walk.{line_does, steps_on, stands_at, put_zero}
 use Rattle.mv_select_calls.specs.CallCode.{link_register, live_register}
 use Rattle.mv_select_calls.specs.Convention.{Layout, IsTarget}
+use Rattle.mv_select_calls.proofs.Guarded.{one_less}
 use Rattle.mv_select_functions.specs.FunctionCode.{enter_lines, leave_lines}
-use Rattle.mv_select_functions.specs.Functions.{IsLaid, IsMemory, StandsInWords, IsAmple, RunsWithin}
-use Rattle.mv_select_functions.proofs.FrameWords.{words_site, ok, W, P, One, sets}
+use Rattle.mv_select_functions.specs.Functions.{IsLaid, IsMemory, IsAmple, RunsWithin}
+use Rattle.mv_select_functions.proofs.FrameWords.{words_site, ok, One, sets, frame_course}
 use Rattle.mv_select_statements.specs.Leads.{limited}
 
 -- ---- arithmetic
@@ -45,21 +45,9 @@ lowered a n above le below = ap (λ z. (a + z) % 2 ^ 32) (minus_is n above (omeg
 pub lowers_sp : {M : Type 0} (access : Access M) (m : M) (n sp : ℕ) (regs : List ℕ) → 0 < n → n ≤ sp → sp < 2 ^ 32 → reg regs 2 ≡ sp → Sets access m (Addi 2 2 (pos 0 -ℤ pos n)) regs (put regs 2 (sp - n))
 lowers_sp access m n sp regs above le below e = addi_sets access m 2 2 (pos 0 -ℤ pos n) regs sp (word_of (pos 0 -ℤ pos n)) (sp - n) e refl (lowered sp n above le below)
 
-one_less : (n : ℕ) → n + 1 < 2 ^ 32 → add (n + 1) (2 ^ 32 - 1) ≡ n
-unfolding add
-one_less n h = omega (arith, h)
-
-put_zero : (regs : List ℕ) (v : ℕ) → put regs 0 v ≡ regs
-unfolding put
-put_zero regs v = refl
-
 module _ {M : Type 0} (access : Access M) (y : Layout) (laid : IsLaid y) (machine : Machine M) (memory : IsMemory access y machine)
     (reach : Reach) (ample : IsAmple y reach) (runs : RunsWithin access y machine reach) (budget far : ℕ) (place : ℕ → ℕ) where
-  abbrev Ws : World → ℕ → List ℕ → M → ℕ → Type 0
-  Ws = W access y laid machine memory reach ample runs budget far place
-
-  abbrev Ps : List Line → ℕ → ℕ → Type 0
-  Ps = P access y laid machine memory reach ample runs budget far place
+  open frame_course access y laid machine memory reach ample runs budget far place use {of.{Placed as Ps}, Stands as Ws}
 
   -- sp moves down, and up
   pub down : (n sp : ℕ) (w : World) (pc next : ℕ) (regs : List ℕ) (m : M) (i : ℕ) → 0 < n → n ≤ sp → sp < 2 ^ 32 → reg regs 2 ≡ sp

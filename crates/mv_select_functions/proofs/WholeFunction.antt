@@ -8,19 +8,19 @@ use Rattle.mv_ir.specs.World as ir
 use Rattle.mv_ir.specs.World.{World}
 use Rattle.mv_ir.specs.Outcome.{Bound}
 use Rattle.mv_ir.specs.Meaning.{Contents, body_from}
-use Rattle.mv_select_statements.specs.Frames.{Site, Reach}
+use Rattle.mv_select_statements.specs.Frames.{Reach}
 use Rattle.mv_select_control.specs.Placed.{Placed}
-use Rattle.mv_select_control.specs.Runs.{Machine, IsRun}
+use Rattle.mv_select_control.specs.Runs.{Machine}
 use Rattle.mv_select_control.proofs.Walk.{stands_at}
 use Rattle.mv_select_calls.specs.CallCode.{link_register}
 use Rattle.mv_select_calls.specs.Convention.{Layout, IsTarget, Stands, FollowsCall, Conventions, Answers}
 use Rattle.mv_select_calls.specs.Environment.{ServesKnown}
 use Rattle.mv_select_calls.specs.Laws.{IsLinked}
 use Rattle.mv_select_functions.specs.FunctionCode.{bytes_of, function_lines}
-use Rattle.mv_select_functions.specs.Functions.{IsLaid, IsMemory, StandsInWords, IsFunction, LowersStack, shape_of, frame_in, IsAmple, RunsWithin}
+use Rattle.mv_select_functions.specs.Functions.{IsLaid, IsMemory, IsFunction, LowersStack, shape_of, frame_in, IsAmple, RunsWithin}
 use Rattle.mv_select_functions.proofs.Begun.{Begun, frame_at, begun_called}
 use Rattle.mv_select_functions.proofs.Contents.{contents_at}
-use Rattle.mv_select_functions.proofs.FrameWords.{words_site, ok, W}
+use Rattle.mv_select_functions.proofs.FrameWords.{words_site, ok, frame_course}
 use Rattle.mv_select_functions.proofs.FunctionKeeps.{later_keeps}
 use Rattle.mv_select_functions.proofs.Prologue.{room_for_saved}
 use Rattle.mv_select_functions.proofs.Steps.{down}
@@ -34,7 +34,7 @@ module _ {M : Type 0} (access : Access M) (y : Layout) (laid : IsLaid y) (machin
     (placed : Placed machine.text place y.entry (function_lines y.place y.size is_attributed (shape_of attributed body) body.code) pc next)
     (back i : ℕ) (target : IsTarget back) (ra : reg (machine.run i).regs link_register ≡ back) where
   first_step : (depth live : ℕ) (args : List ℕ) (w : World) → Stands access y machine budget far pc w i → Begun y machine attributed depth live args i
-      → W access y laid machine memory reach ample runs budget far place w placed.0 (put (machine.run i).regs 2 (reg (machine.run i).regs 2 - bytes_of (shape_of attributed body))) (machine.run i).memory (i + 1)
+      → (frame_course access y laid machine memory reach ample runs budget far place).Stands w placed.0 (put (machine.run i).regs 2 (reg (machine.run i).regs 2 - bytes_of (shape_of attributed body))) (machine.run i).memory (i + 1)
   first_step depth live args w stands begun =
       down access y laid machine memory reach ample runs budget far place (bytes_of (shape_of attributed body)) (reg (machine.run i).regs 2) w pc placed.0 (machine.run i).regs (machine.run i).memory i
       (omega (arith, room_for_saved (shape_of attributed body))) (omega (arith, begun.room, fn.small)) (omega (arith, begun.within, laid.top)) refl placed.1

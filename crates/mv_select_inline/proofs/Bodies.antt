@@ -1,5 +1,5 @@
 -- The two instructions of a body do what the body means.
-use Rattle.std.proofs.Common.{◌≡◌, ◌&&◌, ℕ, zero, suc, ◌+◌, ◌-◌, ◌<◌, ◌≤◌, ◌^◌, Bool, true, false, cond, ltb, List, [], ◌∷◌, length, Some, None, Contains, slice_index, refl, sym, ap, ◌∙◌, subst, arith}
+use Rattle.std.proofs.Common.{◌≡◌, ◌&&◌, ℕ, ◌+◌, ◌-◌, ◌<◌, ◌≤◌, ◌^◌, Bool, true, false, cond, ltb, List, [], ◌∷◌, length, Some, None, Contains, slice_index, refl, sym, ap, ◌∙◌, subst, arith}
 use Rattle.std.proofs.lemmas.Bool.{ltb-true}
 use Rattle.std.proofs.lemmas.List.{get_or_append_left}
 use Rattle.std.proofs.lemmas.Option.{none-some}
@@ -34,16 +34,13 @@ use Rattle.mv_select_control.specs.Runs.{Machine}
 use Rattle.mv_select_control.proofs.StatementsDo.{fine_roll}
 use Rattle.mv_select_calls.specs.Convention.{Layout, Stands, Enters, FollowsCall}
 use Rattle.mv_select_functions.specs.Functions.{IsLaid, IsMemory, IsAmple, RunsWithin, IsFunction, frame_in, shape_of, site_of}
+use Rattle.mv_select_functions.proofs.EntryShown.{items_count}
 use Rattle.mv_select_inline.specs.InlineOf.{parameter_pair, load_pair, store_pair, number_pair, return_layer, return_pair, set_layer, set_pair, statement_layer, statement_pair, code_pair, inline_of}
 use Rattle.mv_select_inline.specs.Laws.{ComesBack, IsDone, InlineAnswers}
 use Rattle.mv_select_inline.proofs.Stored.{set_in}
 use Rattle.mv_select_inline.proofs.Rooms.{reads_are}
 use Rattle.mv_select_inline.proofs.Shapes.{same_some, Shape, empty_done, number_done, parameter_done, load_done, store_done}
 use Rattle.mv_select_control.specs.Laws.{uses_in}
-
-items_count : (n : ℕ) (f : ℕ → ℕ) → length (first_items n f) ≡ n
-items_count zero f = refl
-items_count (suc n) f = ap suc (items_count n (λ i. f (suc i)))
 
 -- a choice that gives something was made by a test that holds
 pub chosen_test : {A : Type 0} (b : Bool) (a p : A) → cond b (Some a) None ≡ Some p → b ≡ true

@@ -3,7 +3,7 @@ use Rattle.std.proofs.Common.{◌≡◌, ◌≢◌, inl, inr, ℕ, ◌+◌, ◌�
 use Rattle.mv_num.specs.Words.{add}
 use Rattle.mv_isa.specs.declared.instr.Instr.{Instr}
 use Rattle.mv_isa.specs.Code.{IsPlace, nop}
-use Rattle.mv_isa.specs.Execution.{Access, Goes, reg, put, execute}
+use Rattle.mv_isa.specs.Execution.{Access, Goes, reg, execute}
 use Rattle.mv_isa.specs.Standing.{InstrStands}
 use Rattle.mv_isa.proofs.LineSteps.{stands_steps}
 use Rattle.mv_ir.specs.declared.stm.Array.TheVariants as array
@@ -19,7 +19,7 @@ use Rattle.mv_select_statements.specs.Leads.{limited, Writes}
 use Rattle.mv_select_statements.proofs.TreesFirst.{add_small}
 use Rattle.mv_select_control.specs.Runs.{Spot, Machine, outside, IsRun}
 use Rattle.mv_select_control.proofs.Walk as walk
-use Rattle.mv_select_control.proofs.Walk.{steps_on, stands_at}
+use Rattle.mv_select_control.proofs.Walk.{put_zero, steps_on, stands_at}
 use Rattle.mv_select_calls.specs.Convention.{Layout, IsSaved, IsAbove, HoldsGlobals, Stands, Returns}
 use Rattle.mv_select_functions.specs.Functions.{StandsInWords, RunsWithin}
 use Rattle.mv_select_inline.specs.InlineOf.{address_register}
@@ -56,10 +56,6 @@ saved_address : (q : ℕ) → IsSaved q → q ≢ address_register
 saved_address q (inl e) same = omega (arith, e, same)
 saved_address q (inr (inl e)) same = omega (arith, e, same)
 saved_address q (inr (inr h)) same = omega (arith, h.0, same)
-
-put_zero : (regs : List ℕ) (v : ℕ) → put regs 0 v ≡ regs
-unfolding put
-put_zero regs v = refl
 
 pub nop_sets : {M : Type 0} (access : Access M) (m : M) (regs : List ℕ) → Sets access m nop regs regs
 nop_sets access m regs pc =

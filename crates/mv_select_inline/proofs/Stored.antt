@@ -11,7 +11,7 @@ use Rattle.mv_select_statements.proofs.FrameChanges.{Updates, updates_element}
 use Rattle.mv_select_control.specs.Runs.{Machine}
 use Rattle.mv_select_calls.specs.Convention.{Layout, IsAbove, HoldsGlobals}
 use Rattle.mv_select_functions.specs.Functions as functions
-use Rattle.mv_select_functions.specs.Functions.{IsLaid, IsMemory, IsStack, IsWord, StandsInWords}
+use Rattle.mv_select_functions.specs.Functions.{IsLaid, IsMemory, IsStack}
 use Rattle.mv_select_inline.proofs.Steps.{globals_site}
 
 -- the world in which a global scalar has a value

@@ -16,7 +16,7 @@ use Rattle.mv_select_statements.proofs.TreesFirst.{add_small}
 use Rattle.mv_select_control.specs.Placed.{Text}
 use Rattle.mv_select_control.specs.Runs.{Spot, Machine, outside, LeadsOn, IsRun}
 use Rattle.mv_select_control.proofs.Walk as walk
-use Rattle.mv_select_control.proofs.Walk.{stands_at, steps_on}
+use Rattle.mv_select_control.proofs.Walk.{put_zero, stands_at, steps_on}
 use Rattle.mv_select_calls.specs.CallCode.{link_register}
 use Rattle.mv_select_calls.specs.Convention.{Layout, IsTarget, IsAbove, Stands, Enters, Returns, FollowsCall, Answers, entry_cost, slot_cost}
 use Rattle.mv_select_functions.specs.Functions.{IsLaid, IsMemory, LowersStack}
@@ -114,10 +114,6 @@ module _ {M : Type 0} (access : Access M) (y : Layout) (machine : Machine M) (te
             let t = (and_parts (test (outside u)) (machine.is_calm (outside u) (machine.run j).memory) s.calm).0 in
             follows_narrowed spare k j back (call u).end (keeps u t)
             (answers back j target ra spare u t (stands_too to u j s) (enters_too depth frames args j e) paid asked)
-
-    put_zero : (regs : List ℕ) (v : ℕ) → put regs 0 v ≡ regs
-    unfolding put
-    put_zero regs v = refl
 
     abbrev FC : (spare k i back : ℕ) → End → Type 0
     FC = FollowsCall access y machine budget far
