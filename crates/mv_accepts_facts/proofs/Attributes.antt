@@ -1,5 +1,5 @@
 -- The domain of an attribute that is written with values has some.
-use Rattle.std.proofs.Common.{◌≡◌, ℕ, zero, suc, ◌≤◌, ◌+◌, ◌++◌, arith, refl, Bool, true, false, not, if◌then◌else◌, ◌||◌, is_some, List, [], ◌∷◌, length, length-append, Option, Some, None, take, drop}
+use Rattle.std.proofs.Common.{◌≡◌, ℕ, zero, suc, ◌++◌, arith, refl, Bool, true, false, not, if◌then◌else◌, ◌||◌, is_some, List, [], ◌∷◌, length-append, Option, Some, None, take, drop}
 use Rattle.std.specs.List.{AllByRecursion}
 use Rattle.mv_num.specs.declared.kind.Kind.{Kind}
 use Rattle.mv_ast.specs.declared.place.Place.{Place}

@@ -1,5 +1,5 @@
 -- Objects and functions have names, and the domains of objects have values, through the declarators of a unit.
-use Rattle.std.proofs.Common.{◌≡◌, ℕ, refl, sym, ◌∙◌, ap, subst, Bool, false, is_some, List, [], ◌∷◌, length, Option, Some, None, slice_get, unwrap_or}
+use Rattle.std.proofs.Common.{◌≡◌, ℕ, refl, sym, ◌∙◌, subst, Bool, false, is_some, List, [], length, Option, Some, None, slice_get, unwrap_or}
 use Rattle.std.specs.List.{AllByRecursion}
 use Rattle.mv_ast.specs.declared.place.Place.{Place}
 use Rattle.mv_ast.specs.declared.program.CType.{CType}
@@ -38,10 +38,10 @@ use Rattle.mv_types.specs.declared.contents.Contents.{Contents}
 use Rattle.mv_types.specs.declared.contents.Foreknown.{Foreknown}
 use Rattle.mv_types.specs.declared.contents.Object.{Object}
 use Rattle.mv_types.specs.declared.functions.Before.{Before}
-use Rattle.mv_types.specs.Contents.{in_scope, with_function}
+use Rattle.mv_types.specs.Contents.{in_scope}
 use Rattle.mv_types.specs.Foreknown.{is_attributed}
 use Rattle.mv_types.specs.Functions as functions
-use Rattle.mv_types.specs.Functions.{body_entered, body_left, function_of, function_scope, params_of, defined, before_of, rule_of, function_behind, function_judgement, definition_parameters}
+use Rattle.mv_types.specs.Functions.{body_entered, body_left, function_of, function_scope, params_of, defined, before_of, rule_of, function_judgement, definition_parameters}
 use Rattle.mv_types.specs.Objects.{number_of, object_words, object_scope, new_object, either_domain, again, replaced, objects_again, objects_behind, object_behind, object_judgement, domain_by}
 use Rattle.mv_types.specs.Units.{by_entity, nameless_values, named_declarator, base_of, declarator_judgement}
 use Rattle.mv_accepts_names.proofs.Functions.{IsBuilt, built_good}

@@ -1,5 +1,5 @@
 -- The enumerations that tags at file scope name have values.
-use Rattle.std.proofs.Common.{◌≡◌, ℕ, ◌≤◌, ◌+◌, ◌⊎◌, inl, inr, ◌++◌, arith, refl, sym, ◌∙◌, ap, subst, Bool, true, false, is_some, nat_eq, if◌then◌else◌, List, [], ◌∷◌, length, length-append, take, drop, Option, Some, None, slice_get}
+use Rattle.std.proofs.Common.{◌≡◌, ℕ, ◌≤◌, ◌⊎◌, inl, inr, ◌++◌, arith, refl, sym, ◌∙◌, ap, subst, Bool, true, false, is_some, nat_eq, if◌then◌else◌, List, [], ◌∷◌, length, length-append, take, drop, Option, Some, None, slice_get}
 use Rattle.std.specs.Cmp.Lexicographic.{pointwise}
 use Rattle.std.specs.List.{AllByRecursion}
 use Rattle.std.proofs.lemmas.Option.{same_Some}

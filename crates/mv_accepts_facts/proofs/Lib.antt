@@ -5,4 +5,3 @@ mod Units
 mod Switches
 mod Functions
 mod Whole
-mod Identifiers

@@ -1,6 +1,5 @@
 -- The switches among some objects are different globals, and their domains have values.
-use Rattle.std.proofs.Common.{◌≡◌, ◌≢◌, ℕ, suc, ◌<◌, ◌≤◌, ◌++◌, arith, sym, ◌∙◌, subst, List, [], ◌∷◌, Option, Some, None, AllPairs}
-use Rattle.std.specs.Prelude.{All}
+use Rattle.std.proofs.Common.{◌≢◌, ℕ, suc, ◌<◌, ◌≤◌, ◌++◌, arith, sym, subst, List, [], ◌∷◌, Option, Some, None, AllPairs}
 use Rattle.std.specs.List.{AllByRecursion}
 use Rattle.std.proofs.lemmas.List.Elements.{All-from_recursion}
 use Rattle.std.proofs.lemmas.List.Kept.{AllPairs-cons}

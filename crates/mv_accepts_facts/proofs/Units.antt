@@ -1,13 +1,10 @@
 -- The objects and functions that the declarations of a unit come to are written as the grammar has them.
-use Rattle.std.proofs.Common.{◌≡◌, ℕ, zero, suc, refl, List, [], ◌∷◌, replicate, length, Option, Some, None}
+use Rattle.std.proofs.Common.{ℕ, zero, suc, refl, List, [], replicate, length, Option, None}
 use Rattle.std.specs.List.{AllByRecursion}
-use Rattle.mv_ast.specs.declared.program.Function.{Function}
 use Rattle.mv_ast.specs.declared.unit.Declarator.{Declarator}
 use Rattle.mv_ast.specs.declared.unit.Item.{Item}
 use Rattle.mv_ast.specs.declared.unit.Line.{Line}
 use Rattle.mv_ast.specs.declared.unit.Specs.{out-Specs}
-use Rattle.mv_check_scope.specs.Scoped.{start}
-use Rattle.mv_check_scope.specs.declared.scope.Scope.{Scope}
 use Rattle.mv_check_declarations.specs.declared.attributes.Position.TheVariants as position
 use Rattle.mv_check_declarations.specs.declared.specifiers.Specified.{Specified}
 use Rattle.mv_check_declarations.specs.Specifiers.{specifiers}
@@ -24,7 +21,7 @@ use Rattle.mv_types.specs.Units.{declarator_judgement, holders, declares_nothing
 use Rattle.mv_accepts_identifiers.specs.Written.{IsWrittenDeclarator, IsWrittenItem}
 use Rattle.mv_accepts_identifiers.proofs.Phrases.{IfSome}
 use Rattle.mv_accepts_facts.proofs.Attributes.{IsFilledAttribute}
-use Rattle.mv_accepts_facts.proofs.Enumerations.{Has, HasTags, number_more, IsFilledBehind, specifiers_filled}
+use Rattle.mv_accepts_facts.proofs.Enumerations.{Has, number_more, IsFilledBehind, specifiers_filled}
 use Rattle.mv_accepts_facts.proofs.Declarators.{IsNamedFunction, AreWritten, IsWrittenBehind, declarator_written}
 
 module _ (fit : ParametersFit) (grow : BodyGrows) (k : Foreknown) where

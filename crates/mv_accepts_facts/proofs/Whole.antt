@@ -1,13 +1,12 @@
 -- The program of a text that is accepted has what tables need to know of it.
-use Rattle.std.proofs.Common.{◌≡◌, ◌≢◌, ℕ, ◌<◌, ◌≤◌, arith, refl, sym, ◌∙◌, ap, subst, Bool, true, false, cond, if◌then◌else◌, List, [], ◌∷◌, length, map, get_or, Option, Some, None, slice_get, AllPairs}
+use Rattle.std.proofs.Common.{◌≡◌, ◌≢◌, ℕ, ◌<◌, ◌≤◌, arith, refl, sym, ◌∙◌, ap, subst, Bool, true, false, cond, if◌then◌else◌, List, [], ◌∷◌, length, map, get_or, Some, slice_get, AllPairs}
 use Rattle.std.specs.Prelude.{All, filter}
 use Rattle.std.specs.List.{AllByRecursion}
 use Rattle.std.specs.List.Sorted.{IsStrictlyIncreasing}
-use Rattle.std.proofs.lemmas.List.Elements.{All-from_recursion, All-weaker, All-map, All-get_or}
+use Rattle.std.proofs.lemmas.List.Elements.{All-from_recursion, All-weaker, All-get_or}
 use Rattle.std.proofs.lemmas.List.Kept.{AllPairs-from_increasing}
 use Rattle.std.proofs.lemmas.Option.{same_Some, slice_get-get_or, slice_get_within}
 use Rattle.mv_num.specs.declared.kind.Kind.{Kind}
-use Rattle.mv_num.specs.Kinds.{kind_number, is_value}
 use Rattle.mv_ast.specs.declared.program.CType.{CType}
 use Rattle.mv_ast.specs.declared.program.CType.TheVariants.{Void, Scalar, Pointer}
 use Rattle.mv_ast.specs.declared.program.Function.{Function}
@@ -18,8 +17,8 @@ use Rattle.mv_ast.specs.Actions.{is_value_of}
 use Rattle.mv_ast.specs.Counts.{assignments, product_of, words_of_size}
 use Rattle.mv_ast.specs.Plans.{attributed_functions, switch_global, switch_domain, global_or_none, values_or_none}
 use Rattle.mv_check_declarations.specs.Turns.{through}
-use Rattle.mv_source_forms.specs.Typing.{IsInteger, IsIntegerSwitch, global_types}
-use Rattle.mv_source_forms.specs.WellFormed.{IsWellFormed, IsWellFormedSwitch, IsWithinLimits}
+use Rattle.mv_source_forms.specs.Typing.{IsInteger, global_types}
+use Rattle.mv_source_forms.specs.WellFormed.{IsWellFormed, IsWellFormedSwitch}
 use Rattle.mv_accepts_statements.specs.Bodies.{BodyGrows, ParametersFit}
 use Rattle.mv_accepts_statements.proofs.Judging.{of_good}
 use Rattle.mv_accepts_statements.proofs.Lists.{all_more, all_mapped, mapped_there}
@@ -37,7 +36,6 @@ use Rattle.mv_check_rules.proofs.Units.{same_judgement}
 use Rattle.mv_front.specs.Verdicts.{IsProgram}
 use Rattle.mv_source_facts.specs.Facts.{IsName, IsTableSwitch, IsTableFunction, HasTableFacts}
 use Rattle.mv_accepts_identifiers.specs.Written.{UnitsOfTextsAreWritten}
-use Rattle.mv_accepts_identifiers.proofs.Phrases.{HasSome}
 use Rattle.mv_accepts_facts.proofs.Declarators.{IsWrittenObject, AreWritten}
 use Rattle.mv_accepts_facts.proofs.Functions.{IsOwner, owners, product_some}
 use Rattle.mv_accepts_facts.proofs.Switches.{HasDomain, AreApart, domains_some, all_apart}

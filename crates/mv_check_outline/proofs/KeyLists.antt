@@ -1,14 +1,12 @@
 -- The keys of a set, and the names that they hold.
-use Rattle.std.proofs.Common.{◌≡◌, ◌∙◌, ℕ, suc, refl, ap, sym, cond, not, ◌+◌, nat_lt, Bool, true, false, ◌||◌, ◌++◌, ◌<◌, length, take, get_or, filter, subst, List, [], ◌∷◌, map, Option, Some, None, position, nat_eq, if◌then◌else◌}
-use Rattle.std.specs.List.{list_any, prefix_len}
-use Rattle.std.specs.Cmp.Lexicographic.{pointwise}
+use Rattle.std.proofs.Common.{◌≡◌, ◌∙◌, ℕ, ap, sym, ◌+◌, Bool, true, false, ◌++◌, ◌<◌, length, take, get_or, filter, subst, List, [], ◌∷◌, if◌then◌else◌}
 use Rattle.std.specs.declared.vec.Vec.{Vec}
 use Rattle.std.specs.declared.alloc.Global.{Global}
-use Rattle.std.proofs.lemmas.List.{map-append, length-map, take_more}
+use Rattle.std.proofs.lemmas.List.{length-map, take_more}
 use Rattle.std.proofs.lemmas.List.Sums.{fold-append}
 use Rattle.std.proofs.lemmas.List.Elements.{filter-append}
 use Rattle.std.proofs.Math.ListN.{get_or-map}
-use Rattle.mv_check_outline.specs.Names.{is_among, with_name, each_once, place_of, names_of}
+use Rattle.mv_check_outline.specs.Names.{is_among, with_name, each_once, names_of}
 
 -- the name of one key more
 pub next_kept : (others : List (List ℕ)) (ks : List (Vec ℕ Global)) (i : ℕ) (k : Vec ℕ Global) → i < length ks → k ≡ get_or ks i k →

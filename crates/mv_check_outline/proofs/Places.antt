@@ -1,7 +1,7 @@
 -- The place of a name, by recursion over the names, and what a map with one key more has.
-use Rattle.std.proofs.Common.{◌≡◌, ◌∙◌, ℕ, subst, refl, sym, ap, ap₂, cond, not, nat_lt, ◌+◌, ◌<◌, ◌||◌, Bool, true, false, true≢false, ◌++◌, length, List, [], ◌∷◌, Option, Some, None, IfSome, nat_eq, arith}
-use Rattle.std.specs.List.{list_any, position_or_len}
-use Rattle.std.specs.Option.{is_some, option_map}
+use Rattle.std.proofs.Common.{◌≡◌, ◌∙◌, ℕ, subst, refl, sym, ap, ap₂, cond, not, nat_lt, ◌+◌, ◌<◌, ◌||◌, Bool, true, false, true≢false, ◌++◌, length, List, [], ◌∷◌, Option, Some, None, IfSome, arith}
+use Rattle.std.specs.List.{position_or_len}
+use Rattle.std.specs.Option.{is_some}
 use Rattle.std.specs.Ordering.{is_eq, nat_cmp, eq_by_cmp}
 use Rattle.std.specs.BTreeMap.{is_at}
 use Rattle.std.specs.Map.{KeepsOthers}

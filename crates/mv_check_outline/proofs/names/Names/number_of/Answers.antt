@@ -1,4 +1,4 @@
-use Rattle.std.proofs.Common.{◌≡◌, ◌∙◌, ◌<◌, length, ap, sym, subst, IfSome}
+use Rattle.std.proofs.Common.{◌∙◌, ◌<◌, length, ap, sym, subst, IfSome}
 use Rattle.mv_check_outline.specs.Names.{place_of}
 use Rattle.mv_check_outline.proofs.Places.{place_within}
 use Rattle.mv_check_outline.proofs.names.Names.number_of.Goals as goal

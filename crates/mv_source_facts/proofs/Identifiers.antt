@@ -1,19 +1,16 @@
 -- A name in a source is an identifier of the format of images.
-use Rattle.std.proofs.Common.{◌≡◌, ℕ, ◌<◌, refl, sym, ◌∙◌, ap, Bool, true, false, ◌||◌, ◌&&◌, ◌==◌, nat_le, List, [], ◌∷◌, ◌++◌, length, get_or, Some, slice_get, slice_index}
-use Rattle.std.specs.List.{AllByRecursion}
+use Rattle.std.proofs.Common.{◌≡◌, ℕ, refl, sym, ◌∙◌, ap, Bool, true, false, ◌||◌, ◌&&◌, ◌==◌, nat_le, List, [], ◌∷◌, ◌++◌, slice_index, All}
 use Rattle.std.specs.Str.{bytes_eq}
 use Rattle.std.proofs.lemmas.Bool.{or_from}
-use Rattle.std.proofs.lemmas.Option.{slice_get_within, get_or_from_slice_get}
+use Rattle.std.proofs.lemmas.List.Elements.{All-nil, All-cons, All-head, All-tail, All-append, All-from_get_or}
 use Rattle.std.proofs.lemmas.Slice.Eq.{bytes_eq-Decides}
 use Rattle.mv_image.specs.Format.{IsIdentifier}
 use Rattle.mv_image.specs.Names.{is_letter, is_digit, is_one_of, first_words, second_words, third_words, fourth_words, fifth_words, is_keyword}
-use Rattle.mv_lexer.specs.Bytes.{is_nondigit, is_identifier_byte}
+use Rattle.mv_lexer.specs.Bytes.{is_nondigit}
 use Rattle.mv_lexer.specs.Tables.{keywords, unsupported_keywords, entries, IsEntry}
 use Rattle.mv_lexer.specs.declared.table.Table.{Table}
 use Rattle.mv_lexer.specs.declared.table.Table.TheVariants.{Keywords, UnsupportedKeywords}
-use Rattle.mv_accepts_statements.proofs.Lists.{all_by, all_append}
 use Rattle.mv_source_facts.specs.Facts.{IsName}
-use Rattle.mv_accepts_identifiers.proofs.Phrases.{all_parts}
 
 -- ---- bytes
 
@@ -32,10 +29,8 @@ letter b = reordered (nat_le 65 b && nat_le b 90) (nat_le 97 b && nat_le b 122) 
 abbrev Differs : List ℕ → List ℕ → Type 0
 Differs name word = name ≡ word → ⊥
 
-entries_differ : (name : List ℕ) (table : Table) → ((k : ℕ) → IsEntry table k name → ⊥) → AllByRecursion (Differs name) (entries table)
-entries_differ name table h =
-    all_by (Differs name) (entries table) (λ i word q e.
-    h i (record { in_range = slice_get_within (entries table) i word q; is = e ∙ sym (get_or_from_slice_get (entries table) i word [] q) }))
+entries_differ : (name : List ℕ) (table : Table) → ((k : ℕ) → IsEntry table k name → ⊥) → All (Differs name) (entries table)
+entries_differ name table h = All-from_get_or (Differs name) (entries table) [] (λ i lt e. h i (record { in_range = lt; is = e }))
 
 one_differs : (name word : List ℕ) → Differs name word → bytes_eq name word ≡ false
 one_differs name word h = by (bytes_eq name word) refl
@@ -44,14 +39,19 @@ one_differs name word h = by (bytes_eq name word) refl
     by true q = absurd (h ((bytes_eq-Decides name word).0 q))
     by false q = refl
 
-none_is : (name : List ℕ) (words : List (List ℕ)) → AllByRecursion (Differs name) words → is_one_of words name ≡ false
+none_is : (name : List ℕ) (words : List (List ℕ)) → All (Differs name) words → is_one_of words name ≡ false
 none_is name [] h = refl
-none_is name (word ∷ words) h = or_from (bytes_eq name word) (is_one_of words name) (one_differs name word h.0) (none_is name words h.1)
+none_is name (word ∷ words) h =
+    or_from (bytes_eq name word) (is_one_of words name) (one_differs name word (All-head (Differs name) word words h)) (none_is name words (All-tail (Differs name) word words h))
+
+all_parts : {A : Type 0} (P : A → Type 0) (xs ys : List A) → All P (xs ++ ys) → All P xs × All P ys
+all_parts P [] ys h = (All-nil P, h)
+all_parts P (x ∷ xs) ys h = let r = all_parts P xs ys (All-tail P x (xs ++ ys) h) in (All-cons P x xs (All-head P x (xs ++ ys) h) r.0, r.1)
 
 -- all keywords, as the format groups them
-all_differ : (name : List ℕ) → IsName name → AllByRecursion (Differs name) (first_words ++ (second_words ++ (third_words ++ (fourth_words ++ fifth_words))))
+all_differ : (name : List ℕ) → IsName name → All (Differs name) (first_words ++ (second_words ++ (third_words ++ (fourth_words ++ fifth_words))))
 all_differ name n =
-    all_append (Differs name) keywords unsupported_keywords (entries_differ name Keywords n.no_keyword) (entries_differ name UnsupportedKeywords n.no_unsupported)
+    All-append (Differs name) keywords unsupported_keywords (entries_differ name Keywords n.no_keyword) (entries_differ name UnsupportedKeywords n.no_unsupported)
 
 no_keyword : (name : List ℕ) → IsName name → is_keyword name ≡ false
 unfolding is_keyword
