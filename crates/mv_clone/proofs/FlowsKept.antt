@@ -15,9 +15,10 @@ use Rattle.mv_ir.specs.Measures.{callee_trees}
 use Rattle.mv_ir.specs.Live.{reads_temp, any_reads, is, Around, Flow, live_in_order, marks_in_order, plain, goes_next, layer_flow, flow, nowhere, live_at_start, all_marks, IsWhole, HasTemps, mark_at, marks_length, interval, filled, greatest_up_to, count_at, below, most_intervals}
 use Rattle.mv_ir.proofs.Induction.{TreeChildren, tree_ind}
 use Rattle.mv_ir.proofs.Rolls.{same_functions, reads_temp_roll, flow_roll}
+use Rattle.mv_ir.proofs.Keeping.{map_append}
 use Rattle.mv_clone.specs.Bind.{bound_tree, bound_callee, bound_layer, bound_code, known_or_read}
 use Rattle.mv_clone.proofs.Bound.{bound_tree_roll}
-use Rattle.mv_clone.proofs.Kept.{callee_trees_bound, blind_all, map_append}
+use Rattle.mv_clone.proofs.Kept.{callee_trees_bound, blind_all}
 
 module _ (ps : List (ℕ × ℕ)) (t : ℕ) where
   -- ---- trees
@@ -72,7 +73,7 @@ module _ (ps : List (ℕ × ℕ)) (t : ℕ) where
 
   trees_of_call : (f : Callee) (args : List Tree) → any_reads t (callee_trees (bound_callee ps f) ++ map (bound_tree ps) args) ≡ any_reads t (callee_trees f ++ args)
   trees_of_call f args =
-      ap (λ l. any_reads t (l ++ map (bound_tree ps) args)) (callee_trees_bound ps f) ∙ ap (any_reads t) (sym (map_append ps (bound_tree ps) (callee_trees f) args)) ∙
+      ap (λ l. any_reads t (l ++ map (bound_tree ps) args)) (callee_trees_bound ps f) ∙ ap (any_reads t) (sym (map_append (bound_tree ps) (callee_trees f) args)) ∙
       any_same (callee_trees f ++ args)
 
   flow_blind : (x : Stm-F Flow) → layer_flow t (bound_layer ps x) ≡ layer_flow t x
