@@ -4,6 +4,7 @@ use Rattle.std.specs.List.{list_all}
 use Rattle.std.proofs.lemmas.List.{append-nil}
 use Rattle.std.proofs.lemmas.Bool.Decides.{nat_tests}
 use Rattle.mv_num.specs.Bytes.{AreWords}
+use Rattle.mv_num.specs.Regions.{text_limit, data_limit}
 use Rattle.mv_asmtext.specs.declared.assembly.Fault.{Fault}
 use Rattle.mv_asmtext.specs.declared.code.Code.{Code}
 use Rattle.mv_asmtext.specs.declared.number.Number.{Number}
@@ -20,7 +21,7 @@ use Rattle.mv_asmtext.specs.Labels.{labels_from, labels_of, with_name}
 use Rattle.mv_asmtext.specs.Lexemes.{lexemes}
 use Rattle.mv_asmtext.specs.Numbers.{number}
 use Rattle.mv_asmtext.specs.Printing.{hex, word_text, raw_text, word_lines, raw_lines, data_text, printed}
-use Rattle.mv_asmtext.specs.Scans.{FitsImage, scanned, of_reading, text_limit, data_limit}
+use Rattle.mv_asmtext.specs.Scans.{FitsImage, scanned, of_reading}
 use Rattle.mv_asmtext.specs.Sites.{Sites}
 use Rattle.mv_asmtext.specs.Sources.{address_of, place, place_in, place_after, put, with_next, read_from, lines_of, nothing_read}
 use Rattle.mv_asmtext.specs.Statements.{no_operands, with_operands, unlabelled, label_in, body, body_of}

@@ -20,7 +20,7 @@ use Rattle.mv_asmtext.specs.Labels.{named, labels_of}
 use Rattle.mv_asmtext.specs.Sites.{Sites}
 use Rattle.mv_asmtext.specs.Mnemonics.{field_of, instruction}
 use Rattle.mv_asmtext.specs.Numbers.{number, signed, distance}
-use Rattle.mv_asmtext.specs.Sources.{text_start}
+use Rattle.mv_num.specs.Regions.{text_start}
 
 -- the address of one of so many words of text
 abbrev pub is_entry : ℕ → Number → Bool

@@ -1,5 +1,6 @@
 -- What the scanner answers: the code of a text within the limits, or the first refusal in their order.
 use Rattle.std.specs.Prelude.{ℕ, ◌≡◌, ◌+◌, ◌*◌, ◌%◌, ◌^◌, ◌<◌, ◌≤◌, ◌==◌, nat_lt, List, length, if◌then◌else◌, Result, Ok, Err}
+use Rattle.mv_num.specs.Regions.{text_start, text_limit, data_limit}
 use Rattle.mv_asmtext.specs.declared.assembly.Fault.{Fault}
 use Rattle.mv_asmtext.specs.declared.assembly.Fault.TheVariants as faults
 use Rattle.mv_asmtext.specs.declared.code.Code.{Code}
@@ -7,13 +8,7 @@ use Rattle.mv_asmtext.specs.declared.error.ScanError.{ScanError}
 use Rattle.mv_asmtext.specs.declared.error.ScanError.TheVariants.{TooLong, Line, TextLimit, DataLimit, Memory}
 use Rattle.mv_asmtext.specs.declared.source.Reading.{Reading}
 use Rattle.mv_asmtext.specs.Assembly.{FaultAt, assembled}
-use Rattle.mv_asmtext.specs.Sources.{text_start, read}
-
-abbrev pub text_limit : ℕ
-text_limit = 131072
-
-abbrev pub data_limit : ℕ
-data_limit = 262144
+use Rattle.mv_asmtext.specs.Sources.{read}
 
 -- an image has room for the code, which begins at one of its words of text
 pub record FitsImage (code : Code) : Type 0 where

@@ -1,6 +1,7 @@
 -- The lines of a text, each with its place: which lines may stand where, and at which address.
 use Rattle.std.specs.Prelude.{ℕ, ◌+◌, ◌*◌, ◌==◌, ◌||◌, List, [], ◌∷◌, ◌++◌, if◌then◌else◌, Option, Some, None, is_some, Result, Ok, Err}
 use Rattle.std.specs.List.{slice_split}
+use Rattle.mv_num.specs.Regions.{text_start, data_start}
 use Rattle.mv_asmtext.specs.declared.source.Section.{Section}
 use Rattle.mv_asmtext.specs.declared.source.Section.TheVariants as sections
 use Rattle.mv_asmtext.specs.declared.source.Place.{Place}
@@ -12,13 +13,6 @@ use Rattle.mv_asmtext.specs.declared.statement.Statement.{Statement}
 use Rattle.mv_asmtext.specs.declared.statement.Body.{Body}
 use Rattle.mv_asmtext.specs.Lexemes.{lexemes}
 use Rattle.mv_asmtext.specs.Statements.{body_of}
-
--- text begins at 0x1000 and data at 0x100000
-abbrev pub text_start : ℕ
-text_start = 0x1000
-
-abbrev pub data_start : ℕ
-data_start = 0x100000
 
 abbrev pub address_in : Section → (t d : ℕ) → ℕ
 address_in sections.Start t d = text_start + 4 * t

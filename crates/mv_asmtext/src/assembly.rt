@@ -17,6 +17,7 @@ use crate::source::{Line, Section};
 use crate::statement::{Operation, Statement, Value};
 use mv_isa::encode;
 use mv_num::list::List;
+use mv_num::regions::TEXT_START;
 use std::alloc::{AllocError, Global};
 
 /// What is wrong with an operand or a label.
@@ -34,8 +35,8 @@ fn is_entry(words: u32, number: Number) -> bool
     ensures { result ≡ is_entry words number }
 {
     !number.negative
-        && 0x1000 <= number.magnitude
-        && number.magnitude < 0x1000 + 4 * u64::from(words)
+        && u64::from(TEXT_START) <= number.magnitude
+        && number.magnitude < u64::from(TEXT_START) + 4 * u64::from(words)
         && number.magnitude % 4 == 0
 }
 
@@ -234,7 +235,7 @@ pub fn assemble(
 {
     let labels = labels_of(alloc, lines)?;
     let mut code = Code {
-        entry: 0x1000,
+        entry: TEXT_START,
         text: List::new(alloc),
         globals: List::new(alloc),
     };

@@ -7,9 +7,9 @@ use mv_num::list::List;
 pub struct Code {
     /// The address at which a run begins.
     pub entry: u32,
-    /// The words of text, from 0x00001000 on.
+    /// The words of text.
     pub text: List<u32>,
-    /// The words of data, from 0x00100000 on.
+    /// The words of data.
     pub globals: List<u32>,
 }
 

@@ -9,11 +9,8 @@ use crate::assembly::{Fault, assemble};
 use crate::code::Code;
 use crate::error::ScanError;
 use crate::source::{Reading, read};
+use mv_num::regions::{DATA_LIMIT, TEXT_LIMIT};
 use std::alloc::{AllocError, Global};
-
-const TEXT_LIMIT: usize = 131_072;
-
-const DATA_LIMIT: usize = 262_144;
 
 /// The code, if an image has room for it.
 fn within_limits(code: Code) -> Result<Code, ScanError>

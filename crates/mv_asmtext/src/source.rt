@@ -7,6 +7,7 @@ ghost use Rattle.mv_asmtext.specs.Sources.{address_of, place_after, place_behind
 
 use crate::statement::{Body, Operation, Statement, read_body};
 use mv_num::list::List;
+use mv_num::regions::{DATA_START, TEXT_START};
 use mv_num::text::Text;
 use std::alloc::{AllocError, Global};
 
@@ -51,8 +52,8 @@ fn address_of(place: Place) -> u32
     ensures { result ≡ address_of place }
 {
     match place.section {
-        Section::Start | Section::Text => 0x1000 + 4 * place.text_words,
-        Section::Data => 0x0010_0000 + 4 * place.data_words,
+        Section::Start | Section::Text => TEXT_START + 4 * place.text_words,
+        Section::Data => DATA_START + 4 * place.data_words,
     }
 }
 

@@ -1,5 +1,6 @@
 -- How many words the text of a program has, and how many sites.
 use Rattle.std.specs.Prelude.{ℕ, ◌+◌, ◌*◌, ◌<◌, ◌≤◌, ◌≡◌, Bool, List, length, map, sum, Some, slice_get, All}
+use Rattle.mv_num.specs.Regions.{text_limit}
 use Rattle.mv_ast.specs.declared.program.Program.{Program}
 use Rattle.mv_ast.specs.declared.program.Function.{Function}
 use Rattle.mv_ast.specs.Counts.{nodes, calls, assignments, patchable}
@@ -52,7 +53,7 @@ text_count p = 400 + 40 * sum (map (λ g. (1 + nodes g) * (1 + assignments p g))
 abbrev pub TextsPass : Type 0
 TextsPass =
     (p : Program) → IsWellFormed p → (parts : Parts) → HaveCode p parts.functions → HaveVariants p parts.attributed →
-    (words : ℕ) → PassesText text_start (linked_lines parts) words → 131072 < text_count p
+    (words : ℕ) → PassesText text_start (linked_lines parts) words → text_limit < text_count p
 
 -- ---- sites
 

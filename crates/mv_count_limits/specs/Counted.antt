@@ -1,5 +1,6 @@
 -- The limits on what a program is compiled to, by counts over the source.
 use Rattle.std.specs.Prelude.{ℕ, ◌≡◌, ◌<◌, ◌≤◌, List, Some, slice_get}
+use Rattle.mv_num.specs.Regions.{text_limit}
 use Rattle.mv_ast.specs.declared.program.Program.{Program}
 use Rattle.mv_ast.specs.declared.program.Function.{Function}
 use Rattle.mv_front.specs.Verdicts.{IsProgram}
@@ -20,7 +21,7 @@ abbrev pub SitesAreCounted : Type 0
 SitesAreCounted = (text : List ℕ) (p : Program) → IsProgram text p → (count : ℕ) → PassesSites p count → site_limit < site_count p
 
 abbrev pub TextsAreCounted : Type 0
-TextsAreCounted = (text : List ℕ) (p : Program) → IsProgram text p → (words : ℕ) → PassesTextOf p words → 131072 < text_count p
+TextsAreCounted = (text : List ℕ) (p : Program) → IsProgram text p → (words : ℕ) → PassesTextOf p words → text_limit < text_count p
 
 -- The declared words of each function and eight for each level of its depth are at most 480, there are few enough words of data, and the counts of sites
 -- and of text are within their limits.
@@ -28,7 +29,7 @@ pub record IsWithinCounts (p : Program) : Type 0 where
   pub frames : (f : ℕ) (g : Function) → slice_get p.functions f ≡ Some g → frame_count g ≤ 480
   pub sites : site_count p ≤ site_limit
   pub data_fits : data_words p ≤ data_limit
-  pub text : text_count p ≤ 131072
+  pub text : text_count p ≤ text_limit
 
 -- Such a program of a source passes no limit.
 abbrev pub CountedPassNone : Type 0

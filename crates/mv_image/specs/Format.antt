@@ -2,6 +2,7 @@
 use Rattle.std.specs.Prelude.{ℕ, ◌≡◌, ◌+◌, ◌<◌, ◌≤◌, ◌⊎◌, ◌||◌, true, false, List, length, map, slice_index, slice_index_or, sum_by}
 use Rattle.std.specs.Prelude.{All}
 use Rattle.mv_num.specs.Bytes.{AreWords}
+use Rattle.mv_num.specs.Regions.{text_limit, data_limit}
 use Rattle.mv_descriptors.specs.declared.rows.SwitchRow.{SwitchRow}
 use Rattle.mv_descriptors.specs.declared.rows.FunctionRow.{FunctionRow}
 use Rattle.mv_descriptors.specs.declared.rows.VariantRow.{VariantRow}
@@ -17,8 +18,8 @@ use Rattle.mv_image.specs.Faults.{Rules, lengths_in}
 -- Text has a word at least, a run begins in it, and no list is longer than the format allows.
 pub record IsWithin (image : Fields) : Type 0 where
   pub some_text : 1 ≤ length image.text
-  pub text : length image.text ≤ 131072
-  pub globals : length image.globals ≤ 262144
+  pub text : length image.text ≤ text_limit
+  pub globals : length image.globals ≤ data_limit
   pub switches : length image.switches ≤ 64
   pub functions : length image.functions ≤ 1000
   pub variants : length image.variants ≤ 64000

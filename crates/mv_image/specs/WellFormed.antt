@@ -1,6 +1,7 @@
 -- What the rows of an image keep, each by its own fields.
 use Rattle.std.specs.Prelude.{ℕ, ◌≡◌, ◌+◌, ◌-◌, ◌*◌, ◌/◌, ◌%◌, ◌<◌, ◌≤◌, true, length, slice_index, slice_index_or}
 use Rattle.mv_num.specs.Kinds.{kind_number, is_value, is_at_most}
+use Rattle.mv_num.specs.Regions.{text_start, data_start}
 use Rattle.mv_descriptors.specs.declared.rows.SwitchRow.{SwitchRow}
 use Rattle.mv_descriptors.specs.declared.rows.FunctionRow.{FunctionRow}
 use Rattle.mv_descriptors.specs.declared.rows.VariantRow.{VariantRow}
@@ -10,17 +11,17 @@ use Rattle.mv_image.specs.Spelling.{Fields}
 use Rattle.mv_image.specs.Jumps.{nop, jump}
 use Rattle.mv_image.specs.Patched.{kind_of}
 
--- an address of a word of text, which stands from 0x1000 on
+-- an address of a word of text
 pub record IsInText (image : Fields) (a : ℕ) : Type 0 where
   pub aligned : a % 4 ≡ 0
-  pub not_before : 4096 ≤ a
-  pub within : a < 4096 + 4 * length image.text
+  pub not_before : text_start ≤ a
+  pub within : a < text_start + 4 * length image.text
 
--- an address of a word of data, which stands from 0x100000 on
+-- an address of a word of data
 pub record IsInData (image : Fields) (a : ℕ) : Type 0 where
   pub aligned : a % 4 ≡ 0
-  pub not_before : 1048576 ≤ a
-  pub within : a < 1048576 + 4 * length image.globals
+  pub not_before : data_start ≤ a
+  pub within : a < data_start + 4 * length image.globals
 
 pub record FitsSwitch (image : Fields) (row : SwitchRow) : Type 0 where
   pub named : 1 ≤ row.length
@@ -51,8 +52,8 @@ pub record FitsSite (image : Fields) (row : SiteRow) : Type 0 where
   pub address : IsInText image row.address
   pub next : IsInText image (row.address + 4)
   pub function : row.function < length image.functions
-  pub call : (d : FunctionRow) → slice_index image.text ((row.address - 4096) / 4) ≡ jump 1 row.address (slice_index_or image.functions row.function d).entry
-  pub pad : slice_index image.text ((row.address + 4 - 4096) / 4) ≡ nop
+  pub call : (d : FunctionRow) → slice_index image.text ((row.address - text_start) / 4) ≡ jump 1 row.address (slice_index_or image.functions row.function d).entry
+  pub pad : slice_index image.text ((row.address + 4 - text_start) / 4) ≡ nop
 
 -- A guard row of a function gives a range of values for each of the function's switches, and zeros for no switch.
 pub record FitsGuard (image : Fields) (function : FunctionRow) (row : GuardRow) : Type 0 where

@@ -7,6 +7,8 @@
 //! - `labelled::labelled_law`: what each item of labelled code does where it stands, over any text and memory: a jump
 //!   leads to its label, a branch in one step or in two over the inverse, an entry puts its address into a register, a
 //!   slot calls.
+//! - `labels` has the labels of the stubs and `requests` the numbers of the environment calls, as `specs/Labels.antt` and
+//!   `specs/Requests.antt` do.
 //! - Only tested: 554 words of GNU as (`mv_test_asmtext`).
 #![tactic(auto)]
 
@@ -15,6 +17,8 @@ mod encoding;
 mod field;
 mod instr;
 pub mod labelled;
+pub mod labels;
+pub mod requests;
 
 pub use decoding::decode;
 pub use encoding::{encode, encoding_law};

@@ -1,11 +1,15 @@
 -- What the linker joins: the stubs, and behind them the functions and their variants.
 use Rattle.std.specs.Prelude.{ℕ, ◌+◌, ◌*◌, ◌<◌, ◌≤◌, ◌≡◌, ◌⊎◌, pos, negsuc, nat_lt, if◌then◌else◌, List, [], ◌∷◌, ◌++◌, length, take, map, slice_index, All, sum_by}
 use Rattle.std.specs.List.{flat_map}
+use Rattle.mv_num.specs.Regions.{plan_upper}
+use Rattle.mv_ast.specs.Traps.{depth_limit}
 use Rattle.mv_isa.specs.declared.instr.Instr.{Instr}
 use Rattle.mv_isa.specs.declared.instr.Instr.TheVariants.{Lui, Jal, Jalr, Beq, Lw, Sw, Addi, FenceI, Ecall}
 use Rattle.mv_isa.specs.declared.labelled.Labelled.{Labelled}
 use Rattle.mv_isa.specs.declared.labelled.Line.{Line}
 use Rattle.mv_isa.specs.declared.labelled.Line.TheVariants.{Word, Label, Jump, Branch, Entry, Slot}
+pub use Rattle.mv_isa.specs.Labels.{trap_label, commit_label}
+use Rattle.mv_isa.specs.Requests as request
 use Rattle.mv_isa.specs.Code.{StandsOnce, LineFits}
 use Rattle.mv_linker.specs.declared.parts.Parts.{Parts}
 use Rattle.mv_linker.specs.declared.parts.PartFunction.{PartFunction}
@@ -30,14 +34,6 @@ codes parts = parts.functions ++ variant_codes (function_variants parts.attribut
 -- ---- labels. In the linked code the label of an entry is the number of its code. Behind those of all codes come the own labels of each in order, and
 -- the labels of the stubs stay as they are.
 
--- the label of the stub of a trap, 1 to 4
-abbrev pub trap_label : ℕ → ℕ
-trap_label c = 4294967289 + c
-
--- the label of the stub of commits
-abbrev pub commit_label : ℕ
-commit_label = 4294967295
-
 -- what a label becomes of a function with so many own labels, which are counted from a first one on
 abbrev pub own : (first count : ℕ) → ℕ → ℕ
 own first count l = if nat_lt l count then first + l else l
@@ -53,21 +49,21 @@ relabelled first count (Slot f) = Slot f
 
 -- ---- lines
 
--- the stack pointer at the end of the stack, 512 calls left, a call of a function, and the exit with its result
+-- the stack pointer at the end of the stack, all calls left, a call of a function, and the exit with its result
 abbrev pub start_lines : (main : ℕ) → List Line
-start_lines main = Word (Lui 2 (pos 0x400)) ∷ Word (Addi 27 0 (pos 512)) ∷ Jump 1 main ∷ Word (Addi 17 0 (pos 0)) ∷ Word Ecall ∷ []
+start_lines main = Word (Lui 2 (pos plan_upper)) ∷ Word (Addi 27 0 (pos depth_limit)) ∷ Jump 1 main ∷ Word (Addi 17 0 (pos request.exit)) ∷ Word Ecall ∷ []
 
 -- the stub of a trap: the environment call of its code
 abbrev pub trap_lines : (c : ℕ) → List Line
-trap_lines c = Label (trap_label c) ∷ Word (Addi 10 0 (pos c)) ∷ Word (Addi 17 0 (pos 3)) ∷ Word Ecall ∷ []
+trap_lines c = Label (trap_label c) ∷ Word (Addi 10 0 (pos c)) ∷ Word (Addi 17 0 (pos request.trap)) ∷ Word Ecall ∷ []
 
--- The stub of commits. The environment call that a7 names already writes its plan to 0x0040_0000: how many pairs, and behind that the address and the
+-- The stub of commits. The environment call that a7 names already writes its plan to the area of plans: how many pairs, and behind that the address and the
 -- word of each. They are stored one by one, then FENCE.I lets fetches see them, and the stub returns. t0 goes along the plan, t1 has how many pairs are
 -- left, t2 and t3 are a pair's.
 abbrev pub commit_instrs : List Instr
 commit_instrs =
     Ecall
-    ∷ Lui 5 (pos 0x400)
+    ∷ Lui 5 (pos plan_upper)
     ∷ Lw 6 5 (pos 0)
     ∷ Beq 6 0 (pos 28)
     ∷ Lw 7 5 (pos 4)

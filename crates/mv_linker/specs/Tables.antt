@@ -2,6 +2,8 @@
 use Rattle.std.specs.Prelude.{ℕ, suc, ◌+◌, ◌-◌, ◌*◌, ◌^◌, ◌<◌, ◌≤◌, ◌≡◌, ◌==◌, Bool, true, false, if◌then◌else◌, Option, Some, None, is_some, unwrap_or, List, [], ◌∷◌, ◌++◌, length, map, replicate, count_by, sum_by, slice_get, slice_index, All}
 use Rattle.std.specs.List.{flat_map}
 use Rattle.mv_num.specs.Kinds.{kind_number, is_value, is_at_most}
+pub use Rattle.mv_num.specs.Regions.{data_start}
+use Rattle.mv_num.specs.Regions.{data_limit}
 use Rattle.mv_descriptors.specs.declared.rows.SwitchRow.{SwitchRow}
 use Rattle.mv_descriptors.specs.declared.rows.FunctionRow.{FunctionRow}
 use Rattle.mv_descriptors.specs.declared.rows.VariantRow.{VariantRow}
@@ -19,10 +21,6 @@ use Rattle.mv_linker.specs.declared.parts.PartVariant.{PartVariant}
 use Rattle.mv_linker.specs.Linked.{codes}
 
 -- ---- rows
-
--- where data begins
-abbrev pub data_start : ℕ
-data_start = 0x0010_0000
 
 -- words of a row with so many places, the others of which are 0
 abbrev pub padded : (places : ℕ) → List ℕ → List ℕ
@@ -65,7 +63,7 @@ variant_rows address number (v ∷ rest) = variant_row (address number) v ∷ va
 
 pub record FitsSwitchRow (s : PartSwitch) : Type 0 where
   pub name : length s.name < 2 ^ 32
-  pub word : s.word < 262144
+  pub word : s.word < data_limit
   pub values : length s.values ≤ 16
 
 -- a function, of so many codes

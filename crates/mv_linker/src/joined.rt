@@ -3,15 +3,14 @@ ghost use Rattle.mv_linker.specs.Linked.{codes, function_variants, variant_codes
 ghost use Rattle.mv_linker.specs.Joining.{with_code, with_codes};
 
 use crate::parts::{PartFunction, PartVariant, Parts};
+use mv_ast::traps::DEPTH_LIMIT;
 use mv_isa::Instr;
 use mv_isa::labelled::{Labelled, Line};
+use mv_isa::labels::{COMMIT, TRAPS};
+use mv_isa::requests::{EXIT, TRAP};
 use mv_num::list::List;
+use mv_num::regions::PLAN_UPPER;
 use std::alloc::{AllocError, Global};
-
-/// The label of the stub of trap c is this and c.
-const TRAPS: u32 = 4_294_967_289;
-/// The label of the stub of commits.
-const COMMIT: u32 = 4_294_967_295;
 
 const RA: u8 = 1;
 
@@ -30,10 +29,6 @@ const PAIRS: u8 = 6;
 const ADDRESS: u8 = 7;
 
 const WORD: u8 = 28;
-/// The numbers of the environment calls, which a7 has.
-const EXIT: i32 = 0;
-
-const TRAP: i32 = 3;
 
 /// The code of all parts.
 #[derive(Drop)]
@@ -133,15 +128,18 @@ fn push_stubs(items: &mut List<Line>, main: u32) -> Result<(), AllocError>
     push_commit(items)
 }
 
-/// The stub at which a run begins: the stack ends at 0x400000, and 512 calls are left. s10, which counts live attributed
+/// The stub at which a run begins: the stack is empty, and all calls are left. s10, which counts live attributed
 /// functions, is 0 already.
 fn push_start(items: &mut List<Line>, main: u32) -> Result<(), AllocError>
     ensures { OnOk result (items.new ≡ items.old ++ start_lines main) }
 {
-    items.push(Line::Word(Instr::Lui { rd: SP, imm: 0x400 }))?;
-    push_number(items, LEFT, 512)?;
+    items.push(Line::Word(Instr::Lui {
+        rd: SP,
+        imm: PLAN_UPPER,
+    }))?;
+    push_number(items, LEFT, DEPTH_LIMIT as i32)?;
     items.push(Line::Jump(RA, main))?;
-    push_number(items, A7, EXIT)?;
+    push_number(items, A7, EXIT as i32)?;
     items.push(Line::Word(Instr::Ecall))?;
     Ok(())
 }
@@ -153,12 +151,12 @@ fn push_trap(items: &mut List<Line>, code: u32) -> Result<(), AllocError>
 {
     items.push(Line::Label(TRAPS + code))?;
     push_number(items, A0, code as i32)?;
-    push_number(items, A7, TRAP)?;
+    push_number(items, A7, TRAP as i32)?;
     items.push(Line::Word(Instr::Ecall))?;
     Ok(())
 }
 
-/// The stub of commits: who calls it has the number of the environment call in a7, which writes its plan to 0x400000: the number
+/// The stub of commits: who calls it has the number of the environment call in a7, which writes its plan to the area of plans: the number
 /// of pairs, and the address and word of each. FENCE.I stands behind the stores because only then fetches see what they put into
 /// text (RISC-V unprivileged ISA, Zifencei).
 fn push_commit(items: &mut List<Line>) -> Result<(), AllocError>
@@ -171,7 +169,10 @@ fn push_commit(items: &mut List<Line>) -> Result<(), AllocError>
 /// A loop over the pairs, with a branch past its end and a jump back to that.
 const COMMIT_STUB: [Instr; 12] = [
     Instr::Ecall,
-    Instr::Lui { rd: AT, imm: 0x400 },
+    Instr::Lui {
+        rd: AT,
+        imm: PLAN_UPPER,
+    },
     Instr::Lw {
         rd: PAIRS,
         rs1: AT,

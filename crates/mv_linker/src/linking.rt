@@ -15,16 +15,13 @@ use mv_asm::{Placed, place};
 use mv_image::Image;
 use mv_image::facts::format_law;
 use mv_num::list::List;
+use mv_num::regions::{DATA_LIMIT, TEXT_START};
 use std::alloc::{AllocError, Global};
-
-const TEXT_START: u32 = 0x1000;
 
 /// How many sites there may be.
 const SITE_LIMIT: usize = 16_384;
-/// How many words of data there may be.
-const DATA_LIMIT: usize = 262_144;
 
-/// The image of parts. A run of it begins at a stub that calls `main`, with the stack at its end and 512 calls left, and exits
+/// The image of parts. A run of it begins at a stub that calls `main`, with an empty stack and all calls left, and exits
 /// with its result. Its tables say what a commit may patch: the entries of the attributed functions, and as sites all slots.
 ///
 /// `Sites` comes exactly where there are more than 16,384 slots, else `DataLimit` exactly where there are more than 262,144 words

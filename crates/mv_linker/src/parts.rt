@@ -53,8 +53,8 @@ pub struct PartFunction {
 /// What is linked: the functions of a program, counted from 0, its data, and what of it may be patched.
 ///
 /// In the code of a function or variant, entries and slots name functions. Jumps and branches name own labels of the code, each
-/// below its `labels`, the stubs of the traps 1 to 4, whose labels are 4,294,967,290 to 4,294,967,293, and the stub of commits,
-/// whose label is 4,294,967,295: called with the number of the environment call that carries out an order or a poll in a7, it
+/// below its `labels`, the stubs of the traps 1 to 4, and the stub of commits, by the labels of
+/// `mv_isa::labels`: called with the number of the environment call that carries out an order or a poll in a7, it
 /// makes the call, stores the pairs of its plan, executes FENCE.I and returns.
 #[derive(Drop)]
 pub struct Parts {
@@ -62,7 +62,7 @@ pub struct Parts {
     pub functions: List<Labelled>,
     /// The function at which a run begins.
     pub main: u32,
-    /// The words of data, from 0x100000 on.
+    /// The words of data.
     pub globals: List<Datum>,
     /// The switches, in order of declaration.
     pub switches: List<PartSwitch>,

@@ -9,11 +9,9 @@ ghost use Rattle.mv_linker.specs.declared.parts.PartFunction.{PartFunction};
 use crate::parts::{PartFunction, PartSwitch, PartVariant};
 use mv_descriptors::{FunctionRow, GuardRow, SwitchRow, VariantRow};
 use mv_num::list::List;
+use mv_num::regions::DATA_START;
 use mv_num::text::Text;
 use std::alloc::{AllocError, Global};
-
-/// Where data begins.
-const DATA_START: u32 = 0x0010_0000;
 
 /// The rows of switches.
 pub fn switch_rows(alloc: Global, switches: &[PartSwitch]) -> Result<List<SwitchRow>, AllocError>

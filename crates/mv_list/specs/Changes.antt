@@ -2,6 +2,7 @@
 use Rattle.std.specs.Prelude.{◌≡◌, ◌≤◌, ℕ, zero, suc, ◌+◌, ◌==◌, List, [], ◌∷◌, ◌++◌, codes, length, unwrap_or, if◌then◌else◌}
 use Rattle.std.specs.Result.{result_ok}
 use Rattle.mv_num.specs.Bytes.{AreWords}
+use Rattle.mv_num.specs.Regions.{text_start, text_limit}
 use Rattle.mv_fetch.specs.Held.{Held, load}
 use Rattle.mv_image.specs.Spelling.{Fields}
 use Rattle.mv_list.specs.Numbers.{address_text}
@@ -25,10 +26,10 @@ unfoldable pub words_now : Held → ℕ → ℕ → List ℕ
 words_now held address zero = []
 words_now held address (suc n) = word_now held address ∷ words_now held (address + 4) n
 
--- the text of an image, which begins at 0x1000, beside what a memory holds there
+-- the text of an image beside what a memory holds there
 abbrev pub patched_text : Fields → Held → List ℕ
-patched_text image held = changes 4096 image.text (words_now held 4096 (length image.text))
+patched_text image held = changes text_start image.text (words_now held text_start (length image.text))
 
 -- the loads of a text that consists of words give that text
 abbrev pub LoadsGiveTheText : Type 0
-LoadsGiveTheText = (held : Held) → AreWords held.text → length held.text ≤ 131072 → words_now held 4096 (length held.text) ≡ held.text
+LoadsGiveTheText = (held : Held) → AreWords held.text → length held.text ≤ text_limit → words_now held text_start (length held.text) ≡ held.text

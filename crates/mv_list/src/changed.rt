@@ -7,6 +7,7 @@ use crate::numbers::push_address;
 use mv_image::Image;
 use mv_image::facts::within_limits;
 use mv_machine::Machine;
+use mv_num::regions::TEXT_START;
 use std::alloc::{AllocError, Global};
 
 /// The present word at an address.
@@ -52,7 +53,7 @@ pub fn patched(alloc: Global, image: &Image, machine: &Machine) -> Result<Vec<u8
     within_limits(image);
     let mut out = Vec::new(alloc);
     let words = image.text().as_slice();
-    let mut address = 0x1000;
+    let mut address = TEXT_START;
     for word in words {
         let new = word_now(machine, address);
         push_change(alloc, &mut out, address, *word, new)?;

@@ -16,6 +16,7 @@ use mv_ir::stm::Stm;
 use mv_ir::tree::Tree;
 use mv_lower_expressions::call::is_void;
 use mv_num::list::List;
+use mv_num::regions::DATA_START;
 use mv_num::word::{add, mul};
 use std::alloc::{AllocError, Global};
 
@@ -94,7 +95,7 @@ fn rooms(alloc: Global, globals: &List<Variable>, marks: &Marks) -> Result<List<
     ensures { IfOk result (λ rooms. rooms ≡ rooms_from (is_named marks.now) 0 0 globals.now) }
 {
     let mut rooms = List::new(alloc);
-    let mut at = 0x0010_0000;
+    let mut at = DATA_START;
     let mut g = 0;
     for global in globals.as_slice() {
         let size = words(global.size);

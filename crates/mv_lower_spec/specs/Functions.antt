@@ -1,5 +1,6 @@
 -- What functions and programs are lowered to.
 use Rattle.std.specs.Prelude.{ℕ, suc, ◌+◌, ◌*◌, ◌%◌, ◌^◌, max, Bool, ◌&&◌, ◌||◌, List, [], ◌∷◌, ◌++◌, map, length, cond, Option, Some, None}
+use Rattle.mv_num.specs.Regions.{data_start}
 use Rattle.mv_ir.specs.declared.stm.Callee.{Callee}
 use Rattle.mv_ir.specs.declared.stm.Callee.TheVariants as callee
 use Rattle.mv_ir.specs.declared.stm.Stm.{Stm}
@@ -76,7 +77,7 @@ functions_called code = joined (map stm_called code)
 
 -- the address of the first of the words behind so many words of globals
 abbrev pub address_behind : ℕ → ℕ
-address_behind words = (1048576 + 4 * words) % 2 ^ 32
+address_behind words = (data_start + 4 * words) % 2 ^ 32
 
 -- rooms for those globals that are named, of globals from this number on, before which so many words stand
 abbrev pub rooms_from : (ℕ → Bool) → (global before : ℕ) → List Global → List Room

@@ -13,7 +13,8 @@ use Rattle.mv_descriptors.specs.declared.rows.SwitchRow.{SwitchRow}
 use Rattle.mv_isa.specs.declared.instr.Cause.{Cause}
 use Rattle.mv_isa.specs.declared.instr.Cause.TheVariants as cause
 use Rattle.mv_isa.specs.Execution.{Outcome, Goes, Calls, Faults, reg, put}
-pub use Rattle.mv_fetch.specs.Regions.{plan_area}
+pub use Rattle.mv_num.specs.Regions.{plan_area}
+use Rattle.mv_isa.specs.Requests as requests
 use Rattle.mv_fetch.specs.Held.{Room, first as first_memory, choices}
 use Rattle.mv_rv32.specs.Stepping.{access, picked_step}
 use Rattle.mv_image.specs.Spelling.{Fields}
@@ -61,7 +62,8 @@ pub data Request : Type 0 where
   Unknown : Request
 
 unfoldable pub request_of : ℕ → Request
-request_of a7 = cond (eqb a7 0) Exits (cond (eqb a7 1) Reads (cond (eqb a7 2) Writes (cond (eqb a7 3) Traps (cond (eqb a7 4) Plans (cond (eqb a7 5) Polls Unknown)))))
+request_of a7 =
+    cond (eqb a7 requests.exit) Exits (cond (eqb a7 requests.read) Reads (cond (eqb a7 requests.write) Writes (cond (eqb a7 requests.trap) Traps (cond (eqb a7 requests.plan) Plans (cond (eqb a7 requests.poll) Polls Unknown)))))
 
 abbrev pub argument : State → ℕ
 argument s = reg s.regs 10

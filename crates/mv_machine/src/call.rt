@@ -14,6 +14,7 @@ use crate::operator::Operator;
 use crate::patching::{order, poll};
 use crate::registers::{answer, argument, number};
 use mv_io::{Failed, Sink, Source};
+use mv_isa::requests::{EXIT, PLAN, POLL, READ, TRAP, WRITE};
 use mv_probe::Probe;
 use mv_rv32::{Cause, Hart};
 
@@ -78,28 +79,28 @@ pub(crate) fn call<I: Source, O: Sink>(
         (λ events. Fates (Becomes (λ probe. object_at probe.ptr probe.vtable) (λ probe. hearing (told probe) (patience probe)) events) probes.old.items probes.new.items) }
 {
     let number = number(&engine.hart);
-    if number == 0 {
+    if number == EXIT {
         return Some(Stopped::Ended((argument(&engine.hart) % 0x100) as u8));
     }
-    if number == 1 {
+    if number == READ {
         return match getchar(&mut engine.hart, source) {
             Ok(()) => None,
             Err(_) => Some(Stopped::InputFault),
         };
     }
-    if number == 2 {
+    if number == WRITE {
         return match putchar(&mut engine.hart, sink) {
             Ok(()) => None,
             Err(_) => Some(Stopped::OutputFault),
         };
     }
-    if number == 3 {
+    if number == TRAP {
         return Some(trap(&engine.hart));
     }
-    if number == 4 {
+    if number == PLAN {
         return order(engine, probes);
     }
-    if number == 5 {
+    if number == POLL {
         poll(engine, operator, probes);
         return None;
     }

@@ -1,4 +1,5 @@
 pub mod Bytes
 pub mod Kinds
+pub mod Regions
 pub mod Words
 pub mod formers

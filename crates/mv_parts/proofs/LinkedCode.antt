@@ -20,7 +20,7 @@ use Rattle.mv_select_control.specs.Layouts.{size_in}
 use Rattle.mv_select_control.specs.Labels.{functions}
 use Rattle.mv_select_calls.specs.CallCode.{is_marked}
 use Rattle.mv_select_functions.specs.Functions.{shape_of}
-use Rattle.mv_select_lines.specs.Lines.{NamesThese, IsGoal, LinesAreNamed}
+use Rattle.mv_select_bodies.specs.Lines.{NamesThese, IsGoal, LinesAreNamed}
 use Rattle.mv_parts_bound.specs.Meant.{IsMadeUnder, MadeAreVariants}
 use Rattle.mv_parts_bound.specs.Names.{ReadAsWords}
 use Rattle.mv_parts_bound.specs.Variants.{MadeNameNoMore}

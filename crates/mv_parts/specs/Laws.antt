@@ -1,5 +1,6 @@
 -- What holds of the code of a well-formed program, and of what is linked of it.
 use Rattle.std.specs.Prelude.{ℕ, ◌≡◌, ◌+◌, ◌*◌, ◌<◌, ◌≤◌, List, length}
+use Rattle.mv_num.specs.Regions.{text_limit}
 use Rattle.mv_ast.specs.declared.program.Program.{Program}
 use Rattle.mv_ast.specs.Counts.{patchable}
 use Rattle.mv_isa.specs.Code.{text_start}
@@ -36,7 +37,7 @@ DataIsCounted = (p : Program) → IsWellFormed p → length (first_data p) ≡ d
 pub record IsCounted (p : Program) (parts : Parts) : Type 0 where
   pub sites : site_count parts ≤ source.site_count p
   pub places : length parts.attributed + 2 * site_count parts ≤ patchable p
-  pub text : (words : ℕ) → PassesText text_start (linked_lines parts) words → 131072 < source.text_count p
+  pub text : (words : ℕ) → PassesText text_start (linked_lines parts) words → text_limit < source.text_count p
 
 abbrev pub PartsAreCounted : Type 0
 PartsAreCounted =

@@ -5,10 +5,11 @@ ghost use Rattle.mv_linker.specs.Tables.{site_count};
 ghost use Rattle.mv_parts.specs.Counts.{up_to_greatest, count_in, count_in_variant, count_in_function, count_in_parts, HaveFewLabels};
 
 use mv_isa::labelled::Labelled;
+use mv_isa::labels::TRAPS;
 use mv_linker::{PartFunction, PartVariant, Parts, slot_count};
 
 /// The labels of all code stay below those of the stubs, of which this is the least.
-const STUBS: u64 = 4_294_967_290;
+const STUBS: u64 = TRAPS as u64 + 1;
 
 /// What is counted of code.
 #[derive(Clone, Copy, Debug, Drop)]

@@ -1,6 +1,7 @@
 -- The bodies that are linked of a program: what they mean, read and name, and their code as the program's layout has it.
 use Rattle.std.specs.Prelude.{ℕ, ◌≡◌, ◌+◌, ◌*◌, ◌≤◌, Bool, true, false, List, [], All, Some, length, sum, sum_by, take, slice_get}
 use Rattle.std.specs.List.{zip}
+use Rattle.mv_num.specs.Regions.{data_start}
 use Rattle.mv_ast.specs.declared.program.Program.{Program}
 use Rattle.mv_ast.specs.declared.program.Function.{Function}
 use Rattle.mv_ast.specs.declared.program.Global.{Global}
@@ -36,9 +37,9 @@ use Rattle.mv_parts.specs.Parts.{ArePartsOf}
 
 -- ---- what is linked
 
--- A layout has a program's globals one behind the other from 0x0010_0000 on, and lets the known functions be asked for that the program has.
+-- A layout has a program's globals one behind the other from the start of data on, and lets the known functions be asked for that the program has.
 pub record IsLayoutOf (p : Program) (y : Layout) : Type 0 where
-  pub places : (x : ℕ) → y.place x ≡ 0x0010_0000 + 4 * sum (take x (global_sizes p))
+  pub places : (x : ℕ) → y.place x ≡ data_start + 4 * sum (take x (global_sizes p))
   pub sizes : (x : ℕ) → y.size x ≡ global_words p x
   pub asked : (k : Known) → y.may_ask k ≡ known_is_there p k
 

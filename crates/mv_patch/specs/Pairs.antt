@@ -1,6 +1,6 @@
 -- Where two texts differ.
 use Rattle.std.specs.Prelude.{ℕ, ◌≡◌, ◌≢◌, ◌+◌, ◌*◌, ◌==◌, if◌then◌else◌, List, [], ◌∷◌, slice_get, Some}
-pub use Rattle.mv_fetch.specs.Regions.{text_start}
+pub use Rattle.mv_num.specs.Regions.{text_start}
 use Rattle.mv_patch.specs.declared.prepared.Pair.{Pair}
 
 -- the address of a word of text by its index

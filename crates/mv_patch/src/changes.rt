@@ -10,9 +10,9 @@ ghost use Rattle.mv_patch.specs.Tables.{patchable, entries, site_words, word_of,
 
 use crate::prepared::Pair;
 use mv_descriptors::{SiteRow, VariantRow};
-use mv_fetch::regions::TEXT_START;
 use mv_image::Image;
 use mv_image::facts::{rows_fit, within_limits};
+use mv_num::regions::TEXT_START;
 
 /// `addi x0, x0, 0`
 const NOP: u32 = 19;

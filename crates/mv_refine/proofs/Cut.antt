@@ -6,9 +6,9 @@ use Rattle.std.proofs.lemmas.List.Elements.{All-append, All-cons, All-nil, All-t
 use Rattle.mv_ast.specs.Actions.{fits, IsOfWord}
 use Rattle.mv_ast.specs.declared.world.Action.{Action}
 use Rattle.mv_ast.specs.declared.program.Program.{Program}
-use Rattle.mv_refine_faults.specs.CutRuns.{with_input}
-use Rattle.mv_refine_faults.proofs.Leaves.{runs_leave}
-use Rattle.mv_refine_faults.proofs.Follows.{read_takes_more, write_writes_more}
+use Rattle.mv_refine.specs.CutRuns.{with_input}
+use Rattle.mv_refine.proofs.Leaves.{runs_leave}
+use Rattle.mv_refine.proofs.Follows.{read_takes_more, write_writes_more}
 use Rattle.mv_image.specs.Spelling.{Fields}
 use Rattle.mv_refine_runs.specs.Behaves.{BehavesAlways, taken_of}
 use Rattle.mv_machine.specs.Runs.{State, Going, Reads, Writes, bytes_to_come, first, runs_from, runs}

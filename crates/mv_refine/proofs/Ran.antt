@@ -13,7 +13,7 @@ use Rattle.mv_machine.specs.Snapshots.{Snapshot, kept, resumed, Tells, Under, As
 use Rattle.mv_probe.specs.Ways.{way_after}
 use Rattle.mv_refine.specs.Environment.{Environment, ReadFailed, WriteFailed}
 use Rattle.mv_refine.specs.Run.{IsDone, Stands, RanTo, StandsBefore, Runs}
-use Rattle.mv_refine_faults.proofs.Leaves.{runs_leave}
+use Rattle.mv_refine.proofs.Leaves.{runs_leave}
 use Rattle.mv_refine.proofs.Inputs.{some_later, lost}
 
 -- a machine that was just started goes on from the image's first state

@@ -18,6 +18,11 @@
 //!   meaning has ended, the answer is that end.
 //!
 //! An error is want of memory before the first instruction, with all as before.
+//!
+//! `cut_runs_law` is of runs that a failing device cut off: a run that has taken some answers of its input stands the same on
+//! these answers and one more, which is then still to come; or it has taken that one too, which is where it had come to the
+//! end of its input before. So where its next instruction is a read, that takes the one more, if no earlier one has. And
+//! where its next instruction is a write, one byte more is written behind it.
 #![tactic(auto)]
 
 ghost use Rattle.std.specs.Prelude.{◌≤◌, All, IsTrue};
@@ -29,8 +34,10 @@ ghost use Rattle.mv_refine.specs.Environment.{environment, reading, writing};
 ghost use Rattle.mv_refine.specs.Execution.{Executes, RunsImage};
 
 mod execution;
+mod faults;
 
 pub use execution::Execution;
+pub use faults::cut_runs_law;
 use mv_ast::world::Action;
 use mv_build::Built;
 use mv_image::Image;

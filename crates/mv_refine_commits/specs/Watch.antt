@@ -1,5 +1,6 @@
 -- What holds before each instruction, also while a commit is under way.
 use Rattle.std.specs.Prelude.{ℕ, Bool, true, false, ◌&&◌, not, eqb, ltb, List, [], ◌∷◌, Option, Some, None}
+use Rattle.mv_num.specs.Regions.{text_start, data_start}
 use Rattle.mv_ast.specs.declared.world.Binding.{Binding}
 use Rattle.mv_rv32.specs.Stepping.{picked_target}
 use Rattle.mv_image.specs.Spelling.{Fields}
@@ -24,7 +25,7 @@ is_settled texts (Some old) m = is_between (texts old) (texts m.bindings) m.room
 -- an address of text
 abbrev pub into_text : Option ℕ → Bool
 into_text None = false
-into_text (Some a) = not (ltb a 0x1000) && ltb a 0x0010_0000
+into_text (Some a) = not (ltb a text_start) && ltb a data_start
 
 -- a store into text finds room
 abbrev pub not_wanting : Spot Rest → Bool

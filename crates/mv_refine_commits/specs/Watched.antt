@@ -1,5 +1,6 @@
 -- The machine whose memory tells the commit that is under way.
 use Rattle.std.specs.Prelude.{ℕ, ◌≡◌, Bool, true, false, ◌&&◌, eqb, List, [], ◌∷◌, length, Option, Some, None, option_map}
+pub use Rattle.mv_num.specs.Regions.{plan_words}
 use Rattle.mv_ast.specs.declared.world.Action.{Action}
 use Rattle.mv_ast.specs.declared.world.Action.TheVariants.{Skip, Flip}
 use Rattle.mv_ast.specs.declared.world.Binding.{Binding}
@@ -36,10 +37,6 @@ access = record {
 
 abbrev pub watched : State → Option (List Binding) → Watched
 watched s under = record { rest = rest_of s; under = under; actions = s.actions }
-
--- how many words the plan area has
-abbrev pub plan_words : ℕ
-plan_words = 0x0002_0000
 
 -- The machine is calm as a world says. Also each word of text has its list of older words, the whole reserve is spare and is enough for each commit, the
 -- plan area has all its words, no commit is under way, and the operator's actions to come are the world's.

@@ -1,6 +1,7 @@
 -- Where a program's functions and globals stand in a linked image.
 use Rattle.std.specs.Prelude.{ℕ, ◌+◌, ◌*◌, List, length, map, take, sum}
 use Rattle.std.specs.List.{range_with_len}
+use Rattle.mv_num.specs.Regions.{data_start, stack_start, plan_area}
 use Rattle.mv_ast.specs.declared.program.Program.{Program}
 use Rattle.mv_isa.specs.Code.{text_start, label_address}
 use Rattle.mv_source_forms.specs.Names.{global_words}
@@ -21,16 +22,16 @@ module _ (parts : Parts) (sizing : List ℕ) where
   abbrev pub numbers_of : List ℕ
   numbers_of = map address_of (range_with_len 0 (length parts.functions))
 
-  -- Globals stand one behind the other from 0x0010_0000 on, and the stack goes from 0x0020_0000 to 0x0040_0000. Code may ask for the known functions that
+  -- Globals stand one behind the other from the start of data on, and the stack is that of the machine. Code may ask for the known functions that
   -- there are: of orders, those for functions and switches of the program.
   abbrev pub layout_of : Program → Layout
   layout_of p = record {
-    place = λ g. 0x0010_0000 + 4 * sum (take g (global_sizes p));
+    place = λ g. data_start + 4 * sum (take g (global_sizes p));
     size = global_words p;
     entry = address_of;
     trap = λ c. address_of (trap_label c);
     commit = address_of commit_label;
     may_ask = known_is_there p;
-    bottom = 0x0020_0000;
-    top = 0x0040_0000;
+    bottom = stack_start;
+    top = plan_area;
   }

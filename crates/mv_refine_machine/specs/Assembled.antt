@@ -1,5 +1,6 @@
 -- Assembled code in the text of an image.
 use Rattle.std.specs.Prelude.{ℕ, ◌≡◌, ◌+◌, ◌-◌, ◌/◌, ◌%◌, ◌<◌, ◌≤◌, false, List, length, slice_get, Some, None}
+use Rattle.mv_num.specs.Regions.{text_start}
 use Rattle.mv_isa.specs.declared.labelled.Line.{Line}
 use Rattle.mv_isa.specs.declared.labelled.Line.TheVariants.{Label, Slot}
 use Rattle.mv_isa.specs.Code.{StandsOnce, line_at}
@@ -11,7 +12,7 @@ use Rattle.mv_refine_machine.specs.MachineRuns.{may_be_patched, called_at}
 
 -- an image's text has words from an address on
 abbrev pub HasWords : Fields → (base : ℕ) → (words : List ℕ) → Type 0
-HasWords image base words = (k word : ℕ) → slice_get words k ≡ Some word → slice_get image.text ((base - 0x1000) / 4 + k) ≡ Some word
+HasWords image base words = (k word : ℕ) → slice_get words k ≡ Some word → slice_get image.text ((base - text_start) / 4 + k) ≡ Some word
 
 -- none of the functions whose bindings show at an address is bound
 abbrev pub IsFreeAt : Fields → World → ℕ → Type 0

@@ -3,6 +3,7 @@ use Rattle.std.specs.Prelude.{ℕ, ◌≡◌, ◌+◌, ◌%◌, ◌^◌, ◌<◌
 use Rattle.mv_ast.specs.declared.world.Action.{Action}
 use Rattle.mv_num.specs.Words.{add}
 use Rattle.mv_isa.specs.Execution.{Calls, reg, put, step}
+use Rattle.mv_isa.specs.Requests as requests
 use Rattle.mv_image.specs.Spelling.{Fields}
 use Rattle.mv_ir.specs.World.{World, Answer}
 use Rattle.mv_ir.specs.KnownFunctions.{next_byte, written}
@@ -38,7 +39,7 @@ module _ (image : Fields) (input : List (Option ℕ)) (actions : List Action) (p
   -- A read and a write do what `getchar` and `putchar` do. An exit and a trap end the run.
   pub record CallsAreAnswered (closed : (pc address : ℕ) → Bool) : Type 0 where
     pub sound : (number i : ℕ) (w : World) → AtCall number i w → is_sound closed (run i) ≡ true
-    pub exits : (i j : ℕ) (w : World) → AtCall 0 i w → i < j → run j ≡ stopped_at (run i) (Exit (argument i % 2 ^ 8))
-    pub reads : (i : ℕ) (w : World) → AtCall 1 i w → IsAnswered image (next_byte w.input w) (run i) (run (i + 1))
-    pub writes : (i : ℕ) (w : World) → AtCall 2 i w → IsAnswered image (written (argument i) w) (run i) (run (i + 1))
-    pub traps : (i j : ℕ) (w : World) → AtCall 3 i w → 1 ≤ argument i → argument i ≤ 4 → i < j → run j ≡ stopped_at (run i) (Trap (argument i))
+    pub exits : (i j : ℕ) (w : World) → AtCall requests.exit i w → i < j → run j ≡ stopped_at (run i) (Exit (argument i % 2 ^ 8))
+    pub reads : (i : ℕ) (w : World) → AtCall requests.read i w → IsAnswered image (next_byte w.input w) (run i) (run (i + 1))
+    pub writes : (i : ℕ) (w : World) → AtCall requests.write i w → IsAnswered image (written (argument i) w) (run i) (run (i + 1))
+    pub traps : (i j : ℕ) (w : World) → AtCall requests.trap i w → 1 ≤ argument i → argument i ≤ 4 → i < j → run j ≡ stopped_at (run i) (Trap (argument i))

@@ -1,5 +1,6 @@
 -- When the machine is, apart from registers, pc and the words of data and stack, as a world says.
 use Rattle.std.specs.Prelude.{ℕ, ◌≡◌, Bool, true, false, ◌&&◌, List, [], ◌∷◌, length, Option, Some, None, nat_eq}
+pub use Rattle.mv_num.specs.Regions.{stack_words}
 use Rattle.mv_ast.specs.declared.world.Binding.{Binding}
 use Rattle.mv_ast.specs.declared.world.Event.{Event}
 use Rattle.mv_ast.specs.Plans.{same_words, is_same_binding}
@@ -19,10 +20,6 @@ pub record Rest : Type 0 where
   pub output : List ℕ
   pub log : List Event
   pub stop : Stop
-
--- how many words the stack has
-abbrev pub stack_words : ℕ
-stack_words = 0x0008_0000
 
 -- The run goes on; text is the image's under the bindings, and each of its words is the only one that a fetch may give; the stack has all its words; and
 -- the input to come, the output, the bindings and the log are those of the world. Nothing is said of the world's globals, of how many bytes it took, and

@@ -1,6 +1,7 @@
 -- The machine is one on which code of frames runs, its memory is fit for frames that are laid out, and assembled code stands in its text.
 use Rattle.std.specs.Prelude.{ℕ, ◌≡◌, ◌↔◌, ◌+◌, ◌*◌, ◌%◌, ◌^◌, ◌<◌, ◌≤◌, Bool, true, false, List, [], length, replicate, slice_get, Option, Some, None}
 use Rattle.std.specs.List.{All}
+use Rattle.mv_num.specs.Regions.{text_start, data_start}
 use Rattle.mv_ast.specs.declared.world.Action.{Action}
 use Rattle.mv_ast.specs.declared.program.Program.{Program}
 use Rattle.mv_ast.specs.declared.world.Binding.{Binding}
@@ -63,7 +64,7 @@ RunsAreRunsUnder =
 -- The words of an image's text are found at their addresses. Where bindings don't show, they stand there under all bindings; and bindings show
 -- nowhere in an image without functions and sites.
 pub record TextIsFound (image : Fields) : Type 0 where
-  pub found : (k word : ℕ) → slice_get image.text k ≡ Some word → 0x1000 + 4 * k < 0x0010_0000 → image_word image (0x1000 + 4 * k) ≡ Some word
+  pub found : (k word : ℕ) → slice_get image.text k ≡ Some word → text_start + 4 * k < data_start → image_word image (text_start + 4 * k) ≡ Some word
   pub kept : (a word : ℕ) → image_word image a ≡ Some word → may_be_patched image a ≡ false → unpatched_word image a ≡ Some word
   pub stands : (w : World) (a word : ℕ) → unpatched_word image a ≡ Some word → bound_word image w a ≡ Some word
   pub unpatched : image.functions ≡ [] → image.sites ≡ [] → (a : ℕ) → may_be_patched image a ≡ false

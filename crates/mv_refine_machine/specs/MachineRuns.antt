@@ -1,5 +1,6 @@
 -- The machine as a run on which code stands. Its text has what is never patched, and the sites as slots; what stands under bindings is told apart.
 use Rattle.std.specs.Prelude.{ℕ, ◌-◌, ◌/◌, ◌%◌, Bool, true, not, ◌&&◌, ◌||◌, cond, eqb, ltb, List, [], ◌∷◌, length, slice_get, is_some, Option, Some, None, option_map, option_and_then}
+use Rattle.mv_num.specs.Regions.{text_start, data_start}
 use Rattle.mv_ast.specs.declared.world.Action.{Action}
 use Rattle.mv_isa.specs.Encoding.{decode}
 use Rattle.mv_isa.specs.Execution.{Access}
@@ -37,9 +38,9 @@ spot_of s = record { regs = s.regs; pc = s.pc; memory = rest_of s }
 abbrev pub may_be_patched : Fields → ℕ → Bool
 may_be_patched image a = is_some (entry_at image a) || (is_some (site_at image a) || is_some (site_before image a))
 
--- the word of text at an address, which begins at 0x1000 and ends before 0x0010_0000
+-- the word of text at an address, which ends where data begins
 abbrev pub word_at : List ℕ → ℕ → Option ℕ
-word_at text a = cond (ltb a 0x1000) None (cond (ltb a 0x0010_0000) (slice_get text ((a - 0x1000) / 4)) None)
+word_at text a = cond (ltb a text_start) None (cond (ltb a data_start) (slice_get text ((a - text_start) / 4)) None)
 
 -- the image's word at an address of text, none at others
 unfoldable pub image_word : Fields → ℕ → Option ℕ

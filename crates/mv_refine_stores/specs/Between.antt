@@ -1,6 +1,7 @@
 -- Text that is settled, and text between two others.
 use Rattle.std.specs.Prelude.{ℕ, ◌≡◌, ◌≢◌, ◌-◌, ◌≤◌, ◌⊎◌, ◌==◌, ◌&&◌, not, Bool, true, false, List, [], ◌∷◌, ◌++◌, length, replicate, sum_by, slice_get, Some}
 use Rattle.std.specs.List.{All, Contains}
+use Rattle.mv_num.specs.Regions.{data_start}
 use Rattle.mv_fetch.specs.Held.{Held, Room, choices, choices_of, older_at}
 use Rattle.mv_rv32.specs.Stepping.{access}
 use Rattle.mv_patch.specs.declared.prepared.Pair.{Pair}
@@ -71,7 +72,7 @@ pub record IsStored (old new : List ℕ) (room : Room) (done left : List Pair) :
   pub stack : (stored_all room done).held.stack ≡ room.held.stack
   pub plan : (stored_all room done).held.plan ≡ room.held.plan
   -- what is loaded from outside text
-  pub loads : (a n : ℕ) → 0x0010_0000 ≤ a → access.load (stored_all room done) a n ≡ access.load room a n
+  pub loads : (a n : ℕ) → data_start ≤ a → access.load (stored_all room done) a n ≡ access.load room a n
   -- the machine's store of the next pair, for which there is room
   pub next : (pair : Pair) (later : List Pair) → left ≡ pair ∷ later → access.store (stored_all room done) pair.address 4 pair.word ≡ Some (stored_all room (done ++ pair ∷ []))
   pub roomy : (pair : Pair) (later : List Pair) → left ≡ pair ∷ later → length (pairs_between old new) ≤ room.reserve → 1 ≤ (stored_all room done).spare

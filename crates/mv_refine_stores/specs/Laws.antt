@@ -1,6 +1,7 @@
 -- Text between two bindings.
 use Rattle.std.specs.Prelude.{ℕ, ◌≡◌, ◌≢◌, ◌+◌, ◌*◌, ◌≤◌, ◌↔◌, true, List, [], ◌∷◌, ◌++◌, length, replicate, slice_get, Some, None}
 use Rattle.std.specs.List.{All}
+use Rattle.mv_num.specs.Regions.{data_start, plan_words}
 use Rattle.mv_fetch.specs.Held.{Held, Room, IsInText, choices, older_at}
 use Rattle.mv_rv32.specs.Stepping.{access}
 use Rattle.mv_image.specs.Spelling.{Fields}
@@ -32,7 +33,7 @@ pub record RoomsAreWhole : Type 0 where
   pub store : (room room' : Room) (a n v : ℕ) → access.store room a n v ≡ Some room' → IsWhole room → IsWhole room'
   pub fence : (room : Room) → IsWhole (access.fence room)
   -- a settled text has one choice at each word
-  pub one : (text : List ℕ) (room : Room) → IsSettled text room → place (length text) ≤ 0x0010_0000 → (k w : ℕ) → slice_get text k ≡ Some w → choices room.held (place k) ≡ w ∷ []
+  pub one : (text : List ℕ) (room : Room) → IsSettled text room → place (length text) ≤ data_start → (k w : ℕ) → slice_get text k ≡ Some w → choices room.held (place k) ≡ w ∷ []
   -- between a text and itself is that text alone
   pub same : (text : List ℕ) (h : Held) → IsBetween text text h ↔ ((h.text ≡ text) × (h.older ≡ replicate (length text) []))
 
@@ -58,7 +59,7 @@ pub record IsNeverPatched (image : Fields) (a : ℕ) : Type 0 where
 -- fit into the plan area.
 pub record TextsOf (image : Fields) (some other : Bindings) : Type 0 where
   pub texts : AreTexts (text_of image some) (text_of image other)
-  pub fit : 1 + 2 * length (pairs_between (text_of image some) (text_of image other)) ≤ 131072
+  pub fit : 1 + 2 * length (pairs_between (text_of image some) (text_of image other)) ≤ plan_words
   pub show : All (λ (pair : Pair). (f : ℕ) × (some f ≢ other f) × ShowsAt image f pair.address) (pairs_between (text_of image some) (text_of image other))
   -- the settled text of some of the bindings has one choice at each word at which no binding shows, whatever is stored so far
   pub plain :

@@ -1,6 +1,7 @@
 -- Stores of whole words into text, one after the other.
 use Rattle.std.specs.Prelude.{ℕ, ◌≡◌, ◌-◌, ◌%◌, ◌^◌, ◌<◌, ◌≤◌, List, [], ◌∷◌, length, slice_index, slice_set}
 use Rattle.mv_num.specs.Bytes.{AreWords}
+use Rattle.mv_num.specs.Regions.{data_start}
 use Rattle.mv_fetch.specs.Held.{Room, IsInText, index_of, remember}
 use Rattle.mv_patch.specs.declared.prepared.Pair.{Pair}
 use Rattle.mv_patch.specs.Pairs.{place}
@@ -24,7 +25,7 @@ pub record AreTexts (old new : List ℕ) : Type 0 where
   pub size : length new ≡ length old
   pub old_words : AreWords old
   pub new_words : AreWords new
-  pub lies : place (length old) ≤ 0x0010_0000
+  pub lies : place (length old) ≤ data_start
 
 -- An address and a word of a pair between texts that lie in text.
 pub record IsInRange (pair : Pair) : Type 0 where

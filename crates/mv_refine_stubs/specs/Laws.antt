@@ -1,6 +1,7 @@
 -- What is proved of stubs that stand in the text of an image.
 use Rattle.std.specs.Prelude.{ℕ, ◌≡◌, ◌+◌, ◌*◌, ◌%◌, ◌^◌, ◌<◌, ◌≤◌, Bool, List, length, map, sum, take, slice_index_or, [], Option}
 use Rattle.std.specs.List.{All, flat_map}
+use Rattle.mv_num.specs.Regions.{data_start}
 use Rattle.mv_ast.specs.declared.world.Action.{Action}
 use Rattle.mv_ast.specs.Traps.{depth_limit}
 use Rattle.mv_isa.specs.Execution.{reg}
@@ -22,7 +23,7 @@ use Rattle.mv_refine_stubs.specs.Ends.{ComesTo, EndsAfter}
 pub record HoldsData (y : Layout) (image : Fields) (w : World) : Type 0 where
   pub are : image.globals ≡ flat_map (λ words. words) w.globals
   pub sizes : (g : ℕ) → y.size g ≡ length (slice_index_or w.globals g [])
-  pub places : (g : ℕ) → g < length w.globals → y.place g ≡ 0x0010_0000 + 4 * sum (take g (map length w.globals))
+  pub places : (g : ℕ) → g < length w.globals → y.place g ≡ data_start + 4 * sum (take g (map length w.globals))
   pub words : All (λ word. word < 2 ^ 32) image.globals
   pub room : 4 * length image.globals ≤ 0x0010_0000
 

@@ -1,9 +1,11 @@
 -- Stubs: the code before that of the functions, which starts a program, and the code to which traps jump.
 use Rattle.std.specs.Prelude.{ℕ, List, [], ◌∷◌, pos}
+use Rattle.mv_num.specs.Regions.{text_start, plan_area, plan_upper}
 use Rattle.mv_ast.specs.Traps.{depth_limit}
 use Rattle.mv_isa.specs.declared.instr.Instr.TheVariants.{Lui, Addi, Ecall}
 use Rattle.mv_isa.specs.declared.labelled.Line.{Line}
 use Rattle.mv_isa.specs.declared.labelled.Line.TheVariants.{Word, Label, Jump}
+use Rattle.mv_isa.specs.Requests as requests
 use Rattle.mv_select_statements.specs.StatementCode.{first, trap_label}
 use Rattle.mv_select_calls.specs.CallCode.{link_register, left_register, request_register}
 
@@ -13,11 +15,11 @@ stack_register = 2
 
 -- where the stack ends
 abbrev pub stack_end : ℕ
-stack_end = 0x0040_0000
+stack_end = plan_area
 
 -- where the start stub stands, and where main returns to
 abbrev pub start_address : ℕ
-start_address = 0x1000
+start_address = text_start
 
 abbrev pub return_address : ℕ
 return_address = 0x100C
@@ -28,8 +30,8 @@ request_lines number = Word (Addi request_register 0 (pos number)) ∷ Word Ecal
 
 -- The stack is empty and all calls are left; main is called, and what it returns is the exit status.
 abbrev pub start_lines : (main_label : ℕ) → List Line
-start_lines main_label = Word (Lui stack_register (pos 0x400)) ∷ Word (Addi left_register 0 (pos depth_limit)) ∷ Jump link_register main_label ∷ request_lines 0
+start_lines main_label = Word (Lui stack_register (pos plan_upper)) ∷ Word (Addi left_register 0 (pos depth_limit)) ∷ Jump link_register main_label ∷ request_lines requests.exit
 
 -- the run ends with the code of a trap
 abbrev pub trap_lines : ℕ → List Line
-trap_lines code = Label (trap_label code) ∷ Word (Addi first 0 (pos code)) ∷ request_lines 3
+trap_lines code = Label (trap_label code) ∷ Word (Addi first 0 (pos code)) ∷ request_lines requests.trap

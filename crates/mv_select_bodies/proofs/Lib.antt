@@ -6,3 +6,9 @@ pub mod NamedTrees
 pub mod Functions
 pub mod Holding
 pub mod RoomsStand
+pub mod TreeNames
+pub mod CallNames
+pub mod StatementNames
+pub mod EntryNames
+pub mod FunctionNames
+pub mod Addresses

@@ -1,3 +1,4 @@
+ghost use Rattle.mv_select_bodies.specs.Lines.{FirstsAreNoLabels, LinesAreNamed, NoLinkIsSlot};
 ghost use Rattle.mv_select_bodies.specs.SelectedBodies.{BodiesAreFunctions, BodiesAreSmall, CodeIsTheSame, RoomsStand};
 
 /// A well-formed body whose trees have at most four nodes one below the other, whose frame has at most 2,032 bytes and whose orders
@@ -24,4 +25,15 @@ pub fn bodies_are_functions()
 /// contract is the law.
 pub fn rooms_stand()
     ensures { RoomsStand }
+{}
+
+/// What the code of a function names. The call does nothing: its contract is the law.
+///
+/// `names`: it jumps to labels of its own and the stubs of the traps 1 to 4, calls the stub of orders and polls and no other label, and names no function
+/// that its statements don't name; those that stand in slots are attributed. `first`: wherever it stands, each label is behind its first word, so that no
+/// jump but a call leads there. `links`: and no address that one of its lines puts into a register is the first word of a slot.
+pub fn lines_are_named()
+    ensures names { LinesAreNamed }
+    ensures first { FirstsAreNoLabels }
+    ensures links { NoLinkIsSlot }
 {}

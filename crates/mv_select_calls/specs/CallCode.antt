@@ -3,9 +3,12 @@ use Rattle.std.specs.Prelude.{ℕ, suc, Bool, cond, eqb, List, [], ◌∷◌, �
 use Rattle.std.specs.List.{list_any}
 use Rattle.mv_ast.specs.declared.program.Known.{Known}
 use Rattle.mv_ast.specs.declared.program.Known.TheVariants.{Getchar, Putchar, Poll, Plan}
+use Rattle.mv_ast.specs.Traps as traps
 use Rattle.mv_isa.specs.declared.instr.Instr.TheVariants.{Addi, Jalr, Ecall}
 use Rattle.mv_isa.specs.declared.labelled.Line.{Line}
 use Rattle.mv_isa.specs.declared.labelled.Line.TheVariants.{Word, Jump, Branch, Entry, Slot}
+pub use Rattle.mv_isa.specs.Labels.{commit_label}
+use Rattle.mv_isa.specs.Requests as requests
 use Rattle.mv_ir.specs.declared.tree.Tree.{Tree}
 use Rattle.mv_ir.specs.declared.stm.Callee.{Callee}
 use Rattle.mv_ir.specs.declared.stm.Callee.TheVariants as callee
@@ -32,14 +35,10 @@ scratch_register = 28
 
 -- the number of an environment call
 abbrev pub request_of : Known → ℕ
-request_of Getchar = 1
-request_of Putchar = 2
-request_of (Plan code index) = 4
-request_of Poll = 5
-
--- the label of the stub that carries out orders and polls
-abbrev pub commit_label : ℕ
-commit_label = 4294967295
+request_of Getchar = requests.read
+request_of Putchar = requests.write
+request_of (Plan code index) = requests.plan
+request_of Poll = requests.poll
 
 -- the result of a call into its temporary, if it has one
 abbrev pub result_lines : Option ℕ → List Line
@@ -48,9 +47,9 @@ result_lines (Some t) = one (write_temp t first)
 
 -- ---- calls of functions
 
--- one call less is left; trap 4 where none is
+-- one call less is left; a trap where none is
 abbrev pub guard_lines : List Line
-guard_lines = Branch 0 left_register 0 (trap_label 4) ∷ one (Addi left_register left_register minus_one)
+guard_lines = Branch 0 left_register 0 (trap_label traps.call_too_deep) ∷ one (Addi left_register left_register minus_one)
 
 -- one call more is left again, and the result comes into its temporary
 abbrev pub back_lines : Option ℕ → List Line
@@ -77,12 +76,12 @@ module _ (place : ℕ → ℕ) where
   argument_lines r [] = []
   argument_lines r (t ∷ ts) = tree_into place t r scratch_register ++ argument_lines (suc r) ts
 
-  -- A call of a function: of an attributed one by a slot; through a pointer, with trap 3 where it is null.
+  -- A call of a function: of an attributed one by a slot; through a pointer, with a trap where it is null.
   abbrev pub transfer_lines : (ℕ → Bool) → Callee → Option ℕ → List Line
   transfer_lines is_attributed (callee.Direct f) result =
       cond (is_attributed f) (guarded_lines (slot_lines f) result) (Entry scratch_register f ∷ guarded_lines jump_lines result)
   transfer_lines is_attributed (callee.Through t) result =
-      tree_lines place t scratch_register ++ (Branch 0 scratch_register 0 (trap_label 3) ∷ guarded_lines jump_lines result)
+      tree_lines place t scratch_register ++ (Branch 0 scratch_register 0 (trap_label traps.null_call) ∷ guarded_lines jump_lines result)
 
   abbrev pub call_lines : (ℕ → Bool) → Option ℕ → Callee → List Tree → List Line
   call_lines is_attributed result f args = argument_lines first args ++ transfer_lines is_attributed f result

@@ -1,5 +1,6 @@
 -- The lines of calls: they have encodings and few words, and name what they call and the stubs.
 use Rattle.std.specs.Prelude.{ℕ, Bool, List}
+use Rattle.mv_ast.specs.Traps as traps
 use Rattle.mv_isa.specs.declared.labelled.Line.{Line}
 use Rattle.mv_isa.specs.Code.{StandsOnce}
 use Rattle.mv_select_statements.specs.StatementCode.{trap_label}
@@ -17,8 +18,8 @@ CallsHaveNoLabels = (place : ℕ → ℕ) (is_attributed : ℕ → Bool) → Cal
 
 -- what a call may name besides its functions stands once in all lines: the stubs of the traps 3 and 4, and that of orders and polls
 pub record StubsStand (whole : List Line) : Type 0 where
-  pub null : StandsOnce whole (trap_label 3)
-  pub depth : StandsOnce whole (trap_label 4)
+  pub null : StandsOnce whole (trap_label traps.null_call)
+  pub depth : StandsOnce whole (trap_label traps.call_too_deep)
   pub commit : StandsOnce whole commit_label
 
 -- then so does each label that the code names, if the functions do

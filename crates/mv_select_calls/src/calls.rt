@@ -7,11 +7,14 @@ ghost use Rattle.mv_select_statements.specs.Encoded.{IsSmall};
 ghost use Rattle.mv_select_calls.specs.CallCode.{result_lines, argument_lines, guard_lines, back_lines, slot_lines, guarded_lines, jump_lines, transfer_lines, call_lines, order_lines, ask_lines, known_lines, request_of, is_marked};
 
 use mv_ast::program::Known;
+use mv_ast::traps::{CALL_TOO_DEEP, NULL_CALL};
 use mv_ir::body::Room;
 use mv_ir::stm::Callee;
 use mv_ir::tree::Tree;
 use mv_isa::Instr;
 use mv_isa::labelled::Line;
+use mv_isa::labels::{COMMIT, TRAPS};
+use mv_isa::requests::{PLAN, POLL, READ, WRITE};
 use mv_num::list::List;
 use mv_select_statements::write_temp;
 use mv_select_trees::{push_into, push_number, push_one, push_tree};
@@ -29,8 +32,6 @@ const REQUEST: u8 = 17;
 const LEFT: u8 = 27;
 /// The address that a call goes to, t3. An argument is computed by way of it and the registers behind it.
 const SCRATCH: u8 = 28;
-/// The label of the stub that carries out orders and polls.
-const COMMIT: u32 = 4_294_967_295;
 
 // The result of a call into a temporary, if it has one.
 fn push_result(code: &mut List<Line>, temp: Option<u32>) -> Result<(), AllocError>
@@ -63,7 +64,7 @@ fn push_arguments(
 fn push_guard(code: &mut List<Line>) -> Result<(), AllocError>
     ensures { OnOk result (code.new ≡ code.old ++ guard_lines) }
 {
-    code.push(Line::Branch(0, LEFT, 0, 4_294_967_293))?;
+    code.push(Line::Branch(0, LEFT, 0, TRAPS + u32::from(CALL_TOO_DEEP)))?;
     push_one(
         code,
         Instr::Addi {
@@ -140,7 +141,7 @@ fn push_transfer(
         }
         Callee::Through(pointer) => {
             push_tree(code, rooms, pointer, SCRATCH)?;
-            code.push(Line::Branch(0, SCRATCH, 0, 4_294_967_292))?;
+            code.push(Line::Branch(0, SCRATCH, 0, TRAPS + u32::from(NULL_CALL)))?;
             push_jump(code, temp)
         }
     }
@@ -191,10 +192,10 @@ fn request_of(known: Known) -> i32
     ensures { result ≡ pos (request_of known) }
 {
     match known {
-        Known::Getchar => 1,
-        Known::Putchar => 2,
-        Known::Plan(_, _) => 4,
-        Known::Poll => 5,
+        Known::Getchar => READ as i32,
+        Known::Putchar => WRITE as i32,
+        Known::Plan(_, _) => PLAN as i32,
+        Known::Poll => POLL as i32,
     }
 }
 

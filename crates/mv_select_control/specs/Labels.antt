@@ -1,6 +1,7 @@
 -- The labels of the code of statements: which stand in it, and which it names.
 use Rattle.std.specs.Prelude.{ℕ, ◌≡◌, ◌+◌, ◌*◌, ◌<◌, ◌≤◌, List, [], ◌∷◌, ◌++◌, All, map, Option, count_by}
 use Rattle.mv_ast.specs.declared.program.Known.{Known}
+use Rattle.mv_ast.specs.Traps as traps
 use Rattle.mv_isa.specs.declared.labelled.Line.{Line}
 use Rattle.mv_isa.specs.declared.labelled.Line.TheVariants.{Word, Label, Jump, Branch, Entry, Slot}
 use Rattle.mv_isa.specs.Code.{is_label, StandsOnce, TargetStands}
@@ -105,8 +106,8 @@ pub record NamedStand (whole : List Line) (plan : Plan) (around : List Enclosing
   pub starts : All (λ e. StandsOnce whole e.start) around
   pub ends : All (λ e. StandsOnce whole e.end) around
   pub end : StandsOnce whole plan.end
-  pub division : StandsOnce whole (trap_label 1)
-  pub index : StandsOnce whole (trap_label 2)
+  pub division : StandsOnce whole (trap_label traps.division_by_zero)
+  pub index : StandsOnce whole (trap_label traps.index_outside)
   pub functions : All (StandsOnce whole) named
 
 -- then so is each label that the code names

@@ -1,10 +1,12 @@
 -- The code of statements without control. Each tree of a statement is computed first, in written order; an operand that stands in a register already
 -- stays there.
 use Rattle.std.specs.Prelude.{ℕ, ◌+◌, ◌*◌, ◌≤◌, cond, ltb, List, [], ◌∷◌, ◌++◌, ℤ, pos, slice_index_or}
+use Rattle.mv_ast.specs.Traps as traps
 use Rattle.mv_isa.specs.declared.instr.Instr.{Instr}
 use Rattle.mv_isa.specs.declared.instr.Instr.TheVariants.{Lui, Lw, Sw, Addi, Slli, Add, Div, Divu, Rem, Remu}
 use Rattle.mv_isa.specs.declared.labelled.Line.{Line}
 use Rattle.mv_isa.specs.declared.labelled.Line.TheVariants.{Word, Jump, Branch}
+pub use Rattle.mv_isa.specs.Labels.{trap_label}
 use Rattle.mv_ir.specs.declared.tree.Tree.{Tree}
 use Rattle.mv_select_trees.specs.TreeCode.{upper_bits, lower_bits, one, two, number_lines, temp_register, temp_offset, tree_into, tree_lines, operand_lines, operand_register}
 use Rattle.mv_select_statements.specs.declared.elements.Home.{Home}
@@ -19,10 +21,6 @@ second = 11
 
 abbrev pub third : ℕ
 third = 12
-
--- the label of the stub of a trap, 1 to 4
-abbrev pub trap_label : ℕ → ℕ
-trap_label c = 4294967289 + c
 
 -- a register into a temporary
 unfoldable pub write_temp : ℕ → ℕ → Instr
@@ -57,9 +55,9 @@ abbrev pub home_below : Home → ℕ → Type 0
 home_below (home.Data at) bytes = Unit {0}
 home_below (home.Frame at) bytes = at ≤ bytes
 
--- trap 2 where the index in a register isn't below the number of elements
+-- a trap where the index in a register isn't below the number of elements
 abbrev pub test_lines : ℕ → ℕ → List Line
-test_lines size q = number_lines size third ++ (Branch 7 q third (trap_label 2) ∷ [])
+test_lines size q = number_lines size third ++ (Branch 7 q third (trap_label traps.index_outside) ∷ [])
 
 -- the addresses of the first of so many words of the frame, from a place on, and of their end into the first two registers
 abbrev pub bounds_lines : ℕ → ℕ → List Line
@@ -79,12 +77,12 @@ module _ (place : ℕ → ℕ) where
   set_global_lines g v =
       operand_lines place v first ++ two (Lui second (pos (upper_bits (place g)))) (Sw second (operand_register v first) (lower_bits (place g)))
 
-  -- trap 1 where the divisor is 0
+  -- a trap where the divisor is 0
   abbrev pub divide_lines : ℕ → ℕ → Tree → Tree → List Line
   divide_lines t o a b =
       let p = operand_register a first in
       let q = operand_register b second in
-      operand_lines place a first ++ (operand_lines place b second ++ (Branch 0 q 0 (trap_label 1) ∷ (Word (division o (target t) p q) ∷ keep_lines t)))
+      operand_lines place a first ++ (operand_lines place b second ++ (Branch 0 q 0 (trap_label traps.division_by_zero) ∷ (Word (division o (target t) p q) ∷ keep_lines t)))
 
   abbrev pub check_lines : ℕ → Tree → List Line
   check_lines size i = operand_lines place i first ++ test_lines size (operand_register i first)

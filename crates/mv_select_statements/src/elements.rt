@@ -7,10 +7,12 @@ ghost use Rattle.mv_select_trees.specs.Rooms.{place_in};
 ghost use Rattle.mv_select_statements.specs.StatementCode.{home_below, element_offset, element_lines, test_lines, check_lines, read_lines, write_lines, bounds_lines, clear_lines};
 
 use crate::instructions::{FIRST, SECOND, THIRD, push_keep, target};
+use mv_ast::traps::INDEX_OUTSIDE;
 use mv_ir::body::Room;
 use mv_ir::tree::Tree;
 use mv_isa::Instr;
 use mv_isa::labelled::Line;
+use mv_isa::labels::TRAPS;
 use mv_num::list::List;
 use mv_select_trees::{
     lower_bits, operand_register, push_number, push_one, push_operand, push_two, upper_bits,
@@ -71,7 +73,7 @@ fn push_test(code: &mut List<Line>, size: u32, index: u8) -> Result<(), AllocErr
     ensures { OnOk result (code.new ≡ code.old ++ test_lines size index) }
 {
     push_number(code, size, THIRD)?;
-    code.push(Line::Branch(7, index, THIRD, 4_294_967_291))?;
+    code.push(Line::Branch(7, index, THIRD, TRAPS + u32::from(INDEX_OUTSIDE)))?;
     Ok(())
 }
 

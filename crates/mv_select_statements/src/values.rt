@@ -7,10 +7,12 @@ ghost use Rattle.mv_select_trees.specs.Rooms.{place_in};
 ghost use Rattle.mv_select_statements.specs.StatementCode.{set_lines, set_global_lines, divide_lines, return_lines};
 
 use crate::instructions::{FIRST, SECOND, division, push_keep, target};
+use mv_ast::traps::DIVISION_BY_ZERO;
 use mv_ir::body::Room;
 use mv_ir::tree::Tree;
 use mv_isa::Instr;
 use mv_isa::labelled::Line;
+use mv_isa::labels::TRAPS;
 use mv_num::list::List;
 use mv_select_trees::{
     lower_bits, operand_register, place_of, push_into, push_one, push_operand, push_tree, push_two,
@@ -79,7 +81,7 @@ pub fn push_divide(
     push_operand(code, rooms, divisor, SECOND)?;
     let left = operand_register(dividend, FIRST);
     let right = operand_register(divisor, SECOND);
-    code.push(Line::Branch(0, right, 0, 4_294_967_290))?;
+    code.push(Line::Branch(0, right, 0, TRAPS + u32::from(DIVISION_BY_ZERO)))?;
     push_one(code, division(operator, target(temp), left, right))?;
     push_keep(code, temp)
 }

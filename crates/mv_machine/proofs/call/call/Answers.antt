@@ -4,33 +4,33 @@ use Rattle.mv_machine.specs.Runs.{request_of, trap_of}
 use Rattle.mv_machine.proofs.Calls.{request_exits, request_reads, request_writes, request_traps, request_plans, request_polls, request_unknown, exits, traps, unknown, reads, writes, same, plans, polls, outcomes_stop}
 use Rattle.mv_machine.proofs.call.call.Goals as goal
 
-pub returns-then-number-eq0-clause-moves : goal.returns-then-number-eq0-clause-moves
-returns-then-number-eq0-clause-moves g c = exits c.args.engine.now c.args.operator.now _ _ _ (told_nothing _ _ c.args.probes.now.items c.requires) _ (sym (ap request_of c.number-number.ensures) ∙ request_exits _ c.if-number-eq0.true) (search rules)
+pub returns-then-number-eq-EXIT-clause-moves : goal.returns-then-number-eq-EXIT-clause-moves
+returns-then-number-eq-EXIT-clause-moves g c = exits c.args.engine.now c.args.operator.now _ _ _ (told_nothing _ _ c.args.probes.now.items c.requires) _ (sym (ap request_of c.number-number.ensures) ∙ request_exits _ c.if-number-eq-EXIT.true) (search rules)
 
 pub returns-in-Ok-clause-moves : goal.returns-in-Ok-clause-moves
-returns-in-Ok-clause-moves g c = reads c.args.engine.now c.args.operator.now _ _ _ (told_nothing _ _ c.args.probes.now.items c.requires) c.getchar.new.hart _ (sym (ap request_of c.number-number.ensures) ∙ request_reads _ c.if-number-eq1.true) c.in-Ok.ensures.read
+returns-in-Ok-clause-moves g c = reads c.args.engine.now c.args.operator.now _ _ _ (told_nothing _ _ c.args.probes.now.items c.requires) c.getchar.new.hart _ (sym (ap request_of c.number-number.ensures) ∙ request_reads _ c.if-number-eq-READ.true) c.in-Ok.ensures.read
 
 pub returns-in-Err-clause-moves : goal.returns-in-Err-clause-moves
 returns-in-Err-clause-moves g c =
-    (same c.args.engine.now c.args.operator.now _ _ c.getchar.new.hart _ _ c.in-Err.ensures.hart c.in-Err.ensures.left refl, (told_nothing _ _ c.args.probes.now.items c.requires), sym (ap request_of c.number-number.ensures) ∙ request_reads _ c.if-number-eq1.true, c.in-Err.ensures.rose)
+    (same c.args.engine.now c.args.operator.now _ _ c.getchar.new.hart _ _ c.in-Err.ensures.hart c.in-Err.ensures.left refl, (told_nothing _ _ c.args.probes.now.items c.requires), sym (ap request_of c.number-number.ensures) ∙ request_reads _ c.if-number-eq-READ.true, c.in-Err.ensures.rose)
 
 pub returns-in-Ok-putchar-clause-moves : goal.returns-in-Ok-putchar-clause-moves
-returns-in-Ok-putchar-clause-moves g c = writes c.args.engine.now c.args.operator.now _ _ _ (told_nothing _ _ c.args.probes.now.items c.requires) c.putchar.new.hart _ (sym (ap request_of c.number-number.ensures) ∙ request_writes _ c.if-number-eq2.true) c.in-Ok-putchar.ensures.written
+returns-in-Ok-putchar-clause-moves g c = writes c.args.engine.now c.args.operator.now _ _ _ (told_nothing _ _ c.args.probes.now.items c.requires) c.putchar.new.hart _ (sym (ap request_of c.number-number.ensures) ∙ request_writes _ c.if-number-eq-WRITE.true) c.in-Ok-putchar.ensures.written
 
 pub returns-in-Err-putchar-clause-moves : goal.returns-in-Err-putchar-clause-moves
 returns-in-Err-putchar-clause-moves g c =
-    (same c.args.engine.now c.args.operator.now _ _ c.putchar.new.hart _ _ c.in-Err-putchar.ensures.hart refl c.in-Err-putchar.ensures.kept, (told_nothing _ _ c.args.probes.now.items c.requires), sym (ap request_of c.number-number.ensures) ∙ request_writes _ c.if-number-eq2.true, c.in-Err-putchar.ensures.rose)
+    (same c.args.engine.now c.args.operator.now _ _ c.putchar.new.hart _ _ c.in-Err-putchar.ensures.hart refl c.in-Err-putchar.ensures.kept, (told_nothing _ _ c.args.probes.now.items c.requires), sym (ap request_of c.number-number.ensures) ∙ request_writes _ c.if-number-eq-WRITE.true, c.in-Err-putchar.ensures.rose)
 
-pub returns-then-number-eq3-clause-moves : goal.returns-then-number-eq3-clause-moves
-returns-then-number-eq3-clause-moves g c =
-    outcomes_stop _ _ _ _ c.trap.result (trap_of _) c.trap.ensures.stop (traps c.args.engine.now c.args.operator.now _ _ _ (told_nothing _ _ c.args.probes.now.items c.requires) _ (sym (ap request_of c.number-number.ensures) ∙ request_traps _ c.if-number-eq3.true) refl)
+pub returns-then-number-eq-TRAP-clause-moves : goal.returns-then-number-eq-TRAP-clause-moves
+returns-then-number-eq-TRAP-clause-moves g c =
+    outcomes_stop _ _ _ _ c.trap.result (trap_of _) c.trap.ensures.stop (traps c.args.engine.now c.args.operator.now _ _ _ (told_nothing _ _ c.args.probes.now.items c.requires) _ (sym (ap request_of c.number-number.ensures) ∙ request_traps _ c.if-number-eq-TRAP.true) refl)
 
-pub returns-then-number-eq4-clause-moves : goal.returns-then-number-eq4-clause-moves
-returns-then-number-eq4-clause-moves g c = plans c.args.engine.now c.args.operator.now _ _ _ c.order.result _ _ _ (sym (ap request_of c.number-number.ensures) ∙ request_plans _ c.if-number-eq4.true) (c.order.ensures.moves _ _ _)
+pub returns-then-number-eq-PLAN-clause-moves : goal.returns-then-number-eq-PLAN-clause-moves
+returns-then-number-eq-PLAN-clause-moves g c = plans c.args.engine.now c.args.operator.now _ _ _ c.order.result _ _ _ (sym (ap request_of c.number-number.ensures) ∙ request_plans _ c.if-number-eq-PLAN.true) (c.order.ensures.moves _ _ _)
 
-pub returns-then-number-eq5-clause-moves : goal.returns-then-number-eq5-clause-moves
-returns-then-number-eq5-clause-moves g c = polls c.args.engine.now c.args.operator.now _ _ _ _ (sym (ap request_of c.number-number.ensures) ∙ request_polls _ c.if-number-eq5.true) (c.poll.ensures.moves _ _)
+pub returns-then-number-eq-POLL-clause-moves : goal.returns-then-number-eq-POLL-clause-moves
+returns-then-number-eq-POLL-clause-moves g c = polls c.args.engine.now c.args.operator.now _ _ _ _ (sym (ap request_of c.number-number.ensures) ∙ request_polls _ c.if-number-eq-POLL.true) (c.poll.ensures.moves _ _)
 
 pub returns-clause-moves : goal.returns-clause-moves
 returns-clause-moves g c =
-    unknown c.args.engine.now c.args.operator.now _ _ _ (told_nothing _ _ c.args.probes.now.items c.requires) (sym (ap request_of c.number-number.ensures) ∙ request_unknown _ c.if-number-eq0.false c.if-number-eq1.false c.if-number-eq2.false c.if-number-eq3.false c.if-number-eq4.false c.if-number-eq5.false)
+    unknown c.args.engine.now c.args.operator.now _ _ _ (told_nothing _ _ c.args.probes.now.items c.requires) (sym (ap request_of c.number-number.ensures) ∙ request_unknown _ c.if-number-eq-EXIT.false c.if-number-eq-READ.false c.if-number-eq-WRITE.false c.if-number-eq-TRAP.false c.if-number-eq-PLAN.false c.if-number-eq-POLL.false)

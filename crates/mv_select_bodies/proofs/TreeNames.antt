@@ -15,7 +15,7 @@ use Rattle.mv_select_statements.specs.declared.elements.Home.TheVariants as home
 use Rattle.mv_select_statements.specs.StatementCode.{first, second, third, trap_label, target, keep_lines, division, element_offset, element_lines, test_lines, bounds_lines, clear_lines, set_lines, set_global_lines, divide_lines, check_lines, read_lines, write_lines, return_lines}
 use Rattle.mv_select_control.specs.Labels.{tree_functions}
 use Rattle.mv_select_control.proofs.TreeNames.{functions_inside, function_named}
-use Rattle.mv_select_lines.specs.Lines.{Names, IsCounted}
+use Rattle.mv_select_bodies.specs.Lines.{Names, IsCounted}
 
 -- what stands before lines without a slot at their start doesn't matter
 weaker : (before : Option Instr) (lines : List Line) → IsCounted None lines → IsCounted before lines

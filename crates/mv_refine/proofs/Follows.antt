@@ -11,8 +11,8 @@ use Rattle.mv_machine.proofs.Leaving.{Leaves as EachLeaves, planned_leaves, poll
 use Rattle.mv_machine.proofs.Turns.{turn_by, runs_more}
 use Rattle.mv_machine.specs.Runs.{State, Stop, Going, Exit, Trap, Fault, Request, Exits, Reads, Writes, Traps, Plans, Polls, Unknown, request_of, argument, live_frames, word_read, next_read, later_reads, answered, stopped, refused, ordered, planned, acted, polled, environment_call, choices_at, fetched_step, after, where_going, turn, runs_from}
 use Rattle.mv_machine.specs.Snapshots.{Asks}
-use Rattle.mv_refine_faults.specs.CutRuns.{with_input, TakenIsEnough, ReadTakesMore, WriteWritesMore}
-use Rattle.mv_refine_faults.proofs.Leaves.{Leaves, turn_leaves}
+use Rattle.mv_refine.specs.CutRuns.{with_input, TakenIsEnough, ReadTakesMore, WriteWritesMore}
+use Rattle.mv_refine.proofs.Leaves.{Leaves, turn_leaves}
 
 -- ---- what looks at no input
 

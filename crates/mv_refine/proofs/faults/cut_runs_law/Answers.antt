@@ -1,5 +1,5 @@
-use Rattle.mv_refine_faults.proofs.Follows.{taken_is_enough, read_takes_more, write_writes_more}
-use Rattle.mv_refine_faults.proofs.cut_runs_law.Goals as goal
+use Rattle.mv_refine.proofs.Follows.{taken_is_enough, read_takes_more, write_writes_more}
+use Rattle.mv_refine.proofs.faults.cut_runs_law.Goals as goal
 
 pub returns-clause-taken : goal.returns-clause-taken
 returns-clause-taken c = taken_is_enough

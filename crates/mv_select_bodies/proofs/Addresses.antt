@@ -8,8 +8,8 @@ use Rattle.mv_isa.specs.declared.labelled.Line.{Line}
 use Rattle.mv_isa.specs.declared.labelled.Line.TheVariants.{Word, Label, Jump, Branch, Entry, Slot}
 use Rattle.mv_isa.specs.Code.{line_at, least_words, offset, label_index, label_address, IsSizing}
 use Rattle.mv_select_functions.specs.FunctionCode.{bytes_of, end_label, lowered_lines, body_lines, epilogue_lines, function_lines}
-use Rattle.mv_select_lines.specs.Lines.{counts_call, IsCounted, Links, FirstsAreNoLabels, NoLinkIsSlot}
-use Rattle.mv_select_lines.proofs.FunctionNames.{function_counted}
+use Rattle.mv_select_bodies.specs.Lines.{counts_call, IsCounted, Links, FirstsAreNoLabels, NoLinkIsSlot}
+use Rattle.mv_select_bodies.proofs.FunctionNames.{function_counted}
 
 -- ---- offsets
 

@@ -7,10 +7,10 @@ use Rattle.mv_select_statements.specs.StatementCode.{trap_label}
 use Rattle.mv_select_control.specs.Labels.{functions}
 use Rattle.mv_select_calls.specs.CallCode.{commit_label}
 use Rattle.mv_select_functions.specs.FunctionCode.{Shape, bytes_of, end_label, body_lines, prologue_lines, epilogue_lines, function_lines}
-use Rattle.mv_select_lines.specs.Lines.{IsGoal, IsCounted, labels_of, LinesAreNamed}
-use Rattle.mv_select_lines.proofs.TreeNames.{AllName, after, then_line}
-use Rattle.mv_select_lines.proofs.StatementNames.{code_named}
-use Rattle.mv_select_lines.proofs.EntryNames.{prologue_names, epilogue_names}
+use Rattle.mv_select_bodies.specs.Lines.{IsGoal, IsCounted, labels_of, LinesAreNamed}
+use Rattle.mv_select_bodies.proofs.TreeNames.{AllName, after, then_line}
+use Rattle.mv_select_bodies.proofs.StatementNames.{code_named}
+use Rattle.mv_select_bodies.proofs.EntryNames.{prologue_names, epilogue_names}
 
 module _ (place size : ℕ → ℕ) (is_attributed : ℕ → Bool) (shape : Shape) (code : List Stm) where
   module _ (L P C Q S : ℕ → Type 0) (null : P (trap_label 3)) (depth : P (trap_label 4)) (commit : C commit_label) (slots : (f : ℕ) → Q f → is_attributed f ≡ true → S f)

@@ -1,6 +1,6 @@
-use Rattle.mv_select_lines.proofs.FunctionNames.{lines_named}
-use Rattle.mv_select_lines.proofs.Addresses.{firsts_are_no_labels, no_link_is_slot}
-use Rattle.mv_select_lines.proofs.lines_are_named.Goals as goal
+use Rattle.mv_select_bodies.proofs.FunctionNames.{lines_named}
+use Rattle.mv_select_bodies.proofs.Addresses.{firsts_are_no_labels, no_link_is_slot}
+use Rattle.mv_select_bodies.proofs.laws.lines_are_named.Goals as goal
 
 pub returns-clause-names : goal.returns-clause-names
 returns-clause-names c = lines_named

@@ -14,8 +14,8 @@ use Rattle.mv_select_statements.specs.StatementCode.{first, second, trap_label, 
 use Rattle.mv_select_control.specs.Labels.{tree_functions, callee_functions, functions_of_all}
 use Rattle.mv_select_control.proofs.TreeNames.{all_front, all_back}
 use Rattle.mv_select_calls.specs.CallCode.{link_register, left_register, request_register, scratch_register, request_of, commit_label, result_lines, guard_lines, back_lines, guarded_lines, slot_lines, jump_lines, argument_lines, transfer_lines, call_lines, order_lines, ask_lines, known_lines}
-use Rattle.mv_select_lines.specs.Lines.{Names, counts_call}
-use Rattle.mv_select_lines.proofs.TreeNames.{AllName, IsPlain, after, nothing, then_line, number_names, tree_names, into_names}
+use Rattle.mv_select_bodies.specs.Lines.{Names, counts_call}
+use Rattle.mv_select_bodies.proofs.TreeNames.{AllName, IsPlain, after, nothing, then_line, number_names, tree_names, into_names}
 
 module _ (L P C Q S : ℕ → Type 0) (null : P (trap_label 3)) (depth : P (trap_label 4)) (commit : C commit_label) where
   abbrev Named : List Line → Type 0

@@ -20,8 +20,8 @@ use Rattle.mv_select_control.proofs.StatementsDo.{code_roll}
 use Rattle.mv_select_control.proofs.TreeNames.{all_front, all_back}
 use Rattle.mv_select_calls.specs.CallCode.{commit_label}
 use Rattle.mv_select_functions.specs.FunctionCode.{Shape, end_label, plan}
-use Rattle.mv_select_lines.proofs.CallNames.{call_names, known_names}
-use Rattle.mv_select_lines.proofs.TreeNames.{AllName, IsPlain, after, nothing, then_line, operand_names, set_names, set_global_names, divide_names, check_names, read_names, write_names, bounds_names, clear_names, return_names}
+use Rattle.mv_select_bodies.proofs.CallNames.{call_names, known_names}
+use Rattle.mv_select_bodies.proofs.TreeNames.{AllName, IsPlain, after, nothing, then_line, operand_names, set_names, set_global_names, divide_names, check_names, read_names, write_names, bounds_names, clear_names, return_names}
 
 named_roll : (x : Stm-F Stm) → stm_functions (roll-Stm x) ≡ named_layer (map-Stm Stm (List ℕ) stm_functions x)
 unfolding stm_functions

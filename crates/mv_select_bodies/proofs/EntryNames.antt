@@ -7,7 +7,7 @@ use Rattle.mv_select_trees.specs.TreeCode.{one, two, minus_one, temp_register}
 use Rattle.mv_select_statements.specs.StatementCode.{first}
 use Rattle.mv_select_calls.specs.CallCode.{link_register, live_register}
 use Rattle.mv_select_functions.specs.FunctionCode.{saved_count, saved_register, save_lines, restore_lines, parameter_lines, enter_lines, leave_lines, lowered_lines, prologue_lines, epilogue_lines}
-use Rattle.mv_select_lines.proofs.TreeNames.{AllName, after, nothing, then_line, word}
+use Rattle.mv_select_bodies.proofs.TreeNames.{AllName, after, nothing, then_line, word}
 
 module _ (L P C Q S : ℕ → Type 0) where
   abbrev Named : List Line → Type 0

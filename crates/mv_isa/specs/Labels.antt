@@ -1,0 +1,10 @@
+-- The labels of the stubs, which all code of a program may name. They are the greatest numbers that labels have.
+use Rattle.std.specs.Prelude.{ℕ, ◌+◌}
+
+-- the label of the stub of a trap, 1 to 4
+abbrev pub trap_label : ℕ → ℕ
+trap_label c = 4294967289 + c
+
+-- the label of the stub that carries out orders and polls
+abbrev pub commit_label : ℕ
+commit_label = 4294967295

@@ -1,0 +1,7 @@
+//! The labels of the stubs, which all code of a program may name. They are the greatest numbers that labels have.
+
+/// The label of the stub of trap c, 1 to 4, is this and c.
+pub const TRAPS: u32 = 4_294_967_289;
+
+/// The label of the stub that carries out orders and polls.
+pub const COMMIT: u32 = 4_294_967_295;
