@@ -8,6 +8,7 @@ use Rattle.mv_ast.specs.declared.program.Form.TheOpen as form
 use Rattle.mv_ast.specs.declared.program.Target.{Target, Target-F, roll-Target, map-Target, fold-Target}
 use Rattle.mv_ast.specs.Operators.{unary_value, binary_value, converted, as_word}
 use Rattle.mv_check_scope.specs.Constants.{Evaluated, of_one, of_two, by_test, truth, value_form, value_target, value_expr, evaluated, computed}
+use Rattle.mv_check_scope.proofs.Types.{type_of}
 use Rattle.mv_meaning.specs.Meaning.{truth_of}
 use Rattle.mv_source_forms.specs.Typing.{ComesTo}
 use Rattle.mv_meaning_numbering.proofs.Constants.{comes_number, comes_unary, comes_convert, comes_binary, comes_no, comes_yes, comes_both, comes_either, comes_first, comes_second}
@@ -55,9 +56,6 @@ computed_is e z h =
     (ap (λ g. g e.ctype) (fold_out-Form (CType → Option ℕ) (Unit {0}) Evaluated value_form value_target value_expr e.what) ∙
     ap (λ y. value_form (layer_of y) e.ctype) h)
 
-type_is : (e : Expr) → (evaluated e).ctype ≡ e.ctype
-type_is e = ap (λ s. s.ctype) (fold_out-Expr (CType → Option ℕ) (Unit {0}) Evaluated value_form value_target value_expr e)
-
 -- ---- by induction over the expression
 
 module _ (p : Program) where
@@ -99,7 +97,7 @@ module _ (p : Program) where
     binary : (op : ℕ) (a b : Expr) → out-Form e.what ≡ form.Binary op a b → ExprComes a → ExprComes b → computed e ≡ Some v → ComesTo p e v
     binary op a b o k l h =
         let s = from_two (computed a) (computed b) (binary_value op (evaluated a).ctype) v (sym (computed_is e (form.Binary op a b) o) ∙ h) in
-        comes_binary p e op a b s.0 s.1 v o (k s.0 s.2) (l s.1 s.3) (ap (λ t. binary_value op t s.0 s.1) (sym (type_is a)) ∙ s.4)
+        comes_binary p e op a b s.0 s.1 v o (k s.0 s.2) (l s.1 s.3) (ap (λ t. binary_value op t s.0 s.1) (sym (type_of a)) ∙ s.4)
 
     both : (a b : Expr) → out-Form e.what ≡ form.Both a b → ExprComes a → ExprComes b → computed e ≡ Some v → ComesTo p e v
     both a b o k l h =

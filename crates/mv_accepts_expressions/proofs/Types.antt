@@ -3,9 +3,10 @@ use Rattle.std.proofs.Common.{◌≡◌, ℕ, Bool, true, false, ◌||◌, refl,
 use Rattle.std.proofs.lemmas.Bool.{eqb-true}
 use Rattle.mv_num.specs.declared.kind.Kind.{Kind}
 use Rattle.mv_num.specs.declared.kind.Kind.TheVariants as kind
+use Rattle.mv_num.specs.Kinds.{kind_number}
 use Rattle.mv_ast.specs.declared.program.CType.{CType}
 use Rattle.mv_ast.specs.declared.program.CType.TheVariants.{Void, Scalar, Pointer}
-use Rattle.mv_check_scope.specs.Conversions.{kind_number, same_type, is_integer, is_pointer, promotion, usual, int, unsigned}
+use Rattle.mv_check_scope.specs.Conversions.{same_type, is_integer, is_pointer, promotion, usual, int, unsigned}
 use Rattle.mv_source_forms.specs.Typing.{IsInteger}
 
 kind_of : ℕ → Kind

@@ -1,42 +1,23 @@
 -- What no limit is reported of is within all limits.
 use Rattle.std.proofs.Common.{◌≡◌, ℕ, ◌≤◌, Bool, true, false, refl, arith, if◌then◌else◌, List, [], ◌∷◌, ◌++◌, map, length, nat_lt, Option, Some, None}
-use Rattle.std.proofs.lemmas.Bool.{ltb-false}
 use Rattle.std.proofs.lemmas.List.Elements.{All-from_recursion, All-filter}
 use Rattle.std.specs.List.{All, AllByRecursion, filter, flat_map}
 use Rattle.mv_ast.specs.declared.program.Program.{Program}
 use Rattle.mv_ast.specs.declared.program.Function.{Function}
 use Rattle.mv_ast.specs.declared.program.Local.{Local}
 use Rattle.mv_ast.specs.Counts.{words_of_size, assignments}
-use Rattle.mv_check_limits.specs.declared.excess.Exceeded.{Exceeded}
-use Rattle.mv_check_limits.specs.Limits.{Limit, elements, own_switches, first_above, reported, excess, first_some, limits, first_exceeded, global_sizes, local_sizes}
+use Rattle.mv_check_limits.specs.Limits.{Limit, elements, own_switches, first_above, excess, first_some, limits, first_exceeded, global_sizes, local_sizes}
+use Rattle.mv_check_limits.proofs.Bounds.{first_at_most}
+use Rattle.mv_check_limits.proofs.Orders.{none_first, not_exceeded}
 use Rattle.mv_source_forms.specs.WellFormed.{program_nodes, IsWithinLimits}
 
 -- ---- no report
-
-none_first : (o : Option Exceeded) (os : List (Option Exceeded)) → first_some (o ∷ os) ≡ None → (o ≡ None) × (first_some os ≡ None)
-none_first None os h = (refl, h)
-none_first (Some e) os h = absurd (cc)
-
-not_reported : (number : ℕ) (o : Option ℕ) → reported number o ≡ None → o ≡ None
-not_reported number None h = refl
-not_reported number (Some c) h = absurd (cc)
-
-not_exceeded : (l : Limit) → excess l ≡ None → first_above l.greatest l.counts ≡ None
-unfolding excess
-not_exceeded l h = not_reported l.number (first_above l.greatest l.counts) h
 
 none_exceeded : (ls : List Limit) → first_some (map excess ls) ≡ None → AllByRecursion (λ (l : Limit). first_above l.greatest l.counts ≡ None) ls
 none_exceeded [] h = tt
 none_exceeded (l ∷ ls) h = let p = none_first (excess l) (map excess ls) h in (not_exceeded l p.0, none_exceeded ls p.1)
 
 -- ---- counts of which none is above a bound
-
-first_at_most : (n c : ℕ) (rest : Option ℕ) → (if nat_lt n c then Some c else rest) ≡ None → (c ≤ n) × (rest ≡ None)
-first_at_most n c rest h = by (nat_lt n c) refl h
-  where
-    by : (b : Bool) → nat_lt n c ≡ b → (if b then Some c else rest) ≡ None → (c ≤ n) × (rest ≡ None)
-    by true e g = absurd (cc)
-    by false e g = (ltb-false n c e, g)
 
 at_most : {X : Type 0} (count : X → ℕ) (n : ℕ) (xs : List X) → first_above n (map count xs) ≡ None → AllByRecursion (λ x. count x ≤ n) xs
 at_most count n [] h = tt

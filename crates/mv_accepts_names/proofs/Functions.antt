@@ -19,6 +19,7 @@ use Rattle.mv_check_scope.specs.declared.scope.Scope.{Scope}
 use Rattle.mv_check_scope.specs.Scoped.{block_entered}
 use Rattle.mv_check_scope.specs.Signatures.{with_signature}
 use Rattle.mv_check_scope.specs.Spaces.{named}
+use Rattle.mv_check_scope.proofs.BoundNames.{names_kept}
 use Rattle.mv_check_expressions.specs.Judged.{Judged, Good, and_then}
 use Rattle.mv_check_outline.specs.Names.{place_of}
 use Rattle.mv_check_declarations.specs.Declarators.{signature_of, function_type, parameter}
@@ -29,7 +30,7 @@ use Rattle.mv_accepts_expressions.specs.Soundness.{IsListed}
 use Rattle.mv_accepts_expressions.proofs.Kept.{went_on, same_good}
 use Rattle.mv_accepts_statements.specs.Bodies.{Keeps, Grows, BodyGrows, AreParameters, ParametersFit}
 use Rattle.mv_accepts_statements.proofs.Judging.{IfGood, by_good, if_any, if_then}
-use Rattle.mv_accepts_statements.proofs.Names.{left_is, names_kept}
+use Rattle.mv_accepts_statements.proofs.Names.{left_is}
 use Rattle.mv_accepts_statements.proofs.Places.{keeps_same, keeps_joined, keeps_take}
 use Rattle.mv_accepts_statements.proofs.Growing.{grows_joined}
 use Rattle.mv_types.specs.declared.contents.Contents.{Contents}

@@ -8,10 +8,10 @@ use Rattle.mv_check_scope.specs.declared.meaning.Storage.TheVariants as storage
 use Rattle.mv_check_scope.specs.declared.scope.Scope.{Scope}
 use Rattle.mv_check_scope.specs.Scoped.{declared}
 use Rattle.mv_check_scope.specs.Spaces.{named}
+use Rattle.mv_check_scope.proofs.BoundNames.{names_kept}
 use Rattle.mv_accepts_expressions.specs.Soundness.{IsListed}
 use Rattle.mv_accepts_statements.proofs.Judging.{IfGood, if_any, if_then}
 use Rattle.mv_accepts_statements.proofs.Places.{keeps_same, keeps_more, last_there}
-use Rattle.mv_accepts_statements.proofs.Names.{names_kept}
 use Rattle.mv_types.specs.declared.contents.Contents.{Contents}
 use Rattle.mv_types.specs.declared.contents.Foreknown.{Foreknown}
 use Rattle.mv_types.specs.declared.contents.Object.{Object}

@@ -8,12 +8,12 @@ use Rattle.mv_check_scope.specs.declared.scope.Scope.{Scope}
 use Rattle.mv_check_scope.specs.declared.space.NameSpace.{NameSpace}
 use Rattle.mv_check_scope.specs.Spaces.{named}
 use Rattle.mv_check_scope.specs.Scoped.{declared}
+use Rattle.mv_check_scope.proofs.BoundNames.{names_kept}
 use Rattle.mv_check_declarations.specs.declared.attributes.Position.{Position}
 use Rattle.mv_check_declarations.specs.Specifiers.{specifiers}
 use Rattle.mv_accepts_statements.proofs.Judging.{IfGood, if_more, if_both}
 use Rattle.mv_accepts_statements.proofs.Growing.{Declares}
 use Rattle.mv_accepts_statements.proofs.Specified.{Specifies, specifiers_specify, Behind, specifiers_kept}
-use Rattle.mv_accepts_statements.proofs.Names.{names_kept}
 use Rattle.mv_types.specs.declared.contents.Contents.{Contents}
 use Rattle.mv_types.specs.declared.contents.Foreknown.{Foreknown}
 use Rattle.mv_types.specs.Contents.{in_scope}

@@ -8,11 +8,12 @@ use Rattle.mv_check_scope.specs.declared.meaning.Meaning.TheVariants as meaning
 use Rattle.mv_check_scope.specs.declared.scope.Scope.{Scope}
 use Rattle.mv_check_scope.specs.Names.{Names}
 use Rattle.mv_check_scope.specs.Spaces.{named}
+use Rattle.mv_check_scope.proofs.BoundNames.{names_kept}
 use Rattle.mv_check_declarations.specs.declared.attributes.Position.{Position}
 use Rattle.mv_check_declarations.specs.Specifiers.{specifiers}
 use Rattle.mv_accepts_statements.proofs.Judging.{IfGood, if_more}
 use Rattle.mv_accepts_statements.proofs.Specified.{Behind, specifiers_kept}
-use Rattle.mv_accepts_statements.proofs.Names.{names_kept, named_behind}
+use Rattle.mv_accepts_statements.proofs.Names.{named_behind}
 use Rattle.mv_types.specs.Objects.{number_of}
 
 -- From the names of a block to those of a later one: they mean the same, and what is new has no number.

@@ -9,20 +9,10 @@ use Rattle.mv_check_scope.specs.Names.{Names}
 use Rattle.mv_check_scope.specs.Spaces.{named, or_else, meaning_in}
 use Rattle.mv_check_scope.specs.Scopes.{last_block, before_last, entered, left}
 use Rattle.mv_check_scope.specs.Scoped.{unless_declared, meaning_of, declared, block_entered}
+use Rattle.mv_check_scope.proofs.BoundNames.{named_last}
+use Rattle.mv_check_scope.proofs.Blocks.{last_of, before}
 
 -- ---- declarations
-
-pub named_last : (n : List ℕ) (xs : Names) (y : List ℕ × Meaning) → named n (xs ++ y ∷ []) ≡ or_else (named n xs) (named n (y ∷ []))
-named_last n [] y = refl
-named_last n (x ∷ xs) y = by (pointwise nat_eq n x.0) (named_last n xs y)
-  where
-    by : (b : Bool) → named n (xs ++ y ∷ []) ≡ or_else (named n xs) (named n (y ∷ [])) →
-        (if b then Some x.1 else named n (xs ++ y ∷ [])) ≡ or_else (if b then Some x.1 else named n xs) (named n (y ∷ []))
-    by true q = refl
-    by false q = q
-
-pub names_kept : (n : List ℕ) (xs : Names) (y : List ℕ × Meaning) (m : Meaning) → named n xs ≡ Some m → named n (xs ++ y ∷ []) ≡ Some m
-names_kept n xs y m h = named_last n xs y ∙ ap (λ o. or_else o (named n (y ∷ []))) h
 
 -- what a name means behind one more
 pub named_behind : (n : List ℕ) (xs : Names) (name : List ℕ) (k m : Meaning) → named n (xs ++ (name, k) ∷ []) ≡ Some m →
@@ -64,16 +54,6 @@ meaning_last (x ∷ bs) b n = ap (λ o. or_else o (named n x)) (meaning_last bs 
 -- a block begins with what stands around it
 pub entered_means : (s : Scope) (n : List ℕ) → meaning_of (block_entered s) n ≡ meaning_of s n
 entered_means s n = ap (λ o. unless_declared o (known_function n)) (meaning_last s.names.around s.names.here n)
-
-last_of : (bs : List Names) (b : Names) → last_block (bs ++ b ∷ []) ≡ b
-last_of [] b = refl
-last_of (x ∷ []) b = refl
-last_of (x ∷ y ∷ bs) b = last_of (y ∷ bs) b
-
-before : (bs : List Names) (b : Names) → before_last (bs ++ b ∷ []) ≡ bs
-before [] b = refl
-before (x ∷ []) b = refl
-before (x ∷ y ∷ bs) b = ap (λ z. x ∷ z) (before (y ∷ bs) b)
 
 -- a block that is left leaves the names around it
 pub left_is : (space inner : NameSpace) → inner.around ≡ (entered space).around → left inner ≡ space

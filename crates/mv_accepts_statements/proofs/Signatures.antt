@@ -1,11 +1,11 @@
 -- Signatures that are the same, and their numbers in lists that grow.
 use Rattle.std.proofs.Common.{◌≡◌, ℕ, suc, ◌+◌, refl, sym, ◌∙◌, ap, ap₂, Bool, true, false, ◌&&◌, if◌then◌else◌, List, [], ◌∷◌, Some, slice_get, arith}
-use Rattle.std.proofs.lemmas.Bool.{and_parts, eq-eqb}
+use Rattle.std.proofs.lemmas.Bool.{and_parts}
 use Rattle.mv_ast.specs.declared.program.CType.{CType}
-use Rattle.mv_ast.specs.declared.program.CType.TheVariants.{Void, Scalar, Pointer}
 use Rattle.mv_ast.specs.declared.program.Signature.{Signature}
-use Rattle.mv_check_scope.specs.Conversions.{kind_number, same_type, same_types, same_signature}
+use Rattle.mv_check_scope.specs.Conversions.{same_type, same_types, same_signature}
 use Rattle.mv_check_scope.specs.Signatures.{place_of, with_signature}
+use Rattle.mv_check_scope.proofs.Types.{type_same}
 use Rattle.mv_check_declarations.specs.Declarators.{signature_of}
 use Rattle.mv_accepts_statements.specs.Bodies.{Keeps}
 use Rattle.mv_accepts_statements.proofs.Places.{kept_first}
@@ -26,11 +26,6 @@ signature_is : (s t : Signature) → same_signature s t ≡ true → s ≡ t
 signature_is s t h =
     let b = and_parts (same_type s.result t.result) (same_types s.params t.params) h in
     ap₂ signature_of (same_is s.result t.result b.0) (types_are s.params t.params b.1)
-
-type_same : (t : CType) → same_type t t ≡ true
-type_same Void = refl
-type_same (Scalar k) = eq-eqb (kind_number k) (kind_number k) refl
-type_same (Pointer s) = eq-eqb s s refl
 
 types_same : (ts : List CType) → same_types ts ts ≡ true
 types_same [] = refl

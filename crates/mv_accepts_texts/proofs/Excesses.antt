@@ -15,6 +15,7 @@ use Rattle.mv_check_expressions.specs.Judged.{Good}
 use Rattle.mv_check_limits.specs.declared.excess.Exceeded.{Exceeded}
 use Rattle.mv_check_limits.specs.Limits.{Limit, elements, first_above, reported, excess, first_some, functions_limit, globals_limit, parameters_limit, switches_limit, values_limit, switches_of_function_limit, assignments_limit, elements_limit, global_sizes, local_sizes}
 use Rattle.mv_check_limits.specs.Ordered.{unit_parameters, global_elements, local_elements, declarator_elements, item_elements, unit_elements, in_text, first_excess}
+use Rattle.mv_check_limits.proofs.Told.{both_none}
 use Rattle.mv_check_rules.specs.Nodes.{Global}
 use Rattle.mv_check_rules.specs.Declarations.{in_order}
 use Rattle.mv_check_rules.specs.Units.{Declarations, none_declared, item, global_of, those_there, with_switches, switches_from, program, judged_by_rules}
@@ -26,7 +27,7 @@ use Rattle.mv_accepts_texts.specs.Told.{told_parameters, first_told}
 use Rattle.mv_accepts_texts.proofs.Files.{Sound}
 use Rattle.mv_accepts_numbers.proofs.NameLists.{name_itself}
 use Rattle.mv_accepts_texts.proofs.Programs.{TellsName, items_known, ended, those_have}
-use Rattle.mv_accepts_texts.proofs.Scopes.{both_none, few, few_more}
+use Rattle.mv_accepts_texts.proofs.Scopes.{few, few_more}
 use Rattle.mv_accepts_texts.proofs.Units.{unit_sound}
 
 module _ (n : ℕ) where

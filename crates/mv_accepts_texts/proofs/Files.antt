@@ -10,12 +10,12 @@ use Rattle.mv_check_scope.specs.Scoped.{unless_declared, meaning_of, declared}
 use Rattle.mv_check_scope.specs.Spaces.{named, or_else, meaning_in}
 use Rattle.mv_check_scope.specs.declared.meaning.Meaning.{Meaning}
 use Rattle.mv_check_scope.specs.declared.scope.Scope.{Scope}
+use Rattle.mv_check_scope.proofs.BoundNames.{names_kept, named_last}
 use Rattle.mv_ast.specs.declared.program.Known.{Known}
 use Rattle.mv_check_outline.specs.Names.{is_among}
 use Rattle.mv_check_outline.specs.Outlined as outlined
 use Rattle.mv_check_rules.specs.Nodes.{Global}
 use Rattle.mv_check_rules.specs.Units.{Declarations, behind, function_number, is_defined_at}
-use Rattle.mv_accepts_statements.proofs.Names.{names_kept, named_last}
 use Rattle.mv_accepts_texts.specs.Expressions.{NameList}
 use Rattle.mv_accepts_texts.specs.Meanings.{is_global, names_global}
 use Rattle.mv_accepts_texts.specs.Texts.{Part}

@@ -5,30 +5,20 @@ use Rattle.std.proofs.Math.Bool.{or-false, or_assoc, or_comm}
 use Rattle.std.proofs.lemmas.List.{map-append}
 use Rattle.std.proofs.lemmas.List.Folds.{concat-append}
 use Rattle.std.specs.List.{concat}
-use Rattle.mv_ast.specs.declared.program.Arm.{Arm, fold_out-Arm}
+use Rattle.mv_ast.specs.declared.program.Arm.{Arm}
 use Rattle.mv_ast.specs.declared.program.Expr.{Expr}
-use Rattle.mv_ast.specs.declared.program.Stmt.{Stmt, Stmt-F, out-Stmt, map-Stmt, fold_out-Stmt}
+use Rattle.mv_ast.specs.declared.program.Stmt.{Stmt, Stmt-F, out-Stmt}
 use Rattle.mv_ast.specs.declared.program.Stmt.TheVariants as stmt
 use Rattle.mv_ast.specs.declared.program.Stmt.TheVariants.{outs-Block, outs-Clear, outs-Express, outs-If, outs-While, outs-Do, outs-For, outs-Switch, outs-Break, outs-Continue, outs-Return}
 use Rattle.mv_ast.specs.Plans.{is_among}
-use Rattle.mv_check_uses.specs.Uses.{expr_globals, stmt_layer, arm_layer, stmt_globals}
+use Rattle.mv_check_uses.specs.Uses.{expr_globals, stmt_globals}
 use Rattle.mv_check_uses.specs.Flags.{arm_globals}
+use Rattle.mv_check_uses.proofs.Statements.{of_layer, stmt_is, arm_is}
 use Rattle.mv_check_rules.specs.Rules.{is_empty}
 use Rattle.mv_check_rules.specs.Statements.{Piece, Labelled, Otherwise, Statement, empty_arm, with_label, with_other, labelled_behind, arms_behind, arms}
 use Rattle.mv_accepts_texts.proofs.Globals.{either_same, among_both, Names, NamesAny}
 
 -- ---- a layer
-
-abbrev of_layer : Stmt-F Stmt Arm → List ℕ
-of_layer x = stmt_layer (map-Stmt Stmt Arm (List ℕ) (List ℕ) stmt_globals arm_globals x)
-
-stmt_is : (s : Stmt) (x : Stmt-F Stmt Arm) → out-Stmt s ≡ x → stmt_globals s ≡ of_layer x
-unfolding arm_globals stmt_globals
-stmt_is s x e = fold_out-Stmt (List ℕ) (List ℕ) stmt_layer arm_layer s ∙ ap of_layer e
-
-arm_is : (a : Arm) → arm_globals a ≡ concat (map stmt_globals a.body)
-unfolding arm_globals stmt_globals
-arm_is a = fold_out-Arm (List ℕ) (List ℕ) stmt_layer arm_layer a
 
 module _ (g : ℕ) where
   abbrev pub StmtNames : Stmt → Bool

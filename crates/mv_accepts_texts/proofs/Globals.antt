@@ -4,20 +4,21 @@ use Rattle.std.proofs.Math.Bool.{or-false, or_assoc, or_comm}
 use Rattle.std.proofs.lemmas.List.Folds.{concat-append}
 use Rattle.std.specs.List.{concat}
 use Rattle.mv_ast.specs.declared.program.CType.{CType}
-use Rattle.mv_ast.specs.declared.program.Expr.{Expr, fold_out-Expr}
-use Rattle.mv_ast.specs.declared.program.Form.{Form, Form-F, out-Form, map-Form, fold_out-Form}
+use Rattle.mv_ast.specs.declared.program.Expr.{Expr}
+use Rattle.mv_ast.specs.declared.program.Form.{Form, Form-F, out-Form}
 use Rattle.mv_ast.specs.declared.program.Form.TheOpen as open_form
 use Rattle.mv_ast.specs.declared.program.Form.TheVariants as form
 use Rattle.mv_ast.specs.declared.program.Form.TheVariants.{outs-Number, outs-Read, outs-Function, outs-Unary, outs-Binary, outs-Both, outs-Either, outs-Choose, outs-Convert, outs-Set, outs-Change, outs-After, outs-Direct, outs-Through, outs-Known}
 use Rattle.mv_ast.specs.declared.program.Known.{Known}
-use Rattle.mv_ast.specs.declared.program.Target.{Target, Target-F, out-Target, map-Target, fold_out-Target}
+use Rattle.mv_ast.specs.declared.program.Target.{Target}
 use Rattle.mv_ast.specs.declared.program.Target.TheVariants.{outs-Global, outs-Local, outs-GlobalAt, outs-LocalAt}
 use Rattle.mv_ast.specs.Plans.{is_among}
 use Rattle.mv_check_scope.specs.Conversions.{int, typed, same_type, promotion, promoted, converted_to}
 use Rattle.mv_check_scope.specs.declared.meaning.Storage.{Storage}
 use Rattle.mv_check_scope.specs.declared.meaning.Storage.TheVariants as storage
-use Rattle.mv_check_uses.specs.Uses.{form_layer, target_layer, expr_layer, expr_globals}
-use Rattle.mv_check_uses.specs.Flags.{form_globals, target_globals}
+use Rattle.mv_check_uses.specs.Uses.{expr_globals}
+use Rattle.mv_check_uses.specs.Flags.{target_globals}
+use Rattle.mv_check_uses.proofs.Forms.{expr_is, target_is, of_form, form_is}
 use Rattle.mv_check_expressions.specs.declared.seen.Object.{Object}
 use Rattle.mv_check_expressions.specs.Calls.{function_form, named_function, direct_or_through}
 use Rattle.mv_check_expressions.specs.Found.{is_both, is_either, common_type, left_type, right_type, result_type, unary_of, computed_of, binary_of, choose_of, change_of, assign_to, compound_operator, one, before_of}
@@ -25,24 +26,6 @@ use Rattle.mv_check_expressions.specs.Seen.{object_at, element_at}
 use Rattle.mv_accepts_texts.specs.Meanings.{is_stored}
 
 -- ---- forms
-
-expr_is : (e : Expr) → expr_globals e ≡ form_globals e.what
-unfolding expr_globals form_globals
-expr_is e = fold_out-Expr (List ℕ) (List ℕ) (List ℕ) form_layer target_layer expr_layer e
-
-abbrev of_form : Form-F Form Target Expr → List ℕ
-of_form x = form_layer (map-Form Form Target Expr (List ℕ) (List ℕ) (List ℕ) form_globals target_globals expr_globals x)
-
-form_is : (f : Form) (x : Form-F Form Target Expr) → out-Form f ≡ x → form_globals f ≡ of_form x
-unfolding form_globals target_globals expr_globals
-form_is f x e = fold_out-Form (List ℕ) (List ℕ) (List ℕ) form_layer target_layer expr_layer f ∙ ap of_form e
-
-abbrev of_target : Target-F Form Target Expr → List ℕ
-of_target x = target_layer (map-Target Form Target Expr (List ℕ) (List ℕ) (List ℕ) form_globals target_globals expr_globals x)
-
-target_is : (t : Target) (x : Target-F Form Target Expr) → out-Target t ≡ x → target_globals t ≡ of_target x
-unfolding form_globals target_globals expr_globals
-target_is t x e = fold_out-Target (List ℕ) (List ℕ) (List ℕ) form_layer target_layer expr_layer t ∙ ap of_target e
 
 module _ (g : ℕ) where
   -- ---- lists

@@ -10,6 +10,7 @@ use Rattle.mv_check_scope.specs.Scoped.{declared}
 use Rattle.mv_check_scope.specs.Spaces.{named, or_else}
 use Rattle.mv_check_scope.specs.declared.meaning.Meaning.{Meaning}
 use Rattle.mv_check_scope.specs.declared.scope.Scope.{Scope}
+use Rattle.mv_check_scope.proofs.BoundNames.{named_last, names_kept}
 use Rattle.mv_check_outline.specs.Names.{is_among, same_name}
 use Rattle.mv_check_rules.specs.Nodes.{Declared, Given, Global}
 use Rattle.mv_check_rules.specs.Nodes as node
@@ -18,7 +19,6 @@ use Rattle.mv_check_rules.specs.Declarations.{given, named_unless}
 use Rattle.mv_check_rules.specs.Units.{Declarations, constant_expression, global_number, global_at, earlier, object_meaning, object_named, declared_again, new_global, with_global, object_found, object}
 use Rattle.mv_accepts_statements.proofs.Judging.{IfGood, if_any, if_more, if_then}
 use Rattle.mv_accepts_statements.proofs.Lists.{all_more}
-use Rattle.mv_accepts_statements.proofs.Names.{named_last, names_kept}
 use Rattle.mv_accepts_statements.proofs.Places.{keeps_more, last_there}
 use Rattle.mv_accepts_texts.specs.Expressions.{NameList}
 use Rattle.mv_accepts_texts.specs.Meanings.{is_global}

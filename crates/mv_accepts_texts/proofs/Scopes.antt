@@ -9,9 +9,11 @@ use Rattle.mv_check_scope.specs.Known.{known_function}
 use Rattle.mv_check_scope.specs.Scoped.{unless_declared, meaning_of, declared, block_entered, block_left}
 use Rattle.mv_check_scope.specs.Scopes.{sought}
 use Rattle.mv_check_scope.specs.Spaces.{named, or_else, meaning_in}
+use Rattle.mv_check_scope.proofs.BoundNames.{named_last}
 use Rattle.mv_check_limits.specs.Limits.{first_above}
+use Rattle.mv_check_limits.proofs.Told.{both_none}
 use Rattle.mv_check_outline.specs.Names.{is_among, same_name}
-use Rattle.mv_accepts_statements.proofs.Names.{named_last, entered_means, left_is}
+use Rattle.mv_accepts_statements.proofs.Names.{entered_means, left_is}
 use Rattle.mv_accepts_texts.specs.Expressions.{NameList}
 use Rattle.mv_accepts_texts.specs.Meanings.{is_global, names_global}
 use Rattle.mv_accepts_texts.specs.Texts.{Part, undeclared, naming, declaring, next, block}
@@ -82,10 +84,6 @@ few counts = first_above 8 counts ≡ None
 
 abbrev pub FewIn : Scope → Type 0
 FewIn s = few (map (λ f. length f.params) s.signatures)
-
-pub both_none : (a b : Option ℕ) → option_or a b ≡ None → (a ≡ None) × (b ≡ None)
-both_none None b h = (refl, h)
-both_none (Some c) b h = absurd (cc)
 
 pub few_both : (xs ys : List ℕ) → few (xs ++ ys) → few xs × few ys
 few_both xs ys h = both_none (first_above 8 xs) (first_above 8 ys) (sym (find-append (λ c. nat_lt 8 c) xs ys) ∙ h)

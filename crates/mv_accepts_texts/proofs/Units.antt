@@ -7,14 +7,14 @@ use Rattle.mv_ast.specs.declared.program.Function.{Function}
 use Rattle.mv_ast.specs.declared.unit.Declarator.{Declarator}
 use Rattle.mv_ast.specs.declared.unit.Item.{Item}
 use Rattle.mv_ast.specs.declared.unit.Line.{Line}
-use Rattle.mv_ast.specs.declared.unit.Param.{Param, fold_out-Param}
+use Rattle.mv_ast.specs.declared.unit.Param.{Param}
 use Rattle.mv_ast.specs.declared.unit.Shape.{Shape, Shape-F, out-Shape, map-Shape, fold_out-Shape}
 use Rattle.mv_ast.specs.declared.unit.Shape.TheOpen as shape
 use Rattle.mv_ast.specs.declared.unit.Specs.{out-Specs}
 use Rattle.mv_check_scope.specs.declared.meaning.Meaning.{Meaning}
 use Rattle.mv_check_scope.specs.declared.scope.Scope.{Scope}
-use Rattle.mv_check_limits.specs.Ordered.{shape_layer, declarator_layer, param_layer, shape_parameters, declarator_parameters, param_parameters, optional_parameters}
-use Rattle.mv_check_limits.proofs.Forms.{declarator_is}
+use Rattle.mv_check_limits.specs.Ordered.{shape_parameters, declarator_parameters, param_parameters, optional_parameters}
+use Rattle.mv_check_limits.proofs.Forms.{declarator_is, params_are, of_shape, shape_is}
 use Rattle.mv_check_outline.specs.Names.{is_among, same_name}
 use Rattle.mv_check_outline.specs.Outlined as outlined
 use Rattle.mv_check_outline.specs.Outlined.{is_function_form, is_function, name_of}
@@ -41,21 +41,6 @@ use Rattle.mv_accepts_texts.proofs.Routines.{WithOptional, Counts, Numbered, rou
 
 -- ---- the parameters of a declarator
 
-param_is : (p : Param) → param_parameters p ≡ declarator_parameters p.name
-unfolding declarator_parameters param_parameters
-param_is p = fold_out-Param (List ℕ) (List ℕ) (List ℕ) shape_layer declarator_layer param_layer p
-
-params_are : (ps : List Param) → map param_parameters ps ≡ map (λ p. declarator_parameters p.name) ps
-params_are [] = refl
-params_are (p ∷ ps) = ap (λ c. c ∷ map param_parameters ps) (param_is p) ∙ ap (λ cs. declarator_parameters p.name ∷ cs) (params_are ps)
-
-abbrev of_shape : Shape-F Shape Declarator Param → List ℕ
-of_shape x = shape_layer (map-Shape Shape Declarator Param (List ℕ) (List ℕ) (List ℕ) shape_parameters declarator_parameters param_parameters x)
-
-shape_is : (s : Shape) → shape_parameters s ≡ of_shape (out-Shape s)
-unfolding shape_parameters declarator_parameters param_parameters
-shape_is s = fold_out-Shape (List ℕ) (List ℕ) (List ℕ) shape_layer declarator_layer param_layer s
-
 few_form : (x : Shape-F Shape Declarator Param) → few (of_shape x) → few (params_counts (params_of_form x)) × few (length (params_of_form x) ∷ [])
 few_form (shape.Function ps) h =
     let b = few_both (length (map param_parameters ps) ∷ []) (concat (map param_parameters ps)) h in
@@ -66,7 +51,7 @@ few_form (shape.Pointer c ps) h = (refl, refl)
 few_form (shape.PointerArray c size ps) h = (refl, refl)
 
 few_params : (d : Declarator) → few (declarator_parameters d) → few (params_counts (params_of d)) × few (length (params_of d) ∷ [])
-few_params d h = few_form (out-Shape d.shape) (subst few (declarator_is d ∙ shape_is d.shape) h)
+few_params d h = few_form (out-Shape d.shape) (subst few (declarator_is d ∙ shape_is d.shape (out-Shape d.shape) refl) h)
 
 -- ---- what a declarator declares, by its shape
 

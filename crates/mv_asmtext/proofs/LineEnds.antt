@@ -5,48 +5,46 @@ use Rattle.std.proofs.lemmas.List.{length-drop, drop-drop}
 use Rattle.std.proofs.lemmas.List.Splits.{slice_split_first}
 use Rattle.mv_asmtext.specs.declared.source.Reading.{Reading}
 use Rattle.mv_asmtext.specs.Sources.{lines_of, read, read_from, with_next}
+use Rattle.mv_asmtext.proofs.Pieces.{is_line_byte}
 use Rattle.std.specs.Bool.{MatchBool}
-
-abbrev in_line : ℕ → Bool
-in_line b = not (eqb b 10)
 
 one_more : (n : ℕ) → 1 + n ≡ suc n
 one_more n = omega arith
 
-ends : (b : ℕ) (bs : List ℕ) (v : Bool) → (length (drop (prefix_len in_line bs) bs) ≡ 0 → lines_of bs ≡ take (prefix_len in_line bs) bs ∷ []) → length (drop (cond (not v) (1 + prefix_len in_line bs) 0) (b ∷ bs)) ≡ 0 → cond v ([] ∷ lines_of bs) (onto_first b (lines_of bs)) ≡ take (cond (not v) (1 + prefix_len in_line bs) 0) (b ∷ bs) ∷ []
+ends : (b : ℕ) (bs : List ℕ) (v : Bool) → (length (drop (prefix_len is_line_byte bs) bs) ≡ 0 → lines_of bs ≡ take (prefix_len is_line_byte bs) bs ∷ []) → length (drop (cond (not v) (1 + prefix_len is_line_byte bs) 0) (b ∷ bs)) ≡ 0 → cond v ([] ∷ lines_of bs) (onto_first b (lines_of bs)) ≡ take (cond (not v) (1 + prefix_len is_line_byte bs) 0) (b ∷ bs) ∷ []
 ends b bs true rest h = absurd (omega arith)
-ends b bs false rest h = let k = rw (one_more (prefix_len in_line bs)) at h in rw (one_more (prefix_len in_line bs), rest k) refl
+ends b bs false rest h = let k = rw (one_more (prefix_len is_line_byte bs)) at h in rw (one_more (prefix_len is_line_byte bs), rest k) refl
 
-lines_end : (s : List ℕ) → length (drop (prefix_len in_line s) s) ≡ 0 → lines_of s ≡ take (prefix_len in_line s) s ∷ []
+lines_end : (s : List ℕ) → length (drop (prefix_len is_line_byte s) s) ≡ 0 → lines_of s ≡ take (prefix_len is_line_byte s) s ∷ []
 lines_end [] h = refl
 lines_end (b ∷ bs) h = ends b bs (eqb b 10) (lines_end bs) h
 
-lines_more : (s : List ℕ) → 0 < length (drop (prefix_len in_line s) s) → lines_of s ≡ take (prefix_len in_line s) s ∷ lines_of (drop (prefix_len in_line s + 1) s)
-lines_more s h = slice_split_first (λ b. eqb b 10) s 0 (omega (arith, length-drop (prefix_len in_line s) s))
+lines_more : (s : List ℕ) → 0 < length (drop (prefix_len is_line_byte s) s) → lines_of s ≡ take (prefix_len is_line_byte s) s ∷ lines_of (drop (prefix_len is_line_byte s + 1) s)
+lines_more s h = slice_split_first (λ b. eqb b 10) s 0 (omega (arith, length-drop (prefix_len is_line_byte s) s))
 
-pub read_last : (r next : Reading) (s : List ℕ) (n : ℕ) → n ≡ prefix_len in_line s → length (drop n s) ≡ 0 → with_next r (take n s) ≡ Some next → read_from r (lines_of s) ≡ Ok next
+pub read_last : (r next : Reading) (s : List ℕ) (n : ℕ) → n ≡ prefix_len is_line_byte s → length (drop n s) ≡ 0 → with_next r (take n s) ≡ Some next → read_from r (lines_of s) ≡ Ok next
 unfolding read_from
 read_last r next s n e h k =
     let h' = rw e at h in
     let k' = rw e at k in
     rw (lines_end s h', k') refl
 
-pub read_onward : (r next : Reading) (s : List ℕ) (n : ℕ) → n ≡ prefix_len in_line s → 0 < length (drop n s) → with_next r (take n s) ≡ Some next → read_from r (lines_of s) ≡ read_from next (lines_of (drop (n + 1) s))
+pub read_onward : (r next : Reading) (s : List ℕ) (n : ℕ) → n ≡ prefix_len is_line_byte s → 0 < length (drop n s) → with_next r (take n s) ≡ Some next → read_from r (lines_of s) ≡ read_from next (lines_of (drop (n + 1) s))
 unfolding read_from
 read_onward r next s n e h k =
     let h' = rw e at h in
     let k' = rw e at k in
     rw (lines_more s h', k', e) refl
 
-refused_by : (r : Reading) (s : List ℕ) (m : ℕ) → length (drop (prefix_len in_line s) s) ≡ m → with_next r (take (prefix_len in_line s) s) ≡ None → read_from r (lines_of s) ≡ Err (r.number + 1)
+refused_by : (r : Reading) (s : List ℕ) (m : ℕ) → length (drop (prefix_len is_line_byte s) s) ≡ m → with_next r (take (prefix_len is_line_byte s) s) ≡ None → read_from r (lines_of s) ≡ Err (r.number + 1)
 unfolding read_from
 refused_by r s zero h k = rw (lines_end s h, k) refl
 refused_by r s (suc m) h k = rw (lines_more s (omega arith), k) refl
 
-pub read_refused : (r : Reading) (s : List ℕ) (n : ℕ) → n ≡ prefix_len in_line s → with_next r (take n s) ≡ None → read_from r (lines_of s) ≡ Err (r.number + 1)
-read_refused r s n e k = refused_by r s (length (drop (prefix_len in_line s) s)) refl (rw e at k)
+pub read_refused : (r : Reading) (s : List ℕ) (n : ℕ) → n ≡ prefix_len is_line_byte s → with_next r (take n s) ≡ None → read_from r (lines_of s) ≡ Err (r.number + 1)
+read_refused r s n e k = refused_by r s (length (drop (prefix_len is_line_byte s) s)) refl (rw e at k)
 
-module _ (r new : Reading) (text s line : List ℕ) (i n : ℕ) (rest : s ≡ drop i text) (ends_at : n ≡ prefix_len in_line s) (front : line ≡ take n s) (known : read_from r (lines_of (drop i text)) ≡ read text) where
+module _ (r new : Reading) (text s line : List ℕ) (i n : ℕ) (rest : s ≡ drop i text) (ends_at : n ≡ prefix_len is_line_byte s) (front : line ≡ take n s) (known : read_from r (lines_of (drop i text)) ≡ read text) where
   here : read_from r (lines_of s) ≡ read text
   here = rw rest known
 

@@ -7,7 +7,7 @@ use Rattle.mv_ast.specs.Plans.{values_or_none}
 use Rattle.mv_check_limits.specs.Limits.{first_above}
 
 -- the first count, and those behind it
-first_at_most : (n c : ℕ) (rest : Option ℕ) → (if nat_lt n c then Some c else rest) ≡ None → (c ≤ n) × (rest ≡ None)
+pub first_at_most : (n c : ℕ) (rest : Option ℕ) → (if nat_lt n c then Some c else rest) ≡ None → (c ≤ n) × (rest ≡ None)
 first_at_most n c rest h = by (nat_lt n c) refl h
   where
     by : (b : Bool) → nat_lt n c ≡ b → (if b then Some c else rest) ≡ None → (c ≤ n) × (rest ≡ None)

@@ -28,21 +28,21 @@ pub declarator_is : (d : Declarator) → declarator_parameters d ≡ shape_param
 unfolding shape_parameters declarator_parameters
 declarator_is d = fold_out-Declarator (List ℕ) (List ℕ) (List ℕ) shape_layer declarator_layer param_layer d
 
-param_is : (p : Param) → param_parameters p ≡ declarator_parameters p.name
+pub param_is : (p : Param) → param_parameters p ≡ declarator_parameters p.name
 unfolding declarator_parameters param_parameters
 param_is p = fold_out-Param (List ℕ) (List ℕ) (List ℕ) shape_layer declarator_layer param_layer p
 
-params_are : (ps : List Param) → map param_parameters ps ≡ map (λ p. declarator_parameters p.name) ps
+pub params_are : (ps : List Param) → map param_parameters ps ≡ map (λ p. declarator_parameters p.name) ps
 params_are [] = refl
 params_are (p ∷ ps) = ap (λ c. c ∷ map param_parameters ps) (param_is p) ∙ ap (λ cs. declarator_parameters p.name ∷ cs) (params_are ps)
 
 type_is : (ps : List Param) → of_type (map param_parameters ps) ≡ length ps ∷ concat (map (λ p. declarator_parameters p.name) ps)
 type_is ps = ap (λ n. n ∷ concat (map param_parameters ps)) (length-map ps param_parameters) ∙ ap (λ cs. length ps ∷ concat cs) (params_are ps)
 
-abbrev of_shape : Shape-F Shape Declarator Param → List ℕ
+abbrev pub of_shape : Shape-F Shape Declarator Param → List ℕ
 of_shape x = shape_layer (map-Shape Shape Declarator Param (List ℕ) (List ℕ) (List ℕ) shape_parameters declarator_parameters param_parameters x)
 
-shape_is : (s : Shape) (x : Shape-F Shape Declarator Param) → out-Shape s ≡ x → shape_parameters s ≡ of_shape x
+pub shape_is : (s : Shape) (x : Shape-F Shape Declarator Param) → out-Shape s ≡ x → shape_parameters s ≡ of_shape x
 unfolding shape_parameters declarator_parameters param_parameters
 shape_is s x e = fold_out-Shape (List ℕ) (List ℕ) (List ℕ) shape_layer declarator_layer param_layer s ∙ ap of_shape e
 

@@ -1,4 +1,4 @@
-mod Bounds
+pub mod Bounds
 pub mod Firsts
 pub mod Forms
 pub mod Orders

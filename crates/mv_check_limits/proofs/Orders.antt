@@ -25,7 +25,7 @@ not_told told l h =
     (second_none (first_above l.greatest told) (first_above l.greatest l.counts)
     (sym (find-append (λ c. nat_lt l.greatest c) told l.counts) ∙ not_reported l.number (first_above l.greatest (told ++ l.counts)) h))
 
-none_first : (o : Option Exceeded) (os : List (Option Exceeded)) → first_some (o ∷ os) ≡ None → (o ≡ None) × (first_some os ≡ None)
+pub none_first : (o : Option Exceeded) (os : List (Option Exceeded)) → first_some (o ∷ os) ≡ None → (o ≡ None) × (first_some os ≡ None)
 none_first None os h = (refl, h)
 none_first (Some e) os h = absurd (cc)
 
@@ -52,9 +52,9 @@ none_exceeded u p h =
     (none_more (excess (assignments_limit p)) _ g.0
     (none_more (excess (elements_limit p)) [] (not_told (unit_elements u p) (elements_limit p) i.0) refl)))))))
 
-kept : (l : Limit) → excess l ≡ None → first_above l.greatest l.counts ≡ None
+pub not_exceeded : (l : Limit) → excess l ≡ None → first_above l.greatest l.counts ≡ None
 unfolding excess
-kept l h = not_reported l.number (first_above l.greatest l.counts) h
+not_exceeded l h = not_reported l.number (first_above l.greatest l.counts) h
 
 not_above : (l : Limit) → first_above l.greatest l.counts ≡ None → excess l ≡ None
 unfolding excess
@@ -74,10 +74,10 @@ none_in_order u p few h =
     none_more (excess (functions_limit p)) _ a.0
     (none_more (excess (globals_limit p)) _ b.0
     (none_more (excess (ordered_parameters u p)) _
-    (not_above (ordered_parameters u p) (joined_none 8 (unit_parameters u) (parameters_limit p).counts few (kept (parameters_limit p) c.0)))
+    (not_above (ordered_parameters u p) (joined_none 8 (unit_parameters u) (parameters_limit p).counts few (not_exceeded (parameters_limit p) c.0)))
     (none_more (excess (switches_limit p)) _ d.0
     (none_more (excess (values_limit p)) _ e.0
     (none_more (excess (switches_of_function_limit p)) _ f.0
     (none_more (excess (assignments_limit p)) _ g.0
     (none_more (excess (ordered_elements u p)) []
-    (not_above (ordered_elements u p) (none_told u p (kept (elements_limit p) i.0))) refl)))))))
+    (not_above (ordered_elements u p) (none_told u p (not_exceeded (elements_limit p) i.0))) refl)))))))

@@ -13,7 +13,7 @@ use Rattle.mv_ast.specs.declared.unit.Unit as unit
 use Rattle.mv_check_limits.specs.Limits.{elements, first_above, elements_limit, global_sizes, local_sizes}
 use Rattle.mv_check_limits.specs.Ordered.{has_name, global_elements, local_elements, declarator_elements, item_elements, unit_elements, ordered_elements}
 
-both_none : (a b : Option ℕ) → option_or a b ≡ None → (a ≡ None) × (b ≡ None)
+pub both_none : (a b : Option ℕ) → option_or a b ≡ None → (a ≡ None) × (b ≡ None)
 both_none None b h = (refl, h)
 both_none (Some c) b h = absurd (cc)
 

@@ -5,6 +5,7 @@ use Rattle.mv_ast.specs.declared.program.Arm.{Arm}
 use Rattle.mv_ast.specs.declared.program.Stmt.{Stmt}
 use Rattle.mv_check_statements.specs.declared.arms.Arms.{Arms}
 use Rattle.mv_check_statements.specs.SwitchBodies.{no_arm, no_arms, has_statements, at_label, with_case, with_default, with_statement, arms_of}
+use Rattle.mv_check_statements.proofs.Labels.{labels_kept}
 use Rattle.mv_check_rules.specs.Rules.{is_empty}
 use Rattle.mv_check_rules.specs.Statements.{Piece, Labelled, Otherwise, Statement, labels, has_default, arms, arms_behind, labelled_behind, with_label, with_other}
 use Rattle.mv_check_rules.proofs.Parts.{or_true, or_false}
@@ -28,15 +29,6 @@ gather_more (q ∷ ps) p a = gather_more ps p (with_piece q a)
 
 pub gathered_more : (ps : List Piece) (p : Piece) → gathered (ps ++ p ∷ []) ≡ with_piece p (gathered ps)
 gathered_more ps p = gather_more ps p no_arms
-
--- a new arm keeps the labels
-labels_kept : (a : Arms) → (at_label a).labels ≡ a.labels
-unfolding at_label
-labels_kept a = by (has_statements a.last.body)
-  where
-    by : (b : Bool) → (if b then record a { done = a.done ++ a.last ∷ []; last = no_arm } else a).labels ≡ a.labels
-    by true = refl
-    by false = refl
 
 other_kept : (a : Arms) → (at_label a).other ≡ a.other
 unfolding at_label

@@ -25,6 +25,7 @@ use Rattle.mv_check_statements.specs.Statements.{returned, switched}
 use Rattle.mv_check_statements.specs.Statements as code
 use Rattle.mv_check_statements.specs.Surroundings.{in_function, in_loop, in_switch}
 use Rattle.mv_check_statements.specs.SwitchBodies.{arms_of, case_label, default_label, converts_constant, with_case, with_default}
+use Rattle.mv_check_statements.proofs.Blocks.{act_fold}
 use Rattle.mv_check_rules.specs.Nodes as node
 use Rattle.mv_check_rules.specs.Rules.{first_broken, unless_broken, concluded}
 use Rattle.mv_check_rules.specs.Declarations.{Found}
@@ -160,14 +161,11 @@ module _ (judgement : Scope → Node → Judged Expr) where
 abbrev pub act_found : Act → Place → Judges
 act_found = fold-Act (Place → Judges) Judges act_step line_step
 
-abbrev act_judged : Act → Place → code.Judges
-act_judged = fold-Act (Place → code.Judges) code.Judges code.act_step code.line_step
-
 abbrev LineIs : Line → Type 0
 LineIs l = Agree (judges l) (code.judges_of l)
 
 abbrev ActIs : Act → Type 0
-ActIs x = (place : Place) → Agree (act_found x place) (act_judged x place)
+ActIs x = (place : Place) → Agree (act_found x place) (act_fold x place)
 
 abbrev A : Type 0
 A = (x : Act) × ActIs x
@@ -182,7 +180,7 @@ abbrev found_of : Act-F A L → Layer
 found_of y = map-Act Act Line (Place → Judges) Judges act_found judges (below y)
 
 abbrev judged_of : Act-F A L → code.Layer
-judged_of y = map-Act Act Line (Place → code.Judges) code.Judges act_judged code.judges_of (below y)
+judged_of y = map-Act Act Line (Place → code.Judges) code.Judges act_fold code.judges_of (below y)
 
 abbrev all_found : List L → List Judges
 all_found ls = map judges (map (λ (l : L). l.0) ls)
@@ -277,7 +275,7 @@ steps_agree y place = record {
 
 act_is : (y : Act-F A L) → ActIs (roll-Act (below y))
 act_is y place =
-    subst (λ (x : Place → Judges). Agree (x place) (act_judged (roll-Act (below y)) place)) (sym (fold-roll-Act (Place → Judges) Judges act_step line_step (below y)))
+    subst (λ (x : Place → Judges). Agree (x place) (act_fold (roll-Act (below y)) place)) (sym (fold-roll-Act (Place → Judges) Judges act_step line_step (below y)))
     (subst (λ (x : Place → code.Judges). Agree (act_step (found_of y) place) (x place))
     (sym (fold-roll-Act (Place → code.Judges) code.Judges code.act_step code.line_step (below y))) (steps_agree y place))
 

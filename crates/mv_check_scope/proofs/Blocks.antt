@@ -3,12 +3,12 @@ use Rattle.std.proofs.Common.{◌≡◌, refl, List, [], ◌∷◌, ◌++◌, ap
 use Rattle.mv_check_scope.specs.Scopes.{last_block, before_last, entered, left}
 use Rattle.mv_check_scope.specs.Names.{Names, Space}
 
-last_of : (bs : List Names) (b : Names) → last_block (bs ++ b ∷ []) ≡ b
+pub last_of : (bs : List Names) (b : Names) → last_block (bs ++ b ∷ []) ≡ b
 last_of [] b = refl
 last_of (x ∷ []) b = refl
 last_of (x ∷ y ∷ bs) b = last_of (y ∷ bs) b
 
-before : (bs : List Names) (b : Names) → before_last (bs ++ b ∷ []) ≡ bs
+pub before : (bs : List Names) (b : Names) → before_last (bs ++ b ∷ []) ≡ bs
 before [] b = refl
 before (x ∷ []) b = refl
 before (x ∷ y ∷ bs) b = ap (λ z. x ∷ z) (before (y ∷ bs) b)

@@ -63,7 +63,7 @@ found_here s n b at is =
 
 -- ---- a declaration
 
-named_last : (n : List ℕ) (xs : Names) (y : List ℕ × Meaning) → named n (xs ++ y ∷ []) ≡ or_else (named n xs) (named n (y ∷ []))
+pub named_last : (n : List ℕ) (xs : Names) (y : List ℕ × Meaning) → named n (xs ++ y ∷ []) ≡ or_else (named n xs) (named n (y ∷ []))
 named_last n [] y = refl
 named_last n (x ∷ xs) y = by (pointwise nat_eq n x.0) (named_last n xs y)
   where
@@ -71,6 +71,9 @@ named_last n (x ∷ xs) y = by (pointwise nat_eq n x.0) (named_last n xs y)
         (if b then Some x.1 else named n (xs ++ y ∷ [])) ≡ or_else (if b then Some x.1 else named n xs) (named n (y ∷ []))
     by true q = refl
     by false q = q
+
+pub names_kept : (n : List ℕ) (xs : Names) (y : List ℕ × Meaning) (m : Meaning) → named n xs ≡ Some m → named n (xs ++ y ∷ []) ≡ Some m
+names_kept n xs y m h = named_last n xs y ∙ ap (λ o. or_else o (named n (y ∷ []))) h
 
 or_none : (o : Option Meaning) → or_else o None ≡ o
 or_none None = refl

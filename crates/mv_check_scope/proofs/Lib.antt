@@ -1,6 +1,6 @@
-mod Blocks
-mod BoundNames
+pub mod Blocks
+pub mod BoundNames
 mod Entries
 mod SignatureLists
 mod Steps
-mod Types
+pub mod Types

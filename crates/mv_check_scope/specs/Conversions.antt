@@ -1,5 +1,6 @@
 -- Types, and how values are converted (C11 6.3.1).
-use Rattle.std.specs.Prelude.{ℕ, Bool, true, false, ◌&&◌, ◌||◌, nat_eq, if◌then◌else◌, List, [], ◌∷◌}
+use Rattle.std.specs.Prelude.{Bool, true, false, ◌&&◌, ◌||◌, nat_eq, if◌then◌else◌, List, [], ◌∷◌}
+use Rattle.mv_num.specs.Kinds.{kind_number}
 use Rattle.mv_num.specs.declared.kind.Kind.{Kind}
 use Rattle.mv_num.specs.declared.kind.Kind.TheVariants as kind
 use Rattle.mv_ast.specs.declared.program.CType.{CType}
@@ -8,16 +9,6 @@ use Rattle.mv_ast.specs.declared.program.Expr.{Expr}
 use Rattle.mv_ast.specs.declared.program.Form.{Form}
 use Rattle.mv_ast.specs.declared.program.Form.TheVariants as form
 use Rattle.mv_ast.specs.declared.program.Signature.{Signature}
-
--- the number of a kind
-abbrev pub kind_number : Kind → ℕ
-kind_number kind.Bool = 0
-kind_number kind.SChar = 1
-kind_number kind.UChar = 2
-kind_number kind.Short = 3
-kind_number kind.UShort = 4
-kind_number kind.Int = 5
-kind_number kind.UInt = 6
 
 abbrev pub same_type : CType → CType → Bool
 same_type Void Void = true

@@ -6,7 +6,8 @@ use Rattle.std.specs.declared.alloc.Global.{Global}
 use Rattle.mv_ast.specs.declared.program.CType.{CType}
 use Rattle.mv_ast.specs.declared.program.CType.TheVariants.{Void, Scalar, Pointer}
 use Rattle.mv_ast.specs.declared.program.Signature.{Signature}
-use Rattle.mv_check_scope.specs.Conversions.{kind_number, same_signature}
+use Rattle.mv_num.specs.Kinds.{kind_number}
+use Rattle.mv_check_scope.specs.Conversions.{same_signature}
 use Rattle.mv_check_scope.specs.Entries.{value_at}
 
 -- the place of a signature in a list, or the list's length

@@ -1,7 +1,8 @@
 // Types, and how values are converted.
 
 ghost use Rattle.std.specs.Prelude.{◌≡◌, IfOk};
-ghost use Rattle.mv_check_scope.specs.Conversions.{same_type, is_integer, is_pointer, is_void, kind_number, promotion, promoted, usual, converted_to};
+ghost use Rattle.mv_num.specs.Kinds.{kind_number};
+ghost use Rattle.mv_check_scope.specs.Conversions.{same_type, is_integer, is_pointer, is_void, promotion, promoted, usual, converted_to};
 
 use mv_ast::program::{CType, Expr, Form};
 use mv_num::boxed::Boxed;

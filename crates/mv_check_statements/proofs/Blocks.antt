@@ -11,13 +11,13 @@ use Rattle.mv_check_declarations.specs.Turns.{Behind, IsBehind}
 use Rattle.mv_check_statements.specs.declared.around.Around.{Around}
 use Rattle.mv_check_statements.specs.Statements.{Judges, Layer, act_step, line_step, judges_of, block_judgement, switch_body_of, lines_in_turn}
 
-abbrev act_fold : Act → Place → Judges
+abbrev pub act_fold : Act → Place → Judges
 act_fold = fold-Act (Place → Judges) Judges act_step line_step
 
-abbrev layer_of : Act-F Act Line → Layer
+abbrev pub layer_of : Act-F Act Line → Layer
 layer_of = map-Act Act Line (Place → Judges) Judges act_fold judges_of
 
-judged : (l : Line) (x : Act-F Act Line) → out-Act (out-Line l).what ≡ x → judges_of l ≡ act_step (layer_of x) (out-Line l).place
+pub judged : (l : Line) (x : Act-F Act Line) → out-Act (out-Line l).what ≡ x → judges_of l ≡ act_step (layer_of x) (out-Line l).place
 judged l x h =
     fold_out-Line (Place → Judges) Judges act_step line_step l ∙
     (ap (λ (f : Place → Judges). f (out-Line l).place) (fold_out-Act (Place → Judges) Judges act_step line_step (out-Line l).what) ∙

@@ -1,2 +1,2 @@
-mod Blocks
-mod Labels
+pub mod Blocks
+pub mod Labels

@@ -13,9 +13,6 @@ pub flagged_both : (xs ys : List ℕ) (flags : List Bool) → flagged (xs ++ ys)
 flagged_both [] ys flags = refl
 flagged_both (x ∷ xs) ys flags = flagged_both xs ys (slice_set flags x true)
 
-pub concat_one : (xs : List ℕ) → concat (xs ∷ []) ≡ xs
-concat_one xs = append-nil xs
-
 -- the numbers of one item more
 pub concat_push : {A : Type 0} (f : A → List ℕ) (xs : List A) (i : ℕ) (x : A) → i < length xs → x ≡ get_or xs i x → concat (map f (take (i + 1) xs)) ≡ concat (map f (take i xs)) ++ f x
 concat_push f xs i x h e =

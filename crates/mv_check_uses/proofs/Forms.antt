@@ -50,10 +50,10 @@ pub ruleset optionals = (optional_some, optional_none)
 
 -- ---- targets
 
-abbrev of_target : Target-F Form Target Expr → List ℕ
+abbrev pub of_target : Target-F Form Target Expr → List ℕ
 of_target x = target_layer (map-Target Form Target Expr (List ℕ) (List ℕ) (List ℕ) form_globals target_globals expr_globals x)
 
-target_is : (t : Target) (x : Target-F Form Target Expr) → out-Target t ≡ x → target_globals t ≡ of_target x
+pub target_is : (t : Target) (x : Target-F Form Target Expr) → out-Target t ≡ x → target_globals t ≡ of_target x
 unfolding form_globals target_globals expr_globals
 target_is t x e = fold_out-Target (List ℕ) (List ℕ) (List ℕ) form_layer target_layer expr_layer t ∙ ap of_target e
 
@@ -73,10 +73,10 @@ pub ruleset targets = (target_global, target_local, target_global_at, target_loc
 
 -- ---- forms
 
-abbrev of_form : Form-F Form Target Expr → List ℕ
+abbrev pub of_form : Form-F Form Target Expr → List ℕ
 of_form x = form_layer (map-Form Form Target Expr (List ℕ) (List ℕ) (List ℕ) form_globals target_globals expr_globals x)
 
-form_is : (f : Form) (x : Form-F Form Target Expr) → out-Form f ≡ x → form_globals f ≡ of_form x
+pub form_is : (f : Form) (x : Form-F Form Target Expr) → out-Form f ≡ x → form_globals f ≡ of_form x
 unfolding form_globals target_globals expr_globals
 form_is f x e = fold_out-Form (List ℕ) (List ℕ) (List ℕ) form_layer target_layer expr_layer f ∙ ap of_form e
 

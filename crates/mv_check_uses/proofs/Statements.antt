@@ -23,7 +23,7 @@ stmts_none flags = refl
 
 pub ruleset pushes = (stmts_push, stmts_none)
 
-arm_is : (a : Arm) → arm_globals a ≡ stmts_globals a.body
+pub arm_is : (a : Arm) → arm_globals a ≡ stmts_globals a.body
 unfolding arm_globals stmt_globals
 arm_is a = fold_out-Arm (List ℕ) (List ℕ) stmt_layer arm_layer a
 
@@ -37,10 +37,10 @@ pub ruleset arm_pushes = (arms_push, arms_none)
 
 -- ---- statements
 
-abbrev of_layer : Stmt-F Stmt Arm → List ℕ
+abbrev pub of_layer : Stmt-F Stmt Arm → List ℕ
 of_layer x = stmt_layer (map-Stmt Stmt Arm (List ℕ) (List ℕ) stmt_globals arm_globals x)
 
-stmt_is : (s : Stmt) (x : Stmt-F Stmt Arm) → out-Stmt s ≡ x → stmt_globals s ≡ of_layer x
+pub stmt_is : (s : Stmt) (x : Stmt-F Stmt Arm) → out-Stmt s ≡ x → stmt_globals s ≡ of_layer x
 unfolding arm_globals stmt_globals
 stmt_is s x e = fold_out-Stmt (List ℕ) (List ℕ) stmt_layer arm_layer s ∙ ap of_layer e
 

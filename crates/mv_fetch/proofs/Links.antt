@@ -6,13 +6,6 @@ use Rattle.mv_fetch.specs.View.{olds, item, EndsAt, IsLinked}
 use Rattle.mv_fetch.specs.declared.log.Older.{Older}
 use Rattle.mv_fetch.proofs.Histories.{olds_none, step_same, step_other}
 
--- before the first store
-pub linked_none : (ends : List ℕ) → ((k : ℕ) → slice_index ends k ≡ 0) → IsLinked ends []
-linked_none ends none = record {
-  newest = λ k lt. record { within = omega (arith, none k); all = ap (λ n. olds k (take n [])) (none k); last = λ q e. absurd (omega (arith, e, none k)) };
-  earlier = λ q lt. absurd (omega (arith, lt));
-}
-
 -- a way is not changed by later stores
 kept : (log more : List Older) (count k end : ℕ) → count ≤ length log → EndsAt log count k end → EndsAt (log ++ more) count k end
 kept log more count k end le h = let within = h.within in record {

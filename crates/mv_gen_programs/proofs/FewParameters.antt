@@ -21,7 +21,7 @@ use Rattle.mv_check_limits.proofs.Told.{joined_none}
 use Rattle.mv_gen.specs.Generated.{drawn, functions, form_of, switch_of, constant_of}
 use Rattle.mv_gen_programs.proofs.Lines.{function_name, switch_parts, commit_parts}
 use Rattle.mv_gen_programs.proofs.Scanned.{behind}
-use Rattle.mv_gen_programs.proofs.Trees.{Places, int_specs, plain_declarator, argument, form_tree, definition_declarator, drawn_tree, drawn_words, definition_trees, switch_tree, object_tree, local_tree, store_tree, commit_tree, if_tree, call_tree, call_trees, loop_tree, output_tree, feed_tree, return_tree, main_declarator}
+use Rattle.mv_gen_programs.proofs.Trees.{Places, plain_declarator, argument, form_tree, definition_declarator, drawn_tree, drawn_words, definition_trees, switch_tree, object_tree, local_tree, store_tree, commit_tree, if_tree, call_tree, call_trees, loop_tree, output_tree, feed_tree, return_tree, main_declarator}
 use Rattle.mv_gen_programs.proofs.Lexed.{unit_places}
 use Rattle.mv_gen_programs.proofs.Read.{past, inside, loop_lines, main_lines, local_places, loop_places, output_places, feed_places, return_places, object_places, main_places, main_item, items_of, unit_of}
 

@@ -9,10 +9,10 @@ use Rattle.mv_check_outline.specs.declared.outline.Wanted.{Wanted}
 use Rattle.mv_check_outline.specs.declared.outline.Wanted.TheVariants as wanted
 use Rattle.mv_check_outline.specs.Names.{each_once, among, is_among, place_of}
 use Rattle.mv_check_outline.specs.Outlined as outlined
-use Rattle.mv_check_outline.specs.Outlined.{is_function, is_marked, is_wanted, name_of}
+use Rattle.mv_check_outline.specs.Outlined.{is_function, is_marked}
 use Rattle.mv_types.specs.declared.contents.Foreknown.{Foreknown}
 use Rattle.mv_types.specs.declared.foreknown.Said.TheVariants as said
-use Rattle.mv_types.specs.Foreknown.{foreknown, is_constant, is_said}
+use Rattle.mv_types.specs.Foreknown.{foreknown, is_constant}
 use Rattle.mv_types.specs.Foreknown as types
 use Rattle.mv_gen.specs.Generated.{drawn, form_of, switch_of, constant_of}
 use Rattle.mv_gen_programs.proofs.Lines.{function_name}

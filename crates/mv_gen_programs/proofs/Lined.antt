@@ -6,10 +6,9 @@ use Rattle.mv_ast.specs.declared.program.Expr.{Expr}
 use Rattle.mv_ast.specs.declared.program.Form.{Form}
 use Rattle.mv_ast.specs.declared.program.Stmt.{Stmt}
 use Rattle.mv_ast.specs.declared.program.Stmt.TheVariants as stmt
-use Rattle.mv_ast.specs.declared.unit.Act.{Act, Act-F, out-Act, map-Act, fold-Act, fold_out-Act}
 use Rattle.mv_ast.specs.declared.unit.Act.TheOpen as act
 use Rattle.mv_ast.specs.declared.unit.Act.TheVariants as a
-use Rattle.mv_ast.specs.declared.unit.Line.{Line, out-Line, fold_out-Line}
+use Rattle.mv_ast.specs.declared.unit.Line.{Line}
 use Rattle.mv_ast.specs.declared.unit.Node.{Node}
 use Rattle.mv_parse_grammar.specs.Statements.{line_at}
 use Rattle.mv_check_scope.specs.declared.scope.Scope.{Scope}
@@ -23,19 +22,8 @@ use Rattle.mv_check_declarations.specs.Locals.{locals_judgement}
 use Rattle.mv_check_declarations.specs.Turns.{Behind, through}
 use Rattle.mv_check_statements.specs.declared.around.Around.{Around}
 use Rattle.mv_check_statements.specs.Surroundings.{in_function, in_loop}
-use Rattle.mv_check_statements.specs.Statements.{Judges, Layer, act_step, line_step, judges_of, lines_in_turn, body_judgement, returned}
-
-abbrev act_fold : Act → Place → Judges
-act_fold = fold-Act (Place → Judges) Judges act_step line_step
-
-abbrev layer_of : Act-F Act Line → Layer
-layer_of = map-Act Act Line (Place → Judges) Judges act_fold judges_of
-
-judged : (l : Line) (x : Act-F Act Line) → out-Act (out-Line l).what ≡ x → judges_of l ≡ act_step (layer_of x) (out-Line l).place
-judged l x h =
-    fold_out-Line (Place → Judges) Judges act_step line_step l ∙
-    (ap (λ (f : Place → Judges). f (out-Line l).place) (fold_out-Act (Place → Judges) Judges act_step line_step (out-Line l).what) ∙
-    ap (λ (y : Act-F Act Line). act_step (layer_of y) (out-Line l).place) h)
+use Rattle.mv_check_statements.specs.Statements.{Judges, judges_of, lines_in_turn, body_judgement, returned}
+use Rattle.mv_check_statements.proofs.Blocks.{judged}
 
 -- what a line comes to, behind some statements
 abbrev pub GivesLine : Line → Around → Scope → Scope → Stmt → Type 0

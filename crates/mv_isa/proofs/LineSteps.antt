@@ -1,7 +1,7 @@
 -- The steps of each kind of item.
-use Rattle.std.proofs.Common.{◌≡◌, ℕ, zero, suc, ◌+◌, ◌*◌, ◌-◌, ◌%◌, ◌^◌, ◌<◌, ◌≤◌, ◌-ℤ◌, ⊎_elim, inl, inr, ℤ, pos, negsuc, Bool, true, false, not, cond, eqb, List, length, set, get_or, Option, Some, refl, sym, ap, ◌∙◌, arith}
+use Rattle.std.proofs.Common.{◌≡◌, ℕ, zero, suc, ◌+◌, ◌*◌, ◌-◌, ◌%◌, ◌^◌, ◌<◌, ◌≤◌, ⊎_elim, inl, inr, ℤ, pos, negsuc, Bool, true, false, not, cond, eqb, List, length, set, get_or, Option, refl, sym, ap, ◌∙◌, arith}
 use Rattle.std.proofs.lemmas.Int.{ints}
-use Rattle.std.proofs.lemmas.Bool.{cases_lt, cases_eq}
+use Rattle.std.proofs.lemmas.Bool.{cases_lt}
 use Rattle.std.proofs.lemmas.List.{set-set, get_or-set_same}
 use lib.Signed.{mag}
 use Rattle.mv_num.specs.Words.{word_of, add, shl, lt_s, lt_u}
@@ -10,11 +10,10 @@ use Rattle.mv_isa.specs.declared.instr.Instr.{Instr}
 use Rattle.mv_isa.specs.declared.instr.Instr.TheVariants.{Lui, Jal, Beq, Bne, Blt, Bge, Bltu, Bgeu, Addi}
 use Rattle.mv_isa.specs.declared.labelled.Line.{Line}
 use Rattle.mv_isa.specs.declared.labelled.Line.TheVariants.{Word, Label, Jump, Branch, Entry, Slot}
-use Rattle.mv_isa.specs.Encoding.{encode, decode}
-use Rattle.mv_isa.specs.Execution.{Access, Outcome, Goes, reg, put, upper, sets, jumps, branches, execute, decoded, step}
+use Rattle.mv_isa.specs.Execution.{Access, Goes, reg, put, upper, sets, jumps, branches, execute, decoded, step}
 use Rattle.mv_isa.specs.Code.{LineFits, IsPlace, IsCondition, distance, nop, branch_instr, inverse, upper_part, lower_part}
-use Rattle.mv_isa.specs.Standing.{InstrStands, ShortBranch, LongBranch, JumpStands, EntryStands, SlotStands, LineStands}
-use Rattle.mv_isa.specs.LineSteps.{branch_holds, named, Leads, BranchRuns, LineRuns, LinesRun}
+use Rattle.mv_isa.specs.Standing.{InstrStands, ShortBranch, LongBranch, LineStands}
+use Rattle.mv_isa.specs.LineSteps.{branch_holds, named, BranchRuns, LineRuns, LinesRun}
 use Rattle.mv_isa.proofs.Addresses.{jump_leads}
 use Rattle.mv_isa.proofs.RoundTrip.{decode-encode}
 

@@ -3,7 +3,7 @@ use Rattle.std.proofs.Common.{◌≡◌, ℕ, zero, suc, subst, ◌+◌, ◌-◌
 use Rattle.std.specs.Prelude.{not, ◌&&◌, ◌==◌, ◌⊎◌}
 use Rattle.std.proofs.lemmas.Bool.{both_ways, and_parts, not-true, or_left, or_right, ltb-true, eq-eqb, and_from, false≢true}
 use Rattle.std.proofs.lemmas.Bool.Decides.{nat_tests}
-use Rattle.std.proofs.lemmas.List.{length-take-le, get_or-take, take_all}
+use Rattle.std.proofs.lemmas.List.{length-take-le, get_or-take}
 use Rattle.std.specs.Char.{is_ascii_digit}
 use Rattle.mv_lexer.specs.Bytes.{is_white_space, is_nondigit, is_identifier_byte, begins_comment}
 use Rattle.mv_lexer.specs.Characters.{IsQuoted, IsClosing, NoClosing}
@@ -259,14 +259,6 @@ module _ (text : List ℕ) (some : 0 < length text) where
       beyond m (Punctuator k) longer in_range is = no_entry Punctuators k m refl (block_begins text first second) (omega arith) is
       beyond m UnsupportedPunctuator longer in_range is = no_entry UnsupportedPunctuators is.0 m refl (block_begins text first second) (omega arith) is.1
       beyond m Other longer in_range is = not_one (close + 2) m (omega arith) longer in_range is.one
-
-  -- with no */ it goes on to the end
-  pub unclosed_longest : get_or text 0 0 ≡ 47 → get_or text 1 0 ≡ 42 → 2 ≤ length text → ((i : ℕ) → 2 ≤ i → i + 1 < length text → ClosesComment text i → ⊥) → IsLongestLexeme text UnclosedComment (length text)
-  unclosed_longest first second long none = record {
-    in_range = omega arith;
-    lexeme = subst (IsLexeme UnclosedComment) (sym (take_all (length text) text (omega arith))) (record { long = long; first = first; second = second; none = none });
-    longest = λ m other longer in_range is. omega arith;
-  }
 
   -- white space stands alone
   pub blank_longest : is_white_space (get_or text 0 0) ≡ true → IsLongestLexeme text WhiteSpace 1

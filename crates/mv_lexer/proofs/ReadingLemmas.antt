@@ -1,14 +1,12 @@
 -- One more lexeme of a reading.
-use Rattle.std.proofs.Common.{◌≡◌, ℕ, Bool, ◌<◌, ◌≤◌, List, [], ◌∷◌, ◌++◌, drop, take, length, ap, sym, ◌∙◌, subst, arith, Some, None, Ok, Err, Result, is_ok, true, refl, append_assoc, inr}
-use Rattle.std.proofs.lemmas.List.{append-nil, drop-drop, drop_all, length-take-le}
-use Rattle.std.specs.Prelude.{OnOk}
-use Rattle.std.proofs.lemmas.Bool.{false≢true}
+use Rattle.std.proofs.Common.{◌≡◌, ℕ, Bool, ◌<◌, ◌≤◌, List, [], ◌∷◌, ◌++◌, drop, take, length, ap, sym, ◌∙◌, subst, arith, Some, None, Ok, Err, refl, append_assoc, inr}
+use Rattle.std.proofs.lemmas.List.{append-nil, drop-drop, length-take-le}
 use Rattle.mv_lexer.proofs.IncludeLemmas.{front_range}
 use Rattle.mv_lexer.specs.Include.{IsFrontLexeme}
 use Rattle.mv_lexer.specs.declared.class.TokenClass.{TokenClass}
 use Rattle.mv_ast.specs.declared.token.Piece.{Piece}
 use Rattle.mv_lexer.specs.Place.{start, after}
-use Rattle.mv_lexer.specs.Reading.{Lexeme, StandsInFront, IsAccepted, Scans, after_all, token_of, tokens_of, IsStep, IsRefused, Refuses, IsFirstRefused, IsCause, AreTokens, GivesEvaluation, Evaluates, token, skipped, Evaluation, bad, unsupported, too_long}
+use Rattle.mv_lexer.specs.Reading.{Lexeme, StandsInFront, IsAccepted, Scans, after_all, token_of, tokens_of, IsStep, IsRefused, Refuses, IsFirstRefused, IsCause, GivesEvaluation, Evaluates, token, skipped, Evaluation, bad, unsupported, too_long}
 use Rattle.mv_lexer.specs.declared.position.Position.{Position}
 use Rattle.mv_lexer.specs.declared.error.LexError.{LexError}
 use Rattle.mv_lexer.specs.declared.error.LexError.TheVariants.{BadToken, Unsupported, TooLong, Memory}
@@ -35,24 +33,12 @@ pub record IsRead (text : List ℕ) (at : Position) (items : List Token) : Type 
   pub at_is : at ≡ after_all start lexemes
   pub items_are : items ≡ tokens_of start lexemes
 
-pub read_nothing : (text : List ℕ) → IsRead text start []
-read_nothing text = record { lexemes = []; reading = refl; at_is = refl; items_are = refl }
-
 pub read_more : (text : List ℕ) (at at' : Position) (items items' : List Token) → IsRead text at items → IsStep (drop at.offset text) at items at' items' → IsRead text at' items'
 read_more text at at' items items' before step = record {
   lexemes = before.lexemes ++ step.lexeme ∷ [];
   reading = subst (Scans start (before.lexemes ++ step.lexeme ∷ []) text) (drop-drop (length step.lexeme.bytes) at.offset text ∙ ap (λ (p : Position). drop p.offset text) (sym step.at_is)) (lexemes_more start before.lexemes step.lexeme text (drop at.offset text) before.reading (subst (λ (p : Position). StandsInFront p.at_line_start (drop at.offset text) step.lexeme) before.at_is step.is) step.accepted);
   at_is = step.at_is ∙ ap (λ (p : Position). after p step.lexeme.class step.lexeme.bytes) before.at_is ∙ sym (after_all_more start before.lexemes step.lexeme);
   items_are = step.items_are ∙ ap (λ ts. ts ++ token_of at step.lexeme.bytes step.lexeme.evaluation) before.items_are ∙ ap (λ (p : Position). tokens_of start before.lexemes ++ token_of p step.lexeme.bytes step.lexeme.evaluation) before.at_is ∙ sym (tokens_of_more start before.lexemes step.lexeme);
-}
-
-pub read_all : (text : List ℕ) (at : Position) (items items' : List Token) (end : Place) → length text ≤ 1048576 → IsRead text at items → at.offset ≡ length text → items' ≡ items → end ≡ at.place → AreTokens text items' end
-read_all text at items items' end fits read done same at_end = record {
-  fits = fits;
-  lexemes = read.lexemes;
-  reading = subst (Scans start read.lexemes text) (drop_all at.offset text (omega arith)) read.reading;
-  tokens = same ∙ read.items_are;
-  at_end = at_end ∙ ap (λ (p : Position). p.place) read.at_is;
 }
 
 refused_at : (text : List ℕ) (at : Position) (items : List Token) (evaluation : Evaluation) (place : Place) → (IsAccepted evaluation → ⊥) → length text ≤ 1048576 → IsRead text at items → IsRefused at.at_line_start (drop at.offset text) at.place evaluation place → IsFirstRefused text evaluation place
@@ -73,11 +59,6 @@ cause_of text at items (BadToken place) fits read is = refused_at text at items 
 cause_of text at items (Unsupported place) fits read is = refused_at text at items unsupported place (λ h. h) fits read is
 cause_of text at items (TooLong n) fits read is = inr (at.place, refused_at text at items (too_long n) at.place (λ h. h) fits read is)
 cause_of text at items (Memory e) fits read is = tt
-
--- what holds on success, after a success
-pub on_ok : {T E P : Type 0} (r : Result T E) → is_ok r ≡ true → OnOk r P → P
-on_ok (Ok x) is h = h
-on_ok (Err e) is h = absurd (false≢true is)
 
 module _ (at_line_start : Bool) (rest : List ℕ) (class : TokenClass) (n : ℕ) (here : IsFrontLexeme at_line_start rest class n) where
   length_front : length (take n rest) ≡ n

@@ -1,18 +1,15 @@
 -- A list of tokens has as many terminals.
-use Rattle.std.proofs.Common.{◌≡◌, ◌∙◌, ℕ, suc, Bool, true, false, Err, List, [], ◌∷◌, length, refl, ap, subst}
+use Rattle.std.proofs.Common.{◌≡◌, ◌∙◌, ℕ, Bool, true, false, Err, List, [], ◌∷◌, length, refl, ap, subst}
 use Rattle.std.specs.Prelude.{◌&&◌}
 use Rattle.mv_ast.specs.declared.token.Token.{Token}
 use Rattle.mv_parse_grammar.specs.Terminals.{Terminal, terminals}
 use Rattle.mv_parse_grammar.specs.Reader.{Read, next, next_two}
+use Rattle.mv_parse_grammar.proofs.Verdict.{length_terminals}
 use Rattle.mv_parse_nodes.specs.Gives.{Gives, IsTaken, IsTakenBefore}
 use Rattle.mv_parse_nodes.specs.declared.fault.Fault.TheVariants.{Syntax}
 
-pub length-terminals : (text : List ℕ) (ts : List Token) → length (terminals text ts) ≡ length ts
-length-terminals text [] = refl
-length-terminals text (t ∷ ts) = ap suc (length-terminals text ts)
-
 pub gives_left : {A X : Type 0} {view : A → X × List Terminal} {read : Read X} (text : List ℕ) (ts : List Token) → Gives view (Err (Syntax (length (terminals text ts)))) read → Gives view (Err (Syntax (length ts))) read
-gives_left {view = view} {read = read} text ts h = subst (λ n. Gives view (Err (Syntax n)) read) (length-terminals text ts) h
+gives_left {view = view} {read = read} text ts h = subst (λ n. Gives view (Err (Syntax n)) read) (length_terminals text ts) h
 
 -- two terminals that come next
 

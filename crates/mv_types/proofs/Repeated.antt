@@ -1,11 +1,10 @@
 -- A bare name that stands again in a declaration declares nothing new.
-use Rattle.std.proofs.Common.{◌≡◌, ℕ, arith, zero, suc, ◌⊎◌, inl, inr, refl, sym, ◌∙◌, ap, ap₂, subst, Bool, true, false, not, ◌&&◌, ◌||◌, is_some, nat_eq, if◌then◌else◌, List, [], ◌∷◌, ◌++◌, length, Option, Some, None, slice_get, slice_set}
+use Rattle.std.proofs.Common.{◌≡◌, ℕ, zero, suc, ◌⊎◌, inl, inr, refl, sym, ◌∙◌, ap, ap₂, subst, Bool, true, false, not, ◌&&◌, ◌||◌, is_some, nat_eq, if◌then◌else◌, List, [], ◌∷◌, ◌++◌, length, Option, Some, None, slice_get, slice_set}
 use Rattle.std.specs.Cmp.Lexicographic.{pointwise, same_text}
 use Rattle.std.proofs.lemmas.Cmp.{nat_list_eq_equiv}
 use Rattle.mv_num.specs.declared.kind.Kind.{Kind}
 use Rattle.mv_ast.specs.declared.place.Place.{Place}
 use Rattle.mv_ast.specs.declared.program.CType.{CType}
-use Rattle.mv_ast.specs.declared.program.CType.TheVariants.{Void, Scalar, Pointer}
 use Rattle.mv_ast.specs.declared.program.Global.{Global}
 use Rattle.mv_ast.specs.declared.unit.Declarator.{Declarator}
 use Rattle.mv_ast.specs.declared.unit.Initial.{Initial}
@@ -19,6 +18,9 @@ use Rattle.mv_check_scope.specs.declared.scope.Scope.{Scope}
 use Rattle.mv_check_scope.specs.Conversions.{same_type, is_void}
 use Rattle.mv_check_scope.specs.Names.{Names}
 use Rattle.mv_check_scope.specs.Spaces.{named}
+use Rattle.mv_check_scope.proofs.Types.{type_same}
+use Rattle.mv_check_scope.proofs.BoundNames.{named_last, names_kept}
+use Rattle.mv_check_scope.specs.Spaces.{or_else}
 use Rattle.mv_check_expressions.specs.Judged.{Judged, Good, and_then}
 use Rattle.mv_check_outline.specs.Names.{same_name, is_among, with_name}
 use Rattle.mv_check_outline.specs.Outlined.{is_filled, name_of}
@@ -78,30 +80,10 @@ module _ {A : Type 0} where
 name_same : (n : List ℕ) → pointwise nat_eq n n ≡ true
 name_same = nat_list_eq_equiv.refl
 
-named_before : (n : List ℕ) (xs : Names) (y : List ℕ × Meaning) (m : Meaning) → named n xs ≡ Some m → named n (xs ++ y ∷ []) ≡ Some m
-named_before n [] y m h = absurd (cc)
-named_before n (x ∷ xs) y m h = by (pointwise nat_eq n x.0) (λ q. named_before n xs y m q) h
-  where
-    by : (b : Bool) → (named n xs ≡ Some m → named n (xs ++ y ∷ []) ≡ Some m) → (if b then Some x.1 else named n xs) ≡ Some m →
-        (if b then Some x.1 else named n (xs ++ y ∷ [])) ≡ Some m
-    by true f q = q
-    by false f q = f q
-
-named_last : (n : List ℕ) (xs : Names) (m : Meaning) → named n xs ≡ None → named n (xs ++ (n, m) ∷ []) ≡ Some m
-named_last n [] m h = rw (name_same n) refl
-named_last n (x ∷ xs) m h = by (pointwise nat_eq n x.0) (λ q. named_last n xs m q) h
-  where
-    by : (b : Bool) → (named n xs ≡ None → named n (xs ++ (n, m) ∷ []) ≡ Some m) → (if b then Some x.1 else named n xs) ≡ None →
-        (if b then Some x.1 else named n (xs ++ (n, m) ∷ [])) ≡ Some m
-    by true f q = absurd (cc)
-    by false f q = f q
+named_new : (n : List ℕ) (xs : Names) (m : Meaning) → named n xs ≡ None → named n (xs ++ (n, m) ∷ []) ≡ Some m
+named_new n xs m h = named_last n xs (n, m) ∙ (ap (λ o. or_else o (named n ((n, m) ∷ []))) h ∙ ap (λ (b : Bool). if b then Some m else None) (name_same n))
 
 -- ---- what is the same agrees
-
-type_same : (t : CType) → same_type t t ≡ true
-type_same Void = refl
-type_same (Scalar kind) = grind arith
-type_same (Pointer n) = grind arith
 
 domain_same : (domain : Option (List ℕ)) → same_domain domain domain ≡ true
 domain_same None = refl
@@ -212,7 +194,7 @@ module _ (k : Foreknown) (t : CType) (domain : Option (List ℕ)) where
     number = length c.objects;
     object = new_object name (scalar t) [] false domain;
     sound = void;
-    means = named_last name c.scope.names.here (object_meaning k name (length c.objects) (scalar t) None) none;
+    means = named_new name c.scope.names.here (object_meaning k name (length c.objects) (scalar t) None) none;
     numbered = refl;
     there = last_there c.objects (new_object name (scalar t) [] false domain);
     allowed = rw (type_same t) (rw (domain_same domain) refl);
@@ -247,7 +229,7 @@ module _ (k : Foreknown) (t : CType) (domain : Option (List ℕ)) where
     number = s.number;
     object = s.object;
     sound = s.sound;
-    means = named_before other c.scope.names.here (name, object_meaning k name (length c.objects) (scalar t) None) s.meaning s.means;
+    means = names_kept other c.scope.names.here (name, object_meaning k name (length c.objects) (scalar t) None) s.meaning s.means;
     numbered = s.numbered;
     there = more_before c.objects (new_object name (scalar t) [] false domain ∷ []) s.number s.object s.there;
     allowed = s.allowed;
