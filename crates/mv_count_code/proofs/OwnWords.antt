@@ -5,12 +5,12 @@ use Rattle.mv_ir.specs.declared.stm.Stm.{Stm}
 use Rattle.mv_ir.specs.declared.stm.Stm.TheOpen.{Stm-F}
 use Rattle.mv_ir.specs.declared.stm.Stm.TheOpen as stm
 use Rattle.mv_ir.specs.declared.stm.Stm.TheViews.{roll-Stm}
-use Rattle.mv_ir.specs.declared.stm.Stm.TheFolds.{map-Stm, fold-Stm, fold-roll-Stm}
+use Rattle.mv_ir.specs.declared.stm.Stm.TheFolds.{map-Stm, fold-Stm}
 use Rattle.mv_ir.specs.Measures.{joined, total}
 use Rattle.mv_ir.proofs.Induction.{Each, StmChildren, stm_ind, stms_ind}
 use Rattle.mv_ir.proofs.Keeping.{map_append}
 use Rattle.mv_ir.proofs.Rolls.{same_functions}
-use Rattle.mv_clone.specs.Bind.{bound_layer, bound_stm, bound_code}
+use Rattle.mv_clone.specs.Bind.{bound_stm, bound_code}
 use Rattle.mv_clone.proofs.Bound.{bound_stm_roll}
 use Rattle.mv_fold.specs.Simple.{constant, number, simple_tree, jumps, ended, simple_callee, alone, division, choice, simple_layer, simple_stm, simple_code}
 use Rattle.mv_fold.specs.Shortened.{shortened}
@@ -19,10 +19,12 @@ use Rattle.mv_fold.specs.Folded.{simple_body}
 use Rattle.mv_fold.proofs.SimpleKept.{simple_stm_roll}
 use Rattle.mv_fold.proofs.NeededEquations.{needed_stm_roll}
 use Rattle.mv_fold.proofs.Shortening.{temp, shortened_is}
-use Rattle.mv_regalloc.specs.Rename.{renamed_layer, renamed_stm, renamed_code}
+use Rattle.mv_regalloc.specs.Rename.{renamed_stm, renamed_code}
 use Rattle.mv_regalloc.proofs.RenamedTrees.{renamed_stm_roll}
 use Rattle.mv_select_control.specs.Encoded.{words_layer, stm_words, own_words}
+use Rattle.mv_select_control.proofs.FlowEncoded.{words_roll}
 use Rattle.mv_lower_shape.specs.Allowances.{layer_allowance, stm_allowance, allowance}
+use Rattle.mv_parts_bound.proofs.Weights.{bound_parts, renamed_parts}
 
 -- ---- the words that a statement takes are those that it is allowed
 
@@ -56,10 +58,6 @@ total_append : (ns ms : List ℕ) → total (ns ++ ms) ≡ total ns + total ms
 total_append [] ms = omega arith
 total_append (n ∷ ns) ms = omega (arith, total_append ns ms)
 
-words_roll : (x : Stm-F Stm) → stm_words (roll-Stm x) ≡ words_layer (map-Stm Stm ℕ stm_words x)
-unfolding stm_words
-words_roll x = fold-roll-Stm ℕ words_layer x
-
 words_append : (xs ys : List Stm) → own_words (xs ++ ys) ≡ own_words xs + own_words ys
 words_append xs ys = ap total (map_append stm_words xs ys) ∙ total_append (map stm_words xs) (map stm_words ys)
 
@@ -80,10 +78,7 @@ module _ (f : Stm → Stm) where
   to_one x y e h = omega (arith, ap stm_words e, words_roll y, words_roll x, h)
 
 module _ (ps : List (ℕ × ℕ)) where
-  abbrev bound : Stm-F Stm → Stm-F Stm
-  bound x = bound_layer ps (map-Stm Stm Stm (bound_stm ps) x)
-
-  layer_bound : (x : Stm-F Stm) → StmChildren (One (bound_stm ps)) x → W (bound x) ≤ W x
+  layer_bound : (x : Stm-F Stm) → StmChildren (One (bound_stm ps)) x → W (bound_parts ps x) ≤ W x
   layer_bound (stm.Set t v) h = omega arith
   layer_bound (stm.SetGlobal g v) h = omega arith
   layer_bound (stm.Divide t o a b) h = omega arith
@@ -101,13 +96,10 @@ module _ (ps : List (ℕ × ℕ)) where
   layer_bound (stm.Return v) h = omega arith
 
   pub bound_words : (code : List Stm) → own_words (bound_code ps code) ≤ own_words code
-  bound_words code = ones (bound_stm ps) code (stms_ind (One (bound_stm ps)) (stm_ind (One (bound_stm ps)) (λ x h. to_one (bound_stm ps) x (bound x) (bound_stm_roll ps x) (layer_bound x h))) code)
+  bound_words code = ones (bound_stm ps) code (stms_ind (One (bound_stm ps)) (stm_ind (One (bound_stm ps)) (λ x h. to_one (bound_stm ps) x (bound_parts ps x) (bound_stm_roll ps x) (layer_bound x h))) code)
 
 module _ (c : ℕ → ℕ) where
-  abbrev renamed : Stm-F Stm → Stm-F Stm
-  renamed x = renamed_layer c (map-Stm Stm Stm (renamed_stm c) x)
-
-  layer_renamed : (x : Stm-F Stm) → StmChildren (One (renamed_stm c)) x → W (renamed x) ≤ W x
+  layer_renamed : (x : Stm-F Stm) → StmChildren (One (renamed_stm c)) x → W (renamed_parts c x) ≤ W x
   layer_renamed (stm.Set t v) h = omega arith
   layer_renamed (stm.SetGlobal g v) h = omega arith
   layer_renamed (stm.Divide t o a b) h = omega arith
@@ -125,7 +117,7 @@ module _ (c : ℕ → ℕ) where
   layer_renamed (stm.Return v) h = omega arith
 
   pub renamed_words : (code : List Stm) → own_words (renamed_code c code) ≤ own_words code
-  renamed_words code = ones (renamed_stm c) code (stms_ind (One (renamed_stm c)) (stm_ind (One (renamed_stm c)) (λ x h. to_one (renamed_stm c) x (renamed x) (renamed_stm_roll c x) (layer_renamed x h))) code)
+  renamed_words code = ones (renamed_stm c) code (stms_ind (One (renamed_stm c)) (stm_ind (One (renamed_stm c)) (λ x h. to_one (renamed_stm c) x (renamed_parts c x) (renamed_stm_roll c x) (layer_renamed x h))) code)
 
 -- ---- statements for one
 

@@ -10,9 +10,9 @@ use Rattle.mv_ir.specs.declared.stm.Stm.TheFolds.{map-Stm, fold-roll-Stm}
 use Rattle.mv_ir.proofs.Induction.{Each, StmChildren, stm_ind, stms_ind}
 use Rattle.mv_lower_spec.specs.Functions.{callee_called, layer_called, stm_called, functions_called}
 use Rattle.mv_lower_shape.specs.Calls.{callee_weight, layer_weight, stm_weight, code_weight}
-use Rattle.mv_regalloc.specs.Rename.{renamed_callee, renamed_layer, renamed_stm, renamed_code}
+use Rattle.mv_regalloc.specs.Rename.{renamed_callee, renamed_stm, renamed_code}
 use Rattle.mv_regalloc.proofs.RenamedTrees.{renamed_stm_roll}
-use Rattle.mv_parts_bound.proofs.Weights.{w_roll}
+use Rattle.mv_parts_bound.proofs.Weights.{w_roll, renamed_parts}
 
 called_roll : (x : Stm-F Stm) → stm_called (roll-Stm x) ≡ layer_called (map-Stm Stm (List ℕ) stm_called x)
 unfolding stm_called
@@ -88,10 +88,7 @@ module _ (direct : ℕ → ℕ) (c : ℕ → ℕ) where
   callee_same (callee.Direct f) = refl
   callee_same (callee.Through t) = refl
 
-  abbrev renamed : Stm-F Stm → Stm-F Stm
-  renamed x = renamed_layer c (map-Stm Stm Stm (renamed_stm c) x)
-
-  layer_same : (x : Stm-F Stm) → StmChildren Same x → layer_weight direct 0 (map-Stm Stm ℕ w (renamed x)) ≡ layer_weight direct 0 (map-Stm Stm ℕ w x)
+  layer_same : (x : Stm-F Stm) → StmChildren Same x → layer_weight direct 0 (map-Stm Stm ℕ w (renamed_parts c x)) ≡ layer_weight direct 0 (map-Stm Stm ℕ w x)
   layer_same (stm.Set t v) h = refl
   layer_same (stm.SetGlobal g v) h = refl
   layer_same (stm.Divide t o x y) h = refl
@@ -109,7 +106,7 @@ module _ (direct : ℕ → ℕ) (c : ℕ → ℕ) where
   layer_same (stm.Return v) h = refl
 
   one_same : (x : Stm-F Stm) → StmChildren Same x → Same (roll-Stm x)
-  one_same x h = ap w (renamed_stm_roll c x) ∙ w_roll direct 0 (renamed x) ∙ layer_same x h ∙ sym (w_roll direct 0 x)
+  one_same x h = ap w (renamed_stm_roll c x) ∙ w_roll direct 0 (renamed_parts c x) ∙ layer_same x h ∙ sym (w_roll direct 0 x)
 
   pub renamed_same : (code : List Stm) → code_weight direct 0 (renamed_code c code) ≡ code_weight direct 0 code
   renamed_same code = all_same code (stms_ind Same (stm_ind Same one_same) code)

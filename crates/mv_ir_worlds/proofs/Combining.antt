@@ -77,13 +77,13 @@ in_combination p value (s ∷ ss) h =
 
 -- ---- the same binding
 
-words_told : (xs ys : List ℕ) → same_words xs ys ≡ true → xs ≡ ys
+pub words_told : (xs ys : List ℕ) → same_words xs ys ≡ true → xs ≡ ys
 words_told [] [] h = refl
 words_told [] (y ∷ ys) h = absurd (cc)
 words_told (x ∷ xs) [] h = absurd (cc)
 words_told (x ∷ xs) (y ∷ ys) h = let p = and_parts (nat_eq x y) (same_words xs ys) h in ap₂ (λ a as'. a ∷ as') (eqb-true x y p.0) (words_told xs ys p.1)
 
-words_same : (xs : List ℕ) → same_words xs xs ≡ true
+pub words_same : (xs : List ℕ) → same_words xs xs ≡ true
 words_same [] = refl
 words_same (x ∷ xs) = and_from (nat_eq x x) (same_words xs xs) (eq-eqb x x refl) (words_same xs)
 

@@ -39,7 +39,8 @@ there_is (x ∷ fs) [] n g count e = absurd (omega (arith, count))
 there_is (x ∷ fs) (b ∷ bs) zero g count e = (b, refl)
 there_is (x ∷ fs) (b ∷ bs) (suc n) g count e = there_is fs bs n g (omega (arith, count)) e
 
-combination_length : (ds : List (List ℕ)) (vs : List ℕ) → IsCombination ds vs → length vs ≡ length ds
+-- a combination has a value for each switch
+pub combination_length : (ds : List (List ℕ)) (vs : List ℕ) → IsCombination ds vs → length vs ≡ length ds
 combination_length [] [] h = refl
 combination_length [] (v ∷ vs) h = absurd h
 combination_length (d ∷ ds) [] h = absurd h

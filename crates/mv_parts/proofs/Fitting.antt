@@ -1,6 +1,5 @@
 -- The variants of functions with small frames are bodies that code can be selected for.
-use Rattle.std.proofs.Common.{arith, ◌≡◌, ℕ, ◌+◌, ◌*◌, ◌≤◌, All, List, Some, length, slice_get, sym, ap, ◌∙◌}
-use Rattle.std.specs.Prelude.{◌/◌}
+use Rattle.std.proofs.Common.{arith, ◌≡◌, ℕ, All, List, Some, length, slice_get, sym, ap, ◌∙◌}
 use Rattle.std.specs.List.{zip}
 use Rattle.std.proofs.lemmas.Option.{slice_get_within}
 use Rattle.mv_ast.specs.declared.program.Program.{Program}
@@ -11,19 +10,17 @@ use Rattle.mv_ir.specs.Measures.{total}
 use Rattle.mv_lower_spec.specs.Functions.{lower_function}
 use Rattle.mv_lower_shape.specs.Law.{LoweredAreShallow, LoweredAreWellFormed}
 use Rattle.mv_source_forms.specs.WellFormed.{IsWellFormed}
-use Rattle.mv_select_functions.specs.FunctionCode.{arrays_start, frame_bytes}
+use Rattle.mv_select_functions.specs.FunctionCode.{frame_bytes}
 use Rattle.mv_parts_bound.specs.Led.{BodiesAreMade}
 use Rattle.mv_parts_bound.specs.Meant.{IsVariantOf, MadeAreVariants}
 use Rattle.mv_parts_bound.specs.Switches.{domains_in}
+use Rattle.mv_parts_bound.proofs.Variants.{frame_less}
 use Rattle.mv_variants.specs.declared.variant.Variant.{Variant}
 use Rattle.mv_variants.specs.Domains.{switch_kind}
 use Rattle.mv_variants.specs.Variants.{AreVariants}
 use Rattle.mv_parts.specs.Codes.{FramesFit}
 use Rattle.mv_parts.specs.Parts.{FitsVariant}
 use Rattle.mv_parts.proofs.Lists.{all_by_index, map_at}
-
-frame_less : (n m size : ℕ) → n ≤ m → 16 * ((arrays_start n + size + 3) / 4) ≤ 16 * ((arrays_start m + size + 3) / 4)
-frame_less n m size le = omega arith
 
 module _ (made : MadeAreVariants) (came : BodiesAreMade) (shallow : LoweredAreShallow) (well : LoweredAreWellFormed) (p : Program) (formed : IsWellFormed p)
     (frames : FramesFit p (length p.functions)) (f : ℕ) (g : Function) (there : slice_get p.functions f ≡ Some g) (variants : List Variant) (are : AreVariants p g variants) where

@@ -26,7 +26,7 @@ use Rattle.mv_parts_bound.specs.Tables.{IsGroup, GroupsFit}
 use Rattle.mv_variants.specs.declared.variant.Variant.{Variant}
 use Rattle.mv_variants.specs.Domains.{switch_kind, domain}
 use Rattle.mv_variants.specs.Variants.{guards_of, AreVariants}
-use Rattle.mv_variants.proofs.Rows.{combination_length}
+use Rattle.mv_ir_worlds.proofs.Functions.{combination_length}
 use Rattle.mv_parts.proofs.LinkedLists.{in_at, in_map}
 use Rattle.mv_parts.proofs.Lists.{some_at, map_at}
 

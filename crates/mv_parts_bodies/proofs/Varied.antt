@@ -27,7 +27,7 @@ use Rattle.mv_linker.specs.declared.parts.PartVariant.{PartVariant}
 use Rattle.mv_variants.specs.declared.variant.Variant.{Variant}
 use Rattle.mv_variants.specs.Domains.{switch_kind}
 use Rattle.mv_variants.specs.Variants.{AreVariants}
-use Rattle.mv_variants.proofs.Rows.{combination_length}
+use Rattle.mv_ir_worlds.proofs.Functions.{combination_length}
 use Rattle.mv_parts.specs.Numbers.{attributed_numbers}
 use Rattle.mv_parts.specs.Parts.{IsPartFunction, IsPartVariant}
 use Rattle.mv_parts.proofs.LinkedLists.{in_map}

@@ -1,13 +1,12 @@
 -- What operators compute of words is a word.
 use Rattle.std.proofs.Common.{arith, ℕ, zero, suc, ◌-◌, ◌%◌, ◌^◌, ◌<◌, Bool, true, false, cond, eqb, ltb, not, pos, ◌-ℤ◌}
 use Rattle.std.proofs.lemmas.Nat.{or_lt, xor_lt, mod_below}
-use Rattle.std.proofs.Math.Nat.{div-le_self}
-use Rattle.std.specs.Prelude.{int_div, int_rem}
 use Rattle.mv_num.specs.declared.kind.Kind.{Kind}
 use Rattle.mv_num.specs.declared.kind.Kind.TheVariants as kind
-use Rattle.mv_num.specs.Words.{signed, word_of, div_s, div_u, rem_s, rem_u, lt_s, lt_u, narrow, sign_extend}
+use Rattle.mv_num.specs.Words.{word_of, rem_u, lt_s, lt_u, narrow, sign_extend}
 use Rattle.mv_ir.specs.Trees.{unary, binary, divide}
 use Rattle.mv_select_trees.proofs.Words.{word_below, add_below, sub_below, mul_below, and_below, shl_below, shr_s_below, shr_u_below, flag_below}
+use Rattle.mv_select_statements.proofs.Divisions.{div_s_below, rem_s_below, div_u_below}
 
 pub unary_word : (o a : ℕ) → unary o a < 2 ^ 32
 unfolding unary
@@ -33,27 +32,15 @@ binary_word (suc (suc (suc (suc (suc (suc (suc (suc (suc (suc (suc zero)))))))))
 binary_word (suc (suc (suc (suc (suc (suc (suc (suc (suc (suc (suc (suc zero)))))))))))) a b p q = flag_below (not (eqb a b))
 binary_word (suc (suc (suc (suc (suc (suc (suc (suc (suc (suc (suc (suc (suc o))))))))))))) a b p q = omega arith
 
-div_s_word : (a b : ℕ) → div_s a b < 2 ^ 32
-unfolding div_s
-div_s_word a b = word_below (int_div (signed a) (signed b))
-
-rem_s_word : (a b : ℕ) → rem_s a b < 2 ^ 32
-unfolding rem_s
-rem_s_word a b = word_below (int_rem (signed a) (signed b))
-
-div_u_word : (a b : ℕ) → a < 2 ^ 32 → div_u a b < 2 ^ 32
-unfolding div_u
-div_u_word a b p = omega (arith, div-le_self a b)
-
 rem_u_word : (a d : ℕ) → suc d < 2 ^ 32 → rem_u a (suc d) < 2 ^ 32
 unfolding rem_u
 rem_u_word a d q = let below = mod_below a (suc d) (omega arith) in omega (arith, below)
 
 pub divide_word : (o a d : ℕ) → a < 2 ^ 32 → suc d < 2 ^ 32 → divide o a (suc d) < 2 ^ 32
 unfolding divide
-divide_word zero a d p q = div_s_word a (suc d)
-divide_word (suc zero) a d p q = div_u_word a (suc d) p
-divide_word (suc (suc zero)) a d p q = rem_s_word a (suc d)
+divide_word zero a d p q = div_s_below a (suc d)
+divide_word (suc zero) a d p q = div_u_below a (suc d) p
+divide_word (suc (suc zero)) a d p q = rem_s_below a (suc d)
 divide_word (suc (suc (suc zero))) a d p q = rem_u_word a d q
 divide_word (suc (suc (suc (suc o)))) a d p q = omega arith
 

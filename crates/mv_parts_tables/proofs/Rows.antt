@@ -12,7 +12,7 @@ use Rattle.mv_isa.specs.declared.instr.Instr.{Instr}
 use Rattle.mv_isa.specs.Code.{label_address, text_start}
 use Rattle.mv_isa.specs.Encoding.{Fits}
 use Rattle.mv_image.specs.Spelling.{Fields}
-use Rattle.mv_image.specs.Patched.{variants_before, fitting_variant, variant_under}
+use Rattle.mv_image.specs.Patched.{variants_before}
 use Rattle.mv_ir.specs.declared.body.Body.{Body}
 use Rattle.mv_source_forms.specs.WellFormed.{IsWellFormed}
 use Rattle.mv_select_inline.specs.InlineOf.{inline_of, encoded}
@@ -30,6 +30,7 @@ use Rattle.mv_parts_tables.specs.Leads.{IsLedTo}
 use Rattle.mv_parts_tables.specs.Rows.{IsNth, RowShows, HasRowOf}
 use Rattle.mv_parts_tables.proofs.Lists.{at_left, at_right}
 use Rattle.mv_parts_tables.proofs.Tabled.{part_at, part_there}
+use Rattle.mv_parts_bound.proofs.Led.{under_is}
 
 abbrev counted : FunctionRow → ℕ
 counted row = row.variants
@@ -71,11 +72,6 @@ row_at entry number (x ∷ vs) zero v e =
     ap (λ (w : PartVariant). Some (variant_row (entry number) w)) (some_same x v e) ∙ ap (λ k. Some (variant_row (entry k) v)) here
 row_at entry number (x ∷ vs) (suc j) v e =
     let next : suc number + j ≡ number + suc j = omega arith in row_at entry (suc number) vs j v e ∙ ap (λ k. Some (variant_row (entry k) v)) next
-
--- values that lead to a number are bound to the row with that number
-under_is : (image : Fields) (n k : ℕ) (vs : List ℕ) → fitting_variant image n vs ≡ Some k → variant_under image n (Some vs) ≡ slice_get image.variants k
-unfolding variant_under
-under_is image n k vs e = rw e refl
 
 -- a row has the words of two instructions that have encodings, or none
 shows_encoded : (o : Option (Instr × Instr)) (address : ℕ) (part : PartVariant) → part.inline ≡ encoded o → ((one two : Instr) → o ≡ Some (one, two) → Fits one × Fits two) →

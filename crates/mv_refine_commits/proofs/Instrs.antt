@@ -6,6 +6,7 @@ use Rattle.mv_num.specs.declared.kind.Kind.TheVariants as kind
 use Rattle.mv_isa.specs.declared.instr.Instr.TheVariants.{Lui, Jal, Jalr, Beq, Lw, Sw, Addi, FenceI}
 use Rattle.mv_isa.specs.Execution.{Access, Goes, reg, put, upper, sets, jumps, branches, loaded, stored, loads, stores, execute}
 use Rattle.mv_select_trees.proofs.Registers.{reg_zero}
+use Rattle.mv_select_control.proofs.Walk.{put_zero}
 
 pub add_four : (pc : ℕ) → pc < 2 ^ 31 → add pc 4 ≡ pc + 4
 unfolding add
@@ -23,10 +24,6 @@ add_less a h = omega arith
 add_back : (a : ℕ) → a < 2 ^ 31 → add (a + 24) (word_of (negsuc 23)) ≡ a
 unfolding add word_of
 add_back a h = omega arith
-
-put_zero : (regs : List ℕ) (v : ℕ) → put regs 0 v ≡ regs
-unfolding put
-put_zero regs v = refl
 
 upper_plan : upper (pos 0x400) ≡ 0x0040_0000
 unfolding upper shl word_of

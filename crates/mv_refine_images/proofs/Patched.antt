@@ -15,8 +15,7 @@ use Rattle.mv_isa.specs.Standing.{InstrStands, SlotStands, LineStands}
 use Rattle.mv_asm.specs.Outcome.{AreWordsUnder}
 use Rattle.mv_image.specs.Spelling.{Fields}
 use Rattle.mv_ir.specs.Combinations.{IsCombination}
-use Rattle.mv_ir_worlds.proofs.Functions.{attributed_at}
-use Rattle.mv_variants.proofs.Rows.{combination_length}
+use Rattle.mv_ir_worlds.proofs.Functions.{attributed_at, combination_length}
 use Rattle.mv_ir_worlds.specs.Functions.{IsFreeIn, IsBoundIn}
 use Rattle.mv_source_forms.specs.WellFormed.{IsWellFormed}
 use Rattle.mv_select_calls.specs.Convention.{Layout}

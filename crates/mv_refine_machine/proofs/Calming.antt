@@ -14,7 +14,7 @@ use Rattle.mv_select_slots.proofs.Bindings.{bindings_are_told}
 use Rattle.mv_refine_machine.specs.Calm.{Rest, stack_words, IsCalm, is_going, all_empty, gives_bytes, is_same_event, same_events, is_calm_text, is_world_outside, is_calm}
 use Rattle.mv_patch.specs.Orders.{values_of}
 use Rattle.mv_refine_machine.proofs.Memory.{KeepsText}
-use Rattle.mv_ir_worlds.proofs.Combining.{binding_told, binding_same}
+use Rattle.mv_ir_worlds.proofs.Combining.{words_told, words_same, binding_told, binding_same}
 
 -- ---- what each test tells
 
@@ -23,16 +23,6 @@ going_told Going h = refl
 going_told (Exit status) h = absurd (cc)
 going_told (Trap code) h = absurd (cc)
 going_told (Fault why) h = absurd (cc)
-
-words_told : (xs ys : List ℕ) → same_words xs ys ≡ true → xs ≡ ys
-words_told [] [] h = refl
-words_told [] (y ∷ ys) h = absurd (cc)
-words_told (x ∷ xs) [] h = absurd (cc)
-words_told (x ∷ xs) (y ∷ ys) h = let p = and_parts (eqb x y) (same_words xs ys) h in ap₂ (λ a as'. a ∷ as') (eqb-true x y p.0) (words_told xs ys p.1)
-
-words_same : (xs : List ℕ) → same_words xs xs ≡ true
-words_same [] = refl
-words_same (x ∷ xs) = and_from (eqb x x) (same_words xs xs) (eq-eqb x x refl) (words_same xs)
 
 empty_told : (older : List (List ℕ)) → all_empty older ≡ true → (k : ℕ) → older_at older k ≡ []
 empty_told [] h k = refl

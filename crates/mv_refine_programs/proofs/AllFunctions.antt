@@ -33,7 +33,7 @@ use Rattle.mv_select_slots.specs.Narrowed.{has_bindings, words_alone, under, Lea
 use Rattle.mv_select_slots.specs.Laws as narrow
 use Rattle.mv_lower_calls.specs.SourceCalls.{as_call, any_frame, meaningless, call_by_source, source_call, source_levels}
 use Rattle.mv_lower_calls.specs.Laws.{BodiesAreRight, CallsKeepBindings}
-use Rattle.mv_refine_programs.specs.Hosts.{IsHost, IsVariant, IsPatched, IsLoaded, SlotShows}
+use Rattle.mv_refine_programs.specs.Hosts.{IsVariant, IsPatched, IsLoaded, SlotShows}
 use Rattle.mv_refine_programs.proofs.Frames.{leaves_true}
 use Rattle.mv_refine_programs.proofs.Entries.{nothing_open, slot_in, plain_answers, free_answers, variant_promises, variant_answers, bound_answers, promised}
 
@@ -56,8 +56,7 @@ pub record Known (M : Type 0) : Type 0 where
 
 module _ {M : Type 0} (access : Access M) (y : Layout) (machine : Machine M) (words : List Binding → ℕ → Option ℕ) (closed : (pc address : ℕ) → Bool) (budget far : ℕ) (p : Program) (numbers : List ℕ)
     (loaded : IsLoaded access y machine words closed budget far p numbers) (known : Known M) where
-  abbrev host : IsHost access y machine words closed budget far p numbers
-  host = loaded.host
+  open loaded use {host}
 
   abbrev setting : Setting
   setting = setting_of numbers p

@@ -31,7 +31,7 @@ use Rattle.mv_select_slots.specs.Narrowed.{has_bindings, words_alone}
 use Rattle.mv_select_slots.specs.Laws as narrow
 use Rattle.mv_lower_calls.specs.SourceCalls.{source_call, source_levels, Promises}
 use Rattle.mv_lower_calls.specs.Laws.{BodiesAreRight}
-use Rattle.mv_refine_programs.specs.Hosts.{IsHost, IsPlain, IsVariant, IsPatched, IsLoaded}
+use Rattle.mv_refine_programs.specs.Hosts.{IsPlain, IsVariant, IsPatched, IsLoaded}
 use Rattle.mv_refine_programs.proofs.Frames.{promises_kept, plain_frame, free_frame, bound_frame}
 
 -- ---- words that load nothing
@@ -49,8 +49,7 @@ slot_in text at to h = record {
 module _ {M : Type 0} (access : Access M) (y : Layout) (machine : Machine M) (words : List Binding → ℕ → Option ℕ) (closed : (pc address : ℕ) → Bool) (budget far : ℕ) (p : Program) (numbers : List ℕ)
     (loaded : IsLoaded access y machine words closed budget far p numbers) (right : BodiesAreRight) (k : ℕ) (below : Conventions access y machine budget far (source_levels p numbers k))
     (f depth frames : ℕ) (args : List ℕ) (g : Function) (here : slice_get p.functions f ≡ Some g) (count : length args ≡ g.params) where
-  abbrev host : IsHost access y machine words closed budget far p numbers
-  host = loaded.host
+  open loaded use {host}
 
   abbrev setting : Setting
   setting = setting_of numbers p

@@ -24,7 +24,7 @@ use Rattle.mv_select_calls.specs.Convention.{Layout, IsTarget, Stands, FollowsCa
 use Rattle.mv_select_functions.specs.Functions.{MainKeeps, Begins}
 use Rattle.mv_lower_calls.specs.SourceCalls.{source_call, source_levels}
 use Rattle.mv_lower_calls.specs.Laws.{MainIsRight, MainEndsAlike}
-use Rattle.mv_refine_programs.specs.Hosts.{IsHost, IsPlain, IsLoaded}
+use Rattle.mv_refine_programs.specs.Hosts.{IsPlain, IsLoaded}
 use Rattle.mv_refine_programs.specs.Laws.{first_seen}
 use Rattle.mv_refine_programs.proofs.AllFunctions.{Known, all_keep}
 
@@ -44,8 +44,7 @@ module _ {M : Type 0} (access : Access M) (y : Layout) (machine : Machine M) (wo
   abbrev here : slice_get p.functions p.main ≡ Some main
   here = loaded.formed.typed.entry.defined
 
-  abbrev host : IsHost access y machine words closed budget far p numbers
-  host = loaded.host
+  open loaded use {host}
 
   abbrev setting : Setting
   setting = setting_of numbers p

@@ -13,15 +13,15 @@ use Rattle.mv_select_trees.proofs.Registers.{reg_zero}
 use Rattle.mv_select_trees.proofs.Words.{word_below, word_of_pos, add_zero}
 use Rattle.mv_select_statements.specs.StatementCode.{division}
 
-div_s_below : (a b : ℕ) → div_s a b < 2 ^ 32
+pub div_s_below : (a b : ℕ) → div_s a b < 2 ^ 32
 unfolding div_s
 div_s_below a b = word_below (int_div (signed a) (signed b))
 
-rem_s_below : (a b : ℕ) → rem_s a b < 2 ^ 32
+pub rem_s_below : (a b : ℕ) → rem_s a b < 2 ^ 32
 unfolding rem_s
 rem_s_below a b = word_below (int_rem (signed a) (signed b))
 
-div_u_below : (a b : ℕ) → a < 2 ^ 32 → div_u a b < 2 ^ 32
+pub div_u_below : (a b : ℕ) → a < 2 ^ 32 → div_u a b < 2 ^ 32
 unfolding div_u
 div_u_below a b h = omega (arith, div-le_self a b)
 

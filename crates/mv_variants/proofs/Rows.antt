@@ -12,6 +12,7 @@ use Rattle.mv_merge.specs.declared.rows.Bound.{Bound}
 use Rattle.mv_parts_bound.specs.Meant.{IsMadeUnder}
 use Rattle.mv_parts_bound.specs.Led.{AreMade}
 use Rattle.mv_variants.specs.Rows.{AreRowsUnder}
+use Rattle.mv_ir_worlds.proofs.Functions.{combination_length}
 
 in_push : {A : Type 0} (x y : A) (xs : List A) → In x (xs ++ y ∷ []) → In x xs ⊎ (y ≡ x)
 in_push x y xs h = by (cases_lt h.0 (length xs))
@@ -44,12 +45,6 @@ row_push body assignments rows new assignment made are here e =
     })
 
 -- ---- how long assignments are
-
-pub combination_length : (ds : List (List ℕ)) (vs : List ℕ) → IsCombination ds vs → length vs ≡ length ds
-combination_length [] [] h = refl
-combination_length [] (v ∷ vs) h = absurd h
-combination_length (d ∷ ds) [] h = absurd h
-combination_length (d ∷ ds) (v ∷ vs) h = ap suc (combination_length ds vs h.1)
 
 pub values_long : (ds : List (List ℕ)) (all : List Assignment) → ((vs : List ℕ) → In vs (values_of all) → IsCombination ds vs) → (k : ℕ) (d : Assignment) → k < length all → length (get_or all k d).values ≡ length ds
 values_long ds [] only k d below = absurd (omega arith)
