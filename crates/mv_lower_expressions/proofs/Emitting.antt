@@ -1,7 +1,7 @@
 -- The trees and statements that are put together, as the definitions write them.
 use Rattle.std.proofs.Common.{◌≡◌, ℕ, suc, ◌≤◌, Bool, true, false, ◌&&◌, List, [], ◌∷◌, length, max, Option, sym, refl, ap, ◌∙◌, arith}
 use Rattle.std.specs.Prelude.{nat_le}
-use Rattle.std.proofs.Math.Dec.{leb, leb-suc-suc}
+use Rattle.std.proofs.Math.Dec.{leb-suc-suc}
 use Rattle.std.proofs.lemmas.Bool.{le-leb, leb-true, leb-false, lt-leb}
 use Rattle.mv_num.specs.declared.kind.Kind.{Kind}
 use Rattle.mv_ast.specs.declared.program.Known.{Known}
@@ -19,8 +19,7 @@ use Rattle.mv_ir.specs.declared.stm.Stm.TheVariants.{rolls-Set, rolls-SetGlobal,
 use Rattle.mv_ir.specs.declared.stm.Stm.TheViews.{roll-Stm}
 use Rattle.mv_ir.specs.Trees.{depth}
 use Rattle.mv_ir.proofs.Rolls.{depth_roll}
-use Rattle.mv_ir.proofs.Induction.{TreeChildren, tree_ind}
-use Rattle.mv_ir.specs.declared.tree.Tree.TheOpen.{Tree-F}
+use Rattle.mv_ir.proofs.Joining.{depth_positive}
 use Rattle.mv_lower_spec.specs.Lowered.{is_low, is_empty}
 use Rattle.mv_lower_expressions.specs.Values.{is_leaf}
 
@@ -111,18 +110,6 @@ depth_binary o a b = ap depth (binary_is o a b) ∙ depth_roll (tree.Binary o a 
 
 depth_narrow : (k : Kind) (a : Tree) → depth (tr.Narrow k a) ≡ suc (depth a)
 depth_narrow k a = ap depth (narrow_is k a) ∙ depth_roll (tree.Narrow k a)
-
-depth_positive : (t : Tree) → 1 ≤ depth t
-depth_positive = tree_ind (λ t. 1 ≤ depth t) layer
-  where
-    layer : (x : Tree-F Tree) → TreeChildren (λ t. 1 ≤ depth t) x → 1 ≤ depth (roll-Tree x)
-    layer (tree.Number n) h = omega (arith, depth_roll (tree.Number n))
-    layer (tree.Temp t) h = omega (arith, depth_roll (tree.Temp t))
-    layer (tree.Global g) h = omega (arith, depth_roll (tree.Global g))
-    layer (tree.Function f) h = omega (arith, depth_roll (tree.Function f))
-    layer (tree.Unary o a) h = omega (arith, depth_roll (tree.Unary o a))
-    layer (tree.Binary o a b) h = omega (arith, depth_roll (tree.Binary o a b))
-    layer (tree.Narrow k a) h = omega (arith, depth_roll (tree.Narrow k a))
 
 within : (t : Tree) (d l : ℕ) → depth t ≡ d → d ≤ l → nat_le (depth t) l ≡ true
 within t d l e h = le-leb (depth t) l (omega arith)
