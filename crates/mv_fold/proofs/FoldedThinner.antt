@@ -1,5 +1,5 @@
 -- Folding keeps bodies whole, and makes no interval longer.
-use Rattle.std.proofs.Common.{arith, ◌≡◌, ℕ, zero, suc, Bool, true, false, cond, not, eqb, ◌&&◌, ◌||◌, List, [], ◌∷◌, ◌++◌, map, Option, Some, None, refl, sym, ◌∙◌, ap, subst, ◌⊎◌, inl, inr, append-nil}
+use Rattle.std.proofs.Common.{◌≡◌, ℕ, zero, suc, Bool, true, false, cond, not, eqb, ◌&&◌, ◌||◌, List, [], ◌∷◌, ◌++◌, map, Option, Some, None, refl, sym, ◌∙◌, ap, subst, ◌⊎◌, inl, inr, append-nil}
 use Rattle.mv_num.specs.Words as word
 use Rattle.mv_ir.specs.declared.tree.Tree.{Tree}
 use Rattle.mv_ir.specs.declared.tree.Tree.TheOpen.{Tree-F}
@@ -19,13 +19,13 @@ use Rattle.mv_ir.specs.Measures.{joined, callee_trees}
 use Rattle.mv_ir.specs.Live.{layer_reads_temp, reads_temp, any_reads, Around, Flow, with_after, live_in_order, plain, goes_next, flow}
 use Rattle.mv_ir.proofs.Induction.{Each, TreeChildren, tree_ind, StmChildren, stm_ind, stms_ind}
 use Rattle.mv_ir.proofs.Rolls.{reads_temp_roll}
+use Rattle.mv_ir.proofs.Joining.{any_reads_append}
 use Rattle.mv_fold.specs.declared.uses.Use.{Use}
 use Rattle.mv_fold.specs.Simple.{constant, number, one_or, two_or, simple_node, simple_tree, layer_jumps, jumps, ended, simple_callee, alone, division, choice, simple_layer, simple_stm, simple_code}
 use Rattle.mv_fold.specs.Needed.{tree_uses, trees_uses, layer_uses, stm_uses, code_uses, IsNeeded, needed_layer, needed_stm, needed_code}
 use Rattle.mv_fold.proofs.Reached.{or_left, or_right, or_cases, eqb_true}
 use Rattle.mv_fold.proofs.SimpleKept.{jumps_roll, simple_tree_roll, simple_stm_roll}
 use Rattle.mv_fold.proofs.NeededEquations.{stm_uses_roll, needed_stm_roll}
-use Rattle.mv_fold.proofs.SetsNeeded.{reads_append}
 use Rattle.mv_fold.proofs.Closing.{Closed, left, right, among, for_body, closed}
 use Rattle.mv_fold.proofs.Thinner.{Covers, covers_append, never, Implies, Thins, code_flow, IsThinner, layer_of, flow_one, flow_append, thinner_one, thinner_many, thinner_trans, thinner_append, thinner_none, ReadsLess, plain_thins, on_next, on_leaves, on_restarts, on_nothing, if_thins, loop_thins, block_thins, KeepsIntervals, thinner_body}
 
@@ -246,9 +246,9 @@ callee_less (callee.Through x) t e = one_less x t e
 
 call_less : (f : Callee) (ts : List Tree) → Less (callee_trees f ++ ts) (callee_trees (simple_callee f) ++ map simple_tree ts)
 call_less f ts t e = (
-  reads_append t (callee_trees f) ts ∙
+  any_reads_append t (callee_trees f) ts ∙
       either (any_reads t (callee_trees f)) (any_reads t ts) (any_reads t (callee_trees (simple_callee f))) (any_reads t (map simple_tree ts)) (λ v. (callee_less f t v).0) (λ v. (many_less ts t v).0)
-      (sym (reads_append t (callee_trees (simple_callee f)) (map simple_tree ts)) ∙ e),
+      (sym (any_reads_append t (callee_trees (simple_callee f)) (map simple_tree ts)) ∙ e),
   refl,
 )
 
@@ -363,7 +363,7 @@ module _ (needed : ℕ → Bool) where
       by (inr v) = (e, (reads_one y (for_body needed y (right needed (tree_uses None x) (tree_uses None y) c)) t v).1)
 
   reads_call : (f : Callee) (ts : List Tree) → Closed needed (trees_uses (callee_trees f) ++ trees_uses ts) → ReadsLess needed (callee_trees f ++ ts) (callee_trees f ++ ts)
-  reads_call f ts c t e = by (or_cases (any_reads t (callee_trees f)) (any_reads t ts) (sym (reads_append t (callee_trees f) ts) ∙ e))
+  reads_call f ts c t e = by (or_cases (any_reads t (callee_trees f)) (any_reads t ts) (sym (any_reads_append t (callee_trees f) ts) ∙ e))
     where
       by : (any_reads t (callee_trees f) ≡ true) ⊎ (any_reads t ts ≡ true) → (any_reads t (callee_trees f ++ ts) ≡ true) × (needed t ≡ true)
       by (inl v) = (e, (reads_many (callee_trees f) (left needed (trees_uses (callee_trees f)) (trees_uses ts) c) t v).1)

@@ -17,6 +17,7 @@ use Rattle.mv_ir.specs.Trees.{unary, binary, divide, node_count, nodes, node_dep
 use Rattle.mv_ir.specs.Measures.{joined, callee_trees, layer_trees, stm_trees, trees, layer_reads, tree_reads, layer_arrays, stm_arrays, layer_size, stm_size, layer_calls, stm_calls}
 use Rattle.mv_ir.proofs.Induction.{Each, TreeChildren, tree_ind, StmChildren, stm_ind, stms_ind}
 use Rattle.mv_ir.proofs.Rolls.{nodes_roll, depth_roll, reads_roll}
+use Rattle.mv_ir.proofs.Joining.{depth_positive}
 use Rattle.mv_fold.specs.Simple.{constant, number, one_or, two_or, simple_node, simple_tree, jumps, ended, simple_callee, alone, division, choice, simple_layer, simple_stm, simple_code}
 use Rattle.mv_fold.specs.Needed.{needed_layer, needed_stm, needed_code}
 use Rattle.mv_fold.specs.Shortened.{shortened}
@@ -47,25 +48,10 @@ of_tree_roll x = λ i. record { nodes = nodes_roll x i; depth = depth_roll x i; 
 nodes_less : (x y : Tree-F Tree) → Less (of_node y) (of_node x) → Less (of_tree (roll-Tree y)) (of_tree (roll-Tree x))
 nodes_less x y h = subst (λ a. Less a (of_tree (roll-Tree x))) (sym (of_tree_roll y)) (subst (Less (of_node y)) (sym (of_tree_roll x)) h)
 
-depth_some : (t : Tree) → 1 ≤ depth t
-depth_some = tree_ind (λ t. 1 ≤ depth t) layer
-  where
-    at : (x : Tree-F Tree) (n : ℕ) → depth (roll-Tree x) ≡ n → 1 ≤ n → 1 ≤ depth (roll-Tree x)
-    at x n e h = omega arith
-
-    layer : (x : Tree-F Tree) → TreeChildren (λ t. 1 ≤ depth t) x → 1 ≤ depth (roll-Tree x)
-    layer (tree.Number n) h = at (tree.Number n) 1 (depth_roll (tree.Number n)) (omega arith)
-    layer (tree.Temp n) h = at (tree.Temp n) 1 (depth_roll (tree.Temp n)) (omega arith)
-    layer (tree.Global n) h = at (tree.Global n) 1 (depth_roll (tree.Global n)) (omega arith)
-    layer (tree.Function n) h = at (tree.Function n) 1 (depth_roll (tree.Function n)) (omega arith)
-    layer (tree.Unary o a) h = at (tree.Unary o a) (suc (depth a)) (depth_roll (tree.Unary o a)) (omega arith)
-    layer (tree.Binary o a b) h = at (tree.Binary o a b) (suc (max (depth a) (depth b))) (depth_roll (tree.Binary o a b)) (omega arith)
-    layer (tree.Narrow k a) h = at (tree.Narrow k a) (suc (depth a)) (depth_roll (tree.Narrow k a)) (omega arith)
-
 number_less : (n : ℕ) (t : Tree) → Less (of_tree (number n)) (of_tree t)
 number_less n t = subst (λ a. Less a (of_tree t)) (sym (of_tree_roll (tree.Number n))) (record {
   nodes = nodes_some t;
-  depth = depth_some t;
+  depth = depth_positive t;
   reads = none_among (tree_reads t);
   statements = omega arith;
   calls = omega arith;

@@ -1,5 +1,6 @@
 -- No set is left of a temporary that no statement reads.
-use Rattle.std.proofs.Common.{arith, ◌≡◌, ℕ, ◌+◌, Bool, true, false, cond, eqb, ◌&&◌, ◌||◌, List, [], ◌∷◌, ◌++◌, map, Option, Some, None, refl, sym, ◌∙◌, ap, append-nil}
+use Rattle.std.proofs.Math.Bool.{or_assoc}
+use Rattle.std.proofs.Common.{arith, ◌≡◌, ℕ, Bool, true, false, cond, eqb, ◌&&◌, ◌||◌, List, [], ◌∷◌, ◌++◌, map, Option, Some, None, refl, sym, ◌∙◌, ap, append-nil}
 use Rattle.mv_ir.specs.declared.tree.Tree.{Tree}
 use Rattle.mv_ir.specs.declared.tree.Tree.TheOpen.{Tree-F}
 use Rattle.mv_ir.specs.declared.tree.Tree.TheOpen as tree
@@ -9,29 +10,21 @@ use Rattle.mv_ir.specs.declared.stm.Stm.TheOpen.{Stm-F}
 use Rattle.mv_ir.specs.declared.stm.Stm.TheOpen as stm
 use Rattle.mv_ir.specs.declared.stm.Stm.TheViews.{roll-Stm}
 use Rattle.mv_ir.specs.declared.stm.Stm.TheFolds.{fold-roll-Stm, map-Stm}
-use Rattle.mv_ir.specs.Measures.{total, joined, callee_trees, layer_trees, stm_trees, trees}
+use Rattle.mv_ir.specs.Measures.{total, callee_trees, layer_trees, stm_trees, trees}
 use Rattle.mv_ir.specs.Live.{layer_reads_temp, reads_temp, any_reads}
 use Rattle.mv_ir.proofs.Induction.{Each, TreeChildren, tree_ind, StmChildren, stm_ind, stms_ind}
 use Rattle.mv_ir.proofs.Rolls.{trees_roll, reads_temp_roll}
 use Rattle.mv_ir.proofs.Keeping.{map_append}
-use Rattle.mv_ir.proofs.Lists.{joined_append}
+use Rattle.mv_ir.proofs.Joining.{total_append, any_reads_append, trees_append}
 use Rattle.mv_fold.specs.declared.uses.Use.{Use}
 use Rattle.mv_fold.specs.Simple.{alone}
 use Rattle.mv_fold.specs.Needed.{layer_tree_uses, tree_uses, trees_uses, layer_uses, stm_uses, code_uses, counts, used_in, IsNeeded, needed_layer, needed_stm, needed_code}
 use Rattle.mv_fold.specs.Form.{layer_unread, unread}
 use Rattle.mv_fold.proofs.NeededEquations.{tree_uses_roll, stm_uses_roll, needed_stm_roll}
 
-or_assoc : (a b c : Bool) → ((a || b) || c) ≡ (a || (b || c))
-or_assoc true b c = refl
-or_assoc false b c = refl
-
 or_none : (a : Bool) → (a || false) ≡ a
 or_none true = refl
 or_none false = refl
-
-pub reads_append : (t : ℕ) (xs ys : List Tree) → any_reads t (xs ++ ys) ≡ (any_reads t xs || any_reads t ys)
-reads_append t [] ys = refl
-reads_append t (x ∷ xs) ys = ap (λ b. reads_temp t x || b) (reads_append t xs ys) ∙ sym (or_assoc (reads_temp t x) (any_reads t xs) (any_reads t ys))
 
 module _ (needed : ℕ → Bool) (t : ℕ) where
   used_append : (xs ys : List Use) → used_in needed (xs ++ ys) t ≡ (used_in needed xs t || used_in needed ys t)
@@ -83,14 +76,11 @@ module _ (needed : ℕ → Bool) (t : ℕ) where
   abbrev IsLeft : Stm → Type 0
   IsLeft s = used_in needed (stm_uses s) t ≡ read_in (needed_stm needed s)
 
-  trees_append : (xs ys : List Stm) → trees (xs ++ ys) ≡ trees xs ++ trees ys
-  trees_append xs ys = ap joined (map_append stm_trees xs ys) ∙ joined_append (map stm_trees xs) (map stm_trees ys)
-
   kids_left : (b : List Stm) → Each IsLeft b → used_in needed (code_uses b) t ≡ read_in (needed_code needed b)
   kids_left [] h = refl
   kids_left (s ∷ b) h =
       used_append (stm_uses s) (code_uses b) ∙ ap (λ c. c || used_in needed (code_uses b) t) h.0 ∙ ap (λ c. read_in (needed_stm needed s) || c) (kids_left b h.1) ∙
-      sym (reads_append t (trees (needed_stm needed s)) (trees (needed_code needed b))) ∙ ap (any_reads t) (sym (trees_append (needed_stm needed s) (needed_code needed b)))
+      sym (any_reads_append t (trees (needed_stm needed s)) (trees (needed_code needed b))) ∙ ap (any_reads t) (sym (trees_append (needed_stm needed s) (needed_code needed b)))
 
   alone_reads : (x : Stm-F Stm) → any_reads t (layer_trees (map-Stm Stm (List Tree) stm_trees x)) ≡ read_in (alone x)
   alone_reads x = ap (any_reads t) (sym (trees_roll x)) ∙ ap (any_reads t) (sym (append-nil (stm_trees (roll-Stm x))))
@@ -109,7 +99,7 @@ module _ (needed : ℕ → Bool) (t : ℕ) where
   left_layer (stm.Zero l) h = alone_reads (stm.Zero l)
   left_layer (stm.If x a b) h =
       used_append (tree_uses None x) (code_uses a ++ code_uses b) ∙ ap (λ c. c || used_in needed (code_uses a ++ code_uses b) t) (tree_read None x) ∙
-      ap (λ c. reads_temp t x || c) (used_append (code_uses a) (code_uses b) ∙ ap (λ c. c || used_in needed (code_uses b) t) (kids_left a h.0) ∙ ap (λ c. read_in (needed_code needed a) || c) (kids_left b h.1) ∙ sym (reads_append t (trees (needed_code needed a)) (trees (needed_code needed b)))) ∙
+      ap (λ c. reads_temp t x || c) (used_append (code_uses a) (code_uses b) ∙ ap (λ c. c || used_in needed (code_uses b) t) (kids_left a h.0) ∙ ap (λ c. read_in (needed_code needed a) || c) (kids_left b h.1) ∙ sym (any_reads_append t (trees (needed_code needed a)) (trees (needed_code needed b)))) ∙
       alone_reads (stm.If x (needed_code needed a) (needed_code needed b))
   left_layer (stm.Loop b) h = kids_left b h ∙ alone_reads (stm.Loop (needed_code needed b))
   left_layer (stm.Block b) h = kids_left b h ∙ alone_reads (stm.Block (needed_code needed b))
@@ -117,7 +107,7 @@ module _ (needed : ℕ → Bool) (t : ℕ) where
   left_layer (stm.Back n) h = alone_reads (stm.Back n)
   left_layer (stm.Call r f args) h =
       used_append (trees_uses (callee_trees f)) (trees_uses args) ∙ ap (λ c. c || used_in needed (trees_uses args) t) (many_read (callee_trees f)) ∙ ap (λ c. any_reads t (callee_trees f) || c) (many_read args) ∙
-      sym (reads_append t (callee_trees f) args) ∙ alone_reads (stm.Call r f args)
+      sym (any_reads_append t (callee_trees f) args) ∙ alone_reads (stm.Call r f args)
   left_layer (stm.Known r k args) h = many_read args ∙ alone_reads (stm.Known r k args)
   left_layer (stm.Return v) h = one_read v ∙ alone_reads (stm.Return v)
 
@@ -132,10 +122,6 @@ module _ (needed : ℕ → Bool) (t : ℕ) where
 unread_roll : (all : List Tree) (x : Stm-F Stm) → unread all (roll-Stm x) ≡ layer_unread all (map-Stm Stm ℕ (unread all) x)
 unfolding unread
 unread_roll all x = fold-roll-Stm ℕ (layer_unread all) x
-
-total_append : (ns ms : List ℕ) → total (ns ++ ms) ≡ total ns + total ms
-total_append [] ms = omega arith
-total_append (n ∷ ns) ms = omega (arith, total_append ns ms)
 
 module _ (needed : ℕ → Bool) (all : List Tree) (every : (t : ℕ) → needed t ≡ true → any_reads t all ≡ true) where
   abbrev unread_in : List Stm → ℕ

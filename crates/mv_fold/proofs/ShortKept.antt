@@ -1,7 +1,7 @@
 -- Shortening the end of a body's code keeps what the body does, at no greater cost.
-use Rattle.std.proofs.Common.{arith, ◌≡◌, ℕ, zero, suc, ◌+◌, ◌-◌, ◌*◌, ◌<◌, ◌≤◌, List, [], ◌∷◌, length, map, Option, Some, None, refl, sym, ◌∙◌, ap, subst}
-use Rattle.std.specs.Prelude.{slice_index, slice_index_or, slice_set}
-use Rattle.std.proofs.lemmas.List.{length-append, length-set, get_or-set_same}
+use Rattle.std.proofs.Common.{arith, ◌≡◌, ℕ, zero, suc, ◌+◌, ◌*◌, ◌<◌, ◌≤◌, List, [], ◌∷◌, length, map, Option, Some, None, refl, sym, ◌∙◌, ap, subst}
+use Rattle.std.specs.Prelude.{slice_index_or, slice_set}
+use Rattle.std.proofs.lemmas.List.{length-set, get_or-set_same}
 use Rattle.mv_ir.specs.declared.tree.Tree.{Tree}
 use Rattle.mv_ir.specs.declared.tree.Tree.TheOpen as tree
 use Rattle.mv_ir.specs.declared.stm.Callee.{Callee}
@@ -12,18 +12,19 @@ use Rattle.mv_ir.specs.declared.stm.Stm.TheOpen as stm
 use Rattle.mv_ir.specs.declared.stm.Stm.TheViews.{roll-Stm}
 use Rattle.mv_ir.specs.declared.stm.Stm.TheFolds.{map-Stm}
 use Rattle.mv_ir.specs.declared.body.Body.{Body}
-use Rattle.mv_ir.specs.World.{World, Setting, Frame}
+use Rattle.mv_ir.specs.World.{Setting, Frame}
 use Rattle.mv_ir.specs.Trees.{value, nodes}
 use Rattle.mv_ir.specs.Outcome.{State, Returned, Outcome, Next, Leaves, Restarts, Ends, Run, Call, Bound, Meaning, spend, goes_on, in_order}
-use Rattle.mv_ir.specs.Meaning.{statement, meaning, code_meaning, with_global, Contents, first_items, first_temps, entry_state, body_end}
+use Rattle.mv_ir.specs.Meaning.{statement, meaning, code_meaning, with_global, entry_state, body_end}
 use Rattle.mv_ir.specs.Keeps.{KeepsCall, KeepsBody}
 use Rattle.mv_ir.proofs.Induction.{Each, StmChildren, stm_ind}
 use Rattle.mv_ir.proofs.Rolls.{value_roll}
 use Rattle.mv_ir.proofs.Keeping.{meaning_roll, one_meaning}
 use Rattle.mv_ir.proofs.Relating.{Places, under, in_block, in_loop, OutcomeRel, MeaningRel, nil_rel, cons_rel, places_weaker, block_rel, loop_rel}
 use Rattle.mv_ir.proofs.RelatedStatements.{SameIn, SameTreesIn, SameCalleeIn, Puts, set_rel, set_global_rel, divide_rel, check_rel, read_rel, write_rel, zero_rel, if_rel, break_rel, back_rel, call_rel, known_rel, return_rel}
+use Rattle.mv_ir.proofs.Joining.{temps_enough}
 use Rattle.mv_fold.specs.Shortened.{shortened}
-use Rattle.mv_fold.proofs.Shortening.{temp, set, store, return, Shortens, shortened_is}
+use Rattle.mv_fold.proofs.Shortening.{temp, set, store, return, shortened_is}
 
 module _ (temps : ℕ) (setting : Setting) (frame : Frame) where
   -- ---- there stay as many temporaries
@@ -177,12 +178,5 @@ module _ (temps : ℕ) (setting : Setting) (frame : Frame) where
 
 -- ---- bodies
 
-length_first : (n : ℕ) (f : ℕ → ℕ) → length (first_items n f) ≡ n
-length_first zero f = refl
-length_first (suc n) f = ap suc (length_first n (λ i. f (suc i)))
-
-enough : (f : ℕ → ℕ) (n : ℕ) (args : List ℕ) → n ≤ length (first_temps f n args)
-enough f n args = omega (arith, length_first (n - length args) f, length-append args (first_items (n - length args) f))
-
 pub short_keeps : (b : Body) → KeepsBody b (record b { code = shortened b.temps b.code })
-short_keeps b setting frame contents args bound w = end_kept b.temps setting frame b.code bound (entry_state contents b args w) (enough contents.temps b.temps args)
+short_keeps b setting frame contents args bound w = end_kept b.temps setting frame b.code bound (entry_state contents b args w) (temps_enough contents.temps b.temps args)

@@ -1,6 +1,5 @@
 -- Code whose temporaries are live or written at no other positions than those of other code.
-use Rattle.std.proofs.Common.{arith, ◌≡◌, ℕ, zero, suc, ◌<◌, ◌≤◌, max, Bool, true, false, cond, not, ltb, ◌&&◌, ◌||◌, List, [], ◌∷◌, ◌++◌, map, Option, refl, sym, ◌∙◌, ap, subst, ◌⊎◌, inl, inr, append-nil, append_assoc}
-use Rattle.std.proofs.lemmas.Bool.{cases_lt}
+use Rattle.std.proofs.Common.{arith, ◌≡◌, ℕ, zero, suc, ◌<◌, ◌≤◌, Bool, true, false, cond, not, ltb, ◌&&◌, ◌||◌, List, [], ◌∷◌, ◌++◌, map, Option, refl, sym, ◌∙◌, ap, subst, ◌⊎◌, inl, inr, append-nil}
 use Rattle.mv_ir.specs.declared.tree.Tree.{Tree}
 use Rattle.mv_ir.specs.declared.stm.Stm.{Stm}
 use Rattle.mv_ir.specs.declared.stm.Stm.TheOpen.{Stm-F}
@@ -8,9 +7,10 @@ use Rattle.mv_ir.specs.declared.stm.Stm.TheOpen as stm
 use Rattle.mv_ir.specs.declared.stm.Stm.TheViews.{roll-Stm}
 use Rattle.mv_ir.specs.declared.stm.Stm.TheFolds.{map-Stm}
 use Rattle.mv_ir.specs.declared.body.Body.{Body}
-use Rattle.mv_ir.specs.Live.{reads_temp, any_reads, is, Around, Flow, with_after, at_place, around_block, around_loop, live_in_order, marks_in_order, live_at_loop, plain, goes_next, layer_flow, flow, nowhere, live_at_start, all_marks, IsWhole, any, filled, interval, mark_at, HasTemps, count_at, below, greatest_up_to, marks_length, most_intervals}
+use Rattle.mv_ir.specs.Live.{reads_temp, any_reads, is, Around, Flow, with_after, at_place, around_block, around_loop, live_in_order, marks_in_order, live_at_loop, plain, goes_next, layer_flow, flow, nowhere, live_at_start, all_marks, IsWhole, any, filled, interval, mark_at, HasTemps, count_at, below, marks_length, most_intervals}
 use Rattle.mv_ir.proofs.Rolls.{flow_roll}
 use Rattle.mv_ir.proofs.Keeping.{map_append}
+use Rattle.mv_ir.proofs.Joining.{greatest_most, greatest_within, live_append, marks_append}
 use Rattle.mv_fold.proofs.Reached.{or_left, or_right, or_cases, and_cases}
 
 -- ---- marks: which positions stay, and that none of these is marked where it wasn't
@@ -127,18 +127,6 @@ covers_place (false ∷ ms) (x ∷ xs) ys h i lt = omega (arith, covers_place ms
 
 -- ---- the greatest number of intervals
 
-greatest_most : (n : ℕ) (f : ℕ → ℕ) (i : ℕ) → i < n → f i ≤ greatest_up_to n f
-greatest_most zero f i lt = absurd (omega (arith, lt))
-greatest_most (suc n) f i lt = by (greatest_most n f i) (cases_lt i n)
-  where
-    by : (i < n → f i ≤ greatest_up_to n f) → (i < n) ⊎ (n ≤ i) → f i ≤ max (greatest_up_to n f) (f n)
-    by h (inl less) = omega (arith, h less)
-    by h (inr le) = let same : i ≡ n = omega (arith, lt, le) in subst (λ k. f k ≤ max (greatest_up_to n f) (f n)) (sym same) (omega arith)
-
-greatest_within : (n : ℕ) (f : ℕ → ℕ) (m : ℕ) → ((i : ℕ) → i < n → f i ≤ m) → greatest_up_to n f ≤ m
-greatest_within zero f m h = omega arith
-greatest_within (suc n) f m h = omega (arith, greatest_within n f m (λ i lt. h i (omega (arith, lt))), h n (omega arith))
-
 cond_most : (c c' : Bool) → (c' ≡ true → c ≡ true) → cond c' 1 0 ≤ cond c 1 0
 cond_most true true h = omega arith
 cond_most true false h = omega arith
@@ -208,17 +196,6 @@ module _ (needed : ℕ → Bool) where
   )
 
   -- ---- lists
-
-  live_append : (fs gs : List Flow) (r : Around) → live_in_order (fs ++ gs) r ≡ live_in_order fs (with_after r (live_in_order gs r))
-  live_append [] gs r = refl
-  live_append (f ∷ fs) gs r = ap (λ b. f.live (with_after r b)) (live_append fs gs r)
-
-  marks_append : (fs gs : List Flow) (r : Around) → marks_in_order (fs ++ gs) r ≡ marks_in_order fs (with_after r (live_in_order gs r)) ++ marks_in_order gs r
-  marks_append [] gs r = refl
-  marks_append (f ∷ fs) gs r =
-      ap (λ l. f.marks (with_after r (live_in_order (fs ++ gs) r)) ++ l) (marks_append fs gs r) ∙
-      ap (λ b. f.marks (with_after r b) ++ (marks_in_order fs (with_after r (live_in_order gs r)) ++ marks_in_order gs r)) (live_append fs gs r) ∙
-      sym (append_assoc (f.marks (with_after r (live_in_order fs (with_after r (live_in_order gs r))))) (marks_in_order fs (with_after r (live_in_order gs r))) (marks_in_order gs r))
 
   abbrev after : List Stm → List Stm → ℕ → Flow
   after xs ys t = record {

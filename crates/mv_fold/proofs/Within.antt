@@ -11,6 +11,7 @@ use Rattle.mv_ir.specs.Measures.{joined, total, layer_trees, stm_trees, trees, t
 use Rattle.mv_ir.proofs.Rolls.{trees_roll, arrays_roll, size_roll, calls_roll}
 use Rattle.mv_ir.proofs.Keeping.{map_append}
 use Rattle.mv_ir.proofs.Lists.{joined_append}
+use Rattle.mv_ir.proofs.Joining.{total_append, nodes_append, trees_append}
 use Rattle.mv_fold.specs.Folded.{IsNoGreater}
 
 -- ---- lists of numbers
@@ -110,10 +111,6 @@ less_right a b = record {
 abbrev pub of_trees : List Tree → Amount
 of_trees ts = record { nodes = nodes_of_all ts; depth = deepest_of ts; reads = joined (map tree_reads ts); statements = 0; calls = 0; arrays = [] }
 
-nodes_append : (ts us : List Tree) → nodes_of_all (ts ++ us) ≡ nodes_of_all ts + nodes_of_all us
-nodes_append [] us = omega arith
-nodes_append (t ∷ ts) us = omega (arith, nodes_append ts us)
-
 deepest_append : (ts us : List Tree) → deepest_of (ts ++ us) ≡ max (deepest_of ts) (deepest_of us)
 deepest_append [] us = omega arith
 deepest_append (t ∷ ts) us = omega (arith, deepest_append ts us)
@@ -128,13 +125,6 @@ of_trees_append ts us = λ i. record { nodes = nodes_append ts us i; depth = dee
 
 abbrev pub amount : List Stm → Amount
 amount code = record { nodes = tree_nodes code; depth = deepest code; reads = scalars_read code; statements = statements code; calls = calls code; arrays = arrays_read code }
-
-total_append : (ns ms : List ℕ) → total (ns ++ ms) ≡ total ns + total ms
-total_append [] ms = omega arith
-total_append (n ∷ ns) ms = omega (arith, total_append ns ms)
-
-trees_append : (xs ys : List Stm) → trees (xs ++ ys) ≡ trees xs ++ trees ys
-trees_append xs ys = ap joined (map_append stm_trees xs ys) ∙ joined_append (map stm_trees xs) (map stm_trees ys)
 
 pub amount_append : (xs ys : List Stm) → amount (xs ++ ys) ≡ with (amount xs) (amount ys)
 amount_append xs ys = λ i. record {

@@ -18,30 +18,10 @@ use Rattle.mv_ir.specs.declared.stm.Array.{Array}
 use Rattle.mv_ir.specs.WellFormed.{layer_targets, stm_targets, layer_named, stm_named, named, known_arguments, layer_arguments, stm_arguments}
 use Rattle.mv_ir.proofs.Induction.{Each, TreeChildren, tree_ind, StmChildren, stm_ind, stms_ind}
 use Rattle.mv_ir.proofs.Rolls.{nodes_roll, depth_roll, reads_roll, trees_roll, arrays_roll, size_roll, calls_roll, targets_roll, named_roll, arguments_roll}
+use Rattle.mv_ir.proofs.Keeping.{map_append}
+use Rattle.mv_ir.proofs.Joining.{map_map, map_joined, map_through}
 use Rattle.mv_regalloc.specs.Rename.{renamed_tree, renamed_callee, renamed_layer, renamed_stm, renamed_code}
 use Rattle.mv_regalloc.proofs.RenamedTrees.{renamed_tree_roll, renamed_stm_roll}
-
--- ---- lists
-
-same_map : {A B : Type 0} (f g : A → B) (xs : List A) → Each (λ x. f x ≡ g x) xs → map f xs ≡ map g xs
-same_map f g [] h = refl
-same_map f g (x ∷ xs) h = ap (λ y. y ∷ map f xs) h.0 ∙ ap (λ l. g x ∷ l) (same_map f g xs h.1)
-
-map_map : {A B C : Type 0} (f : B → C) (g : A → B) (xs : List A) → map f (map g xs) ≡ map (λ x. f (g x)) xs
-map_map f g [] = refl
-map_map f g (x ∷ xs) = ap (λ l. f (g x) ∷ l) (map_map f g xs)
-
-map_joined : {A B : Type 0} (f : A → B) (xss : List (List A)) → map f (joined xss) ≡ joined (map (map f) xss)
-map_joined {A = A} f [] = refl
-map_joined {A = A} f (xs ∷ xss) = appended xs ∙ ap (λ l. map f xs ++ l) (map_joined f xss)
-  where
-    appended : (ys : List A) → map f (ys ++ joined xss) ≡ map f ys ++ map f (joined xss)
-    appended [] = refl
-    appended (y ∷ ys) = ap (λ l. f y ∷ l) (appended ys)
-
--- where g of the image of each is f of it
-through : {A B C : Type 0} (f : A → C) (g : B → C) (h : A → B) (xs : List A) → Each (λ x. g (h x) ≡ f x) xs → map g (map h xs) ≡ map f xs
-through f g h xs e = map_map g h xs ∙ same_map (λ x. g (h x)) f xs e
 
 module _ (c : ℕ → ℕ) where
   -- ---- trees
@@ -84,11 +64,7 @@ module _ (c : ℕ → ℕ) where
   module _ {A : Type 0} (g : Stm → List A) (f : A → A) where
     -- of a list of statements, from each of them
     joined_renamed : (b : List Stm) → Each (λ s. g (renamed_stm c s) ≡ map f (g s)) b → joined (map g (map (renamed_stm c) b)) ≡ map f (joined (map g b))
-    joined_renamed b h = ap joined (through (λ s. map f (g s)) g (renamed_stm c) b h ∙ sym (map_map (map f) g b)) ∙ sym (map_joined f (map g b))
-
-  map_append : {A B : Type 0} (f : A → B) (xs ys : List A) → map f (xs ++ ys) ≡ map f xs ++ map f ys
-  map_append f [] ys = refl
-  map_append f (x ∷ xs) ys = ap (λ l. f x ∷ l) (map_append f xs ys)
+    joined_renamed b h = ap joined (map_through (λ s. map f (g s)) g (renamed_stm c) b h ∙ sym (map_map (map f) g b)) ∙ sym (map_joined f (map g b))
 
   abbrev HasTrees : Stm → Type 0
   HasTrees s = stm_trees (renamed_stm c s) ≡ map (renamed_tree c) (stm_trees s)
@@ -150,10 +126,10 @@ module _ (c : ℕ → ℕ) where
     image_is (stm.Write a i v) h = refl
     image_is (stm.Zero l) h = refl
     image_is (stm.If t a b) h =
-        ap (λ l. stm.If (renamed_tree c t) l (map g (map (renamed_stm c) b))) (through g g (renamed_stm c) a h.0) ∙
-        ap (λ l. stm.If (renamed_tree c t) (map g a) l) (through g g (renamed_stm c) b h.1)
-    image_is (stm.Loop b) h = ap (λ l. stm.Loop l) (through g g (renamed_stm c) b h)
-    image_is (stm.Block b) h = ap (λ l. stm.Block l) (through g g (renamed_stm c) b h)
+        ap (λ l. stm.If (renamed_tree c t) l (map g (map (renamed_stm c) b))) (map_through g g (renamed_stm c) a h.0) ∙
+        ap (λ l. stm.If (renamed_tree c t) (map g a) l) (map_through g g (renamed_stm c) b h.1)
+    image_is (stm.Loop b) h = ap (λ l. stm.Loop l) (map_through g g (renamed_stm c) b h)
+    image_is (stm.Block b) h = ap (λ l. stm.Block l) (map_through g g (renamed_stm c) b h)
     image_is (stm.Break n) h = refl
     image_is (stm.Back n) h = refl
     image_is (stm.Call r f args) h = refl
@@ -164,7 +140,7 @@ module _ (c : ℕ → ℕ) where
     blind_one = stm_ind Same (λ x h. ap g (renamed_stm_roll c x) ∙ rolls (renamed_layer c (map-Stm Stm Stm (renamed_stm c) x)) ∙ ap layer (image_is x h) ∙ blind (map-Stm Stm A g x) ∙ sym (rolls x))
 
     blind_all : (code : List Stm) → map g (renamed_code c code) ≡ map g code
-    blind_all code = through g g (renamed_stm c) code (stms_ind Same blind_one code)
+    blind_all code = map_through g g (renamed_stm c) code (stms_ind Same blind_one code)
 
   blind_sizes : (x : Stm-F ℕ) → layer_size (renamed_layer c x) ≡ layer_size x
   blind_sizes (stm.Set t v) = refl

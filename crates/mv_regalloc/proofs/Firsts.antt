@@ -5,6 +5,7 @@ use Rattle.std.proofs.lemmas.List.{append-nil, map-append, map_more, length-set,
 use Rattle.std.proofs.lemmas.Bool.{cases_eq, eqb-true}
 use Rattle.mv_ir.specs.declared.body.Body.{Body}
 use Rattle.mv_ir.specs.Live.{any, marks_length, all_marks}
+use Rattle.mv_ir.proofs.Induction.{Each, each_append}
 use Rattle.mv_regalloc.specs.Scan.{Interval, Placed, placed, scan}
 use Rattle.mv_regalloc.specs.Intervals.{first_from, span, beginning, range}
 use Rattle.mv_regalloc.specs.Spanned.{SpanTable, from_first, AreSpansOf}
@@ -13,14 +14,6 @@ use Rattle.mv_regalloc.proofs.Sweep.{scan_append, beginning_more}
 use Rattle.mv_regalloc.proofs.Numbering.{begins_test, begins_not, both_left, both_right, span_at, before_end}
 
 -- ---- a fact on each of some temporaries
-
-abbrev pub Each : (ℕ → Type 0) → List ℕ → Type 0
-Each P [] = Unit {0}
-Each P (x ∷ xs) = P x × Each P xs
-
-each_append : (P : ℕ → Type 0) (xs ys : List ℕ) → Each P xs → Each P ys → Each P (xs ++ ys)
-each_append P [] ys h k = k
-each_append P (x ∷ xs) ys h k = (h.0, each_append P xs ys h.1 k)
 
 each_at : (P : ℕ → Type 0) (xs : List ℕ) (k : ℕ) → Each P xs → k < length xs → P (slice_index xs k)
 each_at P [] k h l = absurd (omega (arith, l))

@@ -1,9 +1,10 @@
 -- The scan uses as many numbers as the greatest number of a body's intervals over one position.
-use Rattle.std.proofs.Common.{arith, ◌≡◌, ℕ, zero, suc, ◌+◌, ◌-◌, ◌<◌, ◌≤◌, Bool, true, false, cond, not, eqb, ltb, ◌&&◌, ◌||◌, List, [], ◌∷◌, ◌++◌, map, max, refl, sym, ap, ◌∙◌, ◌⊎◌, inl, inr, append_assoc, append-nil}
+use Rattle.std.proofs.Common.{arith, ◌≡◌, ℕ, zero, suc, ◌+◌, ◌-◌, ◌<◌, ◌≤◌, Bool, true, false, cond, not, eqb, ltb, ◌&&◌, ◌||◌, List, [], ◌∷◌, ◌++◌, map, refl, sym, ap, ◌∙◌, ◌⊎◌, inl, inr, append_assoc, append-nil}
 use Rattle.std.proofs.lemmas.Bool.{cases_lt, cases_eq, lt-ltb, le-ltb, eq-eqb, ne_eqb, or_right}
 use Rattle.mv_ir.specs.declared.body.Body.{Body}
-use Rattle.mv_ir.specs.Live.{mark_at, any, filled, marks_length, live_at_start, marks_in_order, flow, nowhere, all_marks, interval, count_at, below, greatest_up_to, most_intervals, HasTemps}
+use Rattle.mv_ir.specs.Live.{mark_at, any, filled, marks_length, live_at_start, marks_in_order, flow, nowhere, all_marks, interval, count_at, below, most_intervals, HasTemps}
 use Rattle.mv_ir.proofs.Keeping.{map_append}
+use Rattle.mv_ir.proofs.Joining.{greatest_most, greatest_within}
 use Rattle.mv_regalloc.specs.Scan.{Interval, used, holds, over}
 use Rattle.mv_regalloc.specs.Intervals.{first_from, last_from, span, beginning, by_first, range, given, allotted}
 use Rattle.mv_regalloc.proofs.Apart.{AllApart, scan_apart}
@@ -123,24 +124,6 @@ module _ (marks : ℕ → List Bool) (i : ℕ) where
       let d = others_count long (range p n) e in
       omega (arith, a, b, d)
 
--- ---- the greatest
-
-greatest_low : (n : ℕ) (f : ℕ → ℕ) (m : ℕ) → ((i : ℕ) → f i ≤ m) → greatest_up_to n f ≤ m
-greatest_low zero f m h = omega arith
-greatest_low (suc n) f m h = let a = greatest_low n f m h in let b = h n in omega (arith, a, b)
-
-greatest_high : (n : ℕ) (f : ℕ → ℕ) (i : ℕ) → i < n → f i ≤ greatest_up_to n f
-greatest_high zero f i h = absurd (omega (arith, h))
-greatest_high (suc n) f i h = by (cases_eq i n) (greatest_high n f i)
-  where
-    by : (i ≡ n) ⊎ (i ≡ n → ⊥) → (i < n → f i ≤ greatest_up_to n f) → f i ≤ max (greatest_up_to n f) (f n)
-    by (inl s) r = let e : f i ≡ f n = ap f s in omega (arith, e)
-    by (inr s) r = let a = r (from (cases_lt i n)) in omega (arith, a)
-      where
-        from : (i < n) ⊎ (n ≤ i) → i < n
-        from (inl l) = l
-        from (inr l) = absurd (s (omega (arith, l, h)))
-
 -- ---- past the end
 
 filled_length : (begun : Bool) (xs : List Bool) → marks_length (filled begun xs) ≡ marks_length xs
@@ -218,7 +201,7 @@ module _ (b : Body) (has : HasTemps b) where
   bounded i = by (cases_lt i long)
     where
       by : (i < long) ⊎ (long ≤ i) → counted i ≤ most_intervals b
-      by (inl l) = greatest_high long counted i l
+      by (inl l) = greatest_most long counted i l
       by (inr l) = let e = past_count (interval b) i (below b.temps) (λ t. let x = filled_length false (marks t) in let y = same_long t in omega (arith, x, y, l)) in omega (arith, e)
 
   pub scan_all_apart : AllApart (allotted b)
@@ -229,5 +212,5 @@ module _ (b : Body) (has : HasTemps b) where
       let params_fit : used (given marks b.params) ≤ most_intervals b =
       (let x = given_used marks b.params in let y = held_params b.params (omega arith) in let z = count_is 0 in let w = bounded 0 in omega (arith, x, y, z, w)) in
       let few = scan_used (most_intervals b) 0 (given marks b.params) others (by_first_order marks (range b.params (b.temps - b.params)) 0 long) (begun_params b.params (omega arith)) params_fit (λ k. let z = count_is k in let w = bounded k in omega (arith, z, w)) in
-      let many = greatest_low long counted (used (allotted b)) (λ i. let z = count_is i in let h = scan_held i (given marks b.params) others in let u = held_used i (allotted b) scan_all_apart in omega (arith, z, h, u)) in
+      let many = greatest_within long counted (used (allotted b)) (λ i lt. let z = count_is i in let h = scan_held i (given marks b.params) others in let u = held_used i (allotted b) scan_all_apart in omega (arith, z, h, u)) in
       omega (arith, few, many)
